@@ -1,5 +1,6 @@
 -- What is answered where a dup is to move.
-use Rattle.ksm_book.proofs.Names.{[], AlreadyRegistered, and_parts, ap, arith, BadNode, BadValue, BookState, BookView, cases_Bool, crosses, CrossesNodes, Does, Done, DupRow, eq-eqb, eqb-true, Err, false, Fault, find, find_passes, FindsHeld, has_items, HasShown, inl, inr, InUse, is_no_node, is_none, IsAnswerOrMemory, IsAnswerUnless, IsMoved, KeeperView, leb-true, List, live_dup_at, lying, Mapped, mapped, MatchOption, Memory, MoveDup, Moves, MovesOr, nat_le, NoFrame, None, NoneLeft, NotRunning, Ok, PagesView, refusal, refused_if, Row, SharedPages, Some, subst, sym, TakesSteps, true, TurnsAway, UnknownPage, UnknownPlace, ℕ, ◌&&◌, ◌<◌, ◌==◌, ◌∙◌, ◌≡◌}
+use Rattle.ksm_book.proofs.Names.{and_parts, Answer, ap, arith, BadNode, BookState, CarriedOut, cases_Bool, crosses, CrossesNodes, Done, DupRow, eq-eqb, eqb-true, Err, false, Fault, find, find_passes, FindsHeld, GuestPage, has_items, HasMoved, HasRemounted, inl, inr, InUse, is_no_node, is_none, IsAnswerUnless, KeeperView, leb-true, live_dup_at, lying, MatchOption, MayMove, MoveDup, Moves, nat_le, NoFrame, None, NoneLeft, Ok, Option, PagesView, refusal, refused_if, Some, state_of, subst, sym, true, UnknownPlace, ℕ, ◌&&◌, ◌<◌, ◌==◌, ◌∙◌, ◌≡◌}
+use Rattle.ksm_book.proofs.Singles.{book}
 
 module _ (b : BookState) (place node : ℕ) (dup : DupRow) (found : Some dup ≡ live_dup_at b place) where
   -- the dup that was found stands at the place that was asked for
@@ -31,45 +32,47 @@ module _ (b : BookState) (place node : ℕ) (dup : DupRow) (found : Some dup ≡
         (λ t. refused_if (there_is t) BadNode (refused_if (is_none (sym found t)) UnknownPlace (refused_if (crosses b node (sym found t)) CrossesNodes None)))
         ∙ ap (λ x. refused_if x CrossesNodes None) at_home
 
-    -- each error with which the move of a dup ends is an answer that `MoveDup` may give
-    pub moved_answer : (X : Type 0) (v w : KeeperView) (q : ℕ) (f : Fault) → IsMoved {X = X} v w q node (Err f) → IsAnswerOrMemory b (MoveDup place node) (Err f)
-    moved_answer X v w q (NoFrame n) h = subst (λ o. IsAnswerUnless o b (MoveDup place node) (Err (NoFrame n))) (sym accepted) h.0
-    moved_answer X v w q InUse h = subst (λ o. IsAnswerUnless o b (MoveDup place node) (Err InUse)) (sym accepted) tt
-    moved_answer X v w q _ h = absurd h
+-- the command is carried out where the dup moved to a frame of the node, or stayed, as it answers
+module _ (p q : PagesView) (k l : KeeperView) (cursor : Option GuestPage) (passes place node : ℕ) (dup : DupRow)
+    (found : Some dup ≡ live_dup_at (state_of p cursor passes) place) (may : MayMove p k dup node) (own : l.table ≡ k.table) where
+  abbrev b : BookState
+  b = state_of p cursor passes
 
-    -- `Done` is an answer that `MoveDup` may give
-    pub moved_done : IsAnswerOrMemory b (MoveDup place node) (Ok Done)
-    moved_done = subst (λ o. IsAnswerUnless o b (MoveDup place node) (Ok Done)) (sym accepted) tt
+  abbrev Carries : Answer → Type 0
+  Carries = CarriedOut (book p k cursor passes) (book q l cursor passes) (MoveDup place node)
 
--- each error with which the move of a dup ends shows in the log what it has to show
-pub moved_shown : (X : Type 0) (b : BookState) (v w : KeeperView) (place node q : ℕ) → q ≡ place → (f : Fault) → IsMoved {X = X} v w q node (Err f) → HasShown b v w (Err f) (MoveDup place node)
-moved_shown X b v w place node q same (NoFrame n) h = subst (NoneLeft v w) (sym h.0) h.1
-moved_shown X b v w place node q same InUse h = h
-moved_shown X b v w place node q same _ h = absurd h
+  answers : (answer : Answer) → IsAnswerUnless None b (MoveDup place node) answer
+      → IsAnswerUnless (refusal b (MoveDup place node)) b (MoveDup place node) answer
+  answers answer is =
+      subst (λ o. IsAnswerUnless o b (MoveDup place node) answer) (sym (accepted b place node dup found may.exists may.home)) is
 
--- no frame is given where the dup stays
-pub moved_frames : (X : Type 0) (v w : KeeperView) (place node : ℕ) (f : Fault) → IsMoved {X = X} v w place node (Err f) → Does v w []
-moved_frames X v w place node (NoFrame n) h = (h.1.part, h.1.did)
-moved_frames X v w place node InUse h = (h.part, h.did)
-moved_frames X v w place node _ h = absurd h
+  -- it answers `Done` where the dup moved
+  pub done_carried : {X : Type 0} {done : X} → HasRemounted {X = X} p q k l dup node (Ok done) → Carries (Ok Done)
+  done_carried h = record {
+    own = own;
+    answer = answers (Ok Done) tt;
+    state = ap (λ (x : PagesView). state_of x cursor passes) h.rest;
+    steps = subst (λ o. MatchOption o ⊥ (λ d. Moves (lying p k) (lying q l) p.rows d node)) found h.moves;
+    frames = (h.shown.part, h.shown.did);
+    shown = subst (λ x. HasMoved k l x node) (place_is b place node dup found) h.shown;
+  }
 
--- the steps of an answer
-module _ (p q : PagesView) (k l : KeeperView) (v w : BookView) (before : lying p k ≡ mapped v) (behind : lying q l ≡ mapped w) (rows : p.rows ≡ v.state.rows) (place node : ℕ) (dup : DupRow) (found : Some dup ≡ live_dup_at v.state place) where
-  -- a dup that moved has made the steps that the answer `Done` stands for
-  pub done_steps : Moves (lying p k) (lying q l) p.rows dup node → TakesSteps v w (MoveDup place node) (Ok Done)
-  done_steps h = subst (λ o. MatchOption o ⊥ (λ d. Moves (mapped v) (mapped w) v.state.rows d node)) found
-      (subst (λ (z : Mapped × Mapped × List Row). Moves z.0 z.1 z.2 dup node) (λ i. (before i, behind i, rows i)) h)
-
-  -- a dup that did not move has made the steps that its refusal stands for
-  pub fault_steps : (X : Type 0) (f : Fault) → MovesOr {X = X} p q k l dup node (Err f) → TakesSteps v w (MoveDup place node) (Err f)
-  fault_steps X Memory h = absurd h
-  fault_steps X UnknownPage h = absurd h
-  fault_steps X AlreadyRegistered h = absurd h
-  fault_steps X (NoFrame n) h = subst (λ (z : Mapped × Mapped). TurnsAway z.0 z.1 n) (λ i. (before i, behind i)) h
-  fault_steps X NotRunning h = absurd h
-  fault_steps X SharedPages h = absurd h
-  fault_steps X BadValue h = absurd h
-  fault_steps X InUse h = subst (λ o. MatchOption o ⊥ (λ d. FindsHeld (mapped v) (mapped w) v.state.rows d node)) found
-      (subst (λ (z : Mapped × Mapped × List Row). FindsHeld z.0 z.1 z.2 dup node) (λ i. (before i, behind i, rows i)) h)
-  fault_steps X CrossesNodes h = absurd h
-  fault_steps X _ h = absurd h
+  -- it answers the fault for which the dup stayed
+  pub fault_carried : {X : Type 0} (fault : Fault) → HasRemounted {X = X} p q k l dup node (Err fault) → Carries (Err fault)
+  fault_carried (NoFrame n) h = record {
+    own = own;
+    answer = answers (Err (NoFrame n)) h.shown.0;
+    state = ap (λ (x : PagesView). state_of x cursor passes) h.rest;
+    steps = h.moves;
+    frames = (h.shown.1.part, h.shown.1.did);
+    shown = subst (NoneLeft k l) (sym h.shown.0) h.shown.1;
+  }
+  fault_carried InUse h = record {
+    own = own;
+    answer = answers (Err InUse) tt;
+    state = ap (λ (x : PagesView). state_of x cursor passes) h.rest;
+    steps = subst (λ o. MatchOption o ⊥ (λ d. FindsHeld (lying p k) (lying q l) p.rows d node)) found h.moves;
+    frames = (h.shown.part, h.shown.did);
+    shown = h.shown;
+  }
+  fault_carried _ h = absurd h.shown

@@ -68,22 +68,22 @@ pub puts_ledger : (sh : Shape) (k : Ledger) (g : ℕ) (bytes : List ℕ) → g <
 puts_ledger sh k g bytes lt same = puts_from sh k g [] bytes (frame_at k g).content lt same refl
 
 made_puts : (g i : ℕ) (ws : List ℕ) (v w : KeeperView) → Made v w (steps_of (puts g i ws)) → w.ledger ≡ replayed v.table.shape v.ledger (puts g i ws)
-made_puts g i [] v w m = ap (λ (z : KeeperView). z.ledger) (none_made v w m)
-made_puts g i (x ∷ ws) v w m = let first = first_made v w (Put g i x) (steps_of (puts g (i + 1) ws)) m in made_puts g (i + 1) ws (did v (Put g i x) first.0) w first.1
+made_puts g i [] v w m = ap (λ (z : KeeperView). z.ledger) (none_made m)
+made_puts g i (x ∷ ws) v w m = let first = first_made m in made_puts g (i + 1) ws (did v (Put g i x) first.0) w first.1
 
 -- the keeper knows after loads what it knew before
 pub made_loads : (g i : ℕ) (ws : List ℕ) (v w : KeeperView) → Made v w (steps_of (loads g i ws)) → w.ledger ≡ v.ledger
-made_loads g i [] v w m = ap (λ (z : KeeperView). z.ledger) (none_made v w m)
-made_loads g i (x ∷ ws) v w m = let first = first_made v w (Word g i) (steps_of (loads g (i + 1) ws)) m in made_loads g (i + 1) ws (did v (Word g i) first.0) w first.1
+made_loads g i [] v w m = ap (λ (z : KeeperView). z.ledger) (none_made m)
+made_loads g i (x ∷ ws) v w m = let first = first_made m in made_loads g (i + 1) ws (did v (Word g i) first.0) w first.1
 
 -- a frame that is raised gets its words and is opened, and other steps follow
 pub opened_made : (v w : KeeperView) (g : ℕ) (bytes : List ℕ) (more : List KeeperStep) → g < length v.ledger.frames → length (frame_at v.ledger g).content ≡ length bytes
     → Made v w (steps_of (puts g 0 bytes) ++ Open g ∷ more)
     → (u : KeeperView) × (u.ledger ≡ with_frame v.ledger g (opened (holding (frame_at v.ledger g) bytes))) × Made u w more
 opened_made v w g bytes more lt same m =
-    let parts = parts_made v w (steps_of (puts g 0 bytes)) (Open g ∷ more) m in
+    let parts = parts_made (steps_of (puts g 0 bytes)) (Open g ∷ more) m in
     let u : KeeperView = parts.0 in
-    let first = first_made u w (Open g) more parts.2 in
+    let first = first_made parts.2 in
     let full : Note = holding (frame_at v.ledger g) bytes in (
       did u (Open g) first.0,
       ap (λ (z : Ledger). with_frame z g (opened (frame_at z g))) (made_puts g 0 bytes v u parts.1 ∙ puts_ledger v.table.shape v.ledger g bytes lt same) ∙ again v.ledger g lt full opened,
@@ -98,7 +98,7 @@ module _ (v w : KeeperView) (node g : ℕ) (less : node < v.table.shape.nodes) (
 
   -- rows and dups lie lawfully once the frame is found
   pub found_placed : Placed sh l.0 w.ledger l.1 l.2 l.3 None
-  found_placed = searched_placed v w node less finds.reaped l.0 l.1 l.2 l.3 None l.4
+  found_placed = searched_placed node less finds.reaped l.0 l.1 l.2 l.3 None l.4
 
   -- the frame found is one of the table
   pub found_inside : g < frames_of sh
@@ -122,7 +122,7 @@ module _ (v w : KeeperView) (node g : ℕ) (less : node < v.table.shape.nodes) (
 
 -- ---------------------------------------------------------------- a frame is taken
 
-module _ (v w : KeeperView) (node : ℕ) (bytes : List ℕ) (g : ℕ) (less : node < v.table.shape.nodes) (l : IsLawful v None) (long : length bytes ≡ PAGE_WORDS) (h : Provides v w node bytes g) where
+module _ {v w : KeeperView} {node : ℕ} {bytes : List ℕ} {g : ℕ} (less : node < v.table.shape.nodes) (l : IsLawful v None) (long : length bytes ≡ PAGE_WORDS) (h : Provides v w node bytes g) where
   abbrev u : KeeperView
   u = h.searched
 
@@ -134,11 +134,11 @@ module _ (v w : KeeperView) (node : ℕ) (bytes : List ℕ) (g : ℕ) (less : no
 
   taken_ledger : w.ledger ≡ with_frame u.ledger g own
   taken_ledger =
-      let first = first_made u w (Raise g) (steps_of (puts g 0 bytes) ++ Open g ∷ []) h.fills in
+      let first = first_made h.fills in
       let r : KeeperView = did u (Raise g) first.0 in
       let ready = raised_ready v u node g less l h.finds r first.0 refl in
       let opens = opened_made r w g bytes [] ready.0 (ready.2 ∙ sym long) first.1 in
-      ap (λ (z : KeeperView). z.ledger) (none_made opens.0 w opens.2) ∙ opens.1 ∙ again u.ledger g within (raised (frame_at u.ledger g)) (λ x. opened (holding x bytes))
+      ap (λ (z : KeeperView). z.ledger) (none_made opens.2) ∙ opens.1 ∙ again u.ledger g within (raised (frame_at u.ledger g)) (λ x. opened (holding x bytes))
 
   -- a frame that was found and filled is in hand with its bytes
   pub took : Took v w node bytes g
@@ -148,18 +148,18 @@ module _ (v w : KeeperView) (node : ℕ) (bytes : List ℕ) (g : ℕ) (less : no
       let was : spent_on (frame_at u.ledger g) ≡ (frame_at u.ledger g).generation = ap (λ (x : Kind). spent_on (record { kind = x; base = (frame_at u.ledger g).base; generation = (frame_at u.ledger g).generation; content = (frame_at u.ledger g).content })) free in
       let is : spent_on own ≡ (frame_at u.ledger g).generation = (let e : (frame_at u.ledger g).generation + 1 - 1 ≡ (frame_at u.ledger g).generation = omega arith in e) in
       let more = spent_kept u.ledger g own (omega (arith, was, is)) in
-      let before = searched_spends v u node h.finds.reaped in
+      let before = searched_spends node h.finds.reaped in
       let end : spent w.ledger ≡ spent (with_frame u.ledger g own) = ap spent taken_ledger in
       record {
-        does = provides_does v w node bytes g h;
+        does = provides_does h;
         keeps = λ across rows frame dups p.
-            let q = searched_placed v u node less h.finds.reaped across rows frame dups None p in
+            let q = searched_placed node less h.finds.reaped across rows frame dups None p in
             let one = one_same g (Some g) refl in
             let none : (frame_at u.ledger g).base ≡ 0 = subst (λ (x : Kind). FitsBase x (frame_at u.ledger g).base) free (q.kinds g) in
             let base = q.bases g in
             let left : (frame_at u.ledger g).generation < v.table.shape.last_generation = subst (λ (x : Kind). GenerationFits v.table.shape.last_generation x (frame_at u.ledger g).generation) free (q.lives g) in
             subst (λ (z : Ledger). Placed v.table.shape across z rows frame dups (Some g)) (sym taken_ledger)
-            (noted v.table.shape across u.ledger rows frame dups None q g (found_inside v u node g less l h.finds) own (Some g) (record {
+            (noted q g (found_inside v u node g less l h.finds) own (Some g) (record {
               wide = long;
               lived = (omega arith, omega (arith, left));
               base = omega (arith, one, none, base);
@@ -202,7 +202,7 @@ base_more v w f n found some so_far =
 -- n references that came to a frame, and one more, are n + 1 steps of the keeper
 pub add_more : (v w w' : KeeperView) (f n found : ℕ) → Made v w (replicate n (Add f)) → w' ≡ did w (Add f) found → Made v w' (replicate (n + 1) (Add f))
 add_more v w w' f n found so_far is =
-    subst (Made v w') (replicate-append-replicate n 1 (Add f)) (made_then v w w' (replicate n (Add f)) (Add f ∷ []) so_far (made_one w w' (Add f) found is))
+    subst (Made v w') (replicate-append-replicate n 1 (Add f)) (made_then so_far (made_one w w' (Add f) found is))
 
 -- where n references came to a frame, the keeper counts n more there and knows the rest as it was
 pub adds_ledger : (n : ℕ) (v w : KeeperView) (f : ℕ) → f < length v.ledger.frames → Made v w (replicate n (Add f))
@@ -210,10 +210,10 @@ pub adds_ledger : (n : ℕ) (v w : KeeperView) (f : ℕ) → f < length v.ledger
 adds_ledger zero v w f lt m =
     let old : Note = frame_at v.ledger f in
     let same : old.base ≡ old.base + 0 = omega arith in
-    ap (λ (z : KeeperView). z.ledger) (none_made v w m) ∙ sym (as_it_was v.ledger f) ∙ ap (λ b. with_frame v.ledger f (referring old b)) same
+    ap (λ (z : KeeperView). z.ledger) (none_made m) ∙ sym (as_it_was v.ledger f) ∙ ap (λ b. with_frame v.ledger f (referring old b)) same
 adds_ledger (suc n) v w f lt m =
     let old : Note = frame_at v.ledger f in
-    let first = first_made v w (Add f) (replicate n (Add f)) m in
+    let first = first_made m in
     let room = length-set v.ledger.frames f (added old) in
     let more : old.base + 1 + n ≡ old.base + suc n = omega arith in
     adds_ledger n (did v (Add f) first.0) w f (omega (arith, room, lt)) first.1
@@ -256,15 +256,15 @@ module _ (v w : KeeperView) (f g place count : ℕ) (bytes : List ℕ) (within :
   -- the steps of a mounting move a place to a frame, with the bytes of another and so many references
   pub mounted : w.ledger ≡ record { frames = set k.frames g (shown_on k f g count); places = set k.places place (Some life) }
   mounted =
-      let raise = first_made v w (Raise g) _ m in
+      let raise = first_made m in
       let r : KeeperView = did v (Raise g) raise.0 in
-      let load = parts_made r w (steps_of (loads f 0 bytes)) _ raise.1 in
+      let load = parts_made (steps_of (loads f 0 bytes)) _ raise.1 in
       let loaded : load.0.ledger ≡ with_frame k g (raised old) = made_loads f 0 bytes r load.0 load.1 in
       let room = length-set k.frames g (raised old) in
       let opening = opened_made load.0 w g bytes (replicate (count - 1) (Add g) ++ Publish place g ∷ []) (subst (λ (z : Ledger). g < length z.frames) (sym loaded) (omega (arith, room, within)))
       (ap (λ z. length (frame_at z g).content) loaded ∙ ap (λ (x : Note). length x.content) (at_again k g within (raised old)) ∙ wide) load.2 in
-      let add = parts_made opening.0 w (replicate (count - 1) (Add g)) (Publish place g ∷ []) opening.2 in
-      let show = step_made add.0 w (Publish place g) add.2 in
+      let add = parts_made (replicate (count - 1) (Add g)) (Publish place g ∷ []) opening.2 in
+      let show = step_made add.2 in
       after_show add.0 show.0 (after_adds opening.0 add.0 (after_open load.0 opening.0 loaded opening.1) add.1) show.1
 
 -- the words of a dying frame stay where a free one is raised
@@ -278,8 +278,8 @@ words_kept v w f g found free dying is =
 pub mounts : (v a b c d e w : KeeperView) (f g place count found opened' : ℕ) (bytes : List ℕ) → a ≡ did v (Raise g) found → b ≡ stepped a (loads f 0 bytes)
     → c ≡ stepped b (puts g 0 bytes) → d ≡ did c (Open g) opened' → Made d e (replicate (count - 1) (Add g)) → w ≡ did e (Publish place g) 0 → Made v w (mounting f g place count bytes)
 mounts v a b c d e w f g place count found opened' bytes raises loads' stores opens adds shows =
-    made_then v a w (Raise g ∷ []) _ (made_one v a (Raise g) found raises)
-    (made_then a b w (steps_of (loads f 0 bytes)) _ (made_part a b (loads f 0 bytes) loads')
-    (made_then b c w (steps_of (puts g 0 bytes)) _ (made_part b c (puts g 0 bytes) stores)
-    (made_then c d w (Open g ∷ []) _ (made_one c d (Open g) opened' opens)
-    (made_then d e w (replicate (count - 1) (Add g)) _ adds (made_one e w (Publish place g) 0 shows)))))
+    made_then (made_one v a (Raise g) found raises)
+    (made_then (made_part a b (loads f 0 bytes) loads')
+    (made_then (made_part b c (puts g 0 bytes) stores)
+    (made_then (made_one c d (Open g) opened' opens)
+    (made_then adds (made_one e w (Publish place g) 0 shows)))))

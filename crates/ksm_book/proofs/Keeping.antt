@@ -76,9 +76,9 @@ spent_kept k g fr le = by k.frames g le
 -- ---------------------------------------------------------------- a reference goes
 
 -- a frame in hand is one of the table, and has a reference
-pub held_inside : (sh : Shape) (across : ℕ) (k : Ledger) (rows : List Row) (frame : Frames) (dups : List DupRow) (g : ℕ) → Placed sh across k rows frame dups (Some g)
+pub held_inside : {sh : Shape} {across : ℕ} {k : Ledger} {rows : List Row} {frame : Frames} {dups : List DupRow} {g : ℕ} → Placed sh across k rows frame dups (Some g)
     → (g < frames_of sh) × (1 ≤ (frame_at k g).base)
-held_inside sh across k rows frame dups g p =
+held_inside {k = k} {g = g} p =
     let one = one_same g (Some g) refl in
     let base = p.bases g in
     let long = p.frames_long in
@@ -91,24 +91,24 @@ held_inside sh across k rows frame dups g p =
     )
 
 -- the frame in hand, if there is one, may be left
-pub may_leave : (v : KeeperView) (sh : Shape) → v.table.shape ≡ sh → (across : ℕ) (rows : List Row) (frame : Frames) (dups : List DupRow) (o : Option ℕ)
+pub may_leave : (v : KeeperView) {sh : Shape} → v.table.shape ≡ sh → {across : ℕ} {rows : List Row} {frame : Frames} {dups : List DupRow} (o : Option ℕ)
     → Placed sh across v.ledger rows frame dups o → IfSome o (λ f. May v (Sub f))
-may_leave v sh same across rows frame dups None p = tt
-may_leave v sh same across rows frame dups (Some g) p =
-    let held = held_inside sh across v.ledger rows frame dups g p in
+may_leave v same None p = tt
+may_leave v same (Some g) p =
+    let held = held_inside p in
     (subst (λ (s : Shape). g < frames_of s) (sym same) held.0, held.1)
 
 -- what was in hand was given back: rows and dups lie lawfully
-pub left_placed : (v w : KeeperView) (o : Option ℕ) → Made v w (leaving o) → (sh : Shape) (across : ℕ) (rows : List Row) (frame : Frames) (dups : List DupRow)
+pub left_placed : {v w : KeeperView} (o : Option ℕ) → Made v w (leaving o) → {sh : Shape} {across : ℕ} {rows : List Row} {frame : Frames} {dups : List DupRow}
     → Placed sh across v.ledger rows frame dups o → Placed sh across w.ledger rows frame dups None
-left_placed v w None m sh across rows frame dups p = subst (λ (z : KeeperView). Placed sh across z.ledger rows frame dups None) (sym (none_made v w m)) p
-left_placed v w (Some g) m sh across rows frame dups p =
+left_placed {v} {w} None m {sh} {across} {rows} {frame} {dups} p = subst (λ (z : KeeperView). Placed sh across z.ledger rows frame dups None) (sym (none_made m)) p
+left_placed {v} {w} (Some g) m {sh} {across} {rows} {frame} {dups} p =
     let old : Note = frame_at v.ledger g in
-    let in_hand = held_inside sh across v.ledger rows frame dups g p in
+    let in_hand = held_inside p in
     let one = one_same g (Some g) refl in
     let base = p.bases g in
-    subst (λ (z : KeeperView). Placed sh across z.ledger rows frame dups None) (sym (step_made v w (Sub g) m).1)
-    (noted sh across v.ledger rows frame dups (Some g) p g in_hand.0 (lowered old) None (record {
+    subst (λ (z : KeeperView). Placed sh across z.ledger rows frame dups None) (sym (step_made m).1)
+    (noted p g in_hand.0 (lowered old) None (record {
       wide = p.widths g;
       lived = lived_taken sh.last_generation old.generation old.base old.kind (old.base == 1) in_hand.1 (p.kinds g) (p.lives g);
       base = omega (arith, one, base);
@@ -118,26 +118,26 @@ left_placed v w (Some g) m sh across rows frame dups p =
     }) (λ f ne. sym (one_other f (Some g) (λ e. ne (sym (same_Some g f e))))))
 
 -- a reference given back ends no life
-pub left_spends : (v w : KeeperView) (o : Option ℕ) → Made v w (leaving o) → spent v.ledger ≤ spent w.ledger
-left_spends v w None m = let same = ap (λ (z : KeeperView). spent z.ledger) (none_made v w m) in omega (arith, same)
-left_spends v w (Some g) m =
+pub left_spends : {v w : KeeperView} (o : Option ℕ) → Made v w (leaving o) → spent v.ledger ≤ spent w.ledger
+left_spends {v} {w} None m = let same = ap (λ (z : KeeperView). spent z.ledger) (none_made m) in omega (arith, same)
+left_spends {v} {w} (Some g) m =
     let old : Note = frame_at v.ledger g in
-    let same = ap (λ (z : KeeperView). spent z.ledger) (step_made v w (Sub g) m).1 in
+    let same = ap (λ (z : KeeperView). spent z.ledger) (step_made m).1 in
     let more = spent_kept v.ledger g (lowered old) (past_taken (old.base == 1) old.kind old.generation) in
     omega (arith, same, more)
 
 -- ---------------------------------------------------------------- a reference comes
 
 -- a reference came on a stable frame, and is in hand: rows and dups lie lawfully
-pub added_placed : (v w : KeeperView) (g : ℕ) → Made v w (Add g ∷ []) → (frame_at v.ledger g).kind ≡ Stable → (sh : Shape) (across : ℕ) (rows : List Row) (frame : Frames) (dups : List DupRow)
+pub added_placed : {v w : KeeperView} {g : ℕ} → Made v w (Add g ∷ []) → (frame_at v.ledger g).kind ≡ Stable → {sh : Shape} {across : ℕ} {rows : List Row} {frame : Frames} {dups : List DupRow}
     → g < frames_of sh → Placed sh across v.ledger rows frame dups None → Placed sh across w.ledger rows frame dups (Some g)
-added_placed v w g m stable sh across rows frame dups inside p =
+added_placed {v} {w} {g} m stable {sh} {across} {rows} {frame} {dups} inside p =
     let old : Note = frame_at v.ledger g in
     let one = one_same g (Some g) refl in
     let base : old.base ≡ uses g frame rows + 0 = p.bases g in
     let some : 1 ≤ old.base + 1 = omega arith in
-    subst (λ (z : KeeperView). Placed sh across z.ledger rows frame dups (Some g)) (sym (step_made v w (Add g) m).1)
-    (noted sh across v.ledger rows frame dups None p g inside (added old) (Some g) (record {
+    subst (λ (z : KeeperView). Placed sh across z.ledger rows frame dups (Some g)) (sym (step_made m).1)
+    (noted p g inside (added old) (Some g) (record {
       wide = p.widths g;
       lived = p.lives g;
       base = omega (arith, one, base);
@@ -147,9 +147,9 @@ added_placed v w g m stable sh across rows frame dups inside p =
     }) (λ f ne. one_other f (Some g) (λ e. ne (sym (same_Some g f e)))))
 
 -- a reference that came ends no life
-pub added_spends : (v w : KeeperView) (g : ℕ) → Made v w (Add g ∷ []) → spent v.ledger ≤ spent w.ledger
-added_spends v w g m =
-    let same = ap (λ (z : KeeperView). spent z.ledger) (step_made v w (Add g) m).1 in
+pub added_spends : {v w : KeeperView} {g : ℕ} → Made v w (Add g ∷ []) → spent v.ledger ≤ spent w.ledger
+added_spends {v} {w} {g} m =
+    let same = ap (λ (z : KeeperView). spent z.ledger) (step_made m).1 in
     let more = spent_kept v.ledger g (added (frame_at v.ledger g)) (omega arith) in
     omega (arith, same, more)
 
@@ -192,7 +192,7 @@ module _ (sh : Shape) (k : Ledger) (g found : ℕ) where
     | true ↦
         let base = p.bases g in
         let none = left.1 in
-        noted sh across k rows frame dups hand p g left.0 (reaped sh.last_generation old) hand (record {
+        noted p g left.0 (reaped sh.last_generation old) hand (record {
           wide = p.widths g;
           lived = lived_reaped sh.last_generation old.generation old.kind (old.generation == sh.last_generation) refl (p.lives g);
           base = omega (arith, base, none);
@@ -206,19 +206,19 @@ module _ (sh : Shape) (k : Ledger) (g found : ℕ) where
 -- frames on which nothing is were reaped: rows and dups lie lawfully
 reaps_placed : (fs : List ℕ) (v w : KeeperView) → Made v w (map Reap fs) → (across : ℕ) (rows : List Row) (frame : Frames) (dups : List DupRow) (hand : Option ℕ)
     → All (IsLeft v.table.shape v.ledger) fs → Placed v.table.shape across v.ledger rows frame dups hand → Placed v.table.shape across w.ledger rows frame dups hand
-reaps_placed [] v w m across rows frame dups hand left p = subst (λ (z : KeeperView). Placed v.table.shape across z.ledger rows frame dups hand) (sym (none_made v w m)) p
+reaps_placed [] v w m across rows frame dups hand left p = subst (λ (z : KeeperView). Placed v.table.shape across z.ledger rows frame dups hand) (sym (none_made m)) p
 reaps_placed (f ∷ fs) v w m across rows frame dups hand left p =
     let sh : Shape = v.table.shape in
-    let first = first_made v w (Reap f) (map Reap fs) m in
+    let first = first_made m in
     let rest = All-tail (IsLeft sh v.ledger) f fs left in
     reaps_placed fs (did v (Reap f) first.0) w first.1 across rows frame dups hand
     (λ i d lt. still_left sh v.ledger f first.0 (get_or fs i d) (rest i d lt))
     (reap_placed sh v.ledger f first.0 across rows frame dups hand (All-head (IsLeft sh v.ledger) f fs left) p)
 
 reaps_spend : (fs : List ℕ) (v w : KeeperView) → Made v w (map Reap fs) → spent v.ledger ≤ spent w.ledger
-reaps_spend [] v w m = let same = ap (λ (z : KeeperView). spent z.ledger) (none_made v w m) in omega (arith, same)
+reaps_spend [] v w m = let same = ap (λ (z : KeeperView). spent z.ledger) (none_made m) in omega (arith, same)
 reaps_spend (f ∷ fs) v w m =
-    let first = first_made v w (Reap f) (map Reap fs) m in
+    let first = first_made m in
     let here = reap_spends v.table.shape v.ledger f first.0 in
     let rest = reaps_spend fs (did v (Reap f) first.0) w first.1 in
     omega (arith, here, rest)
@@ -228,10 +228,10 @@ pub node_end : (node nodes size : ℕ) → node < nodes → node * size + size �
 node_end node nodes size lt = grind arith
 
 -- the dying frames of a node were reaped: rows and dups lie lawfully
-pub searched_placed : (v w : KeeperView) (node : ℕ) → node < v.table.shape.nodes → Made v w (map Reap (dying_on v.table.shape v.ledger node))
+pub searched_placed : {v w : KeeperView} (node : ℕ) → node < v.table.shape.nodes → Made v w (map Reap (dying_on v.table.shape v.ledger node))
     → (across : ℕ) (rows : List Row) (frame : Frames) (dups : List DupRow) (hand : Option ℕ) → Placed v.table.shape across v.ledger rows frame dups hand
     → Placed v.table.shape across w.ledger rows frame dups hand
-searched_placed v w node less m across rows frame dups hand p =
+searched_placed {v} {w} node less m across rows frame dups hand p =
     let sh : Shape = v.table.shape in
     let size : ℕ = sh.frames_per_node in
     let low : ℕ = node * size in
@@ -250,5 +250,5 @@ searched_placed v w node less m across rows frame dups hand p =
     p
 
 -- reaping spends no fewer lives
-pub searched_spends : (v w : KeeperView) (node : ℕ) → Made v w (map Reap (dying_on v.table.shape v.ledger node)) → spent v.ledger ≤ spent w.ledger
-searched_spends v w node m = reaps_spend (dying_on v.table.shape v.ledger node) v w m
+pub searched_spends : {v w : KeeperView} (node : ℕ) → Made v w (map Reap (dying_on v.table.shape v.ledger node)) → spent v.ledger ≤ spent w.ledger
+searched_spends {v} {w} node m = reaps_spend (dying_on v.table.shape v.ledger node) v w m

@@ -5,7 +5,7 @@ use Rattle.ksm_book.proofs.ByPage.{found_page}
 use Rattle.ksm_book.proofs.Keeping.{spent_kept}
 use Rattle.ksm_book.proofs.Moves.{Serves, framed, inserted, own_agrees, remapped, swapped, written_in}
 
-module _ (sh : Shape) (across : ℕ) (v : KeeperView) (rows : List Row) (frame : Frames) (dups : List DupRow) (hand : Option ℕ) (same : v.table.shape ≡ sh) where
+module _ {sh : Shape} {across : ℕ} (v : KeeperView) {rows : List Row} {frame : Frames} {dups : List DupRow} {hand : Option ℕ} (same : v.table.shape ≡ sh) where
   -- a placement by this shape is one by the shape of the keeper's table
   at_table : Placed sh across v.ledger rows frame dups hand → Placed v.table.shape across v.ledger rows frame dups hand
   at_table p = subst (λ (s : Shape). Placed s across v.ledger rows frame dups hand) (sym same) p
@@ -23,9 +23,9 @@ pub shape_same : (sh : Shape) (v w : KeeperView) → v.table.shape ≡ sh → w.
 shape_same sh v w same e = ap (λ x. x.shape) e ∙ same
 
 -- the frame taken serves a row with its bytes on its home
-module _ (sh : Shape) (across : ℕ) (v w : KeeperView) (rows : List Row) (frame : Frames) (dups : List DupRow) (same : v.table.shape ≡ sh) (node : ℕ) (bytes : List ℕ) (g : ℕ) (took : Took v w node bytes g) (p : Placed sh across v.ledger rows frame dups None) where
+module _ {sh : Shape} {across : ℕ} {v w : KeeperView} {rows : List Row} {frame : Frames} {dups : List DupRow} (same : v.table.shape ≡ sh) {node : ℕ} {bytes : List ℕ} {g : ℕ} (took : Took v w node bytes g) (p : Placed sh across v.ledger rows frame dups None) where
   in_new_hand : Placed sh across w.ledger rows frame dups (Some g)
-  in_new_hand = kept sh across v rows frame dups None same w (Some g) took.keeps p
+  in_new_hand = kept v same w (Some g) took.keeps p
 
   serves : (r : Row) → r.state ≡ OwnPage → r.home ≡ node → r.bytes ≡ bytes → Serves sh w.ledger dups r g
   serves r own home content = (
@@ -37,7 +37,7 @@ module _ (sh : Shape) (across : ℕ) (v w : KeeperView) (rows : List Row) (frame
       given = took.given;
       node = λ _. subst (λ (s : Shape). g / s.frames_per_node ≡ node) same took.node ∙ sym home;
     },
-    own_agrees sh across w.ledger rows frame dups (Some g) in_new_hand r g (λ n. ap (merged_into n) own) took.kind,
+    own_agrees in_new_hand r g (λ n. ap (merged_into n) own) took.kind,
   )
 
   -- a page moves to the frame taken: its placement is lawful, with the frame that it had, if it had one, in hand
@@ -47,11 +47,11 @@ module _ (sh : Shape) (across : ℕ) (v w : KeeperView) (rows : List Row) (frame
       by : (o : Option Row) → row_at page rows ≡ o → MatchOption o ⊥ (λ r. ((c r).state ≡ OwnPage) × ((c r).home ≡ node) × ((c r).bytes ≡ bytes))
           → Placed sh across w.ledger (change_row page c rows) (lies_on page (Some g) frame) dups (frame page)
       by None found none = absurd none
-      by (Some row) found h = swapped sh across w.ledger rows frame dups (Some g) page c row rise found houses.pages in_new_hand (serves (c row) h.0 h.1 h.2)
+      by (Some row) found h = swapped (Some g) page c row rise found houses.pages in_new_hand (serves (c row) h.0 h.1 h.2)
 
   -- where a new row comes on the frame taken, rows and dups lie lawfully
   pub come_there : (r : Row) → row_at r.page rows ≡ None → r.state ≡ OwnPage → r.home ≡ node → r.bytes ≡ bytes → Placed sh across w.ledger (with_row r rows) (lies_on r.page (Some g) frame) dups None
-  come_there r absent own home content = inserted sh across w.ledger rows frame dups (Some g) r absent in_new_hand (serves r own home content)
+  come_there r absent own home content = inserted (Some g) r absent in_new_hand (serves r own home content)
 
 -- the frame of a row that is not shared is Private
 pub own_kind : (s : PageState) → shared_state s ≡ false → kind_for s ≡ Private
@@ -73,7 +73,7 @@ own_framed _ e = refl
 abbrev pub LodgesAs : Row → Row → Type 0
 LodgesAs row r = (row.home ≡ r.home) × (row.bytes ≡ r.bytes) × ((row.state ≡ r.state) ⊎ ((shared_state r.state ≡ false) × (shared_state row.state ≡ false)))
 
-module _ (sh : Shape) (across : ℕ) (k : Ledger) (rows : List Row) (frame : Frames) (dups : List DupRow) (hand : Option ℕ) (p : Placed sh across k rows frame dups hand) where
+module _ {sh : Shape} {across : ℕ} {k : Ledger} {rows : List Row} {frame : Frames} {dups : List DupRow} {hand : Option ℕ} (p : Placed sh across k rows frame dups hand) where
   -- a row that may stand in the stead of another is served by its frame
   module _ (old r : Row) (f : ℕ) (served : Serves sh k dups old f) where
     same_state : r.state ≡ old.state → r.home ≡ old.home → r.bytes ≡ old.bytes → Serves sh k dups r f
@@ -86,7 +86,7 @@ module _ (sh : Shape) (across : ℕ) (k : Ledger) (rows : List Row) (frame : Fra
     both_own was now home bytes =
         let kind : (frame_at k f).kind ≡ Private = served.0.kind ∙ own_kind old.state was in (
           record { mapped = own_framed r.state now; frame = served.0.frame; kind = kind ∙ sym (own_kind r.state now); content = served.0.content ∙ sym bytes; given = served.0.given; node = λ _. served.0.node was ∙ sym home },
-          own_agrees sh across k rows frame dups hand p r f (own_item r.state now) kind,
+          own_agrees p r f (own_item r.state now) kind,
         )
 
     lodged : LodgesAs r old → Serves sh k dups r f
@@ -100,13 +100,13 @@ module _ (sh : Shape) (across : ℕ) (k : Ledger) (rows : List Row) (frame : Fra
 
   -- rows may change each into one that stands in its stead on its frame
   pub lodged_rows : (c : Row → Row) → ((r : Row) → (c r).page ≡ r.page) → All (λ r. LodgesAs (c r) r) rows → Placed sh across k (map c rows) frame dups hand
-  lodged_rows c keeps lodges = remapped sh across k rows frame dups hand c keeps p (λ i d lt. let r = get_or rows i d in lodged_as r (c r) (frame r.page) (lodges i d lt))
+  lodged_rows c keeps lodges = remapped hand c keeps p (λ i d lt. let r = get_or rows i d in lodged_as r (c r) (frame r.page) (lodges i d lt))
 
   -- the row of a page is served by its frame
   pub served_at : (page : GuestPage) (row : Row) → row_at page rows ≡ Some row → IsServed sh k dups row (frame page)
   served_at page row found = subst (λ q. IsServed sh k dups row (frame q)) (found_page page rows row found) (find_all (λ r. same_page r.page page) (λ r. IsServed sh k dups r (frame r.page)) rows row found p.each_row)
 
-module _ (p : PagesView) (k : KeeperView) (h : IsLaid p k) where
+module _ {p : PagesView} {k : KeeperView} (h : IsLaid p k) where
   abbrev across : ℕ
   across = p.knobs.merge_across_nodes
 
@@ -118,7 +118,7 @@ module _ (p : PagesView) (k : KeeperView) (h : IsLaid p k) where
   laid_kept w e keeps more = record {
     small = h.small;
     same = shape_same sh k w h.same e;
-    placed = kept sh across k p.rows p.frame p.dups None h.same w None keeps h.placed;
+    placed = kept k h.same w None keeps h.placed;
     spent = (let s = h.spent in omega (arith, s, more));
   }
 
@@ -143,25 +143,25 @@ module _ (p : PagesView) (k : KeeperView) (h : IsLaid p k) where
 
   -- pages lie lawfully where each row changes into one that may stand in its stead on its frame
   pub laid_mapped : (c : Row → Row) (restless : Listing) → ((r : Row) → (c r).page ≡ r.page) → All (λ r. LodgesAs (c r) r) p.rows → IsLaid (record p { rows = map c p.rows; restless = restless }) k
-  laid_mapped c restless keeps lodges = laid_rows (map c p.rows) p.frame restless k refl (omega arith) (lodged_rows sh across k.ledger p.rows p.frame p.dups None h.placed c keeps lodges)
+  laid_mapped c restless keeps lodges = laid_rows (map c p.rows) p.frame restless k refl (omega arith) (lodged_rows h.placed c keeps lodges)
 
   -- a row that is not Zero lies on a frame that serves it
   pub has_frame : (page : GuestPage) (row : Row) → row_at page p.rows ≡ Some row → zero_state row.state ≡ false → (f : ℕ) × (p.frame page ≡ Some f) × Serves sh k.ledger p.dups row f
-  has_frame page row found other = framed sh k.ledger p.dups row (p.frame page) other (served_at sh across k.ledger p.rows p.frame p.dups None h.placed page row found)
+  has_frame page row found other = framed sh k.ledger p.dups row (p.frame page) other (served_at h.placed page row found)
 
   -- pages lie lawfully where the row of a page with a frame of its own gets new bytes, and the frame holds them
   pub laid_written : (page : GuestPage) (row : Row) (c : Row → Row) (restless : Listing) (w : KeeperView) (g : ℕ) → InPageOrder p.rows → row_at page p.rows ≡ Some row → ((r : Row) → (c r).page ≡ r.page) → p.frame page ≡ Some g
       → w.table ≡ k.table → w.ledger ≡ with_frame k.ledger g (holding (frame_at k.ledger g) (c row).bytes) → length (c row).bytes ≡ PAGE_WORDS → shared_state row.state ≡ false → (c row).home ≡ row.home → (c row).state ≡ OwnPage
       → IsLaid (record p { rows = change_row page c p.rows; restless = restless }) w
   laid_written page row c restless w g rise found keeps lies e ledger wide alone home is =
-      let served : Serves sh k.ledger p.dups row g = subst (IsServed sh k.ledger p.dups row) lies (served_at sh across k.ledger p.rows p.frame p.dups None h.placed page row found) in
+      let served : Serves sh k.ledger p.dups row g = subst (IsServed sh k.ledger p.dups row) lies (served_at h.placed page row found) in
       let kind : (frame_at k.ledger g).kind ≡ Private = served.0.kind ∙ own_kind row.state alone in
       let fr : Note = holding (frame_at k.ledger g) (c row).bytes in
       let more : spent k.ledger ≤ spent (with_frame k.ledger g fr) = spent_kept k.ledger g fr (omega arith) in
       let end : spent w.ledger ≡ spent (with_frame k.ledger g fr) = ap spent ledger in
       laid_rows (change_row page c p.rows) p.frame restless w e (omega (arith, more, end))
       (subst (λ (z : Ledger). Placed sh across z (change_row page c p.rows) p.frame p.dups None) (sym ledger)
-      (written_in sh across k.ledger p.rows p.frame p.dups h.placed page row rise found g lies kind c keeps fr kind refl refl wide
+      (written_in h.placed page row rise found g lies kind c keeps fr kind refl refl wide
       (ap zero_state is) (ap kind_for is) (λ n. ap (merged_into n) is) home refl alone))
 
 -- a frame of the kind that a row has which is not Zero may be read
@@ -170,14 +170,14 @@ readable x Zero framed e = absurd (grind (arith, framed))
 readable x _ framed e = subst IsReadable (sym e) tt
 
 -- pages lie lawfully with other knobs, where merge_across_nodes stays as it is or there are no dups
-pub retuned : (p : PagesView) (tuned : Knobs) (k : KeeperView) → (tuned.merge_across_nodes ≡ p.knobs.merge_across_nodes) ⊎ (p.dups ≡ []) → IsLaid p k → IsLaid (record p { knobs = tuned }) k
-retuned p tuned k (inl same) h = record {
+pub retuned : {p : PagesView} (tuned : Knobs) {k : KeeperView} → (tuned.merge_across_nodes ≡ p.knobs.merge_across_nodes) ⊎ (p.dups ≡ []) → IsLaid p k → IsLaid (record p { knobs = tuned }) k
+retuned {p} tuned {k} (inl same) h = record {
   small = h.small;
   same = h.same;
   placed = subst (λ a. Placed p.shape a k.ledger p.rows p.frame p.dups None) (sym same) h.placed;
   spent = h.spent;
 }
-retuned p tuned k (inr none) h = record {
+retuned {p} tuned {k} (inr none) h = record {
   small = h.small;
   same = h.same;
   placed = (let q = h.placed in record {

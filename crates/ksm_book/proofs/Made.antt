@@ -29,8 +29,8 @@ gives_append sh k ms ns (x ∷ xs) ys h h' =
     (more.0, subst (λ zs. Gives sh next zs (xs ++ ys)) (sym more.1) (gives_append sh next (needed_after ms (given_by x.0)) ns xs ys h.1 h'))
 
 -- two parts, one after the other, gave the frames of both
-pub chained : (u v w : KeeperView) (ms ns : List ℕ) (xs ys : Log) → Did u v ms xs → Did v w ns ys → Did u w (ms ++ ns) (xs ++ ys)
-chained u v w ms ns xs ys a b = record {
+pub chained : {u v w : KeeperView} {ms ns : List ℕ} {xs ys : Log} → Did u v ms xs → Did v w ns ys → Did u w (ms ++ ns) (xs ++ ys)
+chained {u} {v} {w} {ms} {ns} {xs} {ys} a b = record {
   table = b.table ∙ a.table;
   log = b.log ∙ ap (λ l. l ++ ys) a.log ∙ append_assoc u.log xs ys;
   ledger = b.ledger ∙ (λ i. replayed (a.table i).shape (a.ledger i) ys) ∙ sym (replayed_append u.table.shape u.ledger xs ys);
@@ -61,8 +61,8 @@ word_written (w ∷ ws) (c ∷ cs) (suc i) same lt = ap (λ l. w ∷ l) (word_wr
 -- ---------------------------------------------------------------- steps, and no others
 
 -- where the keeper stays as it is, no step was made
-pub made_none : (v w : KeeperView) → w ≡ v → Made v w []
-made_none v w e = record { part = []; after = e ∙ (λ i. record { table = v.table; ledger = v.ledger; log = sym (append-nil v.log) i }); are = refl }
+pub made_none : {v w : KeeperView} → w ≡ v → Made v w []
+made_none {v} {w} e = record { part = []; after = e ∙ (λ i. record { table = v.table; ledger = v.ledger; log = sym (append-nil v.log) i }); are = refl }
 
 -- a keeper that went on by one step has made that step and no other
 pub made_one : (v w : KeeperView) (e : KeeperStep) (found : ℕ) → w ≡ did v e found → Made v w (e ∷ [])
@@ -73,24 +73,24 @@ pub made_part : (v w : KeeperView) (part : Log) → w ≡ stepped v part → Mad
 made_part v w part is = record { part = part; after = is; are = refl }
 
 -- two pieces of work, one after the other, have made the steps of both
-pub made_then : (u v w : KeeperView) (xs ys : List KeeperStep) → Made u v xs → Made v w ys → Made u w (xs ++ ys)
-made_then u v w xs ys a b = record {
+pub made_then : {u v w : KeeperView} {xs ys : List KeeperStep} → Made u v xs → Made v w ys → Made u w (xs ++ ys)
+made_then {u} {v} {w} {xs} {ys} a b = record {
   part = a.part ++ b.part;
   after = b.after ∙ ap (λ (z : KeeperView). stepped z b.part) a.after ∙ stepped_then u a.part b.part;
   are = map-append (λ (e : KeeperStep × ℕ). e.0) a.part b.part ∙ (λ i. a.are i ++ b.are i);
 }
 
 -- where no step was made, nothing changed
-pub none_made : (v w : KeeperView) → Made v w [] → w ≡ v
-none_made v w m = by m.part m.after m.are
+pub none_made : {v w : KeeperView} → Made v w [] → w ≡ v
+none_made {v} {w} m = by m.part m.after m.are
   where
     by : (part : Log) → w ≡ stepped v part → steps_of part ≡ [] → w ≡ v
     by [] after are = after ∙ (λ i. record { table = v.table; ledger = v.ledger; log = append-nil v.log i })
     by (e ∷ es) after are = absurd (grind (arith, are))
 
 -- a keeper that made some steps made the first of them and then the others
-pub first_made : (v w : KeeperView) (e : KeeperStep) (es : List KeeperStep) → Made v w (e ∷ es) → (found : ℕ) × Made (did v e found) w es
-first_made v w e es m = by m.part m.after m.are
+pub first_made : {v w : KeeperView} {e : KeeperStep} {es : List KeeperStep} → Made v w (e ∷ es) → (found : ℕ) × Made (did v e found) w es
+first_made {v} {w} {e} {es} m = by m.part m.after m.are
   where
     by : (part : Log) → w ≡ stepped v part → steps_of part ≡ e ∷ es → (found : ℕ) × Made (did v e found) w es
     by [] after are = absurd (grind (arith, are))
@@ -100,13 +100,13 @@ first_made v w e es m = by m.part m.after m.are
         (s.1, record { part = part; after = after ∙ sym (stepped_then v (s ∷ []) part) ∙ ap (λ x. stepped (did v x s.1) part) first; are = rest })
 
 -- a keeper that made one step went on by that step, with some word that it found
-pub step_made : (v w : KeeperView) (e : KeeperStep) → Made v w (e ∷ []) → (found : ℕ) × (w ≡ did v e found)
-step_made v w e m = let first = first_made v w e [] m in (first.0, none_made (did v e first.0) w first.1)
+pub step_made : {v w : KeeperView} {e : KeeperStep} → Made v w (e ∷ []) → (found : ℕ) × (w ≡ did v e found)
+step_made {v} {w} {e} m = let first = first_made m in (first.0, none_made first.1)
 
 -- a keeper that made the steps of two lists made those of the first and then those of the second
-pub parts_made : (v w : KeeperView) (xs ys : List KeeperStep) → Made v w (xs ++ ys) → (between : KeeperView) × Made v between xs × Made between w ys
-parts_made v w [] ys m = (v, made_none v v refl, m)
-parts_made v w (x ∷ xs) ys m =
-    let first = first_made v w x (xs ++ ys) m in
-    let rest = parts_made (did v x first.0) w xs ys first.1 in
-    (rest.0, made_then v (did v x first.0) rest.0 (x ∷ []) xs (made_one v (did v x first.0) x first.0 refl) rest.1, rest.2)
+pub parts_made : {v w : KeeperView} (xs ys : List KeeperStep) → Made v w (xs ++ ys) → (between : KeeperView) × Made v between xs × Made between w ys
+parts_made {v} {w} [] ys m = (v, made_none refl, m)
+parts_made {v} {w} (x ∷ xs) ys m =
+    let first = first_made m in
+    let rest = parts_made {v = did v x first.0} xs ys first.1 in
+    (rest.0, made_then (made_one v (did v x first.0) x first.0 refl) rest.1, rest.2)

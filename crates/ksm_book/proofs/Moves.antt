@@ -21,7 +21,7 @@ pub framed : (sh : Shape) (k : Ledger) (dups : List DupRow) (r : Row) (o : Optio
 framed sh k dups r None other h = absurd (grind (arith, other, h))
 framed sh k dups r (Some f) other h = (f, refl, h)
 
-module _ (sh : Shape) (across : ℕ) (k : Ledger) (rows : List Row) (frame : Frames) (dups : List DupRow) (hand : Option ℕ) (p : Placed sh across k rows frame dups hand) where
+module _ {sh : Shape} {across : ℕ} {k : Ledger} {rows : List Row} {frame : Frames} {dups : List DupRow} {hand : Option ℕ} (p : Placed sh across k rows frame dups hand) where
   -- a row that is no item of any dup agrees with each dup, where its frame is Private
   pub own_agrees : (r : Row) (g : ℕ) → ((n : ℕ) → merged_into n r.state ≡ false) → (frame_at k g).kind ≡ Private → All (Agrees k r g) dups
   own_agrees r g alone kind = All-weaker (DupFits sh across k) (Agrees k r g) (λ d fits. record {
@@ -38,7 +38,7 @@ module _ (sh : Shape) (across : ℕ) (k : Ledger) (rows : List Row) (frame : Fra
     next = with_frame k g fr
 
     by : (P : Note → Type 0) (h : ℕ) → (h ≡ g → P fr) → (h ≢ g → P (frame_at k h)) → P (frame_at next h)
-    by = by_frame sh across k rows frame dups hand p g inside fr
+    by = by_frame p g inside fr
 
     -- a row fits its frame still where one note changes, if that keeps its frame's kind, content and generation
     pub row_still : (r : Row) (f : ℕ) → (f ≡ g → (fr.kind ≡ (frame_at k f).kind) × (fr.content ≡ (frame_at k f).content) × (fr.generation ≡ (frame_at k f).generation)) → RowFits sh k r f → RowFits sh next r f
@@ -72,11 +72,12 @@ module _ (sh : Shape) (across : ℕ) (k : Ledger) (rows : List Row) (frame : Fra
 pub kept_page : (page : GuestPage) (c : Row → Row) → ((r : Row) → (c r).page ≡ r.page) → (r : Row) → (if same_page r.page page then c r else r).page ≡ r.page
 kept_page page c keeps r = cond_both (same_page r.page page) (c r) r (λ s. s.page ≡ r.page) (λ _. keeps r) (λ _. refl)
 
--- a row changes, or comes, or goes, with its frame, if it has one
-module _ (sh : Shape) (across : ℕ) (k : Ledger) (rows : List Row) (frame : Frames) (dups : List DupRow) where
-  abbrev At : Frames → Row → Type 0
-  At on r = IsServed sh k dups r (on r.page)
+-- a row is served by its frame
+abbrev At : Shape → Ledger → List DupRow → Frames → Row → Type 0
+At sh k dups frame r = IsServed sh k dups r (frame r.page)
 
+-- a row changes, or comes, or goes, with its frame, if it has one
+module _ {sh : Shape} {across : ℕ} {k : Ledger} {rows : List Row} {frame : Frames} {dups : List DupRow} where
   -- other rows in the same frames
   rehoused : {rows' : List Row} {frame' : Frames} {o o' : Option ℕ} → Placed sh across k rows frame dups o → All (λ r. IsServed sh k dups r (frame' r.page)) rows'
       → ((f : ℕ) → (frame_at k f).base ≡ uses f frame' rows' + in_hand f o') → Placed sh across k rows' frame' dups o'
@@ -97,16 +98,16 @@ module _ (sh : Shape) (across : ℕ) (k : Ledger) (rows : List Row) (frame : Fra
       → Placed sh across k rows frame dups o → IsServed sh k dups (c row) o → Placed sh across k (change_row page c rows) (lies_on page o frame) dups (frame page)
   swapped o page c row rise found keeps p new =
       let at : same_page (c row).page page ≡ true = ap (λ q. same_page q page) (keeps row ∙ found_page page rows row found) ∙ same_page_refl page in
-      rehoused p (all_changed_row (At frame) (At (lies_on page o frame)) page c rows row rise found p.each_row
+      rehoused p (all_changed_row (At sh k dups frame) (At sh k dups (lies_on page o frame)) page c rows row rise found p.each_row
       (λ r other h. subst (IsServed sh k dups r) (sym (off_page page o frame r.page other)) h)
       (λ _. subst (IsServed sh k dups (c row)) (sym (on_page page o frame (c row).page at)) new))
       (λ f. p.bases f ∙ sym (uses_changed f page o frame c rows row rise found keeps))
 
   -- rows and dups lie lawfully where each row changes, keeps its page, and is served by its frame still
   pub remapped : (hand : Option ℕ) (c : Row → Row) → ((r : Row) → (c r).page ≡ r.page) → Placed sh across k rows frame dups hand
-      → All (λ r. At frame r → IsServed sh k dups (c r) (frame r.page)) rows → Placed sh across k (map c rows) frame dups hand
+      → All (λ r. At sh k dups frame r → IsServed sh k dups (c r) (frame r.page)) rows → Placed sh across k (map c rows) frame dups hand
   remapped hand c keeps p new = rehoused p
-      (All-map (At frame) c rows (λ i d lt. let r : Row = get_or rows i d in subst (λ q. IsServed sh k dups (c r) (frame q)) (sym (keeps r)) (new i d lt (p.each_row i d lt))))
+      (All-map (At sh k dups frame) c rows (λ i d lt. let r : Row = get_or rows i d in subst (λ q. IsServed sh k dups (c r) (frame q)) (sym (keeps r)) (new i d lt (p.each_row i d lt))))
       (λ f. p.bases f ∙ ap (λ n. n + in_hand f hand) (sym (uses_mapped f frame c rows keeps)))
 
   -- rows and dups lie lawfully where a new row comes on the frame in hand
@@ -114,7 +115,7 @@ module _ (sh : Shape) (across : ℕ) (k : Ledger) (rows : List Row) (frame : Fra
       → Placed sh across k (with_row row rows) (lies_on row.page o frame) dups None
   inserted o row absent p new =
       let apart = find_none (λ r. same_page r.page row.page) rows absent in
-      rehoused p (all_with_row (At (lies_on row.page o frame)) row rows (subst (IsServed sh k dups row) (sym (on_page row.page o frame row.page (same_page_refl row.page))) new)
+      rehoused p (all_with_row (At sh k dups (lies_on row.page o frame)) row rows (subst (IsServed sh k dups row) (sym (on_page row.page o frame row.page (same_page_refl row.page))) new)
       (λ i d lt. let r : Row = get_or rows i d in subst (IsServed sh k dups r) (sym (off_page row.page o frame r.page (apart i d lt))) (p.each_row i d lt)))
       (λ f. let come = uses_come f o frame row rows absent in let b = p.bases f in omega (arith, come, b))
 
@@ -122,13 +123,13 @@ module _ (sh : Shape) (across : ℕ) (k : Ledger) (rows : List Row) (frame : Fra
   pub removed : (page : GuestPage) (row : Row) → InPageOrder rows → row_at page rows ≡ Some row → Placed sh across k rows frame dups None
       → Placed sh across k (without_page page rows) (lies_on page None frame) dups (frame page)
   removed page row rise found p =
-      let kept = All-filter (λ r. not (same_page r.page page)) (At frame) rows p.each_row in
+      let kept = All-filter (λ r. not (same_page r.page page)) (At sh k dups frame) rows p.each_row in
       rehoused p (λ i d lt. let r : Row = get_or (without_page page rows) i d in
       subst (IsServed sh k dups r) (sym (off_page page None frame r.page (not-true _ (filter_passes (λ s. not (same_page s.page page)) rows i d lt)))) (kept i d lt))
       (λ f. let gone = uses_gone f page None frame rows row rise found in let b = p.bases f in omega (arith, gone, b))
 
 -- the row of a page is written in place, with its frame
-module _ (sh : Shape) (across : ℕ) (k : Ledger) (rows : List Row) (frame : Frames) (dups : List DupRow) (p : Placed sh across k rows frame dups None) (page : GuestPage) (row : Row) (rise : InPageOrder rows) (found : row_at page rows ≡ Some row)
+module _ {sh : Shape} {across : ℕ} {k : Ledger} {rows : List Row} {frame : Frames} {dups : List DupRow} (p : Placed sh across k rows frame dups None) (page : GuestPage) (row : Row) (rise : InPageOrder rows) (found : row_at page rows ≡ Some row)
     (g : ℕ) (lies : frame page ≡ Some g) (own : (frame_at k g).kind ≡ Private) where
   -- the row is served by its frame
   pub fits : Serves sh k dups row g
@@ -155,19 +156,19 @@ module _ (sh : Shape) (across : ℕ) (k : Ledger) (rows : List Row) (frame : Fra
     written_in mapped is alone home bytes was =
         let inside : g < frames_of sh = fits.0.frame in
         let at : frame (c row).page ≡ Some g = ap frame (keeps row ∙ found_page page rows row found) ∙ lies in
-        let same : (h : ℕ) → (frame_at now h).generation ≡ (frame_at k h).generation = λ h. by_frame sh across k rows frame dups None p g inside fr (λ x. x.generation ≡ (frame_at k h).generation) h (λ e. life ∙ ap (λ y. (frame_at k y).generation) (sym e)) (λ _. refl) in
-        let here : frame_at now g ≡ fr = by_frame sh across k rows frame dups None p g inside fr (λ x. x ≡ fr) g (λ _. refl) (λ ne. absurd (ne refl)) in
+        let same : (h : ℕ) → (frame_at now h).generation ≡ (frame_at k h).generation = λ h. by_frame p g inside fr (λ x. x.generation ≡ (frame_at k h).generation) h (λ e. life ∙ ap (λ y. (frame_at k y).generation) (sym e)) (λ _. refl) in
+        let here : frame_at now g ≡ fr = by_frame p g inside fr (λ x. x ≡ fr) g (λ _. refl) (λ ne. absurd (ne refl)) in
         let apart : All (λ r. IsServed sh k dups r (frame r.page) × (same_page r.page page ≡ false → frame r.page ≢ Some g)) rows = λ i d lt. (p.each_row i d lt, alone_there i d lt) in
         record {
-          frames_long = long_still sh across k rows frame dups None p g inside fr;
+          frames_long = long_still p g inside fr;
           places_long = p.places_long;
-          widths = λ f. by_frame sh across k rows frame dups None p g inside fr (λ x. length x.content ≡ PAGE_WORDS) f (λ _. wide) (λ _. p.widths f);
-          lives = λ f. by_frame sh across k rows frame dups None p g inside fr (λ x. GenerationFits sh.last_generation x.kind x.generation) f
+          widths = λ f. by_frame p g inside fr (λ x. length x.content ≡ PAGE_WORDS) f (λ _. wide) (λ _. p.widths f);
+          lives = λ f. by_frame p g inside fr (λ x. GenerationFits sh.last_generation x.kind x.generation) f
               (λ _. subst (λ (x : Kind × ℕ). GenerationFits sh.last_generation x.0 x.1) (λ t. ((own ∙ sym kind) t, sym life t)) (p.lives g)) (λ _. p.lives f);
           each_row = all_changed_row (λ r. IsServed sh k dups r (frame r.page) × (same_page r.page page ≡ false → frame r.page ≢ Some g)) (λ r. IsServed sh now dups r (frame r.page)) page c rows row rise found apart
               (λ r other h. served_as sh k now dups dups r r (frame r.page) refl (λ f there m. (
-                row_still sh across k rows frame dups None p g inside fr r f (λ e. absurd (h.1 other (there ∙ ap Some e))) m.0,
-                All-weaker (Agrees k r f) (Agrees now r f) (λ d a. agrees_still sh across k rows frame dups None p g inside fr r f d (λ _ l. same _ ∙ l) (λ l. sym (same _) ∙ l) a) dups m.1,
+                row_still p g inside fr r f (λ e. absurd (h.1 other (there ∙ ap Some e))) m.0,
+                All-weaker (Agrees k r f) (Agrees now r f) (λ d a. agrees_still p g inside fr r f d (λ _ l. same _ ∙ l) (λ l. sym (same _) ∙ l) a) dups m.1,
               )) h.0)
               (λ _. subst (IsServed sh now dups (c row)) (sym at) (
                 record { mapped = mapped; frame = inside; kind = ap (λ (x : Note). x.kind) here ∙ kind ∙ sym is; content = ap (λ (x : Note). x.content) here ∙ sym bytes; given = subst (λ y. 1 ≤ y) (sym (same g)) fits.0.given; node = λ _. fits.0.node was ∙ sym home },
@@ -181,13 +182,13 @@ module _ (sh : Shape) (across : ℕ) (k : Ledger) (rows : List Row) (frame : Fra
             named = n.named;
             frame = n.frame;
             life = subst (λ x. place_life k d.place ≤ x) (sym (same _)) n.life;
-            content = λ l. let l' = sym (same _) ∙ l in by_frame sh across k rows frame dups None p g inside fr (λ x. x.content ≡ d.bytes) (place_frame k d.place) (λ e. absurd (not_named d n l' e)) (λ _. n.content l');
-            shown = λ l. let l' = sym (same _) ∙ l in by_frame sh across k rows frame dups None p g inside fr (λ x. ¬ (x.kind ≡ Private)) (place_frame k d.place) (λ e. absurd (not_named d n l' e)) (λ _. n.shown l');
+            content = λ l. let l' = sym (same _) ∙ l in by_frame p g inside fr (λ x. x.content ≡ d.bytes) (place_frame k d.place) (λ e. absurd (not_named d n l' e)) (λ _. n.content l');
+            shown = λ l. let l' = sym (same _) ∙ l in by_frame p g inside fr (λ x. ¬ (x.kind ≡ Private)) (place_frame k d.place) (λ e. absurd (not_named d n l' e)) (λ _. n.shown l');
             node = n.node;
           }) dups p.each_dup;
-          bases = λ f. bases_still sh across k rows frame dups None p g inside fr None (base ∙ p.bases g) (λ f ne. refl) f
+          bases = λ f. bases_still p g inside fr None (base ∙ p.bases g) (λ f ne. refl) f
               ∙ ap (λ n. n + 0) (sym (uses_mapped f frame (λ r. if same_page r.page page then c r else r) rows (λ r. kept_page page c keeps r)));
-          kinds = kinds_still sh across k rows frame dups None p g inside fr (subst (λ (x : Kind × ℕ). FitsBase x.0 x.1) (λ t. ((own ∙ sym kind) t, sym base t)) (p.kinds g));
+          kinds = kinds_still p g inside fr (subst (λ (x : Kind × ℕ). FitsBase x.0 x.1) (λ t. ((own ∙ sym kind) t, sym base t)) (p.kinds g));
           empty = p.empty;
         }
 
@@ -225,7 +226,7 @@ all_without P d dups h =
     )
 
 -- a new dup of the row of a page stands on its frame, which the place names
-module _ (sh : Shape) (across : ℕ) (k : Ledger) (rows : List Row) (frame : Frames) (dups : List DupRow) (p : Placed sh across k rows frame dups None) (page : GuestPage) (row : Row) (rise : InPageOrder rows) (found : row_at page rows ≡ Some row)
+module _ {sh : Shape} {across : ℕ} {k : Ledger} {rows : List Row} {frame : Frames} {dups : List DupRow} (p : Placed sh across k rows frame dups None) (page : GuestPage) (row : Row) (rise : InPageOrder rows) (found : row_at page rows ≡ Some row)
     (g : ℕ) (lies : frame page ≡ Some g) (own : (frame_at k g).kind ≡ Private) (d : DupRow) (inside : d.place < frames_of sh) where
   -- the note of the row's frame once it is Stable
   abbrev pub stable : Note
@@ -236,7 +237,7 @@ module _ (sh : Shape) (across : ℕ) (k : Ledger) (rows : List Row) (frame : Fra
   shown_next = record { frames = set k.frames g stable; places = set k.places d.place (Some (record { frame = g; generation = (frame_at k g).generation })) }
 
   row_fits : Serves sh k dups row g
-  row_fits = fits sh across k rows frame dups p page row rise found g lies own
+  row_fits = fits p page row rise found g lies own
 
   -- rows and dups lie lawfully where a place names the frame of a row, which becomes the first item of a new dup
   pub published : (c : Row → Row) → ((r : Row) → (c r).page ≡ r.page) → (c row).state ≡ Merged d.number → (c row).bytes ≡ row.bytes → d.bytes ≡ row.bytes → (across ≡ 0 → row.home ≡ d.tree) → shared_state row.state ≡ false
@@ -250,7 +251,7 @@ module _ (sh : Shape) (across : ℕ) (k : Ledger) (rows : List Row) (frame : Fra
       let named_off : (q : ℕ) → q ≢ d.place → named_at shown_next q ≡ named_at k q = λ q ne. get_or-set_other k.places d.place q (Some life) None ne in
       let frame_is : place_frame shown_next d.place ≡ g = ap (λ x. (life_or x).frame) named in
       let life_is : place_life shown_next d.place ≡ (frame_at k g).generation = ap (λ x. (life_or x).generation) named in
-      let at : (P : Note → Type 0) (h : ℕ) → (h ≡ g → P stable) → (h ≢ g → P (frame_at k h)) → P (frame_at shown_next h) = by_frame sh across k rows frame dups None p g inside' stable in
+      let at : (P : Note → Type 0) (h : ℕ) → (h ≡ g → P stable) → (h ≢ g → P (frame_at k h)) → P (frame_at shown_next h) = by_frame p g inside' stable in
       let gens : (h : ℕ) → (frame_at shown_next h).generation ≡ (frame_at k h).generation = λ h. at (λ x. x.generation ≡ (frame_at k h).generation) h (λ e. ap (λ y. (frame_at k y).generation) (sym e)) (λ _. refl) in
       let words : (h : ℕ) → (frame_at shown_next h).content ≡ (frame_at k h).content = λ h. at (λ x. x.content ≡ (frame_at k h).content) h (λ e. ap (λ y. (frame_at k y).content) (sym e)) (λ _. refl) in
       let here : frame_at shown_next g ≡ stable = at (λ x. x ≡ stable) g (λ _. refl) (λ ne. absurd (ne refl)) in
@@ -258,19 +259,19 @@ module _ (sh : Shape) (across : ℕ) (k : Ledger) (rows : List Row) (frame : Fra
       let frame_off : (e : DupRow) → e.place ≢ d.place → place_frame shown_next e.place ≡ place_frame k e.place = λ e ne. ap (λ x. (life_or x).frame) (named_off e.place ne) in
       let off : (e : DupRow) → e.place ≢ d.place → IsInLife shown_next e.place → IsInLife k e.place = λ e ne l. sym (ap (λ h. (frame_at shown_next h).generation) (frame_off e ne) ∙ gens _) ∙ l ∙ ap (λ x. (life_or x).generation) (named_off e.place ne) in
       let on : (e : DupRow) → e.place ≢ d.place → IsInLife k e.place → IsInLife shown_next e.place = λ e ne l. ap (λ h. (frame_at shown_next h).generation) (frame_off e ne) ∙ gens _ ∙ l ∙ sym (ap (λ x. (life_or x).generation) (named_off e.place ne)) in
-      let apart = not_named sh across k rows frame dups p page row rise found g lies own in
+      let apart = not_named p page row rise found g lies own in
       let there : frame (c row).page ≡ Some g = ap frame (keeps row ∙ found_page page rows row found) ∙ lies in
       let Was : Row → Type 0 = λ r. IsServed sh k dups r (frame r.page) × (same_page r.page page ≡ false → frame r.page ≢ Some g) × (merged_into d.number r.state ≡ false) in
-      let each : All Was rows = λ i r0 lt. (p.each_row i r0 lt, alone_there sh across k rows frame dups p page row rise found g lies own i r0 lt, fresh i r0 lt) in
+      let each : All Was rows = λ i r0 lt. (p.each_row i r0 lt, alone_there p page row rise found g lies own i r0 lt, fresh i r0 lt) in
       record {
-        frames_long = long_still sh across k rows frame dups None p g inside' stable;
+        frames_long = long_still p g inside' stable;
         places_long = length-set k.places d.place (Some life) ∙ p.places_long;
         widths = λ f. ap length (words f) ∙ p.widths f;
         lives = λ f. at (λ x. GenerationFits sh.last_generation x.kind x.generation) f (λ _. subst (λ (x : Kind). GenerationFits sh.last_generation x (frame_at k g).generation) own (p.lives g)) (λ _. p.lives f);
         each_row = all_changed_row Was (λ r. IsServed sh shown_next (with_dup d dups) r (frame r.page)) page c rows row rise found each
             (λ r other h. served_as sh k shown_next dups (with_dup d dups) r r (frame r.page) refl (λ f lies_there m.
             let far : f ≢ g = λ e. h.1 other (lies_there ∙ ap Some e) in (
-              (let n = row_still sh across k rows frame dups None p g inside' stable r f (λ e. absurd (far e)) m.0 in record { mapped = n.mapped; frame = n.frame; kind = n.kind; content = n.content; given = n.given; node = n.node }),
+              (let n = row_still p g inside' stable r f (λ e. absurd (far e)) m.0 in record { mapped = n.mapped; frame = n.frame; kind = n.kind; content = n.content; given = n.given; node = n.node }),
               all_with (Agrees shown_next r f) d dups
                   (record { item = λ m. absurd (grind (arith, m, h.2)); back = λ _ e. absurd (far (e ∙ frame_is)) })
                   (λ n x l ne2. let e2 : DupRow = get_or dups n x in let a = m.1 n x l in record {
@@ -333,9 +334,9 @@ serves_like sh k dups s r f h same content merged = (
 )
 
 -- the rows on the frame of a dup in its life are its items
-pub lies_as_item : (sh : Shape) (across : ℕ) (k : Ledger) (rows : List Row) (frame : Frames) (dups : List DupRow) (p : Placed sh across k rows frame dups None) (n : ℕ) (d : DupRow) → n < length dups → IsInLife k (get_or dups n d).place
+pub lies_as_item : {sh : Shape} {across : ℕ} {k : Ledger} {rows : List Row} {frame : Frames} {dups : List DupRow} (p : Placed sh across k rows frame dups None) (n : ℕ) (d : DupRow) → n < length dups → IsInLife k (get_or dups n d).place
     → All (λ r. is_frame (place_frame k (get_or dups n d).place) (frame r.page) ≡ merged_into (get_or dups n d).number r.state) rows
-lies_as_item sh across k rows frame dups p n d lt life i r0 l = by (get_or rows i r0) (frame (get_or rows i r0).page) (p.each_row i r0 l)
+lies_as_item {sh} {k = k} {rows} {frame} {dups} p n d lt life i r0 l = by (get_or rows i r0) (frame (get_or rows i r0).page) (p.each_row i r0 l)
   where
     same_tests : (x y : Bool) → (x ≡ true → y ≡ true) → (y ≡ true → x ≡ true) → x ≡ y
     same_tests true y f g = sym (f refl)
@@ -354,27 +355,27 @@ lies_as_item sh across k rows frame dups p n d lt life i r0 l = by (get_or rows 
         same_tests (g == place_frame k (get_or dups n d).place) (merged_into (get_or dups n d).number r.state) (λ t. a.back life (eqb-true _ _ t)) (λ m. eq-eqb _ _ (a.item m).0)
 
 -- the references on the frame of a dup in its life are its items
-pub base_is_items : (sh : Shape) (across : ℕ) (k : Ledger) (rows : List Row) (frame : Frames) (dups : List DupRow) (p : Placed sh across k rows frame dups None) (n : ℕ) (d : DupRow) → n < length dups → IsInLife k (get_or dups n d).place
+pub base_is_items : {sh : Shape} {across : ℕ} {k : Ledger} {rows : List Row} {frame : Frames} {dups : List DupRow} (p : Placed sh across k rows frame dups None) (n : ℕ) (d : DupRow) → n < length dups → IsInLife k (get_or dups n d).place
     → (frame_at k (place_frame k (get_or dups n d).place)).base ≡ item_count rows (get_or dups n d)
-base_is_items sh across k rows frame dups p n d lt life =
+base_is_items {k = k} {rows} {frame} {dups} p n d lt life =
     let e : DupRow = get_or dups n d in
     let f : ℕ = place_frame k e.place in
     let b : (frame_at k f).base ≡ uses f frame rows + 0 = p.bases f in
-    let c : uses f frame rows ≡ item_count rows e = counts_agree (λ r. is_frame f (frame r.page)) (λ r. merged_into e.number r.state) rows (lies_as_item sh across k rows frame dups p n d lt life) in
+    let c : uses f frame rows ≡ item_count rows e = counts_agree (λ r. is_frame f (frame r.page)) (λ r. merged_into e.number r.state) rows (lies_as_item p n d lt life) in
     omega (arith, b, c)
 
 -- a dup without items has no Stable frame in the life that its place names
-pub stale_is_loose : (sh : Shape) (across : ℕ) (k : Ledger) (rows : List Row) (frame : Frames) (dups : List DupRow) (p : Placed sh across k rows frame dups None) (n : ℕ) (d : DupRow) → n < length dups → item_count rows (get_or dups n d) ≡ 0 → IsInLife k (get_or dups n d).place
+pub stale_is_loose : {sh : Shape} {across : ℕ} {k : Ledger} {rows : List Row} {frame : Frames} {dups : List DupRow} (p : Placed sh across k rows frame dups None) (n : ℕ) (d : DupRow) → n < length dups → item_count rows (get_or dups n d) ≡ 0 → IsInLife k (get_or dups n d).place
     → ¬ ((frame_at k (place_frame k (get_or dups n d).place)).kind ≡ Stable)
-stale_is_loose sh across k rows frame dups p n d lt none life stable =
+stale_is_loose {k = k} {rows} {dups = dups} p n d lt none life stable =
     let f : ℕ = place_frame k (get_or dups n d).place in
-    let b : (frame_at k f).base ≡ item_count rows (get_or dups n d) = base_is_items sh across k rows frame dups p n d lt life in
+    let b : (frame_at k f).base ≡ item_count rows (get_or dups n d) = base_is_items p n d lt life in
     let some : 1 ≤ (frame_at k f).base = subst (λ (x : Kind). FitsBase x (frame_at k f).base) stable (p.kinds f) in
     omega (arith, b, none, some)
 
 -- where a page joins an item with a reference in hand on the item's frame, its own frame comes into the hand
-pub joined : (sh : Shape) (across : ℕ) (k : Ledger) (rows : List Row) (frame : Frames) (dups : List DupRow) (page : GuestPage) (row item : Row) (g : ℕ) (c : Row → Row) → InPageOrder rows → row_at page rows ≡ Some row → ((r : Row) → (c r).page ≡ r.page)
+pub joined : {sh : Shape} {across : ℕ} {k : Ledger} {rows : List Row} {frame : Frames} {dups : List DupRow} (page : GuestPage) (row item : Row) (g : ℕ) (c : Row → Row) → InPageOrder rows → row_at page rows ≡ Some row → ((r : Row) → (c r).page ≡ r.page)
     → Serves sh k dups item g → (c row).state ≡ item.state → (c row).bytes ≡ item.bytes → shared_state item.state ≡ true
     → Placed sh across k rows frame dups (Some g) → Placed sh across k (change_row page c rows) (lies_on page (Some g) frame) dups (frame page)
-joined sh across k rows frame dups page row item g c rise found keeps fits state bytes merged p =
-    swapped sh across k rows frame dups (Some g) page c row rise found keeps p (serves_like sh k dups item (c row) g fits state (fits.0.content ∙ sym bytes) (ap shared_state state ∙ merged))
+joined {sh} {k = k} {dups = dups} page row item g c rise found keeps on_it state bytes merged p =
+    swapped (Some g) page c row rise found keeps p (serves_like sh k dups item (c row) g on_it state (on_it.0.content ∙ sym bytes) (ap shared_state state ∙ merged))

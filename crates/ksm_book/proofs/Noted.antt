@@ -21,7 +21,7 @@ pub record Follows (last used held : ℕ) (old new : Note) : Type 0 where
   pub life : (old.generation < new.generation)
       ⊎ ((new.generation ≡ old.generation) × ((old.kind ≡ Private) ⊎ ((new.content ≡ old.content) × (new.kind ≡ Private → old.kind ≡ Private))))
 
-module _ (sh : Shape) (across : ℕ) (k : Ledger) (rows : List Row) (frame : Frames) (dups : List DupRow) (hand : Option ℕ) (p : Placed sh across k rows frame dups hand)
+module _ {sh : Shape} {across : ℕ} {k : Ledger} {rows : List Row} {frame : Frames} {dups : List DupRow} {hand : Option ℕ} (p : Placed sh across k rows frame dups hand)
     (g : ℕ) (inside : g < frames_of sh) (new : Note) where
   abbrev old : Note
   old = frame_at k g

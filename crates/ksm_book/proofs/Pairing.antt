@@ -121,7 +121,7 @@ module _ {p : PagesView} {k : KeeperView} {cursor : Option GuestPage} {passes : 
 
   -- the place for a new dup is one of the places
   pub room : new_place (place_count p.shape) p.rows p.dups < place_count p.shape
-  room = finds_places p k cursor passes s h row (find_all (λ r. same_page r.page page) (Contains p.rows) p.rows row at.met.found
+  room = finds_places s h row (find_all (λ r. same_page r.page page) (Contains p.rows) p.rows row at.met.found
       (All-contains_itself p.rows)) (restless_own row at.met.so.restless)
 
   inside : place < frames_of p.shape
@@ -151,13 +151,13 @@ module _ {p : PagesView} {k : KeeperView} {cursor : Option GuestPage} {passes : 
     apart = tells.other;
     inside = inside;
     vacant = vacant;
-    number = (let most = spent_most p k h in omega (arith, most));
+    number = (let most = spent_most h in omega (arith, most));
     fresh = fresh;
   }
 
   -- what the place of the new dup names may be withdrawn
   pub may_withdraw : May k (Withdraw place)
-  may_withdraw = may_clear p k k h place inside vacant
+  may_withdraw = may_clear k h place inside vacant
 
   waits_one : row_at one p.rows ≡ Some w
   waits_one = ap (λ q. row_at q p.rows) at.named ∙ waits_at
@@ -179,7 +179,7 @@ module _ {p : PagesView} {k : KeeperView} {cursor : Option GuestPage} {passes : 
 
     -- once its place is cleared, the new dup may be published there on the frame of the page that waits
     pub may_publish : May k1 (Publish place f)
-    may_publish = may_found p k h s.rows_rise w.page w f waits_at lies alone dup refl inside vacant k1 clears
+    may_publish = may_found h s.rows_rise w.page w f waits_at lies alone dup refl inside vacant k1 clears
 
     abbrev change : Row → Row
     change = in_state (Merged p.next)
@@ -190,7 +190,7 @@ module _ {p : PagesView} {k : KeeperView} {cursor : Option GuestPage} {passes : 
     module _ {k2 : KeeperView} (shown : k2 ≡ did k1 (Publish place f) 0) where
       first_laid : IsLaid first k2
       first_laid =
-          laid_found p k h s.rows_rise w.page w f waits_at lies alone dup refl inside vacant change k1 k2 p.restless (λ r. refl) refl refl
+          laid_found h s.rows_rise w.page w f waits_at lies alone dup refl inside vacant change k1 k2 p.restless (λ r. refl) refl refl
           clears shown (sym tells.bytes)
           (λ none. tree_is_home p.knobs w none ∙ tells.tree) s.numbers fresh
 
@@ -212,14 +212,14 @@ module _ {p : PagesView} {k : KeeperView} {cursor : Option GuestPage} {passes : 
 
       -- once the place names the frame of the page that waits, a reference may come to that frame
       pub may_add_to : May k2 (Add f)
-      may_add_to = may_join first k2 first_laid first_rise page row (change w) row_still item_at f lies refl dup (contains_dup dup p.dups)
+      may_add_to = may_join first_laid first_rise page row (change w) row_still item_at f lies refl dup (contains_dup dup p.dups)
           (eq-eqb p.next p.next refl) one_item
 
       module _ {lone : ℕ} (left : p.frame page ≡ Some lone) where
         -- once a reference came to the frame of the page that waits, the visited page's own frame may be left
         pub may_sub_from : {k3 : KeeperView} → Made k2 k3 (Add f ∷ []) → May k3 (Sub lone)
         may_sub_from {k3} comes = subst (λ o. IfSome o (λ g. May k3 (Sub g))) left
-            (may_part first k2 first_laid first_rise page row (change w) row_still item_at f lies refl change (λ r. refl) refl
+            (may_part first_laid first_rise page row (change w) row_still item_at f lies refl change (λ r. refl) refl
             (sym tells.bytes) k3 comes)
 
         module _ {k3 l : KeeperView} (comes : Made k2 k3 (Add f ∷ [])) (leaves : Made k3 l (Sub lone ∷ [])) (q : PagesView)
@@ -230,7 +230,7 @@ module _ {p : PagesView} {k : KeeperView} {cursor : Option GuestPage} {passes : 
               (at_row (λ r. MatchOption (row_at page p.rows) (true ≡ false) (λ x. q ≡ are_paired place r x p)) one p.rows w waits_one told)
 
           steps : Made k2 l (Add f ∷ leaving (p.frame page))
-          steps = subst (λ o. Made k2 l (Add f ∷ leaving o)) (sym left) (made_then k2 k3 l (Add f ∷ []) (Sub lone ∷ []) comes leaves)
+          steps = subst (λ o. Made k2 l (Add f ∷ leaving o)) (sym left) (made_then comes leaves)
 
           both : change_row page change first.rows ≡ change_rows (λ r. same_page r.page w.page || same_page r.page row.page) change p.rows
           both = ap (λ x. change_row x change first.rows) (sym at_page) ∙ two_changes w.page row.page (Merged p.next) p.rows
@@ -239,8 +239,8 @@ module _ {p : PagesView} {k : KeeperView} {cursor : Option GuestPage} {passes : 
           q_is = goes ∙ (λ t. record first { rows = sym both t; frame = lies_on (at_page t) (lies t) p.frame })
 
           all_steps : Made k l (withdrawing p.dups place ++ (Publish place f ∷ Add f ∷ leaving (p.frame page)))
-          all_steps = made_then k k1 l (withdrawing p.dups place) (Publish place f ∷ Add f ∷ leaving (p.frame page)) clears
-              (made_then k1 k2 l (Publish place f ∷ []) (Add f ∷ leaving (p.frame page)) (made_one k1 k2 (Publish place f) 0 shown) steps)
+          all_steps = made_then clears
+              (made_then (made_one k1 k2 (Publish place f) 0 shown) steps)
 
           deed_is : row_visiting b p.frame row ≡ record {
             steps = withdrawing p.dups place ++
@@ -258,7 +258,7 @@ module _ {p : PagesView} {k : KeeperView} {cursor : Option GuestPage} {passes : 
           pub pair_leads : Leads v q l cursor passes page
           pair_leads = leads at.met q l at.met.so.restless
               (subst (λ (x : PagesView). IsLaid x l) (sym q_is)
-              (laid_joined first k2 first_laid first_rise page row (change w) row_still item_at f lies refl change (λ r. refl) refl
+              (laid_joined first_laid first_rise page row (change w) row_still item_at f lies refl change (λ r. refl) refl
               (sym tells.bytes)
               l p.restless steps))
               (ap (λ (x : PagesView). state_of x cursor passes) goes ∙ (λ t. state_of (are_paired (at.chosen t) w row p) cursor passes)

@@ -125,7 +125,7 @@ module _ (b : BookState) (k : Ledger) (s : IsSound b) (frame : Frames) (p : Plac
   zero_none r (Some f) served zero_is = (let not_so = served.0.mapped in absurd (grind (arith, not_so, zero_is)))
 
   dup_lives : All (λ d. has_items b.rows d ≡ true → Lives k b.dups b.shape frame d) b.dups
-  dup_lives n d lt some = lives b.shape across k b.rows frame b.dups p n d lt (λ none. absurd (grind (arith, nat_tests, some, none)))
+  dup_lives n d lt some = lives p n d lt (λ none. absurd (grind (arith, nat_tests, some, none)))
 
   stands : All (λ d. has_items b.rows d ≡ true → StandsOn b k d (place_frame k d.place)) b.dups
   stands n d lt some =
@@ -136,7 +136,7 @@ module _ (b : BookState) (k : Ledger) (s : IsSound b) (frame : Frames) (p : Plac
         named = named_life (named_at k e.place) fit.named ∙ ap (λ g. Some (record { frame = place_frame k e.place; generation = g })) (sym a.life);
         exists = fit.frame;
         kind = a.kind;
-        base = base_is_items b.shape across k b.rows frame b.dups p n d lt a.life;
+        base = base_is_items p n d lt a.life;
         limit = s.limit n d lt;
         content = fit.content a.life;
         bytes = λ j r l into. sym (dup_of_item b s n d lt j r l into).bytes;
@@ -169,7 +169,7 @@ module _ (b : BookState) (k : Ledger) (s : IsSound b) (frame : Frames) (p : Plac
   shown_kinds = All-map (λ f. (frame_at k f).kind ≡ Stable) (λ d. place_frame k d.place) (filter (has_items b.rows) b.dups) (λ i d lt. (live_kept i d lt).kind)
 
   shown_distinct : AllPairs (λ f g. f ≢ g) shown
-  shown_distinct = go (filter (has_items b.rows) b.dups) live_kept (AllPairs-filter Apart (has_items b.rows) b.dups (λ i j d before lt. frames_apart b.shape across k b.rows frame b.dups p s.dups_rise i j d before lt))
+  shown_distinct = go (filter (has_items b.rows) b.dups) live_kept (AllPairs-filter Apart (has_items b.rows) b.dups (λ i j d before lt. frames_apart p s.dups_rise i j d before lt))
     where
       Apart : DupRow → DupRow → Type 0
       Apart d e = Live d → Live e → place_frame k d.place ≢ place_frame k e.place
@@ -241,7 +241,7 @@ module _ (b : BookState) (k : Ledger) (s : IsSound b) (frame : Frames) (p : Plac
       record {
         life = life_or (named_at k e.place);
         named = named_life (named_at k e.place) fit.named;
-        over = λ life. stale_is_loose b.shape across k b.rows frame b.dups p n d lt (let zero_is : item_count b.rows e ≡ 0 = grind (arith, nat_tests, none) in zero_is) life;
+        over = λ life. stale_is_loose p n d lt (let zero_is : item_count b.rows e ≡ 0 = grind (arith, nat_tests, none) in zero_is) life;
       }
 
   -- a sound book lies on its frames as promised, where it is placed lawfully and pages without a row lie on none

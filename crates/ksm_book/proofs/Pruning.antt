@@ -80,7 +80,7 @@ pub withdraws_more : (v w w' : KeeperView) (rows : List Row) (before now : List 
 withdraws_more v w w' rows before now d rise found so_far one =
     record {
       steps = so_far.steps ++ Withdraw d.place ∷ [];
-      made = made_then v w w' so_far.steps (Withdraw d.place ∷ []) so_far.made one;
+      made = made_then so_far.made one;
       whole = append_assoc so_far.steps (Withdraw d.place ∷ []) _
           ∙ ap (λ ds. so_far.steps ++ map (λ (e : DupRow). Withdraw e.place) ds) (sym (first_stale rows now d rise found)) ∙ so_far.whole;
     }
@@ -136,7 +136,7 @@ drops_none p k h rise = record {
   before = h;
   laid = h;
   table = refl;
-  withdraws = record { steps = []; made = made_none k k refl; whole = refl };
+  withdraws = record { steps = []; made = made_none refl; whole = refl };
 }
 
 -- the first stale dup goes next
@@ -163,7 +163,7 @@ module _ (p q : PagesView) (k l : KeeperView) (count : ℕ) (h : Drops p q k l c
 
   -- the place of the first stale dup names no frame that is Stable in the life named
   pub drop_loose : IsLoose l.ledger (named_at l.ledger place)
-  drop_loose = vacant_loose q.shape q.knobs.merge_across_nodes l.ledger q.rows q.frame q.dups place h.laid.placed drop_vacant
+  drop_loose = vacant_loose place h.laid.placed drop_vacant
 
   -- once the first stale dup goes, one dup less is stale
   pub drop_fewer : count_by (is_stale p.rows) (filter (elsewhere place) q.dups) + 1 ≡ count_by (is_stale p.rows) q.dups
@@ -198,7 +198,7 @@ module _ (p q : PagesView) (k l : KeeperView) (count : ℕ) (h : Drops p q k l c
         first = h.first;
         rise = subst InPlaceOrder (sym dups) (ordered_filter (elsewhere place) q.dups h.rise);
         before = h.before;
-        laid = subst (λ (x : PagesView). IsLaid x l') (sym goes) (laid_cleared q l l' place h.laid inside table (ap (λ (z : KeeperView). z.ledger) is));
+        laid = subst (λ (x : PagesView). IsLaid x l') (sym goes) (laid_cleared l' place h.laid inside table (ap (λ (z : KeeperView). z.ledger) is));
         table = table ∙ h.table;
         withdraws = subst (Withdraws k l' p.rows p.dups) (ap (λ x. filter (elsewhere x) q.dups) stale.2 ∙ sym dups)
             (withdraws_more k l l' p.rows p.dups q.dups stale.0 h.rise found h.withdraws (subst (λ x. Made l l' (Withdraw x ∷ [])) (sym stale.2) (made_one l l' (Withdraw place) 0 is)));

@@ -9,7 +9,7 @@ first v = (v.state, idle (view_of v).frame)
 
 -- a book has reached its own state with no step made
 pub begins : (v : BookValue) → Reached v v (first v)
-begins v = (refl, record { made = made_none v.keeper v.keeper refl; frame = refl })
+begins v = (refl, record { made = made_none refl; frame = refl })
 
 -- where a change was reached from one book to another, the other's state is what the change makes of the first one's
 pub comes_to : (v w : BookValue) (change : BookState × Deed → BookState × Deed) → Comes v w change → w.state ≡ (change (first v)).0
@@ -42,7 +42,7 @@ module _ (p q : PagesValue) (k : KeeperView) (cursor : Option GuestPage) (passes
   relisted_lawful h = (
     subst IsSound (sym (ap (λ (x : PagesView). state_of x cursor passes) relisted)) h.0,
     subst (λ (x : PagesView). IsLaid x k) (sym relisted)
-        (laid_rows (seen p) k h.1 p.rows (seen p).frame q.restless k refl (omega arith) h.1.placed),
+        (laid_rows h.1 p.rows (seen p).frame q.restless k refl (omega arith) h.1.placed),
   )
 
   -- the same is seen of a book where other pages are listed and nothing else changes

@@ -54,7 +54,7 @@ module _ (f g : ℕ) (frame : Frames) (rows : List Row) where
         | inr off ↦ ap (is_frame x) (instead_there f g frame page off)
       ])
 
-module _ (sh : Shape) (across : ℕ) (k : Ledger) (rows : List Row) (frame : Frames) (dups : List DupRow) (p : Placed sh across k rows frame dups None) (n : ℕ) (d : DupRow) (lt : n < length dups) (g : ℕ) where
+module _ {sh : Shape} {across : ℕ} {k : Ledger} {rows : List Row} {frame : Frames} {dups : List DupRow} (p : Placed sh across k rows frame dups None) (n : ℕ) (d : DupRow) (lt : n < length dups) (g : ℕ) where
   -- the dup that moves
   abbrev pub moving : DupRow
   moving = get_or dups n d

@@ -1,5 +1,5 @@
 -- A dup with items, and where its pages lie before and after it moves.
-use Rattle.ksm_book.proofs.Names.{list_any_at, [], Agrees, All, and_parts, ap, arith, blank, Bool, cond, count_in, did, dup_frame, dup_numbered, DupFits, DupRow, Dying, each_at_page, each_has_number, eq-eqb, eqb-true, find, find_all, find_passes, Finds, FindsHeld, frame_at, frame_found, frame_number, Frames, frames_of, Free, Freeze, get_or, get_or-set_other, GuestPage, has_items, HasLost, HasMoved, if◌then◌else◌, instead, is_frame, is_item, IsInLife, IsLaid, IsLoose, IsLowestFree, IsServed, IsSound, item_count, items_on, KeeperView, Kind, kind_for, Ledger, length, length-set, Life, life_or, List, list_any, ltb-true, lying, Made, merged_into, mounting, Moves, named_at, ne_eqb, node_of, None, Note, Option, PAGE_WORDS, PagesView, past_lives, place_frame, Placed, Publish, refl, Row, row_at, same_page, same_Some, set, Shape, Some, spent, spent_on, Stable, state_of, subst, sym, true, with_frame, ℕ, ◌&&◌, ◌*◌, ◌+◌, ◌<◌, ◌==◌, ◌∙◌, ◌∷◌, ◌≡◌, ◌≢◌, ◌≤◌}
+use Rattle.ksm_book.proofs.Names.{list_any_at, [], Agrees, All, and_parts, ap, arith, blank, Bool, cond, count_in, did, dup_frame, dup_numbered, DupFits, DupRow, Dying, each_at_page, each_has_number, eq-eqb, find, find_all, find_passes, Err, Finds, FindsHeld, FindsNone, HasRemounted, InUse, MayMount, MayMove, NoFrame, Ok, frame_at, frame_found, frame_number, Frames, frames_of, Free, Freeze, get_or, get_or-set_other, GuestPage, has_items, if◌then◌else◌, instead, is_frame, is_item, IsInLife, IsLaid, IsLoose, IsLowestFree, IsServed, item_count, items_on, KeeperView, Kind, kind_for, Ledger, length, length-set, Life, life_or, List, list_any, ltb-true, lying, Made, merged_into, mounting, Moves, named_at, ne_eqb, node_of, None, Note, Option, PAGE_WORDS, PagesView, past_lives, place_frame, Placed, Publish, refl, Row, row_at, same_page, same_Some, set, Shape, Some, spent, spent_on, Stable, subst, sym, true, with_frame, ℕ, ◌&&◌, ◌*◌, ◌+◌, ◌<◌, ◌==◌, ◌∙◌, ◌∷◌, ◌≡◌, ◌≢◌, ◌≤◌}
 use mathlib.Core.Logic.{dite}
 use native.Mathlib.Decide.{ℕ_discrete}
 use Rattle.ksm_book.proofs.ByPage.{found_page, same_frames}
@@ -10,44 +10,32 @@ use Rattle.ksm_book.proofs.Made.{made_one}
 use Rattle.ksm_book.proofs.Moves.{Serves, base_is_items, lies_as_item}
 use Rattle.ksm_book.proofs.Remounted.{instead_there, remounted}
 use Rattle.ksm_book.proofs.Sharing.{first_found, index_found, state_of_item}
+use Rattle.ksm_book.proofs.Resettled.{turned}
 use Rattle.ksm_book.proofs.Shown.{lost as so_lost, moved as so_moved}
 
--- the dup with items at a place is to move, from the frame on which its items lie
-pub record Leaves (p : PagesView) (k : KeeperView) (place : ℕ) (dup : DupRow) (g : ℕ) : Type 0 where
-  -- rows and dups lie lawfully
-  pub laid : IsLaid p k
-  -- the book of these pages is sound
-  pub lives : (cursor : Option GuestPage) × (passes : ℕ) × IsSound (state_of p cursor passes)
-  -- the dup is the one with items at the place
-  pub live : find (λ d. d.place == place && has_items p.rows d) p.dups ≡ Some dup
-  -- each item of a dup at the place lies on the frame
-  pub lie : All (λ d. d.place ≡ place → All (λ r. merged_into d.number r.state ≡ true → p.frame r.page ≡ Some g) p.rows) p.dups
+-- a dup may move, from the frame on which its items lie
+pub record Leaves (p : PagesView) (k : KeeperView) (dup : DupRow) (node g : ℕ) : Type 0 where
+  -- it may move to a frame of the node
+  pub may : MayMove p k dup node
+  -- each item of a dup at its place lies on the frame
+  pub lie : All (λ d. d.place ≡ dup.place → All (λ r. merged_into d.number r.state ≡ true → p.frame r.page ≡ Some g) p.rows) p.dups
   -- a page without a row lies on no frame
   pub absent : (page : GuestPage) → row_at page p.rows ≡ None → p.frame page ≡ None
 
--- the dup with items at a place is to move from the frame on which its items lie, in a sound book that lies lawfully
-pub leaves : {p : PagesView} {k : KeeperView} {place : ℕ} {dup : DupRow} {g : ℕ} → IsLaid p k → (cursor : Option GuestPage) × (passes : ℕ)
-    × IsSound (state_of p cursor passes)
-    → find (λ d. d.place == place && has_items p.rows d) p.dups ≡ Some dup
-    → All (λ d. d.place ≡ place → All (λ r. merged_into d.number r.state ≡ true → p.frame r.page ≡ Some g) p.rows) p.dups
-    → ((page : GuestPage) → row_at page p.rows ≡ None → p.frame page ≡ None) → Leaves p k place dup g
-leaves laid lives live lie absent = record { laid = laid; lives = lives; live = live; lie = lie; absent = absent }
+-- a dup that may move is to leave the frame on which its items lie
+pub leaves : {p : PagesView} {k : KeeperView} {dup : DupRow} {node g : ℕ} → MayMove p k dup node
+    → All (λ d. d.place ≡ dup.place → All (λ r. merged_into d.number r.state ≡ true → p.frame r.page ≡ Some g) p.rows) p.dups
+    → ((page : GuestPage) → row_at page p.rows ≡ None → p.frame page ≡ None) → Leaves p k dup node g
+leaves may lie absent = record { may = may; lie = lie; absent = absent }
 
--- a dup goes to a free frame of a node where it may stand, found once the node's dying frames were reaped
-pub record GoesTo (p : PagesView) (k w : KeeperView) (dup : DupRow) (node f : ℕ) : Type 0 where
-  -- the node is one of the shape's
-  pub less : node < p.shape.nodes
-  -- where pages do not merge across nodes the node is the dup's tree
-  pub home : p.knobs.merge_across_nodes ≡ 0 → node ≡ dup.tree
-  -- the frame was found on the node
-  pub finds : Finds k w node f
+-- where no frame of the node is left, the dup stays
+pub turned_away : {X : Type 0} {p : PagesView} {k l : KeeperView} {dup : DupRow} {node : ℕ} → MayMove p k dup node → FindsNone k l node
+    → HasRemounted {X = X} p p k l dup node (Err (NoFrame node))
+turned_away {p = p} may none =
+    let away = turned may.laid may.exists none in
+    record { rest = refl; laid = away.laid; shown = (refl, away.left); moves = away.turns }
 
--- a dup goes to a frame found on a node that is there, and is the dup's tree where pages do not merge across nodes
-pub goes_to : (p : PagesView) {k w : KeeperView} (dup : DupRow) {node f : ℕ} → node < p.shape.nodes
-    → (p.knobs.merge_across_nodes ≡ 0 → node ≡ dup.tree) → Finds k w node f → GoesTo p k w dup node f
-goes_to p dup less home finds = record { less = less; home = home; finds = finds }
-
-module _ {v : PagesView} {k : KeeperView} {place : ℕ} {dup : DupRow} {g : ℕ} (at : Leaves v k place dup g) where
+module _ {v : PagesView} {k : KeeperView} {dup : DupRow} {node g : ℕ} (at : Leaves v k dup node g) where
   abbrev sh : Shape
   sh = v.shape
 
@@ -58,27 +46,24 @@ module _ {v : PagesView} {k : KeeperView} {place : ℕ} {dup : DupRow} {g : ℕ}
   across = v.knobs.merge_across_nodes
 
   abbrev test : DupRow → Bool
-  test d = d.place == place && has_items v.rows d
+  test d = d.place == dup.place && has_items v.rows d
 
   abbrev by_item : Row → Bool
   by_item r = merged_into dup.number r.state
 
-  place_is : dup.place ≡ place
-  place_is = eqb-true dup.place place (and_parts (dup.place == place) (has_items v.rows dup) (find_passes test dups dup at.live)).0
-
   item_some : 1 ≤ item_count v.rows dup
-  item_some = ltb-true 0 (item_count v.rows dup) (and_parts (dup.place == place) (has_items v.rows dup)
-      (find_passes test dups dup at.live)).1
+  item_some = ltb-true 0 (item_count v.rows dup) (and_parts (dup.place == dup.place) (has_items v.rows dup)
+      (find_passes test dups dup at.may.live)).1
 
   item_few : item_count v.rows dup ≤ 1024
-  item_few = (let few = find_all test (λ d. item_count v.rows d ≤ v.knobs.max_page_sharing) dups dup at.live at.lives.2.limit in let most =
-      at.lives.2.knobs.max_page_sharing.1 in omega (arith, few, most))
+  item_few = (let few = find_all test (λ d. item_count v.rows d ≤ v.knobs.max_page_sharing) dups dup at.may.live at.may.sound.2.limit in let most =
+      at.may.sound.2.knobs.max_page_sharing.1 in omega (arith, few, most))
 
   stands : dup_numbered dup.number dups ≡ Some dup
-  stands = find_all test (λ d. dup_numbered d.number dups ≡ Some d) dups dup at.live (each_has_number dups at.lives.2.dups_rise)
+  stands = find_all test (λ d. dup_numbered d.number dups ≡ Some d) dups dup at.may.live (each_has_number dups at.may.sound.2.dups_rise)
 
   abbrev index : (n : ℕ) × (n < length dups) × ((d : DupRow) → get_or dups n d ≡ dup)
-  index = index_found test dups dup at.live
+  index = index_found test dups dup at.may.live
 
   abbrev m : DupRow
   m = get_or dups index.0 dup
@@ -89,7 +74,7 @@ module _ {v : PagesView} {k : KeeperView} {place : ℕ} {dup : DupRow} {g : ℕ}
   numbers : All (λ e. e.place ≢ m.place → e.number ≢ m.number) dups
   numbers n x lt apart same =
       let e : DupRow = get_or dups n x in
-      let there : dup_numbered e.number dups ≡ Some e = each_has_number dups at.lives.2.dups_rise n x lt in
+      let there : dup_numbered e.number dups ≡ Some e = each_has_number dups at.may.sound.2.dups_rise n x lt in
       let e_is : e ≡ dup = same_Some _ _ (sym there ∙ ap (λ y. dup_numbered y dups) (same ∙ ap (λ (y : DupRow). y.number) m_is) ∙ stands) in
       apart (ap (λ (y : DupRow). y.place) (e_is ∙ sym m_is))
 
@@ -105,35 +90,35 @@ module _ {v : PagesView} {k : KeeperView} {place : ℕ} {dup : DupRow} {g : ℕ}
 
   item_lies : v.frame item.page ≡ Some g
   item_lies =
-      let all = find_all test (λ d. d.place ≡ place → All (λ r. merged_into d.number r.state ≡ true → v.frame r.page ≡ Some g) v.rows) dups
-      dup at.live at.lie place_is in
+      let all = find_all test (λ d. d.place ≡ dup.place → All (λ r. merged_into d.number r.state ≡ true → v.frame r.page ≡ Some g) v.rows) dups
+      dup at.may.live at.lie refl in
       find_all by_item (λ r. merged_into dup.number r.state ≡ true → v.frame r.page ≡ Some g) v.rows item first.1 all into
 
   -- the frame of the dup is its first item's
   dup_frame_is : dup_frame v.frame v.rows dup.number ≡ g
   dup_frame_is = ap (frame_found v.frame) first.1 ∙ ap frame_number item_lies
 
-  module _ {w : KeeperView} {node f : ℕ} (to : GoesTo v k w dup node f) where
+  module _ {w : KeeperView} {f : ℕ} (to : Finds k w node f) where
     abbrev p : Placed sh across w.ledger v.rows v.frame dups None
-    p = kept sh across k v.rows v.frame dups None at.laid.same w None
-        (λ a rows frame ds. searched_placed k w node (subst (λ (x : Shape). node < x.nodes) (sym at.laid.same) to.less) to.finds.reaped a
-        rows frame ds None) at.laid.placed
+    p = kept k at.may.laid.same w None
+        (λ a rows frame ds. searched_placed node (subst (λ (x : Shape). node < x.nodes) (sym at.may.laid.same) at.may.exists) to.reaped a
+        rows frame ds None) at.may.laid.placed
 
     table_is : w.table ≡ k.table
-    table_is = ap (λ (z : KeeperView). z.table) to.finds.reaped.after
+    table_is = ap (λ (z : KeeperView). z.table) to.reaped.after
 
     more_spent : spent k.ledger ≤ spent w.ledger
-    more_spent = searched_spends k w node to.finds.reaped
+    more_spent = searched_spends node to.reaped
 
     abbrev n : Note
     n = frame_at w.ledger g
 
     fits : Serves sh w.ledger dups item g
-    fits = subst (IsServed sh w.ledger dups item) item_lies (served_at sh across w.ledger v.rows v.frame dups None p item.page item
-        (find_all by_item (λ r. row_at r.page v.rows ≡ Some r) v.rows item first.1 (each_at_page v.rows at.lives.2.rows_rise)))
+    fits = subst (IsServed sh w.ledger dups item) item_lies (served_at p item.page item
+        (find_all by_item (λ r. row_at r.page v.rows ≡ Some r) v.rows item first.1 (each_at_page v.rows at.may.sound.2.rows_rise)))
 
     on_frame : (g ≡ place_frame w.ledger dup.place) × IsInLife w.ledger dup.place
-    on_frame = (find_all test (Agrees w.ledger item g) dups dup at.live fits.1).item into
+    on_frame = (find_all test (Agrees w.ledger item g) dups dup at.may.live fits.1).item into
 
     stable : n.kind ≡ Stable
     stable = fits.0.kind ∙ ap kind_for (state_of_item dup.number item.state into)
@@ -142,8 +127,8 @@ module _ {v : PagesView} {k : KeeperView} {place : ℕ} {dup : DupRow} {g : ℕ}
     on_it : All (λ r. is_frame g (v.frame r.page) ≡ merged_into dup.number r.state) v.rows
     on_it i r lt = ap (λ x. is_frame x (v.frame (get_or v.rows i r).page)) on_frame.0
         ∙ find_all test (λ d. IsInLife w.ledger d.place → is_frame (place_frame w.ledger d.place)
-        (v.frame (get_or v.rows i r).page) ≡ merged_into d.number (get_or v.rows i r).state) dups dup at.live
-        (λ m d less. λ life. lies_as_item sh across w.ledger v.rows v.frame dups p m d less life i r lt) on_frame.1
+        (v.frame (get_or v.rows i r).page) ≡ merged_into d.number (get_or v.rows i r).state) dups dup at.may.live
+        (λ m d less. λ life. lies_as_item p m d less life i r lt) on_frame.1
 
     -- so they go from there
     items_go : (f' : ℕ) → items_on dup.number f' v.rows v.frame ≡ instead g f' v.frame
@@ -165,25 +150,25 @@ module _ {v : PagesView} {k : KeeperView} {place : ℕ} {dup : DupRow} {g : ℕ}
     base : n.base ≡ item_count v.rows dup
     base = ap (λ x. (frame_at w.ledger x).base) on_frame.0
         ∙ find_all test (λ d. IsInLife w.ledger d.place → (frame_at w.ledger (place_frame w.ledger d.place)).base ≡ item_count v.rows d)
-        dups dup at.live
-        (λ i d lt. base_is_items sh across w.ledger v.rows v.frame dups p i d lt) on_frame.1
+        dups dup at.may.live
+        (λ i d lt. base_is_items p i d lt) on_frame.1
 
     bytes : n.content ≡ dup.bytes
     bytes = ap (λ x. (frame_at w.ledger x).content) on_frame.0
-        ∙ (find_all test (DupFits sh across w.ledger) dups dup at.live p.each_dup).content on_frame.1
+        ∙ (find_all test (DupFits sh across w.ledger) dups dup at.may.live p.each_dup).content on_frame.1
 
     shape_is : w.table.shape ≡ sh
-    shape_is = shape_same sh k w at.laid.same table_is
+    shape_is = shape_same sh k w at.may.laid.same table_is
 
     -- the frame that the dup is to leave is one of the table and Stable, so the exchange of its count may be tried
     pub may_freeze : (g < frames_of w.table.shape) × (n.kind ≡ Stable)
     may_freeze = (subst (λ (x : Shape). g < frames_of x) (sym shape_is) fits.0.frame, stable)
 
     lowest : IsLowestFree sh w.ledger node f
-    lowest = subst (λ (x : Shape). IsLowestFree x w.ledger node f) at.laid.same to.finds.lowest
+    lowest = subst (λ (x : Shape). IsLowestFree x w.ledger node f) at.may.laid.same to.lowest
 
     inside : f < frames_of sh
-    inside = let end : node * sh.frames_per_node + sh.frames_per_node ≤ frames_of sh = node_end node sh.nodes sh.frames_per_node to.less in
+    inside = let end : node * sh.frames_per_node + sh.frames_per_node ≤ frames_of sh = node_end node sh.nodes sh.frames_per_node at.may.exists in
         let high = lowest.high in omega (arith, end, high)
 
     within : f < length w.ledger.frames
@@ -210,29 +195,32 @@ module _ {v : PagesView} {k : KeeperView} {place : ℕ} {dup : DupRow} {g : ℕ}
             (λ (b : Bool). cond b (with_frame w.ledger g (record
             { kind = Dying; base = 0; generation = n.generation; content = n.content })) w.ledger) (ne_eqb (count_in found) n.base other)
 
-        -- where the exchange found another count than the keeper's references, the dup's frame is held
-        pub found_held : FindsHeld (lying v k) (lying v u) v.rows dup node
+        found_held : FindsHeld (lying v k) (lying v u) v.rows dup node
         found_held = record {
           got = f;
           searched = w;
-          finds = to.finds;
+          finds = to;
           freezes = subst (λ x. Made w u (Freeze x ∷ [])) (sym dup_frame_is) by_freeze;
           kept = ap (λ x. (frame_at u.ledger x).kind) dup_frame_is ∙ ap (λ (z : Ledger). (frame_at z g).kind) still ∙ stable;
           frame = refl;
         }
 
-        -- where the exchange found another count than the keeper's references, the log shows so
-        pub lost : HasLost k u
-        lost = so_lost (lying v k) (lying v u) v.rows dup node found_held
-
-        -- where the exchange found another count than the keeper's references, rows and dups lie lawfully
-        pub laid_lost : IsLaid v u
+        laid_lost : IsLaid v u
         laid_lost = record {
-          small = at.laid.small;
+          small = at.may.laid.small;
           same = shape_same sh w u shape_is frozen_table;
           placed = subst (λ (z : Ledger). Placed sh across z v.rows v.frame dups None) (sym still) p;
-          spent = (let before = at.laid.spent in let more = more_spent in let e : spent u.ledger ≡ spent w.ledger = ap spent still in omega
+          spent = (let before = at.may.laid.spent in let more = more_spent in let e : spent u.ledger ≡ spent w.ledger = ap spent still in omega
               (arith, before, more, e));
+        }
+
+        -- where the exchange found another count than the keeper's references, the dup stays
+        pub stays : {X : Type 0} → HasRemounted {X = X} v v k u dup node (Err InUse)
+        stays = record {
+          rest = refl;
+          laid = laid_lost;
+          shown = so_lost (lying v k) (lying v u) v.rows dup node found_held;
+          moves = found_held;
         }
 
       -- it is made where the keeper's references are all
@@ -251,35 +239,35 @@ module _ {v : PagesView} {k : KeeperView} {place : ℕ} {dup : DupRow} {g : ℕ}
         at_other x ne = ap (λ (z : Ledger). frame_at z x) frozen ∙ get_or-set_other w.ledger.frames g x dead blank ne
 
         -- after the exchange the new frame is one that the keeper knows
-        pub mount_within : f < length u.ledger.frames
+        mount_within : f < length u.ledger.frames
         mount_within = (let e : length u.ledger.frames ≡ length w.ledger.frames = ap (λ (z : Ledger). length z.frames) frozen
             ∙ length-set w.ledger.frames g dead in let lt = within in omega (arith, e, lt))
 
         -- after the exchange the place of the dup is one of the table's
-        pub mount_place : place < frames_of u.table.shape
-        mount_place = subst (λ (x : Shape × ℕ). x.1 < frames_of x.0) (λ t. (sym (shape_same sh w u shape_is frozen_table) t, place_is t))
-            (find_all test (DupFits sh across w.ledger) dups dup at.live p.each_dup).place
+        mount_place : dup.place < frames_of u.table.shape
+        mount_place = subst (λ (x : Shape). dup.place < frames_of x) (sym (shape_same sh w u shape_is frozen_table))
+            (find_all test (DupFits sh across w.ledger) dups dup at.may.live p.each_dup).place
 
         -- after the exchange the new frame is Free
-        pub mount_free : (frame_at u.ledger f).kind ≡ Free
+        mount_free : (frame_at u.ledger f).kind ≡ Free
         mount_free = ap (λ (x : Note). x.kind) (at_other f apart) ∙ lowest.free
 
         -- after the exchange the old frame is Dying
-        pub mount_dying : (frame_at u.ledger g).kind ≡ Dying
+        mount_dying : (frame_at u.ledger g).kind ≡ Dying
         mount_dying = ap (λ (x : Note). x.kind) at_g
 
         -- after the exchange the content of each frame has as many words as a page
-        pub mount_wide : (x : ℕ) → length (frame_at u.ledger x).content ≡ PAGE_WORDS
+        mount_wide : (x : ℕ) → length (frame_at u.ledger x).content ≡ PAGE_WORDS
         mount_wide x = dite (ℕ_discrete x g)
             (λ e. ap (λ y. length (frame_at u.ledger y).content) e ∙ ap (λ (y : Note). length y.content) at_g ∙ p.widths g)
             (λ ne. ap (λ (y : Note). length y.content) (at_other x ne) ∙ p.widths x)
 
         -- the dup's items, as many as the old frame had references, are one at least
-        pub mount_some : {items : ℕ} → items ≡ n.base → 1 ≤ items
+        mount_some : {items : ℕ} → items ≡ n.base → 1 ≤ items
         mount_some is = (let b = base in let one = item_some in omega (arith, is, b, one))
 
         -- the dup's items, as many as the old frame had references, are 1,024 at most
-        pub mount_few : {items : ℕ} → items ≡ n.base → items ≤ 1024
+        mount_few : {items : ℕ} → items ≡ n.base → items ≤ 1024
         mount_few is = (let b = base in let most = item_few in omega (arith, is, b, most))
 
         loose_of : (o : Option Life) → (life_or o).frame ≡ g → IsLoose u.ledger o
@@ -287,41 +275,46 @@ module _ {v : PagesView} {k : KeeperView} {place : ℕ} {dup : DupRow} {g : ℕ}
         loose_of (Some life) e = λ _ kind. let both : Dying ≡ Stable = sym mount_dying ∙ ap (λ x. (frame_at u.ledger x).kind) (sym e) ∙ kind in cc
 
         -- after the exchange the place of the dup names no frame that is Stable in the life named
-        pub mount_loose : IsLoose u.ledger (named_at u.ledger place)
-        mount_loose = subst (λ x. IsLoose u.ledger (named_at u.ledger x)) place_is
-            (loose_of (named_at u.ledger dup.place) (ap (λ (z : Ledger). place_frame z dup.place) frozen ∙ sym on_frame.0))
+        mount_loose : IsLoose u.ledger (named_at u.ledger dup.place)
+        mount_loose = loose_of (named_at u.ledger dup.place) (ap (λ (z : Ledger). place_frame z dup.place) frozen ∙ sym on_frame.0)
+
+        -- after the exchange the new frame may take the place of the old one, with as many references as that had
+        pub may_mount : {items : ℕ} → items ≡ n.base → MayMount u g f dup.place items
+        may_mount is = record {
+          exists = subst (λ (x : Shape). f < frames_of x) (sym (shape_same sh w u shape_is frozen_table)) inside;
+          known = mount_within;
+          free = mount_free;
+          old = subst (λ (z : KeeperView). g < frames_of z.table.shape) (sym freezes) may_freeze.0;
+          dying = mount_dying;
+          wide = mount_wide;
+          at = mount_place;
+          loose = mount_loose;
+          some = mount_some is;
+          few = mount_few is;
+        }
 
         -- and the dup stands on the new frame
         module _ {x : KeeperView} {items : ℕ} (items_are : items ≡ n.base)
-            (does : Made u x (mounting g f place items (frame_at u.ledger g).content)) where
-          mounts : Made u x (mounting g f place n.base (frame_at u.ledger g).content)
-          mounts = subst (λ y. Made u x (mounting g f place y (frame_at u.ledger g).content)) items_are does
+            (does : Made u x (mounting g f dup.place items (frame_at u.ledger g).content)) where
+          mounts : Made u x (mounting g f dup.place n.base (frame_at u.ledger g).content)
+          mounts = subst (λ y. Made u x (mounting g f dup.place y (frame_at u.ledger g).content)) items_are does
 
           module _ (q : PagesView) (goes : q ≡ record v { frame = items_on dup.number f v.rows v.frame }) where
             goes_there : q.frame ≡ instead g f v.frame
             goes_there = ap (λ (y : PagesView). y.frame) goes ∙ items_go f
 
-            -- once the new frame is mounted and the items lie there, the dup has moved to a frame of the node
-            pub moves : Moves (lying v k) (lying q x) v.rows dup node
+            moves : Moves (lying v k) (lying q x) v.rows dup node
             moves = record {
               got = f;
               searched = w;
-              finds = to.finds;
+              finds = to;
               frozen = u;
               freezes = subst (λ y. Made w u (Freeze y ∷ [])) (sym dup_frame_is) by_freeze;
               exchanged = ap (λ y. (frame_at u.ledger y).kind) dup_frame_is ∙ mount_dying;
-              mounts = subst (λ (z : ℕ × ℕ × ℕ × List ℕ). Made u x (mounting z.0 f z.1 z.2 z.3))
-                  (λ t. (sym dup_frame_is t, sym place_is t, base t, (ap (λ (y : Note). y.content) at_g ∙ bytes) t)) mounts;
+              mounts = subst (λ (z : ℕ × ℕ × List ℕ). Made u x (mounting z.0 f dup.place z.1 z.2))
+                  (λ t. (sym dup_frame_is t, base t, (ap (λ (y : Note). y.content) at_g ∙ bytes) t)) mounts;
               frame = goes_there ∙ ap (λ y. instead y f v.frame) (sym dup_frame_is);
             }
-
-            -- once the new frame is mounted, the log shows that the dup moved to a frame of the node
-            pub has_moved : (before : KeeperView) × (x ≡ did before (Publish place f) 0) → HasMoved k x place node
-            unfolding moves
-            has_moved ends = subst (λ y. HasMoved k x y node) place_is
-                (so_moved (lying v k) (lying q x) v.rows dup node moves
-                (ends.0, ends.1 ∙ ap (λ y. did ends.0 (Publish y f) 0) (sym place_is))
-                (ap (λ y. (frame_at w.ledger y).kind) dup_frame_is ∙ stable))
 
             abbrev full : Note
             full = record { kind = Stable; base = n.base; generation = (frame_at w.ledger f).generation + 1; content = n.content }
@@ -331,10 +324,9 @@ module _ {v : PagesView} {k : KeeperView} {place : ℕ} {dup : DupRow} {g : ℕ}
 
             ledger_is : x.ledger ≡ record {
               frames = set (set w.ledger.frames g dead) f full;
-              places = set w.ledger.places place
-                  (Some life);
+              places = set w.ledger.places dup.place (Some life);
             }
-            ledger_is = mounted u x g f place n.base (frame_at u.ledger g).content mount_within (mount_wide f ∙ sym (mount_wide g))
+            ledger_is = mounted u x g f dup.place n.base (frame_at u.ledger g).content mount_within (mount_wide f ∙ sym (mount_wide g))
                 (mount_some refl) refl mounts ∙ (λ t. record {
                   frames = set (frozen t).frames f (record {
                     kind = Stable;
@@ -342,25 +334,24 @@ module _ {v : PagesView} {k : KeeperView} {place : ℕ} {dup : DupRow} {g : ℕ}
                     generation = (at_other f apart t).generation + 1;
                     content = (at_g t).content;
                   });
-                  places = set (frozen t).places place (Some (record { frame = f; generation = (at_other f apart t).generation + 1 }));
+                  places = set (frozen t).places dup.place (Some (record { frame = f; generation = (at_other f apart t).generation + 1 }));
                 })
 
             -- by the dup's index the same
             left_is : g ≡ place_frame w.ledger m.place
             left_is = on_frame.0 ∙ ap (λ (y : DupRow). place_frame w.ledger y.place) (sym m_is)
 
-            -- rows and dups lie lawfully once the dup has moved
-            pub laid_moved_dup : IsLaid q x
+            laid_moved_dup : IsLaid q x
             laid_moved_dup =
-                let there = remounted sh across w.ledger v.rows v.frame dups p index.0 dup index.1 f inside lowest.free
+                let there = remounted p index.0 dup index.1 f inside lowest.free
                 (subst (λ (y : DupRow). IsInLife w.ledger y.place) (sym m_is) on_frame.1)
                 (ap (λ y. (frame_at w.ledger y).kind) (sym left_is) ∙ stable)
-                (λ z. on_node node sh.frames_per_node f lowest.low lowest.high ∙ to.home z
-                ∙ sym ((find_all test (DupFits sh across w.ledger) dups dup at.live p.each_dup).node z)
+                (λ z. on_node node sh.frames_per_node f lowest.low lowest.high ∙ at.may.home z
+                ∙ sym ((find_all test (DupFits sh across w.ledger) dups dup at.may.live p.each_dup).node z)
                 ∙ ap (node_of sh) (sym on_frame.0 ∙ left_is))
                 numbers in
                 subst (λ (y : PagesView). IsLaid y x) (sym (goes ∙ ap (λ fr. record v { frame = fr }) (items_go f))) (record {
-                  small = at.laid.small;
+                  small = at.may.laid.small;
                   same = shape_same sh u x (shape_same sh w u shape_is frozen_table) (ap (λ (z : KeeperView). z.table) mounts.after);
                   placed = subst (λ (z : Ledger × Frames). Placed sh across z.0 v.rows z.1 dups None)
                       (λ t. (
@@ -380,7 +371,7 @@ module _ {v : PagesView} {k : KeeperView} {place : ℕ} {dup : DupRow} {g : ℕ}
                                     (frame_at w.ledger f).generation + 1;
                                 content = (frame_at w.ledger (sym left_is i)).content;
                               });
-                          places = set w.ledger.places ((ap (λ (y : DupRow). y.place) m_is ∙ place_is) i) (Some life);
+                          places = set w.ledger.places (ap (λ (y : DupRow). y.place) m_is i) (Some life);
                         }) ∙ sym ledger_is) t,
                         ap (λ y. instead y f v.frame) (sym left_is) t,
                       )) there;
@@ -400,15 +391,26 @@ module _ {v : PagesView} {k : KeeperView} {place : ℕ} {dup : DupRow} {g : ℕ}
                     let was_free : spent_on (frame_at k1 f) ≡ (frame_at w.ledger f).generation = ap spent_on here
                     ∙ ap (λ (y : Kind). past_lives y (frame_at w.ledger f).generation) lowest.free in
                     let end : spent x.ledger ≡ spent (with_frame k1 f full) = ap spent ledger_is in
-                    let before = at.laid.spent in
+                    let before = at.may.laid.spent in
                     let more = more_spent in
                     omega (arith, one, was, two, was_free, end, before, more)
 
+            -- once the new frame is mounted and the items lie there, the dup has moved to a frame of the node
+            pub has_remounted : {X : Type 0} {done : X} → (before : KeeperView) × (x ≡ did before (Publish dup.place f) 0)
+                → HasRemounted {X = X} v q k x dup node (Ok done)
+            unfolding moves
+            has_remounted shows = record {
+              rest = goes ∙ (λ t. record v { frame = sym (ap (λ (p : PagesView). p.frame) goes) t });
+              laid = laid_moved_dup;
+              shown = so_moved (lying v k) (lying q x) v.rows dup node moves shows
+                  (ap (λ y. (frame_at w.ledger y).kind) dup_frame_is ∙ stable);
+              moves = moves;
+            }
+
 -- where a dup is to move from a place, a dup stands at that place
-pub taken_place : {v : PagesView} {k : KeeperView} {place : ℕ} {dup : DupRow} {g : ℕ} → Leaves v k place dup g
-    → list_any (λ d. d.place == place) v.dups ≡ true
-taken_place {v} {k} {place} {dup} {g} at =
-    let test : DupRow → Bool = λ d. d.place == place && has_items v.rows d in
-    let i = index_found test v.dups dup at.live in
-    list_any_at (λ d. d.place == place) v.dups i.0 dup i.1
-    (ap (λ (d : DupRow). d.place == place) (i.2 dup) ∙ (and_parts (dup.place == place) (has_items v.rows dup) (find_passes test v.dups dup at.live)).0)
+pub taken_place : {v : PagesView} {k : KeeperView} {dup : DupRow} {node g : ℕ} → Leaves v k dup node g
+    → list_any (λ d. d.place == dup.place) v.dups ≡ true
+taken_place {v} {k} {dup} {node} {g} at =
+    let i = index_found (λ d. d.place == dup.place && has_items v.rows d) v.dups dup at.may.live in
+    list_any_at (λ d. d.place == dup.place) v.dups i.0 dup i.1
+    (ap (λ (d : DupRow). d.place == dup.place) (i.2 dup) ∙ eq-eqb dup.place dup.place refl)

@@ -10,7 +10,7 @@ use Rattle.ksm_book.proofs.Laying.{laid_kept, lawful, moved_there, shape_same}
 abbrev pub housed : ℕ → List ℕ → Row → Row
 housed node bytes r = record r { home = node; bytes = bytes; state = Private }
 
-module _ (p : PagesView) (k w : KeeperView) (h : IsLaid p k) (rise : InPageOrder p.rows) (page : GuestPage) (known : IsKnown page p.rows) (node : ℕ) (bytes : List ℕ) (g : ℕ)
+module _ {p : PagesView} {k w : KeeperView} (h : IsLaid p k) (rise : InPageOrder p.rows) (page : GuestPage) (known : IsKnown page p.rows) {node : ℕ} {bytes : List ℕ} {g : ℕ}
     (less : node < p.shape.nodes) (long : length bytes ≡ PAGE_WORDS) (provides : Provides k w node bytes g) where
   abbrev across : ℕ
   across = p.knobs.merge_across_nodes
@@ -23,21 +23,21 @@ module _ (p : PagesView) (k w : KeeperView) (h : IsLaid p k) (rise : InPageOrder
       by (Some row) some = (refl, refl, refl)
 
   taken : Took k w node bytes g
-  taken = took k w node bytes g (subst (λ (s : Shape). node < s.nodes) (sym h.same) less)
-      (lawful p.shape across k p.rows p.frame p.dups None h.same h.placed) long provides
+  taken = took (subst (λ (s : Shape). node < s.nodes) (sym h.same) less)
+      (lawful k h.same h.placed) long provides
 
   same : w.table.shape ≡ p.shape
   same = shape_same p.shape k w h.same (taken.does.1.table)
 
   -- once the page lies on the frame taken, the one that it had is in the hand
   in_hand : (change : Row → Row) → Houses change page node bytes p.rows → Placed p.shape across w.ledger (change_row page change p.rows) (lies_on page (Some g) p.frame) p.dups (p.frame page)
-  in_hand change by_this = moved_there p.shape across k w p.rows p.frame p.dups h.same node bytes g taken h.placed page change rise by_this
+  in_hand change by_this = moved_there h.same taken h.placed page change rise by_this
 
   module _ (left : Option ℕ) (was : left ≡ p.frame page) where
     -- once a page has a new frame in hand, the frame that it had, if it had one, may be left
     pub may_left : IfSome left (λ f. May w (Sub f))
     may_left = subst (λ o. IfSome o (λ f. May w (Sub f))) (sym was)
-        (may_leave w p.shape same across (change_row page (housed node bytes) p.rows) (lies_on page (Some g) p.frame) p.dups (p.frame page) (in_hand (housed node bytes) houses))
+        (may_leave w same (p.frame page) (in_hand (housed node bytes) houses))
 
     -- a page that took a frame with its bytes on a node, and left the one that it had, is resettled there
     pub resettled : (q : PagesView) (u : KeeperView) → q ≡ record p { rows = change_row page on_its_own p.rows; frame = lies_on page (Some g) p.frame; restless = q.restless }
@@ -54,18 +54,18 @@ module _ (p : PagesView) (k w : KeeperView) (h : IsLaid p k) (rise : InPageOrder
             leaves = leaves;
             frame = lies;
           };
-          does = does_then k w u (node ∷ []) [] taken.does (quiet_does w u (leaving (p.frame page)) leaves (quiet_leaving (p.frame page)));
+          does = does_then taken.does (quiet_does leaves (quiet_leaving (p.frame page)));
           placed = λ change by_this. subst (λ (f : Frames). Placed p.shape across u.ledger (change_row page change p.rows) f p.dups None) (sym lies)
-              (left_placed w u (p.frame page) leaves p.shape across (change_row page change p.rows) (lies_on page (Some g) p.frame) p.dups (in_hand change by_this));
-          spent = (let s = h.spent in let m = taken.spent in let more = left_spends w u (p.frame page) leaves in omega (arith, s, m, more));
+              (left_placed (p.frame page) leaves (in_hand change by_this));
+          spent = (let s = h.spent in let m = taken.spent in let more = left_spends (p.frame page) leaves in omega (arith, s, m, more));
         }
 
 -- where no frame of a node was found, pages that lie lawfully are turned away, and no page changed
-pub turned : (p : PagesView) (k w : KeeperView) (node : ℕ) → IsLaid p k → node < p.shape.nodes → FindsNone k w node → TurnedAway p p k w node
-turned p k w node h less none = record {
+pub turned : {p : PagesView} {k w : KeeperView} {node : ℕ} → IsLaid p k → node < p.shape.nodes → FindsNone k w node → TurnedAway p p k w node
+turned {p} {k} {w} {node} h less none = record {
   pages = refl;
   turns = record { searched = none; frame = refl };
-  left = none_left k w node none;
-  laid = laid_kept p k h w (ap (λ (z : KeeperView). z.table) none.reaped.after)
-      (λ across rows frame dups. searched_placed k w node (subst (λ (s : Shape). node < s.nodes) (sym h.same) less) none.reaped across rows frame dups None) (searched_spends k w node none.reaped);
+  left = none_left none;
+  laid = laid_kept h w (ap (λ (z : KeeperView). z.table) none.reaped.after)
+      (λ across rows frame dups. searched_placed node (subst (λ (s : Shape). node < s.nodes) (sym h.same) less) none.reaped across rows frame dups None) (searched_spends node none.reaped);
 }

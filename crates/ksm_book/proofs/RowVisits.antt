@@ -149,7 +149,7 @@ visit_comes v w page row found restless state does = λ from s before.
     subst (Reached from w) (sym is) (
       state ∙ ap (λ (b : BookState). row_visited b row) before.0,
       record {
-        made = made_then from.keeper v.keeper w.keeper s.1.steps (row_visiting s.0 s.1.frame row).steps before.1.made there.made;
+        made = made_then before.1.made there.made;
         frame = there.frame;
       },
     )
@@ -233,7 +233,7 @@ module _ (best : Best) {p : PagesView} {k : KeeperView} {cursor : Option GuestPa
 
     -- a reference may come to the frame of the dup that a page is to join
     pub may_add : May k (Add g)
-    may_add = join_may p k at.laid at.sound.rows_rise page row item at.found found_item g there
+    may_add = join_may at.laid at.sound.rows_rise page row item at.found found_item g there
         item_merged dup stands is_item few
 
     abbrev change : Row → Row
@@ -246,7 +246,7 @@ module _ (best : Best) {p : PagesView} {k : KeeperView} {cursor : Option GuestPa
       -- once a reference came to the dup's frame, the joining page's own frame may be left
       pub may_sub : {w : KeeperView} → Made k w (Add g ∷ []) → May w (Sub lone)
       may_sub {w} comes = subst (λ o. IfSome o (λ f. May w (Sub f))) left
-          (may_part p k at.laid at.sound.rows_rise page row item at.found found_item g there item_merged
+          (may_part at.laid at.sound.rows_rise page row item at.found found_item g there item_merged
           change (λ r. refl) state_is same_bytes w comes)
 
       module _ {w l : KeeperView} (comes : Made k w (Add g ∷ [])) (leaves : Made w l (Sub lone ∷ [])) (q : PagesView)
@@ -262,7 +262,7 @@ module _ (best : Best) {p : PagesView} {k : KeeperView} {cursor : Option GuestPa
         q_is = goes ∙ (λ t. record p { rows = change_row page change p.rows; frame = frame_is t })
 
         steps : Made k l (Add g ∷ leaving (p.frame page))
-        steps = subst (λ o. Made k l (Add g ∷ leaving o)) (sym left) (made_then k w l (Add g ∷ []) (Sub lone ∷ []) comes leaves)
+        steps = subst (λ o. Made k l (Add g ∷ leaving o)) (sym left) (made_then comes leaves)
 
         deed_is : row_visiting (state_of p cursor passes) p.frame row ≡ joining p.frame page g
         deed_is = visiting_by (state_of p cursor passes) p.frame row (Some dup) at.so.0 told.1
@@ -272,7 +272,7 @@ module _ (best : Best) {p : PagesView} {k : KeeperView} {cursor : Option GuestPa
         pub joined_leads : Leads v q l cursor passes page
         joined_leads = leads at q l at.so.0
             (subst (λ (x : PagesView). IsLaid x l) (sym q_is)
-            (laid_joined p k at.laid at.sound.rows_rise page row item at.found found_item g there
+            (laid_joined at.laid at.sound.rows_rise page row item at.found found_item g there
             item_merged change (λ r. refl) state_is same_bytes l p.restless steps))
             (ap (λ (x : PagesView). state_of x cursor passes) q_is
             ∙ (λ t. record (state_of p cursor passes) {
@@ -295,14 +295,13 @@ module _ {p : PagesView} {k : KeeperView} {cursor : Option GuestPage} {passes : 
 
   zero_hand : Placed p.shape p.knobs.merge_across_nodes k.ledger (change_row page zeroed p.rows) (lies_on page None p.frame) p.dups
       (p.frame page)
-  zero_hand = swapped p.shape p.knobs.merge_across_nodes k.ledger p.rows p.frame p.dups None page zeroed at.row at.sound.rows_rise at.found
+  zero_hand = swapped None page zeroed at.row at.sound.rows_rise at.found
       (λ r. refl) at.laid.placed refl
 
   -- the frame of a page that is to become Zero may be left
   pub may_empty : {left : Option ℕ} → left ≡ p.frame page → IfSome left (λ f. May k (Sub f))
   may_empty was = subst (λ o. IfSome o (λ f. May k (Sub f))) (sym was)
-      (may_leave k p.shape at.laid.same p.knobs.merge_across_nodes (change_row page zeroed p.rows) (lies_on page None p.frame) p.dups
-      (p.frame page) zero_hand)
+      (may_leave k at.laid.same (p.frame page) zero_hand)
 
   -- once the page is Zero and has left its frame, the book is what the visit leads to
   pub zero_leads : (q : PagesView) {l : KeeperView} {left : Option ℕ} → left ≡ p.frame page → Made k l (leaving left)
@@ -312,10 +311,9 @@ module _ {p : PagesView} {k : KeeperView} {cursor : Option GuestPage} {passes : 
       let leaves = subst (λ o. Made k l (leaving o)) was made in
       leads at q l at.so.restless
       (subst (λ (x : PagesView). IsLaid x l) (sym goes)
-      (laid_rows p k at.laid (change_row page zeroed p.rows) (lies_on page None p.frame) p.restless l
-      (ap (λ (z : KeeperView). z.table) leaves.after) (left_spends k l (p.frame page) leaves)
-      (left_placed k l (p.frame page) leaves p.shape p.knobs.merge_across_nodes (change_row page zeroed p.rows) (lies_on page None p.frame)
-      p.dups zero_hand)))
+      (laid_rows at.laid (change_row page zeroed p.rows) (lies_on page None p.frame) p.restless l
+      (ap (λ (z : KeeperView). z.table) leaves.after) (left_spends (p.frame page) leaves)
+      (left_placed (p.frame page) leaves zero_hand)))
       (ap (λ (x : PagesView). state_of x cursor passes) goes ∙ (λ t. record b { rows = change_row (sym (page_is at) t) zeroed p.rows }) ∙
       sym (stayed_is b p.frame at.row true at.so))
       (subst (Performs (lying p k) (lying q l)) (sym (staying_is b p.frame at.row true at.so ∙ ap (emptying p.frame) (page_is at)))

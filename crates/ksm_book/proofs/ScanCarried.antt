@@ -72,7 +72,7 @@ module _ (v w : BookValue) (count : ℕ) (running : v.state.knobs.run ≡ 1) (ta
             (sym running) is;
         state = there.0 ∙ ap (scan_stopped stop) (beside_state doing made (first v));
         steps = record { made = steps; frame = there.1.frame ∙ ap (λ (d : Deed). d.frame) deed };
-        frames = quiet_does v.keeper w.keeper (scanning made v.state (view_of v).frame).steps steps
+        frames = quiet_does steps
             (quiet_scanning made v.state (view_of v).frame);
         shown = tt;
       }
@@ -84,6 +84,6 @@ module _ (v w : BookValue) (count : ℕ) (running : v.state.knobs.run ≡ 1) (ta
       scanned made None (did.0 ∙ ap (λ b. if b then count else 0) (sym (any_some v.state.rows some))) did.1
   visits_carried (Scanned made (Some fault)) some did =
       subst (λ f. CarriedOut (view_of v) (view_of w) (Scan count) (Ok (Scanned made (Some f)))) (sym did.0)
-      (scanned made (Some Memory) (any_some v.state.rows some, did.1) did.2)
+      (scanned made (Some Memory) (any_some v.state.rows some, did.1.fewer) did.1.comes)
   visits_carried Done some did = absurd did
   visits_carried _ some did = absurd did

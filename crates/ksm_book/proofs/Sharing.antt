@@ -34,7 +34,7 @@ index_found t (y ∷ ys) x found = elim (cases_Bool (t y)) [
 ]
 
 -- a page joins the dup of an item
-module _ (p : PagesView) (k : KeeperView) (h : IsLaid p k) (rise : InPageOrder p.rows) (page : GuestPage) (row item : Row)
+module _ {p : PagesView} {k : KeeperView} (h : IsLaid p k) (rise : InPageOrder p.rows) (page : GuestPage) (row item : Row)
     (found : row_at page p.rows ≡ Some row) (found_item : row_at item.page p.rows ≡ Some item)
     (g : ℕ) (there : p.frame item.page ≡ Some g) (merged : merged_state item.state ≡ true) where
   abbrev across : ℕ
@@ -42,7 +42,7 @@ module _ (p : PagesView) (k : KeeperView) (h : IsLaid p k) (rise : InPageOrder p
 
   item_fits : Serves p.shape k.ledger p.dups item g
   item_fits = subst (IsServed p.shape k.ledger p.dups item) there
-      (served_at p.shape across k.ledger p.rows p.frame p.dups None h.placed item.page item found_item)
+      (served_at h.placed item.page item found_item)
 
   item_stable : (frame_at k.ledger g).kind ≡ Stable
   item_stable = item_fits.0.kind ∙ ap kind_for (merged_as item.state merged).1
@@ -53,7 +53,7 @@ module _ (p : PagesView) (k : KeeperView) (h : IsLaid p k) (rise : InPageOrder p
       let n : ℕ = stands.0 in
       let is : get_or p.dups n d ≡ d = stands.2 in
       let a = (item_fits.1 n d stands.1).item (ap (λ (x : DupRow). merged_into x.number item.state) is ∙ into) in
-      let base = ap (λ x. (frame_at k.ledger x).base) a.0 ∙ base_is_items p.shape across k.ledger p.rows p.frame p.dups h.placed n d
+      let base = ap (λ x. (frame_at k.ledger x).base) a.0 ∙ base_is_items h.placed n d
       stands.1 a.1 ∙ ap (item_count p.rows) is in (
         subst (λ (x : Shape). g < frames_of x) (sym h.same) item_fits.0.frame,
         subst (λ (x : Kind). FitsBase x (frame_at k.ledger g).base) item_stable (h.placed.kinds g),
@@ -66,27 +66,26 @@ module _ (p : PagesView) (k : KeeperView) (h : IsLaid p k) (rise : InPageOrder p
     joined_hand : (w : KeeperView) → Made k w (Add g ∷ []) → Placed p.shape across w.ledger (change_row page c p.rows)
         (lies_on page (Some g) p.frame) p.dups (p.frame page)
     joined_hand w comes =
-        let q = added_placed k w g comes item_stable p.shape across p.rows p.frame p.dups item_fits.0.frame h.placed in
-        joined p.shape across w.ledger p.rows p.frame p.dups page row item g c rise found keeps
+        let q = added_placed comes item_stable item_fits.0.frame h.placed in
+        joined page row item g c rise found keeps
         (subst (IsServed p.shape w.ledger p.dups item) there
-        (served_at p.shape across w.ledger p.rows p.frame p.dups (Some g) q item.page item found_item)) state bytes
+        (served_at q item.page item found_item)) state bytes
         (ap shared_state (merged_as item.state merged).1) q
 
     -- once a reference came to the item's frame, the frame of the page that joins, if it has one, may be left
     pub may_part : (w : KeeperView) → Made k w (Add g ∷ []) → IfSome (p.frame page) (λ f. May w (Sub f))
-    may_part w comes = may_leave w p.shape (shape_same p.shape k w h.same (ap (λ (z : KeeperView). z.table) comes.after)) across
-        (change_row page c p.rows) (lies_on page (Some g) p.frame) p.dups (p.frame page) (joined_hand w comes)
+    may_part w comes = may_leave w (shape_same p.shape k w h.same (ap (λ (z : KeeperView). z.table) comes.after)) (p.frame page) (joined_hand w comes)
 
     -- rows and dups lie lawfully once a page is an item, lies on the item's frame and has left its own
     pub laid_joined : (u : KeeperView) (restless : Listing) → Made k u (Add g ∷ leaving (p.frame page))
         → IsLaid (record p { rows = change_row page c p.rows; frame = lies_on page (Some g) p.frame; restless = restless }) u
     laid_joined u restless m =
-        let parts = parts_made k u (Add g ∷ []) (leaving (p.frame page)) m in
-        let more = added_spends k parts.0 g parts.1 in
-        let more' = left_spends parts.0 u (p.frame page) parts.2 in
-        laid_rows p k h (change_row page c p.rows) (lies_on page (Some g) p.frame) restless u (ap (λ (z : KeeperView). z.table) m.after)
+        let parts = parts_made (Add g ∷ []) (leaving (p.frame page)) m in
+        let more = added_spends parts.1 in
+        let more' = left_spends (p.frame page) parts.2 in
+        laid_rows h (change_row page c p.rows) (lies_on page (Some g) p.frame) restless u (ap (λ (z : KeeperView). z.table) m.after)
         (omega (arith, more, more'))
-        (left_placed parts.0 u (p.frame page) parts.2 p.shape across (change_row page c p.rows) (lies_on page (Some g) p.frame) p.dups
+        (left_placed (p.frame page) parts.2
         (joined_hand parts.0 parts.1))
 
 -- a place where no dup with items stands may be named anew, or not at all
@@ -110,37 +109,37 @@ has_none place (d ∷ ds) e zero x lt same = absurd (grind (arith, nat_tests, e,
 has_none place (d ∷ ds) e (suc k) x lt same = has_none place ds (grind (arith, e)) k x (omega arith) same
 
 -- a place where no dup with items stands names no frame that is Stable in the life named
-pub vacant_loose : (sh : Shape) (across : ℕ) (k : Ledger) (rows : List Row) (frame : Frames) (dups : List DupRow) (place : ℕ)
+pub vacant_loose : {sh : Shape} {across : ℕ} {k : Ledger} {rows : List Row} {frame : Frames} {dups : List DupRow} (place : ℕ)
     → Placed sh across k rows frame dups None → IsVacant place rows dups → IsLoose k (named_at k place)
-vacant_loose sh a k rows frame dups place p vacant = elim (cases_Bool (list_any (λ d. d.place == place) dups)) [
+vacant_loose {k = k} {dups = dups} place p vacant = elim (cases_Bool (list_any (λ d. d.place == place) dups)) [
   | inl taken ↦
       let some = has_some place dups taken in
       let d : DupRow = record { number = 0; place = 0; tree = 0; bytes = [] } in
       let at : (get_or dups some.0 d).place ≡ place = some.2 d in
       loose_named k (named_at k place) (subst (λ q. IsInLife k q → ¬ ((frame_at k (place_frame k q)).kind ≡ Stable)) at
-      (stale_is_loose sh a k rows frame dups p some.0 d some.1 (vacant some.0 d some.1 at)))
+      (stale_is_loose p some.0 d some.1 (vacant some.0 d some.1 at)))
   | inr none ↦ subst (IsLoose k) (sym (p.empty place (has_none place dups none))) tt
 ]
 
 -- what a vacant place names is withdrawn, and then it names nothing
-module _ (p : PagesView) (k w : KeeperView) (h : IsLaid p k) (place : ℕ) (inside : place < frames_of p.shape)
+module _ {p : PagesView} {k : KeeperView} (w : KeeperView) (h : IsLaid p k) (place : ℕ) (inside : place < frames_of p.shape)
     (vacant : IsVacant place p.rows p.dups) where
   -- what is named by a place where no dup with items stands may be withdrawn
   pub may_clear : May k (Withdraw place)
   may_clear = (
     subst (λ (s : Shape). place < frames_of s) (sym h.same) inside,
-    vacant_loose p.shape p.knobs.merge_across_nodes k.ledger p.rows p.frame p.dups place h.placed vacant,
+    vacant_loose place h.placed vacant,
   )
 
   -- once what a vacant place names is withdrawn, the place names nothing, and the keeper knows the rest as it was
   pub cleared_ledger : Made k w (withdrawing p.dups place) → w.ledger ≡ record
       { frames = k.ledger.frames; places = set k.ledger.places place None }
   cleared_ledger m = elim (cases_Bool (list_any (λ d. d.place == place) p.dups)) [
-    | inl taken ↦ ap (λ (z : KeeperView). z.ledger) (step_made k w (Withdraw place)
+    | inl taken ↦ ap (λ (z : KeeperView). z.ledger) (step_made
         (subst (λ (b : Bool). Made k w (if b then Withdraw place ∷ [] else [])) taken m)).1
     | inr none ↦
         let empty = h.placed.empty place (has_none place p.dups none) in
-        ap (λ (z : KeeperView). z.ledger) (none_made k w (subst (λ (b : Bool). Made k w (if b then Withdraw place ∷ [] else [])) none m))
+        ap (λ (z : KeeperView). z.ledger) (none_made (subst (λ (b : Bool). Made k w (if b then Withdraw place ∷ [] else [])) none m))
         ∙ (λ t. record {
           frames = k.ledger.frames;
           places = sym
@@ -149,14 +148,14 @@ module _ (p : PagesView) (k w : KeeperView) (h : IsLaid p k) (place : ℕ) (insi
   ]
 
 -- pages lie lawfully where a place names nothing any more and the dup that stood there is gone
-pub laid_cleared : (p : PagesView) (k w : KeeperView) (place : ℕ) → IsLaid p k → place < frames_of p.shape → w.table ≡ k.table
+pub laid_cleared : {p : PagesView} {k : KeeperView} (w : KeeperView) (place : ℕ) → IsLaid p k → place < frames_of p.shape → w.table ≡ k.table
     → w.ledger ≡ record { frames = k.ledger.frames; places = set k.ledger.places place None }
     → IsLaid (record p { dups = filter (elsewhere place) p.dups }) w
-laid_cleared p k w place h inside e is = record {
+laid_cleared {p} {k} w place h inside e is = record {
   small = h.small;
   same = shape_same p.shape k w h.same e;
   placed = subst (λ (z : Ledger). Placed p.shape p.knobs.merge_across_nodes z p.rows p.frame (filter (elsewhere place) p.dups) None)
-      (sym is) (withdrawn p.shape p.knobs.merge_across_nodes k.ledger p.rows p.frame p.dups None place inside h.placed);
+      (sym is) (withdrawn place inside h.placed);
   spent = (let same : spent w.ledger ≡ spent k.ledger = ap spent is in let s = h.spent in omega (arith, same, s));
 }
 
@@ -182,8 +181,8 @@ pub frames_few : (sh : Shape) → IsShape sh → frames_of sh ≤ 1024
 frames_few sh small = (let a = small.nodes_high in let b = small.frames_high in product_most sh.nodes sh.frames_per_node 4 256 a b)
 
 -- fewer than 2^50 dups were ever made, since each spent a life of a frame
-pub spent_most : (v : PagesView) (k : KeeperView) → IsLaid v k → v.next ≤ 2 ^ 50
-spent_most v k h =
+pub spent_most : {v : PagesView} {k : KeeperView} → IsLaid v k → v.next ≤ 2 ^ 50
+spent_most {v} {k} h =
     let sh : Shape = v.shape in
     let p = h.placed in
     let last : ℕ = sh.last_generation in
@@ -207,7 +206,7 @@ settled_lodges r = (refl, refl, by r.state)
     by _ = inl refl
 
 -- a new dup stands on the frame of a row, which is its first item
-module _ (p : PagesView) (k : KeeperView) (h : IsLaid p k) (rise : InPageOrder p.rows) (page : GuestPage) (row : Row) (f : ℕ)
+module _ {p : PagesView} {k : KeeperView} (h : IsLaid p k) (rise : InPageOrder p.rows) (page : GuestPage) (row : Row) (f : ℕ)
     (found : row_at page p.rows ≡ Some row) (lies : p.frame page ≡ Some f) (alone : shared_state row.state ≡ false)
     (d : DupRow) (number : d.number ≡ p.next) (inside : d.place < frames_of p.shape) (vacant : IsVacant d.place p.rows p.dups) where
   abbrev sh : Shape
@@ -223,7 +222,7 @@ module _ (p : PagesView) (k : KeeperView) (h : IsLaid p k) (rise : InPageOrder p
   stable = record { kind = Stable; base = o.base; generation = o.generation; content = o.content }
 
   fits : RowFits sh k.ledger row f
-  fits = (subst (IsServed sh k.ledger p.dups row) lies (served_at sh p.knobs.merge_across_nodes k.ledger p.rows p.frame p.dups None h.placed
+  fits = (subst (IsServed sh k.ledger p.dups row) lies (served_at h.placed
       page row found)).0
 
   own : o.kind ≡ Private
@@ -232,7 +231,7 @@ module _ (p : PagesView) (k : KeeperView) (h : IsLaid p k) (rise : InPageOrder p
   -- once its place is cleared, a new dup may be published there on the frame of a row that is not shared
   pub may_found : (w : KeeperView) → Made k w (withdrawing p.dups d.place) → May w (Publish d.place f)
   may_found w m =
-      let empty = cleared_ledger p k w h d.place inside vacant m in
+      let empty = cleared_ledger w h d.place inside vacant m in
       let same = sym (ap (λ (z : KeeperView). z.table.shape) m.after ∙ h.same) in
       let long = h.placed.places_long in (
         subst (λ (s : Shape). d.place < frames_of s) same inside,
@@ -250,13 +249,12 @@ module _ (p : PagesView) (k : KeeperView) (h : IsLaid p k) (rise : InPageOrder p
       → All (λ r. merged_into p.next r.state ≡ false) p.rows
       → IsLaid (record p { rows = change_row page c p.rows; dups = with_dup d p.dups; next = p.next + 1; restless = restless }) w
   laid_found c w1 w restless keeps state same clears is bytes tree numbers fresh =
-      let empty = cleared_ledger p k w1 h d.place inside vacant clears in
+      let empty = cleared_ledger w1 h d.place inside vacant clears in
       let table = ap (λ (z : KeeperView). z.table) clears.after in
       let q : Placed sh p.knobs.merge_across_nodes cleared p.rows p.frame
-      (filter (elsewhere d.place) p.dups) None = withdrawn sh p.knobs.merge_across_nodes k.ledger p.rows p.frame p.dups None d.place
+      (filter (elsewhere d.place) p.dups) None = withdrawn d.place
       inside h.placed in
-      let shown = published sh p.knobs.merge_across_nodes cleared p.rows p.frame
-      (filter (elsewhere d.place) p.dups) q page row rise found f lies own d inside c keeps
+      let shown = published q page row rise found f lies own d inside c keeps
       (state ∙ ap Merged (sym number)) same bytes tree alone
       (λ i r lt. ap (λ n. merged_into n (get_or p.rows i r).state) number ∙ fresh i r lt)
       (All-filter (elsewhere d.place) (λ e. ¬ (e.number ≡ d.number)) p.dups

@@ -59,37 +59,37 @@ part_did v w part is quiet = record {
         subst (λ (o : Option ℕ). IsNeeded v.table.shape k [] o × Gives v.table.shape next (needed_after [] o) part) (sym q.0) (tt, by next part q.1)
 
 -- steps that give no frame gave none by the part of the log in which they were made
-pub quiet_did : (v w : KeeperView) (steps : List KeeperStep) (m : Made v w steps) → GivesNone steps → Did v w [] m.part
-quiet_did v w steps m quiet = part_did v w m.part m.after (subst GivesNone (sym m.are) quiet)
+pub quiet_did : {v w : KeeperView} {steps : List KeeperStep} (m : Made v w steps) → GivesNone steps → Did v w [] m.part
+quiet_did {v} {w} {steps} m quiet = part_did v w m.part m.after (subst GivesNone (sym m.are) quiet)
 
 -- a keeper that made steps that give no frame gave none
-pub quiet_does : (v w : KeeperView) (steps : List KeeperStep) → Made v w steps → GivesNone steps → Does v w []
-quiet_does v w steps m quiet = (m.part, quiet_did v w steps m quiet)
+pub quiet_does : {v w : KeeperView} {steps : List KeeperStep} → Made v w steps → GivesNone steps → Does v w []
+quiet_does {v} {w} {steps} m quiet = (m.part, quiet_did m quiet)
 
 -- frames given on some nodes and then on others were given on the nodes of both, in order
-pub does_then : (u v w : KeeperView) (ms ns : List ℕ) → Does u v ms → Does v w ns → Does u w (ms ++ ns)
-does_then u v w ms ns a b = (a.0 ++ b.0, chained u v w ms ns a.0 b.0 a.1 b.1)
+pub does_then : {u v w : KeeperView} {ms ns : List ℕ} → Does u v ms → Does v w ns → Does u w (ms ++ ns)
+does_then {u} {v} {w} {ms} {ns} a b = (a.0 ++ b.0, chained a.1 b.1)
 
 -- the lowest free frame of a node was raised, and no other was given
-pub raised_does : (v w : KeeperView) (g node : ℕ) (steps : List KeeperStep) → IsLowestFree v.table.shape v.ledger node g → Made v w (Raise g ∷ steps) → GivesNone steps → Does v w (node ∷ [])
-raised_does v w g node steps lowest m quiet =
-    let first = first_made v w (Raise g) steps m in
+pub raised_does : {v w : KeeperView} {g node : ℕ} {steps : List KeeperStep} → IsLowestFree v.table.shape v.ledger node g → Made v w (Raise g ∷ steps) → GivesNone steps → Does v w (node ∷ [])
+raised_does {v} {w} {g} {node} {steps} lowest m quiet =
+    let first = first_made m in
     let r : KeeperView = did v (Raise g) first.0 in
     let one : Did v r (node ∷ []) ((Raise g, first.0) ∷ []) = record { table = refl; log = refl; ledger = refl; gives = (lowest, refl) } in
-    does_then v r w (node ∷ []) [] ((Raise g, first.0) ∷ [], one) (quiet_does r w steps first.1 quiet)
+    does_then ((Raise g, first.0) ∷ [], one) (quiet_does first.1 quiet)
 
 -- a keeper that reaped the dying frames of a node gave no frame
-pub searched_does : (v w : KeeperView) (node : ℕ) → Made v w (map Reap (dying_on v.table.shape v.ledger node)) → Does v w []
-searched_does v w node m = quiet_does v w (map Reap (dying_on v.table.shape v.ledger node)) m (quiet_reaps (dying_on v.table.shape v.ledger node))
+pub searched_does : {v w : KeeperView} (node : ℕ) → Made v w (map Reap (dying_on v.table.shape v.ledger node)) → Does v w []
+searched_does {v} {w} node m = quiet_does m (quiet_reaps (dying_on v.table.shape v.ledger node))
 
 -- a keeper that provided a frame with bytes gave one frame, on the node asked for
-pub provides_does : (v w : KeeperView) (node : ℕ) (bytes : List ℕ) (g : ℕ) → Provides v w node bytes g → Does v w (node ∷ [])
-provides_does v w node bytes g h =
+pub provides_does : {v w : KeeperView} {node : ℕ} {bytes : List ℕ} {g : ℕ} → Provides v w node bytes g → Does v w (node ∷ [])
+provides_does {v} {w} {node} {bytes} {g} h =
     let u : KeeperView = h.searched in
-    let searched = searched_does v u node h.finds.reaped in
+    let searched = searched_does node h.finds.reaped in
     let lowest : IsLowestFree u.table.shape u.ledger node g = subst (λ (t : _). IsLowestFree t.shape u.ledger node g) (sym searched.1.table) h.finds.lowest in
-    does_then v u w [] (node ∷ []) searched
-    (raised_does u w g node (steps_of (puts g 0 bytes) ++ Open g ∷ []) lowest h.fills (quiet_both (steps_of (puts g 0 bytes)) (Open g ∷ []) (quiet_puts g 0 bytes) (refl, tt)))
+    does_then searched
+    (raised_does lowest h.fills (quiet_both (steps_of (puts g 0 bytes)) (Open g ∷ []) (quiet_puts g 0 bytes) (refl, tt)))
 
 -- ---------------------------------------------------------------- what the log shows
 
@@ -107,9 +107,9 @@ set_here P (x ∷ xs) (suc i) y new none = set_here P xs i y new none
 
 -- a frame that is not dying does not become so where frames are reaped
 lives_on : (fs : List ℕ) (v w : KeeperView) (f : ℕ) → Made v w (map Reap fs) → ¬ ((frame_at v.ledger f).kind ≡ Dying) → ¬ ((frame_at w.ledger f).kind ≡ Dying)
-lives_on [] v w f m alive = subst (λ (z : KeeperView). ¬ ((frame_at z.ledger f).kind ≡ Dying)) (sym (none_made v w m)) alive
+lives_on [] v w f m alive = subst (λ (z : KeeperView). ¬ ((frame_at z.ledger f).kind ≡ Dying)) (sym (none_made m)) alive
 lives_on (g ∷ fs) v w f m alive =
-    let first = first_made v w (Reap g) (map Reap fs) m in
+    let first = first_made m in
     let old : Note = frame_at v.ledger g in
     let note : Note = reaped v.table.shape.last_generation old in
     lives_on fs (did v (Reap g) first.0) w f first.1
@@ -154,15 +154,15 @@ contains_filter t (y ∷ ys) x (suc i, lt, is) e =
     ]
 
 -- where no frame of a node was found, each that is dying still was found with a count above zero
-pub none_left : (v w : KeeperView) (node : ℕ) → FindsNone v w node → NoneLeft v w node
-none_left v w node h =
+pub none_left : {v w : KeeperView} {node : ℕ} → FindsNone v w node → NoneLeft v w node
+none_left {v} {w} {node} h =
     let sh : Shape = v.table.shape in
     let size : ℕ = sh.frames_per_node in
     let fs = dying_on sh v.ledger node in
     let m = h.reaped in
     record {
       part = m.part;
-      did = quiet_did v w (map Reap fs) m (quiet_reaps fs);
+      did = quiet_did m (quiet_reaps fs);
       waited = λ f low high still. elim (cases_Bool (dying_kind (frame_at v.ledger f).kind)) [
         | inl dies ↦
             let lt : f - node * size < size = omega (arith, low, high) in
@@ -181,12 +181,12 @@ pub lost : (v w : Mapped) (rows : List Row) (dup : DupRow) (node : ℕ) → Find
 lost v w rows dup node h =
     let f : ℕ = dup_frame v.frame rows dup.number in
     let s : KeeperView = h.searched in
-    let step = step_made s w.keeper (Freeze f) h.freezes in
-    let searched = searched_does v.keeper s node h.finds.reaped in
-    let freezes = quiet_did s w.keeper (Freeze f ∷ []) (record { part = (Freeze f, step.0) ∷ []; after = step.1; are = refl }) (refl, tt) in
+    let step = step_made h.freezes in
+    let searched = searched_does node h.finds.reaped in
+    let freezes = quiet_did (record { part = (Freeze f, step.0) ∷ []; after = step.1; are = refl }) (refl, tt) in
     record {
       part = searched.0 ++ (Freeze f, step.0) ∷ [];
-      did = chained v.keeper s w.keeper [] [] searched.0 ((Freeze f, step.0) ∷ []) searched.1 freezes;
+      did = chained searched.1 freezes;
       frame = f;
       found = step.0;
       tried = Contains-push searched.0 (Freeze f, step.0);
@@ -241,17 +241,17 @@ moved v w rows dup node h ends stable =
     let stores = steps_of (puts g 0 dup.bytes) ++ Open g ∷ end in
     let rest = steps_of (loads f 0 dup.bytes) ++ stores in
     let reaps = map Reap (dying_on v.keeper.table.shape v.keeper.ledger node) in
-    let searched = searched_does v.keeper h.searched node h.finds.reaped in
-    let freezes = quiet_does h.searched h.frozen (Freeze f ∷ []) h.freezes (refl, tt) in
-    let step = step_made h.searched h.frozen (Freeze f) h.freezes in
+    let searched = searched_does node h.finds.reaped in
+    let freezes = quiet_does h.freezes (refl, tt) in
+    let step = step_made h.freezes in
     let lowest : IsLowestFree h.frozen.table.shape h.frozen.ledger node g = subst (λ (z : KeeperView). IsLowestFree z.table.shape z.ledger node g) (sym step.1)
     (lowest_still h.searched.table.shape h.searched.ledger node f g (count_in step.0 == (frame_at h.searched.ledger f).base)
     (subst (λ (t : _). IsLowestFree t.shape h.searched.ledger node g) (sym searched.1.table) h.finds.lowest) stable) in
-    let mounts = raised_does h.frozen w.keeper g node rest lowest h.mounts
+    let mounts = raised_does lowest h.mounts
     (quiet_both (steps_of (loads f 0 dup.bytes)) stores (quiet_loads f 0 dup.bytes) (quiet_both (steps_of (puts g 0 dup.bytes)) (Open g ∷ end) (quiet_puts g 0 dup.bytes)
     (refl, quiet_both (replicate (count - 1) (Add g)) (Publish dup.place g ∷ []) (quiet_adds (count - 1) g) (refl, tt)))) in
-    let does = does_then v.keeper h.frozen w.keeper [] (node ∷ []) (does_then v.keeper h.searched h.frozen [] [] searched freezes) mounts in
-    let made = made_then v.keeper h.searched w.keeper reaps (Freeze f ∷ Raise g ∷ rest) h.finds.reaped (made_then h.searched h.frozen w.keeper (Freeze f ∷ []) (Raise g ∷ rest) h.freezes h.mounts) in
+    let does = does_then (does_then searched freezes) mounts in
+    let made = made_then h.finds.reaped (made_then h.freezes h.mounts) in
     let told = steps_told v.keeper w.keeper (node ∷ []) does.0 (reaps ++ (Freeze f ∷ Raise g ∷ rest)) does.1 made in
     let raised = found_in does.0 (Raise g) (subst (λ steps. Contains steps (Raise g)) (sym told) (Contains-append_right reaps (Freeze f ∷ Raise g ∷ rest) (Raise g) (1, omega arith, refl))) in
     record {

@@ -47,7 +47,7 @@ at_changed page c (r ∷ rows) row keeps found = elim (cases_Bool (same_page r.p
 -- ---------------------------------------------------------------- a page with another frame
 
 -- a page was resettled, and then its row tells of home and bytes
-module _ (p m q : PagesView) (k l : KeeperView) (page : GuestPage) (node : ℕ) (bytes : List ℕ) (h : IsLaid p k) (table : l.table ≡ k.table) (r : Resettled p m k l page node bytes)
+module _ {p m q : PagesView} {k l : KeeperView} {page : GuestPage} {node : ℕ} {bytes : List ℕ} (h : IsLaid p k) (table : l.table ≡ k.table) (r : Resettled p m k l page node bytes)
     (d change : Row → Row) (goes : q ≡ record m { rows = change_row page d m.rows; restless = q.restless }) (rows : change_row page d (change_row page on_its_own p.rows) ≡ change_row page change p.rows) where
   settled_frame : q.frame ≡ m.frame
   settled_frame = ap (λ (x : PagesView). x.frame) goes
@@ -75,10 +75,10 @@ pub alone_now : (rows : List Row) (page : GuestPage) (row : Row) → row_at page
 alone_now rows page row found alone = subst (λ o. MatchOption o (true ≡ false) (λ r. shared_state r.state ≡ false)) (sym found) alone
 
 -- the frame of a page may be read, and has the page's bytes
-pub may_read : (p : PagesView) (k : KeeperView) → IsLaid p k → (page : GuestPage) (row : Row) → row_at page p.rows ≡ Some row → (g : ℕ) → p.frame page ≡ Some g
+pub may_read : {p : PagesView} {k : KeeperView} → IsLaid p k → (page : GuestPage) (row : Row) → row_at page p.rows ≡ Some row → (g : ℕ) → p.frame page ≡ Some g
     → (g < frames_of k.table.shape) × IsReadable (frame_at k.ledger g).kind × (length (frame_at k.ledger g).content ≡ PAGE_WORDS) × ((frame_at k.ledger g).content ≡ row.bytes)
-may_read p k h page row found g lies =
-    let served : IsServed p.shape k.ledger p.dups row (Some g) = subst (IsServed p.shape k.ledger p.dups row) lies (served_at p.shape p.knobs.merge_across_nodes k.ledger p.rows p.frame p.dups None h.placed page row found) in
+may_read {p} {k} h page row found g lies =
+    let served : IsServed p.shape k.ledger p.dups row (Some g) = subst (IsServed p.shape k.ledger p.dups row) lies (served_at h.placed page row found) in
     (subst (λ (s : Shape). g < frames_of s) (sym h.same) served.0.frame, readable (frame_at k.ledger g).kind row.state served.0.mapped served.0.kind, h.placed.widths g, served.0.content)
 
 -- what is true anyway is true of each error of a result
@@ -104,10 +104,10 @@ private_resettled rows page row found now made =
 -- ---------------------------------------------------------------- a store
 
 -- the frame of a page with one of its own may be stored to
-pub own_ready : (p : PagesView) (k : KeeperView) → IsLaid p k → (page : GuestPage) (row : Row) → row_at page p.rows ≡ Some row → shared_state row.state ≡ false → (g : ℕ) → p.frame page ≡ Some g
+pub own_ready : {p : PagesView} {k : KeeperView} → IsLaid p k → (page : GuestPage) (row : Row) → row_at page p.rows ≡ Some row → shared_state row.state ≡ false → (g : ℕ) → p.frame page ≡ Some g
     → (g < frames_of k.table.shape) × (g < length k.ledger.frames) × IsWritable (frame_at k.ledger g).kind × (length (frame_at k.ledger g).content ≡ PAGE_WORDS)
-own_ready p k h page row found alone g lies =
-    let served : IsServed p.shape k.ledger p.dups row (Some g) = subst (IsServed p.shape k.ledger p.dups row) lies (served_at p.shape p.knobs.merge_across_nodes k.ledger p.rows p.frame p.dups None h.placed page row found) in
+own_ready {p} {k} h page row found alone g lies =
+    let served : IsServed p.shape k.ledger p.dups row (Some g) = subst (IsServed p.shape k.ledger p.dups row) lies (served_at h.placed page row found) in
     let inside = served.0.frame in
     let long : length k.ledger.frames ≡ frames_of p.shape = h.placed.frames_long in
     (subst (λ (s : Shape). g < frames_of s) (sym h.same) inside, omega (arith, inside, long), subst IsWritable (sym (served.0.kind ∙ own_kind row.state alone)) tt, h.placed.widths g)
@@ -146,16 +146,16 @@ module _ (p : PagesView) (k l : KeeperView) (cursor : Option GuestPage) (passes 
       stores q (ap (λ x. state_of x cursor passes) goes) false alone (record {
         made = subst (λ f. Made k l (steps_of (puts f 0 bytes))) (sym (ap (frame_on p.frame) (found_page page p.rows row found) ∙ ap frame_number lies)) (made_part k l (puts g 0 bytes) wrote);
         frame = ap (λ (x : PagesView). x.frame) goes;
-      }) (quiet_does k l (steps_of (puts g 0 bytes)) (made_part k l (puts g 0 bytes) wrote) (quiet_puts g 0 bytes))
+      }) (quiet_does (made_part k l (puts g 0 bytes) wrote) (quiet_puts g 0 bytes))
 
   -- `Store` is carried out, and all lies lawfully, where a shared page is resettled with the bytes, as its row tells
   pub store_copied : (m q : PagesView) → IsLaid p k → Resettled p m k l page row.home bytes → q ≡ record m { rows = change_row page (stored bytes) m.rows; restless = q.restless } → shared_state row.state ≡ true
       → CarriedOut (book p k cursor passes) (book q l cursor passes) (Store page bytes) (Ok Done) × IsLaid q l
   store_copied m q h r goes shared =
       let rows = change_twice page on_its_own (stored bytes) (stored bytes) p.rows (λ x. refl) (λ i x lt is. refl) in (
-        stores q (ap (λ x. state_of x cursor passes) (settled_pages p m q k l page row.home bytes h table r (stored bytes) (stored bytes) goes rows)) true shared
-            (subst (λ x. Resettles (lying p k) (lying q l) x row.home bytes) (sym (found_page page p.rows row found)) (settled_steps p m q k l page row.home bytes h table r (stored bytes) (stored bytes) goes rows)) r.does,
-        settled_laid p m q k l page row.home bytes h table r (stored bytes) (stored bytes) goes rows (record {
+        stores q (ap (λ x. state_of x cursor passes) (settled_pages h table r (stored bytes) (stored bytes) goes rows)) true shared
+            (subst (λ x. Resettles (lying p k) (lying q l) x row.home bytes) (sym (found_page page p.rows row found)) (settled_steps h table r (stored bytes) (stored bytes) goes rows)) r.does,
+        settled_laid h table r (stored bytes) (stored bytes) goes rows (record {
           pages = λ x. refl;
           row = subst (λ o. MatchOption o ⊥ (λ x. ((stored bytes x).state ≡ Private) × ((stored bytes x).home ≡ row.home) × ((stored bytes x).bytes ≡ bytes))) (sym found) (refl, refl, refl);
         }),
@@ -197,7 +197,7 @@ module _ (p : PagesView) (k : KeeperView) (cursor : Option GuestPage) (passes : 
         state = ap (λ rows. record b' { rows = rows }) (sym still);
         steps = subst (λ o. MatchOption o ⊥ (MovesTo (lying p k) (lying p k) node)) (sym found)
             (subst (λ x. MatchBool x (IsIdle (lying p k) (lying p k)) (Resettles (lying p k) (lying p k) row.page node row.bytes)) (sym is) (record { keeper = refl; frame = refl }));
-        frames = subst (λ o. Does k k (listed o)) (sym (move_needs true is)) (quiet_does k k [] (made_none k k refl) tt);
+        frames = subst (λ o. Does k k (listed o)) (sym (move_needs true is)) (quiet_does (made_none refl) tt);
         shown = tt;
       }
 
@@ -212,14 +212,14 @@ module _ (p : PagesView) (k : KeeperView) (cursor : Option GuestPage) (passes : 
           record {
             own = table;
             answer = subst (λ o. IsAnswerUnless o b' (MovePage page node) (Ok Done)) (sym move_allowed) (subst (λ o. IsDoneOr o (Ok Done)) (sym (move_needs false away)) tt);
-            state = ap (λ x. state_of x cursor passes) (settled_pages p m q k l page node row.bytes h table r (λ r. record r { home = node }) (moved node) goes rows);
+            state = ap (λ x. state_of x cursor passes) (settled_pages h table r (λ r. record r { home = node }) (moved node) goes rows);
             steps = subst (λ o. MatchOption o ⊥ (MovesTo (lying p k) (lying q l) node)) (sym found)
                 (subst (λ x. MatchBool x (IsIdle (lying p k) (lying q l)) (Resettles (lying p k) (lying q l) row.page node row.bytes)) (sym away)
-                (subst (λ x. Resettles (lying p k) (lying q l) x node row.bytes) (sym (found_page page p.rows row found)) (settled_steps p m q k l page node row.bytes h table r (λ r. record r { home = node }) (moved node) goes rows)));
+                (subst (λ x. Resettles (lying p k) (lying q l) x node row.bytes) (sym (found_page page p.rows row found)) (settled_steps h table r (λ r. record r { home = node }) (moved node) goes rows)));
             frames = subst (λ o. Does k l (listed o)) (sym (move_needs false away)) r.does;
             shown = tt;
           },
-          settled_laid p m q k l page node row.bytes h table r (λ r. record r { home = node }) (moved node) goes rows (record {
+          settled_laid h table r (λ r. record r { home = node }) (moved node) goes rows (record {
             pages = λ x. cond_both (x.home == node) x (record x { home = node; state = Private }) (λ y. y.page ≡ x.page) (λ _. refl) (λ _. refl);
             row = subst (λ o. MatchOption o ⊥ (λ x. ((moved node x).state ≡ Private) × ((moved node x).home ≡ node) × ((moved node x).bytes ≡ row.bytes))) (sym found)
                 (ap (λ (x : Row). x.state) to, ap (λ (x : Row). x.home) to, ap (λ (x : Row). x.bytes) to);
@@ -230,12 +230,12 @@ module _ (p : PagesView) (k : KeeperView) (cursor : Option GuestPage) (passes : 
 
 module _ (p : PagesView) (k : KeeperView) (cursor : Option GuestPage) (passes : ℕ) (page : GuestPage) (row : Row) (rise : InPageOrder p.rows) (found : row_at page p.rows ≡ Some row) (h : IsLaid p k) (left : Option ℕ) (was : left ≡ p.frame page) where
   gone_hand : Placed p.shape p.knobs.merge_across_nodes k.ledger (without_page page p.rows) (lies_on page None p.frame) p.dups (p.frame page)
-  gone_hand = removed p.shape p.knobs.merge_across_nodes k.ledger p.rows p.frame p.dups page row rise found h.placed
+  gone_hand = removed page row rise found h.placed
 
   -- the frame of a page that goes, if it has one, may be left
   pub drop_may : IfSome left (λ f. May k (Sub f))
   drop_may = subst (λ o. IfSome o (λ f. May k (Sub f))) (sym was)
-      (may_leave k p.shape h.same p.knobs.merge_across_nodes (without_page page p.rows) (lies_on page None p.frame) p.dups (p.frame page) gone_hand)
+      (may_leave k h.same (p.frame page) gone_hand)
 
   -- `Drop` is carried out, and all lies lawfully, where the page has left its frame and its row is gone
   pub drop_gone : (q : PagesView) (l : KeeperView) → q ≡ record p { rows = without_page page p.rows; frame = lies_on page None p.frame; restless = q.restless } → Made k l (leaving left)
@@ -248,11 +248,11 @@ module _ (p : PagesView) (k : KeeperView) (cursor : Option GuestPage) (passes : 
           answer = subst (λ o. IsAnswerUnless (refused_if (not (is_some o)) UnknownPage None) (state_of p cursor passes) (Drop page) (Ok Done)) (sym found) tt;
           state = ap (λ x. state_of x cursor passes) goes;
           steps = record { made = leaves; frame = ap (λ (x : PagesView). x.frame) goes };
-          frames = quiet_does k l (leaving (p.frame page)) leaves (quiet_leaving (p.frame page));
+          frames = quiet_does leaves (quiet_leaving (p.frame page));
           shown = tt;
         },
-        subst (λ (x : PagesView). IsLaid x l) (sym goes) (laid_rows p k h (without_page page p.rows) (lies_on page None p.frame) q.restless l table (left_spends k l (p.frame page) leaves)
-            (left_placed k l (p.frame page) leaves p.shape p.knobs.merge_across_nodes (without_page page p.rows) (lies_on page None p.frame) p.dups gone_hand)),
+        subst (λ (x : PagesView). IsLaid x l) (sym goes) (laid_rows h (without_page page p.rows) (lies_on page None p.frame) q.restless l table (left_spends (p.frame page) leaves)
+            (left_placed (p.frame page) leaves gone_hand)),
       )
 
 -- ---------------------------------------------------------------- a page that comes
@@ -311,7 +311,7 @@ module _ (p m : PagesView) (k l : KeeperView) (cursor : Option GuestPage) (passe
   pub register_come : (q : PagesView) (g : ℕ) → q ≡ record m { rows = change_row page on_its_own m.rows; frame = lies_on page (Some g) m.frame; restless = q.restless } → length bytes ≡ PAGE_WORDS → Provides k l node bytes g
       → CarriedOut (book p k cursor passes) (book q l cursor passes) (Register page node bytes) (Ok Done) × IsLaid q l
   register_come q g goes long provides =
-      let taken = took k l node bytes g (subst (λ (x : Shape). node < x.nodes) (sym h.same) less) (lawful p.shape p.knobs.merge_across_nodes k p.rows p.frame p.dups None h.same h.placed) long provides in
+      let taken = took (subst (λ (x : Shape). node < x.nodes) (sym h.same) less) (lawful k h.same h.placed) long provides in
       let table = taken.does.1.table in
       let one = row_of_page page (with_row fresh p.rows) fresh (ordered_with fresh p.rows rise) found_fresh in
       let rows : change_row page on_its_own (with_row fresh p.rows) ≡ with_row fresh p.rows = change_still page on_its_own (with_row fresh p.rows) (λ i x lt of_page. subst (λ r. on_its_own r ≡ r) (sym (one i x lt of_page)) refl) in
@@ -326,15 +326,15 @@ module _ (p m : PagesView) (k l : KeeperView) (cursor : Option GuestPage) (passe
           frames = taken.does;
           shown = tt;
         },
-        subst (λ (x : PagesView). IsLaid x l) (sym there) (laid_rows p k h (with_row fresh p.rows) (lies_on page (Some g) p.frame) q.restless l table taken.spent
-            (come_there p.shape p.knobs.merge_across_nodes k l p.rows p.frame p.dups h.same node bytes g taken h.placed fresh absent refl refl refl)),
+        subst (λ (x : PagesView). IsLaid x l) (sym there) (laid_rows h (with_row fresh p.rows) (lies_on page (Some g) p.frame) q.restless l table taken.spent
+            (come_there h.same taken h.placed fresh absent refl refl refl)),
       )
 
   -- `Register` is refused, and all lies lawfully, where no frame of the node was left and the page went again
   pub register_turned : (q : PagesView) → p.frame page ≡ None → q ≡ record m { rows = without_page page m.rows; frame = lies_on page None m.frame; restless = q.restless } → FindsNone k l node
       → CarriedOut (book p k cursor passes) (book q l cursor passes) (Register page node bytes) (Err (NoFrame node)) × IsLaid q l
   register_turned q nowhere_there goes searched =
-      let turns = turned p k l node h less searched in
+      let turns = turned h less searched in
       let table = ap (λ (z : KeeperView). z.table) searched.reaped.after in
       let rows = without_come fresh p.rows rise absent in
       let frame : lies_on page None m.frame ≡ p.frame = ap (lies_on page None) others ∙ lies_again page (m.frame page) None p.frame ∙ lies_still page None p.frame nowhere_there in
@@ -347,5 +347,5 @@ module _ (p m : PagesView) (k l : KeeperView) (cursor : Option GuestPage) (passe
           frames = (turns.left.part, turns.left.did);
           shown = turns.left;
         },
-        subst (λ (x : PagesView). IsLaid x l) (sym back) (laid_rows p k h p.rows p.frame q.restless l table (searched_spends k l node searched.reaped) turns.laid.placed),
+        subst (λ (x : PagesView). IsLaid x l) (sym back) (laid_rows h p.rows p.frame q.restless l table (searched_spends node searched.reaped) turns.laid.placed),
       )

@@ -19,7 +19,7 @@ pub record Lives (k : Ledger) (dups : List DupRow) (sh : Shape) (frame : Frames)
   -- the frame that the dup's place names is Stable
   pub kind : (frame_at k (place_frame k d.place)).kind ≡ Stable
 
-module _ (sh : Shape) (across : ℕ) (k : Ledger) (rows : List Row) (frame : Frames) (dups : List DupRow) (p : Placed sh across k rows frame dups None) where
+module _ {sh : Shape} {across : ℕ} {k : Ledger} {rows : List Row} {frame : Frames} {dups : List DupRow} (p : Placed sh across k rows frame dups None) where
   -- a dup with items has one on the frame that its place names, in the life that it names
   pub lives : (n : ℕ) (d : DupRow) → n < length dups → (item_count rows (get_or dups n d) ≡ 0 → ⊥) → Lives k dups sh frame (get_or dups n d)
   lives n d lt some =
@@ -84,9 +84,9 @@ empty_from_most p (d ∷ ds) =
     cond_both (d.place == p) (empty_from (p + 1) ds) p (λ n. n ≤ p + length (d ∷ ds)) (λ _. omega (arith, rest)) (λ _. omega arith)
 
 -- beside a page with a frame of its own a new dup finds a place: where no dup is stale, each has a frame, and the page's is one more
-pub finds_place : (sh : Shape) (across : ℕ) (k : Ledger) (rows : List Row) (frame : Frames) (dups : List DupRow) → Placed sh across k rows frame dups None → InPlaceOrder dups
+pub finds_place : {sh : Shape} {across : ℕ} {k : Ledger} {rows : List Row} {frame : Frames} {dups : List DupRow} → Placed sh across k rows frame dups None → InPlaceOrder dups
     → (row : Row) → IsServed sh k dups row (frame row.page) → shared_state row.state ≡ false → new_place (frames_of sh) rows dups < frames_of sh
-finds_place sh across k rows frame dups p rise row served alone =
+finds_place {sh} {k = k} {rows} {frame} {dups} p rise row served alone =
     cond_both (nat_lt empty (frames_of sh)) empty (place_or empty (find (is_stale rows) dups)) (λ n. n < frames_of sh) (λ fits. ltb-true empty (frames_of sh) fits) (λ _. go (find (is_stale rows) dups) refl)
   where
     empty : ℕ
@@ -101,7 +101,7 @@ finds_place sh across k rows frame dups p rise row served alone =
     go None is =
         let none = find_none (is_stale rows) dups is in
         let live : (n : ℕ) (d : DupRow) → n < length dups → Lives k dups sh frame (get_or dups n d) = λ n d l.
-        lives sh across k rows frame dups p n d l (λ zero_is. let not_stale = none n d l in absurd (grind (arith, nat_tests, not_stale, zero_is))) in
+        lives p n d l (λ zero_is. let not_stale = none n d l in absurd (grind (arith, nat_tests, not_stale, zero_is))) in
         let of_dup : DupRow → ℕ = λ d. place_frame k d.place in
         let all = own.0 ∷ map of_dup dups in
         let inside : All (λ f. f < frames_of sh) all = All-cons (λ f. f < frames_of sh) own.0 (map of_dup dups) own.2.0.frame
@@ -123,19 +123,19 @@ finds_place sh across k rows frame dups p rise row served alone =
             let of_dup : DupRow → ℕ = λ d. place_frame k d.place in
             let wide = length-map dups of_dup in
             let l' : m < length dups = omega (arith, l, wide) in
-            ne_eqb _ _ (λ same. own_apart sh across k rows frame dups p row own.0 served alone own.1 (get_or dups m d0) (live m d0 l') (same ∙ get_or-map of_dup dups m d0 f l'))
+            ne_eqb _ _ (λ same. own_apart p row own.0 served alone own.1 (get_or dups m d0) (live m d0 l') (same ∙ get_or-map of_dup dups m d0 f l'))
         differ live (suc n) (suc m) f before l =
             let of_dup : DupRow → ℕ = λ d. place_frame k d.place in
             let wide = length-map dups of_dup in
             let l' : m < length dups = omega (arith, l, wide) in
             let l'' : n < length dups = omega (arith, before, l') in
-            ne_eqb _ _ (λ same. frames_apart sh across k rows frame dups p rise n m d0 (omega (arith, before)) l' (live n d0 l'') (live m d0 l')
+            ne_eqb _ _ (λ same. frames_apart p rise n m d0 (omega (arith, before)) l' (live n d0 l'') (live m d0 l')
             (sym (get_or-map of_dup dups n d0 f l'') ∙ same ∙ get_or-map of_dup dups m d0 f l'))
 
 -- beside each page with a frame of its own a new dup finds a place, in a sound book that lies lawfully
-pub finds_places : (p : PagesView) (k : KeeperView) (cursor : Option GuestPage) (passes : ℕ) → IsSound (state_of p cursor passes) → IsLaid p k → FindsPlace (state_of p cursor passes)
-finds_places p k cursor passes s h row in_rows alone =
-    finds_place p.shape p.knobs.merge_across_nodes k.ledger p.rows p.frame p.dups h.placed s.dups_rise row
+pub finds_places : {p : PagesView} {k : KeeperView} {cursor : Option GuestPage} {passes : ℕ} → IsSound (state_of p cursor passes) → IsLaid p k → FindsPlace (state_of p cursor passes)
+finds_places {p} {k} {cursor} {passes} s h row in_rows alone =
+    finds_place h.placed s.dups_rise row
     (subst (λ r. IsServed p.shape k.ledger p.dups r (p.frame r.page)) in_rows.2 (h.placed.each_row in_rows.0 row in_rows.1)) alone
 
 -- the numbers of dups are below 2^50, where the number of the next dup is 2^50 at most

@@ -27,7 +27,7 @@ any_left None none = refl
 
 -- a keeper that makes no step gives no frame
 pub does_nothing : (k : KeeperView) → Does k k []
-does_nothing k = quiet_does k k [] (made_none k k refl) tt
+does_nothing k = quiet_does (made_none refl) tt
 
 -- the row of a page is left: a guest's, or any
 module _ {p : PagesView} {k : KeeperView} (guest : Option ℕ) {page : GuestPage} {held : Held} (told : IsHeld p page held) (h : IsLaid p k)
@@ -68,7 +68,7 @@ module _ {p : PagesView} {k : KeeperView} (guest : Option ℕ) {page : GuestPage
               cond_both (there r) (left_by guest r) r (λ x. LodgesAs x r)
               (λ same. subst (λ (x : Row). LodgesAs (left_by guest x) x) (sym (one i d lt same)) (lodges guest))
               (λ _. (refl, refl, inl refl)) in
-              subst (λ (x : PagesView). IsLaid x k) (sym goes) (laid_mapped p k h (λ r. if there r then left_by guest r else r) q.restless
+              subst (λ (x : PagesView). IsLaid x k) (sym goes) (laid_mapped h (λ r. if there r then left_by guest r else r) q.restless
               (λ r. cond_both (there r) (left_by guest r) r (λ x. x.page ≡ r.page) (λ _. page_left guest r) (λ _. refl)) lodged);
         }
 
@@ -117,15 +117,15 @@ module _ {p : PagesView} {k : KeeperView} (guest : Option ℕ) {page : GuestPage
           row = row;
           found = told.found;
           given = ap length (sym all);
-          pages = settled_pages p m q k l page row.home row.bytes h table got d (left_by guest) goes rows;
+          pages = settled_pages h table got d (left_by guest) goes rows;
           steps = subst (λ rs. ResettlesEach rs (lying p k) (lying q l)) (sym all) (
             lying q l,
             subst (λ x. Resettles (lying p k) (lying q l) x row.home row.bytes) (sym (found_page page p.rows row told.found))
-                (settled_steps p m q k l page row.home row.bytes h table got d (left_by guest) goes rows),
+                (settled_steps h table got d (left_by guest) goes rows),
             record { keeper = refl; frame = refl },
           );
           does = subst (λ rs. Does k l (map (λ (x : Row). x.home) rs)) (sym all) got.does;
-          laid = settled_laid p m q k l page row.home row.bytes h table got d (left_by guest) goes rows (record {
+          laid = settled_laid h table got d (left_by guest) goes rows (record {
             pages = page_left guest;
             row = subst (λ o. MatchOption o ⊥ (λ (x : Row). ((left_by guest x).state ≡ Private) × ((left_by guest x).home ≡ row.home)
                 × ((left_by guest x).bytes ≡ row.bytes))) (sym told.found)
@@ -240,7 +240,7 @@ module _ {p q : PagesView} {k l : KeeperView} {guest : Option ℕ} {count : ℕ}
               (each_then met (shared_of h.row) (lying p k) (lying q l) (lying v w) u.each h.steps);
           does = subst (λ xs. Does k w (map (λ (x : Row). x.home) xs)) (sym more)
               (subst (Does k w) (sym (map-append (λ (x : Row). x.home) met (shared_of h.row)))
-              (does_then k l w (map (λ (x : Row). x.home) met) _ u.does h.does));
+              (does_then u.does h.does));
           laid = h.laid;
           few =
               let far = further guest last q.rows page u.fits told in

@@ -20,7 +20,7 @@ is_unmerged rows k (Some row) at = subst (λ o. MatchOption o ⊥ (λ r. row.hom
 gave_does : (v w : KeeperView) (nodes : List ℕ) (at : Option Row) → Gave v w nodes at → Does v w nodes
 gave_does v w nodes None h = h
 gave_does v w nodes (Some row) h = let u = h.0 in let first = h.1 in let left = h.2 in
-    subst (λ ns. Does v w ns) (append-nil nodes) (_, chained v u w nodes [] first.0 left.part first.1 left.did)
+    subst (λ ns. Does v w ns) (append-nil nodes) (_, chained first.1 left.did)
 
 -- and what the log shows of them
 gave_shown : (b : BookState) (command : Command) (k l : KeeperView) (nodes : List ℕ) (count : ℕ) (at : Option Row)
@@ -127,7 +127,7 @@ module _ {p q : PagesView} {k : KeeperView} (cursor : Option GuestPage) (passes 
   -- rows and dups lie lawfully once a guest's rows are in the scan
   pub mergeable_laid : IsLaid q k
   mergeable_laid = subst (λ (x : PagesView). IsLaid x k) (sym goes)
-      (laid_mapped p k h (λ r. if is_of guest r then in_scan r else r) q.restless
+      (laid_mapped h (λ r. if is_of guest r then in_scan r else r) q.restless
       (λ r. cond_both (is_of guest r) (in_scan r) r (λ x. x.page ≡ r.page) (λ _. refl) (λ _. refl))
       (λ i d lt. let r = get_or p.rows i d in
       cond_both (is_of guest r) (in_scan r) r (λ x. LodgesAs x r) (λ _. (refl, refl, inl refl)) (λ _. (refl, refl, inl refl))))
@@ -188,7 +188,7 @@ module _ {p m : PagesView} {k l : KeeperView} (cursor : Option GuestPage) (passe
         carried q cursor (ap (λ (x : PagesView). x.frame) goes) (ap (λ x. state_of x cursor passes) goes
             ∙ (λ t. record (state_of (u.pages t) cursor passes) { knobs = record (same t) { run = 0 } })
             ∙ (λ t. record b { rows = rows t; knobs = record p.knobs { run = 0 } }) ∙ by stop some),
-        subst (λ (x : PagesView). IsLaid x l) (sym goes) (retuned m (record knobs { run = 0 }) l (inl across) u.laid),
+        subst (λ (x : PagesView). IsLaid x l) (sym goes) (retuned (record knobs { run = 0 }) (inl across) u.laid),
       )
     where
       by : (s : Option Fault) → is_some s ≡ true → record b {
@@ -220,10 +220,10 @@ module _ {p m : PagesView} {k l : KeeperView} (cursor : Option GuestPage) (passe
               (ap (λ x. state_of x None passes) goes
               ∙ (λ t. record (state_of (wide t) None passes) { knobs = record knobs { run = 2 } })
               ∙ (λ t. record (state_of (u.pages t) None passes) { rows = rows t; knobs = record (same t) { run = 2 } }) ∙ by stop none),
-          subst (λ (x : PagesView). IsLaid x l) (sym goes) (retuned w (record knobs { run = 2 }) l
+          subst (λ (x : PagesView). IsLaid x l) (sym goes) (retuned (record knobs { run = 2 })
               (inl (across ∙ sym (ap (λ (x : PagesView). x.knobs.merge_across_nodes) wide)))
               (subst (λ (x : PagesView). IsLaid x l) (sym wide)
-              (laid_mapped m l u.laid unshared w.restless (λ r. refl) (λ i d lt. (refl, refl, inr (unshare_none i d lt, refl)))))),
+              (laid_mapped u.laid unshared w.restless (λ r. refl) (λ i d lt. (refl, refl, inr (unshare_none i d lt, refl)))))),
         )
       where
         by : (s : Option Fault) → is_some s ≡ false

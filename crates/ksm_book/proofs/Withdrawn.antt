@@ -13,7 +13,8 @@ elsewhere_is q d e same = both_ways (d.place == q) (not-true (d.place == q) e) (
 pub elsewhere_so : (q : ℕ) (d : DupRow) → d.place ≢ q → elsewhere q d ≡ true
 elsewhere_so q d ne = ap not (ne_eqb d.place q ne)
 
-module _ (sh : Shape) (across : ℕ) (k : Ledger) (rows : List Row) (frame : Frames) (dups : List DupRow) (hand : Option ℕ) (q : ℕ) (inside : q < frames_of sh) where
+module _ {sh : Shape} {across : ℕ} {k : Ledger} {rows : List Row} {frame : Frames} {dups : List DupRow} {hand : Option ℕ} (q : ℕ) (inside : q < frames_of sh)
+    (p : Placed sh across k rows frame dups hand) where
   -- what the keeper knows once the place names nothing
   abbrev pub emptied : Ledger
   emptied = record { frames = k.frames; places = set k.places q None }
@@ -35,8 +36,8 @@ module _ (sh : Shape) (across : ℕ) (k : Ledger) (rows : List Row) (frame : Fra
   staying P Q f h = λ n x lt. f (get_or (filter (elsewhere q) dups) n x) (elsewhere_is q (get_or (filter (elsewhere q) dups) n x) (filter_passes (elsewhere q) dups n x lt)) (All-filter (elsewhere q) P dups h n x lt)
 
   -- rows and dups lie lawfully where the place names nothing and the dup that stood there is gone
-  pub withdrawn : Placed sh across k rows frame dups hand → Placed sh across emptied rows frame (filter (elsewhere q) dups) hand
-  withdrawn p = record {
+  pub withdrawn : Placed sh across emptied rows frame (filter (elsewhere q) dups) hand
+  withdrawn = record {
     frames_long = p.frames_long;
     places_long = length-set k.places q None ∙ p.places_long;
     widths = p.widths;

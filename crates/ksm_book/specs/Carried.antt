@@ -1,8 +1,10 @@
--- A command carried out: what it answered, the state after it, the steps that it made on the frames, and where each page lies then (own).
+-- A command carried out: what it answered, the state after it, the steps that it made on the frames, and where each
+-- page lies then (own).
 use Rattle.std.specs.Prelude.{◌≡◌, ℕ, ◌==◌, List, take, Option, Some, None, Ok, Err, MatchBool, MatchOption}
 use Rattle.ksm_base.specs.declared.row.Row.{Row}
 use Rattle.ksm_base.specs.declared.command.Command.{Command}
-use Rattle.ksm_base.specs.declared.command.Command.TheVariants.{Register, Drop, Store, Scan, Prune, Unmerge, MovePage, MoveDup, SetRun, SetAcross, SetLimit}
+use Rattle.ksm_base.specs.declared.command.Command.TheVariants.{Register, Drop, Store, Scan, Prune, Unmerge}
+use Rattle.ksm_base.specs.declared.command.Command.TheVariants.{MovePage, MoveDup, SetRun, SetAcross, SetLimit}
 use Rattle.ksm_base.specs.declared.reply.Reply.TheVariants.{Done, Scanned, Pruned, Unmerged}
 use Rattle.ksm_base.specs.declared.fault.Fault.{Fault}
 use Rattle.ksm_base.specs.declared.fault.Fault.TheVariants.{NoFrame, InUse}
@@ -13,14 +15,18 @@ use Rattle.ksm_base.specs.Rows.{row_at, shared_state}
 use Rattle.ksm_base.specs.Journal.{Entry}
 use Rattle.ksm_base.specs.State.{BookState}
 use Rattle.frame_table.specs.Named.{KeeperView}
-use Rattle.ksm_book.specs.Commands.{Mapped, IsIdle, TurnsAway, Admits, Resettles, ResettlesEach, Moves, FindsHeld, Performs, rewriting, emptying, pruning, scanning}
+use Rattle.ksm_book.specs.Commands.{Mapped, IsIdle, TurnsAway, Admits, Resettles, ResettlesEach, Moves, FindsHeld}
+use Rattle.ksm_book.specs.Commands.{Performs, rewriting, emptying, pruning, scanning}
 use Rattle.ksm_book.specs.Steps.{Does}
 use Rattle.ksm_pages.specs.Paged.{Lodging, frame_of}
 use Rattle.ksm_book.specs.Whole.{BookView, mapped, nodes_got, HasShown}
 
 -- a page with a frame of its own is stored to in place, a merged or Zero one gets a new frame first
 abbrev pub StoresTo : Mapped → Mapped → List ℕ → Row → Type 0
-StoresTo v w bytes row = MatchBool (shared_state row.state) (Resettles v w row.page row.home bytes) (Performs v w (rewriting v.frame row.page bytes))
+StoresTo v w bytes row =
+    MatchBool (shared_state row.state)
+    (Resettles v w row.page row.home bytes)
+    (Performs v w (rewriting v.frame row.page bytes))
 
 -- a page that moves to another node gets a new frame there
 abbrev pub MovesTo : Mapped → Mapped → ℕ → Row → Type 0
@@ -34,20 +40,29 @@ UnmergesTo rows (Some fault) v w = ⊥
 
 -- a knob that gets another value: the stale dups go first
 abbrev pub PrunesUnless : BookView → BookView → ℕ → ℕ → Type 0
-PrunesUnless v w value knob = MatchBool (value == knob) (IsIdle (mapped v) (mapped w)) (Performs (mapped v) (mapped w) (pruning v.state.rows v.state.dups v.frame))
+PrunesUnless v w value knob =
+    MatchBool (value == knob)
+    (IsIdle (mapped v) (mapped w))
+    (Performs (mapped v) (mapped w) (pruning v.state.rows v.state.dups v.frame))
 
 -- the steps of each command and answer, in their order, and no others; of all that is not listed there are none
 abbrev pub TakesSteps : BookView → BookView → Command → Answer → Type 0
 TakesSteps v w (Register page node bytes) (Ok Done) = Admits (mapped v) (mapped w) page node bytes
 TakesSteps v w (Drop page) (Ok Done) = Performs (mapped v) (mapped w) (emptying v.frame page)
-TakesSteps v w (Store page bytes) (Ok Done) = MatchOption (row_at page v.state.rows) ⊥ (StoresTo (mapped v) (mapped w) bytes)
+TakesSteps v w (Store page bytes) (Ok Done) =
+    MatchOption (row_at page v.state.rows) ⊥ (StoresTo (mapped v) (mapped w) bytes)
 TakesSteps v w (Scan n) (Ok (Scanned made stop)) = Performs (mapped v) (mapped w) (scanning made v.state v.frame)
 TakesSteps v w Prune (Ok (Pruned count)) = Performs (mapped v) (mapped w) (pruning v.state.rows v.state.dups v.frame)
-TakesSteps v w (Unmerge guest) (Ok (Unmerged k stop)) = UnmergesTo (take k (shared_rows (is_of guest) v.state)) stop (mapped v) (mapped w)
-TakesSteps v w (MovePage page node) (Ok Done) = MatchOption (row_at page v.state.rows) ⊥ (MovesTo (mapped v) (mapped w) node)
-TakesSteps v w (MoveDup place node) (Ok Done) = MatchOption (live_dup_at v.state place) ⊥ (λ d. Moves (mapped v) (mapped w) v.state.rows d node)
-TakesSteps v w (MoveDup place node) (Err InUse) = MatchOption (live_dup_at v.state place) ⊥ (λ d. FindsHeld (mapped v) (mapped w) v.state.rows d node)
-TakesSteps v w (SetRun run) (Ok (Unmerged k stop)) = UnmergesTo (take k (shared_rows every_row v.state)) stop (mapped v) (mapped w)
+TakesSteps v w (Unmerge guest) (Ok (Unmerged k stop)) =
+    UnmergesTo (take k (shared_rows (is_of guest) v.state)) stop (mapped v) (mapped w)
+TakesSteps v w (MovePage page node) (Ok Done) =
+    MatchOption (row_at page v.state.rows) ⊥ (MovesTo (mapped v) (mapped w) node)
+TakesSteps v w (MoveDup place node) (Ok Done) =
+    MatchOption (live_dup_at v.state place) ⊥ (λ d. Moves (mapped v) (mapped w) v.state.rows d node)
+TakesSteps v w (MoveDup place node) (Err InUse) =
+    MatchOption (live_dup_at v.state place) ⊥ (λ d. FindsHeld (mapped v) (mapped w) v.state.rows d node)
+TakesSteps v w (SetRun run) (Ok (Unmerged k stop)) =
+    UnmergesTo (take k (shared_rows every_row v.state)) stop (mapped v) (mapped w)
 TakesSteps v w (SetAcross across) (Ok Done) = PrunesUnless v w across v.state.knobs.merge_across_nodes
 TakesSteps v w (SetLimit limit) (Ok Done) = PrunesUnless v w limit v.state.knobs.max_page_sharing
 TakesSteps v w command (Err (NoFrame node)) = TurnsAway (mapped v) (mapped w) node

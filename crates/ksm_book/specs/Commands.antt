@@ -1,4 +1,5 @@
--- Commands as steps of the keeper: what each part of a command does to the frames, in order, and on which frame each page lies after it (own).
+-- Commands as steps of the keeper: what each part of a command does to the frames, in order, and on which frame each
+-- page lies after it (own).
 -- Carried.antt says which of them each command and answer make.
 use Rattle.std.specs.Prelude.{◌≡◌, ℕ, zero, suc, ◌-◌, ◌==◌, List, [], ◌∷◌, ◌++◌, map, filter, find, replicate}
 use Rattle.std.specs.Prelude.{Option, Some, None, if◌then◌else◌}
@@ -10,7 +11,8 @@ use Rattle.ksm_base.specs.Rows.{shared_state, merged_into, item_count, is_stale}
 use Rattle.ksm_base.specs.State.{BookState, place_count}
 use Rattle.ksm_base.specs.Visit.{best_dup, is_for_zero, partner, new_place, next_row, visit_begun, visits}
 use Rattle.frame_core.specs.declared.event.KeeperStep.{KeeperStep}
-use Rattle.frame_core.specs.declared.event.KeeperStep.TheVariants.{Reap, Raise, Open, Add, Sub, Publish, Withdraw, Freeze}
+use Rattle.frame_core.specs.declared.event.KeeperStep.TheVariants.{Reap, Raise, Open, Add, Sub, Publish}
+use Rattle.frame_core.specs.declared.event.KeeperStep.TheVariants.{Withdraw, Freeze}
 use Rattle.frame_core.specs.declared.frame.Kind.TheVariants.{Stable, Dying}
 use Rattle.frame_core.specs.Ledger.{frame_at}
 use Rattle.frame_table.specs.Named.{KeeperView}
@@ -93,16 +95,18 @@ pub record Resettles (v w : Mapped) (page : GuestPage) (node : ℕ) (bytes : Lis
 -- the pages of these rows are resettled at their homes, one after another
 abbrev pub ResettlesEach : List Row → Mapped → Mapped → Type 0
 ResettlesEach [] v w = IsIdle v w
-ResettlesEach (row ∷ rows) v w = (between : Mapped) × Resettles v between row.page row.home row.bytes × ResettlesEach rows between w
+ResettlesEach (row ∷ rows) v w =
+    (between : Mapped) × Resettles v between row.page row.home row.bytes × ResettlesEach rows between w
 
--- a raised frame gets the bytes of another, so many references and a place: each word is loaded and each is stored, the frame is opened,
--- the further references come, and the place names it
+-- a raised frame gets the bytes of another, so many references and a place: each word is loaded and each is stored, the
+-- frame is opened, the further references come, and the place names it
 abbrev pub mounting : ℕ → ℕ → ℕ → ℕ → List ℕ → List KeeperStep
 mounting left frame place count bytes =
-    Raise frame ∷ (steps_of (loads left 0 bytes) ++ (steps_of (puts frame 0 bytes) ++ (Open frame ∷ (replicate (count - 1) (Add frame) ++ Publish place frame ∷ []))))
+    let named = replicate (count - 1) (Add frame) ++ Publish place frame ∷ [] in
+    Raise frame ∷ (steps_of (loads left 0 bytes) ++ (steps_of (puts frame 0 bytes) ++ (Open frame ∷ named)))
 
--- a dup, whose items are among the rows, moves: a frame of the node is found, the exchange of its own frame's count is made, and the one
--- found is mounted in its stead. All its items lie there
+-- a dup, whose items are among the rows, moves: a frame of the node is found, the exchange of its own frame's count is
+-- made, and the one found is mounted in its stead. All its items lie there
 pub record Moves (v w : Mapped) (rows : List Row) (dup : DupRow) (node : ℕ) : Type 0 where
   pub got : ℕ
   pub searched : KeeperView
@@ -110,10 +114,12 @@ pub record Moves (v w : Mapped) (rows : List Row) (dup : DupRow) (node : ℕ) : 
   pub frozen : KeeperView
   pub freezes : Made searched frozen (Freeze (dup_frame v.frame rows dup.number) ∷ [])
   pub exchanged : (frame_at frozen.ledger (dup_frame v.frame rows dup.number)).kind ≡ Dying
-  pub mounts : Made frozen w.keeper (mounting (dup_frame v.frame rows dup.number) got dup.place (item_count rows dup) dup.bytes)
+  pub mounts : Made frozen w.keeper
+      (mounting (dup_frame v.frame rows dup.number) got dup.place (item_count rows dup) dup.bytes)
   pub frame : w.frame ≡ instead (dup_frame v.frame rows dup.number) got v.frame
 
--- a dup's frame is held: a frame of the node was found, and the exchange of the dup's frame's count was tried and not made
+-- a dup's frame is held: a frame of the node was found, and the exchange of the dup's frame's count was tried and not
+-- made
 pub record FindsHeld (v w : Mapped) (rows : List Row) (dup : DupRow) (node : ℕ) : Type 0 where
   pub got : ℕ
   pub searched : KeeperView
@@ -146,17 +152,21 @@ emptying frame page = record { steps = leaving (frame page); frame = lies_on pag
 
 -- a page joins the dup on a frame: first comes a reference there, then the page leaves its own frame
 abbrev pub joining : Frames → GuestPage → ℕ → Deed
-joining frame page shared = record { steps = Add shared ∷ leaving (frame page); frame = lies_on page (Some shared) frame }
+joining frame page shared = record {
+  steps = Add shared ∷ leaving (frame page);
+  frame = lies_on page (Some shared) frame;
+}
 
 -- what a place names is withdrawn, where a dup stands there
 abbrev pub withdrawing : List DupRow → ℕ → List KeeperStep
 withdrawing dups place = if list_any (λ d. d.place == place) dups then Withdraw place ∷ [] else []
 
--- a new dup of a waiting page and the visited one: a stale dup leaves the place; the place names the waiting page's frame, the visited
--- page gets a reference there and leaves its own
+-- a new dup of a waiting page and the visited one: a stale dup leaves the place; the place names the waiting page's
+-- frame, the visited page gets a reference there and leaves its own
 abbrev pub founding : List DupRow → Frames → ℕ → GuestPage → GuestPage → Deed
 founding dups frame place waiting page = record {
-  steps = withdrawing dups place ++ (Publish place (frame_on frame waiting) ∷ Add (frame_on frame waiting) ∷ leaving (frame page));
+  steps = withdrawing dups place
+      ++ (Publish place (frame_on frame waiting) ∷ Add (frame_on frame waiting) ∷ leaving (frame page));
   frame = lies_on page (frame waiting) frame;
 }
 
@@ -166,12 +176,14 @@ pruning rows dups frame = record { steps = map (λ d. Withdraw d.place) (filter 
 
 -- what a visited page does with the one that waits for it
 abbrev pub pairing : Option Row → BookState → Frames → Row → Deed
-pairing (Some waiting) b frame row = founding b.dups frame (new_place (place_count b.shape) b.rows b.dups) waiting.page row.page
+pairing (Some waiting) b frame row =
+    founding b.dups frame (new_place (place_count b.shape) b.rows b.dups) waiting.page row.page
 pairing None b frame row = idle frame
 
 -- what a visited page does whose bytes have stayed
 abbrev pub staying : BookState → Frames → Row → Deed
-staying b frame row = if is_for_zero b.knobs row then emptying frame row.page else pairing (partner b.knobs b.rows row) b frame row
+staying b frame row =
+    if is_for_zero b.knobs row then emptying frame row.page else pairing (partner b.knobs b.rows row) b frame row
 
 -- what a visited page with a frame of its own does with the dup that it may join
 abbrev pub handling : Option DupRow → BookState → Frames → Row → Deed
@@ -180,7 +192,8 @@ handling None b frame row = if row.unchanged then staying b frame row else idle 
 
 -- what a visited page does
 abbrev pub row_visiting : BookState → Frames → Row → Deed
-row_visiting b frame row = if shared_state row.state then idle frame else handling (best_dup b.knobs b.rows b.dups row) b frame row
+row_visiting b frame row =
+    if shared_state row.state then idle frame else handling (best_dup b.knobs b.rows b.dups row) b frame row
 
 -- what the visit of the next row does, if there is one
 abbrev pub visiting_of : BookState → Frames → Option Row → Deed

@@ -1,5 +1,7 @@
--- Visits as a fold over pages: which pages a pass still visits, and what the visit of each does to the book and beside it (own).
-use Rattle.std.specs.Prelude.{◌≡◌, ℕ, zero, suc, Bool, true, false, List, [], ◌∷◌, fold, filter, map, Option, Some, None, if◌then◌else◌}
+-- Visits as a fold over pages: which pages a pass still visits, and what the visit of each does to the book and beside
+-- it (own).
+use Rattle.std.specs.Prelude.{◌≡◌, ℕ, zero, suc, Bool, true, false, List, [], ◌∷◌, fold, filter, map}
+use Rattle.std.specs.Prelude.{Option, Some, None, if◌then◌else◌}
 use Rattle.ksm_base.specs.declared.page.GuestPage.{GuestPage}
 use Rattle.ksm_base.specs.declared.row.Row.{Row}
 use Rattle.ksm_base.specs.Rows.{row_at, settled, shared_state}
@@ -23,8 +25,8 @@ restless_row (Some r) = is_restless r
 abbrev pub restless_at : GuestPage → List Row → Bool
 restless_at page rows = restless_row (row_at page rows)
 
--- what the visit of a row does beside, as the steps that it makes on frames: nothing where the row is shared, and the same wherever
--- the cursor stands and however many passes have ended
+-- what the visit of a row does beside, as the steps that it makes on frames: nothing where the row is shared, and the
+-- same wherever the cursor stands and however many passes have ended
 pub record IsBeside {X : Type 0} (step : BookState → X → Row → X) : Type 0 where
   pub shared : (b : BookState) (x : X) (row : Row) → shared_state row.state ≡ true → step b x row ≡ x
   pub alike : (b : BookState) (x : X) (row : Row) (cursor : Option GuestPage) (passes : ℕ)
@@ -55,7 +57,9 @@ begun s = (visit_begun s.0, s.1)
 -- n visits, with what they do beside: of the first part they are `visits`
 abbrev pub visits_beside : {X : Type 0} → (BookState → X → Row → X) → ℕ → BookState × X → BookState × X
 visits_beside step zero s = s
-visits_beside step (suc n) s = let t = begun (visits_beside step n s) in next_visited step t (next_row t.0.cursor t.0.rows)
+visits_beside step (suc n) s =
+    let t = begun (visits_beside step n s) in
+    next_visited step t (next_row t.0.cursor t.0.rows)
 
 -- the last of some pages, or where there are none the cursor before them
 abbrev pub last_of : Option GuestPage → List GuestPage → Option GuestPage

@@ -18,11 +18,16 @@ use Rattle.ksm_book.specs.Steps.{Log, Did, Does, HasNoFree}
 
 -- every lawful placement is still lawful, with another frame in hand
 abbrev pub Keeps : KeeperView → KeeperView → Option ℕ → Option ℕ → Type 0
-Keeps v w hand hand' = (across : ℕ) (rows : List Row) (frame : Frames) (dups : List DupRow) → Placed v.table.shape across v.ledger rows frame dups hand → Placed v.table.shape across w.ledger rows frame dups hand'
+Keeps v w hand hand' =
+    (across : ℕ) (rows : List Row) (frame : Frames) (dups : List DupRow)
+    → Placed v.table.shape across v.ledger rows frame dups hand
+    → Placed v.table.shape across w.ledger rows frame dups hand'
 
 -- there is a lawful placement
 abbrev pub IsLawful : KeeperView → Option ℕ → Type 0
-IsLawful v hand = (across : ℕ) × (rows : List Row) × (frame : Frames) × (dups : List DupRow) × Placed v.table.shape across v.ledger rows frame dups hand
+IsLawful v hand =
+    (across : ℕ) × (rows : List Row) × (frame : Frames) × (dups : List DupRow)
+    × Placed v.table.shape across v.ledger rows frame dups hand
 
 -- the lives of a frame in which it doesn't hold one page alone
 abbrev pub past_lives : Kind → ℕ → ℕ
@@ -40,9 +45,15 @@ spent k = sum_by spent_on k.frames
 abbrev pub holding : Note → List ℕ → Note
 holding note bytes = record { kind = note.kind; base = note.base; generation = note.generation; content = bytes }
 
+-- what is known of a frame, but for so many references more
+abbrev pub with_more : Note → ℕ → Note
+with_more note count = record note { base = note.base + count }
+
 -- of each of these frames that is dying still, a frame word with a count above zero was read in the part
 abbrev pub HasWaited : KeeperView → ℕ → ℕ → Log → Type 0
-HasWaited w low count part = (f : ℕ) → low ≤ f → f < low + count → (frame_at w.ledger f).kind ≡ Dying → (n : ℕ) × (1 ≤ count_in n) × Contains part (Reap f, n)
+HasWaited w low count part =
+    (f : ℕ) → low ≤ f → f < low + count
+    → (frame_at w.ledger f).kind ≡ Dying → (n : ℕ) × (1 ≤ count_in n) × Contains part (Reap f, n)
 
 -- no frame of the node is free, though each dying one was read: so no frame was given
 pub record NoneLeft (v w : KeeperView) (node : ℕ) : Type 0 where

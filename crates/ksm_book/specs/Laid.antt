@@ -1,12 +1,14 @@
 -- The pages as they lie in the keeper's frames, and the state of the book that they tell (own).
-use Rattle.std.specs.Prelude.{◌≡◌, ℕ, ◌≤◌, MatchOption, Result, Ok, Err, Option, None, Some, List, [], ◌∷◌}
+use Rattle.std.specs.Prelude.{◌≡◌, ℕ, ◌<◌, ◌≤◌, ◌&&◌, ◌==◌, find, MatchOption, Result, Ok, Err}
+use Rattle.std.specs.Prelude.{Option, None, Some, List, [], ◌∷◌}
 use Rattle.ksm_base.specs.declared.page.GuestPage.{GuestPage}
 use Rattle.ksm_base.specs.declared.row.PageState.TheVariants.{Private}
 use Rattle.ksm_base.specs.declared.fault.Fault.{Fault}
 use Rattle.ksm_base.specs.declared.fault.Fault.TheVariants.{InUse, NoFrame}
 use Rattle.ksm_base.specs.declared.row.DupRow.{DupRow}
 use Rattle.ksm_base.specs.declared.row.Row.{Row}
-use Rattle.ksm_base.specs.Rows.{change_row, row_at}
+use Rattle.ksm_base.specs.Rows.{change_row, has_items, row_at}
+use Rattle.ksm_base.specs.Sound.{IsSound}
 use Rattle.ksm_base.specs.State.{BookState}
 use Rattle.ksm_base.specs.Values.{IsShape}
 use Rattle.frame_table.specs.Named.{KeeperView}
@@ -14,6 +16,7 @@ use Rattle.ksm_book.specs.Placement.{Placed}
 use Rattle.ksm_book.specs.Steps.{Did, Does, loads}
 use Rattle.ksm_book.specs.Commands.{FindsHeld, Mapped, Moves, Resettles, TurnsAway}
 use Rattle.ksm_book.specs.Keeping.{spent, NoneLeft}
+use Rattle.ksm_book.specs.Mounted.{IsMoved}
 use Rattle.ksm_pages.specs.Paged.{PagesView, on_its_own}
 
 -- where each page lies, with the keeper of the frames
@@ -22,7 +25,15 @@ lying p k = record { frame = p.frame; keeper = k }
 
 -- the state of the book, by its pages, the cursor and the passes ended
 abbrev pub state_of : PagesView → Option GuestPage → ℕ → BookState
-state_of p cursor passes = record { shape = p.shape; rows = p.rows; dups = p.dups; knobs = p.knobs; cursor = cursor; passes = passes; next = p.next }
+state_of p cursor passes = record {
+  shape = p.shape;
+  rows = p.rows;
+  dups = p.dups;
+  knobs = p.knobs;
+  cursor = cursor;
+  passes = passes;
+  next = p.next;
+}
 
 -- rows and dups lie lawfully in the frames, and no more dups were made than lives were spent
 pub record IsLaid (p : PagesView) (k : KeeperView) : Type 0 where
@@ -34,15 +45,17 @@ pub record IsLaid (p : PagesView) (k : KeeperView) : Type 0 where
 -- by this change the row of a page is at home on a node, with these bytes and a frame of its own
 pub record Houses (change : Row → Row) (page : GuestPage) (node : ℕ) (bytes : List ℕ) (rows : List Row) : Type 0 where
   pub pages : (r : Row) → (change r).page ≡ r.page
-  pub row : MatchOption (row_at page rows) ⊥ (λ r. ((change r).state ≡ Private) × ((change r).home ≡ node) × ((change r).bytes ≡ bytes))
+  pub row : MatchOption (row_at page rows) ⊥
+      (λ r. ((change r).state ≡ Private) × ((change r).home ≡ node) × ((change r).bytes ≡ bytes))
 
--- a page got a frame of a node with these bytes, and its row has a frame of its own; once the row tells of home and bytes too, rows and
--- dups lie lawfully
+-- a page got a frame of a node with these bytes, and its row has a frame of its own; once the row tells of home and
+-- bytes too, rows and dups lie lawfully
 pub record Resettled (p q : PagesView) (k l : KeeperView) (page : GuestPage) (node : ℕ) (bytes : List ℕ) : Type 0 where
   pub pages : q ≡ record p { rows = change_row page on_its_own p.rows; frame = q.frame; restless = q.restless }
   pub resettles : Resettles (lying p k) (lying q l) page node bytes
   pub does : Does k l (node ∷ [])
-  pub placed : (change : Row → Row) → Houses change page node bytes p.rows → Placed p.shape p.knobs.merge_across_nodes l.ledger (change_row page change p.rows) q.frame p.dups None
+  pub placed : (change : Row → Row) → Houses change page node bytes p.rows
+      → Placed p.shape p.knobs.merge_across_nodes l.ledger (change_row page change p.rows) q.frame p.dups None
   pub spent : p.next ≤ spent l.ledger
 
 -- no frame of a node was left, and no page changed
@@ -53,11 +66,35 @@ pub record TurnedAway (p q : PagesView) (k l : KeeperView) (node : ℕ) : Type 0
   pub laid : IsLaid q l
 
 -- a dup moved to a frame of the node; or none was free; or a reader holds its frame
-abbrev pub MovesOr : {X : Type 0} → PagesView → PagesView → KeeperView → KeeperView → DupRow → ℕ → Result X Fault → Type 0
+abbrev pub MovesOr : {X : Type 0} → PagesView → PagesView → KeeperView → KeeperView → DupRow → ℕ → Result X Fault
+    → Type 0
 MovesOr p q k l dup node (Ok moved) = Moves (lying p k) (lying q l) p.rows dup node
 MovesOr p q k l dup node (Err (NoFrame n)) = TurnsAway (lying p k) (lying q l) n
 MovesOr p q k l dup node (Err InUse) = FindsHeld (lying p k) (lying q l) p.rows dup node
 MovesOr p q k l dup node (Err fault) = ⊥
+
+-- a dup may move to a frame of a node
+pub record MayMove (p : PagesView) (k : KeeperView) (dup : DupRow) (node : ℕ) : Type 0 where
+  -- rows and dups lie lawfully, and the book of these pages is sound
+  pub laid : IsLaid p k
+  pub sound : (cursor : Option GuestPage) × (passes : ℕ) × IsSound (state_of p cursor passes)
+  -- the dup is the one with items at its place
+  pub live : find (λ d. d.place == dup.place && has_items p.rows d) p.dups ≡ Some dup
+  -- there is such a node, and where pages don't merge across nodes it is the dup's own
+  pub exists : node < p.shape.nodes
+  pub home : p.knobs.merge_across_nodes ≡ 0 → node ≡ dup.tree
+
+-- a dup was to move to a frame of a node; the result tells whether it did
+pub record HasRemounted {X : Type 0} (p q : PagesView) (k l : KeeperView) (dup : DupRow) (node : ℕ)
+    (result : Result X Fault) : Type 0 where
+  -- but for where its pages lie, the pages are as they were
+  pub rest : q ≡ record p { frame = q.frame }
+  -- rows and dups lie lawfully
+  pub laid : IsLaid q l
+  -- what the keeper's log shows
+  pub shown : IsMoved k l dup.place node result
+  -- the steps that were made, and where each page lies after them
+  pub moves : MovesOr p q k l dup node result
 
 -- the keeper loaded the bytes from the frame, each word once, if there was a page to read and it has a frame
 abbrev pub LoadsIf : Option ℕ → Option (List ℕ) → KeeperView → KeeperView → Type 0

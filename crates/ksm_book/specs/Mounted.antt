@@ -1,13 +1,34 @@
 -- What the keeper does where a dup moves to another frame (own).
-use Rattle.std.specs.Prelude.{◌≡◌, ◌≢◌, ℕ, [], ◌∷◌, Contains, Result, Ok, Err}
+use Rattle.std.specs.Prelude.{◌≡◌, ◌≢◌, ◌<◌, ◌≤◌, ℕ, [], ◌∷◌, Contains, Result, Ok, Err, length}
+use Rattle.ksm_base.specs.declared.page.TheConstants.{PAGE_WORDS}
+use Rattle.ksm_base.specs.Values.{frames_of}
 use Rattle.ksm_base.specs.declared.fault.Fault.{Fault}
 use Rattle.ksm_base.specs.declared.fault.Fault.TheVariants.{NoFrame, InUse}
 use Rattle.frame_core.specs.declared.event.KeeperStep.TheVariants.{Raise, Publish, Freeze}
+use Rattle.frame_core.specs.declared.frame.Kind.TheVariants.{Free, Dying}
 use Rattle.frame_core.specs.State.{count_in}
-use Rattle.frame_core.specs.Ledger.{frame_at}
+use Rattle.frame_core.specs.Ledger.{frame_at, named_at, IsLoose}
 use Rattle.frame_table.specs.Named.{KeeperView}
 use Rattle.ksm_book.specs.Keeping.{NoneLeft}
 use Rattle.ksm_book.specs.Steps.{Log, Did}
+
+-- a frame may take the place of another at a place, with so many references
+pub record MayMount (v : KeeperView) (left frame place count : ℕ) : Type 0 where
+  -- it is a free one
+  pub exists : frame < frames_of v.table.shape
+  pub known : frame < length v.ledger.frames
+  pub free : (frame_at v.ledger frame).kind ≡ Free
+  -- the other is dying
+  pub old : left < frames_of v.table.shape
+  pub dying : (frame_at v.ledger left).kind ≡ Dying
+  -- each frame holds the words of a page
+  pub wide : (f : ℕ) → length (frame_at v.ledger f).content ≡ PAGE_WORDS
+  -- there is such a place, and what it names is not shown
+  pub at : place < frames_of v.table.shape
+  pub loose : IsLoose v.ledger (named_at v.ledger place)
+  -- of references there is one at least, and not too many
+  pub some : 1 ≤ count
+  pub few : count ≤ 1024
 
 -- the exchange of a frame word was tried, and found another count than the keeper's references
 pub record HasLost (v w : KeeperView) : Type 0 where

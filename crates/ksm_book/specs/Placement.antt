@@ -1,5 +1,6 @@
 -- Lawful placement: how rows, dups and the keeper's frames agree (own).
-use Rattle.std.specs.Prelude.{◌≡◌, ◌≢◌, ℕ, ◌+◌, ◌<◌, ◌≤◌, ◌/◌, Bool, true, false, cond, ◌==◌, List, length, count_by, All, Option, Some, None, is_some}
+use Rattle.std.specs.Prelude.{◌≡◌, ◌≢◌, ℕ, ◌+◌, ◌<◌, ◌≤◌, ◌/◌, Bool, true, false, cond, ◌==◌, List, length}
+use Rattle.std.specs.Prelude.{count_by, All, Option, Some, None, is_some}
 use Rattle.ksm_base.specs.declared.page.TheConstants.{PAGE_WORDS}
 use Rattle.ksm_base.specs.declared.shape.Shape.{Shape}
 use Rattle.ksm_base.specs.declared.row.PageState.{PageState}
@@ -93,9 +94,10 @@ pub record DupFits (sh : Shape) (across : ℕ) (k : Ledger) (d : DupRow) : Type 
   pub shown : IsInLife k d.place → ¬ ((frame_at k (place_frame k d.place)).kind ≡ Private)
   pub node : across ≡ 0 → node_of sh (place_frame k d.place) ≡ d.tree
 
--- rows, each on the frame of its page if it has one, and dups lie lawfully in what the keeper knows; the command has one more reference
--- in its hand, or none
-pub record Placed (sh : Shape) (across : ℕ) (k : Ledger) (rows : List Row) (frame : Frames) (dups : List DupRow) (hand : Option ℕ) : Type 0 where
+-- rows, each on the frame of its page if it has one, and dups lie lawfully in what the keeper knows; the command has
+-- one more reference in its hand, or none
+pub record Placed (sh : Shape) (across : ℕ) (k : Ledger) (rows : List Row) (frame : Frames) (dups : List DupRow)
+    (hand : Option ℕ) : Type 0 where
   pub frames_long : length k.frames ≡ frames_of sh
   pub places_long : length k.places ≡ frames_of sh
   pub widths : (f : ℕ) → length (frame_at k f).content ≡ PAGE_WORDS

@@ -1,5 +1,6 @@
 -- What is promised of the book and its frames between any two calls (own).
-use Rattle.std.specs.Prelude.{◌≡◌, ◌≢◌, ℕ, ◌<◌, ◌≤◌, ◌^◌, Bool, true, false, not, List, ◌++◌, map, filter, AllPairs, All, Contains, Some, None, MatchOption}
+use Rattle.std.specs.Prelude.{◌≡◌, ◌≢◌, ℕ, ◌<◌, ◌≤◌, ◌^◌, Bool, true, false, not, List, ◌++◌, map, filter}
+use Rattle.std.specs.Prelude.{AllPairs, All, Contains, Some, None, MatchOption}
 use Rattle.ksm_base.specs.declared.page.GuestPage.{GuestPage}
 use Rattle.ksm_base.specs.declared.shape.Shape.{Shape}
 use Rattle.ksm_base.specs.declared.row.Row.{Row}
@@ -42,8 +43,8 @@ pub record HasItsOwn (shape : Shape) (k : Ledger) (row : Row) (frame : ℕ) : Ty
   pub node : node_of shape frame ≡ row.home
   pub content : (frame_at k frame).content ≡ row.bytes
 
--- the place of a dup with items names its frame in its life: shown, with a reference for each item, and the bytes of each;
--- where pages don't merge across nodes the items have one home, the dup's tree, and the frame lies there
+-- the place of a dup with items names its frame in its life: shown, with a reference for each item, and the bytes of
+-- each; where pages don't merge across nodes the items have one home, the dup's tree, and the frame lies there
 pub record StandsOn (b : BookState) (k : Ledger) (dup : DupRow) (frame : ℕ) : Type 0 where
   pub named : named_at k dup.place ≡ Some (record { frame = frame; generation = (frame_at k frame).generation })
   pub exists : frame < frames_of b.shape
@@ -52,7 +53,8 @@ pub record StandsOn (b : BookState) (k : Ledger) (dup : DupRow) (frame : ℕ) : 
   pub limit : item_count b.rows dup ≤ b.knobs.max_page_sharing
   pub content : (frame_at k frame).content ≡ dup.bytes
   pub bytes : All (λ r. merged_into dup.number r.state ≡ true → r.bytes ≡ dup.bytes) b.rows
-  pub homes : b.knobs.merge_across_nodes ≡ 0 → All (λ r. merged_into dup.number r.state ≡ true → r.home ≡ dup.tree) b.rows
+  pub homes : b.knobs.merge_across_nodes ≡ 0
+      → All (λ r. merged_into dup.number r.state ≡ true → r.home ≡ dup.tree) b.rows
   pub node : b.knobs.merge_across_nodes ≡ 0 → node_of b.shape frame ≡ dup.tree
 
 -- the place names a frame that is not shown in the life named
@@ -66,7 +68,8 @@ pub record LieOn (b : BookState) (frame : Frames) (k : Ledger) : Type 0 where
   -- a row that is neither merged nor Zero has its own
   pub own : All (λ r. shared_state r.state ≡ false → MatchOption (frame r.page) ⊥ (HasItsOwn b.shape k r)) b.rows
   -- a merged row lies on the frame that its dup's place names
-  pub merged : All (λ r. All (λ d. merged_into d.number r.state ≡ true → frame r.page ≡ Some (place_frame k d.place)) b.dups) b.rows
+  pub merged : All
+      (λ r. All (λ d. merged_into d.number r.state ≡ true → frame r.page ≡ Some (place_frame k d.place)) b.dups) b.rows
   -- a Zero row has none, and reads zeroes alone
   pub zero : All (λ r. zero_state r.state ≡ true → (frame r.page ≡ None) × (all_zero r.bytes ≡ true)) b.rows
   -- a page without a row has none
@@ -76,14 +79,17 @@ pub record LieOn (b : BookState) (frame : Frames) (k : Ledger) : Type 0 where
   -- the frames of the rows and dups differ from one another, and no other frame is in use
   pub distinct : AllPairs (λ f g. f ≢ g) (own_frames b.rows frame ++ dup_frames b k)
   pub no_other : (f : ℕ) → is_in_use (frame_at k f).kind ≡ true → Contains (own_frames b.rows frame ++ dup_frames b k) f
-  -- each dup stands at one of the places; that of a stale dup names a frame whose life is over, and one without a dup names none
+  -- each dup stands at one of the places; that of a stale dup names a frame whose life is over, and one without a dup
+  -- names none
   pub places : All (λ d. d.place < place_count b.shape) b.dups
   pub stale : All (λ d. has_items b.rows d ≡ false → IsOutlived k d.place) b.dups
   pub empty : (p : ℕ) → All (λ d. d.place ≢ p) b.dups → named_at k p ≡ None
 
 -- beside a page with a frame of its own a new dup finds one of the places
 abbrev pub FindsPlace : BookState → Type 0
-FindsPlace b = (row : Row) → Contains b.rows row → shared_state row.state ≡ false → new_place (place_count b.shape) b.rows b.dups < place_count b.shape
+FindsPlace b =
+    (row : Row) → Contains b.rows row → shared_state row.state ≡ false
+    → new_place (place_count b.shape) b.rows b.dups < place_count b.shape
 
 -- the numbers of dups are small
 abbrev pub NumbersAreSmall : BookState → Type 0

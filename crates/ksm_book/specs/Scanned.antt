@@ -1,5 +1,6 @@
 -- What a scan asks of the book's inside, and what its parts come to (own).
-use Rattle.std.specs.Prelude.{◌≡◌, ℕ, ◌-◌, ◌<◌, ◌≤◌, Bool, true, false, not, ◌==◌, List, length, drop, take, slice_get, Option, Some, None, MatchOption}
+use Rattle.std.specs.Prelude.{◌≡◌, ℕ, ◌+◌, ◌-◌, ◌^◌, ◌<◌, ◌≤◌, Bool, true, false, not, ◌==◌, List, length}
+use Rattle.std.specs.Prelude.{drop, take, filter, min, slice_get, Option, Some, None, MatchOption}
 use Rattle.ksm_base.specs.declared.page.GuestPage.{GuestPage}
 use Rattle.ksm_base.specs.declared.row.Row.{Row}
 use Rattle.ksm_base.specs.declared.fault.Fault.TheVariants.{Memory}
@@ -13,7 +14,7 @@ use Rattle.ksm_base.specs.State.{BookState}
 use Rattle.ksm_rmap.specs.Items.{AreAscending, has_item}
 use Rattle.ksm_book.specs.Commands.{Deed, Performs, row_visiting, then_doing}
 use Rattle.ksm_book.specs.Whole.{BookValue, BookView, mapped, view_of}
-use Rattle.ksm_book.specs.Folded.{begun, restless_at, visits_beside}
+use Rattle.ksm_book.specs.Folded.{IsStill, begun, pages_ahead, pages_visited, restless_at, visits_beside}
 use Rattle.ksm_pages.specs.declared.ahead.Ahead.{Ahead}
 use Rattle.ksm_pages.specs.declared.ahead.Ahead.TheVariants.{At, End}
 use Rattle.ksm_book.specs.declared.visiting.Visited.{Visited}
@@ -31,11 +32,16 @@ Reached old new s = (new.state ≡ s.0) × Performs (mapped (view_of old)) (mapp
 abbrev pub Comes : BookValue → BookValue → (BookState × Deed → BookState × Deed) → Type 0
 Comes old new change = (from : BookValue) (s : BookState × Deed) → Reached from old s → Reached from new (change s)
 
+-- whatever was reached before, this changes nothing but which rows wait
+abbrev pub StaysStill : BookValue → (BookState × Deed → BookState × Deed) → Type 0
+StaysStill old change = (from : BookValue) (s : BookState × Deed) → Reached from old s → IsStill s (change s)
+
 -- a row that a visit may change has this for the best dup that it may join
 abbrev pub MayJoin : BookState → Best → Row → Type 0
 MayJoin b best r =
     (is_restless r ≡ true)
-    × MatchOption (best_dup b.knobs b.rows b.dups r) (true ≡ false) (λ d. (best.number ≡ d.number) × (best.place ≡ d.place))
+    × MatchOption (best_dup b.knobs b.rows b.dups r) (true ≡ false)
+    (λ d. (best.number ≡ d.number) × (best.place ≡ d.place))
 
 -- it may join no dup, its bytes have stayed, and they are zeroes that merge with the zero page, or not
 pub record HasStayed (b : BookState) (is_zero : Bool) (r : Row) : Type 0 where
@@ -52,6 +58,13 @@ IsForZero b r = HasStayed b true r
 abbrev pub MeetsPage : BookState → GuestPage → Row → Type 0
 MeetsPage b page r = HasStayed b false r × MatchOption (partner b.knobs b.rows r) (true ≡ false) (λ w. page ≡ w.page)
 
+-- these visits were made
+pub record HasVisited (old new : BookValue) (visits : BookState × Deed → BookState × Deed) (quiet : Bool) : Type 0 where
+  -- whatever was reached before, what they make of it is reached then
+  pub comes : Comes old new visits
+  -- where they are told to be quiet they change nothing but which rows wait
+  pub still : quiet ≡ true → StaysStill old visits
+
 -- the row of a page was visited
 abbrev pub VisitsPage : BookView → BookView → GuestPage → Type 0
 VisitsPage v w page =
@@ -63,7 +76,20 @@ abbrev pub up_to : Option GuestPage → GuestPage → Bool
 up_to None page = true
 up_to (Some last) page = not (comes_before last page)
 
--- what so many visits of these pages come to: the page of the last visit, where a page is left, or the end of the pass after so many
+-- the pages ahead up to the last one, or all of them
+abbrev pub ahead_up_to : Option GuestPage → BookState → List GuestPage
+ahead_up_to last b = filter (up_to last) (pages_ahead b)
+
+-- the pages ahead that come before one
+abbrev pub ahead_before : GuestPage → BookState → List GuestPage
+ahead_before page b = filter (λ p. comes_before p page) (pages_ahead b)
+
+-- so many passes have ended; the count stays at the greatest number of 64 bits
+abbrev pub passes_ended : ℕ → BookState → BookState
+passes_ended count b = record b { cursor = None; passes = min (b.passes + count) (2 ^ 64 - 1) }
+
+-- what so many visits of these pages come to: the page of the last visit, where a page is left, or the end of the pass
+-- after so many
 abbrev pub EndsAt : List GuestPage → ℕ → Ahead → Type 0
 EndsAt pages visits (At page) = (visits < length pages) × (slice_get pages (visits - 1) ≡ Some page)
 EndsAt pages visits (End made) = (made ≡ length pages) × (made ≤ visits)
@@ -80,7 +106,9 @@ last_visited (End made) = None
 
 -- each page that a visit may change is among these, which are in order
 abbrev pub AreListed : List Row → List GuestPage → Type 0
-AreListed rows pages = AreAscending pages × ((page : GuestPage) → restless_at page rows ≡ true → has_item page pages ≡ true)
+AreListed rows pages =
+    AreAscending pages
+    × ((page : GuestPage) → restless_at page rows ≡ true → has_item page pages ≡ true)
 
 -- so it is with the listed pages of a book
 abbrev pub ListsAll : BookValue → Type 0
@@ -104,9 +132,42 @@ is_over Changed = false
 is_over Shared = true
 is_over Gone = true
 
+-- the visits of the listed pages from one index up to another stopped at an index
+pub record StopsAt (old new : BookValue) (first end at : ℕ) : Type 0 where
+  -- it lies between the two
+  pub low : first ≤ at
+  pub high : at < end
+  -- the listed pages before it were visited
+  pub comes : Comes old new (λ s. pages_visited doing s (from_to first at old.restless.pages))
+  -- its page is one that a visit may change
+  pub restless : (page : GuestPage) → slice_get old.restless.pages at ≡ Some page
+      → restless_at page new.state.rows ≡ true
+
+-- the visits of the pages ahead up to the last one, or of all of them, stopped before a page
+pub record StopsBefore (old new : BookValue) (last : Option GuestPage) (page : GuestPage) : Type 0 where
+  -- it is one of them
+  pub within : up_to last page ≡ true
+  pub ahead : has_item page (pages_ahead old.state) ≡ true
+  -- those before it were visited
+  pub comes : Comes old new (λ s. pages_visited doing s (ahead_before page s.0))
+
+-- so many visits were made
+pub record GoesOn (old new : BookValue) (most made : ℕ) : Type 0 where
+  -- one at least, and no more than were wanted
+  pub some : 1 ≤ made
+  pub fit : made ≤ most
+  -- they did what the definitions say
+  pub comes : Comes old new (visits_beside doing made)
+
+-- memory stopped the visits once so many were made
+pub record StopsShort (old new : BookValue) (most made : ℕ) : Type 0 where
+  -- fewer than were wanted
+  pub fewer : made < most
+  -- and one more had begun
+  pub comes : Comes old new (λ s. begun (visits_beside doing made s))
+
 -- what a scan of so many visits replies: all were made; or memory stopped it as one more had begun
 abbrev pub HasScanned : BookValue → BookValue → ℕ → Reply → Type 0
 HasScanned old new count (Scanned made None) = (made ≡ count) × Comes old new (visits_beside doing made)
-HasScanned old new count (Scanned made (Some fault)) =
-    (fault ≡ Memory) × (made < count) × Comes old new (λ s. begun (visits_beside doing made s))
+HasScanned old new count (Scanned made (Some fault)) = (fault ≡ Memory) × StopsShort old new count made
 HasScanned old new count _ = ⊥

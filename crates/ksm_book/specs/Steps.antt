@@ -1,5 +1,6 @@
 -- The part of its log that the keeper adds in a call, and the frames that it gives in it (own).
-use Rattle.std.specs.Prelude.{◌≡◌, ℕ, ◌+◌, ◌*◌, ◌<◌, ◌≤◌, Bool, true, false, List, [], ◌∷◌, ◌++◌, map, filter, Option, Some, None}
+use Rattle.std.specs.Prelude.{◌≡◌, ℕ, ◌+◌, ◌*◌, ◌<◌, ◌≤◌, Bool, true, false, List, [], ◌∷◌, ◌++◌, map, filter}
+use Rattle.std.specs.Prelude.{Option, Some, None}
 use Rattle.std.specs.List.{range_with_len}
 use Rattle.ksm_base.specs.declared.shape.Shape.{Shape}
 use Rattle.frame_core.specs.declared.event.KeeperStep.{KeeperStep}
@@ -51,7 +52,9 @@ dying_on sh k node = dying_from k (node * sh.frames_per_node) sh.frames_per_node
 
 -- no frame of the node is free
 abbrev pub HasNoFree : Shape → Ledger → ℕ → Type 0
-HasNoFree sh k node = (f : ℕ) → node * sh.frames_per_node ≤ f → f < node * sh.frames_per_node + sh.frames_per_node → free_kind (frame_at k f).kind ≡ false
+HasNoFree sh k node =
+    (f : ℕ) → node * sh.frames_per_node ≤ f → f < node * sh.frames_per_node + sh.frames_per_node
+    → free_kind (frame_at k f).kind ≡ false
 
 -- f is the lowest free frame of the node
 pub record IsLowestFree (sh : Shape) (k : Ledger) (node f : ℕ) : Type 0 where
@@ -80,7 +83,9 @@ needed_after (node ∷ nodes) None = node ∷ nodes
 -- the frames given by these steps are the lowest free ones of the nodes listed, one for each
 abbrev pub Gives : Shape → Ledger → List ℕ → Log → Type 0
 Gives sh k nodes [] = nodes ≡ []
-Gives sh k nodes (e ∷ es) = IsNeeded sh k nodes (given_by e.0) × Gives sh (ledger_after sh k e.0 e.1) (needed_after nodes (given_by e.0)) es
+Gives sh k nodes (e ∷ es) =
+    IsNeeded sh k nodes (given_by e.0)
+    × Gives sh (ledger_after sh k e.0 e.1) (needed_after nodes (given_by e.0)) es
 
 -- the keeper went from v to w by this part of its log, which gave a frame on each of the nodes
 pub record Did (v w : KeeperView) (nodes : List ℕ) (part : Log) : Type 0 where

@@ -1,5 +1,6 @@
 -- Pages that leave their dups, or the zero page, one after another, in order (own).
-use Rattle.std.specs.Prelude.{◌≡◌, ℕ, Bool, true, [], ◌∷◌, length, map, filter, take, slice_get, ◌&&◌, List, Option, None, Some, option_map, if◌then◌else◌}
+use Rattle.std.specs.Prelude.{◌≡◌, ℕ, Bool, true, [], ◌∷◌, length, map, filter, take, slice_get, ◌&&◌}
+use Rattle.std.specs.Prelude.{List, Option, None, Some, option_map, if◌then◌else◌}
 use Rattle.ksm_base.specs.declared.fault.Fault.{Fault}
 use Rattle.ksm_base.specs.declared.fault.Fault.TheVariants.{NoFrame}
 use Rattle.ksm_base.specs.declared.page.GuestPage.{GuestPage}
@@ -55,9 +56,10 @@ pub record MayNotLeave (p q : PagesView) (k l : KeeperView) (page : GuestPage) (
   pub says : fault ≡ NoFrame row.home
   pub turned : TurnedAway p q k l row.home
 
--- of the shared rows of the guest, or of all, the first so many each got a frame of its own, in order; the next found none, where there
--- was a stop. The guest's rows up to there are changed
-pub record Unshares (p q : PagesView) (k l : KeeperView) (guest : Option ℕ) (count : ℕ) (stop : Option Fault) : Type 0 where
+-- of the shared rows of the guest, or of all, the first so many each got a frame of its own, in order; the next found
+-- none, where there was a stop. The guest's rows up to there are changed
+pub record Unshares (p q : PagesView) (k l : KeeperView) (guest : Option ℕ) (count : ℕ) (stop : Option Fault)
+    : Type 0 where
   pub at : Option Row
   pub fault : stop ≡ option_map (λ r. NoFrame r.home) at
   pub stands : IsStop (filter (is_shared_of guest) p.rows) count at

@@ -21,8 +21,8 @@ pub record BookView : Type 0 where
   pub frame : Frames
   pub keeper : KeeperView
 
--- the value by which proofs tell such books apart: a list in the place of the function that `BookView` has, and the list of the rows
--- that a visit may change
+-- the value by which proofs tell such books apart: a list in the place of the function that `BookView` has, and the
+-- list of the rows that a visit may change
 pub record BookValue : Type 0 where
   pub state : BookState
   pub lodgings : List Lodging
@@ -50,7 +50,8 @@ nodes_got b _ _ = []
 -- what the keeper's part of the log shows of an answer
 abbrev pub HasShown : BookState → KeeperView → KeeperView → Answer → Command → Type 0
 HasShown b v w (Err (NoFrame node)) command = NoneLeft v w node
-HasShown b v w (Ok (Unmerged k (Some (NoFrame node)))) command = (u : KeeperView) × Does v u (nodes_got b (Ok (Unmerged k (Some (NoFrame node)))) command) × NoneLeft u w node
+HasShown b v w (Ok (Unmerged k (Some (NoFrame node)))) command =
+    (u : KeeperView) × Does v u (nodes_got b (Ok (Unmerged k (Some (NoFrame node)))) command) × NoneLeft u w node
 HasShown b v w (Err InUse) (MoveDup place node) = HasLost v w
 HasShown b v w (Ok Done) (MoveDup place node) = HasMoved v w place node
 HasShown b v w _ _ = Unit {0}

@@ -34,7 +34,10 @@ scanned visits b = after b (Scan visits) (Ok (Scanned visits None))
 
 -- two equal pages at home on node 0, and one on node 1
 abbrev pub three : BookState
-three = done (opening shape) (Register (page 0) 0 (full 0xaa) ∷ Register (page 1) 0 (full 0xaa) ∷ Register (page 2) 1 (full 0xaa) ∷ SetRun 1 ∷ [])
+three =
+    done (opening shape)
+    (Register (page 0) 0 (full 0xaa) ∷ Register (page 1) 0 (full 0xaa) ∷ Register (page 2) 1 (full 0xaa)
+    ∷ SetRun 1 ∷ [])
 
 -- the lowest frames of their nodes
 abbrev pub apart : Frames
@@ -51,3 +54,7 @@ together = lies_on (page 0) (Some 0) (lies_on (page 1) (Some 0) (lies_on (page 2
 -- the three merged, and then stored to or dropped, so that their dup is stale
 abbrev pub stale : BookState
 stale = done merged (Store (page 0) (full 0xbb) ∷ Store (page 1) (full 0xcc) ∷ Drop (page 2) ∷ [])
+
+-- the two that are left, each on a frame of its own
+abbrev pub alone : Frames
+alone = lies_on (page 0) (Some 1) (lies_on (page 1) (Some 2) nowhere)

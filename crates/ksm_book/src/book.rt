@@ -45,7 +45,12 @@ impl Model for Book {
 
     ghost Value = { JournaledBook };
 
-    ghost view = { λ b. record { state = b.state.state; lodgings = b.state.lodgings; keeper = b.state.keeper; journal = b.journal.entries } };
+    ghost view = { λ b. record {
+      state = b.state.state;
+      lodgings = b.state.lodgings;
+      keeper = b.state.keeper;
+      journal = b.journal.entries;
+    } };
 
     ghost invariant = { λ b. IsLegal b.state.keeper.table.shape b.journal.entries b.state.state };
 }
@@ -57,7 +62,11 @@ impl Book {
         requires shape { IsShape shape }
         requires same { keeper.table.shape ≡ shape }
         requires new { keeper.ledger ≡ first_ledger shape }
-        ensures opened { IfOk result (λ b. unjournaled b ≡ record { state = opening shape; frame = nowhere; keeper = keeper }) }
+        ensures opened { IfOk result (λ b. unjournaled b ≡ record {
+          state = opening shape;
+          frame = nowhere;
+          keeper = keeper;
+        }) }
         ensures journal { IfOk result (λ b. b.journal ≡ []) }
         ensures refused { IfErr result (λ e. (e.0 ≡ keeper) × (e.1 ≡ Fault.Memory)) }
     {

@@ -1,9 +1,11 @@
 //! The keeper with the sets of its free and of its dying frames, so that neither is looked for frame by frame.
 
-ghost use Rattle.std.specs.Prelude.{◌≡◌, ◌<◌, ◌≤◌, ◌*◌, ℕ, ◌↔◌, IsTrue, IfOk, IfErr, MatchOption, length, slice_index, true, false};
+ghost use Rattle.std.specs.Prelude.{◌≡◌, ◌<◌, ◌≤◌, ◌*◌, ℕ, ◌↔◌, IsTrue, IfOk, IfErr, MatchOption, length};
+ghost use Rattle.std.specs.Prelude.{slice_index, true, false};
 ghost use Rattle.ksm_base.specs.declared.fault.Fault.TheVariants.{Memory};
 ghost use Rattle.ksm_base.specs.Values.{frames_of, IsShape};
-ghost use Rattle.frame_core.specs.declared.event.KeeperStep.TheVariants.{Reap, Put, Raise, Open, Add, Sub, Publish, Withdraw, Freeze, Word};
+ghost use Rattle.frame_core.specs.declared.event.KeeperStep.TheVariants.{Reap, Put, Raise, Open, Add, Sub, Publish};
+ghost use Rattle.frame_core.specs.declared.event.KeeperStep.TheVariants.{Withdraw, Freeze, Word};
 ghost use Rattle.frame_core.specs.Ledger.{frame_at, first_ledger};
 ghost use Rattle.frame_core.specs.State.{frame_word, count_in};
 ghost use Rattle.frame_table.specs.Kept.{May, did, Did};
@@ -113,7 +115,9 @@ impl FrameKeeper {
     /// The first dying one of the frames from `from` on and below `end`.
     pub fn next_dying(&self, from: u32, end: u32) -> Option<u32>
         requires { end ≤ frames_of self.now.table.shape }
-        ensures { MatchOption result (NoneOf dying_kind self.now.ledger from end) (IsFirstOf dying_kind self.now.ledger from end) }
+        ensures { MatchOption result
+            (NoneOf dying_kind self.now.ledger from end)
+            (IsFirstOf dying_kind self.now.ledger from end) }
     {
         self.dying.least(from, end)
     }
@@ -121,7 +125,9 @@ impl FrameKeeper {
     /// The first free one of the frames from `from` on and below `end`.
     pub fn next_free(&self, from: u32, end: u32) -> Option<u32>
         requires { end ≤ frames_of self.now.table.shape }
-        ensures { MatchOption result (NoneOf free_kind self.now.ledger from end) (IsFirstOf free_kind self.now.ledger from end) }
+        ensures { MatchOption result
+            (NoneOf free_kind self.now.ledger from end)
+            (IsFirstOf free_kind self.now.ledger from end) }
     {
         self.free.least(from, end)
     }
@@ -134,8 +140,8 @@ impl FrameKeeper {
         self.keeper.base(frame)
     }
 
-    // The calls that follow hand a step to the keeper. Where that may turn the kind of the frame, it is marked in the sets
-    // that it may have left or entered.
+    // The calls that follow hand a step to the keeper. Where that may turn the kind of the frame, it is marked in the
+    // sets that it may have left or entered.
 
     pub fn add(&mut self, table: &FrameTable, frame: u32)
         requires own { self.old.table ≡ table.now }
@@ -213,7 +219,8 @@ impl FrameKeeper {
     pub fn freeze(&mut self, table: &FrameTable, frame: u32) -> bool
         requires own { self.old.table ≡ table.now }
         requires may { May self.old (Freeze frame) }
-        ensures { (found : ℕ) × (self.new ≡ did self.old (Freeze frame) found) × (IsTrue result ↔ count_in found ≡ (frame_at self.old.ledger frame).base) }
+        ensures { (found : ℕ) × (self.new ≡ did self.old (Freeze frame) found)
+            × (IsTrue result ↔ count_in found ≡ (frame_at self.old.ledger frame).base) }
     {
         let alone = self.keeper.freeze(table, frame);
         sort(&self.keeper, &mut self.free, &mut self.dying, frame);

@@ -1,10 +1,11 @@
 //! What the book has the keeper do with frames: find one and fill it, write it and read it, and give it back.
 
-ghost use Rattle.std.specs.Prelude.{◌≡◌, ◌<◌, ◌≤◌, ◌-◌, true, None, Some, is_some, IfSome, MatchOption, [], ◌∷◌, length, map, if◌then◌else◌};
+ghost use Rattle.std.specs.Prelude.{◌≡◌, ◌<◌, ◌≤◌, ◌-◌, true, None, Some, is_some, IfSome, MatchOption, [], ◌∷◌};
+ghost use Rattle.std.specs.Prelude.{length, map, if◌then◌else◌};
 ghost use Rattle.ksm_base.specs.declared.page.TheConstants.{PAGE_WORDS as WORDS};
 ghost use Rattle.ksm_base.specs.Values.{frames_of, IsShape};
 ghost use Rattle.frame_core.specs.declared.event.KeeperStep.TheVariants.{Reap, Sub, Withdraw};
-ghost use Rattle.frame_core.specs.Ledger.{frame_at, named_at, with_frame, IsLoose, IsReadable, IsWritable};
+ghost use Rattle.frame_core.specs.Ledger.{frame_at, with_frame, IsReadable, IsWritable};
 ghost use Rattle.frame_table.specs.Kept.{May};
 ghost use Rattle.ksm_book.specs.Steps.{dying_from, loads, puts, stepped, Made};
 ghost use Rattle.ksm_book.specs.Commands.{Finds, FindsNone, Provides, leaving};
@@ -57,7 +58,8 @@ pub fn write(keeper: &mut FrameKeeper, table: &FrameTable, frame: u32, bytes: Pa
     requires writable { IsWritable (frame_at keeper.old.ledger frame).kind }
     requires wide { length (frame_at keeper.old.ledger frame).content ≡ WORDS }
     ensures wrote { keeper.new ≡ stepped keeper.old (puts frame 0 bytes) }
-    ensures ledger { keeper.new.ledger ≡ with_frame keeper.old.ledger frame (holding (frame_at keeper.old.ledger frame) bytes) }
+    ensures ledger { keeper.new.ledger ≡ with_frame keeper.old.ledger frame
+        (holding (frame_at keeper.old.ledger frame) bytes) }
 {
     for i in 0..PAGE_WORDS {
         keeper.put(table, frame, i, bytes[i]);

@@ -17,4 +17,4 @@ mod worked;
 
 pub use book::Book;
 pub use ksm_journal::Journal;
-pub use worked::{nodes_of_frames, steps_of_leaving, steps_of_visits};
+pub use worked::{nodes_of_a_page, nodes_of_dups, steps_of_leaving, steps_of_visits};

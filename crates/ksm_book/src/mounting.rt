@@ -1,14 +1,14 @@
 //! What the book has the keeper do with the frames of a dup that moves.
 
-ghost use Rattle.std.specs.Prelude.{◌≡◌, ◌<◌, ◌≤◌, ◌+◌, ℕ, length, replicate};
-ghost use Rattle.ksm_base.specs.declared.page.TheConstants.{PAGE_WORDS as WORDS};
+ghost use Rattle.std.specs.Prelude.{◌≡◌, ◌<◌, ◌≤◌, ◌+◌, replicate};
 ghost use Rattle.ksm_base.specs.Values.{frames_of};
 ghost use Rattle.frame_core.specs.declared.event.KeeperStep.TheVariants.{Add, Publish};
-ghost use Rattle.frame_core.specs.declared.frame.Kind.TheVariants.{Free as FreeKind, Dying as DyingKind};
-ghost use Rattle.frame_core.specs.Ledger.{frame_at, named_at, with_frame, IsLoose};
+ghost use Rattle.frame_core.specs.Ledger.{frame_at, with_frame};
 ghost use Rattle.frame_table.specs.Kept.{did};
 ghost use Rattle.frame_table.specs.Named.{KeeperView};
 ghost use Rattle.ksm_book.specs.Commands.{mounting};
+ghost use Rattle.ksm_book.specs.Keeping.{with_more};
+ghost use Rattle.ksm_book.specs.Mounted.{MayMount};
 ghost use Rattle.ksm_book.specs.Steps.{Made};
 
 use crate::frame_keeper::FrameKeeper;
@@ -22,7 +22,8 @@ fn add_times(keeper: &mut FrameKeeper, table: &FrameTable, frame: u32, count: u6
     requires some { 1 ≤ (frame_at keeper.old.ledger frame).base }
     requires few { (frame_at keeper.old.ledger frame).base + count ≤ 1024 }
     ensures made { Made keeper.old keeper.new (replicate count (Add frame)) }
-    ensures ledger { keeper.new.ledger ≡ with_frame keeper.old.ledger frame (record (frame_at keeper.old.ledger frame) { base = (frame_at keeper.old.ledger frame).base + count }) }
+    ensures ledger { keeper.new.ledger ≡ with_frame keeper.old.ledger frame
+        (with_more (frame_at keeper.old.ledger frame) count) }
 {
     for done in 0..count {
         keeper.add(table, frame);
@@ -39,17 +40,9 @@ pub fn mount(
     count: u64,
 )
     requires own { keeper.old.table ≡ table.now }
-    requires inside { frame < frames_of keeper.old.table.shape }
-    requires within { frame < length keeper.old.ledger.frames }
-    requires left { left < frames_of keeper.old.table.shape }
-    requires place { place < frames_of keeper.old.table.shape }
-    requires free { (frame_at keeper.old.ledger frame).kind ≡ FreeKind }
-    requires dying { (frame_at keeper.old.ledger left).kind ≡ DyingKind }
-    requires wide { (f : ℕ) → length (frame_at keeper.old.ledger f).content ≡ WORDS }
-    requires some { 1 ≤ count }
-    requires few { count ≤ 1024 }
-    requires loose { IsLoose keeper.old.ledger (named_at keeper.old.ledger place) }
-    ensures made { Made keeper.old keeper.new (mounting left frame place count (frame_at keeper.old.ledger left).content) }
+    requires may { MayMount keeper.old left frame place count }
+    ensures made { Made keeper.old keeper.new
+        (mounting left frame place count (frame_at keeper.old.ledger left).content) }
     ensures published { (before : KeeperView) × (keeper.new ≡ did before (Publish place frame) 0) }
 {
     keeper.raise(table, frame);

@@ -1,13 +1,9 @@
 //! The command that moves a dup to another frame: its refusals, and the move.
 
-ghost use Rattle.std.specs.Prelude.{◌≡◌, ◌<◌, ◌&&◌, ◌==◌, ℕ, Option, Some, find};
-ghost use Rattle.ksm_base.specs.declared.page.GuestPage.{GuestPage};
-ghost use Rattle.ksm_base.specs.Rows.{has_items};
-ghost use Rattle.ksm_base.specs.Sound.{IsSound};
+ghost use Rattle.std.specs.Prelude.{◌≡◌};
 ghost use Rattle.ksm_book.specs.Carried.{CarriedOut};
-ghost use Rattle.ksm_book.specs.Laid.{IsLaid, MovesOr, state_of};
+ghost use Rattle.ksm_book.specs.Laid.{HasRemounted, MayMove};
 ghost use Rattle.ksm_pages.specs.Paged.{seen};
-ghost use Rattle.ksm_book.specs.Mounted.{IsMoved};
 ghost use Rattle.ksm_book.specs.Whole.{view_of};
 
 use crate::frame_keeper::FrameKeeper;
@@ -28,16 +24,9 @@ fn remount(
     node: u32,
 ) -> Result<(), Fault>
     requires own { keeper.old.table ≡ table.now }
-    requires laid { IsLaid (seen pages.old) keeper.old }
-    requires sound { (cursor : Option GuestPage) × (passes : ℕ) × IsSound (state_of (seen pages.old) cursor passes) }
-    requires live { find (λ d. d.place == dup.place && has_items pages.old.rows d) pages.old.dups ≡ Some dup }
-    requires node { node < pages.old.shape.nodes }
-    requires home { pages.old.knobs.merge_across_nodes ≡ 0 → node ≡ dup.tree }
+    requires may { MayMove (seen pages.old) keeper.old dup node }
     ensures own { keeper.new.table ≡ keeper.old.table }
-    ensures rest { seen pages.new ≡ record (seen pages.old) { frame = (seen pages.new).frame } }
-    ensures laid { IsLaid (seen pages.new) keeper.new }
-    ensures moved { IsMoved keeper.old keeper.new dup.place node result }
-    ensures moves { MovesOr (seen pages.old) (seen pages.new) keeper.old keeper.new dup node result }
+    ensures remounted { HasRemounted (seen pages.old) (seen pages.new) keeper.old keeper.new dup node result }
 {
     pages.lie_in_order();
     let left = pages.dup_frame(dup.place);

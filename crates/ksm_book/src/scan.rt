@@ -4,18 +4,19 @@
 //! asked first (`ahead`), so those in between need no look. And where a whole pass changed nothing but which rows wait,
 //! the passes that would repeat it are counted and not made.
 
-ghost use Rattle.std.specs.Prelude.{◌≡◌, ℕ, ◌+◌, ◌-◌, ◌^◌, ◌<◌, ◌≤◌, true, not, min, Some, filter, length, slice_get, Err, OnOk, OnErr, IfOk, IfErr};
+ghost use Rattle.std.specs.Prelude.{◌≡◌, ◌+◌, ◌-◌, ◌<◌, ◌≤◌, true, not, Some, filter, length, slice_get};
+ghost use Rattle.std.specs.Prelude.{Err, OnOk, OnErr, IfOk, IfErr};
 ghost use Rattle.ksm_base.specs.declared.fault.Fault.TheVariants.{Memory};
 ghost use Rattle.ksm_base.specs.declared.page.GuestPage.{GuestPage};
-ghost use Rattle.ksm_base.specs.Rows.{InPageOrder, comes_before};
-ghost use Rattle.ksm_base.specs.State.{BookState, with_none_waiting};
+ghost use Rattle.ksm_base.specs.Rows.{InPageOrder};
+ghost use Rattle.ksm_base.specs.State.{with_none_waiting};
 ghost use Rattle.ksm_base.specs.Visit.{after_cursor, pass_begun, pass_ended_at_last};
-ghost use Rattle.ksm_rmap.specs.Items.{has_item};
 ghost use Rattle.ksm_book.specs.Carried.{CarriedOut};
-ghost use Rattle.ksm_book.specs.Commands.{Deed};
-ghost use Rattle.ksm_book.specs.Folded.{IsStill, begun, last_of, mergeable_pages, page_visited, pages_ahead, pages_visited, restless_at, visits_beside};
-ghost use Rattle.ksm_book.specs.Scanned.{Comes, EndsAt, HasScanned, ListsAll, Reached, doing, from_to, is_nowhere, is_over, is_quiet, last_visited, up_to};
-ghost use Rattle.ksm_book.specs.Whole.{BookValue, view_of};
+ghost use Rattle.ksm_book.specs.Folded.{begun, last_of, mergeable_pages, pages_ahead, pages_visited};
+ghost use Rattle.ksm_book.specs.Scanned.{Comes, EndsAt, GoesOn, HasScanned, HasVisited, ListsAll, StopsAt, StopsBefore};
+ghost use Rattle.ksm_book.specs.Scanned.{StopsShort, ahead_before, ahead_up_to, doing, from_to, is_nowhere, is_over};
+ghost use Rattle.ksm_book.specs.Scanned.{is_quiet, last_visited, passes_ended, up_to};
+ghost use Rattle.ksm_book.specs.Whole.{view_of};
 
 use crate::state::State;
 use crate::visiting::Visited;
@@ -83,7 +84,7 @@ impl State {
     // So many passes have ended.
     fn end_passes(&mut self, count: u64)
         ensures own { self.new.keeper.table ≡ self.old.keeper.table }
-        ensures comes { Comes self.old self.new (λ s. (record s.0 { cursor = None; passes = min (s.0.passes + count) (2 ^ 64 - 1) }, s.1)) }
+        ensures comes { Comes self.old self.new (λ s. (passes_ended count s.0, s.1)) }
         ensures restless { self.new.restless ≡ self.old.restless }
     {
         self.passes = self.passes.saturating_add(count);
@@ -109,8 +110,8 @@ impl State {
 
     // How many of the pages ahead come before one, and the last of them.
     fn between(&self, page: GuestPage) -> (u64, Option<GuestPage>)
-        ensures many { result.0 ≡ length (filter (λ p. comes_before p page) (pages_ahead self.now.state)) }
-        ensures last { result.1 ≡ last_of self.now.state.cursor (filter (λ p. comes_before p page) (pages_ahead self.now.state)) }
+        ensures many { result.0 ≡ length (ahead_before page self.now.state) }
+        ensures last { result.1 ≡ last_of self.now.state.cursor (ahead_before page self.now.state) }
     {
         self.pages.between(self.cursor, page)
     }
@@ -175,12 +176,10 @@ impl State {
         requires own { self.old.keeper.table ≡ table.now }
         requires within { end ≤ length self.old.restless.pages }
         ensures own { self.new.keeper.table ≡ self.old.keeper.table }
-        ensures comes { OnOk result (Comes self.old self.new (λ s. pages_visited doing s (from_to first end self.old.restless.pages))) }
-        ensures quiet { IfOk result (λ made. made.quiet ≡ true → (from : BookValue) (s : BookState × Deed) → Reached from self.old s → IsStill s (pages_visited doing s (from_to first end self.old.restless.pages))) }
         ensures restless { self.new.restless ≡ self.old.restless }
-        ensures refused { IfErr result (λ at. (first ≤ at) × (at < end)) }
-        ensures refused_comes { IfErr result (λ at. Comes self.old self.new (λ s. pages_visited doing s (from_to first at self.old.restless.pages))) }
-        ensures refused_page { IfErr result (λ at. (page : GuestPage) → slice_get self.old.restless.pages at ≡ Some page → restless_at page self.new.state.rows ≡ true) }
+        ensures visited { IfOk result (λ made. HasVisited self.old self.new
+            (λ s. pages_visited doing s (from_to first end self.old.restless.pages)) made.quiet) }
+        ensures stopped { IfErr result (λ at. StopsAt self.old self.new first end at) }
     {
         let mut made = Made {
             quiet: true,
@@ -209,11 +208,10 @@ impl State {
         requires own { self.old.keeper.table ≡ table.now }
         requires known { self.old.restless.known ≡ true }
         ensures own { self.new.keeper.table ≡ self.old.keeper.table }
-        ensures comes { OnOk result (Comes self.old self.new (λ s. pages_visited doing s (filter (up_to last) (pages_ahead s.0)))) }
-        ensures quiet { IfOk result (λ quiet. quiet ≡ true → (from : BookValue) (s : BookState × Deed) → Reached from self.old s → IsStill s (pages_visited doing s (filter (up_to last) (pages_ahead s.0)))) }
         ensures known { self.new.restless.known ≡ true }
-        ensures refused_page { IfErr result (λ page. (up_to last page ≡ true) × (has_item page (pages_ahead self.old.state) ≡ true)) }
-        ensures refused_comes { IfErr result (λ page. Comes self.old self.new (λ s. pages_visited doing s (filter (λ p. comes_before p page) (pages_ahead s.0)))) }
+        ensures visited { IfOk result (λ quiet. HasVisited self.old self.new
+            (λ s. pages_visited doing s (ahead_up_to last s.0)) quiet) }
+        ensures stopped { IfErr result (λ page. StopsBefore self.old self.new last page) }
     {
         self.lies_in_order();
         let first = self.listed_up_to(self.cursor());
@@ -280,11 +278,8 @@ impl State {
         requires known { self.old.restless.known ≡ true }
         ensures own { self.new.keeper.table ≡ self.old.keeper.table }
         ensures known { self.new.restless.known ≡ true }
-        ensures some { IfOk result (λ v. 1 ≤ v) }
-        ensures most { IfOk result (λ v. v ≤ most) }
-        ensures comes { IfOk result (λ v. Comes self.old self.new (visits_beside doing v)) }
-        ensures fewer { IfErr result (λ v. v < most) }
-        ensures stopped { IfErr result (λ v. Comes self.old self.new (λ s. begun (visits_beside doing v s))) }
+        ensures made { IfOk result (λ made. GoesOn self.old self.new most made) }
+        ensures stopped { IfErr result (λ made. StopsShort self.old self.new most made) }
     {
         self.lies_in_order();
         let ahead = self.begin(most);
@@ -313,8 +308,9 @@ impl State {
     // The visits stop before a page, for memory. Says how many were made.
     fn stop_at(&mut self, page: GuestPage) -> u64
         ensures own { self.new.keeper.table ≡ self.old.keeper.table }
-        ensures many { result ≡ length (filter (λ p. comes_before p page) (pages_ahead self.old.state)) }
-        ensures comes { Comes self.old self.new (λ s. (record s.0 { cursor = last_of s.0.cursor (filter (λ p. comes_before p page) (pages_ahead s.0)) }, s.1)) }
+        ensures many { result ≡ length (ahead_before page self.old.state) }
+        ensures comes { Comes self.old self.new
+            (λ s. (record s.0 { cursor = last_of s.0.cursor (ahead_before page s.0) }, s.1)) }
         ensures restless { self.new.restless ≡ self.old.restless }
     {
         let (made, last) = self.between(page);

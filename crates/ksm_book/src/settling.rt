@@ -1,4 +1,5 @@
-//! Changes of the pages and of their frames that several commands make: a page gets another frame, and the stale dups go.
+//! Changes of the pages and of their frames that several commands make: a page gets another frame, and the stale dups
+//! go.
 
 ghost use Rattle.std.specs.Prelude.{◌≡◌, ◌≤◌, ◌<◌, [], ◌∷◌, count_by, filter, OnOk, IfErr};
 ghost use Rattle.ksm_base.specs.declared.fault.Fault.TheVariants.{NoFrame};
@@ -29,8 +30,10 @@ pub fn resettle(
     requires laid { IsLaid (seen pages.old) keeper.old }
     requires known { IsKnown spot.page pages.old.rows }
     requires node { node < pages.old.shape.nodes }
-    ensures resettled { OnOk result (Resettled (seen pages.old) (seen pages.new) keeper.old keeper.new spot.page node bytes) }
-    ensures turned { IfErr result (λ fault. (fault ≡ NoFrame node) × TurnedAway (seen pages.old) (seen pages.new) keeper.old keeper.new node) }
+    ensures resettled { OnOk result
+        (Resettled (seen pages.old) (seen pages.new) keeper.old keeper.new spot.page node bytes) }
+    ensures turned { IfErr result (λ fault. (fault ≡ NoFrame node)
+        × TurnedAway (seen pages.old) (seen pages.new) keeper.old keeper.new node) }
 {
     pages.lie_in_order();
     let shape = pages.shape();
@@ -47,11 +50,14 @@ pub fn drop_stale(pages: &mut Pages, keeper: &mut FrameKeeper, table: &FrameTabl
     requires own { keeper.old.table ≡ table.now }
     requires laid { IsLaid (seen pages.old) keeper.old }
     requires rise { InPlaceOrder pages.old.dups }
-    ensures pages { seen pages.new ≡ record (seen pages.old) { dups = filter (has_items pages.old.rows) pages.old.dups } }
+    ensures pages { seen pages.new ≡ record (seen pages.old) {
+      dups = filter (has_items pages.old.rows) pages.old.dups;
+    } }
     ensures count { result ≡ count_by (is_stale pages.old.rows) pages.old.dups }
     ensures laid { IsLaid (seen pages.new) keeper.new }
     ensures does { Does keeper.old keeper.new [] }
-    ensures performs { Performs (lying (seen pages.old) keeper.old) (lying (seen pages.new) keeper.new) (pruning pages.old.rows pages.old.dups (seen pages.old).frame) }
+    ensures performs { Performs (lying (seen pages.old) keeper.old) (lying (seen pages.new) keeper.new)
+        (pruning pages.old.rows pages.old.dups (seen pages.old).frame) }
 {
     let mut count = 0;
     'stale: while let Some(place) = pages.stale_place() {

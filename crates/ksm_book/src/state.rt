@@ -42,7 +42,12 @@ impl Model for State {
 
     ghost Value = { BookValue };
 
-    ghost view = { λ s. record { state = state_of (seen s.pages) s.cursor s.passes; lodgings = s.pages.lodgings; keeper = s.keeper; restless = s.pages.restless } };
+    ghost view = { λ s. record {
+      state = state_of (seen s.pages) s.cursor s.passes;
+      lodgings = s.pages.lodgings;
+      keeper = s.keeper;
+      restless = s.pages.restless;
+    } };
 
     ghost invariant = { λ s. IsSound (state_of (seen s.pages) s.cursor s.passes) × IsLaid (seen s.pages) s.keeper };
 }
@@ -54,7 +59,11 @@ impl State {
         requires shape { IsShape shape }
         requires same { keeper.table.shape ≡ shape }
         requires new { keeper.ledger ≡ first_ledger shape }
-        ensures opened { IfOk result (λ s. view_of s ≡ record { state = opening shape; frame = nowhere; keeper = keeper }) }
+        ensures opened { IfOk result (λ s. view_of s ≡ record {
+          state = opening shape;
+          frame = nowhere;
+          keeper = keeper;
+        }) }
         ensures refused { IfErr result (λ e. (e.0 ≡ keeper) × (e.1 ≡ Memory)) }
     {
         match Pages::open(alloc, shape) {

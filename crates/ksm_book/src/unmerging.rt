@@ -31,8 +31,10 @@ fn leave(
     requires laid { IsLaid (seen pages.old) keeper.old }
     requires held { IsHeld (seen pages.old) held.spot.page held }
     requires home { held.home < pages.old.shape.nodes }
-    ensures left { IfOk result (λ count. HasLeft (seen pages.old) (seen pages.new) keeper.old keeper.new guest held.spot.page count) }
-    ensures turned { IfErr result (λ fault. MayNotLeave (seen pages.old) (seen pages.new) keeper.old keeper.new held.spot.page fault) }
+    ensures left { IfOk result (λ count.
+        HasLeft (seen pages.old) (seen pages.new) keeper.old keeper.new guest held.spot.page count) }
+    ensures turned { IfErr result (λ fault.
+        MayNotLeave (seen pages.old) (seen pages.new) keeper.old keeper.new held.spot.page fault) }
 {
     pages.lie_in_order();
     if !held.shared {
@@ -82,7 +84,10 @@ fn unshare_each(
 // All pages of a guest become mergeable. Says whether it has one.
 fn make_mergeable(pages: &mut Pages, guest: u16) -> bool
     ensures any { result ≡ list_any (is_of guest) pages.old.rows }
-    ensures pages { seen pages.new ≡ record (seen pages.old) { rows = change_rows (is_of guest) (λ r. record r { mergeable = true }) pages.old.rows; restless = pages.new.restless } }
+    ensures pages { seen pages.new ≡ record (seen pages.old) {
+      rows = change_rows (is_of guest) (λ r. record r { mergeable = true }) pages.old.rows;
+      restless = pages.new.restless;
+    } }
 {
     pages.lie_in_order();
     let mut last = None;

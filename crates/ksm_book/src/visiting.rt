@@ -2,11 +2,10 @@
 
 ghost use Rattle.std.specs.Prelude.{◌≡◌, true, false, OnOk, OnErr, IfOk, MatchOption};
 ghost use Rattle.ksm_base.specs.Rows.{row_at};
-ghost use Rattle.ksm_base.specs.State.{BookState};
-ghost use Rattle.ksm_book.specs.Commands.{Deed};
-ghost use Rattle.ksm_book.specs.Folded.{IsStill, page_visited, restless_at};
-ghost use Rattle.ksm_book.specs.Scanned.{Comes, IsForZero, MayJoin, MeetsPage, Reached, VisitsPage, doing, is_quiet};
-ghost use Rattle.ksm_book.specs.Whole.{BookValue, view_of};
+ghost use Rattle.ksm_book.specs.Folded.{page_visited, restless_at};
+ghost use Rattle.ksm_book.specs.Scanned.{Comes, IsForZero, MayJoin, MeetsPage, StaysStill, VisitsPage, doing};
+ghost use Rattle.ksm_book.specs.Scanned.{is_quiet};
+ghost use Rattle.ksm_book.specs.Whole.{view_of};
 
 use crate::frames::{clear, release_if};
 use crate::state::State;
@@ -38,7 +37,8 @@ impl State {
         requires own { self.old.keeper.table ≡ table.now }
         ensures own { self.new.keeper.table ≡ self.old.keeper.table }
         ensures comes { OnOk result (Comes self.old self.new (λ s. page_visited doing s spot.page)) }
-        ensures quiet { IfOk result (λ visited. is_quiet visited ≡ true → (from : BookValue) (s : BookState × Deed) → Reached from self.old s → IsStill s (page_visited doing s spot.page)) }
+        ensures quiet { IfOk result (λ visited. is_quiet visited ≡ true
+            → StaysStill self.old (λ s. page_visited doing s spot.page)) }
         ensures restless { self.new.restless ≡ self.old.restless }
         ensures refused { OnErr result (Comes self.old self.new (λ s. s)) }
         ensures refused_row { OnErr result (restless_at spot.page self.new.state.rows ≡ true) }
@@ -56,7 +56,8 @@ impl State {
         requires own { self.old.keeper.table ≡ table.now }
         ensures own { self.new.keeper.table ≡ self.old.keeper.table }
         ensures comes { OnOk result (Comes self.old self.new (λ s. page_visited doing s spot.page)) }
-        ensures quiet { IfOk result (λ visited. is_quiet visited ≡ true → (from : BookValue) (s : BookState × Deed) → Reached from self.old s → IsStill s (page_visited doing s spot.page)) }
+        ensures quiet { IfOk result (λ visited. is_quiet visited ≡ true
+            → StaysStill self.old (λ s. page_visited doing s spot.page)) }
         ensures restless { self.new.restless ≡ self.old.restless }
         ensures refused { OnErr result (Comes self.old self.new (λ s. s)) }
         ensures refused_row { OnErr result (restless_at spot.page self.new.state.rows ≡ true) }
@@ -84,7 +85,8 @@ impl State {
     // A page joins the best dup that it may join.
     fn join(&mut self, table: &FrameTable, spot: Spot, best: Best) -> Result<(), Fault>
         requires own { self.old.keeper.table ≡ table.now }
-        requires row { MatchOption (row_at spot.page self.old.state.rows) (true ≡ false) (MayJoin self.old.state best) }
+        requires row { MatchOption (row_at spot.page self.old.state.rows) (true ≡ false)
+            (MayJoin self.old.state best) }
         ensures own { self.new.keeper.table ≡ self.old.keeper.table }
         ensures visited { OnOk result (VisitsPage (view_of self.old) (view_of self.new) spot.page) }
         ensures restless { self.new.restless ≡ self.old.restless }
@@ -112,7 +114,8 @@ impl State {
     // A page makes a dup with the one that waits for it.
     fn pair(&mut self, table: &FrameTable, other: GuestPage, spot: Spot) -> Result<(), Fault>
         requires own { self.old.keeper.table ≡ table.now }
-        requires row { MatchOption (row_at spot.page self.old.state.rows) (true ≡ false) (MeetsPage self.old.state other) }
+        requires row { MatchOption (row_at spot.page self.old.state.rows) (true ≡ false)
+            (MeetsPage self.old.state other) }
         ensures own { self.new.keeper.table ≡ self.old.keeper.table }
         ensures visited { OnOk result (VisitsPage (view_of self.old) (view_of self.new) spot.page) }
         ensures restless { self.new.restless ≡ self.old.restless }

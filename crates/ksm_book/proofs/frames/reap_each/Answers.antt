@@ -11,7 +11,7 @@ dying-init c =
     record {
       low = omega arith;
       high = c.requires.low;
-      made = subst (λ n. Made v v (map Reap (dying_from v.ledger c.args.first n))) none (made_none v v refl);
+      made = subst (λ n. Made v v (map Reap (dying_from v.ledger c.args.first n))) none (made_none refl);
       later = λ f ge. refl;
     }
 
@@ -33,7 +33,7 @@ dying-preserved c =
       high = omega (arith, high);
       made = subst (Made v w')
           (sym (ap (map Reap) (next_reaped v.ledger c.args.first w.ledger from so_far.low so_far.later frame low first.least first.there) ∙ map-append Reap (dying_from v.ledger c.args.first (from - c.args.first)) (frame ∷ [])))
-          (made_then v w w' (map Reap (dying_from v.ledger c.args.first (from - c.args.first))) (Reap frame ∷ []) so_far.made (made_one w w' (Reap frame) found is));
+          (made_then so_far.made (made_one w w' (Reap frame) found is));
       later = λ f ge. ap (λ (z : KeeperView). frame_at z.ledger f) is ∙ other_if (count_in found == 0) w.ledger frame f _ (λ e. omega (arith, ge, e)) ∙ so_far.later f (omega (arith, ge, low));
     }
 

@@ -37,7 +37,7 @@ returns c =
     record {
       searched = w;
       finds = c.in_ok-frame.ensures;
-      fills = made_then w c.raise.new.self c.open.new.self (Raise frame ∷ []) _ (made_one w c.raise.new.self (Raise frame) c.raise.ensures.0 c.raise.ensures.1)
-          (made_then c.raise.new.self c.write.new.keeper c.open.new.self (steps_of (puts frame 0 c.args.bytes)) (Open frame ∷ [])
+      fills = made_then (made_one w c.raise.new.self (Raise frame) c.raise.ensures.0 c.raise.ensures.1)
+          (made_then
           (made_part c.raise.new.self c.write.new.keeper (puts frame 0 c.args.bytes) c.write.ensures.wrote) (made_one c.write.new.keeper c.open.new.self (Open frame) _ c.open.ensures));
     }

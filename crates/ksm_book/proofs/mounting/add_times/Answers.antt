@@ -4,7 +4,7 @@ use Rattle.ksm_book.proofs.Filling.{add_more, adds_ledger, base_more, held_withi
 use Rattle.ksm_book.proofs.mounting.add_times.Goals as goal
 
 pub loop-done-init : goal.loop-done-init
-loop-done-init c = record { made = made_none c.args.keeper.now c.args.keeper.now refl; base = omega arith }
+loop-done-init c = record { made = made_none refl; base = omega arith }
 
 pub loop-done-preserved : goal.loop-done-preserved
 loop-done-preserved c =

@@ -42,6 +42,6 @@ returns c =
       pages = dropped_pages p q k l c.stale.count c.stale.invariant told;
       count = dropped_count p q k l c.stale.count c.stale.invariant told;
       laid = c.stale.invariant.laid;
-      does = quiet_does k l (map (λ d. Withdraw d.place) (filter (is_stale p.rows) p.dups)) performs.made (quiet_withdraws (filter (is_stale p.rows) p.dups));
+      does = quiet_does performs.made (quiet_withdraws (filter (is_stale p.rows) p.dups));
       performs = performs;
     }

@@ -12,18 +12,16 @@ take_frame-requires-clause-checked c = subst IsShape (sym c.shape-shape.ensures)
 pub take_frame-requires-clause-lawful : goal.take_frame-requires-clause-lawful
 take_frame-requires-clause-lawful c =
     let p = seen c.args.pages.now in
-    lawful p.shape p.knobs.merge_across_nodes c.args.keeper.now p.rows p.frame p.dups None c.requires.laid.same c.requires.laid.placed
+    lawful c.args.keeper.now c.requires.laid.same c.requires.laid.placed
 
 pub returns-in_default-clause-turned : goal.returns-in_default-clause-turned
-returns-in_default-clause-turned c = (refl, turned (seen c.args.pages.now) c.args.keeper.now c.take_frame.new.keeper c.args.node c.requires.laid c.requires.node c.in_default.ensures)
+returns-in_default-clause-turned c = (refl, turned c.requires.laid c.requires.node c.in_default.ensures)
 
 pub release_if-requires-clause-may : goal.release_if-requires-clause-may
 release_if-requires-clause-may c =
-    may_left (seen c.args.pages.now) c.args.keeper.now c.take_frame.new.keeper c.requires.laid c.lie_in_order.ensures.rise c.args.spot.page c.requires.known c.args.node c.args.bytes c.in-Some.frame
-    c.requires.node (search rules) c.in-Some.ensures c.resettle-left.result c.resettle-left.ensures.left
+    may_left c.requires.laid c.lie_in_order.ensures.rise c.args.spot.page c.requires.known c.requires.node (search rules) c.in-Some.ensures c.resettle-left.result c.resettle-left.ensures.left
 
 pub returns-clause-resettled : goal.returns-clause-resettled
 returns-clause-resettled c =
-    resettled (seen c.args.pages.now) c.args.keeper.now c.take_frame.new.keeper c.requires.laid c.lie_in_order.ensures.rise c.args.spot.page c.requires.known c.args.node c.args.bytes c.in-Some.frame
-    c.requires.node (search rules) c.in-Some.ensures c.resettle-left.result c.resettle-left.ensures.left
+    resettled c.requires.laid c.lie_in_order.ensures.rise c.args.spot.page c.requires.known c.requires.node (search rules) c.in-Some.ensures c.resettle-left.result c.resettle-left.ensures.left
     (seen c.resettle-left.new.self) c.release_if.new.keeper c.resettle-left.ensures.settled c.release_if.ensures

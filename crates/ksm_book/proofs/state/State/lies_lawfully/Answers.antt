@@ -15,7 +15,7 @@ returns c =
       sound = subst (λ (x : BookValue). IsSound x.state) c.self.view_is sound;
       placed = subst (λ (x : BookValue). LieOn x.state (view_of x).frame x.keeper.ledger) c.self.view_is
           (lie_on b s.keeper.ledger sound p.frame laid.placed c.lie_in_order.ensures.absent);
-      place = subst (λ (x : BookValue). FindsPlace x.state) c.self.view_is (finds_places p s.keeper s.cursor s.passes sound laid);
+      place = subst (λ (x : BookValue). FindsPlace x.state) c.self.view_is (finds_places sound laid);
       lives = subst (λ (x : BookValue). x.state.next ≤ spent x.keeper.ledger) c.self.view_is laid.spent;
-      numbers = subst (λ (x : BookValue). NumbersAreSmall x.state) c.self.view_is (numbers_small b sound (spent_most p s.keeper laid));
+      numbers = subst (λ (x : BookValue). NumbersAreSmall x.state) c.self.view_is (numbers_small b sound (spent_most laid));
     }

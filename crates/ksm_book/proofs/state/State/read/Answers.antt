@@ -6,7 +6,7 @@ use Rattle.ksm_book.proofs.state.State.read.Goals as goal
 
 pub load-requires : goal.load-requires
 load-requires c =
-    let ready = may_read (seen c.self.inside.pages) c.self.inside.keeper c.self.invariant.1 c.args.page c.in_ok-held.ensures.row c.in_ok-held.ensures.found c.in-Some.frame (sym c.in_ok-held.ensures.frame ∙ c.in-Some.is) in
+    let ready = may_read c.self.invariant.1 c.args.page c.in_ok-held.ensures.row c.in_ok-held.ensures.found c.in-Some.frame (sym c.in_ok-held.ensures.frame ∙ c.in-Some.is) in
     record { own = search rules; inside = ready.0; readable = ready.1; wide = ready.2 }
 
 pub bytes-requires : goal.bytes-requires
@@ -14,7 +14,7 @@ bytes-requires c = ap is_some (found_spot c.self.inside.pages.rows c.args.page c
 
 pub returns-in-Some-clause-bytes : goal.returns-in-Some-clause-bytes
 returns-in-Some-clause-bytes c =
-    let there = may_read (seen c.self.inside.pages) c.self.inside.keeper c.self.invariant.1 c.args.page c.in_ok-held.ensures.row c.in_ok-held.ensures.found c.in-Some.frame (sym c.in_ok-held.ensures.frame ∙ c.in-Some.is) in
+    let there = may_read c.self.invariant.1 c.args.page c.in_ok-held.ensures.row c.in_ok-held.ensures.found c.in-Some.frame (sym c.in_ok-held.ensures.frame ∙ c.in-Some.is) in
     ap Some (c.load.ensures.bytes ∙ there.3) ∙ sym (ap (option_map (λ r. r.bytes)) c.in_ok-held.ensures.found) ∙ ap (λ (x : BookValue). bytes_of c.args.page x.state) c.self.view_is
 
 pub returns-in-Some-clause-loads : goal.returns-in-Some-clause-loads
@@ -25,4 +25,4 @@ returns-in-Some-clause-loads c =
     (part_did s.keeper c.load.new.keeper (loads c.in-Some.frame 0 c.load.result) c.load.ensures.loaded (quiet_loads c.in-Some.frame 0 c.load.result)))
 
 pub invariant_of-self : goal.invariant_of-self
-invariant_of-self c = (c.self.invariant.0, laid_same (seen c.self.inside.pages) c.self.inside.keeper c.self.invariant.1 c.load.new.keeper (ap (λ (z : KeeperView). z.table) c.load.ensures.loaded) c.load.ensures.ledger)
+invariant_of-self c = (c.self.invariant.0, laid_same c.self.invariant.1 c.load.new.keeper (ap (λ (z : KeeperView). z.table) c.load.ensures.loaded) c.load.ensures.ledger)

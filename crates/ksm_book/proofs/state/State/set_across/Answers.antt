@@ -35,8 +35,8 @@ laid : (c : goal.After-set_knobs) → IsLaid (seen c.set_knobs.new.self) c.drop_
 laid c =
     let k = c.drop_stale.new.keeper in
     let there = subst (λ (p : PagesView). IsLaid p k) (sym c.settle_all.ensures)
-    (laid_mapped (seen c.drop_stale.new.pages) k c.drop_stale.ensures.laid settled c.drop_stale.new.pages.restless (λ r. refl) (λ i d lt. settled_lodges (get_or c.drop_stale.new.pages.rows i d))) in
-    subst (λ (p : PagesView). IsLaid p k) (sym c.set_knobs.ensures) (retuned (seen c.settle_all.new.self) _ k (inr (none_left c)) there)
+    (laid_mapped c.drop_stale.ensures.laid settled c.drop_stale.new.pages.restless (λ r. refl) (λ i d lt. settled_lodges (get_or c.drop_stale.new.pages.rows i d))) in
+    subst (λ (p : PagesView). IsLaid p k) (sym c.set_knobs.ensures) (retuned _ (inr (none_left c)) there)
 
 sound : (c : goal.After-set_knobs) → IsSound (effect (state_of (seen c.self.inside.pages) c.self.inside.cursor c.self.inside.passes) (SetAcross c.args.across) Done)
 sound c =

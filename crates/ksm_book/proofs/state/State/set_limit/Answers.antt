@@ -15,5 +15,5 @@ invariant_of-self c =
     let there = c.drop_stale.ensures.pages in (
       subst IsSound (search rules) (sound_set_limit b c.args.limit Done accepted c.self.invariant.0),
       subst (λ (p : PagesView). IsLaid p c.drop_stale.new.keeper) (sym c.set_knobs.ensures)
-          (retuned (seen c.drop_stale.new.pages) _ c.drop_stale.new.keeper (inl (ap (λ (k : Knobs). k.merge_across_nodes) c.knobs-knobs.ensures ∙ sym (ap (λ (p : PagesView). p.knobs.merge_across_nodes) there))) c.drop_stale.ensures.laid),
+          (retuned _ (inl (ap (λ (k : Knobs). k.merge_across_nodes) c.knobs-knobs.ensures ∙ sym (ap (λ (p : PagesView). p.knobs.merge_across_nodes) there))) c.drop_stale.ensures.laid),
     )

@@ -6,5 +6,5 @@ pub invariant_of-self : goal.invariant_of-self
 invariant_of-self c =
     let s = c.self.inside in (
       subst IsSound (search rules) (sound_after (state_of (seen s.pages) s.cursor s.passes) (SetRun c.args.run) (Ok Done) c.self.invariant.0 (search rules)),
-      subst (λ (p : PagesView). IsLaid p s.keeper) (sym c.set_knobs.ensures) (retuned (seen s.pages) _ s.keeper (inl (ap (λ (k : Knobs). k.merge_across_nodes) c.knobs-knobs.ensures)) c.self.invariant.1),
+      subst (λ (p : PagesView). IsLaid p s.keeper) (sym c.set_knobs.ensures) (retuned _ (inl (ap (λ (k : Knobs). k.merge_across_nodes) c.knobs-knobs.ensures)) c.self.invariant.1),
     )

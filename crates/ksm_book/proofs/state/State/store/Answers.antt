@@ -5,13 +5,13 @@ use Rattle.ksm_book.proofs.state.State.store.Goals as goal
 
 pub known_frame-frame-requires : goal.known_frame-frame-requires
 known_frame-frame-requires c =
-    let f = has_frame (seen c.self.inside.pages) c.self.inside.keeper c.self.invariant.1 c.args.page c.in-Some.ensures.row c.in-Some.ensures.found
+    let f = has_frame c.self.invariant.1 c.args.page c.in-Some.ensures.row c.in-Some.ensures.found
     (own_framed c.in-Some.ensures.row.state (sym c.in-Some.ensures.shared ∙ c.if-held.false)) in
     ap is_some (c.in-Some.ensures.frame ∙ f.1)
 
 pub write-requires : goal.write-requires
 write-requires c =
-    let ready = own_ready (seen c.self.inside.pages) c.self.inside.keeper c.self.invariant.1 c.args.page c.in-Some.ensures.row c.in-Some.ensures.found (sym c.in-Some.ensures.shared ∙ c.if-held.false)
+    let ready = own_ready c.self.invariant.1 c.args.page c.in-Some.ensures.row c.in-Some.ensures.found (sym c.in-Some.ensures.shared ∙ c.if-held.false)
     c.known_frame-frame.result (sym c.in-Some.ensures.frame ∙ c.known_frame-frame.ensures) in
     record { own = search rules; inside = ready.0; within = ready.1; writable = ready.2; wide = ready.3 }
 
@@ -36,7 +36,7 @@ invariant_of-self-2 c =
     let wide : length c.args.bytes ≡ PAGE_WORDS = search rules in (
       sound_carried _ _ (Store c.in-Some.held.spot.page c.args.bytes) (Ok Done) c.self.invariant.0 (written c),
       subst (λ (x : PagesView). IsLaid x c.write.new.keeper) (sym c.store-2.ensures)
-          (laid_written p c.self.inside.keeper c.self.invariant.1 c.in-Some.held.spot.page c.in-Some.ensures.row (stored c.args.bytes) c.store-2.new.self.restless c.write.new.keeper c.known_frame-frame.result c.self.invariant.0.rows_rise
+          (laid_written c.self.invariant.1 c.in-Some.held.spot.page c.in-Some.ensures.row (stored c.args.bytes) c.store-2.new.self.restless c.write.new.keeper c.known_frame-frame.result c.self.invariant.0.rows_rise
           (found_spot c.self.inside.pages.rows c.args.page c.in-Some.held.spot.page c.in-Some.ensures.row c.in-Some.ensures.spot c.in-Some.ensures.found) (λ r. refl)
           (ap p.frame c.in-Some.ensures.spot ∙ sym c.in-Some.ensures.frame ∙ c.known_frame-frame.ensures) (ap (λ (z : KeeperView). z.table) c.write.ensures.wrote) c.write.ensures.ledger wide (sym c.in-Some.ensures.shared ∙ c.if-held.false) refl refl),
     )

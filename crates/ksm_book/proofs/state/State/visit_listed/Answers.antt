@@ -1,4 +1,4 @@
-use Rattle.ksm_book.proofs.Names.{[], and_parts, ap, arith, BookState, Deed, doing, from_to, IsStill, Listing, page_visited, pages_visited, Reached, slice_get, Some, subst, sym, ◌++◌, ◌+◌, ◌∙◌, ◌∷◌, ◌≡◌}
+use Rattle.ksm_book.proofs.Names.{[], and_parts, ap, arith, rules, BookState, Deed, doing, from_to, IsStill, Listing, page_visited, pages_visited, Reached, slice_get, Some, subst, sym, ◌++◌, ◌+◌, ◌∙◌, ◌∷◌, ◌≡◌}
 use Rattle.ksm_book.proofs.Folded.{still_on, visited_more}
 use Rattle.ksm_book.proofs.PagesAhead.{from_to_end, from_to_more}
 use Rattle.ksm_book.proofs.state.State.visit_listed.Goals as goal
@@ -34,15 +34,20 @@ all_done c =
     from_to_end c.args.self.now.restless.pages c.args.first c.loop-at.at c.args.end c.loop-at-test.false c.loop-at.invariant.0
     c.loop-at.auto.at
 
-pub returns-clause-comes : goal.returns-clause-comes
-returns-clause-comes c =
-    λ from s before. subst (λ l. Reached from c.loop-at.self (pages_visited doing s l)) (all_done c) (c.loop-at.invariant.2 from s before)
+pub returns-clause-visited : goal.returns-clause-visited
+returns-clause-visited c = record {
+  comes = λ from s before.
+      subst (λ l. Reached from c.loop-at.self (pages_visited doing s l)) (all_done c) (c.loop-at.invariant.2 from s before);
+  still = λ quiet from s before.
+      subst (λ l. IsStill s (pages_visited doing s l)) (all_done c) (c.loop-at.invariant.3 quiet from s before);
+}
 
-pub returns-clause-quiet : goal.returns-clause-quiet
-returns-clause-quiet c =
-    λ quiet from s before. subst (λ l. IsStill s (pages_visited doing s l)) (all_done c) (c.loop-at.invariant.3 quiet from s before)
-
-pub returns-in-Err-clause-refused_comes : goal.returns-in-Err-clause-refused_comes
-returns-in-Err-clause-refused_comes c = λ from s before.
-    c.in-Err.ensures.refused from (pages_visited doing s (from_to c.args.first c.loop-at.at c.args.self.now.restless.pages))
-    (c.loop-at.invariant.2 from s before)
+pub returns-in-Err-clause-stopped : goal.returns-in-Err-clause-stopped
+returns-in-Err-clause-stopped c =
+    let done = from_to c.args.first c.loop-at.at c.args.self.now.restless.pages in
+    record {
+      low = c.loop-at.auto.at;
+      high = omega arith;
+      comes = λ from s before. c.in-Err.ensures.refused from (pages_visited doing s done) (c.loop-at.invariant.2 from s before);
+      restless = search rules;
+    }

@@ -17,50 +17,46 @@ part c t down end high s same =
     (c.lies_in_order.ensures.listed c.requires.known)
     c.listed_up_to-first.ensures c.cursor.ensures high doing s same
 
-pub returns-in-Ok-clause-comes : goal.returns-in-Ok-clause-comes
-returns-in-Ok-clause-comes c = λ from s before.
-    subst (Reached from c.drop_over.new.self)
-    (part ((goal.at.returns-in-Ok-clause-comes c).After-visit_listed) (up_to c.args.last)
-    (up_to_down c.args.last) c.listed_to-end.result c.listed_to-end.ensures.many s before.0)
-    (c.drop_over.ensures.comes from _ (c.in-Ok.ensures.comes from s before))
-
-pub returns-in-Ok-clause-quiet : goal.returns-in-Ok-clause-quiet
-returns-in-Ok-clause-quiet c = λ quiet from s before.
-    subst (IsStill s)
-    (part ((goal.at.returns-in-Ok-clause-quiet c).After-visit_listed) (up_to c.args.last)
-    (up_to_down c.args.last) c.listed_to-end.result c.listed_to-end.ensures.many s before.0) (c.in-Ok.ensures.quiet quiet from s before)
+pub returns-in-Ok-clause-visited : goal.returns-in-Ok-clause-visited
+returns-in-Ok-clause-visited c =
+    let same = part ((goal.at.returns-in-Ok-clause-visited c).After-visit_listed) (up_to c.args.last)
+    (up_to_down c.args.last) c.listed_to-end.result c.listed_to-end.ensures.many in
+    record {
+      comes = λ from s before.
+          subst (Reached from c.drop_over.new.self) (same s before.0)
+          (c.drop_over.ensures.comes from _ (c.in-Ok.ensures.visited.comes from s before));
+      still = λ quiet from s before. subst (IsStill s) (same s before.0) (c.in-Ok.ensures.visited.still quiet from s before);
+    }
 
 -- the page that was not visited stands at its index
 stands : (c : After-listed_at) → slice_get c.args.self.now.restless.pages c.in-Err.at ≡ Some c.listed_at.result.page
 stands c = ap (λ (l : Listing). slice_get l.pages c.in-Err.at) (sym c.visit_listed.ensures.restless) ∙ c.listed_at.ensures
 
-pub returns-in-Err-clause-refused_page : goal.returns-in-Err-clause-refused_page
-returns-in-Err-clause-refused_page c =
+pub returns-in-Err-clause-stopped : goal.returns-in-Err-clause-stopped
+returns-in-Err-clause-stopped c =
     let start = c.args.self.now in
+    let all = start.restless.pages in
     let page = c.listed_at.result.page in
-    let done = from_to c.listed_up_to-first.result c.in-Err.at start.restless.pages in
-    let at = stands ((goal.at.returns-in-Err-clause-refused_page c).After-listed_at) in
-    let restless = subst (λ (b : BookState). restless_at page b.rows ≡ true)
-    (comes_to start c.visit_listed.new.self (λ s. pages_visited doing s done) c.in-Err.ensures.refused_comes)
-    (c.in-Err.ensures.refused_page page at) in
-    part_ahead (up_to c.args.last)
-    (up_to_down c.args.last) start.restless.pages c.listed_up_to-first.result c.listed_to-end.result c.cursor.result start.state
-    c.lies_in_order.ensures.rise (c.lies_in_order.ensures.listed c.requires.known)
-    c.listed_up_to-first.ensures c.cursor.ensures c.listed_to-end.ensures.many c.in-Err.at page at c.in-Err.ensures.refused.0
-    c.in-Err.ensures.refused.1
-    (was_restless start.state.rows (pages_visited doing (first start) done).0.rows
-    (pages_go doing done (first start) c.lies_in_order.ensures.rise) page restless)
-
-pub returns-in-Err-clause-refused_comes : goal.returns-in-Err-clause-refused_comes
-returns-in-Err-clause-refused_comes c = λ from s before.
-    let page = c.listed_at.result.page in
-    let all = c.args.self.now.restless.pages in
-    let at = stands ((goal.at.returns-in-Err-clause-refused_comes c).After-listed_at) in
+    let stopped = c.in-Err.ensures.stopped in
+    let done = from_to c.listed_up_to-first.result c.in-Err.at all in
+    let at = stands ((goal.at.returns-in-Err-clause-stopped c).After-listed_at) in
+    let listed = c.lies_in_order.ensures.listed c.requires.known in
     let within = slice_get_within all c.in-Err.at page at in
     let many : c.in-Err.at ≡ length (filter (λ p. comes_before p page) all) =
-    sym (length-take-le c.in-Err.at all (omega (arith, within)))
-    ∙ ap length (sym (place_splits all c.in-Err.at page (c.lies_in_order.ensures.listed c.requires.known).0 at).0) in
-    subst (Reached from c.visit_listed.new.self)
-    (part ((goal.at.returns-in-Err-clause-refused_comes c).After-visit_listed) (λ p. comes_before p page)
-    (before_down page) c.in-Err.at many s before.0)
-    (c.in-Err.ensures.refused_comes from s before)
+    sym (length-take-le c.in-Err.at all (omega (arith, within))) ∙ ap length (sym (place_splits all c.in-Err.at page listed.0 at).0) in
+    let restless = subst (λ (b : BookState). restless_at page b.rows ≡ true)
+    (comes_to start c.visit_listed.new.self (λ s. pages_visited doing s done) stopped.comes) (stopped.restless page at) in
+    let there = part_ahead (up_to c.args.last)
+    (up_to_down c.args.last) all c.listed_up_to-first.result c.listed_to-end.result c.cursor.result start.state
+    c.lies_in_order.ensures.rise listed c.listed_up_to-first.ensures c.cursor.ensures c.listed_to-end.ensures.many c.in-Err.at page at
+    stopped.low stopped.high
+    (was_restless start.state.rows (pages_visited doing (first start) done).0.rows
+    (pages_go doing done (first start) c.lies_in_order.ensures.rise) page restless) in
+    record {
+      within = there.0;
+      ahead = there.1;
+      comes = λ from s before. subst (Reached from c.visit_listed.new.self)
+          (part ((goal.at.returns-in-Err-clause-stopped c).After-visit_listed) (λ p. comes_before p page)
+          (before_down page) c.in-Err.at many s before.0)
+          (stopped.comes from s before);
+    }

@@ -15,23 +15,26 @@ pub loop-done-preserved : goal.loop-done-preserved
 loop-done-preserved c =
     let n : ℕ = c.loop-done.done in
     let k : ℕ = c.in-Ok.visits in (
-      omega (arith, c.in-Ok.ensures.most, c.loop-done.invariant.0),
+      omega (arith, c.in-Ok.ensures.made.fit, c.loop-done.invariant.0),
       c.go_on.ensures.known,
       λ from s before.
           subst (Reached from c.go_on.new.self) (sym (beside_on doing n k (n + k) s refl))
-          (c.in-Ok.ensures.comes from (visits_beside doing n s) (c.loop-done.invariant.2 from s before)),
+          (c.in-Ok.ensures.made.comes from (visits_beside doing n s) (c.loop-done.invariant.2 from s before)),
       c.go_on.ensures.own ∙ c.loop-done.invariant.3,
     )
 
 pub returns-in-Err-clause-scanned : goal.returns-in-Err-clause-scanned
 returns-in-Err-clause-scanned c =
     let n : ℕ = c.loop-done.done in
-    let k : ℕ = c.in-Err.made in (
+    let k : ℕ = c.in-Err.made in
+    let stopped = c.in-Err.ensures.stopped in (
       refl,
-      omega (arith, c.in-Err.ensures.fewer, c.loop-done.invariant.0),
-      λ from s before.
-          subst (Reached from c.go_on.new.self) (ap begun (sym (beside_on doing n k (n + k) s refl)))
-          (c.in-Err.ensures.stopped from (visits_beside doing n s) (c.loop-done.invariant.2 from s before)),
+      record {
+        fewer = omega (arith, stopped.fewer, c.loop-done.invariant.0);
+        comes = λ from s before.
+            subst (Reached from c.go_on.new.self) (ap begun (sym (beside_on doing n k (n + k) s refl)))
+            (stopped.comes from (visits_beside doing n s) (c.loop-done.invariant.2 from s before));
+      },
     )
 
 pub returns-clause-scanned : goal.returns-clause-scanned
