@@ -175,8 +175,9 @@ impl Dups {
         ensures waiting { IsTrue result → (t : ℕ) (b : List ℕ) → number_of t b self.now.numbers ≡ Some group
             → waiting_page t b self.now.waiting ≡ None }
     {
-        self.index.groups.is_of(group, tree, bytes)
-            && self.index.groups.waiting(group).is_none()
+        // Whether a page waits is told by two words, the content by the bytes of a page, so that comes behind it.
+        self.index.groups.waiting(group).is_none()
+            && self.index.groups.is_of(group, tree, bytes)
             && self.best_of(group, limit).is_none()
     }
 
