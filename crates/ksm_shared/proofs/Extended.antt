@@ -6,7 +6,6 @@ use Rattle.ksm_base.specs.declared.command.Command.{Command}
 use Rattle.ksm_base.specs.declared.fault.Fault.TheVariants.{Memory, UnknownPage, AlreadyRegistered, NoFrame, NotRunning, SharedPages, BadValue, InUse, CrossesNodes, UnknownPlace, BadNode}
 use Rattle.ksm_base.specs.Answers.{Answer, IsAnswer}
 use Rattle.ksm_base.specs.Apply.{IsAnswerOrMemory, after}
-use Rattle.ksm_base.specs.Counting.{counters_of}
 use Rattle.ksm_base.specs.Journal.{Entry, AreAnswers, IsLegal, is_memory, journal_after, replay}
 use Rattle.ksm_base.specs.State.{BookState, opening}
 use Rattle.frame_table.specs.Named.{TableName}
@@ -214,7 +213,7 @@ follows_on j j' log log' number c r said more is now next =
 pub follows_book : (j b b' : List Entry) (c : Command) (r : Answer) (said : Option Entry) → j ≡ b → b' ≡ journal_after b c r → said ≡ said_of c r → b' ≡ j ++ list_of said
 follows_book j b b' c r said now next is = next ∙ journal_made b c r ∙ (λ i. sym now i ++ sym (list_said said c r is) i)
 
--- the counters of a locked book are those after its journal
-pub counters_seen : (parts : PartsId) (b : JournaledBook) (es : List Entry) → b.keeper.table ≡ parts.frames → b.journal ≡ es → IsLegal b.keeper.table.shape b.journal b.state
-    → counters_of b.state ≡ counters_of (replay (opening parts.frames.shape) es)
-counters_seen parts b es own journal legal = ap counters_of (legal.leads ∙ (λ i. replay (opening (own i).shape) (journal i)))
+-- the journal of a locked book leads to its state
+pub leads_seen : (parts : PartsId) (b : JournaledBook) (es : List Entry) → b.keeper.table ≡ parts.frames → b.journal ≡ es → IsLegal b.keeper.table.shape b.journal b.state
+    → b.state ≡ replay (opening parts.frames.shape) es
+leads_seen parts b es own journal legal = legal.leads ∙ (λ i. replay (opening (own i).shape) (journal i))

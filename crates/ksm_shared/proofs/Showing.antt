@@ -5,12 +5,11 @@ use mathlib.Core.List.{IsPrefix}
 use lib.ListN.{get_elem?}
 use Rattle.crossbeam_utils.specs.Register.{Admits, TurnsAt}
 use Rattle.atomic_table.proofs.Lists.{at_set, at_snoc}
-use Rattle.ksm_base.specs.declared.counters.Counters.{Counters}
 use Rattle.ksm_base.specs.Counting.{counters_of}
 use Rattle.ksm_base.specs.Journal.{AreAnswers, Entry, replay}
-use Rattle.ksm_base.specs.State.{opening}
+use Rattle.ksm_base.specs.State.{BookState, opening}
 use Rattle.ksm_shared.specs.Named.{PartsId}
-use Rattle.ksm_shared.specs.Published.{IsRowOf, Reached, RowsGoOn, ShownRow, Shows, nothing_seen}
+use Rattle.ksm_shared.specs.Published.{IsRowOf, Reached, RowsGoOn, ShownRow, Shows, nothing_seen, row_at}
 use Rattle.ksm_shared.proofs.Beginnings.{prefix_self, prefix_trans}
 
 -- what the rule says of one seat
@@ -52,13 +51,11 @@ no_seat parts x (suc seat) v e = absurd (cc e)
 pub begins : (parts : PartsId) (x : ShownRow) → IsRowOf parts x → RowsGoOn parts x (nothing_seen parts ∷ [])
 begins parts x row = admits parts x [] (row, no_seat parts x)
 
--- the counters after a legal journal make a row
-pub row_of : (parts : PartsId) (x : ShownRow) (r : Reached) (counters : Counters) (journal : List Entry) → x.counters ≡ counters → x.reached ≡ r → r.logbook ≡ parts.logbook → r.journal ≡ journal
-    → AreAnswers (opening parts.frames.shape) journal → counters ≡ counters_of (replay (opening parts.frames.shape) journal) → IsRowOf parts x
-row_of parts x r counters journal c e b j legal is =
-    let all : x.reached.journal ≡ journal = ap (λ (y : Reached). y.journal) e ∙ j in
-    record {
-      logbook = ap (λ (y : Reached). y.logbook) e ∙ b;
-      legal = subst (λ (l : List Entry). AreAnswers (opening parts.frames.shape) l) (sym all) legal;
-      counters = c ∙ is ∙ ap (λ (l : List Entry). counters_of (replay (opening parts.frames.shape) l)) (sym all);
-    }
+-- a book to which a legal journal leads makes a row
+pub row_of : (parts : PartsId) (b : BookState) (r : Reached) (journal : List Entry) → r.logbook ≡ parts.logbook → r.journal ≡ journal → AreAnswers (opening parts.frames.shape) journal
+    → b ≡ replay (opening parts.frames.shape) journal → IsRowOf parts (row_at b r)
+row_of parts b r journal own is legal leads = record {
+  logbook = own;
+  legal = subst (AreAnswers (opening parts.frames.shape)) (sym is) legal;
+  counters = λ _. ap counters_of (leads ∙ ap (replay (opening parts.frames.shape)) (sym is));
+}

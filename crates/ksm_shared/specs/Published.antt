@@ -1,5 +1,5 @@
 -- What readers are shown of the journal with no lock: beginnings of it, and rows of counters (own).
-use Rattle.std.specs.Prelude.{◌≡◌, ◌==◌, ℕ, true, List, [], ◌∷◌, ◌++◌, length, MatchBool, Option, Some, None}
+use Rattle.std.specs.Prelude.{◌≡◌, ◌==◌, ◌<◌, ℕ, true, List, [], ◌∷◌, ◌++◌, length, MatchBool, Option, Some, None}
 use mathlib.Core.List.{IsPrefix}
 use mathlib.Core.Option.{some}
 use lib.ListN.{get_elem?}
@@ -7,7 +7,7 @@ use Rattle.logbook.specs.Pages.{Book, Cell, Named, Step, View}
 use Rattle.ksm_base.specs.declared.counters.Counters.{Counters}
 use Rattle.ksm_base.specs.Counting.{counters_of}
 use Rattle.ksm_base.specs.Journal.{Entry, AreAnswers, replay}
-use Rattle.ksm_base.specs.State.{opening}
+use Rattle.ksm_base.specs.State.{BookState, opening}
 use Rattle.ksm_shared.specs.declared.reader.Row.{Row}
 use Rattle.ksm_shared.specs.Named.{PartsId}
 
@@ -33,11 +33,16 @@ pub record ShownRow : Type 0 where
   pub counters : Counters
   pub reached : Reached
 
--- the counters of these parts after a legal journal, which is a beginning of theirs
+-- the row of a book in this state, after this beginning of its journal
+abbrev pub row_at : BookState → Reached → ShownRow
+row_at b reached = record { counters = counters_of b; reached = reached }
+
+-- The counters of these parts after a legal journal, which is a beginning of theirs. Parts without readers show nobody a row, so there its
+-- counters may be any.
 pub record IsRowOf (parts : PartsId) (x : ShownRow) : Type 0 where
   pub logbook : x.reached.logbook ≡ parts.logbook
   pub legal : AreAnswers (opening parts.frames.shape) x.reached.journal
-  pub counters : x.counters ≡ counters_of (replay (opening parts.frames.shape) x.reached.journal)
+  pub counters : 0 < parts.readers → x.counters ≡ counters_of (replay (opening parts.frames.shape) x.reached.journal)
 
 -- nothing was seen yet
 abbrev pub nothing_seen : PartsId → Reached

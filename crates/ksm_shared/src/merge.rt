@@ -101,8 +101,7 @@ impl<N: Naming> Merge<N> {
         let said = said(command, result);
         let table = &self.seen;
         write(&table.shared, &mut self.seat, &mut share.seat, &said);
-        let counters = self.book.counters();
-        self.publisher.follow(rt, &said, counters);
+        self.publisher.follow(rt, &said, &self.book);
         result
     }
 

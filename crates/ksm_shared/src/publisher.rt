@@ -10,6 +10,7 @@ use crate::naming::Naming;
 use crate::rows::{CountedRow, RowReader, Rows};
 use crate::seen::Entry;
 use ksm_base::{Counters, Fault};
+use ksm_book::Book;
 use std::alloc::Global;
 use std::marker::Model;
 use std::sync::Wait;
@@ -72,16 +73,15 @@ impl<N: Naming> Publisher<N> {
         self.rows.newest().again()
     }
 
-    /// Follows the journal by its next entry, if there is one, and shows readers the counters after it. It takes no memory.
-    pub fn follow<R: Wait>(&mut self, rt: &R, next: &Option<Entry>, counters: Counters)
+    /// Follows the journal by its next entry, if there is one, and shows readers the counters of the book after it. It takes no memory.
+    pub fn follow<R: Wait>(&mut self, rt: &R, next: &Option<Entry>, book: &Book)
         requires legal { AreAnswers (opening N.parts.frames.shape) (self.old ++ list_of next.now) }
-        requires counters { counters ≡ counters_of (replay (opening N.parts.frames.shape) (self.old ++ list_of next.now)) }
+        requires leads { book.now.state ≡ replay (opening N.parts.frames.shape) (self.old ++ list_of next.now) }
         ensures { self.new ≡ self.old ++ list_of next.now }
     {
         let mut reached = self.rows.newest().beginning().again();
         go_on(rt, &self.word, &mut reached, next);
-        let row = CountedRow::new(counters, reached);
-        self.rows.show(rt, row);
+        self.rows.show(rt, reached, book);
     }
 
     /// Ends the copies of the newest row, once no reader is in them.

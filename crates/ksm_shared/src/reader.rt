@@ -1,5 +1,5 @@
 //! Readers of counters, and the rows that they are shown.
-ghost use Rattle.std.specs.Prelude.{◌≡◌, IfNone, IfSome};
+ghost use Rattle.std.specs.Prelude.{◌≡◌, ◌<◌, IfNone, IfSome};
 ghost use mathlib.Core.List.{IsPrefix};
 ghost use Rattle.ksm_shared.specs.Published.{IsRowOf, Tells};
 
@@ -26,7 +26,7 @@ pub struct CounterReader<N: Naming> {
 }
 
 impl<N: Naming> Model for CounterReader<N> {
-    ghost use Rattle.std.specs.Prelude.{List};
+    ghost use Rattle.std.specs.Prelude.{List, ◌<◌};
     ghost use Rattle.ksm_base.specs.Journal.{Entry};
     ghost use Rattle.ksm_shared.specs.Published.{IsRowOf};
 
@@ -34,12 +34,13 @@ impl<N: Naming> Model for CounterReader<N> {
 
     ghost view = { λ r. r.row.reached.journal };
 
-    ghost invariant = { λ r. IsRowOf N.parts r.row };
+    ghost invariant = { λ r. (0 < N.parts.readers) × IsRowOf N.parts r.row };
 }
 
 impl<N: Naming> CounterReader<N> {
     pub(crate) fn new(reader: RowReader<N>, row: CountedRow) -> CounterReader<N>
-        requires { IsRowOf N.parts row }
+        requires readers { 0 < N.parts.readers }
+        requires row { IsRowOf N.parts row }
         ensures { result ≡ row.reached.journal }
     {
         CounterReader {

@@ -2,13 +2,14 @@
 //! has, and readers take that one from then on; so to show a row takes no memory.
 ghost use Rattle.std.specs.Prelude.{◌≡◌, ◌<◌, ◌^◌, ◌⊎◌, IfOk};
 ghost use mathlib.Core.List.{IsPrefix};
-ghost use Rattle.ksm_shared.specs.Published.{IsRowOf};
+ghost use Rattle.ksm_shared.specs.Published.{IsRowOf, row_at};
 
 use crate::beginning::Beginning;
 use crate::naming::Naming;
 use core::mem::replace_with;
 use crossbeam_utils::rule::{Outcome, Protocol};
 use ksm_base::Counters;
+use ksm_book::Book;
 use left_right::Absorb;
 use left_right::reader::Reader;
 use left_right::writer::Writer;
@@ -116,7 +117,8 @@ pub type RowReader<N> = Reader<CountedRow, Beginning, RowsGoOn<N>>;
 /// Writes both copies.
 pub type RowWriter<N> = Writer<CountedRow, (), Beginning, RowsGoOn<N>>;
 
-/// The newest row, and the two copies that readers take it from; where the book has no readers there are none. Contracts see the newest row.
+/// The newest row, and the two copies that readers take it from. Where the book has no readers there are none, and the row says only how far
+/// the journal has come. Contracts see the newest row.
 ///
 /// They must be closed.
 pub struct Rows<N: Naming> {
@@ -172,16 +174,21 @@ impl<N: Naming> Rows<N> {
         &self.newest
     }
 
-    /// Shows the row: who enters the copies from now on takes it. It waits for the readers of the row before the last one.
-    pub fn show<R: Wait>(&mut self, rt: &R, row: CountedRow)
-        requires begins { IsPrefix self.old.reached.journal row.reached.journal }
-        requires row { IsRowOf N.parts row }
-        ensures { self.new ≡ row }
+    /// Shows the counters of the book, after this beginning of its journal: who enters the copies from now on takes them. It waits for the
+    /// readers of the row before the last one. Without readers no counters are taken.
+    pub fn show<R: Wait>(&mut self, rt: &R, reached: Beginning, book: &Book)
+        requires begins { IsPrefix self.old.reached.journal reached.journal }
+        requires row { IsRowOf N.parts (row_at book.now.state reached) }
+        ensures { self.new.reached ≡ reached }
     {
-        if let Some(copies) = &mut self.copies {
-            replace_with(copies, (rt, row.again()), publish);
+        match &mut self.copies {
+            Some(copies) => {
+                let row = CountedRow::new(book.counters(), reached);
+                replace_with(copies, (rt, row.again()), publish);
+                self.newest = row;
+            }
+            None => self.newest.beginning = reached,
         }
-        self.newest = row;
     }
 
     /// Ends the copies, once no reader is in them.

@@ -2,7 +2,7 @@ use Rattle.std.proofs.Common.{◌≡◌, ◌∙◌, ◌++◌, ◌<◌, ℕ, ap, 
 use Rattle.ksm_shared.specs.declared.seen.Caller.{Caller}
 use Rattle.ksm_shared.specs.Seen.{entries, first}
 use Rattle.ksm_shared.specs.Locked.{SeesOn, made_by}
-use Rattle.ksm_shared.proofs.Extended.{answers_seen, book_seat_is, counters_seen, follows_book, follows_on, new_journal, new_log, new_owners, part_grows, sees_on, shown_all}
+use Rattle.ksm_shared.proofs.Extended.{answers_seen, book_seat_is, follows_book, follows_on, leads_seen, new_journal, new_log, new_owners, part_grows, sees_on, shown_all}
 use Rattle.ksm_shared.proofs.merge.Merge.carry_out.Given.{Over}
 use Rattle.ksm_shared.proofs.merge.Merge.carry_out.Goals as goal
 
@@ -29,12 +29,12 @@ follow-requires-clause-legal g c =
     let next = follows_book _ _ _ _ _ _ (i.8 ∙ sym i.1) a.ensures.journal c.said-said.ensures in
     answers_seen g.N.Naming.parts a.new.self _ (a.ensures.carried.own ∙ i.0) next c.lies_lawfully.ensures.legal
 
-pub follow-requires-clause-counters : goal.follow-requires-clause-counters
-follow-requires-clause-counters g c =
+pub follow-requires-clause-leads : goal.follow-requires-clause-leads
+follow-requires-clause-leads g c =
     let i = c.self.invariant in
     let a = c.apply-result in
     let next = follows_book _ _ _ _ _ _ (i.8 ∙ sym i.1) a.ensures.journal c.said-said.ensures in
-    c.counters-counters.ensures ∙ counters_seen g.N.Naming.parts a.new.self _ (a.ensures.carried.own ∙ i.0) next c.lies_lawfully.ensures.legal
+    leads_seen g.N.Naming.parts a.new.self _ (a.ensures.carried.own ∙ i.0) next c.lies_lawfully.ensures.legal
 
 pub returns-clause-published : goal.returns-clause-published
 returns-clause-published g c = follows g c

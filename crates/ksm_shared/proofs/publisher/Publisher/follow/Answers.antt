@@ -12,14 +12,12 @@ go_on-requires g c =
 pub show-requires-clause-begins : goal.show-requires-clause-begins
 show-requires-clause-begins g c =
     let was = c.again-reached.ensures ∙ c.beginning.ensures ∙ ap (λ (r : ShownRow). r.reached) c.newest.ensures.0 in
-    let goes = ap (λ (r : Reached). r.journal) c.new-row.ensures.1 ∙ c.go_on.ensures.journal ∙ ap (λ (r : Reached). r.journal ++ list_of c.args.next.now) was in
-    (list_of c.args.next.now, sym goes)
+    (list_of c.args.next.now, sym (c.go_on.ensures.journal ∙ ap (λ (r : Reached). r.journal ++ list_of c.args.next.now) was))
 
 pub show-requires-clause-row : goal.show-requires-clause-row
 show-requires-clause-row g c =
     let was = c.again-reached.ensures ∙ c.beginning.ensures ∙ ap (λ (r : ShownRow). r.reached) c.newest.ensures.0 in
-    let journal = c.args.self.now ++ list_of c.args.next.now in
-    row_of g.N.Naming.parts _ _ c.args.counters journal c.new-row.ensures.0 c.new-row.ensures.1
+    row_of g.N.Naming.parts _ _ _
     (c.go_on.ensures.logbook ∙ ap (λ (r : Reached). r.logbook) was ∙ c.newest.ensures.1.logbook)
     (c.go_on.ensures.journal ∙ ap (λ (r : Reached). r.journal ++ list_of c.args.next.now) was ∙ ap (λ (l : List Entry). l ++ list_of c.args.next.now) c.self.view_is)
-    c.requires.legal c.requires.counters
+    c.requires.legal c.requires.leads
