@@ -3,7 +3,7 @@ use Rattle.std.specs.Prelude.{◌≡◌, ◌≢◌, ℕ, All, List, ◌∷◌, �
 use Rattle.ksm_lines.specs.declared.line.Line.{Line}
 use Rattle.ksm_lines.specs.declared.line.Line.TheVariants as lines
 use Rattle.ksm_lines.specs.declared.leading.ShortLine.{ShortLine}
-use Rattle.ksm_lines.specs.declared.leading.ShortLine.TheVariants.{Get, Ticket, Find, Look, Leave, Stat}
+use Rattle.ksm_lines.specs.declared.leading.ShortLine.TheVariants.{Get, Ticket, Find, Look, Leave, Scan, Stat}
 use Rattle.ksm_lines.specs.declared.leading.PageLine.{PageLine}
 use Rattle.ksm_lines.specs.declared.leading.PageLine.TheVariants.{Register, Store, Equal}
 use Rattle.ksm_lines.specs.Grammar.{Writes}
@@ -15,6 +15,7 @@ short_form (Ticket page) = lines.Ticket page
 short_form (Find pass place) = lines.Find pass place
 short_form (Look pass) = lines.Look pass
 short_form (Leave pass) = lines.Leave pass
+short_form (Scan visits) = lines.Scan visits
 short_form Stat = lines.Stat
 
 -- the line that one with a page's content is

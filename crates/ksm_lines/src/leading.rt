@@ -26,6 +26,8 @@ pub enum ShortLine {
     Look { pass: u32 },
     /// `leave K`
     Leave { pass: u32 },
+    /// `scan N`
+    Scan { visits: u32 },
     /// `stat`
     Stat,
 }
@@ -65,6 +67,9 @@ pub fn leading_short_line(text: &[u8]) -> Option<(ShortLine, &[u8])>
     }
     if front == first_four(b"leave ") {
         return leave(text);
+    }
+    if front == first_four(b"scan ") {
+        return scan(text);
     }
     if front == first_four(b"stat\n") {
         return stat(text);
@@ -137,6 +142,15 @@ fn leave(text: &[u8]) -> Option<(ShortLine, &[u8])>
     let left = behind_name(text, b"leave ")?;
     let (pass, left) = number_to(left, b'\n')?;
     Some((ShortLine::Leave { pass }, left))
+}
+
+#[inline(always)]
+fn scan(text: &[u8]) -> Option<(ShortLine, &[u8])>
+    ensures { IfSome result (λ r. BeginsWith (short_form r.0) text.now r.1.now) }
+{
+    let left = behind_name(text, b"scan ")?;
+    let (visits, left) = number_to(left, b'\n')?;
+    Some((ShortLine::Scan { visits }, left))
 }
 
 #[inline(always)]

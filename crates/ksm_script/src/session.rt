@@ -7,7 +7,7 @@ ghost use Rattle.ksm_base.specs.Refusals.{is_known};
 ghost use Rattle.ksm_base.specs.declared.command.Command.TheVariants.{Scan as scan};
 ghost use Rattle.ksm_lines.specs.Knobs.{shown_in};
 ghost use Rattle.ksm_lines.specs.Leading.{short_form, page_form};
-ghost use Rattle.ksm_lines.specs.declared.line.Line.TheVariants.{Get as get_line, Ticket as ticket_line, Find as find_line, Look as look_line, Leave as leave_line, ScanPages as scan_pages_line, Stat as stat_line};
+ghost use Rattle.ksm_lines.specs.declared.line.Line.TheVariants.{Get as get_line, Ticket as ticket_line, Find as find_line, Look as look_line, Leave as leave_line, Scan as scan_line, ScanPages as scan_pages_line, Stat as stat_line};
 ghost use Rattle.ksm_base.specs.Counting.{counters_of};
 ghost use Rattle.ksm_script.specs.declared.reply.LineReply.TheVariants.{Counters as counters_reply, Done as done_reply, Value as value_reply};
 ghost use Rattle.frame_table.specs.Seats.{new_pass};
@@ -151,6 +151,7 @@ impl<N: Naming> Session<N> {
             ShortLine::Find { pass, place } => self.tell_found::<P, S>(pass, place, to),
             ShortLine::Look { pass } => self.tell_held::<P, S>(pass, to),
             ShortLine::Leave { pass } => self.tell_left::<P, S>(pass, to),
+            ShortLine::Scan { visits } => self.tell_visits::<P, R, S>(rt, visits, to),
             ShortLine::Stat => self.tell_counters::<P, R, S>(rt, to),
         }
     }
@@ -210,6 +211,18 @@ impl<N: Naming> Session<N> {
         ensures answers { IsSaid P.takes (λ reply. Answers (leave_line pass) self.old.state reply self.new.state) to.old to.new result }
     {
         P::reply(to, self.act(pass, Act::Leave))
+    }
+
+    #[inline(never)]
+    fn tell_visits<P: Replies<S>, R: Wait, S>(
+        &mut self,
+        rt: &R,
+        visits: u32,
+        to: &mut S,
+    ) -> Result<(), RunFault>
+        ensures answers { IsSaid P.takes (λ reply. Answers (scan_line visits) self.old.state reply self.new.state) to.old to.new result }
+    {
+        self.tell_made::<P, R, S>(rt, scan_of(visits), to)
     }
 
     #[inline(never)]
