@@ -1,6 +1,6 @@
 -- What is asked of the pages: the place of a page's dup, and the first page after a cursor.
-use Rattle.ksm_pages.proofs.Names.{[], after_cursor, All-cons, ap, arith, Bool, cases_Bool, comes_before, DupRow, each_at_page, Entry, eq-eqb, false, find, find_all, find_none, find_nothing, find_passes, get_or, GuestPage, held_at, held_of, inl, InPageOrder, inr, Inside, is_next, IsHeld, Kind, List, nat_tests, None, none-some, of_guest, Option, option_map, PagesValue, pairs_head, pairs_tail, place_of, refl, Row, row_at, rows_of, same_Some, seen, Some, state_of, subst, sym, true, true≢false, ℕ, ◌&&◌, ◌==◌, ◌∙◌, ◌∷◌, ◌≡◌, ◌≤◌}
-use Rattle.ksm_pages.proofs.Options.{none_mapped}
+use Rattle.ksm_pages.proofs.Names.{[], after_cursor, All-cons, ap, arith, Bool, cases_Bool, comes_before, DupRow, each_at_page, Entry, eq-eqb, false, find, find_all, find_none, find_nothing, find_passes, get_or, GuestPage, held_at, held_of, inl, InPageOrder, inr, Inside, is_next, IsHeld, Kind, List, nat_tests, None, none-some, of_guest, Option, option_map, PagesValue, pairs_head, pairs_tail, place_of, refl, Row, row_at, rows_of, seen, Some, state_of, subst, sym, true, true≢false, ℕ, ◌&&◌, ◌==◌, ◌∙◌, ◌∷◌, ◌≡◌, ◌≤◌}
+use Rattle.ksm_pages.proofs.Options.{mapped_some, none_mapped}
 use Rattle.std.specs.Prelude.{IfSome, MatchOption, option_and_then}
 use Rattle.ksm_tree.specs.Dups.{rows_of as dup_rows}
 use Rattle.ksm_pages.specs.declared.pages.Held.{Held as Told}
@@ -87,12 +87,9 @@ module _ (s : Inside) (are : AreLawful s) (p : PagesValue) (seen_as : view_of s 
 
   module _ (page : GuestPage) (first : Some page ≡ option_map (λ (r : Row). r.page) (find behind (rows_of s.rows.held))) where
     there : (r : Row) × (find behind p.rows ≡ Some r) × (page ≡ r.page)
-    there = go (find behind p.rows) refl (first ∙ first_page)
-      where
-        go : (o : Option Row) → find behind p.rows ≡ o → Some page ≡ option_map (λ (r : Row). r.page) o
-            → (r : Row) × (find behind p.rows ≡ Some r) × (page ≡ r.page)
-        go None found is = absurd (none-some page (sym is))
-        go (Some r) found is = (r, found, same_Some page r.page is)
+    there =
+        let at = mapped_some (λ (r : Row). r.page) (find behind p.rows) page (sym (first ∙ first_page)) in
+        (at.0, at.1, sym at.2)
 
     abbrev r : Row
     r = there.0

@@ -3,10 +3,7 @@ use Rattle.ksm_pages.proofs.Names.{[], after_cursor, Ahead, ahead_of, All, All-f
 use Rattle.ksm_pages.specs.Ordered.{last_or}
 use Rattle.ksm_pages.proofs.Counts.{filter_both, take_parted}
 use Rattle.ksm_rmap.proofs.Ordered.{behind_rest, parted}
-use Rattle.ksm_pages.proofs.Placed.{pages_cut, run_rises}
-
-abbrev before : Named → Named → Type 0
-before m n = comes_before m.page n.page ≡ true
+use Rattle.ksm_pages.proofs.Placed.{before, pages_cut, run_rises}
 
 -- the count over all pages is the count before a run, that in the run, and that behind the run together
 pub count_cut : (p : Named → Bool) (runs : List (List Named)) (at : ℕ) (d : List Named) → at < length runs → count_by p (pages_in runs) ≡ count_by p (pages_in (take at runs)) + (count_by p (get_or runs at d) + count_by p (pages_in (drop (at + 1) runs)))
@@ -34,22 +31,6 @@ pub page_within : (xs ys : List Named) (k : ℕ) → k < length xs → page_at (
 page_within [] ys k lt = absurd (omega arith)
 page_within (x ∷ xs) ys zero lt = refl
 page_within (x ∷ xs) ys (suc k) lt = page_within xs ys k (omega arith)
-
--- the visits are those of the runs before one, and those left in it
-module _ (front run behind : List Named) (visits left : ℕ) (counted : visits ≡ length front + left) (some : 1 ≤ left) (within : left ≤ length run) where
-  -- where visits end within a run, the page of the last visit is in that run, at the place of the visits left
-  pub page_left : page_at (front ++ (run ++ behind)) (visits - 1) ≡ page_at run (left - 1)
-  page_left =
-      page_behind front (run ++ behind) (visits - 1) (left - 1) (omega arith)
-      ∙ page_within run behind (left - 1) (omega arith)
-
-  -- where visits end within a run and more pages follow, the visits come to the page of the last
-  pub goes_on_at : (page : GuestPage) → left < length run + length behind → page_at run (left - 1) ≡ Some page → ComesTo (front ++ (run ++ behind)) visits (At page)
-  goes_on_at page more last = (omega (arith, length-append front (run ++ behind), length-append run behind), page_left ∙ last)
-
-  -- where visits end within a run and no page follows, the visits end the pass
-  pub ends_at : length run + length behind ≤ left → ComesTo (front ++ (run ++ behind)) visits (End visits)
-  ends_at none = (omega (arith, length-append front (run ++ behind), length-append run behind), omega arith)
 
 -- where pages that were passed stand before those ahead, that many visits more come to the same
 -- what visits come to, with so many taken off those made
@@ -151,37 +132,33 @@ module _ (runs : List (List Named)) (at visits left : ℕ) (counted : left + cou
     abbrev m : Named → Bool
     m n = n.mergeable
 
-    in_front : visits ≡ length (visited (pages_in (take at runs))) + left
-    in_front = omega (arith, counted, length-filter m (pages_in (take at runs)))
-
     in_run : left ≤ length (visited (get_or runs at []))
     in_run = omega (arith, here, length-filter m (get_or runs at []))
 
-    -- where a run has the visits that are left, the page of the last visit is in that run
+    -- where a run has the visits that are left, the page of the last visit is in that run, at the place of those left
     pub last_there : page_at (visited (get_or runs at [])) (left - 1) ≡ page_at (visited (pages_in runs)) (visits - 1)
     last_there =
-        sym (page_left (visited (pages_in (take at runs))) (visited (get_or runs at [])) (visited (pages_in (drop (at + 1) runs))) visits left in_front some in_run)
+        let front = visited (pages_in (take at runs)) in
+        let run = visited (get_or runs at []) in
+        let behind = visited (pages_in (drop (at + 1) runs)) in
+        sym (page_behind front (run ++ behind) (visits - 1) (left - 1) (omega (arith, counted, some, length-filter m (pages_in (take at runs))))
+        ∙ page_within run behind (left - 1) (omega (arith, some, in_run)))
         ∙ ap (λ ns. page_at ns (visits - 1)) (sym (visited_cut runs at [] within))
 
     -- where a run has the visits that are left, the page of the last visit exists
     pub is_there : page_at (visited (get_or runs at [])) (left - 1) ≢ None
     is_there = no_page (visited (get_or runs at [])) (left - 1) (omega (arith, some, in_run))
 
+    all_counted : length (visited (pages_in runs)) + left ≡ visits + count_by m (pages_in (drop at runs))
+    all_counted = omega (arith, counted, count_cut m runs at [] within, count_from runs at [] within, length-filter m (pages_in runs))
+
     -- where the runs from one on have more visits than are left, the visits come to the page of the last
     pub comes_at : (page : GuestPage) → nat_lt left (count_by (λ n. n.mergeable) (pages_in (drop at runs))) ≡ true → page_at (visited (get_or runs at [])) (left - 1) ≡ Some page → ComesTo (visited (pages_in runs)) visits (At page)
-    comes_at page more last =
-        let less = ltb-true left _ more in
-        subst (λ ns. ComesTo ns visits (At page)) (sym (visited_cut runs at [] within))
-        (goes_on_at (visited (pages_in (take at runs))) (visited (get_or runs at [])) (visited (pages_in (drop (at + 1) runs))) visits left in_front some in_run page
-        (omega (arith, less, count_from runs at [] within, length-filter m (get_or runs at []), length-filter m (pages_in (drop (at + 1) runs)))) last)
+    comes_at page more last = (omega (arith, ltb-true left _ more, all_counted), sym last_there ∙ last)
 
     -- where the runs from one on have no more visits than are left, the visits end the pass
     pub comes_end : nat_lt left (count_by (λ n. n.mergeable) (pages_in (drop at runs))) ≡ false → ComesTo (visited (pages_in runs)) visits (End visits)
-    comes_end none =
-        let most = ltb-false left _ none in
-        subst (λ ns. ComesTo ns visits (End visits)) (sym (visited_cut runs at [] within))
-        (ends_at (visited (pages_in (take at runs))) (visited (get_or runs at [])) (visited (pages_in (drop (at + 1) runs))) visits left in_front some in_run
-        (omega (arith, most, count_from runs at [] within, length-filter m (get_or runs at []), length-filter m (pages_in (drop (at + 1) runs)))))
+    comes_end none = (omega (arith, ltb-false left _ none, all_counted, here, count_from runs at [] within), omega arith)
 
 -- one visit ends in a run exactly where some page is visited
 pub some_visited : (runs : List (List Named)) (at left : ℕ) → left + count_by (λ n. n.mergeable) (pages_in (take at runs)) ≡ 1 → 1 ≤ left → (at < length runs → left ≤ count_by (λ n. n.mergeable) (get_or runs at []))

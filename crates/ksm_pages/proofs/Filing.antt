@@ -1,6 +1,6 @@
 -- Entries under keys and the order of their pages: what is found, and what one entry that came, went or changed leaves.
-use Rattle.ksm_pages.proofs.Names.{All, All-append, All-cons, All-filter, All-map, ap, ap₂, AreAscending, AreFiled, Bool, cases_Bool, change_held, comes_before, cond, Decides-eqb, Entry, false, filter, filter_passes, find, find_all, find_passes, get, get_or, GuestPage, Held, held_at, held_in, held_of, held_under, holds, if◌then◌else◌, inl, InPageOrder, inr, is_of, IsUnder, key_in, List, map, map-append, marked, Named, named_of, None, not, Option, option_map, refl, rows_of, same_page, same_page_eq, same_page_refl, same_page_sym, same_Some, Slab, Some, subst, sym, true, true≢false, with_held, with_named, without_held, without_named, ℕ, ◌++◌, ◌==◌, ◌∙◌, ◌∷◌, ◌≡◌, ◌≢◌}
-use Rattle.ksm_pages.proofs.Options.{none_mapped}
+use Rattle.ksm_pages.proofs.Names.{All, All-append, All-cons, All-filter, All-map, ap, ap₂, AreAscending, AreFiled, Bool, cases_Bool, change_held, comes_before, cond, Decides-eqb, Entry, false, filter, filter_passes, find, find_all, find_passes, get, get_or, GuestPage, Held, held_at, held_in, held_of, held_under, holds, if◌then◌else◌, inl, InPageOrder, inr, is_of, IsUnder, key_in, List, map, map-append, marked, Named, named_of, None, not, option_map, refl, rows_of, same_page, same_page_eq, same_page_refl, same_page_sym, same_Some, Slab, Some, subst, sym, true, true≢false, with_held, with_named, without_held, without_named, ℕ, ◌++◌, ◌==◌, ◌∙◌, ◌∷◌, ◌≡◌, ◌≢◌}
+use Rattle.ksm_pages.proofs.Options.{mapped_some, none_mapped}
 use Rattle.slab.specs.Slab.{Updates as Fills}
 use Rattle.ksm_tree.proofs.Numbering.{full}
 use Rattle.ksm_tree.proofs.Alike.{filter_mapped, find_mapped, map_alike, map_mapped, pairs_mapped}
@@ -23,11 +23,9 @@ Stands slab n = option_map (named_of n.key) (get slab n.key) ≡ Some n
 
 -- where a name says what stands under its key, an entry of the name's page stands under that key
 pub under_named : (slab : Slab Entry) (n : Named) → Stands slab n → IsUnder slab n.page n.key
-under_named slab n told = go (get slab n.key) refl told
-  where
-    go : (o : Option Entry) → get slab n.key ≡ o → option_map (named_of n.key) o ≡ Some n → IsUnder slab n.page n.key
-    go None is none = absurd (full n None refl none)
-    go (Some e) is some = record { entry = e; stands = is; of_page = ap (λ (m : Named). m.page) (same_Some (named_of n.key e) n some) }
+under_named slab n told =
+    let at = mapped_some (named_of n.key) (get slab n.key) n told in
+    record { entry = at.0; stands = at.1; of_page = ap (λ (m : Named). m.page) at.2 }
 
 -- the row under a key is of the page that the order names
 pub page_under : (pass : ℕ) (slab : Slab Entry) (n : Named) → Stands slab n → (held_under pass (get slab n.key)).row.page ≡ n.page
@@ -43,12 +41,12 @@ flag_under pass slab n told =
 -- pages are named as their entries say, where those that are named stand so, and those that stand are named so
 pub filed_by : (slab : Slab Entry) (order : List Named) → All (Stands slab) order
     → ((key : ℕ) (e : Entry) → get slab key ≡ Some e → find (is_of e.page) order ≡ Some (named_of key e)) → AreFiled slab order
-filed_by slab order stand named n =
-    (λ found. find_all (is_of n.page) (Stands slab) order n found stand, λ told. go (get slab n.key) refl told)
-  where
-    go : (o : Option Entry) → get slab n.key ≡ o → option_map (named_of n.key) o ≡ Some n → find (is_of n.page) order ≡ Some n
-    go None is none = absurd (full n None refl none)
-    go (Some e) is some = subst (λ (m : Named). find (is_of m.page) order ≡ Some m) (same_Some (named_of n.key e) n some) (named n.key e is)
+filed_by slab order stand named n = (
+  λ found. find_all (is_of n.page) (Stands slab) order n found stand,
+  λ told.
+      let at = mapped_some (named_of n.key) (get slab n.key) n told in
+      subst (λ (m : Named). find (is_of m.page) order ≡ Some m) at.2 (named n.key at.0 at.1),
+)
 
 -- what holds of the entry that a slab was given, and of all others that stood, holds of all that stand now
 pub all_filled : {slab later : Slab Entry} {key : ℕ} {e : Entry} → Fills slab later key (Some e) → (P : ℕ → Entry → Type 0) → P key e
@@ -73,15 +71,11 @@ module _ (slab : Slab Entry) (order : List Named) (filed : AreFiled slab order) 
 
   -- the entry of a page stands under the page's key
   pub under : (page : GuestPage) (key : ℕ) → key_in order page ≡ Some key → IsUnder slab page key
-  under page key told = go (find (is_of page) order) refl told
-    where
-      go : (o : Option Named) → find (is_of page) order ≡ o → option_map (λ n. n.key) o ≡ Some key → IsUnder slab page key
-      go None is none = absurd (full key None refl none)
-      go (Some n) is some =
-          let of_it : n.page ≡ page = same_page_eq n.page page (find_passes (is_of page) order n is) in
-          let at : n.key ≡ key = same_Some n.key key some in
-          let u = under_named slab n ((filed n).0 (ap (λ p. find (is_of p) order) of_it ∙ is)) in
-          record { entry = u.entry; stands = ap (get slab) (sym at) ∙ u.stands; of_page = u.of_page ∙ of_it }
+  under page key told =
+      let at = mapped_some (λ n. n.key) (find (is_of page) order) key told in
+      let of_it : at.0.page ≡ page = same_page_eq at.0.page page (find_passes (is_of page) order at.0 at.1) in
+      let u = under_named slab at.0 ((filed at.0).0 (ap (λ p. find (is_of p) order) of_it ∙ at.1)) in
+      record { entry = u.entry; stands = ap (get slab) (sym at.2) ∙ u.stands; of_page = u.of_page ∙ of_it }
 
   -- a page whose entry stands under a key has that key in the order
   pub key_under : (page : GuestPage) (key : ℕ) → IsUnder slab page key → key_in order page ≡ Some key

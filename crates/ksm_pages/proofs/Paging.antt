@@ -1,5 +1,5 @@
 -- What is read of the pages: rows and dups found by their pages, places and numbers.
-use Rattle.ksm_pages.proofs.Names.{[], Ahead, All, ap, AreAllListed, AreDups, AreTied, AreWaiting, arith, At, Bool, cases_Bool, comes_before, cond, Contains, Contains-from_any, Dup, dup_at, dup_numbered, dup_of, DupRow, DupsState, each_has_number, End, false, filter, find, find_all, found_passing, frame_seen, get_or, GuestPage, has_items, has_number, Held, held_at, inl, InPageOrder, InPlaceOrder, inr, is_live, is_some, is_stale, items_in, items_of, Kind, Knobs, last_or, last_page, length, length-map, List, list_any, live_placed, lodging, lodgings_of, map, merged_into, None, not, not-not, Option, option_and_then, option_map, option_or, pages_ahead, passing, Reaches, refl, Row, row_at, rows_ahead, rows_between, rows_of, same_page, same_page_eq, same_Some, shared_state, slice_get, slice_get-get_or, slice_get-map, Some, stale_alike, stands_at, stands_numbered, state_of, subst, suc, sym, tied_counted, true, unwrap_or-slice_get, waiting_state, WaitingPage, waits_there, ℕ, ◌&&◌, ◌-◌, ◌<◌, ◌==◌, ◌∙◌, ◌∷◌, ◌≡◌}
+use Rattle.ksm_pages.proofs.Names.{[], Ahead, All, ap, AreAllListed, AreDups, AreTied, AreWaiting, arith, At, Bool, cases_Bool, comes_before, cond, Contains, Contains-from_any, Dup, dup_at, dup_numbered, dup_of, DupRow, DupsState, each_has_number, End, false, filter, find, find_all, found_passing, frame_seen, get_or, GuestPage, has_items, has_number, Held, held_at, inl, InPageOrder, InPlaceOrder, inr, is_live, is_some, is_stale, items_in, items_of, Kind, Knobs, last_or, last_page, length, length-map, List, list_any, live_placed, lodging, lodgings_of, map, merged_into, None, not, not-not, Option, option_and_then, option_map, option_or, pages_ahead, passing, Reaches, refl, Row, row_at, rows_ahead, rows_between, rows_of, same_page, same_page_eq, shared_state, slice_get, slice_get-get_or, slice_get-map, Some, stale_alike, stands_at, stands_numbered, state_of, subst, suc, sym, tied_counted, true, unwrap_or-slice_get, waiting_state, WaitingPage, waits_there, ℕ, ◌&&◌, ◌-◌, ◌<◌, ◌==◌, ◌∙◌, ◌∷◌, ◌≡◌}
 use Rattle.std.proofs.Common.{unwrap_or}
 use Rattle.ksm_base.specs.Rows.{is_stale as is_stale_row}
 use Rattle.ksm_tree.specs.Dups.{rows_of as dup_rows}
@@ -12,7 +12,7 @@ use Rattle.ksm_rmap.proofs.Ordered.{any_found}
 use Rattle.ksm_pages.proofs.Changing.{nothing_held, row_found}
 use Rattle.ksm_pages.proofs.Gathering.{framed, own_either}
 use Rattle.ksm_pages.proofs.Joined.{item_lies}
-use Rattle.ksm_pages.proofs.Options.{some_mapped, mapped_twice}
+use Rattle.ksm_pages.proofs.Options.{mapped_some, mapped_twice, some_mapped}
 use Rattle.ksm_pages.proofs.Lodgings.{frame_by, seat}
 
 -- ---------------------------------------------------------------- rows
@@ -51,11 +51,9 @@ place_numbered number dups =
 
 -- a dup that stands at a place with a number is the one with that number
 pub place_guessed : (guess number : ℕ) (dups : List Dup) → InPlaceOrder (dup_rows dups) → option_map (λ d. d.row.number) (dup_at guess dups) ≡ Some number → Some guess ≡ option_map (λ d. d.place) (dup_numbered number (dup_rows dups))
-place_guessed guess number dups rise is = go (dup_at guess dups) refl is ∙ place_numbered number dups
-  where
-    go : (o : Option Dup) → dup_at guess dups ≡ o → option_map (λ d. d.row.number) o ≡ Some number → Some guess ≡ option_map (λ d. d.row.place) (dup_of number dups)
-    go None there none = absurd (grind (arith, none))
-    go (Some d) there has = stands_numbered guess number dups d rise there (same_Some d.row.number number has)
+place_guessed guess number dups rise is =
+    let at = mapped_some (λ (d : Dup). d.row.number) (dup_at guess dups) number is in
+    stands_numbered guess number dups at.0 rise at.1 at.2 ∙ place_numbered number dups
 
 -- a dup is found at a place exactly where a row stands there
 pub any_at : (place : ℕ) (dups : List Dup) → is_some (option_map (λ d. d.row.number) (dup_at place dups)) ≡ list_any (λ d. d.place == place) (dup_rows dups)

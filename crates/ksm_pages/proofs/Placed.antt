@@ -6,7 +6,8 @@ use Rattle.ksm_pages.proofs.Between.{all_behind, before_last, pairs_first, pairs
 use Rattle.ksm_pages.proofs.Keyed.{changed_between, find_between, with_between}
 use Rattle.ksm_rmap.proofs.Ordered.{without_between}
 
-abbrev before : Named → Named → Type 0
+-- a named page comes before another
+abbrev pub before : Named → Named → Type 0
 before m n = comes_before m.page n.page ≡ true
 
 -- a named page comes before the page

@@ -1,5 +1,6 @@
 -- The rows once each entry was changed, or the next pass began.
-use Rattle.ksm_pages.proofs.Names.{[], ap, ap₂, AreFiled, AreListed, arith, Bool, CalledAt, cond, count_by, count_none, Entry, false, forgotten, get, get_or, has_item, Held, held_in, held_of, held_under, is_restless, IsRows, IsTally, Kind, List, Listing, map, Merged, merged_state, MutBor, Named, named_of, None, on_row, Option, option_map, PageState, Private, refl, RetainsFrom, rows_of, same_Some, settled, settled_state, Slab, Some, state_of, subst, sym, Tally, true, Waiting, waiting_state, Zero, zero_state, ℕ, ◌+◌, ◌==◌, ◌∙◌, ◌∷◌, ◌≡◌, ◌≢◌, ◌≤◌, holds}
+use Rattle.ksm_pages.proofs.Names.{[], ap, ap₂, AreFiled, AreListed, arith, Bool, CalledAt, cond, count_by, count_none, Entry, false, forgotten, get, get_or, has_item, Held, held_in, held_of, held_under, is_restless, IsRows, IsTally, Kind, List, Listing, map, Merged, merged_state, MutBor, Named, named_of, None, on_row, Option, option_map, PageState, Private, refl, RetainsFrom, rows_of, settled, settled_state, Slab, Some, state_of, subst, sym, Tally, true, Waiting, waiting_state, Zero, zero_state, ℕ, ◌+◌, ◌==◌, ◌∙◌, ◌∷◌, ◌≡◌, ◌≢◌, ◌≤◌, holds}
+use Rattle.ksm_pages.proofs.Options.{mapped_some}
 use Rattle.std.proofs.Math.ListN.{get_or-map}
 use Rattle.ksm_pages.specs.declared.row.Kind.TheVariants as kinds
 use Rattle.ksm_tree.proofs.Alike.{count_mapped, map_mapped}
@@ -72,11 +73,9 @@ module _ (slab : Slab Entry) (order : List Named) (restless : Listing) (tally : 
 
   -- what holds for each changed entry holds for all that stand once each entry is changed
   pub all_from : (P : Entry → Type 0) → ((k : ℕ) (e : Entry) → get slab k ≡ Some e → P (g e)) → (k : ℕ) (e : Entry) → get later k ≡ Some e → P e
-  all_from P holds k e stands = go (get slab k) refl (sym (all k) ∙ stands)
-    where
-      go : (o : Option Entry) → get slab k ≡ o → option_map g o ≡ Some e → P e
-      go None is none = cc
-      go (Some d) is some = subst P (same_Some (g d) e some) (holds k d is)
+  all_from P holds k e stands =
+      let at = mapped_some g (get slab k) e (sym (all k) ∙ stands) in
+      subst P at.2 (holds k at.0 at.1)
 
   -- once each entry is changed, the pages that a visit may change are listed still
   pub all_listed : restless.known ≡ true → AreListed later restless.pages
