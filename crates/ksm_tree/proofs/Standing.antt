@@ -37,7 +37,7 @@ module _ {X : Type 0} (none : X) (numbers : Numbers) (stands : ℕ → Option Co
       by : (o : Option ℕ) → number_of t b numbers ≡ o → under none new o ≡ (if t == tree && bytes_eq b bytes then change (under none old o) else under none old o)
       by None absent =
           let apart : (t == tree && bytes_eq b bytes) ≡ false = false_from_ne_true _ (λ same.
-              full number (number_of t b numbers) absent (ap (λ k. its_number k numbers) (is_one t tree b bytes same) ∙ is)) in
+          full number (number_of t b numbers) absent (ap (λ k. its_number k numbers) (is_one t tree b bytes same) ∙ is)) in
           rw apart refl
       by (Some n) found = elim (cases_Bool (t == tree && bytes_eq b bytes)) [
         | inl same ↦
@@ -45,9 +45,9 @@ module _ {X : Type 0} (none : X) (numbers : Numbers) (stands : ℕ → Option Co
             moved n ∙ rw (same, (Decides-eqb n number).1 here) refl
         | inr differ ↦
             let apart : (n == number) ≡ false = false_from_ne_true _ (λ same.
-                  let one : content_of t b ≡ content_of tree bytes =
-                  same_Some (content_of t b) (content_of tree bytes) (sym ((are (content_of t b) n).0 found) ∙ ap stands ((Decides-eqb n number).0 same) ∙ (are (content_of tree bytes) number).0 is) in
-                  true≢false (sym (are_one t tree b bytes one) ∙ differ)) in
+            let one : content_of t b ≡ content_of tree bytes =
+            same_Some (content_of t b) (content_of tree bytes) (sym ((are (content_of t b) n).0 found) ∙ ap stands ((Decides-eqb n number).0 same) ∙ (are (content_of tree bytes) number).0 is) in
+            true≢false (sym (are_one t tree b bytes one) ∙ differ)) in
             moved n ∙ rw (differ, apart) refl
       ]
 
@@ -86,8 +86,8 @@ module _ (t : ℕ) (b : List ℕ) (pass : ℕ) where
   none_waits (None ∷ slots) apart = none_waits slots (λ n. apart (suc n))
   none_waits (Some g ∷ slots) apart =
       let rest = none_waits slots (λ n. apart (suc n)) in
-      let other : (g.content.tree == t && bytes_eq g.content.bytes b) ≡ false = 
-          false_from_ne_true _ (λ same. apart 0 (ap Some (is_one g.content.tree t g.content.bytes b same))) in
+      let other : (g.content.tree == t && bytes_eq g.content.bytes b) ≡ false =
+      false_from_ne_true _ (λ same. apart 0 (ap Some (is_one g.content.tree t g.content.bytes b same))) in
       grind (arith, rest, other)
 
   -- where one group is, its page waits, if one does there
@@ -102,8 +102,8 @@ module _ (t : ℕ) (b : List ℕ) (pass : ℕ) where
       grind (arith, same, rest)
   one_waits (Some g ∷ slots) (suc n) here only =
       let rest = one_waits slots n here (λ m is. let e = only (suc m) is in omega (arith, e)) in
-      let other : (g.content.tree == t && bytes_eq g.content.bytes b) ≡ false = 
-          false_from_ne_true _ (λ same. let e = only 0 (ap Some (is_one g.content.tree t g.content.bytes b same)) in omega (arith, e)) in
+      let other : (g.content.tree == t && bytes_eq g.content.bytes b) ≡ false =
+      false_from_ne_true _ (λ same. let e = only 0 (ap Some (is_one g.content.tree t g.content.bytes b same)) in omega (arith, e)) in
       grind (arith, rest, other)
 
 -- the page that waits for a tree and bytes is the one that waits in their group
