@@ -1,5 +1,5 @@
 -- A list that is made of another, element by element: what is searched, kept and counted in it.
-use Rattle.ksm_tree.proofs.Names.{[], All, All-head, All-map, All-tail, AllPairs, AllPairs-cons, ap, arith, Bool, cases_Bool, cond, count_by, count_more, false, filter, filter-append, find, get_or, if◌then◌else◌, inl, inr, List, map, map-append, option_map, pairs_head, pairs_tail, refl, Some, suc, sym, true, ◌++◌, ◌+◌, ◌∙◌, ◌∷◌, ◌≡◌}
+use Rattle.ksm_tree.proofs.Names.{[], All, All-head, All-map, All-tail, AllPairs, AllPairs-cons, ap, arith, Bool, cond, count_by, count_more, false, filter, filter-append, find, get_or, if◌then◌else◌, List, map, map-append, option_map, pairs_head, pairs_tail, refl, suc, sym, ◌++◌, ◌+◌, ◌∙◌, ◌∷◌, ◌≡◌}
 use Rattle.std.proofs.Common.{ap₂}
 use Rattle.std.proofs.lemmas.Iterator.Adapters.{option_map_id}
 use Rattle.std.proofs.lemmas.List.{map-id}

@@ -1,5 +1,5 @@
 -- Counts over the slots: empty ones, stale dups and dups with items.
-use Rattle.ksm_tree.proofs.Names.{[], All, All-head, All-tail, ap, AreSlots, arith, Bool, cases_Bool, cond, count_by, count_more, Dup, inl, inr, is_empty_slot, is_live, is_stale, is_stale_slot, IsPermutation-reverse, length, List, nat_tests, None, Option, places_where, present, refl, reverse, SmallVec, Some, suc, sum_by-IsPermutation, ℕ, ◌+◌, ◌∙◌, ◌∷◌, ◌≡◌}
+use Rattle.ksm_tree.proofs.Names.{[], ap, AreSlots, arith, Bool, cond, count_by, count_more, Dup, is_empty_slot, is_live, is_stale, is_stale_slot, IsPermutation-reverse, length, List, nat_tests, None, Option, places_where, present, refl, reverse, SmallVec, Some, suc, sum_by-IsPermutation, ℕ, ◌+◌, ◌∙◌, ◌∷◌, ◌≡◌}
 
 -- as many places as slots that pass
 where_count : (test : Option Dup → Bool) (k : ℕ) (slots : List (Option Dup)) → length (places_where test k slots) ≡ count_by test slots

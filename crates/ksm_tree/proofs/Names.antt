@@ -1,7 +1,7 @@
 -- The definitions, and the laws of the libraries and crates below, by their names, for proofs.
 pub use Rattle.ksm_base.proofs.Edits.{count-append, count_more, count_none, find_all, find_none, find_nothing, find_over, find_passes}
 pub use Rattle.ksm_base.proofs.Orders.{filter_none, ordered_map, pairs_head, pairs_tail}
-pub use Rattle.ksm_base.proofs.Pages.{before_irrefl, not_both, one_before, same_page_eq, same_page_refl, same_page_sym}
+pub use Rattle.ksm_base.proofs.Pages.{same_page_eq, same_page_refl, same_page_sym}
 pub use Rattle.ksm_base.proofs.RowCounts.{each_at_page, filter_all}
 pub use Rattle.ksm_base.proofs.SoundCounts.{not_an_item}
 pub use Rattle.ksm_base.specs.Counting.{group_size, in_chain, leads_group}

@@ -1,6 +1,7 @@
 -- What a change of one slot does to the dups and to the places whose slots pass a test.
 use Rattle.ksm_tree.proofs.Names.{[], absent_kept, All, All-cons, All-weaker, ap, append-nil, ArePlaced, AreSlots, arith, Bool, cases_Bool, change_at, comes_before, count_in, Dup, dup_at, empty_from, empty_place, false, false≢true, filter, filter_all, filter_none, find, find_nothing, get_or, get_or-map, get_or-reverse, get_or_default, get_or_push, GuestPage, has_item, inl, inr, is_empty_slot, is_live, is_some, is_stale, is_stale_slot, items_in, length, length-append, length-map, length-reverse, length-set, List, map, map-set, map-set_same, nat_lt, nat_tests, None, none-some, none_found, not, Option, option_map, pages_ordered, places_where, present, refl, reverse, rows_of, same_page, same_Some, set, set-append_left, set-append_right, set-get_or, slice_get, slice_get-get_or, slots_seen, SlotsState, SmallVec, Some, stands_at, suc, sym, true, with_item, with_new, with_place, without, without_item, without_place, zero, ℕ, if◌then◌else◌, ◌++◌, ◌+◌, ◌-◌, ◌<◌, ◌==◌, ◌∙◌, ◌∷◌, ◌≡◌, ◌≤◌}
 use mathlib.Core.List.{reverse-cons}
+use Rattle.ksm_rmap.proofs.Ordered.{none_of}
 use Rattle.ksm_tree.proofs.Alike.{change_none}
 use Rattle.ksm_tree.proofs.Where.{where_with, where_without, where_same, where_room}
 
@@ -282,22 +283,14 @@ mirrored_absent test p m slots at fails =
 pub stale_absent : (p : ℕ) (slots : List (Option Dup)) (r : Option Dup) (stale : List ℕ) → p < length slots → r ≡ get_or slots p r → is_some r ≡ false → stale ≡ places_where is_stale_slot 0 slots → stale ≡ without p stale
 stale_absent p slots r stale within read none is =
     let here : get_or slots p None ≡ r = get_or_default slots p None r within ∙ sym read in
-    let fails : is_stale_slot r ≡ false = elim r as (λ r. is_some r ≡ false → is_stale_slot r ≡ false) [
-      | None ↦ λ h. refl
-      | Some d ↦ λ h. absurd (false≢true (sym h))
-    ] none in
-    is ∙ where_absent is_stale_slot p slots within (ap is_stale_slot here ∙ fails) ∙ ap (without p) (sym is)
+    is ∙ where_absent is_stale_slot p slots within (ap is_stale_slot (here ∙ none_of r none)) ∙ ap (without p) (sym is)
 
 -- a slot that has a dup is none of the empty places
 pub empty_absent : (p m : ℕ) (slots : List (Option Dup)) (r : Option Dup) (empty : List ℕ) → m + p + 1 ≡ length slots → r ≡ get_or slots p r → is_some r ≡ true → empty ≡ places_where is_empty_slot 0 (reverse slots) → empty ≡ without m empty
 empty_absent p m slots r empty at read some is =
     let within : p < length slots = omega (arith, at) in
     let here : get_or slots p None ≡ r = get_or_default slots p None r within ∙ sym read in
-    let fails : is_empty_slot r ≡ false = elim r as (λ r. is_some r ≡ true → is_empty_slot r ≡ false) [
-      | None ↦ λ h. absurd (false≢true h)
-      | Some d ↦ λ h. refl
-    ] some in
-    is ∙ mirrored_absent is_empty_slot p m slots at (ap is_empty_slot here ∙ fails) ∙ ap (without m) (sym is)
+    is ∙ mirrored_absent is_empty_slot p m slots at (ap is_empty_slot here ∙ sym (empty_is r) ∙ ap not some) ∙ ap (without m) (sym is)
 
 -- the slots are right once a dup with items is put into one
 pub slots_put : (slots : List (Option Dup)) (counts : List ℕ) (empty stale empty' stale' : SmallVec ℕ) (dup : Dup) (m n : ℕ) → m + dup.row.place + 1 ≡ length slots → n ≡ length dup.items → is_live dup ≡ true → AreSlots slots counts empty stale → empty'.items ≡ without m empty.items → empty'.capacity ≡ empty.capacity → stale'.items ≡ without dup.row.place stale.items → stale'.capacity ≡ stale.capacity → AreSlots (set slots dup.row.place (Some dup)) (set counts dup.row.place n) empty' stale'

@@ -1,5 +1,5 @@
 -- Slots that are all empty.
-use Rattle.ksm_tree.proofs.Names.{[], add-one, ap, ArePlaced, AreSlots, arith, count_in, Dup, is_empty_slot, is_stale_slot, length, List, map, nat_tests, None, Option, places_where, present, range_with_len, refl, replicate, replicate-append-replicate, reverse, slots_seen, SmallVec, suc, sym, with_place, zero, ℕ, ◌++◌, ◌+◌, ◌<◌, ◌∙◌, ◌∷◌, ◌≡◌, ◌≤◌}
+use Rattle.ksm_tree.proofs.Names.{[], add-one, ap, ArePlaced, AreSlots, arith, count_in, Dup, is_empty_slot, is_stale_slot, List, map, nat_tests, None, Option, places_where, present, range_with_len, refl, replicate, replicate-append-replicate, reverse, slots_seen, SmallVec, suc, sym, with_place, zero, ℕ, ◌++◌, ◌+◌, ◌<◌, ◌∙◌, ◌∷◌, ◌≡◌, ◌≤◌}
 use Rattle.std.proofs.lemmas.List.{length-replicate}
 use mathlib.Core.List.{reverse-cons}
 

@@ -1,5 +1,5 @@
 -- The open places, as the counts change.
-use Rattle.ksm_tree.proofs.Names.{[], ap, AreCounts, ArePlaced, arith, Bool, cases_Bool, count_in, Dup, false, false≢true, get_or, inl, inr, is_open, length, length-set, List, list_all, map, nat_tests, None, Option, places_open, places_where, present, refl, replicate, set, SmallVec, Some, suc, sym, true, with_place, without, zero, ℕ, ◌+◌, ◌<◌, ◌==◌, ◌∙◌, ◌∷◌, ◌≡◌, ◌≤◌}
+use Rattle.ksm_tree.proofs.Names.{[], ap, AreCounts, ArePlaced, arith, Bool, count_in, Dup, false, false≢true, get_or, is_open, length, length-set, List, map, nat_tests, None, Option, places_open, places_where, present, refl, replicate, set, SmallVec, Some, suc, sym, true, with_place, without, zero, ℕ, ◌+◌, ◌<◌, ◌∙◌, ◌∷◌, ◌≡◌, ◌≤◌}
 use mathlib.Core.Bool.{beq}
 use Rattle.std.proofs.lemmas.List.{length-replicate}
 use Rattle.ksm_tree.proofs.Where.{where_with, where_without, where_same, where_room}

@@ -1,5 +1,5 @@
 -- Dup rows in the order of their places: what a new row and a row that goes change of what is found.
-use Rattle.ksm_tree.proofs.Names.{[], All, All-cons, All-filter, All-head, All-tail, All-weaker, ap, arith, Bool, cases_Bool, cond, DupRow, false, false≢true, filter, filter-append, find, find-append, find_all, find_nothing, find_over, group_places, if◌then◌else◌, in_group, inl, InPlaceOrder, inr, List, map, map-append, nat_lt, nat_tests, ne_eqb, None, none-some, not, option_map, option_or, pairs_head, pairs_tail, refl, row_place, same_Some, Some, sym, true, with_dup, with_place, without, ℕ, ◌&&◌, ◌++◌, ◌<◌, ◌==◌, ◌∙◌, ◌∷◌, ◌≡◌}
+use Rattle.ksm_tree.proofs.Names.{[], All, All-cons, All-filter, All-head, All-tail, All-weaker, ap, arith, Bool, cases_Bool, cond, DupRow, false, false≢true, filter, find, find-append, find_all, find_nothing, find_over, group_places, if◌then◌else◌, in_group, inl, InPlaceOrder, inr, List, nat_lt, nat_tests, ne_eqb, None, none-some, not, option_map, option_or, pairs_head, pairs_tail, refl, row_place, same_Some, Some, sym, true, with_dup, with_place, without, ℕ, ◌&&◌, ◌++◌, ◌<◌, ◌==◌, ◌∙◌, ◌∷◌, ◌≡◌}
 use Rattle.ksm_tree.proofs.Alike.{chosen, kept_append}
 use Rattle.ksm_base.proofs.Orders.{above, below, dups_parted, elsewhere, Lower}
 

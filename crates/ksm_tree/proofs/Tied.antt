@@ -1,7 +1,7 @@
 -- The pages of the rows merged into a dup, after a change of one row.
 use Rattle.ksm_tree.proofs.Alike.{change_none, chosen, filter_mapped, kept_append, map_mapped}
 use Rattle.ksm_rmap.proofs.Ordered.{absent_parts, found_parts, none_same, none_same_low, without_between}
-use Rattle.ksm_tree.proofs.Names.{[], All, All-filter, All-weaker, ap, AreCounted, AreTied, arith, Bool, cases_Bool, change_row, comes_before, Dup, DupRow, false, false≢true, filter, filter_all, filter_passes, find_passes, if◌then◌else◌, None, Option, Some, map-append, absent_kept, get_or, GuestPage, inl, InPageOrder, inr, is_some, item_count, items_of, length, length-filter, length-map, List, map, merged_into, nat_tests, not, pages_ordered, pairs_tail, refl, Row, row_at, same_page, suc, sym, true, with_item, without_item, without_page, ◌++◌, ◌∙◌, ◌∷◌, ◌≡◌}
+use Rattle.ksm_tree.proofs.Names.{[], All, All-filter, All-weaker, ap, AreCounted, AreTied, arith, Bool, change_row, comes_before, Dup, DupRow, false, false≢true, filter, filter_passes, find_passes, if◌then◌else◌, None, Option, Some, map-append, absent_kept, GuestPage, InPageOrder, is_some, item_count, items_of, length, length-filter, length-map, List, map, merged_into, not, pages_ordered, refl, Row, row_at, same_page, sym, true, with_item, without_item, without_page, ◌++◌, ◌∙◌, ◌∷◌, ◌≡◌}
 
 abbrev pub page_of : Row → GuestPage
 page_of r = r.page

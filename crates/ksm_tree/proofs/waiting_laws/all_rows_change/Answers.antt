@@ -1,4 +1,4 @@
-use Rattle.ksm_tree.proofs.Waiters.{none_waiting, rows_mapped, rows_changed, knobs_tuned}
+use Rattle.ksm_tree.proofs.Waiters.{none_waiting, rows_mapped, rows_changed}
 use Rattle.ksm_tree.proofs.waiting_laws.all_rows_change.Goals as goal
 
 pub returns-clause-settled : goal.returns-clause-settled

@@ -1,4 +1,4 @@
-use Rattle.ksm_tree.proofs.Waiters.{look_up_found, own_found, partner_found}
+use Rattle.ksm_tree.proofs.Waiters.{partner_found}
 use Rattle.ksm_tree.proofs.waiting_laws.look_up_finds_the_row.Goals as goal
 
 pub returns-clause-partner : goal.returns-clause-partner

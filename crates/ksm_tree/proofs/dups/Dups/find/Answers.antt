@@ -1,5 +1,5 @@
 use Rattle.ksm_tree.proofs.Names.{ap, dup_at, InPlaceOrder, rows_of, sym, ◌∙◌}
-use Rattle.ksm_tree.proofs.Indexed.{placed_found, unplaced_found}
+use Rattle.ksm_tree.proofs.Indexed.{placed_found}
 use Rattle.ksm_tree.proofs.dups.Dups.find.Goals as goal
 
 pub returns-in-Some : goal.returns-in-Some

@@ -1,5 +1,5 @@
-use Rattle.ksm_tree.proofs.Names.{ap, change_items, dups_seen, DupsState, false≢true, is_some, sym, with_item, ◌∙◌}
-use Rattle.ksm_tree.proofs.Indexed.{placed_found, placed_changed, placed_inside, placed_there, stays_indexed, unplaced_found}
+use Rattle.ksm_tree.proofs.Names.{ap, change_items, dups_seen, DupsState, sym, with_item, ◌∙◌}
+use Rattle.ksm_tree.proofs.Indexed.{placed_found, placed_changed, placed_inside, placed_there, stays_indexed}
 use Rattle.ksm_tree.proofs.dups.Dups.join_at.Goals as goal
 
 pub add_item-requires-clause-known : goal.add_item-requires-clause-known
