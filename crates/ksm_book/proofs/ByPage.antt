@@ -1,5 +1,5 @@
 -- Rows that change at one page: what becomes of what holds of each row, and of how many lie on a frame.
-use Rattle.ksm_book.proofs.Names.{[], All, All-cons, All-head, All-map, All-tail, ap, arith, Bool, both_ways, cases_Bool, change_row, cond, cond_both, count_by, count_more, count_with_row, count_without_page, counts_one, eq-eqb, eqb-true, false, filter, filter_passes, find_all, find_none, find_passes, Frames, get_or, GuestPage, if◌then◌else◌, inl, InPageOrder, inr, is_frame, lies_on, List, map, ne_eqb, None, none_counted, not, not-true, one_of_each_page, Option, refl, Row, row_at, same_page, same_page_eq, same_page_refl, Some, subst, sym, true, uses, with_row, without_page, ℕ, ◌+◌, ◌∙◌, ◌∷◌, ◌≡◌, ◌≢◌, ◌≤◌, ◌⊎◌}
+use Rattle.ksm_book.proofs.Names.{[], All, All-cons, All-head, All-map, All-tail, ap, arith, Bool, both_ways, cases_Bool, change_row, cond, cond_both, count_by, count_more, count_with_row, count_without_page, counts_one, eq-eqb, eqb-true, false, filter, filter_passes, find_all, find_none, find_passes, Frames, get_or, GuestPage, if◌then◌else◌, inl, InPageOrder, inr, is_frame, lies_on, List, map, ne_eqb, None, none_counted, not, not-true, one_of_each_page, Option, refl, Row, row_at, same_page, same_page_eq, same_page_refl, Some, subst, suc, sym, true, uses, with_row, without_page, ℕ, ◌+◌, ◌∙◌, ◌∷◌, ◌≡◌, ◌≢◌, ◌≤◌, ◌⊎◌}
 
 -- frames that are equal at each page are equal
 pub same_frames : (f g : Frames) → ((page : GuestPage) → f page ≡ g page) → f ≡ g
@@ -170,3 +170,20 @@ uses_come f o frame row rows absent =
 -- a frame on which a row lies is used
 pub uses_some : (f : ℕ) (frame : Frames) (rows : List Row) → All (λ r. frame r.page ≡ Some f → 1 ≤ uses f frame rows) rows
 uses_some f frame rows = λ i d lt e. counts_one (λ r. is_frame f (frame r.page)) rows i d lt (is_it f _ e)
+
+-- a change of a page's row, and then another, are one change where the second makes the same of both
+pub change_twice : (page : GuestPage) (c d e : Row → Row) (rows : List Row) → ((r : Row) → (c r).page ≡ r.page) → All (λ r. same_page r.page page ≡ true → d (c r) ≡ e r) rows
+    → change_row page d (change_row page c rows) ≡ change_row page e rows
+change_twice page c d e [] keeps same = refl
+change_twice page c d e (r ∷ rows) keeps same = elim (cases_Bool (same_page r.page page)) [
+  | inl is ↦ let k = keeps r in let s = same 0 r (omega arith) is in grind (arith, is, k, s, change_twice page c d e rows keeps (λ i x lt. same (suc i) x (omega (arith, lt))))
+  | inr other ↦ grind (arith, other, change_twice page c d e rows keeps (λ i x lt. same (suc i) x (omega (arith, lt))))
+]
+
+-- where the row of a page changes, the changed row is found at the page
+pub at_changed : (page : GuestPage) (c : Row → Row) (rows : List Row) (row : Row) → ((r : Row) → (c r).page ≡ r.page) → row_at page rows ≡ Some row → row_at page (change_row page c rows) ≡ Some (c row)
+at_changed page c [] row keeps found = absurd (grind (arith, found))
+at_changed page c (r ∷ rows) row keeps found = elim (cases_Bool (same_page r.page page)) [
+  | inl same ↦ let k = keeps r in grind (arith, same, k, found)
+  | inr other ↦ grind (arith, other, at_changed page c rows row keeps (grind (arith, other, found)))
+]

@@ -121,8 +121,7 @@ row_leads : {P : BookState → Row → Type 0} {p : PagesView} {k : KeeperView} 
     → Leads v q k cursor passes page
 row_leads {p = p} {k} {cursor} {passes} at restless c keeps lodges becomes rests {q} goes =
     leads at q k restless
-    (subst (λ (x : PagesView). IsLaid x k) (sym goes)
-    (laid_mapped at.laid (λ r. if same_page r.page at.row.page then c r else r) p.restless
+    (subst (λ (x : PagesView). IsLaid x k) (sym goes) (laid_mapped at.laid (λ r. if same_page r.page at.row.page then c r else r) p.restless
     (λ r. cond_both (same_page r.page at.row.page) (c r) r (λ (x : Row). x.page ≡ r.page) (λ _. keeps r) (λ _. refl))
     (λ i d lt. let r = get_or p.rows i d in cond_both (same_page r.page at.row.page) (c r) r (λ x. LodgesAs x r)
     (λ is. subst (λ x. LodgesAs (c x) x) (sym (row_of_page at.row.page p.rows at.row at.sound.rows_rise (there_is at) i d lt is)) lodges)

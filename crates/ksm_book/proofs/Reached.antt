@@ -41,8 +41,7 @@ module _ (p q : PagesValue) (k : KeeperView) (cursor : Option GuestPage) (passes
       → IsSound (state_of (seen q) cursor passes) × IsLaid (seen q) k
   relisted_lawful h = (
     subst IsSound (sym (ap (λ (x : PagesView). state_of x cursor passes) relisted)) h.0,
-    subst (λ (x : PagesView). IsLaid x k) (sym relisted)
-        (laid_rows h.1 p.rows (seen p).frame q.restless k refl (omega arith) h.1.placed),
+    subst (λ (x : PagesView). IsLaid x k) (sym relisted) (laid_rows h.1 p.rows (seen p).frame q.restless k refl (omega arith) h.1.placed),
   )
 
   -- the same is seen of a book where other pages are listed and nothing else changes

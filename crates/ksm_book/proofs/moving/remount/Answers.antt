@@ -9,8 +9,7 @@ pub find_frame-requires-clause-checked : goal.find_frame-requires-clause-checked
 find_frame-requires-clause-checked c = subst IsShape (sym c.shape-shape.ensures) c.requires.may.laid.small
 
 pub returns-in_default-clause-remounted : goal.returns-in_default-clause-remounted
-returns-in_default-clause-remounted c =
-    turned_away c.requires.may c.in_default.ensures
+returns-in_default-clause-remounted c = turned_away c.requires.may c.in_default.ensures
 
 pub freeze-requires-clause-may : goal.freeze-requires-clause-may
 freeze-requires-clause-may c =

@@ -32,7 +32,7 @@ returns c =
     let new : BookView = book q l s.cursor s.passes in
     let command = MoveDup c.args.place c.args.node in
     let there = may ((goal.at.returns c).Joined-else-knobs-eq0) in
-    carried_so _ c.args.self.now new command command c.match-remount.result c.self.view_is refl (elim c.match-remount.branch [
+    carried_so c.self.view_is refl (elim c.match-remount.branch [
       | in-Ok w ↦ subst (CarriedOut old new command) (sym w.result-is)
           (done_carried p q s.keeper l s.cursor s.passes c.args.place c.args.node c.in-Some.dup c.in-Some.ensures there c.remount.ensures.own
           w.in-Ok.ensures.remounted)

@@ -21,6 +21,5 @@ invariant_of-self c =
       subst IsSound (sym (ap (λ (p : PagesView). state_of p s.cursor s.passes) c.settle_all.ensures))
           (sound_none_waiting (state_of (seen s.pages) s.cursor s.passes) c.self.invariant.0),
       subst (λ (p : PagesView). IsLaid p s.keeper) (sym c.settle_all.ensures)
-          (laid_mapped c.self.invariant.1 settled s.pages.restless (λ r. refl)
-          (λ i d lt. settled_lodges (get_or s.pages.rows i d))),
+          (laid_mapped c.self.invariant.1 settled s.pages.restless (λ r. refl) (λ i d lt. settled_lodges (get_or s.pages.rows i d))),
     )
