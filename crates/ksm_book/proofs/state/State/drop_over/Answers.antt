@@ -9,9 +9,6 @@ returns-then-over-clause-comes c =
     same_comes c.args.self.now (value q s.keeper s.cursor s.passes)
     (relisted_view s.pages q s.keeper s.cursor s.passes c.sweep_restless.ensures.rest ∙ ap view_of c.self.view_is)
 
-pub returns-then-over-clause-known : goal.returns-then-over-clause-known
-returns-then-over-clause-known c = c.sweep_restless.ensures.known ∙ ap (λ (v : BookValue). v.restless.known) c.self.view_is
-
 pub invariant_of-self : goal.invariant_of-self
 invariant_of-self c =
     let s = c.self.inside in relisted_lawful s.pages c.sweep_restless.new.self s.keeper s.cursor s.passes c.sweep_restless.ensures.rest

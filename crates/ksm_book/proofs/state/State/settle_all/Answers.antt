@@ -12,9 +12,6 @@ returns-clause-comes c =
     (state_comes (value s.pages s.keeper s.cursor s.passes) (value q s.keeper s.cursor s.passes) with_none_waiting
     (ap (λ (p : PagesView). state_of p s.cursor s.passes) c.settle_all.ensures) refl (ap (λ (p : PagesView). p.frame) c.settle_all.ensures))
 
-pub returns-clause-restless : goal.returns-clause-restless
-returns-clause-restless c = ap (λ (p : PagesView). p.restless) c.settle_all.ensures ∙ ap (λ (v : BookValue). v.restless) c.self.view_is
-
 pub invariant_of-self : goal.invariant_of-self
 invariant_of-self c =
     let s = c.self.inside in (
