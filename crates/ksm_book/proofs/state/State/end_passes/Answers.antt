@@ -10,13 +10,3 @@ returns-clause-comes c =
     c.self.view_is
     (state_comes (value s.pages s.keeper s.cursor s.passes) (value s.pages s.keeper None c.saturating_add-self-inside.result) change
     (ap (λ n. state_of (seen s.pages) None n) c.saturating_add-self-inside.ensures) refl refl)
-
-pub invariant_of-self : goal.invariant_of-self
-invariant_of-self c =
-    let s = c.self.inside in
-    let b = state_of (seen s.pages) s.cursor s.passes in
-    let is = c.self.invariant.0 in (
-      sound_settings b b.knobs.run b.knobs.pages_to_scan b.knobs.use_zero_pages c.saturating_add-self-inside.result None is.knobs.run
-          is.knobs.pages_to_scan is.knobs.use_zero_pages (omega (arith, c.saturating_add-self-inside.ensures)) is,
-      c.self.invariant.1,
-    )

@@ -32,9 +32,5 @@ joined c =
 pub returns-clause-visited : goal.returns-clause-visited
 returns-clause-visited c = (joined c).visits
 
-pub returns-clause-restless : goal.returns-clause-restless
-returns-clause-restless c = ap (λ (p : PagesView). p.restless) c.in_ok-lone.ensures.joined ∙ ap (λ (v : BookValue). v.restless)
-    c.self.view_is
-
 pub invariant_of-self-2 : goal.invariant_of-self-2
 invariant_of-self-2 c = (joined c).lawful

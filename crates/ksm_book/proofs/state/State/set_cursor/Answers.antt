@@ -8,7 +8,3 @@ returns-clause-comes c =
     let change : BookState → BookState = λ b. record b { cursor = c.args.cursor } in
     subst (λ (v : BookValue). Comes v (value s.pages s.keeper c.args.cursor s.passes) (λ t. (change t.0, t.1))) c.self.view_is
     (state_comes (value s.pages s.keeper s.cursor s.passes) (value s.pages s.keeper c.args.cursor s.passes) change refl refl refl)
-
-pub invariant_of-self : goal.invariant_of-self
-invariant_of-self c =
-    let s = c.self.inside in (sound_cursor (state_of (seen s.pages) s.cursor s.passes) c.args.cursor c.self.invariant.0, c.self.invariant.1)
