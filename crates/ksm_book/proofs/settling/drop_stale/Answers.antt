@@ -3,9 +3,6 @@ use Rattle.ksm_book.proofs.Pruning.{drop_few, drop_fewer, drop_inside, drop_loos
 use Rattle.ksm_book.proofs.Shown.{quiet_does, quiet_withdraws}
 use Rattle.ksm_book.proofs.settling.drop_stale.Goals as goal
 
-pub stale-init : goal.stale-init
-stale-init c = drops_none (seen c.args.pages.now) c.args.keeper.now c.requires.laid c.requires.rise
-
 pub withdraw-requires-clause-may : goal.withdraw-requires-clause-may
 withdraw-requires-clause-may c =
     let told = sym c.in-Some.is ∙ c.stale_place.ensures in (

@@ -17,13 +17,6 @@ pub pages-preserved : goal.pages-preserved
 pages-preserved c =
     unsharing_next c.pages.invariant c.lie_in_order.ensures.rise c.in-Some.ensures.1 c.in-Ok.ensures.left (search rules, search rules)
 
-pub overflow_add-count : goal.overflow_add-count
-overflow_add-count c =
-    let fits : FitsPage (Some c.in-Some.held.spot.page) = (search rules, search rules) in
-    let few = (unsharing_next c.pages.invariant c.lie_in_order.ensures.rise c.in-Some.ensures.1 c.in-Ok.ensures.left fits).few in
-    let end = not_far (Some c.in-Some.held.spot.page) fits in
-    omega (arith, few, end)
-
 pub pages-smaller : goal.pages-smaller
 pages-smaller c =
     let page = c.in-Some.held.spot.page in

@@ -40,6 +40,3 @@ returns c =
           (fault_carried p q s.keeper l s.cursor s.passes c.args.place c.args.node c.in-Some.dup c.in-Some.ensures there c.remount.ensures.own
           w.in-Err.fault w.in-Err.ensures.remounted)
     ])
-
-pub invariant_of-self : goal.invariant_of-self
-invariant_of-self c = (subst IsSound (sym (ap (λ (p : PagesView). state_of p c.self.inside.cursor c.self.inside.passes) c.remount.ensures.remounted.rest)) c.self.invariant.0, c.remount.ensures.remounted.laid)

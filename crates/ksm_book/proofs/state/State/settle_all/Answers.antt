@@ -4,14 +4,6 @@ use Rattle.ksm_book.proofs.Reached.{state_comes, value}
 use Rattle.ksm_book.proofs.Sharing.{settled_lodges}
 use Rattle.ksm_book.proofs.state.State.settle_all.Goals as goal
 
-pub returns-clause-comes : goal.returns-clause-comes
-returns-clause-comes c =
-    let s = c.self.inside in
-    let q = c.settle_all.new.self in
-    subst (λ (v : BookValue). Comes v (value q s.keeper s.cursor s.passes) (λ t. (with_none_waiting t.0, t.1))) c.self.view_is
-    (state_comes (value s.pages s.keeper s.cursor s.passes) (value q s.keeper s.cursor s.passes) with_none_waiting
-    (ap (λ (p : PagesView). state_of p s.cursor s.passes) c.settle_all.ensures) refl (ap (λ (p : PagesView). p.frame) c.settle_all.ensures))
-
 pub invariant_of-self : goal.invariant_of-self
 invariant_of-self c =
     let s = c.self.inside in (
