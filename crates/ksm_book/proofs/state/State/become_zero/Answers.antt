@@ -2,10 +2,6 @@ use Rattle.ksm_book.proofs.Names.{ap, BookValue, IsForZero, KeeperView, PagesVie
 use Rattle.ksm_book.proofs.RowVisits.{Leads, may_empty, meets, zero_alone, zero_leads}
 use Rattle.ksm_book.proofs.state.State.become_zero.Goals as goal
 
-pub become_zero-lone-requires : goal.become_zero-lone-requires
-become_zero-lone-requires c =
-    zero_alone (meets IsForZero c.self.invariant (ap view_of c.self.view_is) c.requires.row)
-
 pub release_if-requires-clause-may : goal.release_if-requires-clause-may
 release_if-requires-clause-may c =
     may_empty (meets IsForZero c.self.invariant (ap view_of c.self.view_is) c.requires.row) c.become_zero-lone.ensures.left

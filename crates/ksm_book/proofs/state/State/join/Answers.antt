@@ -2,10 +2,6 @@ use Rattle.ksm_book.proofs.Names.{ap, BookValue, MayJoin, PagesView, seen, view_
 use Rattle.ksm_book.proofs.RowVisits.{Leads, has_room, joined_leads, joins_alone, made_by, may_add, may_sub, meets}
 use Rattle.ksm_book.proofs.state.State.join.Goals as goal
 
-pub join-requires-clause-alone : goal.join-requires-clause-alone
-join-requires-clause-alone c =
-    joins_alone c.args.best (meets (λ b. MayJoin b c.args.best) c.self.invariant (ap view_of c.self.view_is) c.requires.row)
-
 pub join-requires-clause-room : goal.join-requires-clause-room
 join-requires-clause-room c =
     has_room c.args.best (meets (λ b. MayJoin b c.args.best) c.self.invariant (ap view_of c.self.view_is) c.requires.row)

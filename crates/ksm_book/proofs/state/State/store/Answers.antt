@@ -41,9 +41,6 @@ invariant_of-self-2 c =
           (ap p.frame c.in-Some.ensures.spot ∙ sym c.in-Some.ensures.frame ∙ c.known_frame-frame.ensures) (ap (λ (z : KeeperView). z.table) c.write.ensures.wrote) c.write.ensures.ledger wide (sym c.in-Some.ensures.shared ∙ c.if-held.false) refl refl),
     )
 
-pub resettle-requires-clause-known : goal.resettle-requires-clause-known
-resettle-requires-clause-known c = ap is_some (found_spot c.self.inside.pages.rows c.args.page c.in-Some.held.spot.page c.in-Some.ensures.row c.in-Some.ensures.spot c.in-Some.ensures.found)
-
 pub resettle-requires-clause-node : goal.resettle-requires-clause-node
 resettle-requires-clause-node c = subst (λ n. n < c.self.inside.pages.shape.nodes) (sym c.in-Some.ensures.home)
     (find_all (λ r. same_page r.page c.args.page) (λ r. r.home < c.self.inside.pages.shape.nodes) c.self.inside.pages.rows c.in-Some.ensures.row c.in-Some.ensures.found c.self.invariant.0.homes)

@@ -14,19 +14,6 @@ met_by : (c : In_ok-found) (f : Find) → (f ≡ finds.Gone → ⊥) → c.in_ok
 met_by c f some is =
     finds_it f some c.self.invariant (ap view_of c.self.view_is) (seen c.visit.new.self) c.args.spot.page is c.in_ok-found.ensures.found
 
-pub returns-in_err-found-clause-refused_row : goal.returns-in_err-found-clause-refused_row
-returns-in_err-found-clause-refused_row c =
-    let page = c.args.spot.page in
-    if_err _ _ (ap (λ (p : PagesValue). restless_at page p.rows) c.in_err-found.ensures.refused
-    ∙ restless_there page c.self.inside.pages.rows c.in_err-found.ensures.restless)
-
-pub invariant_of-self-in-Gone : goal.invariant_of-self-in-Gone
-invariant_of-self-in-Gone c =
-    let s = c.self.inside in
-    let told = subst (Finds (seen s.pages) (seen c.visit.new.self) c.args.spot.page) c.in-Gone.is c.in_ok-found.ensures.found in
-    subst (λ (x : PagesView). IsSound (state_of x s.cursor s.passes) × IsLaid x s.keeper)
-    (sym (none_met (seen s.pages) (seen c.visit.new.self) c.args.spot.page told).1) c.self.invariant
-
 pub invariant_of-self-in-Waits : goal.invariant_of-self-in-Waits
 invariant_of-self-in-Waits c = (waits_leads (met_by ((goal.at.invariant_of-self-in-Waits c).In_ok-found) finds.Waits (λ e. cc) c.in-Waits.is)).lawful
 
