@@ -148,16 +148,6 @@ module _ (f : ℕ) (page : GuestPage) (o : Option ℕ) (frame : Frames) where
       let gone = uses_gone rows row rise found in
       omega (arith, same, new, at, gone)
 
-  -- none lies on the frame of a page on which one row alone lies
-  pub uses_once : (rows : List Row) (row : Row) → InPageOrder rows → row_at page rows ≡ Some row → frame page ≡ Some f → uses f frame rows ≡ 1
-      → All (λ r. same_page r.page page ≡ false → frame r.page ≢ Some f) rows
-  uses_once rows row rise found lies once =
-      let own = ap (λ p. one_at f (frame p)) (found_page page rows row found) ∙ one_same f (frame page) lies in
-      let gone = count_without_page old_test page rows row rise found in
-      let none : count_by old_test (without_page page rows) ≡ 0 = omega (arith, own, gone, once) in
-      let each = filter_back (λ r. not (same_page r.page page)) (λ r. old_test r ≡ false) rows (none_counted old_test (without_page page rows) none) in
-      λ i d lt other e. both_ways _ (each i d lt (ap not other)) (is_it f _ e)
-
 -- where a row comes at a page that had none, one row more lies on the frame if it comes there, else as many
 pub uses_come : (f : ℕ) (o : Option ℕ) (frame : Frames) (row : Row) (rows : List Row) → row_at row.page rows ≡ None
     → uses f (lies_on row.page o frame) (with_row row rows) ≡ uses f frame rows + one_at f o

@@ -29,10 +29,6 @@ module _ {sh : Shape} {across : ℕ} {k : Ledger} {rows : List Row} {frame : Fra
     back = λ life e. absurd (fits.shown life (ap (λ h. (frame_at k h).kind) (sym e) ∙ kind));
   }) dups p.each_dup
 
--- a change of one page's row keeps pages where the change does
-pub kept_page : (page : GuestPage) (c : Row → Row) → ((r : Row) → (c r).page ≡ r.page) → (r : Row) → (if same_page r.page page then c r else r).page ≡ r.page
-kept_page page c keeps r = cond_both (same_page r.page page) (c r) r (λ s. s.page ≡ r.page) (λ _. keeps r) (λ _. refl)
-
 -- a row is served by its frame
 abbrev At : Shape → Ledger → List DupRow → Frames → Row → Type 0
 At sh k dups frame r = IsServed sh k dups r (frame r.page)
