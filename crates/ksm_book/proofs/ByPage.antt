@@ -1,5 +1,5 @@
 -- Rows that change at one page: what becomes of what holds of each row, and of how many lie on a frame.
-use Rattle.ksm_book.proofs.Names.{[], All, All-cons, All-head, All-map, All-tail, ap, arith, Bool, both_ways, cases_Bool, change_row, cond, cond_both, count_by, count_more, count_with_row, count_without_page, counts_one, eq-eqb, eqb-true, false, filter, filter_passes, find_all, find_none, find_passes, Frames, get_or, GuestPage, if◌then◌else◌, inl, InPageOrder, inr, is_frame, lies_on, List, map, ne_eqb, None, none_counted, not, not-true, one_of_each_page, Option, refl, Row, row_at, same_page, same_page_eq, same_page_refl, Some, subst, sym, true, uses, with_row, without_page, ℕ, ◌+◌, ◌∙◌, ◌∷◌, ◌≡◌, ◌≢◌, ◌≤◌, ◌⊎◌}
+use Rattle.ksm_book.proofs.Names.{[], All, All-cons, All-head, All-map, All-tail, ap, arith, Bool, both_ways, cases_Bool, change_row, cond, cond_both, count_by, count_more, count_with_row, count_without_page, counts_one, eq-eqb, eqb-true, false, filter, filter_passes, find_all, find_none, find_passes, Frames, get_or, GuestPage, if◌then◌else◌, inl, InPageOrder, inr, is_frame, lies_on, List, map, ne_eqb, None, none_counted, not, not-true, one_of_each_page, Option, refl, Row, row_at, same_page, same_page_eq, same_page_refl, Some, subst, suc, sym, true, uses, with_row, without_page, ℕ, ◌+◌, ◌∙◌, ◌∷◌, ◌≡◌, ◌≢◌, ◌≤◌, ◌⊎◌}
 
 -- frames that are equal at each page are equal
 pub same_frames : (f g : Frames) → ((page : GuestPage) → f page ≡ g page) → f ≡ g
@@ -148,16 +148,6 @@ module _ (f : ℕ) (page : GuestPage) (o : Option ℕ) (frame : Frames) where
       let gone = uses_gone rows row rise found in
       omega (arith, same, new, at, gone)
 
-  -- none lies on the frame of a page on which one row alone lies
-  pub uses_once : (rows : List Row) (row : Row) → InPageOrder rows → row_at page rows ≡ Some row → frame page ≡ Some f → uses f frame rows ≡ 1
-      → All (λ r. same_page r.page page ≡ false → frame r.page ≢ Some f) rows
-  uses_once rows row rise found lies once =
-      let own = ap (λ p. one_at f (frame p)) (found_page page rows row found) ∙ one_same f (frame page) lies in
-      let gone = count_without_page old_test page rows row rise found in
-      let none : count_by old_test (without_page page rows) ≡ 0 = omega (arith, own, gone, once) in
-      let each = filter_back (λ r. not (same_page r.page page)) (λ r. old_test r ≡ false) rows (none_counted old_test (without_page page rows) none) in
-      λ i d lt other e. both_ways _ (each i d lt (ap not other)) (is_it f _ e)
-
 -- where a row comes at a page that had none, one row more lies on the frame if it comes there, else as many
 pub uses_come : (f : ℕ) (o : Option ℕ) (frame : Frames) (row : Row) (rows : List Row) → row_at row.page rows ≡ None
     → uses f (lies_on row.page o frame) (with_row row rows) ≡ uses f frame rows + one_at f o
@@ -170,3 +160,20 @@ uses_come f o frame row rows absent =
 -- a frame on which a row lies is used
 pub uses_some : (f : ℕ) (frame : Frames) (rows : List Row) → All (λ r. frame r.page ≡ Some f → 1 ≤ uses f frame rows) rows
 uses_some f frame rows = λ i d lt e. counts_one (λ r. is_frame f (frame r.page)) rows i d lt (is_it f _ e)
+
+-- a change of a page's row, and then another, are one change where the second makes the same of both
+pub change_twice : (page : GuestPage) (c d e : Row → Row) (rows : List Row) → ((r : Row) → (c r).page ≡ r.page) → All (λ r. same_page r.page page ≡ true → d (c r) ≡ e r) rows
+    → change_row page d (change_row page c rows) ≡ change_row page e rows
+change_twice page c d e [] keeps same = refl
+change_twice page c d e (r ∷ rows) keeps same = elim (cases_Bool (same_page r.page page)) [
+  | inl is ↦ let k = keeps r in let s = same 0 r (omega arith) is in grind (arith, is, k, s, change_twice page c d e rows keeps (λ i x lt. same (suc i) x (omega (arith, lt))))
+  | inr other ↦ grind (arith, other, change_twice page c d e rows keeps (λ i x lt. same (suc i) x (omega (arith, lt))))
+]
+
+-- where the row of a page changes, the changed row is found at the page
+pub at_changed : (page : GuestPage) (c : Row → Row) (rows : List Row) (row : Row) → ((r : Row) → (c r).page ≡ r.page) → row_at page rows ≡ Some row → row_at page (change_row page c rows) ≡ Some (c row)
+at_changed page c [] row keeps found = absurd (grind (arith, found))
+at_changed page c (r ∷ rows) row keeps found = elim (cases_Bool (same_page r.page page)) [
+  | inl same ↦ let k = keeps r in grind (arith, same, k, found)
+  | inr other ↦ grind (arith, other, at_changed page c rows row keeps (grind (arith, other, found)))
+]

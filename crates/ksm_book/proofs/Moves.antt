@@ -1,9 +1,9 @@
 -- What each step of a command does to a placement.
-use Rattle.ksm_book.proofs.Names.{both_ways, eqb-true, [], Agrees, All, All-append, All-cons, All-filter, All-head, All-map, All-tail, All-weaker, all_with_row, ap, arith, Bool, cases_lt, change_row, cond_both, DupFits, DupRow, eq-eqb, false, filter, filter_passes, find_all, find_none, FitsBase, frame_at, Frames, frames_of, GenerationFits, get_or, get_or-set_other, get_or-set_same, GuestPage, if◌then◌else◌, in_hand, inl, InPageOrder, inr, is_frame, is_some, IsInLife, IsServed, item_count, Kind, kind_for, Ledger, length, length-set, lies_on, Life, life_or, List, lt-ltb, ltb-true, map, Merged, merged_into, named_at, nat_lt, nat_tests, None, not, not-true, Note, Option, PAGE_WORDS, PageState, place_frame, place_life, Placed, Private, refl, Row, row_at, RowFits, same_page, same_page_refl, set, Shape, shared_state, Some, Stable, subst, sym, true, uses, with_dup, with_frame, with_row, without_page, zero_state, ℕ, ◌++◌, ◌+◌, ◌/◌, ◌<◌, ◌==◌, ◌∙◌, ◌∷◌, ◌≡◌, ◌≢◌, ◌≤◌}
+use Rattle.ksm_book.proofs.Names.{[], Agrees, All, All-append, All-cons, All-filter, All-head, All-map, All-tail, All-weaker, all_with_row, ap, arith, Bool, both_ways, cases_lt, change_row, cond_both, DupFits, DupRow, eq-eqb, eqb-true, false, filter, filter_passes, find_all, find_none, FitsBase, frame_at, Frames, frames_of, GenerationFits, get_or, get_or-set_other, get_or-set_same, GuestPage, if◌then◌else◌, in_hand, inl, InPageOrder, inr, is_frame, is_some, IsInLife, IsServed, item_count, Kind, kind_for, Ledger, length, length-set, lies_on, Life, life_or, List, lt-ltb, ltb-true, map, Merged, merged_into, named_at, nat_lt, nat_tests, None, not, not-true, Note, Option, ordered_change, PAGE_WORDS, PageState, place_frame, place_life, Placed, Private, refl, Row, row_at, RowFits, same_page, same_page_refl, set, Shape, shared_state, Some, Stable, subst, sym, true, uses, with_dup, with_frame, with_row, without_page, Zero, zero_state, ℕ, ◌++◌, ◌+◌, ◌/◌, ◌<◌, ◌==◌, ◌∙◌, ◌∷◌, ◌≡◌, ◌≢◌, ◌≤◌}
 use mathlib.Core.Logic.{dite}
 use native.Mathlib.Decide.{ℕ_discrete}
-use Rattle.ksm_book.proofs.Noted.{by_frame}
-use Rattle.ksm_book.proofs.ByPage.{all_changed_row, counts_agree, filter_back, found_page, off_page, on_page, uses_changed, uses_come, uses_gone, uses_mapped, uses_once}
+use Rattle.ksm_book.proofs.Noted.{by_frame, noted}
+use Rattle.ksm_book.proofs.ByPage.{all_changed_row, at_changed, change_twice, lies_again, lies_still, one_same, row_of_page, uses_some, counts_agree, filter_back, found_page, off_page, on_page, uses_changed, uses_come, uses_gone, uses_mapped}
 
 -- a frame serves a row: the row fits the frame, and agrees with each dup
 abbrev pub Serves : Shape → Ledger → List DupRow → Row → ℕ → Type 0
@@ -28,49 +28,6 @@ module _ {sh : Shape} {across : ℕ} {k : Ledger} {rows : List Row} {frame : Fra
     item = λ m. absurd (both_ways _ (alone d.number) m);
     back = λ life e. absurd (fits.shown life (ap (λ h. (frame_at k h).kind) (sym e) ∙ kind));
   }) dups p.each_dup
-
-  -- the ledger changes at one frame
-  module _ (g : ℕ) (inside : g < frames_of sh) (fr : Note) where
-    abbrev old : Note
-    old = frame_at k g
-
-    abbrev next : Ledger
-    next = with_frame k g fr
-
-    by : (P : Note → Type 0) (h : ℕ) → (h ≡ g → P fr) → (h ≢ g → P (frame_at k h)) → P (frame_at next h)
-    by = by_frame p g inside fr
-
-    -- a row fits its frame still where one note changes, if that keeps its frame's kind, content and generation
-    pub row_still : (r : Row) (f : ℕ) → (f ≡ g → (fr.kind ≡ (frame_at k f).kind) × (fr.content ≡ (frame_at k f).content) × (fr.generation ≡ (frame_at k f).generation)) → RowFits sh k r f → RowFits sh next r f
-    row_still r f same n = record {
-      mapped = n.mapped;
-      frame = n.frame;
-      kind = by (λ x. x.kind ≡ kind_for r.state) f (λ e. (same e).0 ∙ n.kind) (λ _. n.kind);
-      content = by (λ x. x.content ≡ r.bytes) f (λ e. (same e).1 ∙ n.content) (λ _. n.content);
-      given = by (λ x. 1 ≤ x.generation) f (λ e. subst (λ y. 1 ≤ y) (sym (same e).2) n.given) (λ _. n.given);
-      node = n.node;
-    }
-
-    pub agrees_still : (r : Row) (f : ℕ) (d : DupRow) → (f ≡ place_frame k d.place → IsInLife k d.place → IsInLife next d.place) → (IsInLife next d.place → IsInLife k d.place) → Agrees k r f d → Agrees next r f d
-    agrees_still r f d on off n = record {
-      item = λ m. let a = n.item m in (a.0, on a.0 a.1);
-      back = λ life e. n.back (off life) e;
-    }
-
-    long_still : length next.frames ≡ frames_of sh
-    long_still = length-set k.frames g fr ∙ p.frames_long
-
-    bases_still : (hand' : Option ℕ) → fr.base ≡ uses g frame rows + in_hand g hand' → ((f : ℕ) → f ≢ g → in_hand f hand' ≡ in_hand f hand) → (f : ℕ) → (frame_at next f).base ≡ uses f frame rows + in_hand f hand'
-    bases_still hand' here other f = by (λ x. x.base ≡ uses f frame rows + in_hand f hand') f
-        (λ e. subst (λ x. fr.base ≡ uses x frame rows + in_hand x hand') (sym e) here)
-        (λ ne. p.bases f ∙ ap (λ x. uses f frame rows + x) (sym (other f ne)))
-
-    kinds_still : FitsBase fr.kind fr.base → (f : ℕ) → FitsBase (frame_at next f).kind (frame_at next f).base
-    kinds_still here f = by (λ x. FitsBase x.kind x.base) f (λ _. here) (λ _. p.kinds f)
-
--- a change of one page's row keeps pages where the change does
-pub kept_page : (page : GuestPage) (c : Row → Row) → ((r : Row) → (c r).page ≡ r.page) → (r : Row) → (if same_page r.page page then c r else r).page ≡ r.page
-kept_page page c keeps r = cond_both (same_page r.page page) (c r) r (λ s. s.page ≡ r.page) (λ _. keeps r) (λ _. refl)
 
 -- a row is served by its frame
 abbrev At : Shape → Ledger → List DupRow → Frames → Row → Type 0
@@ -128,70 +85,6 @@ module _ {sh : Shape} {across : ℕ} {k : Ledger} {rows : List Row} {frame : Fra
       subst (IsServed sh k dups r) (sym (off_page page None frame r.page (not-true _ (filter_passes (λ s. not (same_page s.page page)) rows i d lt)))) (kept i d lt))
       (λ f. let gone = uses_gone f page None frame rows row rise found in let b = p.bases f in omega (arith, gone, b))
 
--- the row of a page is written in place, with its frame
-module _ {sh : Shape} {across : ℕ} {k : Ledger} {rows : List Row} {frame : Frames} {dups : List DupRow} (p : Placed sh across k rows frame dups None) (page : GuestPage) (row : Row) (rise : InPageOrder rows) (found : row_at page rows ≡ Some row)
-    (g : ℕ) (lies : frame page ≡ Some g) (own : (frame_at k g).kind ≡ Private) where
-  -- the row is served by its frame
-  pub fits : Serves sh k dups row g
-  fits = subst (IsServed sh k dups row) (ap frame (found_page page rows row found) ∙ lies) (find_all (λ r. same_page r.page page) (λ r. IsServed sh k dups r (frame r.page)) rows row found p.each_row)
-
-  -- no other row is on it
-  pub alone_there : All (λ r. same_page r.page page ≡ false → frame r.page ≢ Some g) rows
-  alone_there =
-      let one : (frame_at k g).base ≡ 1 = subst (λ (x : Kind). FitsBase x (frame_at k g).base) own (p.kinds g) in
-      let b : (frame_at k g).base ≡ uses g frame rows + 0 = p.bases g in
-      uses_once g page None frame rows row rise found lies (omega (arith, one, b))
-
-  -- no place names it in its life
-  pub not_named : (d : DupRow) → DupFits sh across k d → IsInLife k d.place → place_frame k d.place ≢ g
-  not_named d n l e = n.shown l (ap (λ h. (frame_at k h).kind) e ∙ own)
-
-  module _ (c : Row → Row) (keeps : (r : Row) → (c r).page ≡ r.page) (fr : Note) (kind : fr.kind ≡ Private) (base : fr.base ≡ (frame_at k g).base) (life : fr.generation ≡ (frame_at k g).generation) (wide : length fr.content ≡ PAGE_WORDS) where
-    abbrev now : Ledger
-    now = with_frame k g fr
-
-    -- rows and dups lie lawfully where a row that is not shared gets new bytes, and its frame holds them
-    pub written_in : zero_state (c row).state ≡ false → kind_for (c row).state ≡ Private → ((n : ℕ) → merged_into n (c row).state ≡ false) → (c row).home ≡ row.home → (c row).bytes ≡ fr.content → shared_state row.state ≡ false
-        → Placed sh across now (change_row page c rows) frame dups None
-    written_in mapped is alone home bytes was =
-        let inside : g < frames_of sh = fits.0.frame in
-        let at : frame (c row).page ≡ Some g = ap frame (keeps row ∙ found_page page rows row found) ∙ lies in
-        let same : (h : ℕ) → (frame_at now h).generation ≡ (frame_at k h).generation = λ h. by_frame p g inside fr (λ x. x.generation ≡ (frame_at k h).generation) h (λ e. life ∙ ap (λ y. (frame_at k y).generation) (sym e)) (λ _. refl) in
-        let here : frame_at now g ≡ fr = by_frame p g inside fr (λ x. x ≡ fr) g (λ _. refl) (λ ne. absurd (ne refl)) in
-        let apart : All (λ r. IsServed sh k dups r (frame r.page) × (same_page r.page page ≡ false → frame r.page ≢ Some g)) rows = λ i d lt. (p.each_row i d lt, alone_there i d lt) in
-        record {
-          frames_long = long_still p g inside fr;
-          places_long = p.places_long;
-          widths = λ f. by_frame p g inside fr (λ x. length x.content ≡ PAGE_WORDS) f (λ _. wide) (λ _. p.widths f);
-          lives = λ f. by_frame p g inside fr (λ x. GenerationFits sh.last_generation x.kind x.generation) f
-              (λ _. subst (λ (x : Kind × ℕ). GenerationFits sh.last_generation x.0 x.1) (λ t. ((own ∙ sym kind) t, sym life t)) (p.lives g)) (λ _. p.lives f);
-          each_row = all_changed_row (λ r. IsServed sh k dups r (frame r.page) × (same_page r.page page ≡ false → frame r.page ≢ Some g)) (λ r. IsServed sh now dups r (frame r.page)) page c rows row rise found apart
-              (λ r other h. served_as sh k now dups dups r r (frame r.page) refl (λ f there m. (
-                row_still p g inside fr r f (λ e. absurd (h.1 other (there ∙ ap Some e))) m.0,
-                All-weaker (Agrees k r f) (Agrees now r f) (λ d a. agrees_still p g inside fr r f d (λ _ l. same _ ∙ l) (λ l. sym (same _) ∙ l) a) dups m.1,
-              )) h.0)
-              (λ _. subst (IsServed sh now dups (c row)) (sym at) (
-                record { mapped = mapped; frame = inside; kind = ap (λ (x : Note). x.kind) here ∙ kind ∙ sym is; content = ap (λ (x : Note). x.content) here ∙ sym bytes; given = subst (λ y. 1 ≤ y) (sym (same g)) fits.0.given; node = λ _. fits.0.node was ∙ sym home },
-                All-weaker (DupFits sh across k) (Agrees now (c row) g) (λ d n. record {
-                  item = λ m. absurd (grind (arith, m, alone d.number));
-                  back = λ l e. absurd (not_named d n (sym (same _) ∙ l) (sym e));
-                }) dups p.each_dup,
-              ));
-          each_dup = All-weaker (DupFits sh across k) (DupFits sh across now) (λ d n. record {
-            place = n.place;
-            named = n.named;
-            frame = n.frame;
-            life = subst (λ x. place_life k d.place ≤ x) (sym (same _)) n.life;
-            content = λ l. let l' = sym (same _) ∙ l in by_frame p g inside fr (λ x. x.content ≡ d.bytes) (place_frame k d.place) (λ e. absurd (not_named d n l' e)) (λ _. n.content l');
-            shown = λ l. let l' = sym (same _) ∙ l in by_frame p g inside fr (λ x. ¬ (x.kind ≡ Private)) (place_frame k d.place) (λ e. absurd (not_named d n l' e)) (λ _. n.shown l');
-            node = n.node;
-          }) dups p.each_dup;
-          bases = λ f. bases_still p g inside fr None (base ∙ p.bases g) (λ f ne. refl) f
-              ∙ ap (λ n. n + 0) (sym (uses_mapped f frame (λ r. if same_page r.page page then c r else r) rows (λ r. kept_page page c keeps r)));
-          kinds = kinds_still p g inside fr (subst (λ (x : Kind × ℕ). FitsBase x.0 x.1) (λ t. ((own ∙ sym kind) t, sym base t)) (p.kinds g));
-          empty = p.empty;
-        }
-
 all_with : (P : DupRow → Type 0) (d : DupRow) (dups : List DupRow) → P d → All (λ e. e.place ≢ d.place → P e) dups → All P (with_dup d dups)
 all_with P d dups here there =
     let lower = filter (λ e. nat_lt e.place d.place) dups in
@@ -225,98 +118,201 @@ all_without P d dups h =
       ],
     )
 
--- a new dup of the row of a page stands on its frame, which the place names
+-- a place comes to name the frame in the hand, on which no row lies, and a new dup without items stands there
+module _ {sh : Shape} {across : ℕ} {k : Ledger} {rows : List Row} {frame : Frames} {dups : List DupRow} {g : ℕ} (p : Placed sh across k rows frame dups (Some g)) (stable : (frame_at k g).kind ≡ Stable) (inside : g < frames_of sh)
+    (life : ℕ) (lived : (frame_at k g).generation ≡ life) (d : DupRow) (at : d.place < frames_of sh) where
+  abbrev named : Ledger
+  named = record { frames = k.frames; places = set k.places d.place (Some (record { frame = g; generation = life })) }
+
+  named_is : named_at named d.place ≡ Some (record { frame = g; generation = life })
+  named_is = let long = p.places_long in get_or-set_same k.places d.place (Some (record { frame = g; generation = life })) None (omega (arith, long, at))
+
+  named_off : (q : ℕ) → q ≢ d.place → named_at named q ≡ named_at k q
+  named_off q ne = get_or-set_other k.places d.place q (Some (record { frame = g; generation = life })) None ne
+
+  names : place_frame named d.place ≡ g
+  names = ap (λ x. (life_or x).frame) named_is
+
+  in_life : IsInLife named d.place
+  in_life = ap (λ h. (frame_at k h).generation) names ∙ lived ∙ sym (ap (λ x. (life_or x).generation) named_is)
+
+  names_off : (e : DupRow) → e.place ≢ d.place → place_frame named e.place ≡ place_frame k e.place
+  names_off e ne = ap (λ x. (life_or x).frame) (named_off e.place ne)
+
+  life_off : (e : DupRow) → e.place ≢ d.place → IsInLife named e.place → IsInLife k e.place
+  life_off e ne l = ap (λ h. (frame_at k h).generation) (sym (names_off e ne)) ∙ l ∙ ap (λ x. (life_or x).generation) (named_off e.place ne)
+
+  named_anew : uses g frame rows ≡ 0 → (frame_at k g).content ≡ d.bytes → (across ≡ 0 → g / sh.frames_per_node ≡ d.tree) → All (λ r. merged_into d.number r.state ≡ false) rows
+      → Placed sh across named rows frame (with_dup d dups) (Some g)
+  named_anew unused bytes tree fresh = record {
+    frames_long = p.frames_long;
+    places_long = length-set k.places d.place (Some (record { frame = g; generation = life })) ∙ p.places_long;
+    widths = p.widths;
+    lives = p.lives;
+    each_row = λ i x lt. let r : Row = get_or rows i x in served_as sh k named dups (with_dup d dups) r r (frame r.page) refl (λ f is m. (
+      (let n = m.0 in record { mapped = n.mapped; frame = n.frame; kind = n.kind; content = n.content; given = n.given; node = n.node }),
+      all_with (Agrees named r f) d dups
+          (record {
+            item = λ into. absurd (let none = fresh i x lt in grind (arith, into, none));
+            back = λ _ e. absurd (let some = uses_some g frame rows i x lt (is ∙ ap Some (e ∙ names)) in omega (arith, some, unused));
+          })
+          (λ n y l ne. let e : DupRow = get_or dups n y in let a = m.1 n y l in record {
+            item = λ into. let y = a.item into in (y.0 ∙ sym (names_off e ne), ap (λ h. (frame_at k h).generation) (names_off e ne) ∙ y.1 ∙ sym (ap (λ x. (life_or x).generation) (named_off e.place ne)));
+            back = λ l e2. a.back (life_off e ne l) (e2 ∙ names_off e ne);
+          }),
+    )) (p.each_row i x lt);
+    each_dup = all_with (DupFits sh across named) d dups
+        (record {
+          place = at;
+          named = ap is_some named_is;
+          frame = subst (λ x. x < frames_of sh) (sym names) inside;
+          life = (let same : place_life named d.place ≡ (frame_at named (place_frame named d.place)).generation = sym in_life in omega (arith, same));
+          content = λ _. ap (λ h. (frame_at k h).content) names ∙ bytes;
+          shown = λ _ e. (let bad : Stable ≡ Private = sym stable ∙ ap (λ h. (frame_at k h).kind) (sym names) ∙ e in cc);
+          node = λ z. ap (λ h. h / sh.frames_per_node) names ∙ tree z;
+        })
+        (λ n x l ne. let e : DupRow = get_or dups n x in let m = p.each_dup n x l in record {
+          place = m.place;
+          named = ap is_some (named_off e.place ne) ∙ m.named;
+          frame = subst (λ y. y < frames_of sh) (sym (names_off e ne)) m.frame;
+          life = subst (λ (y : Option Life). (life_or y).generation ≤ (frame_at k (life_or y).frame).generation) (sym (named_off e.place ne)) m.life;
+          content = λ l. ap (λ h. (frame_at k h).content) (names_off e ne) ∙ m.content (life_off e ne l);
+          shown = λ l e2. m.shown (life_off e ne l) (ap (λ h. (frame_at k h).kind) (sym (names_off e ne)) ∙ e2);
+          node = λ z. ap (λ h. h / sh.frames_per_node) (names_off e ne) ∙ m.node z;
+        });
+    bases = p.bases;
+    kinds = p.kinds;
+    empty = λ q h. (let w = all_without (λ e. e.place ≢ q) d dups h in
+        named_off q (λ e. w.0 (sym e)) ∙ p.empty q (λ n x l. dite (ℕ_discrete (get_or dups n x).place d.place) (λ e e2. w.0 (sym e ∙ e2)) (λ ne. w.1 n x l ne)));
+  }
+
+-- the row of a page leaves its frame, and comes back changed
 module _ {sh : Shape} {across : ℕ} {k : Ledger} {rows : List Row} {frame : Frames} {dups : List DupRow} (p : Placed sh across k rows frame dups None) (page : GuestPage) (row : Row) (rise : InPageOrder rows) (found : row_at page rows ≡ Some row)
-    (g : ℕ) (lies : frame page ≡ Some g) (own : (frame_at k g).kind ≡ Private) (d : DupRow) (inside : d.place < frames_of sh) where
+    (g : ℕ) (lies : frame page ≡ Some g) (own : (frame_at k g).kind ≡ Private) where
+  -- the row is served by its frame
+  fits : Serves sh k dups row g
+  fits = subst (IsServed sh k dups row) (ap frame (found_page page rows row found) ∙ lies) (find_all (λ r. same_page r.page page) (λ r. IsServed sh k dups r (frame r.page)) rows row found p.each_row)
+
+  -- no place names it in its life
+  not_named : (d : DupRow) → DupFits sh across k d → IsInLife k d.place → place_frame k d.place ≢ g
+  not_named d n l e = n.shown l (ap (λ h. (frame_at k h).kind) e ∙ own)
+
+  abbrev bared : Row → Row
+  bared r = record r { state = Zero }
+
+  abbrev bare : List Row
+  bare = change_row page bared rows
+
+  abbrev off : Frames
+  off = lies_on page None frame
+
+  -- without the page its frame is in the hand
+  lifted : Placed sh across k bare off dups (Some g)
+  lifted = subst (Placed sh across k bare off dups) lies (swapped None page bared row rise found (λ r. refl) p refl)
+
+  one : (frame_at k g).base ≡ 1
+  one = subst (λ (x : Kind). FitsBase x (frame_at k g).base) own (p.kinds g)
+
+  unused : uses g off bare ≡ 0
+  unused = let b = lifted.bases g in let held = one_same g (Some g) refl in omega (arith, one, b, held)
+
+  -- meanwhile its note changes
+  module _ (fr : Note) (life : fr.generation ≡ (frame_at k g).generation) where
+    turned : length fr.content ≡ PAGE_WORDS → fr.base ≡ 1 → GenerationFits sh.last_generation fr.kind fr.generation → FitsBase fr.kind fr.base
+        → Placed sh across (with_frame k g fr) bare off dups (Some g)
+    turned wide base lived counts = noted lifted g fits.0.frame fr (Some g) (record {
+      wide = wide;
+      lived = lived;
+      base = (let held = one_same g (Some g) refl in omega (arith, base, unused, held));
+      fits = counts;
+      same = λ used. absurd (omega (arith, used, unused));
+      life = inr (life, inl own);
+    }) (λ f ne. refl)
+
+    turned_note : frame_at (with_frame k g fr) g ≡ fr
+    turned_note = by_frame p g fits.0.frame fr (λ x. x ≡ fr) g (λ _. refl) (λ ne. absurd (ne refl))
+
+    turned_life : (h : ℕ) → (frame_at (with_frame k g fr) h).generation ≡ (frame_at k h).generation
+    turned_life h = by_frame p g fits.0.frame fr (λ x. x.generation ≡ (frame_at k h).generation) h (λ e. life ∙ ap (λ y. (frame_at k y).generation) (sym e)) (λ _. refl)
+
+  -- the page comes back to it
+  back : {k' : Ledger} {dups' : List DupRow} (c : Row → Row) → ((r : Row) → (c r).page ≡ r.page) → Placed sh across k' bare off dups' (Some g)
+      → IsServed sh k' dups' (c row) (Some g) → Placed sh across k' (change_row page c rows) frame dups' None
+  back {k'} {dups'} c keeps q served =
+      let d : Row → Row = λ r. record (c row) { page = r.page } in
+      let same : d row ≡ c row = λ t. record (c row) { page = sym (keeps row) t } in
+      let again = change_twice page bared d c rows (λ r. refl) (λ i x lt at. subst (λ r. d r ≡ c r) (sym (row_of_page page rows row rise found i x lt at)) same) in
+      let there = lies_again page None (Some g) frame ∙ lies_still page (Some g) frame lies in
+      subst (λ (z : List Row × Frames × Option ℕ). Placed sh across k' z.0 z.1 dups' z.2)
+      (λ t. (again t, there t, on_page page None frame page (same_page_refl page) t))
+      (swapped (Some g) page d (bared row) (ordered_change (λ r. same_page r.page page) bared rows (λ r. refl) rise)
+      (at_changed page bared rows row (λ r. refl) found) (λ r. refl) q (subst (λ x. IsServed sh k' dups' x (Some g)) (sym same) served))
+
+  -- rows and dups lie lawfully where a row that is not shared gets new bytes, and its frame holds them
+  pub written_in : (c : Row → Row) → ((r : Row) → (c r).page ≡ r.page) → (fr : Note) → fr.kind ≡ Private → fr.base ≡ (frame_at k g).base → fr.generation ≡ (frame_at k g).generation → length fr.content ≡ PAGE_WORDS
+      → zero_state (c row).state ≡ false → kind_for (c row).state ≡ Private → ((n : ℕ) → merged_into n (c row).state ≡ false) → (c row).home ≡ row.home → (c row).bytes ≡ fr.content → shared_state row.state ≡ false
+      → Placed sh across (with_frame k g fr) (change_row page c rows) frame dups None
+  written_in c keeps fr kind base life wide mapped is alone home bytes was =
+      let here = turned_note fr life in
+      let q = turned fr life wide (base ∙ one)
+      (subst (λ (x : Kind × ℕ). GenerationFits sh.last_generation x.0 x.1) (λ t. ((own ∙ sym kind) t, sym life t)) (p.lives g))
+      (subst (λ (x : Kind × ℕ). FitsBase x.0 x.1) (λ t. ((own ∙ sym kind) t, sym base t)) (p.kinds g)) in
+      back c keeps q (
+        record {
+          mapped = mapped;
+          frame = fits.0.frame;
+          kind = ap (λ (x : Note). x.kind) here ∙ kind ∙ sym is;
+          content = ap (λ (x : Note). x.content) here ∙ sym bytes;
+          given = subst (λ y. 1 ≤ y) (sym (turned_life fr life g)) fits.0.given;
+          node = λ _. fits.0.node was ∙ sym home;
+        },
+        own_agrees q (c row) g alone (ap (λ (x : Note). x.kind) here ∙ kind),
+      )
+
   -- the note of the row's frame once it is Stable
-  abbrev pub stable : Note
+  abbrev stable : Note
   stable = record { kind = Stable; base = (frame_at k g).base; generation = (frame_at k g).generation; content = (frame_at k g).content }
 
-  -- what the keeper knows once the row's frame is Stable and the place names it
-  abbrev pub shown_next : Ledger
-  shown_next = record { frames = set k.frames g stable; places = set k.places d.place (Some (record { frame = g; generation = (frame_at k g).generation })) }
-
-  row_fits : Serves sh k dups row g
-  row_fits = fits p page row rise found g lies own
-
   -- rows and dups lie lawfully where a place names the frame of a row, which becomes the first item of a new dup
-  pub published : (c : Row → Row) → ((r : Row) → (c r).page ≡ r.page) → (c row).state ≡ Merged d.number → (c row).bytes ≡ row.bytes → d.bytes ≡ row.bytes → (across ≡ 0 → row.home ≡ d.tree) → shared_state row.state ≡ false
+  pub published : (d : DupRow) → d.place < frames_of sh → (c : Row → Row) → ((r : Row) → (c r).page ≡ r.page) → (c row).state ≡ Merged d.number → (c row).bytes ≡ row.bytes → d.bytes ≡ row.bytes → (across ≡ 0 → row.home ≡ d.tree) → shared_state row.state ≡ false
       → All (λ r. merged_into d.number r.state ≡ false) rows → All (λ e. ¬ (e.number ≡ d.number)) dups
-      → Placed sh across shown_next (change_row page c rows) frame (with_dup d dups) None
-  published c keeps item same bytes home was fresh numbers =
-      let inside' : g < frames_of sh = row_fits.0.frame in
-      let pl : length k.places ≡ frames_of sh = p.places_long in
-      let life : Life = record { frame = g; generation = (frame_at k g).generation } in
-      let named : named_at shown_next d.place ≡ Some life = get_or-set_same k.places d.place (Some life) None (omega arith) in
-      let named_off : (q : ℕ) → q ≢ d.place → named_at shown_next q ≡ named_at k q = λ q ne. get_or-set_other k.places d.place q (Some life) None ne in
-      let frame_is : place_frame shown_next d.place ≡ g = ap (λ x. (life_or x).frame) named in
-      let life_is : place_life shown_next d.place ≡ (frame_at k g).generation = ap (λ x. (life_or x).generation) named in
-      let at : (P : Note → Type 0) (h : ℕ) → (h ≡ g → P stable) → (h ≢ g → P (frame_at k h)) → P (frame_at shown_next h) = by_frame p g inside' stable in
-      let gens : (h : ℕ) → (frame_at shown_next h).generation ≡ (frame_at k h).generation = λ h. at (λ x. x.generation ≡ (frame_at k h).generation) h (λ e. ap (λ y. (frame_at k y).generation) (sym e)) (λ _. refl) in
-      let words : (h : ℕ) → (frame_at shown_next h).content ≡ (frame_at k h).content = λ h. at (λ x. x.content ≡ (frame_at k h).content) h (λ e. ap (λ y. (frame_at k y).content) (sym e)) (λ _. refl) in
-      let here : frame_at shown_next g ≡ stable = at (λ x. x ≡ stable) g (λ _. refl) (λ ne. absurd (ne refl)) in
-      let in_life : IsInLife shown_next d.place = ap (λ h. (frame_at shown_next h).generation) frame_is ∙ gens g ∙ sym life_is in
-      let frame_off : (e : DupRow) → e.place ≢ d.place → place_frame shown_next e.place ≡ place_frame k e.place = λ e ne. ap (λ x. (life_or x).frame) (named_off e.place ne) in
-      let off : (e : DupRow) → e.place ≢ d.place → IsInLife shown_next e.place → IsInLife k e.place = λ e ne l. sym (ap (λ h. (frame_at shown_next h).generation) (frame_off e ne) ∙ gens _) ∙ l ∙ ap (λ x. (life_or x).generation) (named_off e.place ne) in
-      let on : (e : DupRow) → e.place ≢ d.place → IsInLife k e.place → IsInLife shown_next e.place = λ e ne l. ap (λ h. (frame_at shown_next h).generation) (frame_off e ne) ∙ gens _ ∙ l ∙ sym (ap (λ x. (life_or x).generation) (named_off e.place ne)) in
-      let apart = not_named p page row rise found g lies own in
-      let there : frame (c row).page ≡ Some g = ap frame (keeps row ∙ found_page page rows row found) ∙ lies in
-      let Was : Row → Type 0 = λ r. IsServed sh k dups r (frame r.page) × (same_page r.page page ≡ false → frame r.page ≢ Some g) × (merged_into d.number r.state ≡ false) in
-      let each : All Was rows = λ i r0 lt. (p.each_row i r0 lt, alone_there p page row rise found g lies own i r0 lt, fresh i r0 lt) in
-      record {
-        frames_long = long_still p g inside' stable;
-        places_long = length-set k.places d.place (Some life) ∙ p.places_long;
-        widths = λ f. ap length (words f) ∙ p.widths f;
-        lives = λ f. at (λ x. GenerationFits sh.last_generation x.kind x.generation) f (λ _. subst (λ (x : Kind). GenerationFits sh.last_generation x (frame_at k g).generation) own (p.lives g)) (λ _. p.lives f);
-        each_row = all_changed_row Was (λ r. IsServed sh shown_next (with_dup d dups) r (frame r.page)) page c rows row rise found each
-            (λ r other h. served_as sh k shown_next dups (with_dup d dups) r r (frame r.page) refl (λ f lies_there m.
-            let far : f ≢ g = λ e. h.1 other (lies_there ∙ ap Some e) in (
-              (let n = row_still p g inside' stable r f (λ e. absurd (far e)) m.0 in record { mapped = n.mapped; frame = n.frame; kind = n.kind; content = n.content; given = n.given; node = n.node }),
-              all_with (Agrees shown_next r f) d dups
-                  (record { item = λ m. absurd (grind (arith, m, h.2)); back = λ _ e. absurd (far (e ∙ frame_is)) })
-                  (λ n x l ne2. let e2 : DupRow = get_or dups n x in let a = m.1 n x l in record {
-                    item = λ m. let y = a.item m in (y.0 ∙ sym (frame_off e2 ne2), on e2 ne2 y.1);
-                    back = λ life e3. a.back (off e2 ne2 life) (e3 ∙ frame_off e2 ne2);
-                  }),
-            )) h.0)
-            (λ _. subst (IsServed sh shown_next (with_dup d dups) (c row)) (sym there) (
-              record { mapped = ap zero_state item; frame = inside'; kind = ap (λ (x : Note). x.kind) here ∙ ap kind_for (sym item); content = words g ∙ row_fits.0.content ∙ sym same; given = subst (λ y. 1 ≤ y) (sym (gens g)) row_fits.0.given; node = λ m. absurd (own_not_merged (c row).state d.number item m) },
-              all_with (Agrees shown_next (c row) g) d dups
-                  (record { item = λ _. (sym frame_is, in_life); back = λ _ _. ap (merged_into d.number) item ∙ eq-eqb d.number d.number refl })
-                  (λ n x l ne. let e2 : DupRow = get_or dups n x in record {
-                    item = λ m. absurd (numbers n x l (only e2.number (c row).state d.number item m));
-                    back = λ life e3. absurd (apart e2 (p.each_dup n x l) (off e2 ne life) (sym (e3 ∙ frame_off e2 ne)));
-                  }),
-            ));
-        each_dup = all_with (DupFits sh across shown_next) d dups
+      → Placed sh across (record { frames = set k.frames g stable; places = set k.places d.place (Some (record { frame = g; generation = (frame_at k g).generation })) })
+      (change_row page c rows) frame (with_dup d dups) None
+  published d inside c keeps item same bytes home was fresh numbers =
+      let served = fits.0 in
+      let here = turned_note stable refl in
+      let gens = turned_life stable refl in
+      let q = turned stable refl (p.widths g) one
+      (subst (λ (x : Kind). GenerationFits sh.last_generation x (frame_at k g).generation) own (p.lives g)) (omega (arith, one)) in
+      let life : ℕ = (frame_at k g).generation in
+      let kind = ap (λ (x : Note). x.kind) here in
+      let words = ap (λ (x : Note). x.content) here in
+      let off_life = life_off q kind served.frame life (gens g) d inside in
+      let off_there = names_off q kind served.frame life (gens g) d inside in
+      back c keeps
+      (named_anew q kind served.frame life (gens g) d inside unused (words ∙ served.content ∙ sym bytes)
+      (λ z. served.node was ∙ home z)
+      (All-map (λ r. merged_into d.number r.state ≡ false) (λ r. if same_page r.page page then record r { state = Zero } else r) rows (λ i x lt. let r : Row = get_or rows i x in
+      cond_both (same_page r.page page) (record r { state = Zero }) r (λ y. merged_into d.number y.state ≡ false) (λ _. refl) (λ _. fresh i x lt)))) (
+        record {
+          mapped = ap zero_state item;
+          frame = served.frame;
+          kind = kind ∙ ap kind_for (sym item);
+          content = words ∙ served.content ∙ sym same;
+          given = subst (λ y. 1 ≤ y) (sym (gens g)) served.given;
+          node = λ m. absurd (own_not_merged (c row).state d.number item m);
+        },
+        all_with (Agrees (named q kind served.frame life (gens g) d inside) (c row) g) d dups
             (record {
-              place = inside;
-              named = ap is_some named;
-              frame = subst (λ x. x < frames_of sh) (sym frame_is) inside';
-              life = (let same_life : place_life shown_next d.place ≡ (frame_at shown_next (place_frame shown_next d.place)).generation = sym in_life in omega (arith, same_life));
-              content = λ _. ap (λ h. (frame_at shown_next h).content) frame_is ∙ words g ∙ row_fits.0.content ∙ sym bytes;
-              shown = λ _ e. (let bad : Stable ≡ Private = sym (ap (λ (x : Note). x.kind) here) ∙ ap (λ h. (frame_at shown_next h).kind) (sym frame_is) ∙ e in not_own bad);
-              node = λ z. ap (λ h. h / sh.frames_per_node) frame_is ∙ row_fits.0.node was ∙ home z;
+              item = λ _. (sym (names q kind served.frame life (gens g) d inside), in_life q kind served.frame life (gens g) d inside);
+              back = λ _ _. ap (merged_into d.number) item ∙ eq-eqb d.number d.number refl;
             })
-            (λ n x l ne. let e2 : DupRow = get_or dups n x in let m = p.each_dup n x l in let fo = frame_off e2 ne in record {
-              place = m.place;
-              named = ap is_some (named_off e2.place ne) ∙ m.named;
-              frame = subst (λ y. y < frames_of sh) (sym fo) m.frame;
-              life = subst (λ (y : ℕ × ℕ). y.0 ≤ y.1) (λ t. (ap (λ y. (life_or y).generation) (sym (named_off e2.place ne)) t, (sym (gens (place_frame k e2.place)) ∙ ap (λ h. (frame_at shown_next h).generation) (sym fo)) t)) m.life;
-              content = λ life. ap (λ h. (frame_at shown_next h).content) fo ∙ words _ ∙ m.content (off e2 ne life);
-              shown = λ life e. m.shown (off e2 ne life) (at (λ y. y.kind ≡ Private → (frame_at k (place_frame k e2.place)).kind ≡ Private) (place_frame k e2.place) (λ _ bad. absurd (not_own bad)) (λ _ z. z) (ap (λ h. (frame_at shown_next h).kind) (sym fo) ∙ e));
-              node = λ z. ap (λ h. h / sh.frames_per_node) fo ∙ m.node z;
-            });
-        bases = λ f. at (λ x. x.base ≡ uses f frame rows + 0) f (λ e. ap (λ y. (frame_at k y).base) (sym e) ∙ p.bases f) (λ _. p.bases f)
-            ∙ ap (λ n. n + 0) (sym (uses_mapped f frame (λ r. if same_page r.page page then c r else r) rows (λ r. kept_page page c keeps r)));
-        kinds = λ f. at (λ x. FitsBase x.kind x.base) f (λ _. (let one : (frame_at k g).base ≡ 1 = subst (λ (x : Kind). FitsBase x (frame_at k g).base) own (p.kinds g) in omega arith)) (λ _. p.kinds f);
-        empty = λ q h. (let w = all_without (λ e. e.place ≢ q) d dups h in
-            named_off q (λ e. w.0 (sym e)) ∙ p.empty q (λ n x l. dite (ℕ_discrete (get_or dups n x).place d.place) (λ e e2. w.0 (sym e ∙ e2)) (λ ne. w.1 n x l ne)));
-      }
+            (λ n x l ne. let e : DupRow = get_or dups n x in record {
+              item = λ m. absurd (numbers n x l (only e.number (c row).state d.number item m));
+              back = λ lives e2. absurd (not_named e (p.each_dup n x l) (sym (gens _) ∙ off_life e ne lives) (sym (e2 ∙ off_there e ne)));
+            }),
+      )
     where
-      not_own : Stable ≡ Private → ⊥
-      not_own e = cc
-
       only : (n : ℕ) (s : PageState) (m : ℕ) → s ≡ Merged m → merged_into n s ≡ true → n ≡ m
       only n s m is into = let e : (m == n) ≡ true = sym (ap (merged_into n) is) ∙ into in grind (arith, nat_tests, e)
 

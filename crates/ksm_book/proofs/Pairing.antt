@@ -3,7 +3,7 @@ use Rattle.ksm_book.proofs.Names.{[], Add, All, All-contains_itself, ap, arith, 
 use Rattle.ksm_pages.specs.Paged.{paired as are_paired}
 use Rattle.ksm_book.proofs.Made.{made_one, made_then}
 use Rattle.ksm_book.proofs.Sharing.{laid_found, laid_joined, may_clear, may_found, may_join, may_part, spent_most, tree_is_home}
-use Rattle.ksm_book.proofs.Singles.{at_changed}
+use Rattle.ksm_book.proofs.ByPage.{at_changed}
 use Rattle.ksm_book.proofs.Standing.{finds_places}
 use Rattle.ksm_book.proofs.RowVisits.{Leads, Meets, at_row, leads, page_is, restless_own, there_is, staying_is, stayed_is}
 
@@ -239,8 +239,7 @@ module _ {p : PagesView} {k : KeeperView} {cursor : Option GuestPage} {passes : 
           q_is = goes ∙ (λ t. record first { rows = sym both t; frame = lies_on (at_page t) (lies t) p.frame })
 
           all_steps : Made k l (withdrawing p.dups place ++ (Publish place f ∷ Add f ∷ leaving (p.frame page)))
-          all_steps = made_then clears
-              (made_then (made_one k1 k2 (Publish place f) 0 shown) steps)
+          all_steps = made_then clears (made_then (made_one k1 k2 (Publish place f) 0 shown) steps)
 
           deed_is : row_visiting b p.frame row ≡ record {
             steps = withdrawing p.dups place ++
@@ -258,8 +257,7 @@ module _ {p : PagesView} {k : KeeperView} {cursor : Option GuestPage} {passes : 
           pub pair_leads : Leads v q l cursor passes page
           pair_leads = leads at.met q l at.met.so.restless
               (subst (λ (x : PagesView). IsLaid x l) (sym q_is)
-              (laid_joined first_laid first_rise page row (change w) row_still item_at f lies refl change (λ r. refl) refl
-              (sym tells.bytes)
+              (laid_joined first_laid first_rise page row (change w) row_still item_at f lies refl change (λ r. refl) refl (sym tells.bytes)
               l p.restless steps))
               (ap (λ (x : PagesView). state_of x cursor passes) goes ∙ (λ t. state_of (are_paired (at.chosen t) w row p) cursor passes)
               ∙ sym (stayed_is b p.frame row false at.met.so ∙ ap (λ o. paired o b row) at.waits))

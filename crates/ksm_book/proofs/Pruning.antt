@@ -125,20 +125,6 @@ pub record Drops (p q : PagesView) (k l : KeeperView) (count : ℕ) : Type 0 whe
   -- the places of the dups that went were withdrawn, in their order
   pub withdraws : Withdraws k l p.rows p.dups q.dups
 
--- at first no stale dup went, where rows and dups lie lawfully and the dups are in the order of their places
-pub drops_none : (p : PagesView) (k : KeeperView) → IsLaid p k → InPlaceOrder p.dups → Drops p p k k 0
-drops_none p k h rise = record {
-  pages = refl;
-  live = refl;
-  many = omega arith;
-  first = rise;
-  rise = rise;
-  before = h;
-  laid = h;
-  table = refl;
-  withdraws = record { steps = []; made = made_none refl; whole = refl };
-}
-
 -- the first stale dup goes next
 module _ (p q : PagesView) (k l : KeeperView) (count : ℕ) (h : Drops p q k l count) (place : ℕ) (told : Some place ≡ option_map (λ d. d.place) (find (is_stale q.rows) q.dups)) where
   rows_are : q.rows ≡ p.rows

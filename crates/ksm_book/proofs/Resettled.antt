@@ -1,5 +1,5 @@
 -- How a page gets another frame.
-use Rattle.ksm_book.proofs.Names.{[], ap, arith, change_row, FindsNone, Frames, GuestPage, Houses, IfSome, InPageOrder, is_some, IsKnown, IsLaid, KeeperView, leaving, length, lies_on, List, Made, MatchOption, May, None, on_its_own, Option, PAGE_WORDS, PagesView, Placed, Provides, refl, Resettled, Row, row_at, Shape, Some, Sub, subst, sym, Took, true, TurnedAway, ℕ, ◌<◌, ◌∙◌, ◌∷◌, ◌≡◌}
+use Rattle.ksm_book.proofs.Names.{ap, arith, change_row, FindsNone, Frames, GuestPage, Houses, IfSome, InPageOrder, is_some, IsKnown, IsLaid, KeeperView, leaving, length, lies_on, List, Made, MatchOption, May, None, on_its_own, Option, PAGE_WORDS, PagesView, Placed, Provides, refl, Resettled, Row, row_at, Shape, Some, Sub, subst, sym, Took, true, TurnedAway, ℕ, ◌<◌, ◌∙◌, ◌≡◌}
 use Rattle.ksm_base.specs.declared.row.PageState.TheVariants.{Private}
 use Rattle.ksm_book.proofs.Filling.{took}
 use Rattle.ksm_book.proofs.Shown.{does_then, quiet_does, quiet_leaving, none_left}
@@ -23,8 +23,7 @@ module _ {p : PagesView} {k w : KeeperView} (h : IsLaid p k) (rise : InPageOrder
       by (Some row) some = (refl, refl, refl)
 
   taken : Took k w node bytes g
-  taken = took (subst (λ (s : Shape). node < s.nodes) (sym h.same) less)
-      (lawful k h.same h.placed) long provides
+  taken = took (subst (λ (s : Shape). node < s.nodes) (sym h.same) less) (lawful k h.same h.placed) long provides
 
   same : w.table.shape ≡ p.shape
   same = shape_same p.shape k w h.same (taken.does.1.table)
@@ -36,8 +35,7 @@ module _ {p : PagesView} {k w : KeeperView} (h : IsLaid p k) (rise : InPageOrder
   module _ (left : Option ℕ) (was : left ≡ p.frame page) where
     -- once a page has a new frame in hand, the frame that it had, if it had one, may be left
     pub may_left : IfSome left (λ f. May w (Sub f))
-    may_left = subst (λ o. IfSome o (λ f. May w (Sub f))) (sym was)
-        (may_leave w same (p.frame page) (in_hand (housed node bytes) houses))
+    may_left = subst (λ o. IfSome o (λ f. May w (Sub f))) (sym was) (may_leave w same (p.frame page) (in_hand (housed node bytes) houses))
 
     -- a page that took a frame with its bytes on a node, and left the one that it had, is resettled there
     pub resettled : (q : PagesView) (u : KeeperView) → q ≡ record p { rows = change_row page on_its_own p.rows; frame = lies_on page (Some g) p.frame; restless = q.restless }

@@ -175,10 +175,6 @@ module _ (best : Best) {p : PagesView} {k : KeeperView} {cursor : Option GuestPa
   abbrev row : Row
   row = at.row
 
-  -- a page that is to join a dup has a frame of its own
-  pub joins_alone : IsAlone page p.rows
-  joins_alone = alone_now p.rows page row at.found (restless_own row at.so.0)
-
   module _ (g : ℕ) (lies : All (λ d. d.place ≡ best.place → All (λ r. merged_into d.number r.state ≡ true → p.frame r.page ≡ Some g) p.rows)
       p.dups) where
     told : (d : DupRow) × (best_dup p.knobs p.rows p.dups row ≡ Some d) × (best.number ≡ d.number) × (best.place ≡ d.place)
@@ -295,13 +291,11 @@ module _ {p : PagesView} {k : KeeperView} {cursor : Option GuestPage} {passes : 
 
   zero_hand : Placed p.shape p.knobs.merge_across_nodes k.ledger (change_row page zeroed p.rows) (lies_on page None p.frame) p.dups
       (p.frame page)
-  zero_hand = swapped None page zeroed at.row at.sound.rows_rise at.found
-      (λ r. refl) at.laid.placed refl
+  zero_hand = swapped None page zeroed at.row at.sound.rows_rise at.found (λ r. refl) at.laid.placed refl
 
   -- the frame of a page that is to become Zero may be left
   pub may_empty : {left : Option ℕ} → left ≡ p.frame page → IfSome left (λ f. May k (Sub f))
-  may_empty was = subst (λ o. IfSome o (λ f. May k (Sub f))) (sym was)
-      (may_leave k at.laid.same (p.frame page) zero_hand)
+  may_empty was = subst (λ o. IfSome o (λ f. May k (Sub f))) (sym was) (may_leave k at.laid.same (p.frame page) zero_hand)
 
   -- once the page is Zero and has left its frame, the book is what the visit leads to
   pub zero_leads : (q : PagesView) {l : KeeperView} {left : Option ℕ} → left ≡ p.frame page → Made k l (leaving left)
@@ -312,8 +306,7 @@ module _ {p : PagesView} {k : KeeperView} {cursor : Option GuestPage} {passes : 
       leads at q l at.so.restless
       (subst (λ (x : PagesView). IsLaid x l) (sym goes)
       (laid_rows at.laid (change_row page zeroed p.rows) (lies_on page None p.frame) p.restless l
-      (ap (λ (z : KeeperView). z.table) leaves.after) (left_spends (p.frame page) leaves)
-      (left_placed (p.frame page) leaves zero_hand)))
+      (ap (λ (z : KeeperView). z.table) leaves.after) (left_spends (p.frame page) leaves) (left_placed (p.frame page) leaves zero_hand)))
       (ap (λ (x : PagesView). state_of x cursor passes) goes ∙ (λ t. record b { rows = change_row (sym (page_is at) t) zeroed p.rows }) ∙
       sym (stayed_is b p.frame at.row true at.so))
       (subst (Performs (lying p k) (lying q l)) (sym (staying_is b p.frame at.row true at.so ∙ ap (emptying p.frame) (page_is at)))

@@ -72,8 +72,7 @@ module _ (v w : BookValue) (count : ℕ) (running : v.state.knobs.run ≡ 1) (ta
             (sym running) is;
         state = there.0 ∙ ap (scan_stopped stop) (beside_state doing made (first v));
         steps = record { made = steps; frame = there.1.frame ∙ ap (λ (d : Deed). d.frame) deed };
-        frames = quiet_does steps
-            (quiet_scanning made v.state (view_of v).frame);
+        frames = quiet_does steps (quiet_scanning made v.state (view_of v).frame);
         shown = tt;
       }
 

@@ -41,8 +41,7 @@ module _ {p : PagesView} {k : KeeperView} (h : IsLaid p k) (rise : InPageOrder p
   across = p.knobs.merge_across_nodes
 
   item_fits : Serves p.shape k.ledger p.dups item g
-  item_fits = subst (IsServed p.shape k.ledger p.dups item) there
-      (served_at h.placed item.page item found_item)
+  item_fits = subst (IsServed p.shape k.ledger p.dups item) there (served_at h.placed item.page item found_item)
 
   item_stable : (frame_at k.ledger g).kind ≡ Stable
   item_stable = item_fits.0.kind ∙ ap kind_for (merged_as item.state merged).1
@@ -68,8 +67,7 @@ module _ {p : PagesView} {k : KeeperView} (h : IsLaid p k) (rise : InPageOrder p
     joined_hand w comes =
         let q = added_placed comes item_stable item_fits.0.frame h.placed in
         joined page row item g c rise found keeps
-        (subst (IsServed p.shape w.ledger p.dups item) there
-        (served_at q item.page item found_item)) state bytes
+        (subst (IsServed p.shape w.ledger p.dups item) there (served_at q item.page item found_item)) state bytes
         (ap shared_state (merged_as item.state merged).1) q
 
     -- once a reference came to the item's frame, the frame of the page that joins, if it has one, may be left
@@ -84,9 +82,7 @@ module _ {p : PagesView} {k : KeeperView} (h : IsLaid p k) (rise : InPageOrder p
         let more = added_spends parts.1 in
         let more' = left_spends (p.frame page) parts.2 in
         laid_rows h (change_row page c p.rows) (lies_on page (Some g) p.frame) restless u (ap (λ (z : KeeperView). z.table) m.after)
-        (omega (arith, more, more'))
-        (left_placed (p.frame page) parts.2
-        (joined_hand parts.0 parts.1))
+        (omega (arith, more, more')) (left_placed (p.frame page) parts.2 (joined_hand parts.0 parts.1))
 
 -- a place where no dup with items stands may be named anew, or not at all
 module _ (k : Ledger) where
@@ -254,8 +250,7 @@ module _ {p : PagesView} {k : KeeperView} (h : IsLaid p k) (rise : InPageOrder p
       let q : Placed sh p.knobs.merge_across_nodes cleared p.rows p.frame
       (filter (elsewhere d.place) p.dups) None = withdrawn d.place
       inside h.placed in
-      let shown = published q page row rise found f lies own d inside c keeps
-      (state ∙ ap Merged (sym number)) same bytes tree alone
+      let shown = published q page row rise found f lies own d inside c keeps (state ∙ ap Merged (sym number)) same bytes tree alone
       (λ i r lt. ap (λ n. merged_into n (get_or p.rows i r).state) number ∙ fresh i r lt)
       (All-filter (elsewhere d.place) (λ e. ¬ (e.number ≡ d.number)) p.dups
       (λ n x lt same. (let below = numbers n x lt in omega (arith, below, same, number)))) in

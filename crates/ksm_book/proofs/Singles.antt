@@ -2,7 +2,7 @@
 use Rattle.ksm_book.proofs.Names.{[], All, All-filter, AlreadyRegistered, Answer, ap, arith, BadNode, before_trans, BookState, BookValue, BookView, Bool, CarriedOut, cases_Bool, change_row, comes_before, Command, cond_both, Does, Done, Drop, Err, false, filter, filter_all, filter_none, find_none, find_nothing, FindsNone, frame_at, frame_needed, frame_number, frame_on, Frames, frames_of, fresh_row, get_or, GuestPage, Houses, IfErr, IfSome, if◌then◌else◌, inl, InPageOrder, inr, is_some, IsAlone, IsAnswerUnless, IsDoneOr, IsIdle, IsLaid, IsReadable, IsServed, IsSound, IsWritable, KeeperView, leaving, length, lies_on, List, listed, lying, Made, MatchBool, MatchOption, May, moved, MovePage, MovesTo, nat_le, nat_tests, NoFrame, None, not, not_both, Ok, on_its_own, one_before, Option, option_and_then, ordered_with, PAGE_WORDS, PagesView, pairs_tail, Performs, Placed, private_state, Provides, puts, refl, refusal, refused_if, Register, Resettled, Resettles, Result, rewriting, Row, row_at, same_page, same_page_refl, Shape, shared_state, Some, sound_after, state_of, stepped, steps_of, Store, stored, StoresTo, Sub, subst, suc, sym, true, UnknownPage, view_of, with_row, without_page, ℕ, ◌++◌, ◌<◌, ◌==◌, ◌∙◌, ◌∷◌, ◌≡◌}
 use Rattle.std.proofs.lemmas.Bool.{eq-eqb}
 use Rattle.ksm_base.specs.declared.row.PageState.TheVariants.{Private}
-use Rattle.ksm_book.proofs.ByPage.{found_page, lies_again, lies_still, row_of_page}
+use Rattle.ksm_book.proofs.ByPage.{at_changed, change_twice, found_page, lies_again, lies_still, row_of_page}
 use Rattle.ksm_book.proofs.Laying.{come_there, lawful, laid_rows, own_kind, readable, served_at, shape_same}
 use Rattle.ksm_book.proofs.Filling.{took}
 use Rattle.ksm_book.proofs.Keeping.{left_placed, left_spends, may_leave, searched_spends}
@@ -16,33 +16,16 @@ abbrev pub book : PagesView → KeeperView → Option GuestPage → ℕ → Book
 book p k cursor passes = record { state = state_of p cursor passes; frame = p.frame; keeper = k }
 
 -- a command that was carried out leaves a sound state
-pub sound_carried : (v w : BookView) (command : Command) (answer : Answer) → IsSound v.state → CarriedOut v w command answer → IsSound w.state
-sound_carried v w command answer s h = subst IsSound (sym h.state) (sound_after v.state command answer s h.answer)
+pub sound_carried : {v w : BookView} {command : Command} {answer : Answer} → IsSound v.state → CarriedOut v w command answer → IsSound w.state
+sound_carried {v} {w} {command} {answer} s h = subst IsSound (sym h.state) (sound_after v.state command answer s h.answer)
 
 -- a command carried out from one book value was carried out from an equal one, and so was an equal command
-pub carried_so : (old now : BookValue) (w : BookView) (by given : Command) (answer : Answer) → old ≡ now → by ≡ given → CarriedOut (view_of old) w by answer → CarriedOut (view_of now) w given answer
-carried_so old now w by given answer same told h = subst (λ (z : BookValue × Command). CarriedOut (view_of z.0) w z.1 answer) (λ t. (same t, told t)) h
+pub carried_so : {old now : BookValue} {w : BookView} {by given : Command} {answer : Answer} → old ≡ now → by ≡ given → CarriedOut (view_of old) w by answer → CarriedOut (view_of now) w given answer
+carried_so {old} {now} {w} {by} {given} {answer} same told h = subst (λ (z : BookValue × Command). CarriedOut (view_of z.0) w z.1 answer) (λ t. (same t, told t)) h
 
 -- a page's row is found where the page was found to be
 pub found_spot : (rows : List Row) (page at : GuestPage) (row : Row) → at ≡ page → row_at page rows ≡ Some row → row_at at rows ≡ Some row
 found_spot rows page at row same found = ap (λ q. row_at q rows) same ∙ found
-
--- a change of a page's row, and then another, are one change where the second makes the same of both
-pub change_twice : (page : GuestPage) (c d e : Row → Row) (rows : List Row) → ((r : Row) → (c r).page ≡ r.page) → All (λ r. same_page r.page page ≡ true → d (c r) ≡ e r) rows
-    → change_row page d (change_row page c rows) ≡ change_row page e rows
-change_twice page c d e [] keeps same = refl
-change_twice page c d e (r ∷ rows) keeps same = elim (cases_Bool (same_page r.page page)) [
-  | inl is ↦ let k = keeps r in let s = same 0 r (omega arith) is in grind (arith, is, k, s, change_twice page c d e rows keeps (λ i x lt. same (suc i) x (omega (arith, lt))))
-  | inr other ↦ grind (arith, other, change_twice page c d e rows keeps (λ i x lt. same (suc i) x (omega (arith, lt))))
-]
-
--- where the row of a page changes, the changed row is found at the page
-pub at_changed : (page : GuestPage) (c : Row → Row) (rows : List Row) (row : Row) → ((r : Row) → (c r).page ≡ r.page) → row_at page rows ≡ Some row → row_at page (change_row page c rows) ≡ Some (c row)
-at_changed page c [] row keeps found = absurd (grind (arith, found))
-at_changed page c (r ∷ rows) row keeps found = elim (cases_Bool (same_page r.page page)) [
-  | inl same ↦ let k = keeps r in grind (arith, same, k, found)
-  | inr other ↦ grind (arith, other, at_changed page c rows row keeps (grind (arith, other, found)))
-]
 
 -- ---------------------------------------------------------------- a page with another frame
 
@@ -234,8 +217,7 @@ module _ (p : PagesView) (k : KeeperView) (cursor : Option GuestPage) (passes : 
 
   -- the frame of a page that goes, if it has one, may be left
   pub drop_may : IfSome left (λ f. May k (Sub f))
-  drop_may = subst (λ o. IfSome o (λ f. May k (Sub f))) (sym was)
-      (may_leave k h.same (p.frame page) gone_hand)
+  drop_may = subst (λ o. IfSome o (λ f. May k (Sub f))) (sym was) (may_leave k h.same (p.frame page) gone_hand)
 
   -- `Drop` is carried out, and all lies lawfully, where the page has left its frame and its row is gone
   pub drop_gone : (q : PagesView) (l : KeeperView) → q ≡ record p { rows = without_page page p.rows; frame = lies_on page None p.frame; restless = q.restless } → Made k l (leaving left)
@@ -292,56 +274,66 @@ come_found row rows absent =
         let rest = skip xs (λ i d lt. apart (suc i) d (omega (arith, lt))) in
         grind (arith, here, rest)
 
-module _ (p m : PagesView) (k l : KeeperView) (cursor : Option GuestPage) (passes : ℕ) (page : GuestPage) (node : ℕ) (bytes : List ℕ) (rise : InPageOrder p.rows) (absent : row_at page p.rows ≡ None) (h : IsLaid p k)
-    (comes : m ≡ record p { rows = with_row (fresh_row page node bytes) p.rows; frame = m.frame; restless = m.restless }) (others : m.frame ≡ lies_on page (m.frame page) p.frame) (less : node < p.shape.nodes) where
+-- a page comes, at home on a node, with these bytes
+pub record HasCome (p m : PagesView) (page : GuestPage) (node : ℕ) (bytes : List ℕ) : Type 0 where
+  -- the rows are in order, and the page had none
+  pub rise : InPageOrder p.rows
+  pub absent : row_at page p.rows ≡ None
+  -- it has one now, and no other page lies elsewhere
+  pub comes : m ≡ record p { rows = with_row (fresh_row page node bytes) p.rows; frame = m.frame; restless = m.restless }
+  pub others : m.frame ≡ lies_on page (m.frame page) p.frame
+  -- there is such a node
+  pub less : node < p.shape.nodes
+
+module _ {p m : PagesView} {page : GuestPage} {node : ℕ} {bytes : List ℕ} (new : HasCome p m page node bytes) where
   abbrev fresh : Row
   fresh = fresh_row page node bytes
 
-  come_allowed : refusal (state_of p cursor passes) (Register page node bytes) ≡ None
-  come_allowed = ap (λ x. refused_if x BadNode (refused_if (is_some (row_at page p.rows)) AlreadyRegistered None)) (there_is p.shape.nodes node less) ∙ ap (λ o. refused_if (is_some o) AlreadyRegistered None) absent
+  come_allowed : (cursor : Option GuestPage) (passes : ℕ) → refusal (state_of p cursor passes) (Register page node bytes) ≡ None
+  come_allowed cursor passes = ap (λ x. refused_if x BadNode (refused_if (is_some (row_at page p.rows)) AlreadyRegistered None)) (there_is p.shape.nodes node new.less) ∙ ap (λ o. refused_if (is_some o) AlreadyRegistered None) new.absent
 
   found_fresh : row_at page (with_row fresh p.rows) ≡ Some fresh
-  found_fresh = come_found fresh p.rows absent
+  found_fresh = come_found fresh p.rows new.absent
 
   -- a page that came has a row
   pub come_known : is_some (row_at page m.rows) ≡ true
-  come_known = ap (λ (x : PagesView). is_some (row_at page x.rows)) comes ∙ ap is_some found_fresh
+  come_known = ap (λ (x : PagesView). is_some (row_at page x.rows)) new.comes ∙ ap is_some found_fresh
 
   -- `Register` is carried out, and all lies lawfully, where the page comes on a frame taken with its bytes
-  pub register_come : (q : PagesView) (g : ℕ) → q ≡ record m { rows = change_row page on_its_own m.rows; frame = lies_on page (Some g) m.frame; restless = q.restless } → length bytes ≡ PAGE_WORDS → Provides k l node bytes g
+  pub register_come : {k l : KeeperView} (h : IsLaid p k) (cursor : Option GuestPage) (passes : ℕ) (q : PagesView) {g : ℕ} → q ≡ record m { rows = change_row page on_its_own m.rows; frame = lies_on page (Some g) m.frame; restless = q.restless } → length bytes ≡ PAGE_WORDS → Provides k l node bytes g
       → CarriedOut (book p k cursor passes) (book q l cursor passes) (Register page node bytes) (Ok Done) × IsLaid q l
-  register_come q g goes long provides =
-      let taken = took (subst (λ (x : Shape). node < x.nodes) (sym h.same) less) (lawful k h.same h.placed) long provides in
+  register_come {k = k} {l = l} h cursor passes q {g} goes long provides =
+      let taken = took (subst (λ (x : Shape). node < x.nodes) (sym h.same) new.less) (lawful k h.same h.placed) long provides in
       let table = taken.does.1.table in
-      let one = row_of_page page (with_row fresh p.rows) fresh (ordered_with fresh p.rows rise) found_fresh in
+      let one = row_of_page page (with_row fresh p.rows) fresh (ordered_with fresh p.rows new.rise) found_fresh in
       let rows : change_row page on_its_own (with_row fresh p.rows) ≡ with_row fresh p.rows = change_still page on_its_own (with_row fresh p.rows) (λ i x lt of_page. subst (λ r. on_its_own r ≡ r) (sym (one i x lt of_page)) refl) in
-      let frame : lies_on page (Some g) m.frame ≡ lies_on page (Some g) p.frame = ap (lies_on page (Some g)) others ∙ lies_again page (m.frame page) (Some g) p.frame in
-      let there : q ≡ record p { rows = with_row fresh p.rows; frame = lies_on page (Some g) p.frame; restless = q.restless } = goes ∙ (λ t. record (comes t) { rows = change_row page on_its_own (comes t).rows; frame = lies_on page (Some g) m.frame; restless = q.restless })
+      let frame : lies_on page (Some g) m.frame ≡ lies_on page (Some g) p.frame = ap (lies_on page (Some g)) new.others ∙ lies_again page (m.frame page) (Some g) p.frame in
+      let there : q ≡ record p { rows = with_row fresh p.rows; frame = lies_on page (Some g) p.frame; restless = q.restless } = goes ∙ (λ t. record (new.comes t) { rows = change_row page on_its_own (new.comes t).rows; frame = lies_on page (Some g) m.frame; restless = q.restless })
       ∙ (λ t. record p { rows = rows t; frame = frame t; restless = q.restless }) in (
         record {
           own = table;
-          answer = subst (λ o. IsAnswerUnless o (state_of p cursor passes) (Register page node bytes) (Ok Done)) (sym come_allowed) tt;
+          answer = subst (λ o. IsAnswerUnless o (state_of p cursor passes) (Register page node bytes) (Ok Done)) (sym (come_allowed cursor passes)) tt;
           state = ap (λ x. state_of x cursor passes) there;
           steps = record { got = g; provides = provides; frame = ap (λ (x : PagesView). x.frame) there };
           frames = taken.does;
           shown = tt;
         },
         subst (λ (x : PagesView). IsLaid x l) (sym there) (laid_rows h (with_row fresh p.rows) (lies_on page (Some g) p.frame) q.restless l table taken.spent
-            (come_there h.same taken h.placed fresh absent refl refl refl)),
+            (come_there h.same taken h.placed fresh new.absent refl refl refl)),
       )
 
   -- `Register` is refused, and all lies lawfully, where no frame of the node was left and the page went again
-  pub register_turned : (q : PagesView) → p.frame page ≡ None → q ≡ record m { rows = without_page page m.rows; frame = lies_on page None m.frame; restless = q.restless } → FindsNone k l node
+  pub register_turned : {k l : KeeperView} (h : IsLaid p k) (cursor : Option GuestPage) (passes : ℕ) (q : PagesView) → p.frame page ≡ None → q ≡ record m { rows = without_page page m.rows; frame = lies_on page None m.frame; restless = q.restless } → FindsNone k l node
       → CarriedOut (book p k cursor passes) (book q l cursor passes) (Register page node bytes) (Err (NoFrame node)) × IsLaid q l
-  register_turned q nowhere_there goes searched =
-      let turns = turned h less searched in
+  register_turned {k = k} {l = l} h cursor passes q nowhere_there goes searched =
+      let turns = turned h new.less searched in
       let table = ap (λ (z : KeeperView). z.table) searched.reaped.after in
-      let rows = without_come fresh p.rows rise absent in
-      let frame : lies_on page None m.frame ≡ p.frame = ap (lies_on page None) others ∙ lies_again page (m.frame page) None p.frame ∙ lies_still page None p.frame nowhere_there in
-      let back : q ≡ record p { restless = q.restless } = goes ∙ (λ t. record (comes t) { rows = without_page page (comes t).rows; frame = lies_on page None m.frame; restless = q.restless }) ∙ (λ t. record p { rows = rows t; frame = frame t; restless = q.restless }) in (
+      let rows = without_come fresh p.rows new.rise new.absent in
+      let frame : lies_on page None m.frame ≡ p.frame = ap (lies_on page None) new.others ∙ lies_again page (m.frame page) None p.frame ∙ lies_still page None p.frame nowhere_there in
+      let back : q ≡ record p { restless = q.restless } = goes ∙ (λ t. record (new.comes t) { rows = without_page page (new.comes t).rows; frame = lies_on page None m.frame; restless = q.restless }) ∙ (λ t. record p { rows = rows t; frame = frame t; restless = q.restless }) in (
         record {
           own = table;
-          answer = subst (λ o. IsAnswerUnless o (state_of p cursor passes) (Register page node bytes) (Err (NoFrame node))) (sym come_allowed) refl;
+          answer = subst (λ o. IsAnswerUnless o (state_of p cursor passes) (Register page node bytes) (Err (NoFrame node))) (sym (come_allowed cursor passes)) refl;
           state = ap (λ x. state_of x cursor passes) back;
           steps = record { searched = searched; frame = ap (λ (x : PagesView). x.frame) back };
           frames = (turns.left.part, turns.left.did);

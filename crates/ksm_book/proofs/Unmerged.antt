@@ -2,11 +2,11 @@
 use Rattle.ksm_book.proofs.Names.{[], All, All-head, All-tail, and-true, ap, append-nil, arith, change_row, change_rows, cond-false, cond-true, cond_both, Does, false, Fault, filter, filter-append, filter_none, find, get_or, GuestPage, HasLeft, Held, if◌then◌else◌, inl, InPageOrder, inr, is_next, is_of, is_shared_of, is_some, IsAlone, IsHeld, IsKnown, IsLaid, KeeperView, left_by, length, length-append, let_go, List, list_any, list_any-append, lying, map, map-append, Mapped, MatchOption, MayNotLeave, NoFrame, None, NoneLeft, not, not-false, not-true, of_guest, on_its_own, Option, option_map, or_right, PagesView, refl, Resettled, Resettles, ResettlesEach, Row, row_at, same_page, same_Some, shared_of, shared_state, slice_get, Some, subst, sym, take, take-append_seam, true, UnmergesTo, unshared, Unshares, ℕ, ◌&&◌, ◌++◌, ◌+◌, ◌<◌, ◌||◌, ◌∙◌, ◌∷◌, ◌≡◌, ◌≤◌}
 use Rattle.ksm_base.specs.declared.row.PageState.TheVariants.{Private}
 use Rattle.ksm_book.proofs.Along.{FitsPage, IsAlong, IsCut, along_cut, along_end, along_first, further, position}
-use Rattle.ksm_book.proofs.ByPage.{found_page, row_of_page}
+use Rattle.ksm_book.proofs.ByPage.{at_changed, change_twice, found_page, row_of_page}
 use Rattle.ksm_book.proofs.Laying.{LodgesAs, laid_mapped}
 use Rattle.ksm_book.proofs.Made.{made_none}
 use Rattle.ksm_book.proofs.Shown.{does_then, quiet_does}
-use Rattle.ksm_book.proofs.Singles.{alone_now, at_changed, change_still, change_twice, settled_laid, settled_pages, settled_steps}
+use Rattle.ksm_book.proofs.Singles.{alone_now, change_still, settled_laid, settled_pages, settled_steps}
 
 -- a row that is left keeps its page
 pub page_left : (guest : Option ℕ) (r : Row) → (left_by guest r).page ≡ r.page
@@ -239,8 +239,7 @@ module _ {p q : PagesView} {k l : KeeperView} {guest : Option ℕ} {count : ℕ}
           each = subst (λ xs. ResettlesEach xs (lying p k) (lying v w)) (sym more)
               (each_then met (shared_of h.row) (lying p k) (lying q l) (lying v w) u.each h.steps);
           does = subst (λ xs. Does k w (map (λ (x : Row). x.home) xs)) (sym more)
-              (subst (Does k w) (sym (map-append (λ (x : Row). x.home) met (shared_of h.row)))
-              (does_then u.does h.does));
+              (subst (Does k w) (sym (map-append (λ (x : Row). x.home) met (shared_of h.row))) (does_then u.does h.does));
           laid = h.laid;
           few =
               let far = further guest last q.rows page u.fits told in

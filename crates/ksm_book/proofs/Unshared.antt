@@ -126,8 +126,7 @@ module _ {p q : PagesView} {k : KeeperView} (cursor : Option GuestPage) (passes 
 
   -- rows and dups lie lawfully once a guest's rows are in the scan
   pub mergeable_laid : IsLaid q k
-  mergeable_laid = subst (λ (x : PagesView). IsLaid x k) (sym goes)
-      (laid_mapped h (λ r. if is_of guest r then in_scan r else r) q.restless
+  mergeable_laid = subst (λ (x : PagesView). IsLaid x k) (sym goes) (laid_mapped h (λ r. if is_of guest r then in_scan r else r) q.restless
       (λ r. cond_both (is_of guest r) (in_scan r) r (λ x. x.page ≡ r.page) (λ _. refl) (λ _. refl))
       (λ i d lt. let r = get_or p.rows i d in
       cond_both (is_of guest r) (in_scan r) r (λ x. LodgesAs x r) (λ _. (refl, refl, inl refl)) (λ _. (refl, refl, inl refl))))

@@ -1,19 +1,8 @@
-use Rattle.ksm_book.proofs.Names.{[], ap, arith, count_in, dying_from, frame_at, KeeperView, Made, map, map-append, Reap, refl, subst, sym, ℕ, ◌-◌, ◌==◌, ◌∙◌, ◌∷◌, ◌≡◌}
+use Rattle.ksm_book.proofs.Names.{[], ap, arith, count_in, dying_from, frame_at, KeeperView, Made, map, map-append, Reap, subst, sym, ℕ, ◌-◌, ◌==◌, ◌∙◌, ◌∷◌}
 use Rattle.ksm_book.proofs.FrameKinds.{other_if}
-use Rattle.ksm_book.proofs.Made.{made_none, made_one, made_then}
+use Rattle.ksm_book.proofs.Made.{made_one, made_then}
 use Rattle.ksm_book.proofs.Sweeps.{next_reaped, passed}
 use Rattle.ksm_book.proofs.frames.reap_each.Goals as goal
-
-pub dying-init : goal.dying-init
-dying-init c =
-    let v = c.args.keeper.now in
-    let none : 0 ≡ c.args.first - c.args.first = omega arith in
-    record {
-      low = omega arith;
-      high = c.requires.low;
-      made = subst (λ n. Made v v (map Reap (dying_from v.ledger c.args.first n))) none (made_none refl);
-      later = λ f ge. refl;
-    }
 
 pub dying-preserved : goal.dying-preserved
 dying-preserved c =

@@ -1,10 +1,6 @@
-use Rattle.ksm_book.proofs.Names.{ap, arith, frame_at, KeeperView, refl, rules, ◌∙◌}
-use Rattle.ksm_book.proofs.Made.{made_none}
+use Rattle.ksm_book.proofs.Names.{ap, frame_at, KeeperView, rules, ◌∙◌}
 use Rattle.ksm_book.proofs.Filling.{add_more, adds_ledger, base_more, held_within}
 use Rattle.ksm_book.proofs.mounting.add_times.Goals as goal
-
-pub loop-done-init : goal.loop-done-init
-loop-done-init c = record { made = made_none refl; base = omega arith }
 
 pub loop-done-preserved : goal.loop-done-preserved
 loop-done-preserved c =

@@ -2,9 +2,6 @@ use Rattle.ksm_book.proofs.Names.{List, Made, mounting, subst, ℕ, ◌∙◌}
 use Rattle.ksm_book.proofs.Filling.{mounts, words_kept}
 use Rattle.ksm_book.proofs.mounting.mount.Goals as goal
 
-pub returns-clause-published : goal.returns-clause-published
-returns-clause-published c = (c.add_times.new.keeper, c.publish.ensures)
-
 pub returns-clause-made : goal.returns-clause-made
 returns-clause-made c =
     let v = c.args.keeper.now in

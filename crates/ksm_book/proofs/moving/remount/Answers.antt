@@ -1,16 +1,9 @@
-use Rattle.ksm_book.proofs.Names.{arith, find_all, has_items, IsShape, items_on, refl, seen, subst, sym, ◌&&◌, ◌==◌, ◌∙◌, ◌≡◌}
+use Rattle.ksm_book.proofs.Names.{arith, find_all, has_items, items_on, refl, seen, ◌&&◌, ◌==◌, ◌≡◌}
 use Rattle.ksm_book.proofs.Remounts.{has_remounted, leaves, may_freeze, may_mount, stays, taken_place, turned_away}
 use Rattle.ksm_book.proofs.moving.remount.Goals as goal
 
-pub find_frame-requires-clause-shape : goal.find_frame-requires-clause-shape
-find_frame-requires-clause-shape c = c.shape-shape.ensures ∙ sym c.requires.may.laid.same
-
-pub find_frame-requires-clause-checked : goal.find_frame-requires-clause-checked
-find_frame-requires-clause-checked c = subst IsShape (sym c.shape-shape.ensures) c.requires.may.laid.small
-
 pub returns-in_default-clause-remounted : goal.returns-in_default-clause-remounted
-returns-in_default-clause-remounted c =
-    turned_away c.requires.may c.in_default.ensures
+returns-in_default-clause-remounted c = turned_away c.requires.may c.in_default.ensures
 
 pub freeze-requires-clause-may : goal.freeze-requires-clause-may
 freeze-requires-clause-may c =

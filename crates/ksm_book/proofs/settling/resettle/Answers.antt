@@ -1,13 +1,7 @@
-use Rattle.ksm_book.proofs.Names.{IsShape, None, refl, rules, seen, subst, sym, ◌∙◌}
+use Rattle.ksm_book.proofs.Names.{refl, rules, seen}
 use Rattle.ksm_book.proofs.Laying.{lawful}
 use Rattle.ksm_book.proofs.Resettled.{may_left, resettled, turned}
 use Rattle.ksm_book.proofs.settling.resettle.Goals as goal
-
-pub take_frame-requires-clause-shape : goal.take_frame-requires-clause-shape
-take_frame-requires-clause-shape c = c.shape-shape.ensures ∙ sym c.requires.laid.same
-
-pub take_frame-requires-clause-checked : goal.take_frame-requires-clause-checked
-take_frame-requires-clause-checked c = subst IsShape (sym c.shape-shape.ensures) c.requires.laid.small
 
 pub take_frame-requires-clause-lawful : goal.take_frame-requires-clause-lawful
 take_frame-requires-clause-lawful c =

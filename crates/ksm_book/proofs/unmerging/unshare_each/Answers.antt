@@ -1,26 +1,14 @@
-use Rattle.ksm_book.proofs.Names.{arith, rules, seen, Some, ◌∙◌}
-use Rattle.ksm_book.proofs.Along.{FitsPage, further, not_far}
+use Rattle.ksm_book.proofs.Names.{arith, rules, seen, Some}
+use Rattle.ksm_book.proofs.Along.{further, not_far}
 use Rattle.ksm_book.proofs.Unmerged.{unsharing_end, unsharing_first, unsharing_home, unsharing_next, unsharing_stop}
 use Rattle.ksm_book.proofs.unmerging.unshare_each.Goals as goal
 
 pub pages-init : goal.pages-init
 pages-init c = unsharing_first (seen c.args.pages.now) c.args.keeper.now c.args.guest c.requires.laid
 
-pub leave-requires-clause-own : goal.leave-requires-clause-own
-leave-requires-clause-own c = c.pages.invariant.does.1.table ∙ c.requires.own
-
-pub leave-requires-clause-laid : goal.leave-requires-clause-laid
-leave-requires-clause-laid c = c.pages.invariant.laid
-
-pub leave-requires-clause-held : goal.leave-requires-clause-held
-leave-requires-clause-held c = c.in-Some.ensures.0
-
 pub leave-requires-clause-home : goal.leave-requires-clause-home
 leave-requires-clause-home c =
     unsharing_home c.pages.invariant c.lie_in_order.ensures.rise c.in-Some.ensures.1 c.in-Some.ensures.0 c.requires.homes
-
-pub returns-in-Err-clause-own : goal.returns-in-Err-clause-own
-returns-in-Err-clause-own c = c.in-Err.ensures.turned.turned.left.did.table ∙ c.pages.invariant.does.1.table
 
 pub returns-in-Err-clause-unshares : goal.returns-in-Err-clause-unshares
 returns-in-Err-clause-unshares c = unsharing_stop c.pages.invariant c.lie_in_order.ensures.rise c.in-Some.ensures.1 c.in-Err.ensures.turned
@@ -29,22 +17,12 @@ pub pages-preserved : goal.pages-preserved
 pages-preserved c =
     unsharing_next c.pages.invariant c.lie_in_order.ensures.rise c.in-Some.ensures.1 c.in-Ok.ensures.left (search rules, search rules)
 
-pub overflow_add-count : goal.overflow_add-count
-overflow_add-count c =
-    let fits : FitsPage (Some c.in-Some.held.spot.page) = (search rules, search rules) in
-    let few = (unsharing_next c.pages.invariant c.lie_in_order.ensures.rise c.in-Some.ensures.1 c.in-Ok.ensures.left fits).few in
-    let end = not_far (Some c.in-Some.held.spot.page) fits in
-    omega (arith, few, end)
-
 pub pages-smaller : goal.pages-smaller
 pages-smaller c =
     let page = c.in-Some.held.spot.page in
     let far = further c.args.guest c.pages.last c.pages.pages.rows page c.pages.invariant.fits c.in-Some.ensures.1 in
     let end = not_far (Some page) (search rules, search rules) in
     omega (arith, far, end)
-
-pub returns-clause-own : goal.returns-clause-own
-returns-clause-own c = c.pages.invariant.does.1.table
 
 pub returns-clause-unshares : goal.returns-clause-unshares
 returns-clause-unshares c = unsharing_end c.pages.invariant c.lie_in_order.ensures.rise c.in_default.ensures

@@ -1,10 +1,6 @@
-use Rattle.ksm_book.proofs.Names.{ap, BookValue, IsForZero, KeeperView, PagesView, seen, view_of, ◌∙◌}
-use Rattle.ksm_book.proofs.RowVisits.{Leads, may_empty, meets, zero_alone, zero_leads}
+use Rattle.ksm_book.proofs.Names.{ap, IsForZero, seen, view_of}
+use Rattle.ksm_book.proofs.RowVisits.{Leads, may_empty, meets, zero_leads}
 use Rattle.ksm_book.proofs.state.State.become_zero.Goals as goal
-
-pub become_zero-lone-requires : goal.become_zero-lone-requires
-become_zero-lone-requires c =
-    zero_alone (meets IsForZero c.self.invariant (ap view_of c.self.view_is) c.requires.row)
 
 pub release_if-requires-clause-may : goal.release_if-requires-clause-may
 release_if-requires-clause-may c =
@@ -17,15 +13,8 @@ zeroed c =
     zero_leads (meets IsForZero c.self.invariant (ap view_of c.self.view_is) c.requires.row)
     (seen c.become_zero-lone.new.self) c.become_zero-lone.ensures.left c.release_if.ensures c.become_zero-lone.ensures.zero
 
-pub returns-clause-own : goal.returns-clause-own
-returns-clause-own c = ap (λ (z : KeeperView). z.table) c.release_if.ensures.after ∙ ap (λ (v : BookValue). v.keeper.table) c.self.view_is
-
 pub returns-clause-visited : goal.returns-clause-visited
 returns-clause-visited c = (zeroed c).visits
-
-pub returns-clause-restless : goal.returns-clause-restless
-returns-clause-restless c = ap (λ (p : PagesView). p.restless) c.become_zero-lone.ensures.zero ∙ ap (λ (v : BookValue). v.restless)
-    c.self.view_is
 
 pub invariant_of-self : goal.invariant_of-self
 invariant_of-self c = (zeroed c).lawful

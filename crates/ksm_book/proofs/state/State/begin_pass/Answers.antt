@@ -1,4 +1,4 @@
-use Rattle.ksm_book.proofs.Names.{ap, BookState, GuestPage, if◌then◌else◌, is_none, is_some, None, Option, Reached, refl, Some, subst, sym, true, true≢false, with_none_waiting, ◌∙◌, ◌≡◌}
+use Rattle.ksm_book.proofs.Names.{ap, BookState, if◌then◌else◌, is_none, None, Reached, subst, sym, with_none_waiting, ◌∙◌, ◌≡◌}
 use Rattle.ksm_book.proofs.Going.{none_of}
 use Rattle.ksm_book.proofs.state.State.begin_pass.Goals as goal
 
@@ -8,13 +8,3 @@ returns-then-is_none-clause-comes c = λ from s before.
     ap (λ (b : BookState). b.cursor) (sym before.0) ∙ sym c.cursor.ensures ∙ none_of c.cursor.result c.if-is_none.ensures in
     subst (λ b. Reached from c.settle_all.new.self (b, s.1)) (λ t. if is_none (sym none t) then with_none_waiting s.0 else s.0)
     (c.settle_all.ensures.comes from s before)
-
-pub returns-else-is_none-clause-comes : goal.returns-else-is_none-clause-comes
-returns-else-is_none-clause-comes c = λ from s before.
-    subst (λ b. Reached from c.args.self.now (b, s.1))
-    (by s.0 s.0.cursor (ap (λ (b : BookState). is_some b.cursor) (sym before.0) ∙ ap is_some (sym c.cursor.ensures) ∙ c.if-is_none.ensures))
-    before
-  where
-    by : (b : BookState) (o : Option GuestPage) → is_some o ≡ true → b ≡ (if is_none o then with_none_waiting b else b)
-    by b None some = absurd (true≢false (sym some))
-    by b (Some page) some = refl

@@ -25,4 +25,4 @@ returns c = subst (λ (x : BookValue). CarriedOut (view_of x) (book (seen c.remo
     (subst (λ q. CarriedOut (book (seen c.self.inside.pages) c.self.inside.keeper c.self.inside.cursor c.self.inside.passes) (book (seen c.remove-left.new.self) c.release_if.new.keeper c.self.inside.cursor c.self.inside.passes) (Drop q) (Ok Done)) c.in-Some.ensures.spot (gone c).0)
 
 pub invariant_of-self : goal.invariant_of-self
-invariant_of-self c = (sound_carried _ _ (Drop c.in-Some.held.spot.page) (Ok Done) c.self.invariant.0 (gone c).0, (gone c).1)
+invariant_of-self c = (sound_carried c.self.invariant.0 (gone c).0, (gone c).1)

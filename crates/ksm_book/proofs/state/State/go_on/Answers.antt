@@ -6,12 +6,6 @@ use Rattle.ksm_book.proofs.Reached.{begins, first, in_order}
 use Rattle.ksm_book.proofs.state.State.go_on.Goals as goal
 use Rattle.ksm_book.proofs.state.State.go_on.Goals.{After-end_passes}
 
-pub nonzero_div-left : goal.nonzero_div-left
-nonzero_div-left c = omega (arith, c.begin-ahead.ensures.some c.requires.some, c.in-End.ensures.ahead)
-
-pub nonzero_rem-result : goal.nonzero_rem-result
-nonzero_rem-result c = omega (arith, c.begin-ahead.ensures.some c.requires.some, c.in-End.ensures.ahead)
-
 -- memory stopped the visits before the last of them
 stops : (c : goal.After-stop_at) (from : BookValue) (s : BookState × Deed) → Reached from c.args.self.now s
     → (c.stop_at.result < c.args.most) × Reached from c.stop_at.new.self (begun (visits_beside doing c.stop_at.result s))

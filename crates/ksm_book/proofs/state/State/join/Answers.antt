@@ -1,10 +1,6 @@
-use Rattle.ksm_book.proofs.Names.{ap, BookValue, MayJoin, PagesView, seen, view_of, ◌∙◌}
-use Rattle.ksm_book.proofs.RowVisits.{Leads, has_room, joined_leads, joins_alone, made_by, may_add, may_sub, meets}
+use Rattle.ksm_book.proofs.Names.{ap, MayJoin, seen, view_of}
+use Rattle.ksm_book.proofs.RowVisits.{Leads, has_room, joined_leads, made_by, may_add, may_sub, meets}
 use Rattle.ksm_book.proofs.state.State.join.Goals as goal
-
-pub join-requires-clause-alone : goal.join-requires-clause-alone
-join-requires-clause-alone c =
-    joins_alone c.args.best (meets (λ b. MayJoin b c.args.best) c.self.invariant (ap view_of c.self.view_is) c.requires.row)
 
 pub join-requires-clause-room : goal.join-requires-clause-room
 join-requires-clause-room c =
@@ -31,10 +27,6 @@ joined c =
 
 pub returns-clause-visited : goal.returns-clause-visited
 returns-clause-visited c = (joined c).visits
-
-pub returns-clause-restless : goal.returns-clause-restless
-returns-clause-restless c = ap (λ (p : PagesView). p.restless) c.in_ok-lone.ensures.joined ∙ ap (λ (v : BookValue). v.restless)
-    c.self.view_is
 
 pub invariant_of-self-2 : goal.invariant_of-self-2
 invariant_of-self-2 c = (joined c).lawful

@@ -1,9 +1,6 @@
-use Rattle.ksm_book.proofs.Names.{BookValue, InPageOrder, ListsAll, subst, true, ◌≡◌}
+use Rattle.ksm_book.proofs.Names.{BookValue, ListsAll, subst, true, ◌≡◌}
 use Rattle.ksm_book.proofs.Listed.{lists_all}
 use Rattle.ksm_book.proofs.state.State.lies_in_order.Goals as goal
-
-pub returns-clause-rise : goal.returns-clause-rise
-returns-clause-rise c = subst (λ (v : BookValue). InPageOrder v.state.rows) c.self.view_is c.lie_in_order.ensures.rise
 
 pub returns-clause-listed : goal.returns-clause-listed
 returns-clause-listed c =

@@ -1,4 +1,4 @@
-use Rattle.ksm_book.proofs.Names.{ap, BookView, CarriedOut, inl, inr, IsSound, Knobs, KeeperView, MayMove, MoveDup, PagesView, refl, seen, Shape, state_of, subst, sym, ◌<◌, ◌∙◌}
+use Rattle.ksm_book.proofs.Names.{ap, BookView, CarriedOut, inl, inr, Knobs, KeeperView, MayMove, MoveDup, PagesView, refl, seen, Shape, state_of, subst, sym, ◌<◌, ◌∙◌}
 use Rattle.ksm_book.proofs.DupMoves.{done_carried, fault_carried, live_there}
 use Rattle.ksm_book.proofs.Singles.{book, carried_so}
 use Rattle.ksm_book.proofs.state.State.move_dup.Goals as goal
@@ -32,7 +32,7 @@ returns c =
     let new : BookView = book q l s.cursor s.passes in
     let command = MoveDup c.args.place c.args.node in
     let there = may ((goal.at.returns c).Joined-else-knobs-eq0) in
-    carried_so _ c.args.self.now new command command c.match-remount.result c.self.view_is refl (elim c.match-remount.branch [
+    carried_so c.self.view_is refl (elim c.match-remount.branch [
       | in-Ok w ↦ subst (CarriedOut old new command) (sym w.result-is)
           (done_carried p q s.keeper l s.cursor s.passes c.args.place c.args.node c.in-Some.dup c.in-Some.ensures there c.remount.ensures.own
           w.in-Ok.ensures.remounted)
@@ -40,6 +40,3 @@ returns c =
           (fault_carried p q s.keeper l s.cursor s.passes c.args.place c.args.node c.in-Some.dup c.in-Some.ensures there c.remount.ensures.own
           w.in-Err.fault w.in-Err.ensures.remounted)
     ])
-
-pub invariant_of-self : goal.invariant_of-self
-invariant_of-self c = (subst IsSound (sym (ap (λ (p : PagesView). state_of p c.self.inside.cursor c.self.inside.passes) c.remount.ensures.remounted.rest)) c.self.invariant.0, c.remount.ensures.remounted.laid)

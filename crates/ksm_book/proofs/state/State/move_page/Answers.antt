@@ -4,7 +4,7 @@ use Rattle.ksm_book.proofs.state.State.move_page.Goals as goal
 
 pub returns-then-held-node : goal.returns-then-held-node
 returns-then-held-node c =
-    carried_so _ c.args.self.now _ (MovePage c.args.page c.args.node) (MovePage c.args.page c.args.node) (Ok Done) c.self.view_is refl
+    carried_so c.self.view_is refl
     (subst (λ x. CarriedOut (book (seen c.self.inside.pages) c.self.inside.keeper c.self.inside.cursor c.self.inside.passes) x (MovePage c.args.page c.args.node) (Ok Done)) (ap view_of c.self.view_is)
     (move_home (seen c.self.inside.pages) c.self.inside.keeper c.self.inside.cursor c.self.inside.passes c.args.page c.args.node c.in-Some.ensures.row c.self.invariant.0.rows_rise c.in-Some.ensures.found
     (subst (λ (s : Shape). c.args.node < s.nodes) c.shape.ensures c.if-node-shape.false) (sym c.in-Some.ensures.home ∙ c.if-held-node.true)))
@@ -27,7 +27,7 @@ moved_there c =
     c.set_home.ensures
 
 pub returns : goal.returns
-returns c = carried_so _ c.args.self.now _ (MovePage c.in-Some.held.spot.page c.args.node) (MovePage c.args.page c.args.node) (Ok Done) c.self.view_is (ap (λ q. MovePage q c.args.node) c.in-Some.ensures.spot) (moved_there c).0
+returns c = carried_so c.self.view_is (ap (λ q. MovePage q c.args.node) c.in-Some.ensures.spot) (moved_there c).0
 
 pub invariant_of-self-2 : goal.invariant_of-self-2
-invariant_of-self-2 c = (sound_carried _ _ (MovePage c.in-Some.held.spot.page c.args.node) (Ok Done) c.self.invariant.0 (moved_there c).0, (moved_there c).1)
+invariant_of-self-2 c = (sound_carried c.self.invariant.0 (moved_there c).0, (moved_there c).1)

@@ -13,7 +13,7 @@ pruned c = record {
 }
 
 pub returns : goal.returns
-returns c = carried_so _ c.args.self.now _ Prune Prune (Ok (Pruned c.drop_stale-count.result)) c.self.view_is refl (pruned c)
+returns c = carried_so c.self.view_is refl (pruned c)
 
 pub invariant_of-self : goal.invariant_of-self
-invariant_of-self c = (sound_carried _ _ Prune (Ok (Pruned c.drop_stale-count.result)) c.self.invariant.0 (pruned c), c.drop_stale-count.ensures.laid)
+invariant_of-self c = (sound_carried c.self.invariant.0 (pruned c), c.drop_stale-count.ensures.laid)

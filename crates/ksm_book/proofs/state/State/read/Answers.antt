@@ -1,16 +1,12 @@
-use Rattle.ksm_book.proofs.Names.{rules, ap, BookValue, bytes_of, is_some, KeeperView, loads, LoadsIf, option_map, seen, Some, subst, sym, view_of, ◌∙◌}
-use Rattle.ksm_book.proofs.Laying.{laid_same}
+use Rattle.ksm_book.proofs.Names.{rules, ap, BookValue, bytes_of, loads, LoadsIf, option_map, Some, subst, sym, view_of, ◌∙◌}
 use Rattle.ksm_book.proofs.Shown.{part_did, quiet_loads}
-use Rattle.ksm_book.proofs.Singles.{found_spot, may_read}
+use Rattle.ksm_book.proofs.Singles.{may_read}
 use Rattle.ksm_book.proofs.state.State.read.Goals as goal
 
 pub load-requires : goal.load-requires
 load-requires c =
     let ready = may_read c.self.invariant.1 c.args.page c.in_ok-held.ensures.row c.in_ok-held.ensures.found c.in-Some.frame (sym c.in_ok-held.ensures.frame ∙ c.in-Some.is) in
     record { own = search rules; inside = ready.0; readable = ready.1; wide = ready.2 }
-
-pub bytes-requires : goal.bytes-requires
-bytes-requires c = ap is_some (found_spot c.self.inside.pages.rows c.args.page c.in_ok-held.held.spot.page c.in_ok-held.ensures.row c.in_ok-held.ensures.spot c.in_ok-held.ensures.found)
 
 pub returns-in-Some-clause-bytes : goal.returns-in-Some-clause-bytes
 returns-in-Some-clause-bytes c =
@@ -23,6 +19,3 @@ returns-in-Some-clause-loads c =
     subst (λ (x : BookValue). LoadsIf ((view_of x).frame c.args.page) (Some c.load.result) x.keeper c.load.new.keeper) c.self.view_is
     (subst (λ o. LoadsIf o (Some c.load.result) s.keeper c.load.new.keeper) (sym (sym c.in_ok-held.ensures.frame ∙ c.in-Some.is))
     (part_did s.keeper c.load.new.keeper (loads c.in-Some.frame 0 c.load.result) c.load.ensures.loaded (quiet_loads c.in-Some.frame 0 c.load.result)))
-
-pub invariant_of-self : goal.invariant_of-self
-invariant_of-self c = (c.self.invariant.0, laid_same c.self.invariant.1 c.load.new.keeper (ap (λ (z : KeeperView). z.table) c.load.ensures.loaded) c.load.ensures.ledger)

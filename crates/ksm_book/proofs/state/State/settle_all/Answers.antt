@@ -1,19 +1,7 @@
-use Rattle.ksm_book.proofs.Names.{ap, BookValue, Comes, get_or, IsLaid, IsSound, PagesView, refl, seen, settled, sound_none_waiting, state_of, subst, sym, with_none_waiting, ◌∙◌}
+use Rattle.ksm_book.proofs.Names.{ap, get_or, IsLaid, IsSound, PagesView, refl, seen, settled, sound_none_waiting, state_of, subst, sym}
 use Rattle.ksm_book.proofs.Laying.{laid_mapped}
-use Rattle.ksm_book.proofs.Reached.{state_comes, value}
 use Rattle.ksm_book.proofs.Sharing.{settled_lodges}
 use Rattle.ksm_book.proofs.state.State.settle_all.Goals as goal
-
-pub returns-clause-comes : goal.returns-clause-comes
-returns-clause-comes c =
-    let s = c.self.inside in
-    let q = c.settle_all.new.self in
-    subst (λ (v : BookValue). Comes v (value q s.keeper s.cursor s.passes) (λ t. (with_none_waiting t.0, t.1))) c.self.view_is
-    (state_comes (value s.pages s.keeper s.cursor s.passes) (value q s.keeper s.cursor s.passes) with_none_waiting
-    (ap (λ (p : PagesView). state_of p s.cursor s.passes) c.settle_all.ensures) refl (ap (λ (p : PagesView). p.frame) c.settle_all.ensures))
-
-pub returns-clause-restless : goal.returns-clause-restless
-returns-clause-restless c = ap (λ (p : PagesView). p.restless) c.settle_all.ensures ∙ ap (λ (v : BookValue). v.restless) c.self.view_is
 
 pub invariant_of-self : goal.invariant_of-self
 invariant_of-self c =
@@ -21,6 +9,5 @@ invariant_of-self c =
       subst IsSound (sym (ap (λ (p : PagesView). state_of p s.cursor s.passes) c.settle_all.ensures))
           (sound_none_waiting (state_of (seen s.pages) s.cursor s.passes) c.self.invariant.0),
       subst (λ (p : PagesView). IsLaid p s.keeper) (sym c.settle_all.ensures)
-          (laid_mapped c.self.invariant.1 settled s.pages.restless (λ r. refl)
-          (λ i d lt. settled_lodges (get_or s.pages.rows i d))),
+          (laid_mapped c.self.invariant.1 settled s.pages.restless (λ r. refl) (λ i d lt. settled_lodges (get_or s.pages.rows i d))),
     )

@@ -28,21 +28,18 @@ module _ (c : goal.After-store-2) where
       (ap (seen c.self.inside.pages).frame c.in-Some.ensures.spot ∙ sym c.in-Some.ensures.frame ∙ c.known_frame-frame.ensures) c.write.ensures.wrote
 
 pub returns : goal.returns
-returns c = carried_so _ c.args.self.now _ (Store c.in-Some.held.spot.page c.args.bytes) (Store c.args.page c.args.bytes) (Ok Done) c.self.view_is (ap (λ q. Store q c.args.bytes) c.in-Some.ensures.spot) (written c)
+returns c = carried_so c.self.view_is (ap (λ q. Store q c.args.bytes) c.in-Some.ensures.spot) (written c)
 
 pub invariant_of-self-2 : goal.invariant_of-self-2
 invariant_of-self-2 c =
     let p = seen c.self.inside.pages in
     let wide : length c.args.bytes ≡ PAGE_WORDS = search rules in (
-      sound_carried _ _ (Store c.in-Some.held.spot.page c.args.bytes) (Ok Done) c.self.invariant.0 (written c),
+      sound_carried c.self.invariant.0 (written c),
       subst (λ (x : PagesView). IsLaid x c.write.new.keeper) (sym c.store-2.ensures)
           (laid_written c.self.invariant.1 c.in-Some.held.spot.page c.in-Some.ensures.row (stored c.args.bytes) c.store-2.new.self.restless c.write.new.keeper c.known_frame-frame.result c.self.invariant.0.rows_rise
           (found_spot c.self.inside.pages.rows c.args.page c.in-Some.held.spot.page c.in-Some.ensures.row c.in-Some.ensures.spot c.in-Some.ensures.found) (λ r. refl)
           (ap p.frame c.in-Some.ensures.spot ∙ sym c.in-Some.ensures.frame ∙ c.known_frame-frame.ensures) (ap (λ (z : KeeperView). z.table) c.write.ensures.wrote) c.write.ensures.ledger wide (sym c.in-Some.ensures.shared ∙ c.if-held.false) refl refl),
     )
-
-pub resettle-requires-clause-known : goal.resettle-requires-clause-known
-resettle-requires-clause-known c = ap is_some (found_spot c.self.inside.pages.rows c.args.page c.in-Some.held.spot.page c.in-Some.ensures.row c.in-Some.ensures.spot c.in-Some.ensures.found)
 
 pub resettle-requires-clause-node : goal.resettle-requires-clause-node
 resettle-requires-clause-node c = subst (λ n. n < c.self.inside.pages.shape.nodes) (sym c.in-Some.ensures.home)
@@ -63,7 +60,7 @@ copied c =
     c.store.ensures (sym c.in-Some.ensures.shared ∙ c.if-held.true)
 
 pub returns-then-held : goal.returns-then-held
-returns-then-held c = carried_so _ c.args.self.now _ (Store c.in-Some.held.spot.page c.args.bytes) (Store c.args.page c.args.bytes) (Ok Done) c.self.view_is (ap (λ q. Store q c.args.bytes) c.in-Some.ensures.spot) (copied c).0
+returns-then-held c = carried_so c.self.view_is (ap (λ q. Store q c.args.bytes) c.in-Some.ensures.spot) (copied c).0
 
 pub invariant_of-self-then-held : goal.invariant_of-self-then-held
-invariant_of-self-then-held c = (sound_carried _ _ (Store c.in-Some.held.spot.page c.args.bytes) (Ok Done) c.self.invariant.0 (copied c).0, (copied c).1)
+invariant_of-self-then-held c = (sound_carried c.self.invariant.0 (copied c).0, (copied c).1)

@@ -15,11 +15,11 @@ invariant_of-self c =
     let s = c.self.inside in
     let has = has_told (seen s.pages) c.args.guest c.next.result c.next.ensures ∙ c.if-is_none.ensures in
     let unshares = c.unshare_each-pages.ensures.unshares in
-    (sound_carried _ _ (Unmerge c.args.guest) _ c.self.invariant.0 (unmerge_carried s.cursor s.passes unshares has), unshares.laid)
+    (sound_carried c.self.invariant.0 (unmerge_carried s.cursor s.passes unshares has), unshares.laid)
 
 pub returns : goal.returns
 returns c =
     let s = c.self.inside in
     let has = has_told (seen s.pages) c.args.guest c.next.result c.next.ensures ∙ c.if-is_none.ensures in
-    carried_so _ c.args.self.now _ (Unmerge c.args.guest) (Unmerge c.args.guest) _ c.self.view_is refl
+    carried_so c.self.view_is refl
     (unmerge_carried s.cursor s.passes c.unshare_each-pages.ensures.unshares has)
