@@ -1,5 +1,5 @@
 -- Rows that change at one page: what becomes of what holds of each row, and of how many lie on a frame.
-use Rattle.ksm_book.proofs.Names.{[], All, All-cons, All-head, All-map, All-tail, ap, arith, Bool, both_ways, cases_Bool, change_row, cond, cond_both, count_by, count_more, count_with_row, count_without_page, counts_one, eq-eqb, eqb-true, false, filter, filter_passes, find_all, find_none, find_passes, Frames, get_or, GuestPage, if◌then◌else◌, inl, InPageOrder, inr, is_frame, lies_on, List, map, ne_eqb, None, none_counted, not, not-true, one_of_each_page, Option, refl, Row, row_at, same_page, same_page_eq, same_page_refl, Some, subst, suc, sym, true, uses, with_row, without_page, ℕ, ◌+◌, ◌∙◌, ◌∷◌, ◌≡◌, ◌≢◌, ◌≤◌, ◌⊎◌}
+use Rattle.ksm_book.proofs.Names.{[], All, All-cons, All-head, All-map, All-tail, ap, arith, Bool, both_ways, cases_Bool, change_row, cond, cond_both, count_by, count_more, count_with_row, count_without_page, counts_one, eq-eqb, eqb-true, false, filter, filter_passes, find_all, find_none, find_passes, Frames, get_or, GuestPage, if◌then◌else◌, inl, InPageOrder, inr, is_frame, lies_on, List, map, ne_eqb, None, not, not-true, one_of_each_page, Option, refl, Row, row_at, same_page, same_page_eq, same_page_refl, Some, subst, suc, sym, true, uses, with_row, without_page, ℕ, ◌+◌, ◌∙◌, ◌∷◌, ◌≡◌, ◌≢◌, ◌≤◌, ◌⊎◌}
 
 -- frames that are equal at each page are equal
 pub same_frames : (f g : Frames) → ((page : GuestPage) → f page ≡ g page) → f ≡ g

@@ -2,7 +2,7 @@
 use Rattle.ksm_book.proofs.Names.{[], All, All-head, All-tail, ap, append-nil, append_assoc, arith, cases_Bool, count_by, count_by-le-length, count_none, did, DupRow, elsewhere, eqb-true, false, filter, filter_all, filter_none, find, find_all, find_none, find_passes, frames_of, get_or, has_items, inl, InPlaceOrder, inr, is_stale, IsLaid, IsLoose, IsVacant, item_count, KeeperStep, KeeperView, length, length-filter, List, lying, Made, map, named_at, nat_lt, nat_tests, None, not, one_of_each_place, Option, option_map, ordered_filter, PagesView, pairs_tail, Performs, pruning, refl, Row, same_Some, Shape, Some, subst, suc, sym, true, Withdraw, ℕ, ◌++◌, ◌+◌, ◌<◌, ◌==◌, ◌^◌, ◌∙◌, ◌∷◌, ◌≡◌, ◌≤◌}
 use Rattle.std.proofs.lemmas.Bool.{eq-eqb}
 use Rattle.ksm_book.proofs.Sharing.{frames_few, laid_cleared, vacant_loose}
-use Rattle.ksm_book.proofs.Made.{made_none, made_one, made_then}
+use Rattle.ksm_book.proofs.Made.{made_one, made_then}
 use Rattle.ksm_book.proofs.Withdrawn.{elsewhere_so}
 
 -- the place of the first stale dup has no other dup

@@ -1,6 +1,5 @@
 -- What was reached of a scan: it begins with no step, and tells the state of the book.
-use Rattle.ksm_book.proofs.Names.{ap, arith, BookState, BookValue, BookView, Comes, Deed, GuestPage, idle, InPageOrder, IsLaid, IsSound, KeeperView, Made, mapped, Option, PagesValue, PagesView, Performs, Reached, refl, seen, state_of, subst, sym, view_of, ℕ, ◌∙◌, ◌≡◌}
-use Rattle.ksm_book.proofs.Laying.{laid_rows}
+use Rattle.ksm_book.proofs.Names.{BookState, BookValue, Comes, Deed, GuestPage, idle, InPageOrder, KeeperView, Option, PagesValue, Reached, refl, seen, state_of, subst, view_of, ℕ, ◌≡◌}
 use Rattle.ksm_book.proofs.Made.{made_none}
 
 -- the state of a book, and a deed without a step
