@@ -1,5 +1,5 @@
 -- Rows that change at one page: what becomes of what holds of each row, and of how many lie on a frame.
-use Rattle.ksm_book.proofs.Names.{[], All, All-cons, All-head, All-map, All-tail, ap, arith, Bool, both_ways, cases_Bool, change_row, cond, cond_both, count_by, count_more, count_with_row, count_without_page, counts_one, eq-eqb, eqb-true, false, filter, filter_passes, find_all, find_none, find_passes, Frames, get_or, GuestPage, if◌then◌else◌, inl, InPageOrder, inr, is_frame, lies_on, List, map, ne_eqb, None, none_counted, not, not-true, one_of_each_page, Option, refl, Row, row_at, same_page, same_page_eq, same_page_refl, Some, subst, suc, sym, true, uses, with_row, without_page, ℕ, ◌+◌, ◌∙◌, ◌∷◌, ◌≡◌, ◌≢◌, ◌≤◌, ◌⊎◌}
+use Rattle.ksm_book.proofs.Names.{[], All, All-cons, All-head, All-map, All-tail, ap, arith, Bool, both_ways, cases_Bool, change_row, cond, cond_both, count_by, count_more, count_with_row, count_without_page, counts_one, eq-eqb, eqb-true, false, filter, filter_passes, find_all, find_none, find_passes, Frames, get_or, GuestPage, if◌then◌else◌, inl, InPageOrder, inr, is_frame, lies_on, List, map, ne_eqb, None, not, not-true, one_of_each_page, Option, refl, Row, row_at, same_page, same_page_eq, same_page_refl, Some, subst, suc, sym, true, uses, with_row, without_page, ℕ, ◌+◌, ◌∙◌, ◌∷◌, ◌≡◌, ◌≢◌, ◌≤◌, ◌⊎◌}
 
 -- frames that are equal at each page are equal
 pub same_frames : (f g : Frames) → ((page : GuestPage) → f page ≡ g page) → f ≡ g
@@ -147,16 +147,6 @@ module _ (f : ℕ) (page : GuestPage) (o : Option ℕ) (frame : Frames) where
       let at = ap (λ p. one_at f (lies_on page o frame p)) (found_page page rows row found) ∙ ap (one_at f) (on_page page o frame page (same_page_refl page)) in
       let gone = uses_gone rows row rise found in
       omega (arith, same, new, at, gone)
-
-  -- none lies on the frame of a page on which one row alone lies
-  pub uses_once : (rows : List Row) (row : Row) → InPageOrder rows → row_at page rows ≡ Some row → frame page ≡ Some f → uses f frame rows ≡ 1
-      → All (λ r. same_page r.page page ≡ false → frame r.page ≢ Some f) rows
-  uses_once rows row rise found lies once =
-      let own = ap (λ p. one_at f (frame p)) (found_page page rows row found) ∙ one_same f (frame page) lies in
-      let gone = count_without_page old_test page rows row rise found in
-      let none : count_by old_test (without_page page rows) ≡ 0 = omega (arith, own, gone, once) in
-      let each = filter_back (λ r. not (same_page r.page page)) (λ r. old_test r ≡ false) rows (none_counted old_test (without_page page rows) none) in
-      λ i d lt other e. both_ways _ (each i d lt (ap not other)) (is_it f _ e)
 
 -- where a row comes at a page that had none, one row more lies on the frame if it comes there, else as many
 pub uses_come : (f : ℕ) (o : Option ℕ) (frame : Frames) (row : Row) (rows : List Row) → row_at row.page rows ≡ None

@@ -122,15 +122,6 @@ module _ {p : PagesView} {k : KeeperView} (h : IsLaid p k) where
     spent = (let s = h.spent in omega (arith, s, more));
   }
 
-  -- pages that lie lawfully do so with a keeper of the same table and the same ledger
-  pub laid_same : (w : KeeperView) → w.table ≡ k.table → w.ledger ≡ k.ledger → IsLaid p w
-  laid_same w t l = record {
-    small = h.small;
-    same = shape_same sh k w h.same t;
-    placed = subst (λ (z : Ledger). Placed sh across z p.rows p.frame p.dups None) (sym l) h.placed;
-    spent = subst (λ (z : Ledger). p.next ≤ spent z) (sym l) h.spent;
-  }
-
   -- pages lie lawfully with other rows and frames that are placed lawfully beside the same dups
   pub laid_rows : (rows : List Row) (frame : Frames) (restless : Listing) (w : KeeperView) → w.table ≡ k.table → spent k.ledger ≤ spent w.ledger → Placed sh across w.ledger rows frame p.dups None
       → IsLaid (record p { rows = rows; frame = frame; restless = restless }) w

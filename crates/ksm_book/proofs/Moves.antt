@@ -3,7 +3,7 @@ use Rattle.ksm_book.proofs.Names.{[], Agrees, All, All-append, All-cons, All-fil
 use mathlib.Core.Logic.{dite}
 use native.Mathlib.Decide.{ℕ_discrete}
 use Rattle.ksm_book.proofs.Noted.{by_frame, noted}
-use Rattle.ksm_book.proofs.ByPage.{all_changed_row, at_changed, change_twice, lies_again, lies_still, one_same, row_of_page, uses_some, counts_agree, filter_back, found_page, off_page, on_page, uses_changed, uses_come, uses_gone, uses_mapped, uses_once}
+use Rattle.ksm_book.proofs.ByPage.{all_changed_row, at_changed, change_twice, lies_again, lies_still, one_same, row_of_page, uses_some, counts_agree, filter_back, found_page, off_page, on_page, uses_changed, uses_come, uses_gone, uses_mapped}
 
 -- a frame serves a row: the row fits the frame, and agrees with each dup
 abbrev pub Serves : Shape → Ledger → List DupRow → Row → ℕ → Type 0
@@ -28,10 +28,6 @@ module _ {sh : Shape} {across : ℕ} {k : Ledger} {rows : List Row} {frame : Fra
     item = λ m. absurd (both_ways _ (alone d.number) m);
     back = λ life e. absurd (fits.shown life (ap (λ h. (frame_at k h).kind) (sym e) ∙ kind));
   }) dups p.each_dup
-
--- a change of one page's row keeps pages where the change does
-pub kept_page : (page : GuestPage) (c : Row → Row) → ((r : Row) → (c r).page ≡ r.page) → (r : Row) → (if same_page r.page page then c r else r).page ≡ r.page
-kept_page page c keeps r = cond_both (same_page r.page page) (c r) r (λ s. s.page ≡ r.page) (λ _. keeps r) (λ _. refl)
 
 -- a row is served by its frame
 abbrev At : Shape → Ledger → List DupRow → Frames → Row → Type 0
@@ -297,8 +293,7 @@ module _ {sh : Shape} {across : ℕ} {k : Ledger} {rows : List Row} {frame : Fra
       (named_anew q kind served.frame life (gens g) d inside unused (words ∙ served.content ∙ sym bytes)
       (λ z. served.node was ∙ home z)
       (All-map (λ r. merged_into d.number r.state ≡ false) (λ r. if same_page r.page page then record r { state = Zero } else r) rows (λ i x lt. let r : Row = get_or rows i x in
-      cond_both (same_page r.page page) (record r { state = Zero }) r (λ y. merged_into d.number y.state ≡ false) (λ _. refl) (λ _. fresh i x lt))))
-      (
+      cond_both (same_page r.page page) (record r { state = Zero }) r (λ y. merged_into d.number y.state ≡ false) (λ _. refl) (λ _. fresh i x lt)))) (
         record {
           mapped = ap zero_state item;
           frame = served.frame;

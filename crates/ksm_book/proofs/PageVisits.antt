@@ -24,25 +24,6 @@ finds_it f some {p} {k} {cursor} {passes} {v} lawful same q page is told = by (r
     by None none is = absurd (some is.0)
     by (Some row) found is = record { is = same; sound = lawful.0; laid = lawful.1; row = row; found = found; so = is }
 
--- where a visit finds a page gone, no visit may change the page's row, and nothing changed
-pub none_met : (old new : PagesView) (page : GuestPage) → Finds old new page finds.Gone → (restless_row (row_at page old.rows) ≡ false) ×
-    (new ≡ old)
-none_met old new page told = by (row_at page old.rows) told
-  where
-    by : (o : Option Row) → MatchOption o ((finds.Gone ≡ finds.Gone) × (new ≡ old)) (λ r. FindsAt old new r finds.Gone) →
-        (restless_row o ≡ false) × (new ≡ old)
-    by None is = (refl, is.1)
-    by (Some row) is = is
-
--- a page whose row a visit may change is restless
-pub restless_there : (page : GuestPage) (rows : List Row) → MatchOption (row_at page rows) (true ≡ false) (λ r. is_restless r ≡ true) →
-    restless_at page rows ≡ true
-restless_there page rows told = by (row_at page rows) told
-  where
-    by : (o : Option Row) → MatchOption o (true ≡ false) (λ r. is_restless r ≡ true) → restless_row o ≡ true
-    by None is = absurd (true≢false is)
-    by (Some row) is = is
-
 -- ---------------------------------------------------------------- what the visit comes to
 
 -- where a page's row, which a visit may change, was visited, the book has come to that

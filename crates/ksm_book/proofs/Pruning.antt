@@ -2,7 +2,7 @@
 use Rattle.ksm_book.proofs.Names.{[], All, All-head, All-tail, ap, append-nil, append_assoc, arith, cases_Bool, count_by, count_by-le-length, count_none, did, DupRow, elsewhere, eqb-true, false, filter, filter_all, filter_none, find, find_all, find_none, find_passes, frames_of, get_or, has_items, inl, InPlaceOrder, inr, is_stale, IsLaid, IsLoose, IsVacant, item_count, KeeperStep, KeeperView, length, length-filter, List, lying, Made, map, named_at, nat_lt, nat_tests, None, not, one_of_each_place, Option, option_map, ordered_filter, PagesView, pairs_tail, Performs, pruning, refl, Row, same_Some, Shape, Some, subst, suc, sym, true, Withdraw, ℕ, ◌++◌, ◌+◌, ◌<◌, ◌==◌, ◌^◌, ◌∙◌, ◌∷◌, ◌≡◌, ◌≤◌}
 use Rattle.std.proofs.lemmas.Bool.{eq-eqb}
 use Rattle.ksm_book.proofs.Sharing.{frames_few, laid_cleared, vacant_loose}
-use Rattle.ksm_book.proofs.Made.{made_none, made_one, made_then}
+use Rattle.ksm_book.proofs.Made.{made_one, made_then}
 use Rattle.ksm_book.proofs.Withdrawn.{elsewhere_so}
 
 -- the place of the first stale dup has no other dup
@@ -124,20 +124,6 @@ pub record Drops (p q : PagesView) (k l : KeeperView) (count : ℕ) : Type 0 whe
   pub table : l.table ≡ k.table
   -- the places of the dups that went were withdrawn, in their order
   pub withdraws : Withdraws k l p.rows p.dups q.dups
-
--- at first no stale dup went, where rows and dups lie lawfully and the dups are in the order of their places
-pub drops_none : (p : PagesView) (k : KeeperView) → IsLaid p k → InPlaceOrder p.dups → Drops p p k k 0
-drops_none p k h rise = record {
-  pages = refl;
-  live = refl;
-  many = omega arith;
-  first = rise;
-  rise = rise;
-  before = h;
-  laid = h;
-  table = refl;
-  withdraws = record { steps = []; made = made_none refl; whole = refl };
-}
 
 -- the first stale dup goes next
 module _ (p q : PagesView) (k l : KeeperView) (count : ℕ) (h : Drops p q k l count) (place : ℕ) (told : Some place ≡ option_map (λ d. d.place) (find (is_stale q.rows) q.dups)) where

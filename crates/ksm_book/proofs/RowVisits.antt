@@ -175,10 +175,6 @@ module _ (best : Best) {p : PagesView} {k : KeeperView} {cursor : Option GuestPa
   abbrev row : Row
   row = at.row
 
-  -- a page that is to join a dup has a frame of its own
-  pub joins_alone : IsAlone page p.rows
-  joins_alone = alone_now p.rows page row at.found (restless_own row at.so.0)
-
   module _ (g : ℕ) (lies : All (λ d. d.place ≡ best.place → All (λ r. merged_into d.number r.state ≡ true → p.frame r.page ≡ Some g) p.rows)
       p.dups) where
     told : (d : DupRow) × (best_dup p.knobs p.rows p.dups row ≡ Some d) × (best.number ≡ d.number) × (best.place ≡ d.place)

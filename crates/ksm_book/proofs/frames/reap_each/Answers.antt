@@ -1,6 +1,6 @@
-use Rattle.ksm_book.proofs.Names.{[], ap, arith, count_in, dying_from, frame_at, KeeperView, Made, map, map-append, Reap, refl, subst, sym, ℕ, ◌-◌, ◌==◌, ◌∙◌, ◌∷◌, ◌≡◌}
+use Rattle.ksm_book.proofs.Names.{[], ap, arith, count_in, dying_from, frame_at, KeeperView, Made, map, map-append, Reap, subst, sym, ℕ, ◌-◌, ◌==◌, ◌∙◌, ◌∷◌}
 use Rattle.ksm_book.proofs.FrameKinds.{other_if}
-use Rattle.ksm_book.proofs.Made.{made_none, made_one, made_then}
+use Rattle.ksm_book.proofs.Made.{made_one, made_then}
 use Rattle.ksm_book.proofs.Sweeps.{next_reaped, passed}
 use Rattle.ksm_book.proofs.frames.reap_each.Goals as goal
 

@@ -1,4 +1,4 @@
-use Rattle.ksm_book.proofs.Names.{[], ap, frame_at, frames_of, holding, IsWritable, KeeperView, length, Note, Open, PAGE_WORDS, puts, Raise, raised, Shape, steps_of, subst, sym, ◌<◌, ◌∙◌, ◌∷◌, ◌≡◌}
+use Rattle.ksm_book.proofs.Names.{ap, frame_at, frames_of, holding, IsWritable, KeeperView, length, Note, Open, PAGE_WORDS, puts, Raise, raised, Shape, subst, sym, ◌<◌, ◌∙◌, ◌≡◌}
 use Rattle.ksm_book.proofs.Filling.{at_again, found_inside, raised_ready}
 use Rattle.ksm_book.proofs.Made.{made_one, made_part, made_then}
 use Rattle.ksm_book.proofs.frames.take_frame.Goals as goal

@@ -1,5 +1,4 @@
-use Rattle.ksm_book.proofs.Names.{ap, arith, frame_at, KeeperView, refl, rules, ◌∙◌}
-use Rattle.ksm_book.proofs.Made.{made_none}
+use Rattle.ksm_book.proofs.Names.{ap, frame_at, KeeperView, rules, ◌∙◌}
 use Rattle.ksm_book.proofs.Filling.{add_more, adds_ledger, base_more, held_within}
 use Rattle.ksm_book.proofs.mounting.add_times.Goals as goal
 

@@ -1,4 +1,4 @@
-use Rattle.ksm_book.proofs.Names.{arith, find_all, has_items, IsShape, items_on, refl, seen, subst, sym, ◌&&◌, ◌==◌, ◌∙◌, ◌≡◌}
+use Rattle.ksm_book.proofs.Names.{arith, find_all, has_items, items_on, refl, seen, ◌&&◌, ◌==◌, ◌≡◌}
 use Rattle.ksm_book.proofs.Remounts.{has_remounted, leaves, may_freeze, may_mount, stays, taken_place, turned_away}
 use Rattle.ksm_book.proofs.moving.remount.Goals as goal
 

@@ -1,5 +1,5 @@
-use Rattle.ksm_book.proofs.Names.{ap, arith, count_by, filter, is_stale, map, PagesView, seen, sym, Withdraw, ◌∙◌}
-use Rattle.ksm_book.proofs.Pruning.{drop_few, drop_fewer, drop_inside, drop_loose, drop_vacant, dropped_count, dropped_pages, dropped_performs, drops_more, drops_none}
+use Rattle.ksm_book.proofs.Names.{ap, arith, count_by, filter, is_stale, PagesView, seen, sym, ◌∙◌}
+use Rattle.ksm_book.proofs.Pruning.{drop_few, drop_fewer, drop_inside, drop_loose, drop_vacant, dropped_count, dropped_pages, dropped_performs, drops_more}
 use Rattle.ksm_book.proofs.Shown.{quiet_does, quiet_withdraws}
 use Rattle.ksm_book.proofs.settling.drop_stale.Goals as goal
 

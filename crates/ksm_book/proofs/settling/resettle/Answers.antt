@@ -1,4 +1,4 @@
-use Rattle.ksm_book.proofs.Names.{IsShape, None, refl, rules, seen, subst, sym, ◌∙◌}
+use Rattle.ksm_book.proofs.Names.{refl, rules, seen}
 use Rattle.ksm_book.proofs.Laying.{lawful}
 use Rattle.ksm_book.proofs.Resettled.{may_left, resettled, turned}
 use Rattle.ksm_book.proofs.settling.resettle.Goals as goal

@@ -1,5 +1,5 @@
-use Rattle.ksm_book.proofs.Names.{arith, rules, seen, Some, ◌∙◌}
-use Rattle.ksm_book.proofs.Along.{FitsPage, further, not_far}
+use Rattle.ksm_book.proofs.Names.{arith, rules, seen, Some}
+use Rattle.ksm_book.proofs.Along.{further, not_far}
 use Rattle.ksm_book.proofs.Unmerged.{unsharing_end, unsharing_first, unsharing_home, unsharing_next, unsharing_stop}
 use Rattle.ksm_book.proofs.unmerging.unshare_each.Goals as goal
 

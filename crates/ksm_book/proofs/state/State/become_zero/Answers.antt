@@ -1,5 +1,5 @@
-use Rattle.ksm_book.proofs.Names.{ap, BookValue, IsForZero, KeeperView, PagesView, seen, view_of, ◌∙◌}
-use Rattle.ksm_book.proofs.RowVisits.{Leads, may_empty, meets, zero_alone, zero_leads}
+use Rattle.ksm_book.proofs.Names.{ap, IsForZero, seen, view_of}
+use Rattle.ksm_book.proofs.RowVisits.{Leads, may_empty, meets, zero_leads}
 use Rattle.ksm_book.proofs.state.State.become_zero.Goals as goal
 
 pub release_if-requires-clause-may : goal.release_if-requires-clause-may

@@ -1,4 +1,4 @@
-use Rattle.ksm_book.proofs.Names.{ap, BookState, GuestPage, if◌then◌else◌, is_none, is_some, None, Option, Reached, refl, Some, subst, sym, true, true≢false, with_none_waiting, ◌∙◌, ◌≡◌}
+use Rattle.ksm_book.proofs.Names.{ap, BookState, if◌then◌else◌, is_none, None, Reached, subst, sym, with_none_waiting, ◌∙◌, ◌≡◌}
 use Rattle.ksm_book.proofs.Going.{none_of}
 use Rattle.ksm_book.proofs.state.State.begin_pass.Goals as goal
 

@@ -1,5 +1,5 @@
-use Rattle.ksm_book.proofs.Names.{ap, BookValue, MayJoin, PagesView, seen, view_of, ◌∙◌}
-use Rattle.ksm_book.proofs.RowVisits.{Leads, has_room, joined_leads, joins_alone, made_by, may_add, may_sub, meets}
+use Rattle.ksm_book.proofs.Names.{ap, MayJoin, seen, view_of}
+use Rattle.ksm_book.proofs.RowVisits.{Leads, has_room, joined_leads, made_by, may_add, may_sub, meets}
 use Rattle.ksm_book.proofs.state.State.join.Goals as goal
 
 pub join-requires-clause-room : goal.join-requires-clause-room

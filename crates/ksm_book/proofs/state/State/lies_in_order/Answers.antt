@@ -1,4 +1,4 @@
-use Rattle.ksm_book.proofs.Names.{BookValue, InPageOrder, ListsAll, subst, true, ◌≡◌}
+use Rattle.ksm_book.proofs.Names.{BookValue, ListsAll, subst, true, ◌≡◌}
 use Rattle.ksm_book.proofs.Listed.{lists_all}
 use Rattle.ksm_book.proofs.state.State.lies_in_order.Goals as goal
 

@@ -1,4 +1,4 @@
-use Rattle.ksm_book.proofs.Names.{ap, BookValue, IsSome, items_of, mappers_of, option_map, refl, Some, subst, sym, ◌∙◌}
+use Rattle.ksm_book.proofs.Names.{BookValue, IsSome, mappers_of, refl, subst, sym}
 use Rattle.ksm_book.proofs.Singles.{if_err}
 use Rattle.ksm_book.proofs.state.State.mappers.Goals as goal
 

@@ -1,4 +1,4 @@
-use Rattle.ksm_book.proofs.Names.{Mergeable, refl, sym}
+use Rattle.ksm_book.proofs.Names.{refl, sym}
 use Rattle.ksm_book.proofs.Singles.{carried_so, sound_carried}
 use Rattle.ksm_book.proofs.Unshared.{mergeable_carried, mergeable_laid, mergeable_refused}
 use Rattle.ksm_book.proofs.state.State.mergeable.Goals as goal

@@ -1,4 +1,4 @@
-use Rattle.ksm_book.proofs.Names.{ap, BookView, CarriedOut, inl, inr, IsSound, Knobs, KeeperView, MayMove, MoveDup, PagesView, refl, seen, Shape, state_of, subst, sym, ◌<◌, ◌∙◌}
+use Rattle.ksm_book.proofs.Names.{ap, BookView, CarriedOut, inl, inr, Knobs, KeeperView, MayMove, MoveDup, PagesView, refl, seen, Shape, state_of, subst, sym, ◌<◌, ◌∙◌}
 use Rattle.ksm_book.proofs.DupMoves.{done_carried, fault_carried, live_there}
 use Rattle.ksm_book.proofs.Singles.{book, carried_so}
 use Rattle.ksm_book.proofs.state.State.move_dup.Goals as goal

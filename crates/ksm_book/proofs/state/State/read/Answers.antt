@@ -1,7 +1,6 @@
-use Rattle.ksm_book.proofs.Names.{rules, ap, BookValue, bytes_of, is_some, KeeperView, loads, LoadsIf, option_map, seen, Some, subst, sym, view_of, ◌∙◌}
-use Rattle.ksm_book.proofs.Laying.{laid_same}
+use Rattle.ksm_book.proofs.Names.{rules, ap, BookValue, bytes_of, loads, LoadsIf, option_map, Some, subst, sym, view_of, ◌∙◌}
 use Rattle.ksm_book.proofs.Shown.{part_did, quiet_loads}
-use Rattle.ksm_book.proofs.Singles.{found_spot, may_read}
+use Rattle.ksm_book.proofs.Singles.{may_read}
 use Rattle.ksm_book.proofs.state.State.read.Goals as goal
 
 pub load-requires : goal.load-requires

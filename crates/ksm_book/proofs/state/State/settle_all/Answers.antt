@@ -1,6 +1,5 @@
-use Rattle.ksm_book.proofs.Names.{ap, BookValue, Comes, get_or, IsLaid, IsSound, PagesView, refl, seen, settled, sound_none_waiting, state_of, subst, sym, with_none_waiting, ◌∙◌}
+use Rattle.ksm_book.proofs.Names.{ap, get_or, IsLaid, IsSound, PagesView, refl, seen, settled, sound_none_waiting, state_of, subst, sym}
 use Rattle.ksm_book.proofs.Laying.{laid_mapped}
-use Rattle.ksm_book.proofs.Reached.{state_comes, value}
 use Rattle.ksm_book.proofs.Sharing.{settled_lodges}
 use Rattle.ksm_book.proofs.state.State.settle_all.Goals as goal
 

@@ -1,4 +1,4 @@
-use Rattle.ksm_book.proofs.Names.{refl, SetRun, sym, ◌∙◌}
+use Rattle.ksm_book.proofs.Names.{refl, sym, ◌∙◌}
 use Rattle.ksm_book.proofs.Singles.{carried_so, sound_carried}
 use Rattle.ksm_book.proofs.Unshared.{unshare_ends, unshare_none, unshare_stops}
 use Rattle.ksm_book.proofs.state.State.unshare.Goals as goal

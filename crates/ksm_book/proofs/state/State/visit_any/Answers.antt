@@ -1,8 +1,6 @@
-use Rattle.ksm_book.proofs.Names.{ap, BookState, Find, FindsAt, doing, Dup, IsLaid, IsSound, IsStill, page_visited, PagesValue, PagesView, Partner, restless_at, seen, state_of, subst, sym, view_of, ◌∙◌, ◌≡◌}
+use Rattle.ksm_book.proofs.Names.{ap, BookState, Find, FindsAt, doing, Dup, IsLaid, IsSound, IsStill, page_visited, PagesView, Partner, seen, state_of, subst, sym, view_of, ◌≡◌}
 use Rattle.ksm_pages.specs.declared.pages.Find.TheVariants as finds
-use Rattle.ksm_pages.specs.Paged.{Finds}
-use Rattle.ksm_book.proofs.PageVisits.{changed_leads, finds_it, none_met, restless_there, shared_comes, waits_leads, waits_quiet}
-use Rattle.ksm_book.proofs.Singles.{if_err}
+use Rattle.ksm_book.proofs.PageVisits.{changed_leads, finds_it, shared_comes, waits_leads, waits_quiet}
 use Rattle.ksm_book.proofs.RowVisits.{Meets}
 use Rattle.ksm_book.proofs.state.State.visit_any.Goals as goal
 use Rattle.ksm_book.proofs.state.State.visit_any.Goals.{In_ok-found}
