@@ -15,7 +15,6 @@ pub mod FrameKinds
 pub mod Sweeps
 pub mod Noted
 pub mod Shown
-pub mod Journaled
 pub mod Resettled
 pub mod Singles
 pub mod Along

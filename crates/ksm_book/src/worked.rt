@@ -49,8 +49,8 @@ pub fn nodes_of_a_page()
     ensures refused { nodes_got merged (Err (NoFrame 1)) (Store (page 2) (full 0xbb)) ≡ [] }
 {}
 
-/// A dup that moves gets a frame on its new node. Pages that leave their dups get one each on their homes, up to the one
-/// that finds none. A scan gets none.
+/// A dup that moves gets a frame on its new node. Pages that leave their dups get one each on their homes, up to the
+/// one that finds none. A scan gets none.
 pub fn nodes_of_dups()
     ensures moved { nodes_got merged (Ok Done) (MoveDup 0 1) ≡ 1 ∷ [] }
     ensures unmerged { nodes_got merged (Ok (Unmerged 3 None)) (Unmerge 0) ≡ 0 ∷ 0 ∷ 1 ∷ [] }
