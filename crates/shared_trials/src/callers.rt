@@ -138,7 +138,8 @@ fn one_caller_makes_each_locked_read(rt: HostRuntime) -> Result<(), Fail> {
     one::<Brand, _>(&rt, alloc, parts)
 }
 
-// Two pages are merged, and each gets bytes of its own. It answers whether all went so, and what the first place then says.
+// Two pages are merged, and each gets bytes of its own. It answers whether all went so, and what the first place then
+// says.
 fn leave<N: Naming, R: Wait>(rt: &R, parts: Parts) -> Result<(bool, u64), Fault>
     requires name { parts ≡ N.parts }
     requires places { frames_of parts.frames.shape ≡ 8 }
