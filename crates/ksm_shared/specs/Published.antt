@@ -37,8 +37,8 @@ pub record ShownRow : Type 0 where
 abbrev pub row_at : BookState → Reached → ShownRow
 row_at b reached = record { counters = counters_of b; reached = reached }
 
--- The counters of these parts after a legal journal, which is a beginning of theirs. Parts without readers show nobody a row, so there its
--- counters may be any.
+-- The counters of these parts after a legal journal, which is a beginning of theirs. Parts without readers show nobody
+-- a row, so there its counters may be any.
 pub record IsRowOf (parts : PartsId) (x : ShownRow) : Type 0 where
   pub logbook : x.reached.logbook ≡ parts.logbook
   pub legal : AreAnswers (opening parts.frames.shape) x.reached.journal

@@ -99,7 +99,8 @@ impl<N: Naming> Ksm<N> {
         answer
     }
 
-    /// Makes a command as `command` does, and answers what the book answered, with no row. Readers are shown the counters after it all the same.
+    /// Makes a command as `command` does, and answers what the book answered, with no row. Readers are shown the
+    /// counters after it all the same.
     pub fn carry_out<R: Wait>(
         &self,
         rt: &R,

@@ -78,7 +78,8 @@ impl<N: Naming> Merge<N> {
         }
     }
 
-    /// Makes a command as `command` does, and answers what the book answered. Readers are shown the counters after it all the same.
+    /// Makes a command as `command` does, and answers what the book answered. Readers are shown the counters after it
+    /// all the same.
     #[inline(always)]
     pub fn carry_out<R: Wait>(
         &mut self,

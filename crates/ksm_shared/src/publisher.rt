@@ -73,7 +73,8 @@ impl<N: Naming> Publisher<N> {
         self.rows.newest().again()
     }
 
-    /// Follows the journal by its next entry, if there is one, and shows readers the counters of the book after it. It takes no memory.
+    /// Follows the journal by its next entry, if there is one, and shows readers the counters of the book after it. It
+    /// takes no memory.
     pub fn follow<R: Wait>(&mut self, rt: &R, next: &Option<Entry>, book: &Book)
         requires legal { AreAnswers (opening N.parts.frames.shape) (self.old ++ list_of next.now) }
         requires leads { book.now.state ≡ replay (opening N.parts.frames.shape) (self.old ++ list_of next.now) }

@@ -117,8 +117,8 @@ pub type RowReader<N> = Reader<CountedRow, Beginning, RowsGoOn<N>>;
 /// Writes both copies.
 pub type RowWriter<N> = Writer<CountedRow, (), Beginning, RowsGoOn<N>>;
 
-/// The newest row, and the two copies that readers take it from. Where the book has no readers there are none, and the row says only how far
-/// the journal has come. Contracts see the newest row.
+/// The newest row, and the two copies that readers take it from. Where the book has no readers there are none, and the
+/// row says only how far the journal has come. Contracts see the newest row.
 ///
 /// They must be closed.
 pub struct Rows<N: Naming> {
@@ -174,8 +174,8 @@ impl<N: Naming> Rows<N> {
         &self.newest
     }
 
-    /// Shows the counters of the book, after this beginning of its journal: who enters the copies from now on takes them. It waits for the
-    /// readers of the row before the last one. Without readers no counters are taken.
+    /// Shows the counters of the book, after this beginning of its journal: who enters the copies from now on takes
+    /// them. It waits for the readers of the row before the last one. Without readers no counters are taken.
     pub fn show<R: Wait>(&mut self, rt: &R, reached: Beginning, book: &Book)
         requires begins { IsPrefix self.old.reached.journal reached.journal }
         requires row { IsRowOf N.parts (row_at book.now.state reached) }

@@ -2,7 +2,9 @@
 ghost use Rattle.std.specs.Prelude.{◌≡◌};
 ghost use Rattle.ksm_base.specs.Values.{frames_of};
 
-use crate::commands::{DONE, SHAPE, TWO_MERGED, filled, merge_two, page, register, store};
+use crate::commands::{
+    DONE, SHAPE, TWO_MERGED, all_done, filled, merge_two, page, register, store,
+};
 use ksm_base::{Fault, Knobs};
 use ksm_shared::{GatherFault, Ksm, Naming, Parts, Share, gather};
 use std::alloc::Global;
@@ -134,4 +136,32 @@ fn one_caller_makes_each_locked_read(rt: HostRuntime) -> Result<(), Fail> {
     let alloc = rt.alloc();
     let parts = Parts::open(alloc, SHAPE, 1)?;
     one::<Brand, _>(&rt, alloc, parts)
+}
+
+// Two pages are merged, and each gets bytes of its own. It answers whether all went so, and what the first place then
+// says.
+fn leave<N: Naming, R: Wait>(rt: &R, parts: Parts) -> Result<(bool, u64), Fault>
+    requires name { parts ≡ N.parts }
+    requires places { frames_of parts.frames.shape ≡ 8 }
+{
+    let (ksm, passes, mut shares, _readers) = Ksm::<N>::open(parts)?;
+    let stores = [store(0, 0, 1), store(0, 1, 2)];
+    let done = match shares.pop() {
+        Some(mut share) => {
+            merge_two(rt, &ksm, &mut share) && all_done(rt, &ksm, &mut share, &stores)
+        }
+        None => false,
+    };
+    let closed = ksm.close(rt, passes);
+    Ok((done, closed.place(0)))
+}
+
+// The dup that both pages have left is stale, and stands until a command drops it. Closing the book is no command.
+#[test]
+fn closing_drops_no_stale_dup(rt: HostRuntime) -> Result<(), Fail> {
+    let parts = Parts::open(rt.alloc(), SHAPE, 1)?;
+    let (done, place) = leave::<Brand, _>(&rt, parts)?;
+    assert!(rt; done);
+    assert_eq!(rt; place, 1024);
+    Ok(())
 }
