@@ -181,6 +181,7 @@ impl Book {
 }
 
 /// Carries a command out on the state.
+#[inline(always)]
 fn carry_out(state: &mut State, table: &FrameTable, command: Command) -> Result<Reply, Fault>
     requires own { state.old.keeper.table ≡ table.now }
     ensures { CarriedOut (view_of state.old) (view_of state.new) command result }

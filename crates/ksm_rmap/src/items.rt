@@ -42,6 +42,7 @@ impl Items {
     }
 
     /// Adds a page that is not there. The one fault is `Memory`, and then the pages stay as they were.
+    #[inline(always)]
     pub fn add(&mut self, page: GuestPage) -> Result<(), Fault>
         requires fewer { length self.old < 1024 }
         requires absent { has_item page self.old ≡ false }

@@ -178,6 +178,7 @@ impl Slots {
     }
 
     /// A page is no item of the dup at a place any more.
+    #[inline(always)]
     pub fn remove_item(&mut self, place: u32, page: GuestPage)
         requires { is_some (dup_at place self.old.dups) ≡ true }
         ensures { self.new ≡ record {
