@@ -30,8 +30,8 @@ pub enum Visited {
 impl State {
     /// Visits a page, if its row is one that a visit may change. Where memory is refused, nothing changes.
     ///
-    /// Of a page that waited in the last pass, or is merged by now, mostly a glance tells all. Any other is visited in a
-    /// function of its own, so that what it needs is not laid out before.
+    /// Of a page that waited in the last pass, or is merged by now, mostly a glance tells all. Any other is visited in
+    /// a function of its own, so that what it needs is not laid out before.
     #[inline(always)]
     pub fn visit(&mut self, table: &FrameTable, spot: Spot) -> Result<Visited, Fault>
         requires own { self.old.keeper.table ≡ table.now }

@@ -629,9 +629,9 @@ impl Pages {
         }
     }
 
-    /// A first look at a page that is visited: whether a visit may change its row, where that lies where it was guessed,
-    /// and of a page that was unchanged whether it waits, where its group is the one that was guessed. Then it waits from
-    /// now on. Where a look tells nothing, nothing changes, and `visit` tells.
+    /// A first look at a page that is visited. It tells whether a visit may change the row, where that lies where it
+    /// was guessed; and of an unchanged page whether it waits, where its group is the one that was guessed. Then it
+    /// waits from now on. Where a look tells nothing, nothing changes, and `visit` tells.
     #[inline(always)]
     pub fn glance(&mut self, spot: Spot) -> Glance
         ensures gone { result ≡ Glance.Gone → Finds (seen self.old) (seen self.new) spot.page finds.Gone }
