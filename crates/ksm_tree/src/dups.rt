@@ -178,7 +178,17 @@ impl Dups {
         // Whether a page waits is told by two words, the content by the bytes of a page, so that comes behind it.
         self.index.groups.waiting(group).is_none()
             && self.index.groups.is_of(group, tree, bytes)
-            && self.best_of(group, limit).is_none()
+            && (self.index.groups.is_idle(group as usize) || self.is_closed(group, limit))
+    }
+
+    // Whether no dup of the group with a number may be joined. Most groups that are asked for have none, so it stands
+    // apart.
+    #[inline(never)]
+    fn is_closed(&self, group: u32, limit: u32) -> bool
+        ensures { IsTrue result → (t : ℕ) (b : List ℕ) → number_of t b self.now.numbers ≡ Some group
+            → best_of t b limit self.now.dups ≡ None }
+    {
+        self.best_of(group, limit).is_none()
     }
 
     /// The page that waits in the group with a number from now on: the one that did, or else this one. Where no group
