@@ -181,14 +181,19 @@ impl Dups {
             && (self.index.groups.is_idle(group as usize) || self.is_closed(group, limit))
     }
 
-    // Whether no dup of the group with a number may be joined. Most groups that are asked for have none, so it stands
-    // apart.
+    // Whether no dup of the group with a number may be joined, as far as a short chain tells: a long one is walked along
+    // once, where a page looks for a dup to join. Most groups that are asked for have no dup, so it stands apart.
     #[inline(never)]
     fn is_closed(&self, group: u32, limit: u32) -> bool
         ensures { IsTrue result → (t : ℕ) (b : List ℕ) → number_of t b self.now.numbers ≡ Some group
             → best_of t b limit self.now.dups ≡ None }
     {
-        self.best_of(group, limit).is_none()
+        match self.index.groups.at(group) {
+            Some(found) => {
+                found.places.len() <= SHORT_CHAIN && self.best_of(group, limit).is_none()
+            }
+            None => false,
+        }
     }
 
     /// The page that waits in the group with a number from now on: the one that did, or else this one. Where no group
