@@ -5,9 +5,9 @@
 //! search is made; where it is wrong there are two binary searches: of the run in which the page is, and of the page in
 //! it. `settle_all` writes no row. `unshare_all` walks over all.
 
-ghost use Rattle.std.specs.Prelude.{◌≡◌, ◌≤◌, true, false, [], None, Some, All, IfErr, IfOk, IfSome, MatchOption};
-ghost use Rattle.std.specs.Prelude.{OnErr, OnOk, ◌&&◌, bytes_eq, count_by, filter, find, is_some, length, map, not};
-ghost use Rattle.std.specs.Prelude.{option_map, slice_get};
+ghost use Rattle.std.specs.Prelude.{◌≡◌, ◌≤◌, ◌<◌, ◌^◌, true, false, [], None, Some, All, IfErr, IfOk, IfSome};
+ghost use Rattle.std.specs.Prelude.{MatchOption, OnErr, OnOk, ◌&&◌, bytes_eq, count_by, filter, find, is_some};
+ghost use Rattle.std.specs.Prelude.{length, map, not, option_map, slice_get};
 ghost use Rattle.ksm_base.specs.declared.page.GuestPage.{GuestPage};
 ghost use Rattle.ksm_base.specs.declared.row.PageState.TheVariants.{Private, Waiting, Merged, Zero};
 ghost use Rattle.ksm_base.specs.Apply.{fresh_row};
@@ -61,7 +61,10 @@ fn key_of(entries: &Slab<Entry>, order: &Order, spot: Spot) -> Option<usize>
     requires { AreFiled entries.now order.now }
     ensures told { result ≡ key_in order.now spot.page }
     ensures there { IfSome result (λ key. IsUnder entries.now spot.page key) }
+    ensures few { length order.now < 2 ^ 64 }
 {
+    // Called for its contract alone: the number of pages fits 64 bits.
+    let _ = order.len();
     if let Some(entry) = entries.get(spot.key) {
         if entry.page == spot.page {
             return Some(spot.key);
@@ -277,8 +280,6 @@ impl Rows {
         let Some(key) = key_of(&self.entries, &self.order, spot) else {
             return;
         };
-        // Called for its contract alone: the number of pages fits 64 bits.
-        let _ = self.order.len();
         let gone = self.entries.remove(key);
         self.tally = self.tally.moved(gone.state(self.pass), PageState::Private);
         self.order.remove(spot.page);
@@ -298,8 +299,6 @@ impl Rows {
         let Some(key) = key_of(&self.entries, &self.order, spot) else {
             return;
         };
-        // Called for its contract alone: the number of pages fits 64 bits.
-        let _ = self.order.len();
         let entry = &mut self.entries[key];
         let old = entry.state(self.pass);
         entry.kind = Kind::Own;
@@ -325,8 +324,6 @@ impl Rows {
         let Some(key) = key_of(&self.entries, &self.order, spot) else {
             return;
         };
-        // Called for its contract alone: the number of pages fits 64 bits.
-        let _ = self.order.len();
         let entry = &mut self.entries[key];
         let old = entry.state(self.pass);
         entry.kind = Kind::Merged;
@@ -343,8 +340,6 @@ impl Rows {
         let Some(key) = key_of(&self.entries, &self.order, spot) else {
             return;
         };
-        // Called for its contract alone: the number of pages fits 64 bits.
-        let _ = self.order.len();
         let entry = &mut self.entries[key];
         let old = entry.state(self.pass);
         entry.kind = Kind::Zero;
@@ -363,8 +358,6 @@ impl Rows {
         let Some(key) = key_of(&self.entries, &self.order, spot) else {
             return;
         };
-        // Called for its contract alone: the number of pages fits 64 bits.
-        let _ = self.order.len();
         let entry = &mut self.entries[key];
         let old = entry.state_alone(self.pass);
         entry.number = self.pass;
@@ -379,8 +372,6 @@ impl Rows {
         let Some(key) = key_of(&self.entries, &self.order, spot) else {
             return;
         };
-        // Called for its contract alone: the number of pages fits 64 bits.
-        let _ = self.order.len();
         let entry = &mut self.entries[key];
         let old = entry.state(self.pass);
         entry.forget_pass();
@@ -415,8 +406,6 @@ impl Rows {
         let Some(key) = key_of(&self.entries, &self.order, spot) else {
             return;
         };
-        // Called for its contract alone: the number of pages fits 64 bits.
-        let _ = self.order.len();
         let entry = &mut self.entries[key];
         let old = entry.state(self.pass);
         entry.unchanged = true;

@@ -10,7 +10,7 @@ returns-then-eq c =
       stands = stands;
       of_page = same_page_eq c.in-Some.entry.now.page c.args.spot.page (sym c.if-eq.ensures);
     } in
-    record { told = sym (key_under c.args.entries.now c.args.order.now c.requires c.args.spot.page c.args.spot.key here); there = here }
+    record { told = sym (key_under c.args.entries.now c.args.order.now c.requires c.args.spot.page c.args.spot.key here); there = here; few = rw (← c.len.ensures) c.len.type_inv }
 
 -- a key that is told is that of an entry of the page
 there_if : (c : goal.After-search) (o : Option ℕ) → c.search.result ≡ o → IfSome o (IsUnder c.args.entries.now c.args.spot.page)

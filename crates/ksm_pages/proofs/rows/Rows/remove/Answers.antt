@@ -7,7 +7,7 @@ returns-in_default c = nothing_gone c.self.inside c.self.invariant c.args.spot.p
 
 pub moved-self-inside-requires : goal.moved-self-inside-requires
 moved-self-inside-requires c =
-    can_be c.self.inside c.self.invariant c.in-Some.ensures.there c.remove-gone.ensures.value c.state.ensures Private (rw (← c.len.ensures) c.len.type_inv)
+    can_be c.self.inside c.self.invariant c.in-Some.ensures.there c.remove-gone.ensures.value c.state.ensures Private c.in-Some.ensures.few
 
 pub invariant_of-self : goal.invariant_of-self
 invariant_of-self c =

@@ -10,7 +10,7 @@ state_alone-old-requires c = own_there c.self.inside c.self.invariant c.in-Some.
 
 pub moved-self-inside-requires : goal.moved-self-inside-requires
 moved-self-inside-requires c =
-    can_be c.self.inside c.self.invariant c.in-Some.ensures.there c.index_mut-entry.ensures.value c.state_alone-old.ensures Waiting (rw (← c.len.ensures) c.len.type_inv)
+    can_be c.self.inside c.self.invariant c.in-Some.ensures.there c.index_mut-entry.ensures.value c.state_alone-old.ensures Waiting c.in-Some.ensures.few
 
 pub invariant_of-self : goal.invariant_of-self
 invariant_of-self c =
