@@ -2,16 +2,24 @@
 #![tactic(auto)]
 
 mod ahead;
+mod changes;
+mod dups;
+mod left;
+mod lying;
 mod named;
 mod order;
 mod pages;
+mod reads;
 mod restless;
 pub mod row;
 mod rows;
 mod run;
 mod runs;
+mod scanning;
 mod slot;
 mod tally;
+mod tree;
+mod visited;
 mod visits;
 
 pub use ahead::Ahead;

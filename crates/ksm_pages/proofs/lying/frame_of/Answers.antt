@@ -2,7 +2,7 @@ use Rattle.ksm_pages.proofs.Names.{ap, dup_numbered, frame_seen, Kind, lodging, 
 use Rattle.ksm_tree.specs.Dups.{rows_of as dup_rows}
 use Rattle.ksm_pages.specs.Held.{frame_of}
 use Rattle.ksm_pages.proofs.Paging.{kept_at_place, lies_own}
-use Rattle.ksm_pages.proofs.pages.frame_of.Goals as goal
+use Rattle.ksm_pages.proofs.lying.frame_of.Goals as goal
 
 pub returns-in-Own : goal.returns-in-Own
 returns-in-Own c =

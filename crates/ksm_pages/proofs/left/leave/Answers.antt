@@ -1,6 +1,6 @@
 use Rattle.ksm_pages.proofs.Names.{ap, held_of, IsLeft, Some, subst, sym, ⊤, ◌∙◌}
 use Rattle.std.specs.Prelude.{MatchOption}
-use Rattle.ksm_pages.proofs.pages.leave.Goals as goal
+use Rattle.ksm_pages.proofs.left.leave.Goals as goal
 
 pub returns-in-Merged : goal.returns-in-Merged
 returns-in-Merged c =

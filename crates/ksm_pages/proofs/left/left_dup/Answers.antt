@@ -1,7 +1,7 @@
 use Rattle.ksm_pages.proofs.Names.{ap, dup_numbered, frame_seen, held_of, lodging, option_and_then, rules, slice_get, sym, ◌∙◌}
 use Rattle.ksm_tree.specs.Dups.{rows_of as dup_rows}
 use Rattle.ksm_pages.proofs.Paging.{kept_at_place, place_numbered}
-use Rattle.ksm_pages.proofs.pages.left_dup.Goals as goal
+use Rattle.ksm_pages.proofs.left.left_dup.Goals as goal
 
 pub returns : goal.returns
 returns c knobs pass is = record {

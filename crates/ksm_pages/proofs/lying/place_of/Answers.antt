@@ -1,6 +1,6 @@
 use Rattle.ksm_pages.proofs.Names.{ap, Some, sym, ◌∙◌}
 use Rattle.ksm_pages.proofs.Paging.{place_guessed, place_numbered}
-use Rattle.ksm_pages.proofs.pages.place_of.Goals as goal
+use Rattle.ksm_pages.proofs.lying.place_of.Goals as goal
 
 pub returns-in-Some : goal.returns-in-Some
 returns-in-Some c =

@@ -1,5 +1,5 @@
 use Rattle.ksm_pages.proofs.Names.{bytes_eq, held_of, if◌then◌else◌, None, refl, rules, sym, waiting_page, waiting_state, ◌&&◌, ◌==◌, ◌∙◌}
-use Rattle.ksm_pages.proofs.pages.left_by_any.Goals as goal
+use Rattle.ksm_pages.proofs.left.left_by_any.Goals as goal
 
 pub returns-in-Merged : goal.returns-in-Merged
 returns-in-Merged c = c.left_dup.ensures c.args.knobs.now c.args.pass (sym c.in-Merged.ensures)

@@ -1,0 +1,156 @@
+//! What commands change: pages that come and go, get frames and bytes, and what else their rows say.
+
+ghost use Rattle.std.specs.Prelude.{◌≡◌, true, false, None, Some, Err, All, map, IfOk, OnOk, OnErr};
+ghost use Rattle.ksm_base.specs.declared.fault.Fault.TheVariants.{Memory};
+ghost use Rattle.ksm_base.specs.Apply.{fresh_row, let_go as as_let_go, stored, unshared as as_unshared};
+ghost use Rattle.ksm_base.specs.Rows.{row_at, with_row, without_page, change_row, shared_state, private_state};
+ghost use Rattle.ksm_base.specs.Rows.{settled as as_settled};
+ghost use Rattle.ksm_pages.specs.Paged.{HasRow, IsAlone, IsKnown, lies_on, on_its_own, seen};
+
+use crate::left::{leave, left_by_any};
+use crate::pages::Pages;
+use crate::row::Spot;
+use ksm_base::{Fault, GuestPage, PageBytes, PageState};
+
+impl Pages {
+    /// Adds a page that has no row, at home on a node; which frame is its own is told next, by `resettle`. Refused for
+    /// memory alone, it changes nothing.
+    pub fn insert(&mut self, page: GuestPage, node: u32, bytes: &PageBytes) -> Result<Spot, Fault>
+        requires { row_at page self.old.rows ≡ None }
+        ensures spot { IfOk result (λ spot. spot.page ≡ page) }
+        ensures added { OnOk result (seen self.new ≡ record (seen self.old) {
+          rows = with_row (fresh_row page node bytes.now) self.old.rows;
+          frame = (seen self.new).frame;
+          restless = self.new.restless;
+        }) }
+        ensures others { OnOk result ((seen self.new).frame
+            ≡ lies_on page ((seen self.new).frame page) (seen self.old).frame) }
+        ensures nowhere { (seen self.old).frame page ≡ None }
+        ensures refused { OnErr result (self.new ≡ self.old) }
+        ensures fault { OnErr result (result ≡ Err Memory) }
+    {
+        self.rows.insert(page, node, *bytes, 0)
+    }
+
+    /// The page gets a frame of its own in the stead of what it had: a merged one leaves its dup, one that waits does
+    /// so no more. Gives the frame where it lay, if it had one.
+    #[inline(always)]
+    pub fn resettle(&mut self, spot: Spot, frame: u32) -> Option<u32>
+        requires { IsKnown spot.page self.old.rows }
+        ensures left { result ≡ (seen self.old).frame spot.page }
+        ensures settled { seen self.new ≡ record (seen self.old) {
+          rows = change_row spot.page on_its_own self.old.rows;
+          frame = lies_on spot.page (Some frame) (seen self.old).frame;
+          restless = self.new.restless;
+        } }
+    {
+        let left = leave(&mut self.dups, &self.frames, &self.knobs, &self.rows, spot);
+        self.rows.settle_on(spot, frame);
+        left
+    }
+
+    /// The page goes, and leaves its dup if it was merged. Gives the frame where it lay, if it had one.
+    pub fn remove(&mut self, spot: Spot) -> Option<u32>
+        requires { IsKnown spot.page self.old.rows }
+        ensures left { result ≡ (seen self.old).frame spot.page }
+        ensures gone { seen self.new ≡ record (seen self.old) {
+          rows = without_page spot.page self.old.rows;
+          frame = lies_on spot.page None (seen self.old).frame;
+          restless = self.new.restless;
+        } }
+    {
+        let left = leave(&mut self.dups, &self.frames, &self.knobs, &self.rows, spot);
+        self.rows.remove(spot);
+        left
+    }
+
+    /// A page with a frame of its own gets these bytes.
+    #[inline(always)]
+    pub fn store(&mut self, spot: Spot, bytes: &PageBytes)
+        requires { IsAlone spot.page self.old.rows }
+        ensures { seen self.new ≡ record (seen self.old) {
+          rows = change_row spot.page (stored bytes.now) self.old.rows;
+          restless = self.new.restless;
+        } }
+    {
+        let Some(entry) = self.rows.find(spot) else {
+            return;
+        };
+        // Mostly the row is Private, and is in nothing: then nothing is written between the search and the store.
+        let pass = self.rows.pass();
+        if let PageState::Private = entry.state(pass) {
+            self.rows.store(spot, bytes);
+            return;
+        }
+        left_by_any(&mut self.dups, &self.frames, &self.knobs, entry, pass);
+        self.rows.stop_waiting(spot);
+        self.rows.store(spot, bytes);
+    }
+
+    /// A Private page is at home on another node from now on.
+    pub fn set_home(&mut self, spot: Spot, node: u32)
+        requires { HasRow spot.page self.old.rows (λ r. private_state r.state ≡ true) }
+        ensures { seen self.new ≡ record (seen self.old) {
+          rows = change_row spot.page (λ r. record r { home = node }) self.old.rows;
+          restless = self.new.restless;
+        } }
+    {
+        self.rows.set_home(spot, node);
+    }
+
+    /// The page is not unchanged from now on.
+    pub fn forget_unchanged(&mut self, spot: Spot)
+        requires { IsKnown spot.page self.old.rows }
+        ensures { seen self.new ≡ record (seen self.old) {
+          rows = change_row spot.page (λ r. record r { unchanged = false }) self.old.rows;
+          restless = self.new.restless;
+        } }
+    {
+        self.rows.forget_unchanged(spot);
+    }
+
+    /// The scan visits the page from now on.
+    pub fn make_mergeable(&mut self, spot: Spot)
+        requires { IsKnown spot.page self.old.rows }
+        ensures { seen self.new ≡ record (seen self.old) {
+          rows = change_row spot.page (λ r. record r { mergeable = true }) self.old.rows;
+          restless = self.new.restless;
+        } }
+    {
+        self.rows.set_mergeable(spot, true);
+    }
+
+    /// A page with a frame of its own is Private and not unchanged, and the scan visits it no more.
+    pub fn let_go(&mut self, spot: Spot)
+        requires { IsAlone spot.page self.old.rows }
+        ensures { seen self.new ≡ record (seen self.old) {
+          rows = change_row spot.page as_let_go self.old.rows;
+          restless = self.new.restless;
+        } }
+    {
+        leave(&mut self.dups, &self.frames, &self.knobs, &self.rows, spot);
+        self.rows.stop_waiting(spot);
+        self.rows.forget_unchanged(spot);
+        self.rows.set_mergeable(spot, false);
+    }
+
+    /// No page waits any more: those that did are Private.
+    pub fn settle_all(&mut self)
+        ensures { seen self.new ≡ record (seen self.old) { rows = map as_settled self.old.rows } }
+    {
+        self.rows.settle_all();
+        self.dups.clear_waiting();
+    }
+
+    /// Every page becomes Private and not unchanged, where none is merged or Zero.
+    pub fn unshare_all(&mut self)
+        requires { All (λ r. shared_state r.state ≡ false) self.old.rows }
+        ensures { seen self.new ≡ record (seen self.old) {
+          rows = map as_unshared self.old.rows;
+          restless = self.new.restless;
+        } }
+    {
+        self.rows.unshare_all();
+        self.dups.clear_waiting();
+    }
+}

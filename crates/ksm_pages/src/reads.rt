@@ -1,0 +1,136 @@
+//! What is read of pages: where they lie, what they hold, which comes next, and how many there are of each kind.
+
+ghost use Rattle.std.specs.Prelude.{◌≡◌, ◌≤◌, true, false, None, Some, All, find, is_some, option_map};
+ghost use Rattle.std.specs.Prelude.{option_and_then, MatchOption, IfSome};
+ghost use Rattle.ksm_base.specs.Counting.{counters_from, mergeable_count};
+ghost use Rattle.ksm_base.specs.Reading.{place_of};
+ghost use Rattle.ksm_base.specs.Rows.{row_at, private_state};
+ghost use Rattle.ksm_base.specs.Visit.{after_cursor};
+ghost use Rattle.ksm_base.specs.declared.row.Row.{Row};
+ghost use Rattle.ksm_pages.specs.Paged.{IsHeld, IsKnown, is_next, of_guest, seen};
+
+use crate::lying::{frame_of, place_of};
+use crate::pages::{Held, Pages};
+use crate::row::{Kind, Spot};
+use ksm_base::{Counters, GuestPage, PageBytes};
+
+/// The cursor behind which the rows of a guest begin, or go on.
+fn start_of(guest: Option<u16>, cursor: Option<GuestPage>) -> Option<GuestPage>
+    ensures same { (row : Row) → of_guest guest row ≡ true
+        → after_cursor result row.page ≡ after_cursor cursor row.page }
+    ensures begun { (page : GuestPage) → page.page ≤ 4294967295 → after_cursor result page ≡ true
+        → IfSome guest (λ g. g ≤ page.guest) }
+{
+    let before = match guest {
+        Some(guest) if guest > 0 => GuestPage {
+            guest: guest - 1,
+            page: u32::MAX,
+        },
+        _ => return cursor,
+    };
+    match cursor {
+        Some(page) if before < page => cursor,
+        _ => Some(before),
+    }
+}
+
+impl Pages {
+    /// Whether a page has a row.
+    pub fn has(&self, page: GuestPage) -> bool
+        ensures { result ≡ is_some (row_at page self.now.rows) }
+    {
+        self.rows.spot(page).is_some()
+    }
+
+    /// Where a page lies, and where it is at home; none where it has no row.
+    #[inline(always)]
+    pub fn held(&self, page: GuestPage) -> Option<Held>
+        ensures { MatchOption result (row_at page self.now.rows ≡ None) (IsHeld (seen self.now) page) }
+    {
+        let spot = self.rows.spot(page)?;
+        self.told(spot)
+    }
+
+    /// The bytes of a page that has a row.
+    pub fn bytes(&self, spot: Spot) -> PageBytes
+        requires { IsKnown spot.page self.now.rows }
+        ensures { option_map (λ r. r.bytes) (row_at spot.page self.now.rows) ≡ Some result }
+    {
+        match self.rows.find(spot) {
+            Some(entry) => entry.bytes,
+            None => unreachable!(),
+        }
+    }
+
+    /// The place of the dup into which a page is merged; none where it is not merged.
+    pub fn ticket(&self, page: GuestPage) -> Option<u32>
+        ensures { result ≡ option_and_then (λ r. place_of r.state self.now.dups) (row_at page self.now.rows) }
+    {
+        let spot = self.rows.spot(page)?;
+        let entry = self.rows.find(spot)?;
+        match entry.kind {
+            Kind::Merged => place_of(&self.dups, entry.at, entry.number),
+            Kind::Own => None,
+            Kind::Zero => None,
+        }
+    }
+
+    /// The first page after the cursor, of the guest where one is given: where it lies, and where it is at home.
+    pub fn next(&self, guest: Option<u16>, cursor: Option<GuestPage>) -> Option<Held>
+        ensures { let next = find (is_next guest cursor) self.now.rows in
+            MatchOption result (next ≡ None) (λ held. (IsHeld (seen self.now) held.spot.page held)
+            × (option_map (λ r. r.page) next ≡ Some held.spot.page)) }
+    {
+        let spot = self.rows.after(start_of(guest, cursor))?;
+        match guest {
+            Some(guest) if spot.page.guest != guest => None,
+            _ => self.told(spot),
+        }
+    }
+
+    /// What is counted, where so many passes have ended, and each row that waits, is merged or is Zero is mergeable.
+    pub fn counters(&self, passes: u64) -> Counters
+        requires { All (λ r. private_state r.state ≡ false → r.mergeable ≡ true) self.now.rows }
+        ensures { result ≡ counters_from self.now.rows self.now.dups passes }
+    {
+        let tally = self.rows.tally();
+        let shared = self.dups.count_shared();
+        let volatile = self
+            .rows
+            .mergeable()
+            .saturating_sub(tally.merged)
+            .saturating_sub(tally.waiting)
+            .saturating_sub(tally.zero);
+        Counters {
+            shared: shared as u64,
+            sharing: tally.merged.saturating_sub(shared) as u64,
+            unshared: tally.waiting as u64,
+            volatile: volatile as u64,
+            zero: tally.zero as u64,
+            chains: self.dups.count_chains() as u64,
+            dups: self.dups.count_grouped() as u64,
+            full_scans: passes,
+        }
+    }
+
+    /// How many pages a scan visits.
+    pub fn mergeable(&self) -> usize
+        ensures { result ≡ mergeable_count self.now.rows }
+    {
+        self.rows.mergeable()
+    }
+
+    // Where the page of a spot lies, and where it is at home.
+    #[inline(always)]
+    fn told(&self, spot: Spot) -> Option<Held>
+        ensures { MatchOption result (row_at spot.page self.now.rows ≡ None) (IsHeld (seen self.now) spot.page) }
+    {
+        let entry = self.rows.find(spot)?;
+        Some(Held {
+            spot,
+            home: entry.home,
+            shared: entry.own_frame().is_none(),
+            frame: frame_of(&self.dups, &self.frames, entry, self.rows.pass()),
+        })
+    }
+}
