@@ -1,5 +1,8 @@
 -- Spots in the order of their pages: the pages of them, once one was put in, written or taken away.
-use Rattle.ksm_pages.proofs.Names.{and_parts, ap, ap₂, AreInOrder, Bool, cases_Bool, comes_before, Entry, filter, find, find_filter, find_passes, get, get_or, GuestPage, has_item, if◌then◌else◌, inl, inr, is_restless, is_some, is_useless, IsCalm, length, length-map, List, map, map-append, None, not, not-true, Option, pages_of, pages_ordered, refl, same_page, same_page_eq, Slab, Some, Spot, subst, sym, true, true≢false, with_found, with_item, ◌++◌, ◌∙◌, ◌∷◌, ◌≡◌, ◌⊎◌, cond_both}
+use Rattle.ksm_pages.proofs.Names.{[], add-one, and_parts, ap, append-nil, append_assoc, ap₂, AreInOrder, arith, Bool, cases_Bool, comes_before, cond_both, drop, drop_all, Entry, filter, find, find_filter, find_passes, get, get_or, GuestPage, has_item, if◌then◌else◌, inl, inr, insert, is_restless, is_some, is_useless, IsCalm, length, length-append, length-map, length-take-le, List, map, map-append, None, not, not-true, Option, pages_of, pages_ordered, refl, same_page, same_page_eq, set, Slab, Some, Spot, subst, sym, take, true, true≢false, with_found, with_item, ℕ, ◌++◌, ◌+◌, ◌-◌, ◌∙◌, ◌∷◌, ◌≡◌, ◌≤◌, ◌⊎◌}
+use Rattle.std.specs.List.{copy_within}
+use Rattle.std.proofs.Math.Seq.{take-append_seam, take-suc}
+use Rattle.std.proofs.lemmas.List.{drop-take, set_at, take-append-le}
 use Rattle.ksm_rmap.specs.Items.{AreAscending}
 use Rattle.ksm_tree.proofs.Alike.{filter_mapped, find_mapped, map_mapped, pairs_mapped}
 use Rattle.ksm_rmap.proofs.Ordered.{any_found, with_rises}
@@ -85,3 +88,18 @@ swept entries spots page has = go (find it spots) refl (sym (listed_found page s
       | inl useless ↦ inr (subst (IsCalm entries) (same_page_eq s.page page (find_passes it spots s is)) (calm_of entries s useless))
       | inr kept ↦ inl (listed_found page (filter keeps spots) ∙ ap is_some (find_filter it keeps spots s is (ap not kept)))
     ]
+
+-- one more behind a list, the elements from an index on moved up by one, and that one written there: it is put in
+pub moved_up : {X : Type 0} (xs : List X) (at : ℕ) (x : X) → at ≤ length xs → set (copy_within (xs ++ x ∷ []) at (length xs) (at + 1)) at x ≡ insert xs at x
+moved_up xs at x within =
+    let l = xs ++ x ∷ [] in
+    let many : length l ≡ length xs + 1 = length-append xs (x ∷ []) in
+    let front : take (at + 1) l ≡ take at xs ++ get_or l at x ∷ [] =
+    ap (λ n. take n l) (add-one at) ∙ take-suc l at x (omega (arith, many)) ∙ ap (λ ys. ys ++ get_or l at x ∷ []) (take-append-le at xs (x ∷ []) within) in
+    let back : take (length xs - at) (drop at l) ≡ drop at xs =
+    sym (drop-take at (length xs - at) l) ∙ ap (λ n. drop at (take n l)) (omega arith) ∙ ap (drop at) (take-append_seam xs (x ∷ [])) in
+    let none : drop (at + 1 + (length xs - at)) l ≡ [] = drop_all _ l (omega (arith, many)) in
+    ap (λ ys. set ys at x) (ap₂ (λ a b. a ++ b) (ap₂ (λ a b. a ++ b) front back) none
+    ∙ append-nil ((take at xs ++ get_or l at x ∷ []) ++ drop at xs)
+    ∙ append_assoc (take at xs) (get_or l at x ∷ []) (drop at xs))
+    ∙ set_at (take at xs) (get_or l at x) (drop at xs) x at (length-take-le at xs within)

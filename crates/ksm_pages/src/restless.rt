@@ -6,7 +6,7 @@
 //! the next scan makes it anew: so no command is refused for it.
 
 ghost use Rattle.std.specs.Prelude.{◌≡◌, ◌⊎◌, ◌≤◌, [], true, false, filter, find, is_some, length, not, slice_get};
-ghost use Rattle.std.specs.Prelude.{slice_index_or, option_map, IsTrue, ◌<◌};
+ghost use Rattle.std.specs.Prelude.{slice_index_or, option_map, IsTrue, OnErr, OnOk, insert, ◌<◌};
 ghost use Rattle.ksm_base.specs.declared.page.GuestPage.{GuestPage};
 ghost use Rattle.ksm_base.specs.Rows.{comes_before, same_page};
 ghost use Rattle.ksm_base.specs.Visit.{after_cursor};
@@ -16,7 +16,7 @@ ghost use Rattle.ksm_pages.specs.Held.{AreInOrder, IsAddedTo};
 ghost use Rattle.slab.specs.Slab.{get};
 
 use crate::row::{Entry, Spot};
-use ksm_base::GuestPage;
+use ksm_base::{Fault, GuestPage};
 use slab::Slab;
 use std::alloc::Global;
 use std::marker::Model;
@@ -65,6 +65,21 @@ fn stands_at(spots: &[Spot], at: usize, page: GuestPage) -> bool
     ensures here { IsTrue result → (d : Spot) → same_page (slice_index_or spots.now at d).page page ≡ true }
 {
     at < spots.len() && spots[at].page == page
+}
+
+/// Puts a spot at an index, and moves those from there on up by one. Where memory for it is refused, all stay.
+///
+/// The kit's `insert` moves one spot after another, and `copy_within` four at once.
+fn put_in(spots: &mut Vec<Spot>, at: usize, spot: Spot) -> Result<(), Fault>
+    requires { at ≤ length spots.old.items }
+    ensures put { OnOk result (spots.new.items ≡ insert spots.old.items at spot) }
+    ensures kept { OnErr result (spots.new.items ≡ spots.old.items) }
+{
+    let len = spots.len();
+    spots.push(spot)?;
+    spots.copy_within(at..len, at + 1);
+    spots[at] = spot;
+    Ok(())
 }
 
 /// Whether it is certain that no visit changes the row of a spot.
@@ -146,7 +161,7 @@ impl Restless {
             self.spots[at] = spot;
             return;
         }
-        match self.spots.insert(at, spot) {
+        match put_in(&mut self.spots, at, spot) {
             Ok(()) => {}
             Err(_) => self.known = false,
         }

@@ -20,9 +20,9 @@ returns-then-found c =
     ∙ ap (λ (l : Listing). record l { pages = with_item spot.page l.pages }) c.self.view_is)
 
 -- the spot is put in at its place
-put : (c : In-Ok) → c.insert.new.self.items ≡ filter (λ s. comes_before s.page c.args.spot.page) c.self.inside.spots.items ++ c.args.spot ∷ filter (λ s. comes_before c.args.spot.page s.page) c.self.inside.spots.items
+put : (c : In-Ok) → c.put_in.new.spots.items ≡ filter (λ s. comes_before s.page c.args.spot.page) c.self.inside.spots.items ++ c.args.spot ∷ filter (λ s. comes_before c.args.spot.page s.page) c.self.inside.spots.items
 put c =
-    c.in-Ok.ensures.items
+    c.in-Ok.ensures.put
     ∙ insert_at pages_ordered page_of c.args.spot.page c.self.inside.spots.items c.self.invariant c.as_slice.ensures.value c.as_slice-2.ensures.value c.place_of-at.ensures.count
     c.args.spot (none_of _ (sym c.if-found.ensures.found))
 
