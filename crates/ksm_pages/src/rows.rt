@@ -281,7 +281,7 @@ impl Rows {
             return;
         };
         let gone = self.entries.remove(key);
-        self.tally = self.tally.moved(gone.state(self.pass), PageState::Private);
+        self.tally.change(gone.state(self.pass), PageState::Private);
         self.order.remove(spot.page);
         self.restless.remove(spot.page);
     }
@@ -305,7 +305,7 @@ impl Rows {
         entry.number = 0;
         entry.at = frame;
         let restless = entry.mergeable;
-        self.tally = self.tally.moved(old, PageState::Private);
+        self.tally.change(old, PageState::Private);
         if restless {
             self.restless.add(Spot {
                 page: spot.page,
@@ -329,7 +329,7 @@ impl Rows {
         entry.kind = Kind::Merged;
         entry.number = number;
         entry.at = place;
-        self.tally = self.tally.moved(old, PageState::Merged(number));
+        self.tally.change(old, PageState::Merged(number));
         self.restless.let_be();
     }
 
@@ -343,7 +343,7 @@ impl Rows {
         let entry = &mut self.entries[key];
         let old = entry.state(self.pass);
         entry.kind = Kind::Zero;
-        self.tally = self.tally.moved(old, PageState::Zero);
+        self.tally.change(old, PageState::Zero);
         self.restless.let_be();
     }
 
@@ -361,7 +361,7 @@ impl Rows {
         let entry = &mut self.entries[key];
         let old = entry.state_alone(self.pass);
         entry.number = self.pass;
-        self.tally = self.tally.moved(old, PageState::Waiting);
+        self.tally.change(old, PageState::Waiting);
     }
 
     /// A row that waits is Private; any other stays as it is.
@@ -376,7 +376,7 @@ impl Rows {
         let old = entry.state(self.pass);
         entry.forget_pass();
         let new = entry.state(self.pass);
-        self.tally = self.tally.moved(old, new);
+        self.tally.change(old, new);
     }
 
     // ------------------------------------------------------------ what else a row says
@@ -412,7 +412,7 @@ impl Rows {
         entry.group = group;
         entry.forget_pass();
         let new = entry.state(self.pass);
-        self.tally = self.tally.moved(old, new);
+        self.tally.change(old, new);
     }
 
     /// The row is unchanged no more.

@@ -20,25 +20,23 @@ impl Tally {
         zero: 0,
     };
 
-    /// The tally once a row went from one state to another.
+    /// A row went from one state to another. Only the numbers that change are written.
     #[inline(always)]
-    pub fn moved(self, from: PageState, to: PageState) -> Tally
-        requires { CanMove from to self }
-        ensures { IsMoved from to self result }
+    pub fn change(&mut self, from: PageState, to: PageState)
+        requires { CanMove from to self.old }
+        ensures { IsMoved from to self.old self.new }
     {
-        let mut tally = self;
         match from {
             PageState::Private => {}
-            PageState::Waiting => tally.waiting -= 1,
-            PageState::Merged(_) => tally.merged -= 1,
-            PageState::Zero => tally.zero -= 1,
+            PageState::Waiting => self.waiting -= 1,
+            PageState::Merged(_) => self.merged -= 1,
+            PageState::Zero => self.zero -= 1,
         }
         match to {
             PageState::Private => {}
-            PageState::Waiting => tally.waiting += 1,
-            PageState::Merged(_) => tally.merged += 1,
-            PageState::Zero => tally.zero += 1,
+            PageState::Waiting => self.waiting += 1,
+            PageState::Merged(_) => self.merged += 1,
+            PageState::Zero => self.zero += 1,
         }
-        tally
     }
 }

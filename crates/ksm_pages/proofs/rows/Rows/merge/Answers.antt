@@ -6,15 +6,15 @@ use Rattle.ksm_pages.proofs.rows.Rows.merge.Goals as goal
 pub returns-in_default : goal.returns-in_default
 returns-in_default c = nothing c.self.inside c.self.invariant c.args.spot.page c.in_default.ensures.told (mapped (Merged c.args.number) None) c.args.self.now c.self.view_is
 
-pub moved-self-inside-requires : goal.moved-self-inside-requires
-moved-self-inside-requires c =
+pub change-requires : goal.change-requires
+change-requires c =
     can_be c.self.inside c.self.invariant c.in-Some.ensures.there c.index_mut-entry.ensures.value c.state-old.ensures (Merged c.args.number) c.in-Some.ensures.few
 
 pub invariant_of-self : goal.invariant_of-self
 invariant_of-self c =
     let e = c.index_mut-entry.result.now in
     kept c.self.inside c.self.invariant c.in-Some.ensures.there c.index_mut-entry.ensures.value (record e { number = c.args.number; at = c.args.place; kind = kinds.Merged }) refl
-    refl (λ is. cc) (λ may. never e.mergeable may) c.let_be.new.self c.let_be.ensures c.state-old.ensures refl c.moved-self-inside.ensures
+    refl (λ is. cc) (λ may. never e.mergeable may) c.let_be.new.self c.let_be.ensures c.state-old.ensures refl c.change.ensures
 
 pub returns : goal.returns
 returns c =

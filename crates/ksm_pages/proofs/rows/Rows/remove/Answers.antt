@@ -5,16 +5,16 @@ use Rattle.ksm_pages.proofs.rows.Rows.remove.Goals as goal
 pub returns-in_default : goal.returns-in_default
 returns-in_default c = nothing_gone c.self.inside c.self.invariant c.args.spot.page c.in_default.ensures.told c.args.self.now c.self.view_is
 
-pub moved-self-inside-requires : goal.moved-self-inside-requires
-moved-self-inside-requires c =
+pub change-requires : goal.change-requires
+change-requires c =
     can_be c.self.inside c.self.invariant c.in-Some.ensures.there c.remove-gone.ensures.value c.state.ensures Private c.in-Some.ensures.few
 
 pub invariant_of-self : goal.invariant_of-self
 invariant_of-self c =
     let s = c.self.inside in
-    subst (λ order. IsRows c.remove-gone.new.self order c.remove-2.new.self c.moved-self-inside.result s.pass) (sym c.remove.ensures)
+    subst (λ order. IsRows c.remove-gone.new.self order c.remove-2.new.self c.change.new.self s.pass) (sym c.remove.ensures)
     (still_gone s c.self.invariant c.in-Some.ensures.there c.remove-gone.ensures.value
-    c.remove-gone.new.self c.remove-gone.ensures.updates c.remove-2.new.self c.remove-2.ensures c.state.ensures c.moved-self-inside.ensures)
+    c.remove-gone.new.self c.remove-gone.ensures.updates c.remove-2.new.self c.remove-2.ensures c.state.ensures c.change.ensures)
 
 pub returns : goal.returns
 returns c =

@@ -6,8 +6,8 @@ use Rattle.ksm_pages.proofs.rows.Rows.settle_on.Goals as goal
 pub returns-in_default : goal.returns-in_default
 returns-in_default c = nothing c.self.inside c.self.invariant c.args.spot.page c.in_default.ensures.told (mapped Private (Some c.args.frame)) c.args.self.now c.self.view_is
 
-pub moved-self-inside-requires : goal.moved-self-inside-requires
-moved-self-inside-requires c =
+pub change-requires : goal.change-requires
+change-requires c =
     can_be c.self.inside c.self.invariant c.in-Some.ensures.there c.index_mut-entry.ensures.value c.state-old.ensures Private c.in-Some.ensures.few
 
 pub invariant_of-self : goal.invariant_of-self
@@ -18,7 +18,7 @@ invariant_of-self c =
     let stood = c.index_mut-entry.ensures.value in
     let e' = record e { number = 0; at = c.args.frame; kind = kinds.Own } in
     still s c.self.invariant there stood e' refl refl (λ own. omega arith) c.add.new.self (listed_now s c.self.invariant there stood e' refl c.add.new.self c.add.ensures)
-    c.state-old.ensures (sym (rests_now s.pass c.self.invariant.counting)) c.moved-self-inside.ensures
+    c.state-old.ensures (sym (rests_now s.pass c.self.invariant.counting)) c.change.ensures
 
 pub invariant_of-self-else-restless : goal.invariant_of-self-else-restless
 invariant_of-self-else-restless c =
@@ -26,7 +26,7 @@ invariant_of-self-else-restless c =
     let e = c.index_mut-entry.result.now in
     kept s c.self.invariant c.in-Some.ensures.there c.index_mut-entry.ensures.value (record e { number = 0; at = c.args.frame; kind = kinds.Own }) refl refl (λ own. omega arith)
     (λ may. absurd (true≢false (sym may ∙ ap (λ b. b && true) c.if-restless.false))) s.restless refl
-    c.state-old.ensures (sym (rests_now s.pass c.self.invariant.counting)) c.moved-self-inside.ensures
+    c.state-old.ensures (sym (rests_now s.pass c.self.invariant.counting)) c.change.ensures
 
 pub returns-then-restless : goal.returns-then-restless
 returns-then-restless c =

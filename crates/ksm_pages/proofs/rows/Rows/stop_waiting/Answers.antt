@@ -5,14 +5,14 @@ use Rattle.ksm_pages.proofs.rows.Rows.stop_waiting.Goals as goal
 pub returns-in_default : goal.returns-in_default
 returns-in_default c = nothing c.self.inside c.self.invariant c.args.spot.page c.in_default.ensures.told (on_row settled) c.args.self.now c.self.view_is
 
-pub moved-self-inside-requires : goal.moved-self-inside-requires
-moved-self-inside-requires c =
+pub change-requires : goal.change-requires
+change-requires c =
     can_be c.self.inside c.self.invariant c.in-Some.ensures.there c.index_mut-entry.ensures.value c.state-old.ensures c.state-new.result c.in-Some.ensures.few
 
 pub invariant_of-self : goal.invariant_of-self
 invariant_of-self c =
     kept_forgotten c.self.inside c.self.invariant c.in-Some.ensures.there c.index_mut-entry.ensures.value c.index_mut-entry.result.now
-    c.forget_pass.ensures refl refl refl c.state-old.ensures c.state-new.ensures c.moved-self-inside.ensures
+    c.forget_pass.ensures refl refl refl c.state-old.ensures c.state-new.ensures c.change.ensures
 
 pub returns : goal.returns
 returns c =

@@ -8,8 +8,8 @@ returns-in_default c = nothing c.self.inside c.self.invariant c.args.spot.page c
 pub state_alone-old-requires : goal.state_alone-old-requires
 state_alone-old-requires c = own_there c.self.inside c.self.invariant c.in-Some.ensures.there c.index_mut-entry.ensures.value c.args.self.now c.self.view_is c.requires.own
 
-pub moved-self-inside-requires : goal.moved-self-inside-requires
-moved-self-inside-requires c =
+pub change-requires : goal.change-requires
+change-requires c =
     can_be c.self.inside c.self.invariant c.in-Some.ensures.there c.index_mut-entry.ensures.value c.state_alone-old.ensures Waiting c.in-Some.ensures.few
 
 pub invariant_of-self : goal.invariant_of-self
@@ -18,7 +18,7 @@ invariant_of-self c =
     let e = c.index_mut-entry.result.now in
     let waits = waits_now e.kind s.pass (own_there s c.self.invariant c.in-Some.ensures.there c.index_mut-entry.ensures.value c.args.self.now c.self.view_is c.requires.own) in
     kept s c.self.invariant c.in-Some.ensures.there c.index_mut-entry.ensures.value (record e { number = s.pass }) refl
-    refl (λ own. omega arith) (λ may. may) s.restless refl c.state_alone-old.ensures (sym waits) c.moved-self-inside.ensures
+    refl (λ own. omega arith) (λ may. may) s.restless refl c.state_alone-old.ensures (sym waits) c.change.ensures
 
 pub returns : goal.returns
 returns c =
