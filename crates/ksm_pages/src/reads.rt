@@ -47,8 +47,8 @@ impl Pages {
     pub fn held(&self, page: GuestPage) -> Option<Held>
         ensures { MatchOption result (row_at page self.now.rows ≡ None) (IsHeld (seen self.now) page) }
     {
-        let spot = self.rows.spot(page)?;
-        self.told(spot)
+        let key = self.rows.guess(page);
+        self.told(Spot { page, key })
     }
 
     /// The bytes of a page that has a row.
@@ -125,7 +125,7 @@ impl Pages {
     fn told(&self, spot: Spot) -> Option<Held>
         ensures { MatchOption result (row_at spot.page self.now.rows ≡ None) (IsHeld (seen self.now) spot.page) }
     {
-        let entry = self.rows.find(spot)?;
+        let (spot, entry) = self.rows.look_up(spot)?;
         Some(Held {
             spot,
             home: entry.home,

@@ -151,8 +151,39 @@ impl Rows {
         ensures { MatchOption result (held_at spot.page self.now.held ≡ None)
             (λ entry. held_at spot.page self.now.held ≡ Some (held_of self.now.pass entry.now)) }
     {
-        let key = key_of(&self.entries, &self.order, spot)?;
-        Some(&self.entries[key])
+        match self.look_up(spot) {
+            Some((_, entry)) => Some(entry),
+            None => None,
+        }
+    }
+
+    /// The same, with the key of the row.
+    #[inline(always)]
+    pub fn look_up(&self, spot: Spot) -> Option<(Spot, &Entry)>
+        ensures { MatchOption result (held_at spot.page self.now.held ≡ None) (λ found.
+            (found.0.page ≡ spot.page)
+            × (held_at spot.page self.now.held ≡ Some (held_of self.now.pass found.1.now))) }
+    {
+        match self.at(spot) {
+            Some(entry) => Some((spot, entry)),
+            None => self.look_up_anew(spot.page),
+        }
+    }
+
+    // The same, without a guess.
+    #[inline(never)]
+    fn look_up_anew(&self, page: GuestPage) -> Option<(Spot, &Entry)>
+        ensures { MatchOption result (held_at page self.now.held ≡ None) (λ found.
+            (found.0.page ≡ page) × (held_at page self.now.held ≡ Some (held_of self.now.pass found.1.now))) }
+    {
+        let key = search(&self.order, page)?;
+        Some((Spot { page, key }, &self.entries[key]))
+    }
+
+    /// A guess of the key of a page's row.
+    #[inline(always)]
+    pub fn guess(&self, page: GuestPage) -> usize {
+        self.keys.at(slot_of(page)) as usize
     }
 
     /// A page with the key of its row, if it has one.
@@ -160,7 +191,7 @@ impl Rows {
         ensures known { is_some result ≡ is_some (held_at page self.now.held) }
         ensures page { IfSome result (λ spot. spot.page ≡ page) }
     {
-        let key = self.keys.at(slot_of(page)) as usize;
+        let key = self.guess(page);
         match key_of(&self.entries, &self.order, Spot { page, key }) {
             Some(key) => Some(Spot { page, key }),
             None => None,

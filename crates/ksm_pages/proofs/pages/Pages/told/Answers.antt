@@ -6,28 +6,28 @@ use Rattle.ksm_pages.proofs.Changing.{row_told}
 use Rattle.ksm_pages.proofs.Paging.{shared_by}
 use Rattle.ksm_pages.proofs.pages.Pages.told.Goals as goal
 
-pub returns-in_err-entry : goal.returns-in_err-entry
-returns-in_err-entry c =
+pub returns-in_err-spot : goal.returns-in_err-spot
+returns-in_err-spot c =
     let page = c.args.spot.page in
-    let gone : row_at page c.args.self.now.rows ≡ None = ap (λ (v : PagesValue). row_at page v.rows) (sym c.self.view_is) ∙ row_told page c.self.inside.rows.held c.in_err-entry.ensures in
+    let gone : row_at page c.args.self.now.rows ≡ None = ap (λ (v : PagesValue). row_at page v.rows) (sym c.self.view_is) ∙ row_told page c.self.inside.rows.held c.in_err-spot.ensures in
     subst (λ o. MatchOption o (row_at page c.args.self.now.rows ≡ None) (IsHeld (seen c.args.self.now) page)) (sym c.from_residual.ensures) gone
 
 pub returns : goal.returns
 returns c =
     let s = c.self.inside in
     let page = c.args.spot.page in
-    let e = c.in_ok-entry.entry.now in
+    let e = c.in_ok-spot.entry.now in
     let h = held_of s.rows.pass e in
     let of_dup = lodging (dup_rows s.dups.dups) s.frames.items in
-    subst (λ (v : PagesValue). IsHeld (seen v) page (record { spot = c.args.spot; home = e.home; shared = c.is_none.result; frame = c.frame_of.result })) c.self.view_is
+    subst (λ (v : PagesValue). IsHeld (seen v) page (record { spot = c.in_ok-spot.spot; home = e.home; shared = c.is_none.result; frame = c.frame_of.result })) c.self.view_is
     (record {
       row = h.row;
-      found = row_told page s.rows.held c.in_ok-entry.ensures;
-      spot = refl;
+      found = row_told page s.rows.held c.in_ok-spot.ensures.1;
+      spot = c.in_ok-spot.ensures.0;
       home = refl;
       shared = shared_by c.is_none.result e.kind e.number s.rows.pass e.at (sym c.is_none.ensures ∙ ap is_some c.own_frame.ensures);
       frame = c.frame_of.ensures
           ∙ ap₂ (λ (frames : List ℕ) pass. seat (lodging (dup_rows s.dups.dups) frames) (Some (held_of pass e))) c.deref.ensures.value c.pass.ensures
-          ∙ ap (seat of_dup) (sym c.in_ok-entry.ensures)
+          ∙ ap (seat of_dup) (sym c.in_ok-spot.ensures.1)
           ∙ sym (frame_by of_dup s.rows.held page);
     })
