@@ -19,9 +19,12 @@ rests Waiting alone = refl
 rests (Merged n) alone = absurd (true≢false alone)
 rests Zero alone = absurd (true≢false alone)
 
+-- a row with these bytes; it stays unchanged only where they are those that it had
+abbrev pub put_bytes : List ℕ → Row → Row
+put_bytes bytes r = record r { bytes = bytes; unchanged = r.unchanged && bytes_eq r.bytes bytes }
+
 -- a store to a row with a frame of its own settles the row and writes its bytes
-pub stored_settled : (bytes : List ℕ) (r : Row) → shared_state r.state ≡ false
-    → record (settled r) { bytes = bytes; unchanged = r.unchanged && bytes_eq r.bytes bytes } ≡ stored bytes r
+pub stored_settled : (bytes : List ℕ) (r : Row) → shared_state r.state ≡ false → put_bytes bytes (settled r) ≡ stored bytes r
 stored_settled bytes r alone =
     λ i. record r { bytes = bytes; unchanged = r.unchanged && bytes_eq r.bytes bytes; state = rests r.state alone i }
 

@@ -73,15 +73,30 @@ impl Pages {
           restless = self.new.restless;
         } }
     {
+        // Mostly the row lies where that was guessed, and is Private, so in nothing: then nothing is written between the
+        // look at it and the store.
+        if let Some(entry) = self.rows.at(spot) {
+            if let PageState::Private = entry.state(self.rows.pass()) {
+                self.rows.store(spot, bytes);
+                return;
+            }
+        }
+        self.store_any(spot, bytes);
+    }
+
+    // The same, whatever the row is, and wherever it lies.
+    #[inline(never)]
+    fn store_any(&mut self, spot: Spot, bytes: &PageBytes)
+        requires { IsAlone spot.page self.old.rows }
+        ensures { seen self.new ≡ record (seen self.old) {
+          rows = change_row spot.page (stored bytes.now) self.old.rows;
+          restless = self.new.restless;
+        } }
+    {
         let Some(entry) = self.rows.find(spot) else {
             return;
         };
-        // Mostly the row is Private, and is in nothing: then nothing is written between the search and the store.
         let pass = self.rows.pass();
-        if let PageState::Private = entry.state(pass) {
-            self.rows.store(spot, bytes);
-            return;
-        }
         left_by_any(&mut self.dups, &self.frames, &self.knobs, entry, pass);
         self.rows.stop_waiting(spot);
         self.rows.store(spot, bytes);

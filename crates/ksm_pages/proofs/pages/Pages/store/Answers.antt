@@ -1,21 +1,13 @@
-use Rattle.ksm_pages.proofs.Names.{ap, bytes_eq, change_row, held_of, List, refl, Row, rules, seen, settled, Some, stored, sym, true≢false, ℕ, ◌&&◌, ◌∙◌}
-use Rattle.ksm_pages.proofs.Leaving.{alone_there}
-use Rattle.ksm_pages.proofs.Resting.{stored_settled}
-use Rattle.ksm_pages.proofs.Turning.{Comes, HasLeft, and_then, found_left, held_as, rested}
+use Rattle.ksm_pages.proofs.Names.{ap, change_row, held_of, refl, rules, seen, Some, stored, sym, ◌∙◌}
+use Rattle.ksm_pages.proofs.Resting.{put_bytes}
+use Rattle.ksm_pages.proofs.Turning.{Comes, HasLeft, found_left, held_as, rested}
 use Rattle.ksm_pages.proofs.pages.Pages.store.Goals as goal
-
-pub returns-in_default : goal.returns-in_default
-returns-in_default c =
-    absurd (true≢false (alone_there c.self.inside c.args.self.now c.self.view_is c.args.spot.page c.in_default.ensures c.requires))
-
-abbrev put : List ℕ → Row → Row
-put bytes r = record r { bytes = bytes; unchanged = r.unchanged && bytes_eq r.bytes bytes }
 
 -- a Private page is in nothing, and leaves nothing
 alone : (c : goal.After-store) → HasLeft c.self.inside c.args.self.now c.args.spot.page c.self.inside.dups c.self.inside.frames.items (Some c.in-Some.entry.now.at)
 alone c =
     found_left c.self.invariant c.self.view_is
-    (c.in-Some.ensures ∙ ap (λ n. Some (held_of n c.in-Some.entry.now)) (sym c.pass-pass.ensures))
+    (c.in-Some.ensures ∙ ap (λ n. Some (held_of n c.in-Some.entry.now)) (sym c.pass.ensures))
     (record { dups = search rules; waiting = search rules; frame = search rules })
 
 -- it gets its bytes
@@ -25,7 +17,7 @@ written : (c : goal.After-store) → Comes c.self.inside c.store.new.self c.self
 })
 unfolding alone
 written c =
-    rested (alone c) c.store.new.self refl (put c.args.bytes.now) (stored c.args.bytes.now) (λ r. refl) (λ r. refl) c.requires
+    rested (alone c) c.store.new.self refl (put_bytes c.args.bytes.now) (stored c.args.bytes.now) (λ r. refl) (λ r. refl) c.requires
     (λ _. ap (λ st. record (stored c.args.bytes.now (alone c).held.row) { state = st }) (sym c.in-Private.ensures)) (held_as c.store.ensures)
 
 pub invariant_of-self : goal.invariant_of-self
@@ -33,25 +25,3 @@ invariant_of-self c = (written c).lawful
 
 pub returns-in-Private : goal.returns-in-Private
 returns-in-Private c = (written c).told_as
-
-left : (c : goal.After-store-2)
-    → HasLeft c.self.inside c.args.self.now c.args.spot.page c.left_by_any.new.dups c.deref.result.now c.left_by_any.result
-left c =
-    found_left c.self.invariant c.self.view_is
-    (c.in-Some.ensures ∙ ap (λ n. Some (held_of n c.in-Some.entry.now)) (sym c.pass-pass.ensures)) c.left_by_any.ensures
-
--- a page that waited does so no more, and gets its bytes
-settled_too : (c : goal.After-store-2) → Comes c.self.inside c.store-2.new.self c.left_by_any.new.dups (record (seen c.args.self.now) {
-  rows = change_row c.args.spot.page (stored c.args.bytes.now) c.args.self.now.rows;
-  restless = c.store-2.new.self.restless;
-})
-settled_too c =
-    rested (left c) c.store-2.new.self refl (λ r. put c.args.bytes.now (settled r)) (stored c.args.bytes.now) (λ r. refl) (λ r. refl) c.requires
-    (stored_settled c.args.bytes.now (left c).held.row)
-    (and_then c.args.spot.page settled (put c.args.bytes.now) (λ r. refl) c.self.inside.rows.held (held_as c.stop_waiting.ensures) (held_as c.store-2.ensures))
-
-pub invariant_of-self-2 : goal.invariant_of-self-2
-invariant_of-self-2 c = (settled_too c).lawful
-
-pub returns : goal.returns
-returns c = (settled_too c).told_as

@@ -1,16 +1,14 @@
-use Rattle.ksm_pages.proofs.Names.{ap, bytes_eq, Entry, held_in, IsRows, List, on_row, refl, Row, subst, sym, with_value, ℕ, ◌&&◌, ◌∙◌}
+use Rattle.ksm_pages.proofs.Names.{ap, bytes_eq, Entry, held_in, IsRows, List, on_row, refl, subst, sym, with_value, ℕ, ◌&&◌, ◌∙◌}
+use Rattle.ksm_pages.proofs.Resting.{put_bytes}
 use Rattle.ksm_pages.proofs.Writing.{nothing, untouched, viewed_same}
 use Rattle.ksm_pages.proofs.rows.Rows.store.Goals as goal
-
-abbrev put : List ℕ → Row → Row
-put bytes r = record r { bytes = bytes; unchanged = r.unchanged && bytes_eq r.bytes bytes }
 
 -- the entry with the bytes
 abbrev written : List ℕ → Entry → Entry
 written bytes e = record e { bytes = bytes; unchanged = e.unchanged && bytes_eq e.bytes bytes }
 
 pub returns-in_default : goal.returns-in_default
-returns-in_default c = nothing c.self.inside c.self.invariant c.args.spot.page c.in_default.ensures.told (on_row (put c.args.bytes.now)) c.args.self.now c.self.view_is
+returns-in_default c = nothing c.self.inside c.self.invariant c.args.spot.page c.in_default.ensures.told (on_row (put_bytes c.args.bytes.now)) c.args.self.now c.self.view_is
 
 pub invariant_of-self : goal.invariant_of-self
 invariant_of-self c =
@@ -23,4 +21,4 @@ returns c =
     let s = c.self.inside in
     ap (λ x. record { held = held_in s.pass (with_value s.entries c.in-Some.key x) s.order; restless = s.restless; pass = s.pass }) c.take_bytes.ensures
     ∙ viewed_same s c.self.invariant c.in-Some.ensures.there c.index_mut.ensures.value (written c.args.bytes.now c.index_mut.result.now) refl
-    (on_row (put c.args.bytes.now)) refl s.restless refl c.args.self.now c.self.view_is
+    (on_row (put_bytes c.args.bytes.now)) refl s.restless refl c.args.self.now c.self.view_is

@@ -1,0 +1,31 @@
+use Rattle.ksm_pages.proofs.Names.{ap, change_row, held_of, refl, seen, settled, Some, stored, sym, true≢false, ◌∙◌}
+use Rattle.ksm_pages.proofs.Leaving.{alone_there}
+use Rattle.ksm_pages.proofs.Resting.{put_bytes, stored_settled}
+use Rattle.ksm_pages.proofs.Turning.{Comes, HasLeft, and_then, found_left, held_as, rested}
+use Rattle.ksm_pages.proofs.pages.Pages.store_any.Goals as goal
+
+pub returns-in_default : goal.returns-in_default
+returns-in_default c =
+    absurd (true≢false (alone_there c.self.inside c.args.self.now c.self.view_is c.args.spot.page c.in_default.ensures c.requires))
+
+left : (c : goal.After-store)
+    → HasLeft c.self.inside c.args.self.now c.args.spot.page c.left_by_any.new.dups c.deref.result.now c.left_by_any.result
+left c =
+    found_left c.self.invariant c.self.view_is
+    (c.in-Some.ensures ∙ ap (λ n. Some (held_of n c.in-Some.entry.now)) (sym c.pass-pass.ensures)) c.left_by_any.ensures
+
+-- a page that waited does so no more, and gets its bytes
+settled_too : (c : goal.After-store) → Comes c.self.inside c.store.new.self c.left_by_any.new.dups (record (seen c.args.self.now) {
+  rows = change_row c.args.spot.page (stored c.args.bytes.now) c.args.self.now.rows;
+  restless = c.store.new.self.restless;
+})
+settled_too c =
+    rested (left c) c.store.new.self refl (λ r. put_bytes c.args.bytes.now (settled r)) (stored c.args.bytes.now) (λ r. refl) (λ r. refl) c.requires
+    (stored_settled c.args.bytes.now (left c).held.row)
+    (and_then c.args.spot.page settled (put_bytes c.args.bytes.now) (λ r. refl) c.self.inside.rows.held (held_as c.stop_waiting.ensures) (held_as c.store.ensures))
+
+pub invariant_of-self : goal.invariant_of-self
+invariant_of-self c = (settled_too c).lawful
+
+pub returns : goal.returns
+returns c = (settled_too c).told_as
