@@ -50,7 +50,7 @@ pub use Rattle.std.proofs.lemmas.Bool.{and_parts, cases_Bool, cases_eq, cases_lt
 pub use Rattle.std.proofs.lemmas.Bool.Decides.{Decides-eqb, nat_tests}
 pub use Rattle.std.proofs.lemmas.List.{map-append, get_or_default, get_or_past, get_or-replicate, length-map, map-set, replicate-append-replicate, set-get_or}
 pub use Rattle.std.proofs.lemmas.List.Elements.{All-append, All-cons, All-filter, All-head, All-map, All-tail, All-weaker, filter-append, filter_passes}
-pub use Rattle.std.proofs.lemmas.List.Folds.{find-append, list_all-append}
+pub use Rattle.std.proofs.lemmas.List.Folds.{find-append, list_all_more, list_all-append}
 pub use Rattle.std.proofs.lemmas.List.Kept.{AllPairs-cons, AllPairs-filter}
 pub use Rattle.std.proofs.lemmas.List.Sorted.{IsPartitionPoint-from_clause}
 pub use Rattle.std.proofs.lemmas.List.Sums.{AllPass-from_list_all, count_by-le-length, get_or-le-sum_by, length-filter, list_all-from_AllPass, sum_by-set}
