@@ -119,11 +119,13 @@ impl Dups {
         self.index.groups.numbered(self.alloc, guess, tree, bytes)
     }
 
-    /// The dup that a page of the group with a number joins: that which `best` tells for its tree and bytes.
+    /// The dup that a page of the group with a number joins: that which `best` tells for its tree and bytes. None where
+    /// no group has the number.
     #[inline(always)]
     pub fn best_of(&self, group: u32, limit: u32) -> Option<Best>
-        ensures { (tree : ℕ) (bytes : List ℕ) → number_of tree bytes self.now.numbers ≡ Some group
+        ensures best { (tree : ℕ) (bytes : List ℕ) → number_of tree bytes self.now.numbers ≡ Some group
             → result ≡ option_map found_at (best_of tree bytes limit self.now.dups) }
+        ensures none { IsUnused group self.now.numbers → result ≡ None }
     {
         let found = self.index.groups.at(group)?;
         let chain = found.places.list.as_slice();
