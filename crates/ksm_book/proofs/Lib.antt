@@ -10,7 +10,6 @@ pub mod Sharing
 pub mod Pruning
 pub mod Remounted
 pub mod Remounts
-pub mod FrameBits
 pub mod FrameKinds
 pub mod Sweeps
 pub mod Noted

@@ -52,7 +52,8 @@ pub use Rattle.ksm_base.specs.declared.shape.Shape.{Shape}
 pub use Rattle.ksm_book.specs.Carried.{CarriedOut, JournaledBook, MovesTo, StoresTo, TakesSteps, unjournaled, UnmergesTo}
 pub use Rattle.ksm_book.specs.Commands.{Deed, dup_frame, emptying, Finds, FindsHeld, FindsNone, frame_found, frame_number, frame_on, handling, idle, instead, IsIdle, joining, leaving, Mapped, mounting, Moves, pairing, Performs, Provides, pruning, Resettles, ResettlesEach, rewriting, row_visiting, scanning, staying, then_doing, TurnsAway, visiting, visiting_of, withdrawing}
 pub use Rattle.ksm_book.specs.Folded.{begun, IsBeside, IsStill, last_of, mergeable_pages, next_visited, page_visited, pages_ahead, pages_visited, pass_at, restless_at, restless_row, visited, visits_beside}
-pub use Rattle.ksm_book.specs.FrameSets.{AreSets, has, HasNone, IsFirstOf, IsLeast, IsSetOf, Marks, NoneOf}
+pub use Rattle.ksm_tree.specs.NumberSets.{has, HasNone, IsLeast, Marks}
+pub use Rattle.ksm_book.specs.FrameSets.{AreSets, IsFirstOf, IsSetOf, NoneOf}
 pub use Rattle.ksm_book.specs.Keeping.{holding, IsLawful, Keeps, NoneLeft, past_lives, spent, spent_on, Took}
 pub use Rattle.ksm_book.specs.Laid.{HasRemounted, Houses, IsLaid, LoadsIf, lying, MayMove, MovesOr, Resettled, state_of, TurnedAway}
 pub use Rattle.ksm_book.specs.Mounted.{HasLost, HasMoved, IsMoved, MayMount}

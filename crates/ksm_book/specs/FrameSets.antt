@@ -1,33 +1,12 @@
--- Sets of frames as words of bits, and those of the free and of the dying frames that the keeper knows (own).
-use Rattle.std.specs.Prelude.{◌≡◌, ◌≢◌, ◌==◌, ℕ, ◌*◌, ◌/◌, ◌%◌, ◌<◌, ◌≤◌, Bool, true, false, List, length, slice_index}
-use Rattle.std.specs.Int.{bit_at}
+-- The sets of the free and of the dying frames that the keeper knows (own).
+use Rattle.std.specs.Prelude.{◌≡◌, ◌*◌, ℕ, ◌<◌, ◌≤◌, Bool, true, false, List, length}
 use Rattle.ksm_base.specs.Values.{frames_of}
 use Rattle.frame_core.specs.declared.frame.Kind.{Kind}
 use Rattle.frame_core.specs.declared.ledger.Ledger.{Ledger}
 use Rattle.frame_core.specs.Ledger.{frame_at}
 use Rattle.frame_table.specs.Named.{KeeperView}
+use Rattle.ksm_tree.specs.NumberSets.{has}
 use Rattle.ksm_book.specs.Steps.{free_kind, dying_kind}
-
--- the bit of the frame is set
-abbrev pub has : List ℕ → ℕ → Bool
-has words f = bit_at (slice_index words (f / 64)) (f % 64) == 1
-
--- none of the frames from low on and below high
-abbrev pub HasNone : List ℕ → ℕ → ℕ → Type 0
-HasNone words low high = (f : ℕ) → low ≤ f → f < high → has words f ≡ false
-
--- f is the least of them
-pub record IsLeast (words : List ℕ) (low high f : ℕ) : Type 0 where
-  pub low_is : low ≤ f
-  pub high_is : f < high
-  pub there : has words f ≡ true
-  pub least : HasNone words low f
-
--- the frame is in the set after it, or is not; the other frames are as they were
-pub record Marks (old new : List ℕ) (frame : ℕ) (marked : Bool) : Type 0 where
-  pub room : length new ≡ length old
-  pub here : has new frame ≡ marked
-  pub others : (f : ℕ) → f ≢ frame → has new f ≡ has old f
 
 -- the set has the frames of this kind, and no others
 pub record IsSetOf (asked : Kind → Bool) (v : KeeperView) (words : List ℕ) : Type 0 where

@@ -1,22 +1,20 @@
 //! The keeper with the sets of its free and of its dying frames, so that neither is looked for frame by frame.
 
-ghost use Rattle.std.specs.Prelude.{◌≡◌, ◌<◌, ◌≤◌, ◌*◌, ℕ, ◌↔◌, IsTrue, IfOk, IfErr, MatchOption, length};
-ghost use Rattle.std.specs.Prelude.{slice_index, true, false};
-ghost use Rattle.ksm_base.specs.declared.fault.Fault.TheVariants.{Memory};
+ghost use Rattle.std.specs.Prelude.{◌≡◌, ◌<◌, ◌≤◌, ◌*◌, ℕ, ◌↔◌, IsTrue, MatchOption, length};
+ghost use Rattle.std.specs.Prelude.{slice_index};
 ghost use Rattle.ksm_base.specs.Values.{frames_of, IsShape};
 ghost use Rattle.frame_core.specs.declared.event.KeeperStep.TheVariants.{Reap, Put, Raise, Open, Add, Sub, Publish};
 ghost use Rattle.frame_core.specs.declared.event.KeeperStep.TheVariants.{Withdraw, Freeze, Word};
 ghost use Rattle.frame_core.specs.Ledger.{frame_at, first_ledger};
 ghost use Rattle.frame_core.specs.State.{frame_word, count_in};
 ghost use Rattle.frame_table.specs.Kept.{May, did, Did};
-ghost use Rattle.ksm_book.specs.FrameSets.{has, Marks, NoneOf, IsFirstOf};
+ghost use Rattle.ksm_tree.specs.NumberSets.{Marks};
+ghost use Rattle.ksm_book.specs.FrameSets.{NoneOf, IsFirstOf};
 ghost use Rattle.ksm_book.specs.Steps.{free_kind, dying_kind};
 
-use crate::frame_set::FrameSet;
 use frame_core::Kind;
 use frame_table::{FrameTable, Keeper};
-use ksm_base::{Fault, Shape};
-use std::alloc::Global;
+use ksm_tree::NumberSet;
 use std::marker::Model;
 
 /// The keeper of the frames, with the sets of those that are free and of those that are dying. Contracts see the
@@ -25,8 +23,8 @@ use std::marker::Model;
 /// It must be spent, by taking the keeper out.
 pub struct FrameKeeper {
     keeper: Keeper,
-    free: FrameSet,
-    dying: FrameSet,
+    free: NumberSet,
+    dying: NumberSet,
 }
 
 impl Model for FrameKeeper {
@@ -38,19 +36,6 @@ impl Model for FrameKeeper {
     ghost view = { λ k. k.keeper };
 
     ghost invariant = { λ k. AreSets k.keeper k.free k.dying };
-}
-
-// All of so many frames, and none of them.
-fn all_and_none(alloc: Global, count: u32) -> Result<(FrameSet, FrameSet), Fault>
-    ensures all_wide { IfOk result (λ s. count ≤ 64 * length s.0) }
-    ensures all { IfOk result (λ s. (f : ℕ) → f < count → has s.0 f ≡ true) }
-    ensures none_wide { IfOk result (λ s. count ≤ 64 * length s.1) }
-    ensures none { IfOk result (λ s. (f : ℕ) → f < count → has s.1 f ≡ false) }
-    ensures fault { IfErr result (λ e. e ≡ Memory) }
-{
-    let all = FrameSet::full(alloc, count)?;
-    let none = FrameSet::empty(alloc, count)?;
-    Ok((all, none))
 }
 
 #[inline(always)]
@@ -68,7 +53,7 @@ fn is_dying(kind: Kind) -> bool
 }
 
 // Marks a frame in both sets by the kind that it has.
-fn sort(keeper: &Keeper, free: &mut FrameSet, dying: &mut FrameSet, frame: u32)
+fn sort(keeper: &Keeper, free: &mut NumberSet, dying: &mut NumberSet, frame: u32)
     requires inside { frame < frames_of keeper.now.table.shape }
     requires free_room { frame < 64 * length free.old }
     requires dying_room { frame < 64 * length dying.old }
@@ -81,22 +66,16 @@ fn sort(keeper: &Keeper, free: &mut FrameSet, dying: &mut FrameSet, frame: u32)
 }
 
 impl FrameKeeper {
-    /// Begins with a keeper that has made no step: all frames are free, none is dying. Refused for memory alone, it
-    /// gives the keeper back.
-    pub fn new(alloc: Global, keeper: Keeper, shape: Shape) -> Result<FrameKeeper, (Keeper, Fault)>
-        requires checked { IsShape shape }
-        requires same { keeper.table.shape ≡ shape }
-        requires new { keeper.ledger ≡ first_ledger shape }
-        ensures ok { IfOk result (λ k. k ≡ keeper) }
-        ensures refused { IfErr result (λ e. (e.0 ≡ keeper) × (e.1 ≡ Memory)) }
+    /// Begins with a keeper that has made no step: all frames are free, none is dying.
+    pub fn new(keeper: Keeper) -> FrameKeeper
+        requires checked { IsShape keeper.table.shape }
+        requires new { keeper.ledger ≡ first_ledger keeper.table.shape }
+        ensures { result ≡ keeper }
     {
-        match all_and_none(alloc, shape.nodes * shape.frames_per_node) {
-            Ok((free, dying)) => Ok(FrameKeeper {
-                keeper,
-                free,
-                dying,
-            }),
-            Err(fault) => Err((keeper, fault)),
+        FrameKeeper {
+            keeper,
+            free: NumberSet::full(),
+            dying: NumberSet::empty(),
         }
     }
 

@@ -3,7 +3,6 @@
 
 mod book;
 mod frame_keeper;
-mod frame_set;
 mod frames;
 mod knobs;
 mod mounting;

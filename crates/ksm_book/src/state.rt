@@ -69,7 +69,7 @@ impl State {
         match Pages::open(alloc, shape) {
             Ok(pages) => Ok(State {
                 pages,
-                keeper: FrameKeeper::new(alloc, keeper, shape)?,
+                keeper: FrameKeeper::new(keeper),
                 cursor: None,
                 passes: 0,
             }),

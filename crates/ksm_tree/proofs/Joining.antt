@@ -282,6 +282,23 @@ folded_best t b limit dups found false rise opens =
     ∙ fold_passing t b limit (λ d. is_open limit (length d.items)) (λ d outside. grind (arith, outside)) dups dups None (found_self dups rise)
     ∙ walk_top (may_join t b limit) dups
 
+-- where none of the dups at some places is open, a walk over these finds none
+not_joined : (limit : ℕ) (slot : Option Dup) → is_open limit (length (items_in slot)) ≡ false → joined limit None slot ≡ None
+not_joined limit None closed = refl
+not_joined limit (Some d) closed = rw closed refl
+
+none_folded : (t : ℕ) (b : List ℕ) (limit : ℕ) (dups : List Dup) (places : List ℕ) → All (λ p. is_open limit (length (items_in (dup_at p dups))) ≡ false) places → folded t b limit dups None places ≡ None
+none_folded t b limit dups [] closed = refl
+none_folded t b limit dups (p ∷ places) closed =
+    let here = not_joined limit (dup_at p dups) (closed 0 0 (omega arith)) in
+    ap (λ acc. folded t b limit dups acc places) (passed_over_so t b limit None (dup_at p dups) here)
+    ∙ none_folded t b limit dups places (All-tail (λ q. is_open limit (length (items_in (dup_at q dups))) ≡ false) p places closed)
+
+-- where none of the dups at the places of a tree and bytes is open, none is best
+pub closed_best : (t : ℕ) (b : List ℕ) (limit : ℕ) (dups : List Dup) (places : List ℕ) → InPlaceOrder (rows_of dups) → places ≡ group_places t b (rows_of dups) → All (λ p. is_open limit (length (items_in (dup_at p dups))) ≡ false) places → best_of t b limit dups ≡ None
+closed_best t b limit dups places rise group closed =
+    sym (folded_best t b limit dups places true rise group) ∙ none_folded t b limit dups places closed
+
 -- where a tree and bytes have no place, no dup of theirs is best
 pub none_best : (t : ℕ) (b : List ℕ) (limit : ℕ) (dups : List Dup) → InPlaceOrder (rows_of dups) → [] ≡ group_places t b (rows_of dups) → None ≡ best_of t b limit dups
 none_best t b limit dups rise none = folded_best t b limit dups [] true rise none

@@ -8,11 +8,13 @@ pub mod Indexed
 pub mod Joining
 pub mod Keys
 pub mod Made
+pub mod NumberBits
 pub mod Numbering
 pub mod Numbers
 pub mod OneSlot
 pub mod Opened
 pub mod Openings
+pub mod PlaceSets
 pub mod Rows
 pub mod Standing
 pub mod Tied

@@ -20,19 +20,22 @@ pub use Rattle.ksm_rmap.proofs.Pages.{pages_ordered}
 pub use Rattle.ksm_rmap.specs.Items.{has_item, with_item, without_item}
 pub use Rattle.ksm_tree.specs.Bridge.{AreCounted, AreTied, let_out, place_in}
 pub use Rattle.ksm_tree.specs.Choosing.{ArePlacesToJoin, best_of, choice_of, chosen, empty_place, found_at, is_behind, is_best, is_no_rival, is_no_worse, may_join, of_group, unless_behind}
+pub use Rattle.ksm_tree.specs.CountedSets.{IsMarked}
 pub use Rattle.ksm_tree.specs.Counts.{AreCounts, is_open, places_where}
 pub use Rattle.ksm_tree.specs.Dups.{AreDups, change_items, dup_at, dup_of, DupsState, has_number, is_live, is_stale, items_in, places_open, rows_of, stands_at, with_new, without_place}
 pub use Rattle.ksm_tree.specs.Grouping.{AreGroups, content_in, IsIdle, places_in, waits_in}
 pub use Rattle.ksm_tree.specs.Groups.{chain_in, IsCounted, IsCountedAnew, SameChains, SameWaits, under, waiting_in}
 pub use Rattle.ksm_tree.specs.Index.{AreIndexed, dups_seen, group_places, in_group, IsEntered, place_of, places_of, row_place}
+pub use Rattle.ksm_tree.specs.NumberSets.{has, HasNoBit, HasNone, IsLeast, IsLowestBit, IsSummed, Marks}
 pub use Rattle.ksm_tree.specs.Numbered.{AreNumbered, content_of, content_order, IsUnused, number_of, Numbers}
 pub use Rattle.ksm_tree.specs.Places.{with_place, without}
-pub use Rattle.ksm_tree.specs.Slots.{ArePlaced, AreSlots, change_at, count_in, is_empty_slot, is_stale_slot, present, slots_seen, SlotsState}
+pub use Rattle.ksm_tree.specs.Slots.{ArePlaced, AreSlots, change_at, count_in, is_empty_slot, IsSetOf, is_stale_slot, present, slots_seen, SlotsState}
 pub use Rattle.ksm_tree.specs.Totals.{AreTotals, chained_of, chains_of, IsRegrouped, Tells}
 pub use Rattle.ksm_tree.specs.Waits.{AreWaiting, IsAdded, IsAlike, IsStopped, names, waiting_page, WaitingPage, waits_there}
 pub use Rattle.ksm_tree.specs.declared.choice.Choice.{Choice}
 pub use Rattle.ksm_tree.specs.declared.choice.Choice.TheVariants.{Empty, Stale}
 pub use Rattle.ksm_tree.specs.declared.content.Content.{Content}
+pub use Rattle.ksm_tree.specs.declared.counted_set.CountedSet.{CountedSet}
 pub use Rattle.ksm_tree.specs.declared.dup.Dup.{Dup}
 pub use Rattle.ksm_tree.specs.declared.groups.Group.{Group}
 pub use Rattle.ksm_tree.specs.declared.groups.Groups.{Groups}
@@ -41,25 +44,28 @@ pub use Rattle.ksm_tree.specs.declared.totals.Totals.{Totals}
 pub use Rattle.slab.proofs.SlabLemmas.{Updates-with_value}
 pub use Rattle.slab.specs.Slab.{get, Slab, with_value}
 pub use Rattle.smallvec.specs.SmallVec.{SmallVec}
-pub use Rattle.std.proofs.Common.{[], add-one, ap, arith, Bool, count_by, drop, drop-cons, false, get_or, inl, inr, length, length-append, length-set, List, map, None, Option, refl, replicate, reverse, rules, set, Some, subst, suc, sym, take, true, true≢false, zero, ℕ, ◌++◌, ◌+◌, ◌-◌, ◌<◌, ◌↔◌, ◌∙◌, ◌∷◌, ◌≡◌, ◌≢◌, ◌≤◌}
+pub use Rattle.std.proofs.Common.{[], add-one, ap, arith, Bool, count_by, drop, drop-cons, false, get_or, get_or-set_other, get_or-set_same, inl, inr, length, length-append, length-set, List, map, None, Option, refl, replicate, rules, set, shr-shr, Some, subst, suc, suc-mul, sym, take, true, true≢false, w64, zero, zero-mul, ℕ, ◌*◌, ◌++◌, ◌+◌, ◌-◌, ◌/◌, ◌<◌, ◌↔◌, ◌∙◌, ◌∷◌, ◌≡◌, ◌≢◌, ◌≤◌}
 pub use Rattle.std.proofs.Math.ListN.{drop_of_length-le, get_or-map}
-pub use Rattle.std.proofs.Math.Seq.{map-set_same}
-pub use Rattle.std.proofs.lemmas.Bool.{and_parts, cases_Bool, cond_both, eq-eqb, eqb-true, false≢true, le-ltb, ne_eqb}
+pub use Rattle.std.proofs.lemmas.Bool.{and_parts, cases_Bool, cases_eq, cases_lt, cond_both, eq-eqb, eqb-true, false≢true, le-ltb, ne_eqb}
 pub use Rattle.std.proofs.lemmas.Bool.Decides.{Decides-eqb, nat_tests}
-pub use Rattle.std.proofs.lemmas.List.{append-nil, map-append, get_or-reverse, get_or_default, get_or_push, length-map, length-reverse, map-set, replicate-append-replicate, set-append_left, set-append_right, set-get_or}
+pub use Rattle.std.proofs.lemmas.List.{map-append, get_or_default, get_or_past, get_or-replicate, length-map, map-set, replicate-append-replicate, set-get_or}
 pub use Rattle.std.proofs.lemmas.List.Elements.{All-append, All-cons, All-filter, All-head, All-map, All-tail, All-weaker, filter-append, filter_passes}
-pub use Rattle.std.proofs.lemmas.List.Folds.{find-append, list_all-append}
+pub use Rattle.std.proofs.lemmas.List.Folds.{find-append, list_all_more, list_all-append}
 pub use Rattle.std.proofs.lemmas.List.Kept.{AllPairs-cons, AllPairs-filter}
-pub use Rattle.std.proofs.lemmas.List.Sorted.{IsPartitionPoint-from_clause, IsPermutation-reverse, sum_by-IsPermutation}
-pub use Rattle.std.proofs.lemmas.List.Sums.{AllPass-from_list_all, count_by-le-length, length-filter, list_all-from_AllPass}
+pub use Rattle.std.proofs.lemmas.List.Sorted.{IsPartitionPoint-from_clause}
+pub use Rattle.std.proofs.lemmas.List.Sums.{AllPass-from_list_all, count_by-le-length, get_or-le-sum_by, length-filter, list_all-from_AllPass, sum_by-set}
 pub use Rattle.std.proofs.lemmas.Map.Lookups.{exact_bytes, exact_pairs, exact_unsigned}
-pub use Rattle.std.proofs.lemmas.Option.{get_or_from_slice_get, none-some, same_Some, slice_get-get_or, slice_get_within}
+pub use Rattle.std.proofs.lemmas.Nat.Bits.{bit_at-trailing_zeros, bit_at-zero, bit_at_above, bit_at_clear_other, bit_at_clear_same, bit_at_ones, bit_at_ones_above, bit_at_set_other, bit_at_set_same}
+pub use Rattle.std.proofs.lemmas.Option.{get_or_from_slice_get, none-some, same_Some, slice_get_within}
 pub use Rattle.std.proofs.lemmas.Slice.Eq.{bytes_eq-Decides}
 pub use Rattle.std.specs.BTreeMap.{BTreeMap, is_at, Updates}
 pub use Rattle.std.specs.Bool.{then_some}
 pub use Rattle.std.specs.Cmp.{Equal-is}
 pub use Rattle.std.specs.Cmp.Lexicographic.{slice_cmp}
-pub use Rattle.std.specs.List.{list_all, list_any, range_with_len}
+pub use Rattle.std.specs.Int.{bit_at}
+pub use Rattle.std.specs.Int.Bits.{bit_and}
+pub use Rattle.std.specs.Int.RustNames.{bit_or}
+pub use Rattle.std.specs.List.{list_all, list_any}
 pub use Rattle.std.specs.Option.{ForSome, option_and_then, option_or, unwrap_or}
 pub use Rattle.std.specs.Ordering.{nat_cmp}
-pub use Rattle.std.specs.Prelude.{All, AllPairs, bytes_eq, cond, Err, filter, filter_map, find, if◌then◌else◌, is_some, IsOk, nat_le, nat_lt, not, Ok, OnErr, OnOk, option_copied, option_map, Result, slice_get, ◌%◌, ◌&&◌, ◌==◌, ◌^◌, ◌||◌}
+pub use Rattle.std.specs.Prelude.{All, AllPairs, bytes_eq, cond, Err, filter, filter_map, find, if◌then◌else◌, is_some, IsOk, MatchOption, nat_le, nat_lt, not, Ok, OnErr, OnOk, option_copied, option_map, Result, ◌%◌, ◌&&◌, ◌==◌, ◌^◌, ◌||◌}

@@ -1,11 +1,13 @@
 pub mod Bridge
 pub mod Choosing
+pub mod CountedSets
 pub mod Counts
 pub mod Dups
 pub mod Grouping
 pub mod Groups
 pub mod Guesses
 pub mod Index
+pub mod NumberSets
 pub mod Numbered
 pub mod Places
 pub mod Slots

@@ -1,11 +1,11 @@
 -- The dups by place: a slot for each place, and the places whose slots pass a test. (own)
-use Rattle.std.specs.Prelude.{◌≡◌, ℕ, suc, ◌≤◌, Bool, true, false, List, [], ◌∷◌}
-use Rattle.std.specs.Prelude.{length, map, reverse, Option, Some, None, if◌then◌else◌}
-use Rattle.smallvec.specs.SmallVec.{SmallVec}
+use Rattle.std.specs.Prelude.{◌≡◌, ℕ, suc, ◌*◌, ◌<◌, ◌≤◌, Bool, true, false, List, [], ◌∷◌}
+use Rattle.std.specs.Prelude.{count_by, get_or, length, map, Option, Some, None, if◌then◌else◌}
 use Rattle.ksm_base.specs.declared.page.GuestPage.{GuestPage}
 use Rattle.ksm_tree.specs.declared.dup.Dup.{Dup}
-use Rattle.ksm_tree.specs.Counts.{places_where}
+use Rattle.ksm_tree.specs.declared.counted_set.CountedSet.{CountedSet}
 use Rattle.ksm_tree.specs.Dups.{stands_at, items_in, is_stale}
+use Rattle.ksm_tree.specs.NumberSets.{has}
 
 -- how many places there are, and the dups in the order of their places
 pub record SlotsState : Type 0 where
@@ -43,13 +43,16 @@ ArePlaced k (Some d ∷ slots) = (d.row.place ≡ k) × ArePlaced (suc k) slots
 abbrev pub change_at : ℕ → (List GuestPage → List GuestPage) → List Dup → List Dup
 change_at place change dups = map (λ d. if stands_at place d then record d { items = change d.items } else d) dups
 
--- each count is of the items at its place; the places of the empty slots, each by its distance from the highest one,
--- and those of the stale dups are known, and have room for all
-pub record AreSlots (slots : List (Option Dup)) (counts : List ℕ) (empty stale : SmallVec ℕ) : Type 0 where
+-- of the places of the slots the set has just those whose slots pass a test, and they are counted
+pub record IsSetOf (test : Option Dup → Bool) (slots : List (Option Dup)) (places : CountedSet) : Type 0 where
+  pub room : length slots ≤ 64 * length places.set
+  pub each : (p : ℕ) → p < length slots → has places.set p ≡ test (get_or slots p None)
+  pub count : places.count ≡ count_by test slots
+
+-- each count is of the items at its place; the places of the empty slots and those of the stale dups are known
+pub record AreSlots (slots : List (Option Dup)) (counts : List ℕ) (empty stale : CountedSet) : Type 0 where
   pub few : length slots ≤ 1024
   pub placed : ArePlaced 0 slots
   pub counted : counts ≡ map count_in slots
-  pub empties : empty.items ≡ places_where is_empty_slot 0 (reverse slots)
-  pub stales : stale.items ≡ places_where is_stale_slot 0 slots
-  pub empty_room : length slots ≤ empty.capacity
-  pub stale_room : length slots ≤ stale.capacity
+  pub empties : IsSetOf is_empty_slot slots empty
+  pub stales : IsSetOf is_stale_slot slots stale

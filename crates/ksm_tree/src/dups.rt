@@ -28,6 +28,7 @@ use crate::choice::Choice;
 use crate::dup::{Best, Dup};
 use crate::groups::NO_NUMBER;
 use crate::index::Index;
+use crate::item_counts::none_open;
 use crate::slots::Slots;
 use ksm_base::{DupRow, Fault, GuestPage, Knobs, PageBytes};
 use ksm_rmap::Items;
@@ -118,11 +119,13 @@ impl Dups {
         self.index.groups.numbered(self.alloc, guess, tree, bytes)
     }
 
-    /// The dup that a page of the group with a number joins: that which `best` tells for its tree and bytes.
+    /// The dup that a page of the group with a number joins: that which `best` tells for its tree and bytes. None where
+    /// no group has the number.
     #[inline(always)]
     pub fn best_of(&self, group: u32, limit: u32) -> Option<Best>
-        ensures { (tree : ℕ) (bytes : List ℕ) → number_of tree bytes self.now.numbers ≡ Some group
+        ensures best { (tree : ℕ) (bytes : List ℕ) → number_of tree bytes self.now.numbers ≡ Some group
             → result ≡ option_map found_at (best_of tree bytes limit self.now.dups) }
+        ensures none { IsUnused group self.now.numbers → result ≡ None }
     {
         let found = self.index.groups.at(group)?;
         let chain = found.places.list.as_slice();
@@ -181,8 +184,9 @@ impl Dups {
             && (self.index.groups.is_idle(group as usize) || self.is_closed(group, limit))
     }
 
-    // Whether no dup of the group with a number may be joined, as far as a short chain tells: a long one is walked along
-    // once, where a page looks for a dup to join. Most groups that are asked for have no dup, so it stands apart.
+    // Whether no dup of the group with a number may be joined, as far as a short chain tells: which one is best is not
+    // asked, so counts are enough. A long chain is walked along once, where a page looks for a dup to join. Most groups
+    // that are asked for have no dup, so it stands apart.
     #[inline(never)]
     fn is_closed(&self, group: u32, limit: u32) -> bool
         ensures { IsTrue result → (t : ℕ) (b : List ℕ) → number_of t b self.now.numbers ≡ Some group
@@ -190,7 +194,8 @@ impl Dups {
     {
         match self.index.groups.at(group) {
             Some(found) => {
-                found.places.len() <= SHORT_CHAIN && self.best_of(group, limit).is_none()
+                let chain = found.places.list.as_slice();
+                chain.len() <= SHORT_CHAIN && none_open(limit, self.slots.counts(), chain)
             }
             None => false,
         }

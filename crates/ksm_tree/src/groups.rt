@@ -271,10 +271,11 @@ impl Groups {
         }
     }
 
-    /// The page that waits in the group with a number.
+    /// The page that waits in the group with a number: none where no group has it.
     pub fn waiting(&self, number: u32) -> Option<GuestPage>
-        ensures { (t : ℕ) (b : List ℕ) → number_of t b self.now.numbers.entries ≡ Some number
+        ensures waits { (t : ℕ) (b : List ℕ) → number_of t b self.now.numbers.entries ≡ Some number
             → result ≡ waiting_page t b (waiting_in self.now) }
+        ensures none { IsUnused number self.now.numbers.entries → result ≡ None }
     {
         let group = self.groups.get(number as usize)?;
         (group.pass == self.pass).then_some(group.page)

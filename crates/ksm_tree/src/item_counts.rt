@@ -4,7 +4,9 @@
 //! The counts stand by themselves, four bytes each, so a walk along a chain reads no dup but one that may be joined.
 //! The open places are kept only while they are asked for: a store to a merged page may open or close one, and where
 //! all chains are short that costs more than it saves.
-ghost use Rattle.std.specs.Prelude.{◌≡◌, ℕ, ◌<◌, ◌≤◌, IfErr, IfOk, IfSome, length, replicate, slice_set};
+ghost use Rattle.std.specs.Prelude.{◌≡◌, ℕ, ◌<◌, ◌≤◌, All, IfErr, IfOk, IfSome, length, not, replicate, slice_index};
+ghost use Rattle.std.specs.Prelude.{slice_set};
+ghost use Rattle.std.specs.List.{list_all};
 ghost use Rattle.ksm_tree.specs.Counts.{is_open as is_open_count, places_where};
 
 use crate::places::Places;
@@ -105,6 +107,22 @@ fn is_open(limit: u32, count: u32) -> bool
     ensures { result ≡ is_open_count limit count }
 {
     1 <= count && count < limit
+}
+
+/// Whether none of the places is open by a limit.
+#[inline(always)]
+pub fn none_open(limit: u32, counts: &[u32], places: &[u32]) -> bool
+    requires { All (λ p. p < length counts.now) places.now }
+    ensures { result ≡ list_all (λ p. not (is_open_count limit (slice_index counts.now p))) places.now }
+{
+    // A count of 0 wraps round to more than any room, so one comparison tells both.
+    let room = limit.saturating_sub(1);
+    for place in places {
+        if counts[*place as usize].wrapping_sub(1) < room {
+            return false;
+        }
+    }
+    true
 }
 
 /// Fills `open_at` with the places that are open by a limit.

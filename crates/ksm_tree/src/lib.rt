@@ -3,6 +3,7 @@
 
 mod choice;
 mod content;
+mod counted_set;
 mod dup;
 mod dups;
 mod groups;
@@ -10,6 +11,7 @@ mod guesses;
 mod index;
 mod item_counts;
 pub mod laws;
+mod number_set;
 mod places;
 mod slots;
 mod totals;
@@ -21,4 +23,5 @@ pub use dup::Best;
 pub use dups::{Dups, NO_PLACE};
 pub use groups::NO_NUMBER;
 pub use guesses::Guesses;
+pub use number_set::NumberSet;
 pub use waiting::Waiting;

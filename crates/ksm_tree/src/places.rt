@@ -1,7 +1,7 @@
-//! Sorted lists of places: of a group, of the open dups, of empty and of stale places. Most groups have few dups, so
-//! four places lie in the list itself.
-ghost use Rattle.std.specs.Prelude.{◌≡◌, ℕ, ◌+◌, ◌-◌, ◌<◌, ◌≤◌, List, [], true, ◌==◌, not, length, filter, IfErr};
-ghost use Rattle.std.specs.Prelude.{IfOk, IsTrue, OnOk, OnErr, AllPairs, nat_lt, slice_get, slice_index_or};
+//! Sorted lists of places: of a group, and of the open dups. Most groups have few dups, so four places lie in the list
+//! itself.
+ghost use Rattle.std.specs.Prelude.{◌≡◌, ℕ, ◌+◌, ◌<◌, ◌≤◌, List, [], true, ◌==◌, not, length, filter, IfErr};
+ghost use Rattle.std.specs.Prelude.{IfOk, IsTrue, OnOk, OnErr, AllPairs, nat_lt, slice_index_or};
 ghost use Rattle.std.specs.List.{list_any};
 ghost use Rattle.smallvec.specs.SmallVec.{HasRoomFor};
 ghost use Rattle.ksm_tree.specs.Places.{with_place, without};
@@ -50,20 +50,6 @@ impl Places {
         ensures { result ≡ length self.now.list.items }
     {
         self.list.len()
-    }
-
-    /// The least place.
-    pub fn first(&self) -> Option<u32>
-        ensures { result ≡ slice_get self.now.list.items 0 }
-    {
-        self.list.as_slice().first().copied()
-    }
-
-    /// The greatest place.
-    pub fn last(&self) -> Option<u32>
-        ensures { result ≡ slice_get self.now.list.items (length self.now.list.items - 1) }
-    {
-        self.list.as_slice().last().copied()
     }
 
     /// Takes all places out.

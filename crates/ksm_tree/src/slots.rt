@@ -1,6 +1,6 @@
 //! The dups by their places, a slot for each: a place leads to its dup in one step, and room for all of them is taken
 //! once.
-ghost use Rattle.std.specs.Prelude.{◌≡◌, ℕ, ◌-◌, ◌<◌, ◌≤◌, [], true, false, None, Some};
+ghost use Rattle.std.specs.Prelude.{◌≡◌, ℕ, ◌<◌, ◌≤◌, [], true, false, None, Some};
 ghost use Rattle.std.specs.Prelude.{count_by, find, length, option_copied, option_map};
 ghost use Rattle.std.specs.Prelude.{is_some, slice_index_or, IfErr, IfOk, IfSome, OnErr, OnOk};
 ghost use Rattle.ksm_tree.specs.Choosing.{empty_place};
@@ -9,21 +9,21 @@ ghost use Rattle.ksm_tree.specs.Dups.{dup_at, items_in, is_live, is_stale};
 ghost use Rattle.ksm_tree.specs.Dups.{places_open, rows_of, with_new, without_place};
 ghost use Rattle.ksm_tree.specs.Slots.{change_at};
 
+use crate::counted_set::CountedSet;
 use crate::dup::Dup;
 use crate::item_counts::Counts;
-use crate::places::Places;
+use crate::number_set::NumberSet;
 use ksm_base::{Fault, GuestPage};
 use std::alloc::Global;
 use std::marker::Model;
 
 /// The dups by place, with how many items each has, the places that no dup has and those of the stale dups.
-/// An empty place is kept by its distance from the highest one: the least, which is taken first, then stands last.
 #[derive(Drop)]
 pub struct Slots {
     dups: Vec<Option<Dup>>,
     counts: Counts,
-    empty: Places,
-    stale: Places,
+    empty: CountedSet,
+    stale: CountedSet,
 }
 
 impl Model for Slots {
@@ -33,7 +33,7 @@ impl Model for Slots {
 
     ghost view = { λ s. slots_seen s.dups.items };
 
-    ghost invariant = { λ s. AreSlots s.dups.items s.counts s.empty.list s.stale.list };
+    ghost invariant = { λ s. AreSlots s.dups.items s.counts s.empty s.stale };
 }
 
 impl Slots {
@@ -45,17 +45,20 @@ impl Slots {
     {
         let room = places as usize;
         let mut dups = Vec::with_capacity(alloc, room)?;
-        let mut empty = Places::with_room(alloc, room)?;
-        for place in 0..places {
+        for _place in 0..places {
             dups.push(None)?;
-            empty.insert(place);
         }
-        let stale = Places::with_room(alloc, room)?;
         Ok(Slots {
             dups,
             counts: Counts::open(alloc, places)?,
-            empty,
-            stale,
+            empty: CountedSet {
+                set: NumberSet::full(),
+                count: room,
+            },
+            stale: CountedSet {
+                set: NumberSet::empty(),
+                count: 0,
+            },
         })
     }
 
@@ -96,29 +99,28 @@ impl Slots {
     pub fn first_empty(&self) -> Option<u32>
         ensures { result ≡ empty_place self.now.places (rows_of self.now.dups) }
     {
-        let distance = self.empty.last()?;
-        Some(mirrored(self.dups.len(), distance))
+        self.empty.set.least(0, self.dups.len() as u32)
     }
 
     /// The least place of a stale dup.
     pub fn first_stale(&self) -> Option<u32>
         ensures { result ≡ option_map (λ d. d.row.place) (find is_stale self.now.dups) }
     {
-        self.stale.first()
+        self.stale.set.least(0, self.dups.len() as u32)
     }
 
     /// How many dups have an item.
     pub fn count_live(&self) -> usize
         ensures { result ≡ count_by is_live self.now.dups }
     {
-        self.dups.len() - self.empty.len() - self.stale.len()
+        self.dups.len() - self.empty.count - self.stale.count
     }
 
     /// How many dups are stale.
     pub fn count_stale(&self) -> usize
         ensures { result ≡ count_by is_stale self.now.dups }
     {
-        self.stale.len()
+        self.stale.count
     }
 
     /// A dup with items takes its place, in the stead of one that stood there.
@@ -128,15 +130,10 @@ impl Slots {
         ensures { self.new ≡ record { places = self.old.places; dups = with_new dup self.old.dups } }
     {
         let place = dup.row.place;
-        let was_empty = self.dups[place as usize].is_none();
         self.counts.set(place, dup.items.len() as u32);
         self.dups[place as usize] = Some(dup);
-        if was_empty {
-            let distance = mirrored(self.dups.len(), place);
-            self.empty.remove(distance);
-        } else {
-            self.stale.remove(place);
-        }
+        self.empty.remove(place);
+        self.stale.remove(place);
     }
 
     /// The dup at a place goes.
@@ -144,11 +141,10 @@ impl Slots {
         requires { is_some (dup_at place self.old.dups) ≡ true }
         ensures { self.new ≡ record { places = self.old.places; dups = without_place place self.old.dups } }
     {
-        let distance = mirrored(self.dups.len(), place);
         self.counts.set(place, 0);
         self.dups[place as usize] = None;
         self.stale.remove(place);
-        self.empty.insert(distance);
+        self.empty.add(place);
     }
 
     /// A page becomes an item of the dup at a place. The one fault is `Memory`, and then nothing changes.
@@ -194,19 +190,10 @@ impl Slots {
                 let left = dup.items.len() as u32;
                 self.counts.set(place, left);
                 if left == 0 {
-                    self.stale.insert(place);
+                    self.stale.add(place);
                 }
             }
             None => unreachable!(),
         }
     }
-}
-
-/// How far a place is from the highest of so many; and for a distance the place that is so far from it.
-fn mirrored(places: usize, place: u32) -> u32
-    requires few { places ≤ 1024 }
-    requires place { place < places }
-    ensures { result ≡ places - 1 - place }
-{
-    places as u32 - 1 - place
 }

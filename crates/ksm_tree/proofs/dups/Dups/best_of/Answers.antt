@@ -1,7 +1,7 @@
-use Rattle.ksm_tree.proofs.Names.{[], ap, arith, best_of, content_in, found_at, group_places, length, List, nat_tests, number_of, option_map, refl, rows_of, sym, true, ℕ, ◌==◌, ◌∙◌, ◌∷◌, ◌≡◌}
+use Rattle.ksm_tree.proofs.Names.{[], ap, arith, best_of, content_in, found_at, group_places, IsUnused, length, List, nat_tests, number_of, option_map, refl, rows_of, subst, sym, true, ℕ, ◌==◌, ◌∙◌, ◌∷◌, ◌≡◌}
 use Rattle.ksm_tree.proofs.Indexed.{content_here, group_here}
 use Rattle.ksm_tree.proofs.Joining.{none_best}
-use Rattle.ksm_tree.proofs.Standing.{stands_under}
+use Rattle.ksm_tree.proofs.Standing.{not_unused, stands_under}
 use Rattle.ksm_tree.proofs.dups.Dups.best_of.Goals as goal
 
 -- a list of length 0
@@ -9,12 +9,12 @@ none_of : (xs : List ℕ) → true ≡ (length xs == 0) → [] ≡ xs
 none_of [] none = refl
 none_of (x ∷ xs) none = grind (arith, nat_tests, none)
 
-pub returns-in_err-found : goal.returns-in_err-found
-returns-in_err-found c tree bytes is =
+pub returns-in_err-found-clause-best : goal.returns-in_err-found-clause-best
+returns-in_err-found-clause-best c tree bytes is =
     absurd (stands_under c.self.inside.index.groups tree bytes c.args.group (ap (λ s. number_of tree bytes s.numbers) c.self.view_is ∙ is) c.in_err-found.ensures)
 
-pub returns-then-is_empty : goal.returns-then-is_empty
-returns-then-is_empty c tree bytes is =
+pub returns-then-is_empty-clause-best : goal.returns-then-is_empty-clause-best
+returns-then-is_empty-clause-best c tree bytes is =
     let s = c.self.inside in
     let chain = group_here s.slots s.next s.index c.self.invariant tree bytes c.args.group c.in_ok-found.found.now (ap (λ s. number_of tree bytes s.numbers) c.self.view_is ∙ is) c.in_ok-found.ensures in
     ap (option_map found_at) (none_best tree bytes c.args.limit s.slots.dups c.self.invariant.lawful.in_place_order (none_of _ c.if-is_empty.ensures ∙ c.as_slice-chain.ensures ∙ chain))
@@ -28,8 +28,13 @@ best_in-requires c =
     c.as_slice-chain.ensures ∙ group_here s.slots s.next s.index c.self.invariant g.content.tree g.content.bytes c.args.group g own c.in_ok-found.ensures
     ∙ ap (λ s. group_places g.content.tree g.content.bytes (rows_of s.dups)) c.self.view_is
 
-pub returns : goal.returns
-returns c tree bytes is =
+pub returns-clause-best : goal.returns-clause-best
+returns-clause-best c tree bytes is =
     let s = c.self.inside in
     let one = content_here s.slots s.next s.index c.self.invariant tree bytes c.args.group c.in_ok-found.found.now (ap (λ s. number_of tree bytes s.numbers) c.self.view_is ∙ is) c.in_ok-found.ensures in
     c.best_in.ensures ∙ ap (λ k. option_map found_at (best_of k.tree k.bytes c.args.limit c.args.self.now.dups)) one
+
+pub returns-clause-none : goal.returns-clause-none
+returns-clause-none c unused =
+    let none = subst (IsUnused c.args.group) (sym (ap (λ v. v.numbers) c.self.view_is)) unused in
+    absurd (not_unused c.self.inside.index.groups c.args.group c.in_ok-found.found.now c.in_ok-found.ensures none)

@@ -1,5 +1,6 @@
-use Rattle.ksm_tree.proofs.Names.{ap, arith, length, with_item, ◌∙◌, ◌≡◌}
-use Rattle.ksm_tree.proofs.OneSlot.{count_within, HoldsDup, holds_dup, seen_within, slot_not_none, slots_grown, slots_joined, view_changed, was_live}
+use Rattle.ksm_tree.proofs.Names.{ap, arith, false, is_stale_slot, length, sym, with_item, ◌∙◌, ◌≡◌}
+use Rattle.ksm_tree.proofs.OneSlot.{count_within, HoldsDup, holds_dup, seen_within, slot_not_none, grown_not_stale, slots_kept, slots_marked, view_changed, was_live}
+use Rattle.ksm_tree.proofs.PlaceSets.{set_room, set_some}
 use Rattle.ksm_tree.proofs.slots.Slots.add_item.Goals as goal
 use Rattle.ksm_tree.proofs.slots.Slots.add_item.Goals.{In-Some}
 
@@ -28,13 +29,23 @@ add-requires-clause-fewer c = rw (← (here (goal.at.add-requires-clause-fewer c
 pub add-requires-clause-absent : goal.add-requires-clause-absent
 add-requires-clause-absent c = rw (← (here (goal.at.add-requires-clause-absent c).In-Some).items) c.requires.absent
 
+pub remove-requires : goal.remove-requires
+remove-requires c =
+    let s = c.self.inside in
+    let within = (here (goal.at.remove-requires c).In-Some).within in
+    record {
+      room = set_room is_stale_slot s.dups.items s.stale c.self.invariant.stales c.args.place within;
+      counted = set_some is_stale_slot s.dups.items s.stale c.self.invariant.stales c.args.place within;
+    }
+
 pub invariant_of-self-then-count-eq1 : goal.invariant_of-self-then-count-eq1
 invariant_of-self-then-count-eq1 c =
     let s = c.self.inside in
     let here = here (goal.at.invariant_of-self-then-count-eq1 c).In-Some in
     let count : c.len-count.result ≡ length (with_item c.args.page c.in-Some.dup.items) = c.len-count.ensures.count ∙ ap length c.in_ok-add-in-Some.ensures.added in
-    rw (c.in_ok-add-in-Some.ensures.added, c.set.ensures) (slots_grown c.args.place c.len-count.result s.dups.items s.counts s.empty.list s.stale.list
-    c.remove.new.self.list c.in-Some.dup c.args.page here.within c.self.invariant here.filled count c.remove.ensures.without c.remove.ensures.capacity)
+    rw (c.in_ok-add-in-Some.ensures.added, c.set.ensures) (slots_marked c.args.place s.dups.items s.counts s.empty s.stale c.in-Some.dup
+    (with_item c.args.page) here.within c.self.invariant here.filled c.len-count.result c.remove.new.self false count
+    (grown_not_stale c.args.page c.in-Some.dup.items) c.remove.ensures)
 
 pub invariant_of-self-else-count-eq1 : goal.invariant_of-self-else-count-eq1
 invariant_of-self-else-count-eq1 c =
@@ -42,8 +53,9 @@ invariant_of-self-else-count-eq1 c =
     let here = here (goal.at.invariant_of-self-else-count-eq1 c).In-Some in
     let count : c.len-count.result ≡ length (with_item c.args.page c.in-Some.dup.items) = c.len-count.ensures.count ∙ ap length c.in_ok-add-in-Some.ensures.added in
     let live = was_live c.args.page c.in-Some.dup.items (λ one. c.if-count-eq1.false (count ∙ one)) in
-    rw (c.in_ok-add-in-Some.ensures.added, c.set.ensures) (slots_joined c.args.place c.len-count.result s.dups.items s.counts s.empty.list s.stale.list
-    c.in-Some.dup c.args.page here.within c.self.invariant here.filled count live)
+    rw (c.in_ok-add-in-Some.ensures.added, c.set.ensures) (slots_kept c.args.place s.dups.items s.counts s.empty s.stale c.in-Some.dup
+    (with_item c.args.page) here.within c.self.invariant here.filled c.len-count.result count
+    (grown_not_stale c.args.page c.in-Some.dup.items ∙ sym live))
 
 pub returns-then-count-eq1-clause-added : goal.returns-then-count-eq1-clause-added
 returns-then-count-eq1-clause-added c =

@@ -1,11 +1,7 @@
-use Rattle.ksm_tree.proofs.Names.{ap, arith, dup_at, is_empty_slot, is_some, length, length-set, None, present, true, without_place, ◌+◌, ◌∙◌, ◌≡◌}
-use Rattle.ksm_tree.proofs.OneSlot.{known_within, seen_within, count_within, slots_cleared, slot_emptied, mirrored_room, full_slot}
+use Rattle.ksm_tree.proofs.Names.{ap, arith, is_empty_slot, is_stale_slot, length-set, None, without_place, ◌∙◌}
+use Rattle.ksm_tree.proofs.OneSlot.{count_within, seen_within, slot_emptied, slots_cleared}
+use Rattle.ksm_tree.proofs.PlaceSets.{set_few, set_room, set_some}
 use Rattle.ksm_tree.proofs.slots.Slots.clear.Goals as goal
-
-pub mirrored-distance-requires-clause-place : goal.mirrored-distance-requires-clause-place
-mirrored-distance-requires-clause-place c =
-    let within = seen_within c.args.place c.self.inside.dups.items c.args.self.now c.self.view_is c.self.invariant.placed c.requires in
-    omega (arith, within, c.len.ensures)
 
 pub set-requires : goal.set-requires
 set-requires c =
@@ -17,20 +13,30 @@ index_mut-requires c =
     let within = seen_within c.args.place c.self.inside.dups.items c.args.self.now c.self.view_is c.self.invariant.placed c.requires in
     omega (arith, within, c.self.inside.dups.ok.0)
 
-pub insert-requires : goal.insert-requires
-insert-requires c =
-    let slots = c.self.inside.dups.items in
-    let known : is_some (dup_at c.args.place (present slots)) ≡ true = rw (ap (λ s. s.dups) c.self.view_is) c.requires in
-    let within = known_within c.args.place slots c.self.invariant.placed known in
-    let full = full_slot c.args.place slots c.self.invariant.placed known in
-    let room = mirrored_room is_empty_slot c.args.place c.mirrored-distance.result slots (omega (arith, within, c.mirrored-distance.ensures, c.len.ensures)) full in
-    omega (arith, room, ap length c.self.invariant.empties, c.self.invariant.empty_room)
+pub remove-requires : goal.remove-requires
+remove-requires c =
+    let s = c.self.inside in
+    let within = seen_within c.args.place s.dups.items c.args.self.now c.self.view_is c.self.invariant.placed c.requires in
+    record {
+      room = set_room is_stale_slot s.dups.items s.stale c.self.invariant.stales c.args.place within;
+      counted = set_some is_stale_slot s.dups.items s.stale c.self.invariant.stales c.args.place within;
+    }
+
+pub add-requires : goal.add-requires
+add-requires c =
+    let s = c.self.inside in
+    let within = seen_within c.args.place s.dups.items c.args.self.now c.self.view_is c.self.invariant.placed c.requires in
+    record {
+      room = set_room is_empty_slot s.dups.items s.empty c.self.invariant.empties c.args.place within;
+      few = omega (arith, set_few is_empty_slot s.dups.items s.empty c.self.invariant.empties, c.self.invariant.few);
+    }
 
 pub invariant_of-self : goal.invariant_of-self
 invariant_of-self c =
-    let within = seen_within c.args.place c.self.inside.dups.items c.args.self.now c.self.view_is c.self.invariant.placed c.requires in
-    let at : c.mirrored-distance.result + c.args.place + 1 ≡ length c.self.inside.dups.items = omega (arith, within, c.mirrored-distance.ensures, c.len.ensures) in
-    rw c.set.ensures (slots_cleared c.args.place c.mirrored-distance.result c.self.inside.dups.items c.self.inside.counts c.self.inside.empty.list c.self.inside.stale.list c.insert.new.self.list c.remove.new.self.list at c.self.invariant c.insert.ensures.with c.insert.ensures.capacity c.remove.ensures.without c.remove.ensures.capacity)
+    let s = c.self.inside in
+    let within = seen_within c.args.place s.dups.items c.args.self.now c.self.view_is c.self.invariant.placed c.requires in
+    rw c.set.ensures (slots_cleared c.args.place s.dups.items s.counts s.empty s.stale c.add.new.self c.remove.new.self within c.self.invariant
+    c.add.ensures c.remove.ensures)
 
 pub returns : goal.returns
 returns c =

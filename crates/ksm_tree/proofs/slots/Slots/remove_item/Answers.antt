@@ -1,5 +1,6 @@
-use Rattle.ksm_tree.proofs.Names.{ap, arith, change_at, eq-eqb, false, length, ne_eqb, set, slots_seen, Some, sym, true, without_item, ◌==◌, ◌∙◌, ◌≡◌}
-use Rattle.ksm_tree.proofs.OneSlot.{count_within, HoldsDup, holds_dup, seen_within, slot_not_none, slots_shrunk, slots_staled, slots_unlike, stale_has_room, view_changed}
+use Rattle.ksm_tree.proofs.Names.{ap, arith, change_at, eq-eqb, false, is_stale_slot, length, ne_eqb, set, slots_seen, Some, sym, true, without_item, ◌==◌, ◌∙◌, ◌≡◌}
+use Rattle.ksm_tree.proofs.OneSlot.{count_within, had_item, HoldsDup, holds_dup, not_taken, seen_within, slot_not_none, slots_kept, slots_marked, slots_same, view_changed}
+use Rattle.ksm_tree.proofs.PlaceSets.{set_few, set_room}
 use Rattle.ksm_tree.proofs.slots.Slots.remove_item.Goals as goal
 use Rattle.ksm_tree.proofs.slots.Slots.remove_item.Goals.{After-remove, In-Some}
 
@@ -30,22 +31,20 @@ seen c here =
     rw c.remove.ensures.removed (view_changed c.args.place c.self.inside.dups.items c.args.self.now c.in-Some.dup (without_item c.args.page)
     c.self.view_is c.self.invariant.placed here.filled)
 
-pub insert-requires : goal.insert-requires
-insert-requires c =
+pub add-requires : goal.add-requires
+add-requires c =
     let s = c.self.inside in
-    let here = here (goal.at.insert-requires c).In-Some in
-    omega (
-      arith,
-      stale_has_room c.args.place s.dups.items s.counts s.empty.list s.stale.list c.in-Some.dup c.args.page here.within c.self.invariant here.filled
-          c.if-not-remove.ensures.found,
-    )
+    record {
+      room = set_room is_stale_slot s.dups.items s.stale c.self.invariant.stales c.args.place (here (goal.at.add-requires c).In-Some).within;
+      few = omega (arith, set_few is_stale_slot s.dups.items s.stale c.self.invariant.stales, c.self.invariant.few);
+    }
 
 pub invariant_of-self : goal.invariant_of-self
 invariant_of-self c =
     let s = c.self.inside in
     let here = here (goal.at.invariant_of-self c).In-Some in
-    rw c.remove.ensures.removed (slots_unlike c.args.place s.dups.items s.counts s.empty.list s.stale.list c.in-Some.dup c.args.page here.within
-    c.self.invariant here.filled c.if-not-remove.ensures.found)
+    rw c.remove.ensures.removed (slots_same c.args.place s.dups.items s.counts s.empty s.stale c.in-Some.dup (without_item c.args.page) here.within
+    c.self.invariant here.filled (not_taken c.args.page c.in-Some.dup.items c.if-not-remove.ensures.found))
 
 pub invariant_of-self-then-left-eq0 : goal.invariant_of-self-then-left-eq0
 invariant_of-self-then-left-eq0 c =
@@ -53,8 +52,8 @@ invariant_of-self-then-left-eq0 c =
     let here = here (goal.at.invariant_of-self-then-left-eq0 c).In-Some in
     let count : c.len-left.result ≡ length (without_item c.args.page c.in-Some.dup.items) = c.len-left.ensures.count ∙ ap length c.remove.ensures.removed in
     let none : (length (without_item c.args.page c.in-Some.dup.items) == 0) ≡ true = eq-eqb _ 0 (sym count ∙ c.if-left-eq0.true) in
-    rw (c.remove.ensures.removed, c.set.ensures) (slots_staled c.args.place c.len-left.result s.dups.items s.counts s.empty.list s.stale.list
-    c.insert.new.self.list c.in-Some.dup c.args.page here.within c.self.invariant here.filled count none c.insert.ensures.with c.insert.ensures.capacity)
+    rw (c.remove.ensures.removed, c.set.ensures) (slots_marked c.args.place s.dups.items s.counts s.empty s.stale c.in-Some.dup
+    (without_item c.args.page) here.within c.self.invariant here.filled c.len-left.result c.add.new.self true count none c.add.ensures)
 
 pub invariant_of-self-else-left-eq0 : goal.invariant_of-self-else-left-eq0
 invariant_of-self-else-left-eq0 c =
@@ -62,8 +61,9 @@ invariant_of-self-else-left-eq0 c =
     let here = here (goal.at.invariant_of-self-else-left-eq0 c).In-Some in
     let count : c.len-left.result ≡ length (without_item c.args.page c.in-Some.dup.items) = c.len-left.ensures.count ∙ ap length c.remove.ensures.removed in
     let left : (length (without_item c.args.page c.in-Some.dup.items) == 0) ≡ false = ne_eqb _ 0 (λ e. c.if-left-eq0.false (count ∙ e)) in
-    rw (c.remove.ensures.removed, c.set.ensures) (slots_shrunk c.args.place c.len-left.result s.dups.items s.counts s.empty.list s.stale.list
-    c.in-Some.dup c.args.page here.within c.self.invariant here.filled count c.if-not-remove.ensures.found left)
+    rw (c.remove.ensures.removed, c.set.ensures) (slots_kept c.args.place s.dups.items s.counts s.empty s.stale c.in-Some.dup
+    (without_item c.args.page) here.within c.self.invariant here.filled c.len-left.result count
+    (left ∙ sym (had_item c.args.page c.in-Some.dup c.if-not-remove.ensures.found)))
 
 pub returns-then-not-remove : goal.returns-then-not-remove
 returns-then-not-remove c = seen (goal.at.returns-then-not-remove c).After-remove (here (goal.at.returns-then-not-remove c).In-Some)

@@ -1,0 +1,145 @@
+-- What the words of a set, and their summary, say of its numbers.
+use Rattle.ksm_tree.proofs.Names.{ap, arith, bit_at, bit_at-zero, bit_at_above, bit_at_clear_other, bit_at_clear_same, bit_at_set_other, bit_at_set_same, bit_and, bit_or, cases_eq, cases_lt, eqb-true, get_or, get_or-set_other, get_or-set_same, get_or_past, has, HasNoBit, HasNone, inl, inr, IsLeast, IsLowestBit, IsSummed, length, length-set, List, Marks, nat_tests, ne_eqb, not, set, shr-shr, sym, true, w64, ℕ, ◌%◌, ◌*◌, ◌+◌, ◌-◌, ◌/◌, ◌<◌, ◌==◌, ◌^◌, ◌∙◌, ◌≡◌, ◌≢◌, ◌≤◌}
+
+-- a word in which a bit is set is not 0
+some_bit : (word i : ℕ) → bit_at word i ≡ 1 → word ≢ 0
+some_bit word i one zero = omega (arith, sym one ∙ ap (λ n. bit_at n i) zero ∙ bit_at-zero i)
+
+module _ (words : List ℕ) where
+  -- a number is in the set exactly where its bit is set in its word
+  in_word : (w n : ℕ) → w * 64 ≤ n → n < (w + 1) * 64 → has words n ≡ (bit_at (get_or words w 0) (n % 64) == 1)
+  in_word w n from below =
+      let at : n / 64 ≡ w = omega (arith, from, below) in
+      ap (λ v. bit_at (get_or words v 0) (n % 64) == 1) at
+
+  -- the lowest bit set in a word, from that of a number on, is of the least number from there on
+  found_in_word : (w r low high bit : ℕ) → r < 64 → low ≡ w * 64 + r → IsLowestBit (get_or words w 0) r bit → w * 64 + bit < high → IsLeast words low high (w * 64 + bit)
+  found_in_word w r low high bit small is found below =
+      let at : (w * 64 + bit) % 64 ≡ bit = omega (arith, found.high_is) in
+      record {
+        low_is = omega (arith, is, found.low_is);
+        high_is = below;
+        there = in_word w (w * 64 + bit) (omega arith) (omega (arith, found.high_is))
+            ∙ ap (λ i. bit_at (get_or words w 0) i == 1) at ∙ ap (λ b. b == 1) found.there;
+        least = λ m from less. in_word w m (omega (arith, is, from)) (omega (arith, less, found.high_is))
+            ∙ ap (λ b. b == 1) (found.lowest (m % 64) (omega (arith, is, small, from, less, found.high_is)) (omega (arith, is, from, less, found.high_is)));
+      }
+
+  -- none of the numbers of words that are 0 is in the set
+  none_in_zeros : (low high : ℕ) → ((w : ℕ) → low ≤ w → w < high → get_or words w 0 ≡ 0) → HasNone words (low * 64) (high * 64)
+  none_in_zeros low high zeros n from below =
+      ap (λ v. bit_at v (n % 64) == 1) (zeros (n / 64) (omega (arith, from)) (omega (arith, below))) ∙ ap (λ b. b == 1) (bit_at-zero (n % 64))
+
+  -- what is not in the set below a number, nor from it on, is not in the set
+  none_further : (low middle high : ℕ) → HasNone words low middle → HasNone words middle high → HasNone words low high
+  none_further low middle high before behind n from below = elim (cases_lt n middle) [
+    | inl less ↦ before n from less
+    | inr more ↦ behind n more below
+  ]
+
+  -- the least number from one on is the least from a lower one on, where none is in between
+  least_further : (low middle high n : ℕ) → low ≤ middle → HasNone words low middle → IsLeast words middle high n → IsLeast words low high n
+  least_further low middle high n onward before found = record {
+    low_is = omega (arith, onward, found.low_is);
+    high_is = found.high_is;
+    there = found.there;
+    least = none_further low middle n before found.least;
+  }
+
+  module _ (summary : ℕ) (h : IsSummed words summary) where
+    -- a word without a bit in the summary is 0
+    word_clear : (w : ℕ) → w < 64 → bit_at summary w ≡ 0 → get_or words w 0 ≡ 0
+    word_clear w low clear =
+        let named = h.named w low in
+        eqb-true (get_or words w 0) 0 (grind (arith, nat_tests, named, clear))
+
+    -- a word with a bit in the summary is not 0, and stands among the words
+    word_set : (w : ℕ) → w < 64 → bit_at summary w ≡ 1 → get_or words w 0 ≢ 0
+    word_set w low one zero = let named = h.named w low in grind (arith, nat_tests, named, one, zero)
+
+    word_within : (w : ℕ) → get_or words w 0 ≢ 0 → w < length words
+    word_within w some = elim (cases_lt w (length words)) [
+      | inl less ↦ less
+      | inr more ↦ absurd (some (get_or_past words w 0 more))
+    ]
+
+    -- the lowest bit of the summary behind a word's names the word of the least number behind that word
+    pub found_behind : (at next bit : ℕ) → IsLowestBit summary (at + 1) next → IsLowestBit (get_or words next 0) 0 bit → IsLeast words ((at + 1) * 64) (64 * length words) (next * 64 + bit)
+    found_behind at next bit named found =
+        let within = word_within next (word_set next named.high_is named.there) in
+        let none = none_in_zeros (at + 1) next (λ w from below. word_clear w (omega (arith, below, named.high_is)) (named.lowest w from below)) in
+        let least = found_in_word next 0 (next * 64) (64 * length words) bit (omega arith) (omega arith) found (omega (arith, within, found.high_is)) in
+        least_further ((at + 1) * 64) (next * 64) (64 * length words) (next * 64 + bit) (omega (arith, named.low_is)) none least
+
+    -- the summary is right once a word is put, if it says of that whether it is 0, and of the others what it did
+    summed_put : (w word summary' : ℕ) → w < length words → (bit_at summary' w == 1) ≡ not (word == 0) → ((v : ℕ) → v < 64 → v ≢ w → bit_at summary' v ≡ bit_at summary v) → IsSummed (set words w word) summary'
+    summed_put w word summary' within here others = record {
+      many = length-set words w word ∙ h.many;
+      named = λ v low. elim (cases_eq v w) [
+        | inl same ↦ ap (λ u. bit_at summary' u == 1) same ∙ here
+            ∙ ap (λ x. not (x == 0)) (sym (get_or-set_same words w word 0 within) ∙ ap (λ u. get_or (set words w word) u 0) (sym same))
+        | inr apart ↦ ap (λ b. b == 1) (others v low apart) ∙ h.named v low
+            ∙ ap (λ x. not (x == 0)) (sym (get_or-set_other words w v word 0 apart))
+      ];
+    }
+
+    -- the summary is right once a bit is set in a word, and that word's bit in the summary
+    pub summed_more : (w i : ℕ) → w < length words → i < 64 → IsSummed (set words w (bit_or (get_or words w 0) (1 * 2 ^ i % 18446744073709551616))) (bit_or summary (1 * 2 ^ w % 18446744073709551616))
+    summed_more w i within small =
+        let low : w < 64 = omega (arith, within, h.many) in
+        let word : ℕ = bit_or (get_or words w 0) (1 * 2 ^ i % 18446744073709551616) in
+        let some : not (word == 0) ≡ true = ap not (ne_eqb word 0 (some_bit word i (bit_at_set_same w64 (get_or words w 0) i small))) in
+        summed_put w word (bit_or summary (1 * 2 ^ w % 18446744073709551616)) within (ap (λ b. b == 1) (bit_at_set_same w64 summary w low) ∙ sym some)
+        (λ v _ apart. bit_at_set_other w64 summary w low v apart)
+
+    -- the summary is right once a word is 0, and its bit in the summary cleared
+    pub summed_less : (w word : ℕ) → w < length words → word ≡ 0 → IsSummed (set words w word) (bit_and summary (18446744073709551615 - 1 * 2 ^ w % 18446744073709551616))
+    summed_less w word within zero =
+        let low : w < 64 = omega (arith, within, h.many) in
+        summed_put w word (bit_and summary (18446744073709551615 - 1 * 2 ^ w % 18446744073709551616)) within
+        (ap (λ b. b == 1) (bit_at_clear_same w64 summary w low) ∙ sym (ap (λ x. not (x == 0)) zero))
+        (λ v below apart. bit_at_clear_other w64 summary w low v below apart)
+
+-- a word that has a number's bit as it is to be, and keeps its other bits, marks that number
+pub marks_put : (words : List ℕ) (number word bit : ℕ) → number < 64 * length words → bit_at word (number % 64) ≡ bit → ((i : ℕ) → i < 64 → i ≢ number % 64 → bit_at word i ≡ bit_at (get_or words (number / 64) 0) i) → Marks words (set words (number / 64) word) number (bit == 1)
+marks_put words number word bit room here others =
+    let at : number / 64 < length words = omega (arith, room) in
+    record {
+      room = length-set words (number / 64) word;
+      here = ap (λ w. bit_at w (number % 64) == 1) (get_or-set_same words (number / 64) word 0 at) ∙ ap (λ b. b == 1) here;
+      others = λ n apart. elim (cases_eq (n / 64) (number / 64)) [
+        | inl same ↦
+            let there : bit_at (get_or (set words (number / 64) word) (n / 64) 0) (n % 64) ≡ bit_at (get_or words (n / 64) 0) (n % 64) =
+            rw (same, get_or-set_same words (number / 64) word 0 at) (others (n % 64) (omega arith) (λ bit. apart (omega (arith, same, bit)))) in
+            ap (λ b. b == 1) there
+        | inr other ↦ ap (λ w. bit_at w (n % 64) == 1) (get_or-set_other words (number / 64) (n / 64) word 0 other)
+      ];
+    }
+
+-- a bit of a word that is shifted is a higher bit of the word
+bit_of_rest : (word from i : ℕ) → bit_at (word / 2 ^ from) i ≡ bit_at word (from + i)
+bit_of_rest word from i = ap (λ n. n % 2) (shr-shr word from i)
+
+bit_behind : (word from i : ℕ) → from ≤ i → bit_at word i ≡ bit_at (word / 2 ^ from) (i - from)
+bit_behind word from i behind =
+    let at : i ≡ from + (i - from) = omega (arith, behind) in
+    ap (bit_at word) at ∙ sym (bit_of_rest word from (i - from))
+
+-- where a word is shifted to 0, no bit of it is set from there on
+pub none_from : (word from : ℕ) → word / 2 ^ from ≡ 0 → HasNoBit word from
+none_from word from clear i behind low =
+    bit_behind word from i behind ∙ ap (λ n. bit_at n (i - from)) clear ∙ bit_at-zero (i - from)
+
+-- the lowest bit of a word that is shifted is the lowest of the word from there on
+pub lowest_behind : (word from i : ℕ) → word < 2 ^ 64 → IsLowestBit (word / 2 ^ from) 0 i → IsLowestBit word from (from + i)
+lowest_behind word from i fits found =
+    let one : bit_at word (from + i) ≡ 1 = sym (bit_of_rest word from i) ∙ found.there in
+    record {
+      low_is = omega arith;
+      high_is = elim (cases_lt (from + i) 64) [
+        | inl less ↦ less
+        | inr more ↦ absurd (omega (arith, one, bit_at_above word 64 (from + i) fits more))
+      ];
+      there = one;
+      lowest = λ j behind less. bit_behind word from j behind ∙ found.lowest (j - from) (omega arith) (omega (arith, behind, less));
+    }
