@@ -21,7 +21,7 @@ known c =
 
 pub returns-in-Some-best_of-clause-found : goal.returns-in-Some-best_of-clause-found
 returns-in-Some-best_of-clause-found c =
-    finds_dup (known (goal.at.returns-in-Some-best_of-clause-found c).After-best_of) c.in-Some-best_of.best c.in-Some-best_of.ensures
+    finds_dup (known (goal.at.returns-in-Some-best_of-clause-found c).After-best_of) c.in-Some-best_of.best c.in-Some-best_of.ensures.best
 
 pub become_unchanged-requires : goal.become_unchanged-requires
 become_unchanged-requires c = is_alone c.self.inside c.self.invariant c.args.spot.page c.in-Some.entry.now c.in-Some.ensures
@@ -29,27 +29,27 @@ become_unchanged-requires c = is_alone c.self.inside c.self.invariant c.args.spo
 
 pub returns-then-not-entry-clause-found : goal.returns-then-not-entry-clause-found
 returns-then-not-entry-clause-found c =
-    finds_changed (known (goal.at.returns-then-not-entry-clause-found c).After-best_of) c.in_default-best_of.ensures c.if-not-entry.true _ c.become_unchanged.ensures
+    finds_changed (known (goal.at.returns-then-not-entry-clause-found c).After-best_of) c.in_default-best_of.ensures.best c.if-not-entry.true _ c.become_unchanged.ensures
 
 pub returns-then-is_for_zero-clause-found : goal.returns-then-is_for_zero-clause-found
 returns-then-is_for_zero-clause-found c =
-    finds_zero (known (goal.at.returns-then-is_for_zero-clause-found c).After-best_of) c.in_default-best_of.ensures c.if-not-entry.false (sym c.if-is_for_zero.ensures)
+    finds_zero (known (goal.at.returns-then-is_for_zero-clause-found c).After-best_of) c.in_default-best_of.ensures.best c.if-not-entry.false (sym c.if-is_for_zero.ensures)
 
 pub invariant_of-self-then-eq : goal.invariant_of-self-then-eq
 invariant_of-self-then-eq c =
-    lawful_waits (known (goal.at.invariant_of-self-then-eq c).After-best_of) c.in_default-best_of.ensures c.if-not-entry.false
+    lawful_waits (known (goal.at.invariant_of-self-then-eq c).After-best_of) c.in_default-best_of.ensures.best c.if-not-entry.false
     (sym c.if-is_for_zero.ensures) c.meet-other.ensures.met c.meet-other.ensures.again (sym c.if-eq.ensures)
     c.meet-other.ensures.kept c.meet-other.ensures.added c.remember.new.rows (c.remember.ensures ∙ c.wait.ensures)
 
 pub returns-then-eq-clause-found : goal.returns-then-eq-clause-found
 returns-then-eq-clause-found c =
-    finds_waits (known (goal.at.returns-then-eq-clause-found c).After-best_of) c.in_default-best_of.ensures c.if-not-entry.false
+    finds_waits (known (goal.at.returns-then-eq-clause-found c).After-best_of) c.in_default-best_of.ensures.best c.if-not-entry.false
     (sym c.if-is_for_zero.ensures) c.meet-other.ensures.met c.meet-other.ensures.again (sym c.if-eq.ensures)
     c.meet-other.ensures.kept c.meet-other.ensures.added c.remember.new.rows (c.remember.ensures ∙ c.wait.ensures)
 
 pub returns-clause-found : goal.returns-clause-found
 returns-clause-found c =
-    finds_partner (known (goal.at.returns-clause-found c).After-best_of) c.in_default-best_of.ensures c.if-not-entry.false
+    finds_partner (known (goal.at.returns-clause-found c).After-best_of) c.in_default-best_of.ensures.best c.if-not-entry.false
     (sym c.if-is_for_zero.ensures) c.meet-other.ensures.met c.meet-other.ensures.again (sym c.if-eq.ensures)
 
 pub returns-in_err-group-clause-restless : goal.returns-in_err-group-clause-restless
