@@ -1,5 +1,5 @@
 -- The index over dups: what it finds, and how it stays with a change of items and with a dup that goes.
-use Rattle.ksm_tree.proofs.Names.{[], All, All-filter, All-weaker, AllPairs-filter, ap, AreIndexed, arith, Bool, bytes_eq, cases_Bool, change_at, change_items, content_in, content_of, Dup, dup_at, dup_of, DupRow, dups_seen, DupsState, eqb-true, false, false≢true, filter, find, find_nothing, find_passes, get, get_or, Group, group_places, GuestPage, has_number, if◌then◌else◌, in_group, Index, inl, InPlaceOrder, inr, is_some, IsRegrouped, length, List, nat_tests, None, none-some, not, number_of, Option, option_map, pairs_head, pairs_tail, place_of, places_in, places_of, refl, row_place, rows_of, same_Some, SlotsState, Some, stands_at, sym, Tells, true, under, without, without_place, ℕ, ◌&&◌, ◌<◌, ◌==◌, ◌∙◌, ◌∷◌, ◌≡◌}
+use Rattle.ksm_tree.proofs.Names.{[], All, All-filter, All-weaker, AllPairs-filter, ap, AreIndexed, arith, Bool, bytes_eq, cases_Bool, change_at, change_items, content_in, content_of, Dup, dup_at, dup_of, DupRow, dups_seen, DupsState, eqb-true, false, false≢true, filter, find, find_nothing, find_passes, get, get_or, Group, group_places, GuestPage, has_number, if◌then◌else◌, in_group, Index, inl, InPlaceOrder, inr, is_some, items_in, IsRegrouped, length, List, nat_tests, None, none-some, not, number_of, Option, option_map, pairs_head, pairs_tail, place_of, places_in, places_of, refl, row_place, rows_of, same_Some, SlotsState, Some, stands_at, sym, Tells, true, under, without, without_place, ℕ, ◌&&◌, ◌<◌, ◌==◌, ◌∙◌, ◌∷◌, ◌≡◌}
 use Rattle.ksm_tree.proofs.Alike.{chosen, find_alike}
 use Rattle.ksm_tree.proofs.Grouped.{chains_kept, dups_kept, more_there, totals_moved, totals_tell}
 use Rattle.ksm_tree.proofs.Keys.{own_group, self_group}
@@ -23,33 +23,13 @@ place_of_row (Some e) = refl
 row_placed : (q : ℕ) (dups : List Dup) → row_place q (rows_of dups) ≡ option_map (λ d. d.row.place) (dup_of q dups)
 row_placed q dups = ap (option_map (λ r. r.place)) (sym (row_found (has_number q) (λ r. r.number == q) (λ d. refl) dups)) ∙ place_of_row (dup_of q dups)
 
--- where the dup with a number stands at a place
-module _ (q p : ℕ) (dups : List Dup) (rise : InPlaceOrder (rows_of dups)) (is : Some p ≡ option_map (λ d. d.row.place) (dup_of q dups)) where
-  -- where the place of a number is told, a search by the number finds the dup at that place
-  pub placed_found : dup_of q dups ≡ dup_at p dups
-  placed_found = number_place_found q p dups rise (row_placed q dups ∙ sym is)
+-- where the place of a number is told, a search by the number finds the dup at that place
+pub placed_found : (q p : ℕ) (dups : List Dup) → InPlaceOrder (rows_of dups) → Some p ≡ option_map (λ d. d.row.place) (dup_of q dups) → dup_of q dups ≡ dup_at p dups
+placed_found q p dups rise is = number_place_found q p dups rise (row_placed q dups ∙ sym is)
 
-  -- where the place of a number is told, a change of the number's items is a change of those at the place
-  pub placed_changed : (f : List GuestPage → List GuestPage) → change_items q f dups ≡ change_at p f dups
-  placed_changed f = number_place_changed q p f dups rise (row_placed q dups ∙ sym is)
-
-  -- where the place of a number is told, a dup is found at that place
-  pub placed_there : is_some (dup_at p dups) ≡ true
-  placed_there = ap is_some (sym placed_found) ∙ dup_some (dup_of q dups) (sym is)
-
--- the place that callers see of a number is that of the dup inside
-pub placed_inside : (q p : ℕ) (s : SlotsState) (next : ℕ) (index : Index) (seen : DupsState) → dups_seen s next index ≡ seen → Some p ≡ option_map (λ d. d.row.place) (dup_of q seen.dups) → Some p ≡ option_map (λ d. d.row.place) (dup_of q s.dups)
-placed_inside q p s next index seen view is = is ∙ sym (ap (λ v. option_map (λ d. d.row.place) (dup_of q v.dups)) view)
-
--- where no dup has a number
-module _ (q : ℕ) (dups : List Dup) (none : None ≡ option_map (λ d. d.row.place) (dup_of q dups)) where
-  -- where no place of a number is told, no dup has that number
-  pub unplaced_found : dup_of q dups ≡ None
-  unplaced_found = no_place (dup_of q dups) none
-
-  -- where no place of a number is told, a change of the number's items changes no dup
-  pub unplaced_changed : (f : List GuestPage → List GuestPage) → dups ≡ change_items q f dups
-  unplaced_changed f = unchanged_items q f dups unplaced_found
+-- where no place of a number is told, a change of the number's items changes no dup
+pub unplaced_changed : (q : ℕ) (dups : List Dup) → None ≡ option_map (λ d. d.row.place) (dup_of q dups) → (f : List GuestPage → List GuestPage) → dups ≡ change_items q f dups
+unplaced_changed q dups none f = unchanged_items q f dups (no_place (dup_of q dups) none)
 
 module _ (s : SlotsState) (next : ℕ) (index : Index) (h : AreIndexed s next index) where
   -- the index gives for each number the place of its dup
@@ -71,6 +51,27 @@ module _ (s : SlotsState) (next : ℕ) (index : Index) (h : AreIndexed s next in
         numbered = λ q. h.numbered q ∙ ap (row_place q) (sym same);
         grouped = λ t b. h.grouped t b ∙ ap (group_places t b) (sym same);
       }
+
+-- where callers are told the place of a number
+module _ (q p : ℕ) (s : SlotsState) (next : ℕ) (index : Index) (seen : DupsState) (h : AreIndexed s next index) (view : dups_seen s next index ≡ seen) (is : Some p ≡ option_map (λ d. d.row.place) (dup_of q seen.dups)) where
+  is_inside : Some p ≡ option_map (λ d. d.row.place) (dup_of q s.dups)
+  is_inside = is ∙ sym (ap (λ v. option_map (λ d. d.row.place) (dup_of q v.dups)) view)
+
+  -- a dup stands at that place
+  pub told_there : is_some (dup_at p s.dups) ≡ true
+  told_there = ap is_some (sym (placed_found q p s.dups h.lawful.in_place_order is_inside)) ∙ dup_some (dup_of q s.dups) (sym is_inside)
+
+  -- the items at that place are those of the number
+  pub told_items : items_in (dup_at p s.dups) ≡ items_in (dup_of q seen.dups)
+  told_items =
+      ap items_in (sym (placed_found q p s.dups h.lawful.in_place_order is_inside)) ∙ ap (λ v. items_in (dup_of q v.dups)) view
+
+  -- a change of the items at that place is seen as a change of the number's items
+  pub told_changed : (f : List GuestPage → List GuestPage) → dups_seen (record { places = s.places; dups = change_at p f s.dups }) next index ≡ record seen { dups = change_items q f seen.dups }
+  told_changed f =
+      let changed = number_place_changed q p f s.dups h.lawful.in_place_order (row_placed q s.dups ∙ sym is_inside) in
+      (λ i. record (dups_seen s next index) { dups = sym changed i })
+      ∙ ap {A = DupsState} {B = DupsState} (λ v. record v { dups = change_items q f v.dups }) view
 
 -- the group under the number of a tree and bytes is of these, and has the places of their dups
 module _ (s : SlotsState) (next : ℕ) (index : Index) (h : AreIndexed s next index) (tree : ℕ) (bytes : List ℕ) where

@@ -20,7 +20,7 @@ pub use Rattle.ksm_rmap.proofs.Pages.{pages_ordered}
 pub use Rattle.ksm_rmap.specs.Items.{has_item, with_item, without_item}
 pub use Rattle.ksm_tree.specs.Bridge.{AreCounted, AreTied, let_out, place_in}
 pub use Rattle.ksm_tree.specs.Choosing.{ArePlacesToJoin, best_of, choice_of, chosen, empty_place, found_at, is_behind, is_best, is_no_rival, is_no_worse, may_join, of_group, unless_behind}
-pub use Rattle.ksm_tree.specs.CountedSets.{IsMarked}
+pub use Rattle.ksm_tree.specs.CountedSets.{IsMarked, MayBeMarked}
 pub use Rattle.ksm_tree.specs.Counts.{AreCounts, is_open, places_where}
 pub use Rattle.ksm_tree.specs.Dups.{AreDups, change_items, dup_at, dup_of, DupsState, has_number, is_live, is_stale, items_in, places_open, rows_of, stands_at, with_new, without_place}
 pub use Rattle.ksm_tree.specs.Grouping.{AreGroups, content_in, IsIdle, places_in, waits_in}

@@ -1,5 +1,5 @@
 -- What the words of a set, and their summary, say of its numbers.
-use Rattle.ksm_tree.proofs.Names.{ap, arith, bit_at, bit_at-zero, bit_at_above, bit_at_clear_other, bit_at_clear_same, bit_at_set_other, bit_at_set_same, bit_and, bit_or, cases_eq, cases_lt, eqb-true, get_or, get_or-set_other, get_or-set_same, get_or_past, has, HasNoBit, HasNone, inl, inr, IsLeast, IsLowestBit, IsSummed, length, length-set, List, Marks, nat_tests, ne_eqb, not, set, shr-shr, sym, true, w64, ℕ, ◌%◌, ◌*◌, ◌+◌, ◌-◌, ◌/◌, ◌<◌, ◌==◌, ◌^◌, ◌∙◌, ◌≡◌, ◌≢◌, ◌≤◌}
+use Rattle.ksm_tree.proofs.Names.{ap, arith, bit_at, bit_at-zero, bit_at_above, bit_at_clear_other, bit_at_clear_same, bit_at_set_other, bit_at_set_same, bit_and, bit_or, cases_eq, cases_lt, eqb-true, false, get_or, get_or-set_other, get_or-set_same, get_or_past, has, HasNoBit, HasNone, inl, inr, IsLeast, IsLowestBit, IsSummed, length, length-set, List, Marks, nat_tests, ne_eqb, not, set, shr-shr, sym, true, w64, ℕ, ◌%◌, ◌*◌, ◌+◌, ◌-◌, ◌/◌, ◌<◌, ◌==◌, ◌^◌, ◌∙◌, ◌≡◌, ◌≢◌, ◌≤◌}
 
 -- a word in which a bit is set is not 0
 some_bit : (word i : ℕ) → bit_at word i ≡ 1 → word ≢ 0
@@ -101,7 +101,7 @@ module _ (words : List ℕ) where
         (λ v below apart. bit_at_clear_other w64 summary w low v below apart)
 
 -- a word that has a number's bit as it is to be, and keeps its other bits, marks that number
-pub marks_put : (words : List ℕ) (number word bit : ℕ) → number < 64 * length words → bit_at word (number % 64) ≡ bit → ((i : ℕ) → i < 64 → i ≢ number % 64 → bit_at word i ≡ bit_at (get_or words (number / 64) 0) i) → Marks words (set words (number / 64) word) number (bit == 1)
+marks_put : (words : List ℕ) (number word bit : ℕ) → number < 64 * length words → bit_at word (number % 64) ≡ bit → ((i : ℕ) → i < 64 → i ≢ number % 64 → bit_at word i ≡ bit_at (get_or words (number / 64) 0) i) → Marks words (set words (number / 64) word) number (bit == 1)
 marks_put words number word bit room here others =
     let at : number / 64 < length words = omega (arith, room) in
     record {
@@ -115,6 +115,19 @@ marks_put words number word bit room here others =
         | inr other ↦ ap (λ w. bit_at w (n % 64) == 1) (get_or-set_other words (number / 64) (n / 64) word 0 other)
       ];
     }
+
+module _ (words : List ℕ) (number : ℕ) (room : number < 64 * length words) where
+  -- a number's bit that is set marks it as there
+  pub marks_more : Marks words (set words (number / 64) (bit_or (get_or words (number / 64) 0) (1 * 2 ^ (number % 64) % 18446744073709551616))) number true
+  marks_more =
+      marks_put words number _ 1 room (bit_at_set_same w64 _ (number % 64) (omega arith))
+      (λ i _ apart. bit_at_set_other w64 _ (number % 64) (omega arith) i apart)
+
+  -- a number's bit that is cleared marks it as not there
+  pub marks_less : Marks words (set words (number / 64) (bit_and (get_or words (number / 64) 0) (18446744073709551615 - 1 * 2 ^ (number % 64) % 18446744073709551616))) number false
+  marks_less =
+      marks_put words number _ 0 room (bit_at_clear_same w64 _ (number % 64) (omega arith))
+      (λ i low apart. bit_at_clear_other w64 _ (number % 64) (omega arith) i low apart)
 
 -- a bit of a word that is shifted is a higher bit of the word
 bit_of_rest : (word from i : ℕ) → bit_at (word / 2 ^ from) i ≡ bit_at word (from + i)

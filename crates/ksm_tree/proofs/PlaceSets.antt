@@ -1,5 +1,5 @@
 -- The places whose slots pass a test, as a set: what a change of one slot does to it.
-use Rattle.ksm_tree.proofs.Names.{ap, arith, Bool, cases_eq, cond, count_by-le-length, CountedSet, Dup, get_or, get_or-le-sum_by, get_or-set_other, get_or-set_same, has, inl, inr, IsMarked, IsSetOf, length, length-set, List, None, Option, refl, set, sum_by-set, sym, true, ℕ, ◌*◌, ◌+◌, ◌<◌, ◌∙◌, ◌≡◌, ◌≤◌}
+use Rattle.ksm_tree.proofs.Names.{ap, arith, Bool, cases_eq, cond, count_by-le-length, CountedSet, Dup, get_or, get_or-le-sum_by, get_or-set_other, get_or-set_same, has, inl, inr, IsMarked, IsSetOf, length, length-set, List, MayBeMarked, None, Option, refl, set, sum_by-set, sym, ℕ, ◌+◌, ◌<◌, ◌∙◌, ◌≡◌, ◌≤◌}
 
 module _ (test : Option Dup → Bool) (slots : List (Option Dup)) (p : ℕ) (s : Option Dup) (within : p < length slots) where
   -- the set once a slot is put, and its place marked as the slot passes
@@ -27,17 +27,12 @@ module _ (test : Option Dup → Bool) (slots : List (Option Dup)) (p : ℕ) (s :
         count = ap (λ b. places.count + cond b 1 0) here;
       }) h
 
-module _ (test : Option Dup → Bool) (slots : List (Option Dup)) (places : CountedSet) (h : IsSetOf test slots places) where
-  -- there is room in the set for the place of a slot
-  pub set_room : (p : ℕ) → p < length slots → p < 64 * length places.set
-  set_room p within = omega (arith, h.room, within)
-
-  -- where a place is in the set, it is counted
-  pub set_some : (p : ℕ) → p < length slots → has places.set p ≡ true → 1 ≤ places.count
-  set_some p within there =
+-- the place of a slot may be marked
+pub may_be_marked : (test : Option Dup → Bool) (slots : List (Option Dup)) (places : CountedSet) (p : ℕ) → IsSetOf test slots places → length slots ≤ 1024 → p < length slots → MayBeMarked places p
+may_be_marked test slots places p h few within = record {
+  room = omega (arith, h.room, within);
+  few = omega (arith, few, h.count, count_by-le-length test slots);
+  counted = λ there.
       let one = ap (λ b. cond {A = ℕ} b 1 0) (sym (h.each p within) ∙ there) in
-      omega (arith, one, h.count, get_or-le-sum_by (λ t. cond (test t) 1 0) slots p None within)
-
-  -- no more places are counted than there are slots
-  pub set_few : places.count ≤ length slots
-  set_few = omega (arith, h.count, count_by-le-length test slots)
+      omega (arith, one, h.count, get_or-le-sum_by (λ t. cond (test t) 1 0) slots p None within);
+}

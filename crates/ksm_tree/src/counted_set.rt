@@ -1,7 +1,6 @@
 //! A set of places with how many they are.
-ghost use Rattle.std.specs.Prelude.{◌≡◌, ◌*◌, ◌<◌, ◌≤◌, true, false, length};
-ghost use Rattle.ksm_tree.specs.CountedSets.{IsMarked};
-ghost use Rattle.ksm_tree.specs.NumberSets.{has};
+ghost use Rattle.std.specs.Prelude.{true, false};
+ghost use Rattle.ksm_tree.specs.CountedSets.{IsMarked, MayBeMarked};
 
 use crate::number_set::NumberSet;
 
@@ -13,11 +12,10 @@ pub struct CountedSet {
 }
 
 impl CountedSet {
-    /// Puts a place into the set. There is room for its bit.
+    /// Puts a place into the set, if it is not there.
     #[inline(always)]
     pub fn add(&mut self, place: u32)
-        requires room { place < 64 * length self.old.set }
-        requires few { self.old.count ≤ 1024 }
+        requires { MayBeMarked self.old place }
         ensures { IsMarked self.old self.new place true }
     {
         if !self.set.contains(place) {
@@ -26,11 +24,10 @@ impl CountedSet {
         }
     }
 
-    /// Takes a place out of the set. There is room for its bit.
+    /// Takes a place out of the set, if it is there.
     #[inline(always)]
     pub fn remove(&mut self, place: u32)
-        requires room { place < 64 * length self.old.set }
-        requires counted { has self.old.set place ≡ true → 1 ≤ self.old.count }
+        requires { MayBeMarked self.old place }
         ensures { IsMarked self.old self.new place false }
     {
         if self.set.contains(place) {

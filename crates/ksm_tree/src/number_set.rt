@@ -34,7 +34,7 @@ impl NumberSet {
     {
         NumberSet {
             words: [u64::MAX; WORDS],
-            summary: 0xffff,
+            summary: (1 << WORDS) - 1,
         }
     }
 

@@ -1,5 +1,5 @@
-use Rattle.ksm_tree.proofs.Names.{ap, arith, bit_at_set_other, bit_at_set_same, length, w64, ◌%◌, ◌/◌}
-use Rattle.ksm_tree.proofs.NumberBits.{marks_put, summed_more}
+use Rattle.ksm_tree.proofs.Names.{ap, arith, length, ◌%◌, ◌/◌}
+use Rattle.ksm_tree.proofs.NumberBits.{marks_more, summed_more}
 use Rattle.ksm_tree.proofs.number_set.NumberSet.add.Goals as goal
 
 pub invariant_of-self : goal.invariant_of-self
@@ -9,6 +9,4 @@ invariant_of-self c =
 
 pub returns : goal.returns
 returns c =
-    rw (← c.self.view_is) (marks_put c.self.inside.words c.args.number _ 1 (omega (arith, c.requires, ap length c.self.view_is))
-    (bit_at_set_same w64 _ (c.args.number % 64) (omega arith))
-    (λ i _ apart. bit_at_set_other w64 _ (c.args.number % 64) (omega arith) i apart))
+    rw (← c.self.view_is) (marks_more c.self.inside.words c.args.number (omega (arith, c.requires, ap length c.self.view_is)))

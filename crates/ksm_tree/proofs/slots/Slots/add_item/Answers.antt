@@ -1,6 +1,6 @@
 use Rattle.ksm_tree.proofs.Names.{ap, arith, false, is_stale_slot, length, sym, with_item, ◌∙◌, ◌≡◌}
 use Rattle.ksm_tree.proofs.OneSlot.{count_within, HoldsDup, holds_dup, seen_within, slot_not_none, grown_not_stale, slots_kept, slots_marked, view_changed, was_live}
-use Rattle.ksm_tree.proofs.PlaceSets.{set_room, set_some}
+use Rattle.ksm_tree.proofs.PlaceSets.{may_be_marked}
 use Rattle.ksm_tree.proofs.slots.Slots.add_item.Goals as goal
 use Rattle.ksm_tree.proofs.slots.Slots.add_item.Goals.{In-Some}
 
@@ -33,10 +33,7 @@ pub remove-requires : goal.remove-requires
 remove-requires c =
     let s = c.self.inside in
     let within = (here (goal.at.remove-requires c).In-Some).within in
-    record {
-      room = set_room is_stale_slot s.dups.items s.stale c.self.invariant.stales c.args.place within;
-      counted = set_some is_stale_slot s.dups.items s.stale c.self.invariant.stales c.args.place within;
-    }
+    may_be_marked is_stale_slot s.dups.items s.stale c.args.place c.self.invariant.stales c.self.invariant.few within
 
 pub invariant_of-self-then-count-eq1 : goal.invariant_of-self-then-count-eq1
 invariant_of-self-then-count-eq1 c =

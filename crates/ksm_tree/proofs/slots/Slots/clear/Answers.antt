@@ -1,6 +1,6 @@
 use Rattle.ksm_tree.proofs.Names.{ap, arith, is_empty_slot, is_stale_slot, length-set, None, without_place, ◌∙◌}
 use Rattle.ksm_tree.proofs.OneSlot.{count_within, seen_within, slot_emptied, slots_cleared}
-use Rattle.ksm_tree.proofs.PlaceSets.{set_few, set_room, set_some}
+use Rattle.ksm_tree.proofs.PlaceSets.{may_be_marked}
 use Rattle.ksm_tree.proofs.slots.Slots.clear.Goals as goal
 
 pub set-requires : goal.set-requires
@@ -17,19 +17,13 @@ pub remove-requires : goal.remove-requires
 remove-requires c =
     let s = c.self.inside in
     let within = seen_within c.args.place s.dups.items c.args.self.now c.self.view_is c.self.invariant.placed c.requires in
-    record {
-      room = set_room is_stale_slot s.dups.items s.stale c.self.invariant.stales c.args.place within;
-      counted = set_some is_stale_slot s.dups.items s.stale c.self.invariant.stales c.args.place within;
-    }
+    may_be_marked is_stale_slot s.dups.items s.stale c.args.place c.self.invariant.stales c.self.invariant.few within
 
 pub add-requires : goal.add-requires
 add-requires c =
     let s = c.self.inside in
     let within = seen_within c.args.place s.dups.items c.args.self.now c.self.view_is c.self.invariant.placed c.requires in
-    record {
-      room = set_room is_empty_slot s.dups.items s.empty c.self.invariant.empties c.args.place within;
-      few = omega (arith, set_few is_empty_slot s.dups.items s.empty c.self.invariant.empties, c.self.invariant.few);
-    }
+    may_be_marked is_empty_slot s.dups.items s.empty c.args.place c.self.invariant.empties c.self.invariant.few within
 
 pub invariant_of-self : goal.invariant_of-self
 invariant_of-self c =

@@ -1,25 +1,19 @@
 use Rattle.ksm_tree.proofs.Names.{ap, arith, is_empty_slot, is_stale_slot, length, ◌<◌}
 use Rattle.ksm_tree.proofs.OneSlot.{seen_put, slots_put}
-use Rattle.ksm_tree.proofs.PlaceSets.{set_room, set_some}
+use Rattle.ksm_tree.proofs.PlaceSets.{may_be_marked}
 use Rattle.ksm_tree.proofs.slots.Slots.put.Goals as goal
 
 pub remove-requires : goal.remove-requires
 remove-requires c =
     let s = c.self.inside in
     let within : c.args.dup.row.place < length s.dups.items = omega (arith, ap (λ s. s.places) c.self.view_is, c.requires.place) in
-    record {
-      room = set_room is_empty_slot s.dups.items s.empty c.self.invariant.empties c.args.dup.row.place within;
-      counted = set_some is_empty_slot s.dups.items s.empty c.self.invariant.empties c.args.dup.row.place within;
-    }
+    may_be_marked is_empty_slot s.dups.items s.empty c.args.dup.row.place c.self.invariant.empties c.self.invariant.few within
 
 pub remove-requires-2 : goal.remove-requires-2
 remove-requires-2 c =
     let s = c.self.inside in
     let within : c.args.dup.row.place < length s.dups.items = omega (arith, ap (λ s. s.places) c.self.view_is, c.requires.place) in
-    record {
-      room = set_room is_stale_slot s.dups.items s.stale c.self.invariant.stales c.args.dup.row.place within;
-      counted = set_some is_stale_slot s.dups.items s.stale c.self.invariant.stales c.args.dup.row.place within;
-    }
+    may_be_marked is_stale_slot s.dups.items s.stale c.args.dup.row.place c.self.invariant.stales c.self.invariant.few within
 
 pub invariant_of-self : goal.invariant_of-self
 invariant_of-self c =

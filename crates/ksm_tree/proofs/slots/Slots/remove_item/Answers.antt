@@ -1,6 +1,6 @@
 use Rattle.ksm_tree.proofs.Names.{ap, arith, change_at, eq-eqb, false, is_stale_slot, length, ne_eqb, set, slots_seen, Some, sym, true, without_item, ◌==◌, ◌∙◌, ◌≡◌}
 use Rattle.ksm_tree.proofs.OneSlot.{count_within, had_item, HoldsDup, holds_dup, not_taken, seen_within, slot_not_none, slots_kept, slots_marked, slots_same, view_changed}
-use Rattle.ksm_tree.proofs.PlaceSets.{set_few, set_room}
+use Rattle.ksm_tree.proofs.PlaceSets.{may_be_marked}
 use Rattle.ksm_tree.proofs.slots.Slots.remove_item.Goals as goal
 use Rattle.ksm_tree.proofs.slots.Slots.remove_item.Goals.{After-remove, In-Some}
 
@@ -34,10 +34,7 @@ seen c here =
 pub add-requires : goal.add-requires
 add-requires c =
     let s = c.self.inside in
-    record {
-      room = set_room is_stale_slot s.dups.items s.stale c.self.invariant.stales c.args.place (here (goal.at.add-requires c).In-Some).within;
-      few = omega (arith, set_few is_stale_slot s.dups.items s.stale c.self.invariant.stales, c.self.invariant.few);
-    }
+    may_be_marked is_stale_slot s.dups.items s.stale c.args.place c.self.invariant.stales c.self.invariant.few (here (goal.at.add-requires c).In-Some).within
 
 pub invariant_of-self : goal.invariant_of-self
 invariant_of-self c =
