@@ -1,5 +1,5 @@
 -- Options that are mapped.
-use Rattle.ksm_pages.proofs.Names.{None, none-some, Option, option_map, refl, same_Some, Some, sym, ◌≡◌}
+use Rattle.ksm_pages.proofs.Names.{ap, MatchOption, None, none-some, Option, option_map, refl, same_Some, Some, sym, ◌≡◌}
 use Rattle.std.specs.Option.{is_some}
 
 -- an option is full once it is mapped exactly where it was full
@@ -21,3 +21,8 @@ mapped_some f (Some x) y some = (x, refl, same_Some (f x) y some)
 pub mapped_twice : {X Y Z : Type 0} (f : Y → Z) (g : X → Y) (o : Option X) → option_map f (option_map g o) ≡ option_map (λ x. f (g x)) o
 mapped_twice f g None = refl
 mapped_twice f g (Some x) = refl
+
+-- where an option tells whether another is full, and with what, it is full exactly where that is
+pub both_full : {X Y : Type 0} (f : X → Y) (o : Option X) (p : Option Y) → MatchOption o (p ≡ None) (λ x. p ≡ Some (f x)) → is_some o ≡ is_some p
+both_full f None p is = sym (ap is_some is)
+both_full f (Some x) p is = sym (ap is_some is)

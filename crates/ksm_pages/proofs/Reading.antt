@@ -1,9 +1,8 @@
 -- What is read of the rows along their order.
-use Rattle.ksm_pages.proofs.Names.{after_cursor, Ahead, ahead_of, All, All-filter, ap, ap₂, AreAscending, AreFiled, At, Bool, comes_before, ComesTo, count_by, End, Entry, filter, find, find_all, get, get_or, GuestPage, Held, held_at, held_in, held_under, is_some, key_in, last_or, length, length-map, List, map, Named, None, Option, option_map, option_or, pages_ahead, passed_to, Reaches, refl, Row, rows_of, same_page, Slab, slice_get, slice_get-map, Some, subst, sym, ℕ, ◌&&◌, ◌-◌, ◌<◌, ◌∙◌, ◌≡◌}
-use Rattle.ksm_pages.proofs.Options.{some_mapped}
+use Rattle.ksm_pages.proofs.Names.{after_cursor, Ahead, ahead_of, All, All-filter, ap, ap₂, AreAscending, AreFiled, At, Bool, comes_before, ComesTo, count_by, End, Entry, filter, find, find_all, get, get_or, GuestPage, Held, held_in, held_under, last_or, length, length-map, List, map, Named, None, Option, option_map, option_or, pages_ahead, passed_to, Reaches, refl, Row, rows_of, Slab, slice_get, slice_get-map, Some, subst, sym, ℕ, ◌&&◌, ◌-◌, ◌<◌, ◌∙◌, ◌≡◌}
 use Rattle.ksm_pages.specs.Ordered.{last_or as last_named}
 use Rattle.ksm_tree.proofs.Alike.{count_mapped, filter_mapped, find_mapped, map_mapped}
-use Rattle.ksm_pages.proofs.Filing.{all_stand, flag_under, held_found, page_under}
+use Rattle.ksm_pages.proofs.Filing.{all_stand, flag_under, page_under}
 
 abbrev page_of : Named → GuestPage
 page_of n = n.page
@@ -32,13 +31,6 @@ module _ (pass : ℕ) (slab : Slab Entry) (order : List Named) (rise : AreAscend
   -- the rows, one for each page of the order
   rows_by : rows_of (held_in pass slab order) ≡ map row_by order
   rows_by = map_mapped (λ (h : Held). h.row) (λ n. held_under pass (get slab n.key)) row_by order (λ k d lt. refl)
-
-  -- a page has a row exactly where it has a key in the order
-  pub known_by : (page : GuestPage) → is_some (held_at page (held_in pass slab order)) ≡ is_some (key_in order page)
-  known_by page =
-      ap is_some (held_found slab order rise filed pass page)
-      ∙ some_mapped (λ (n : Named). held_under pass (get slab n.key)) (find (λ n. same_page n.page page) order)
-      ∙ sym (some_mapped (λ (n : Named). n.key) (find (λ n. same_page n.page page) order))
 
   -- the first page that passes a test is the same in the rows and in the order
   pub page_found : (test : GuestPage → Bool) → option_map (λ r. r.page) (find (λ r. test r.page) (rows_of (held_in pass slab order))) ≡ option_map page_of (find (λ n. test n.page) order)

@@ -73,8 +73,8 @@ impl Pages {
           restless = self.new.restless;
         } }
     {
-        // Mostly the row lies where that was guessed, and is Private, so in nothing: then nothing is written between the
-        // look at it and the store.
+        // Mostly the row lies where that was guessed, and is Private, so in nothing: then nothing is written between
+        // the look at it and the store.
         if let Some(entry) = self.rows.at(spot) {
             if let PageState::Private = entry.state(self.rows.pass()) {
                 self.rows.store(spot, bytes);

@@ -39,7 +39,8 @@ impl Pages {
     pub fn has(&self, page: GuestPage) -> bool
         ensures { result ≡ is_some (row_at page self.now.rows) }
     {
-        self.rows.spot(page).is_some()
+        let key = self.rows.guess(page);
+        self.rows.find(Spot { page, key }).is_some()
     }
 
     /// Where a page lies, and where it is at home; none where it has no row.
@@ -66,8 +67,8 @@ impl Pages {
     pub fn ticket(&self, page: GuestPage) -> Option<u32>
         ensures { result ≡ option_and_then (λ r. place_of r.state self.now.dups) (row_at page self.now.rows) }
     {
-        let spot = self.rows.spot(page)?;
-        let entry = self.rows.find(spot)?;
+        let key = self.rows.guess(page);
+        let entry = self.rows.find(Spot { page, key })?;
         match entry.kind {
             Kind::Merged => place_of(&self.dups, entry.at, entry.number),
             Kind::Own => None,

@@ -186,18 +186,6 @@ impl Rows {
         self.keys.at(slot_of(page)) as usize
     }
 
-    /// A page with the key of its row, if it has one.
-    pub fn spot(&self, page: GuestPage) -> Option<Spot>
-        ensures known { is_some result ≡ is_some (held_at page self.now.held) }
-        ensures page { IfSome result (λ spot. spot.page ≡ page) }
-    {
-        let key = self.guess(page);
-        match key_of(&self.entries, &self.order, Spot { page, key }) {
-            Some(key) => Some(Spot { page, key }),
-            None => None,
-        }
-    }
-
     /// The number of the pass: a row waits exactly where its number is this one, and it has a frame of its own.
     #[inline(always)]
     pub fn pass(&self) -> u64

@@ -7,7 +7,7 @@ ghost use Rattle.ksm_base.specs.declared.row.PageState.TheVariants.{Merged, Priv
 ghost use Rattle.ksm_base.specs.Rows.{all_zero as has_only_zeroes, change_row, merged_into};
 ghost use Rattle.ksm_pages.specs.declared.pages.Find.TheVariants as finds;
 ghost use Rattle.ksm_pages.specs.Paged.{Finds, HasRoom, HasRow, IsAlone, MayPair, is_restless, lies_on};
-ghost use Rattle.ksm_pages.specs.Paged.{paired as are_paired, seen, visited};
+ghost use Rattle.ksm_pages.specs.Paged.{paired as are_paired, seen};
 
 use crate::left::{leave, left_by};
 use crate::pages::{Find, Glance, Pages};
@@ -94,7 +94,9 @@ impl Pages {
             return Ok(Find::Dup(best));
         }
         if !entry.unchanged {
-            self.become_unchanged(spot, group);
+            let pass = self.rows.pass();
+            left_by(&mut self.dups, &self.frames, &self.knobs, entry, pass);
+            self.rows.become_unchanged(spot, group);
             return Ok(Find::Changed);
         }
         if is_for_zero(&self.knobs, &entry.bytes) {
@@ -183,24 +185,5 @@ impl Pages {
         let left = leave(&mut self.dups, &self.frames, &self.knobs, &self.rows, spot);
         self.rows.become_zero(spot);
         left
-    }
-
-    // A page with a frame of its own is Private and unchanged from now on. The number of its group is remembered.
-    fn become_unchanged(&mut self, spot: Spot, group: u32)
-        requires { IsAlone spot.page self.old.rows }
-        ensures { seen self.new
-            ≡ visited spot.page (λ r. record r { unchanged = true; state = Private }) (seen self.old) }
-    {
-        let Some(entry) = self.rows.find(spot) else {
-            return;
-        };
-        left_by(
-            &mut self.dups,
-            &self.frames,
-            &self.knobs,
-            entry,
-            self.rows.pass(),
-        );
-        self.rows.become_unchanged(spot, group);
     }
 }

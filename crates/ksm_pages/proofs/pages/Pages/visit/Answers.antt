@@ -1,4 +1,8 @@
-use Rattle.ksm_pages.proofs.Names.{sym, ◌∙◌}
+use Rattle.ksm_pages.proofs.Names.{ap, held_of, Private, refl, Row, RowsView, seen, settled, Some, sym, true, ◌∙◌}
+use Rattle.ksm_pages.specs.Paged.{visited}
+use Rattle.ksm_pages.proofs.Leaving.{view_of}
+use Rattle.ksm_pages.proofs.Resting.{rests}
+use Rattle.ksm_pages.proofs.Turning.{Comes, found_left, held_as, rested}
 use Rattle.ksm_tree.proofs.Numbers.{on_err}
 use Rattle.ksm_pages.proofs.Visiting.{IsAsked, asked, finds_changed, finds_dup, finds_gone, finds_none, finds_partner, finds_waits, finds_zero, is_alone, is_seen_restless, lawful_waits}
 use Rattle.ksm_pages.proofs.pages.Pages.visit.Goals as goal
@@ -23,13 +27,34 @@ pub returns-in-Some-best_of-clause-found : goal.returns-in-Some-best_of-clause-f
 returns-in-Some-best_of-clause-found c =
     finds_dup (known (goal.at.returns-in-Some-best_of-clause-found c).After-best_of) c.in-Some-best_of.best c.in-Some-best_of.ensures.best
 
-pub become_unchanged-requires : goal.become_unchanged-requires
-become_unchanged-requires c = is_alone c.self.inside c.self.invariant c.args.spot.page c.in-Some.entry.now c.in-Some.ensures
-    (sym c.if-not-is_restless.ensures)
+abbrev kept : Row → Row
+kept r = record (settled r) { unchanged = true }
+
+abbrev found : Row → Row
+found r = record r { unchanged = true; state = Private }
+
+-- the page of a row that was not unchanged rests, and is unchanged
+went : (c : goal.After-become_unchanged)
+    → IsAsked (record c.self.inside { dups = c.group.new.self }) c.args.self.now c.args.spot.page c.in-Some.entry.now c.in_ok-group.group
+    → let s = record c.self.inside { dups = c.group.new.self } in
+    Comes s c.become_unchanged.new.self c.left_by.new.dups (visited c.args.spot.page found (seen (view_of s)))
+went c it =
+    let s = record c.self.inside { dups = c.group.new.self } in
+    let row = (held_of c.pass-pass.result c.in-Some.entry.now).row in
+    let there = it.found ∙ ap (λ n. Some (held_of n c.in-Some.entry.now)) (sym c.pass-pass.ensures) in
+    rested (found_left {s = s} {p = view_of s} it.lawful refl there c.left_by.ensures) c.become_unchanged.new.self
+    (ap (λ (r : RowsView). r.restless) c.become_unchanged.ensures)
+    kept found (λ r. refl) (λ r. refl) (is_alone s it.lawful c.args.spot.page c.in-Some.entry.now it.found it.restless)
+    (λ alone i. record row { unchanged = true; state = rests row.state alone i })
+    (held_as c.become_unchanged.ensures)
+
+pub invariant_of-self-then-not-entry : goal.invariant_of-self-then-not-entry
+invariant_of-self-then-not-entry c = (went c (known (goal.at.invariant_of-self-then-not-entry c).After-best_of)).lawful
 
 pub returns-then-not-entry-clause-found : goal.returns-then-not-entry-clause-found
 returns-then-not-entry-clause-found c =
-    finds_changed (known (goal.at.returns-then-not-entry-clause-found c).After-best_of) c.in_default-best_of.ensures.best c.if-not-entry.true _ c.become_unchanged.ensures
+    let it = known (goal.at.returns-then-not-entry-clause-found c).After-best_of in
+    finds_changed it c.in_default-best_of.ensures.best c.if-not-entry.true _ (went c it).told_as
 
 pub returns-then-is_for_zero-clause-found : goal.returns-then-is_for_zero-clause-found
 returns-then-is_for_zero-clause-found c =
