@@ -1,5 +1,6 @@
 -- What an audit answers (own).
-use Rattle.std.specs.Prelude.{◌≡◌, ◌==◌, ℕ, ◌⊎◌, ◌+◌, ◌<◌, ◌≤◌, if◌then◌else◌, List, [], ◌∷◌, ◌++◌, length, slice_get, Some, Result, Ok, Err}
+use Rattle.std.specs.Prelude.{◌≡◌, ◌==◌, ℕ, ◌⊎◌, ◌+◌, ◌<◌, ◌≤◌, if◌then◌else◌, List, [], ◌∷◌, ◌++◌, length, slice_get}
+use Rattle.std.specs.Prelude.{Some, Result, Ok, Err}
 use Rattle.std.specs.Global.{Vec}
 use Rattle.std.specs.List.{AllZip}
 use Rattle.ksm_base.specs.declared.shape.Shape.{Shape}
@@ -37,7 +38,8 @@ Gains v w = (lines : List Line) × Made v lines w
 
 -- what the pass did meanwhile has a whole lookup of the place that ended with this row
 abbrev pub Shows : ℕ → Row → PassView → PassView → Type 0
-Shows place row v w = (before here after : ReaderLog) × (w.log ≡ v.log ++ (before ++ (here ++ after))) × IsLookup v.table.shape place row here
+Shows place row v w = (before here after : ReaderLog) × (w.log ≡ v.log ++ (before ++ (here ++ after)))
+    × IsLookup v.table.shape place row here
 
 -- R holds of the elements of two lists at some place
 abbrev pub SomeZip : {A B : Type 0} → (A → B → Type 0) → List A → List B → Type 0
@@ -45,8 +47,8 @@ SomeZip R [] ys = ⊥
 SomeZip R (x ∷ xs) [] = ⊥
 SomeZip R (x ∷ xs) (y ∷ ys) = R x y ⊎ SomeZip R xs ys
 
--- The passes come back in their order. Each place was loaded once meanwhile, and no other. There is a row for each place, in order, which a
--- lookup of that place by one of the passes shows
+-- The passes come back in their order. Each place was loaded once meanwhile, and no other. There is a row for each
+-- place, in order, which a lookup of that place by one of the passes shows
 pub record Audited (sh : Shape) (passes : List PassView) (rows : List Row) (back : List PassView) : Type 0 where
   pub gain : AllZip Gains passes back
   pub once : (p : ℕ) → loads_of p back ≡ loads_of p passes + once_below p (frames_of sh)
@@ -64,7 +66,8 @@ passes_of (Ok answer) = answer.1
 passes_of (Err (Memory back)) = back
 passes_of (Err (Gate back place)) = back
 
--- why there is no report: memory was refused, and the passes did nothing, or the gate refused a place that it may refuse
+-- why there is no report: memory was refused, and the passes did nothing, or the gate refused a place that it may
+-- refuse
 abbrev pub Faulted : (ℕ → Type 0) → Shape → List PassView → AuditFault → Type 0
 Faulted may sh passes (Memory back) = back.items ≡ passes
 Faulted may sh passes (Gate back place) = Stopped sh passes back.items × (place < frames_of sh) × may place

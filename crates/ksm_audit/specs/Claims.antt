@@ -1,5 +1,7 @@
--- Places that workers claim, each once: what the claim word and the views of its seats have in common, and what a claim tells (own).
-use Rattle.std.specs.Prelude.{◌≡◌, ◌==◌, ℕ, ◌+◌, ◌-◌, ◌^◌, ◌<◌, ◌≤◌, max, if◌then◌else◌, List, [], ◌∷◌, ◌++◌, length, slice_index, ltb}
+-- Places that workers claim, each once: what the claim word and the views of its seats have in common, and what a claim
+-- tells (own).
+use Rattle.std.specs.Prelude.{◌≡◌, ◌==◌, ℕ, ◌+◌, ◌-◌, ◌^◌, ◌<◌, ◌≤◌, max, if◌then◌else◌, List, [], ◌∷◌, ◌++◌, length}
+use Rattle.std.specs.Prelude.{slice_index, ltb}
 use mathlib.Core.Option.{some}
 use lib.ListN.{get_elem?}
 use Rattle.atomic_table.specs.Table.{State, Me, Step}
@@ -56,7 +58,8 @@ pub record Fits (deal : Deal) (word : ℕ) (v : Hand) : Type 0 where
   pub empty : v.parts ≡ 0 → v.drawn ≡ []
   pub same : 0 < v.parts → v.deal ≡ deal
 
--- What was drawn are the numbers below the word, each once. The word does not wrap: it is past the places by as many as were drawn in vain
+-- What was drawn are the numbers below the word, each once. The word does not wrap: it is past the places by as many as
+-- were drawn in vain
 pub record IsDealt (deal : Deal) (words : List ℕ) (views : List Hand) : Type 0 where
   pub size : length words ≡ 1
   pub small : deal.places + (deal.workers + 1) < 2 ^ 64
@@ -68,8 +71,8 @@ pub record IsDealt (deal : Deal) (words : List ℕ) (views : List Hand) : Type 0
 abbrev pub Dealt : {S : Type 0} → Deal → State S Hand → Type 0
 Dealt deal s = IsDealt deal s.words s.views
 
--- The number found was drawn, and is not below any that this seat drew before. With every part of the right, what was drawn before are
--- all numbers below the one found, each once
+-- The number found was drawn, and is not below any that this seat drew before. With every part of the right, what was
+-- drawn before are all numbers below the one found, each once
 abbrev pub Draws : {S : Type 0} → Step S → Me S Hand → ℕ → Me S Hand → Type 0
 Draws s m found w =
     (w ≡ (drew m.0 found, m.1))

@@ -38,7 +38,8 @@ AreInside count lines = (x : ℕ) → count ≤ x → times x (places_of lines) 
 
 -- each row is that of a lookup of its place, or as it was, and then there was none
 abbrev pub Fills : List Line → List Row → List Row → Type 0
-Fills lines before after = (p : ℕ) (row : Row) → slice_get after p ≡ Some row → InLines p row lines ⊎ ((times p (places_of lines) ≡ 0) × (slice_get before p ≡ Some row))
+Fills lines before after = (p : ℕ) (row : Row) → slice_get after p ≡ Some row → InLines p row lines
+    ⊎ ((times p (places_of lines) ≡ 0) × (slice_get before p ≡ Some row))
 
 -- the worker's seat can be taken back, and so can its pass
 pub record IsThrough (claims : TableId) (j : Job) : Type 0 where

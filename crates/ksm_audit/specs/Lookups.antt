@@ -15,7 +15,8 @@ abbrev pub word_loads : ℕ → List ℕ → ReaderLog
 word_loads i [] = []
 word_loads i (w ∷ ws) = (LoadWord i, w) ∷ word_loads (i + 1) ws
 
--- each word of the page was read in this hold, in order; one that had been read in it before has the value that was read then
+-- each word of the page was read in this hold, in order; one that had been read in it before has the value that was
+-- read then
 pub record ReadsPage (v : HeldView) (bytes : List ℕ) (w : HeldView) : Type 0 where
   pub width : length bytes ≡ PAGE_WORDS
   pub hold : w ≡ record v { log = v.log ++ word_loads 0 bytes; known = w.known }
@@ -24,7 +25,8 @@ pub record ReadsPage (v : HeldView) (bytes : List ℕ) (w : HeldView) : Type 0 w
 
 -- the steps of one lookup of the place, which ends with this row: a hold reads each word and is left
 abbrev pub IsLookup : Shape → ℕ → Row → ReaderLog → Type 0
-IsLookup sh place (Found generation bytes) log = (first : ReaderLog) × (frame back : ℕ) × (length bytes ≡ PAGE_WORDS) × IsFound sh place frame generation first × (log ≡ first ++ (word_loads 0 bytes ++ (Leave, back) ∷ []))
+IsLookup sh place (Found generation bytes) log = (first : ReaderLog) × (frame back : ℕ) × (length bytes ≡ PAGE_WORDS)
+    × IsFound sh place frame generation first × (log ≡ first ++ (word_loads 0 bytes ++ (Leave, back) ∷ []))
 IsLookup sh place (Gone Vacant) log = IsVacant place log
 IsLookup sh place (Gone Zero) log = IsZero sh place log
 IsLookup sh place (Gone Generation) log = IsOld sh place log

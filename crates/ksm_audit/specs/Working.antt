@@ -39,7 +39,8 @@ places_of lines = map (λ (l : Line). l.place) lines
 -- whole lookups, one after another: of each line its place and its row
 abbrev pub AreLookups : Shape → List Line → ReaderLog → Type 0
 AreLookups sh [] log = log ≡ []
-AreLookups sh (l ∷ ls) log = (here rest : ReaderLog) × (log ≡ here ++ rest) × IsLookup sh l.place l.row here × AreLookups sh ls rest
+AreLookups sh (l ∷ ls) log =
+    (here rest : ReaderLog) × (log ≡ here ++ rest) × IsLookup sh l.place l.row here × AreLookups sh ls rest
 
 -- the pass made these lookups
 abbrev pub Made : PassView → List Line → PassView → Type 0
@@ -50,10 +51,11 @@ abbrev pub Answers : (ℕ → Type 0) → ℕ → PassView → List Line → Opt
 Answers may place v lines refused w lines' refused' =
     ((refused' ≡ refused) × (w ≡ v) × (lines' ≡ lines) × ((at : ℕ) × (refused ≡ Some at)))
     ⊎ (((refused' ≡ Some place) × (w ≡ v) × (lines' ≡ lines) × may place)
-    ⊎ ((refused ≡ None) × (refused' ≡ None) × ((row : Row) × (lines' ≡ lines ++ line place row ∷ []) × Visits v place row w)))
+    ⊎ ((refused ≡ None) × (refused' ≡ None)
+    × ((row : Row) × (lines' ≡ lines ++ line place row ∷ []) × Visits v place row w)))
 
--- What a worker has drawn, the places that it looked up, and whether the gate has refused: it looked up what it drew, or a part of that once
--- the gate has refused
+-- What a worker has drawn, the places that it looked up, and whether the gate has refused: it looked up what it drew,
+-- or a part of that once the gate has refused
 pub record Keeps (count : ℕ) (places : List ℕ) (refused : Option ℕ) (m : Sat) : Type 0 where
   pub held : m.1 ≡ []
   pub parts : m.0.parts ≡ 1

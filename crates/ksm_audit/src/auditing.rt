@@ -37,7 +37,8 @@ fn work_all<R: Threads + Sync, G: Gate + Sync>(
     requires deal { claims.now.key.places ≡ frames_of table.now.shape }
     requires some { 0 < length jobs.old }
     requires ready { All (λ j. IsReady claims.now.table_id claims.now.key table.now j) jobs.old }
-    ensures { (k : ℕ) (d : Job) → k < length jobs.old → Works claims.now.table_id table.now (G.may_refuse gate.now) (slice_index_or jobs.old k d) (slice_index_or jobs.new k d) }
+    ensures { (k : ℕ) (d : Job) → k < length jobs.old → Works claims.now.table_id table.now (G.may_refuse gate.now)
+        (slice_index_or jobs.old k d) (slice_index_or jobs.new k d) }
 {
     let threads = jobs.len();
     for_each_mut(
@@ -50,8 +51,9 @@ fn work_all<R: Threads + Sync, G: Gate + Sync>(
 
 /// Looks every place up once, by one worker for each pass, and says how each lookup ended.
 ///
-/// Workers run in threads of their own; one whose thread can't be started runs in the caller's. The passes come back in the order in which
-/// they were handed in, in their vector, and none of them holds. All memory is taken before the first lookup.
+/// Workers run in threads of their own; one whose thread can't be started runs in the caller's. The passes come back in
+/// the order in which they were handed in, in their vector, and none of them holds. All memory is taken before the
+/// first lookup.
 pub fn audit<N: Naming, R: Threads + Sync, G: Gate + Sync>(
     rt: &R,
     alloc: Global,

@@ -1,7 +1,8 @@
 //! The gate: what stands before each lookup of an audit, and is told after it.
 ghost use Rattle.std.specs.Prelude.{◌≡◌, ℕ, IsFalse};
 
-/// What stands before each lookup of an audit, and is told after it. Workers, which are numbered from 0, ask it from their own threads.
+/// What stands before each lookup of an audit, and is told after it. Workers, which are numbered from 0, ask it from
+/// their own threads.
 pub trait Gate {
     /// The places that it may refuse.
     ghost may_refuse: { Self → ℕ → Type 0 };

@@ -1,9 +1,11 @@
 //! What the workers found, put together.
-ghost use Rattle.std.specs.Prelude.{◌≡◌, ℕ, ◌+◌, ◌<◌, ◌≤◌, [], ◌++◌, IsNone, All, Any, Some, length, vec_len, vec_capacity, slice_get};
+ghost use Rattle.std.specs.Prelude.{◌≡◌, ℕ, ◌+◌, ◌<◌, ◌≤◌, [], ◌++◌, IsNone, All, Any, Some, length, vec_len};
+ghost use Rattle.std.specs.Prelude.{vec_capacity, slice_get};
 ghost use Rattle.ksm_audit.specs.declared.report.Row.{Row};
 ghost use Rattle.ksm_audit.specs.Claims.{once_below, times};
 ghost use Rattle.ksm_audit.specs.Working.{places_of};
-ghost use Rattle.ksm_audit.specs.Gathering.{loaded, drawn_total, lines_total, InJobs, Fills, IsThrough, AllBelow, AreInside};
+ghost use Rattle.ksm_audit.specs.Gathering.{loaded, drawn_total, lines_total, InJobs, Fills, IsThrough, AllBelow};
+ghost use Rattle.ksm_audit.specs.Gathering.{AreInside};
 
 use crate::claims::{Back, ClaimSeat, ClaimWord, Draw};
 use crate::job::{Job, Line};
@@ -23,7 +25,8 @@ fn fill_from(lines: &[Line], rows: &mut [Row])
 /// Each line of each worker gives its place its row.
 pub(crate) fn fill(jobs: &[Job], rows: &mut [Row])
     requires inside { All (λ j. AreInside (length rows.old) j.lines.items) jobs.now }
-    ensures { (p : ℕ) (row : Row) → slice_get rows.new p ≡ Some row → 0 < lines_total p jobs.now → InJobs p row jobs.now }
+    ensures { (p : ℕ) (row : Row) → slice_get rows.new p ≡ Some row → 0 < lines_total p jobs.now
+        → InJobs p row jobs.now }
 {
     for job in jobs {
         fill_from(job.lines.as_slice(), rows);
@@ -43,8 +46,8 @@ pub(crate) fn refusal(jobs: &[Job]) -> Option<u32>
     None
 }
 
-/// Takes the workers' seats and passes back, and draws once more: whoever has all seats learns by it that what was drawn are all numbers below
-/// this one, each once.
+/// Takes the workers' seats and passes back, and draws once more: whoever has all seats learns by it that what was
+/// drawn are all numbers below this one, each once.
 pub(crate) fn unload(
     claims: &ClaimWord,
     own: &mut ClaimSeat,
@@ -52,7 +55,8 @@ pub(crate) fn unload(
     passes: &mut Vec<Pass>,
 ) -> u64
     requires words { (own.old.table_id ≡ claims.now.table_id) × (0 < claims.now.table_id.words) }
-    requires rest { (own.old.me.0.parts + vec_len jobs ≡ own.old.me.0.deal.workers + 1) × (own.old.me.0.past < own.old.me.0.parts) × (own.old.me.0.drawn ≡ []) × (own.old.me.1 ≡ []) }
+    requires rest { (own.old.me.0.parts + vec_len jobs ≡ own.old.me.0.deal.workers + 1)
+        × (own.old.me.0.past < own.old.me.0.parts) × (own.old.me.0.drawn ≡ []) × (own.old.me.1 ≡ []) }
     requires through { All (IsThrough claims.now.table_id) jobs.items }
     requires room { vec_len passes.old + vec_len jobs ≤ vec_capacity passes.old }
     ensures passes { passes.new.items ≡ passes.old.items ++ loaded jobs.items }

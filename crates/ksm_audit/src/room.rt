@@ -11,8 +11,8 @@ use crate::report::Row;
 use frame_table::{FrameTable, Pass};
 use std::alloc::{AllocError, Global};
 
-/// All that an audit needs of memory: the claim word, its first seat, an empty list with room for the workers, an empty list of lines for
-/// each, and a row for each place.
+/// All that an audit needs of memory: the claim word, its first seat, an empty list with room for the workers, an empty
+/// list of lines for each, and a row for each place.
 pub(crate) struct Room {
     pub claims: ClaimTable,
     pub own: ClaimSeat,
@@ -35,8 +35,10 @@ fn empty_lists(alloc: Global, workers: usize, places: usize) -> Result<Vec<Vec<L
 impl Room {
     pub(crate) fn take(alloc: Global, workers: usize, places: u32) -> Result<Room, AllocError>
         requires { workers < 2 ^ 63 }
-        ensures claims { IfOk result (λ r. (r.own.table_id ≡ r.claims.shared.table_id) × (0 < r.claims.shared.table_id.words)) }
-        ensures deal { IfOk result (λ r. (r.claims.shared.key.places ≡ places) × (r.claims.shared.key.workers ≡ workers)) }
+        ensures claims { IfOk result
+            (λ r. (r.own.table_id ≡ r.claims.shared.table_id) × (0 < r.claims.shared.table_id.words)) }
+        ensures deal { IfOk result
+            (λ r. (r.claims.shared.key.places ≡ places) × (r.claims.shared.key.workers ≡ workers)) }
         ensures whole { IfOk result (λ r. r.own.me ≡ (first_hand r.claims.shared.key, [])) }
         ensures jobs { IfOk result (λ r. (r.jobs.items ≡ []) × (workers ≤ vec_capacity r.jobs)) }
         ensures lists { IfOk result (λ r. (vec_len r.lists ≡ workers) × All (IsEmpty places) r.lists.items) }
@@ -68,7 +70,8 @@ pub(crate) fn load(
 )
     requires words { (own.old.table_id ≡ claims.now.table_id) × (0 < claims.now.table_id.words) }
     requires whole { own.old.me ≡ (first_hand claims.now.key, []) }
-    requires deal { (claims.now.key.places ≡ frames_of table.now.shape) × (claims.now.key.workers ≡ vec_len passes.old) }
+    requires deal { (claims.now.key.places ≡ frames_of table.now.shape)
+        × (claims.now.key.workers ≡ vec_len passes.old) }
     requires passes { All (λ p. p.table ≡ table.now) passes.old.items }
     requires lists { (vec_len lists ≡ vec_len passes.old) × All (IsEmpty (frames_of table.now.shape)) lists.items }
     requires jobs { (jobs.old.items ≡ []) × (vec_len passes.old ≤ vec_capacity jobs.old) }

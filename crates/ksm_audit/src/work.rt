@@ -41,7 +41,8 @@ fn answer<G: Gate>(
     requires inside { place < frames_of table.now.shape }
     requires room { vec_len lines.old < vec_capacity lines.old }
     ensures room { vec_capacity lines.new ≡ vec_capacity lines.old }
-    ensures answers { Answers (G.may_refuse gate.now) place pass lines.old.items refused.old result lines.new.items refused.new }
+    ensures answers { Answers (G.may_refuse gate.now) place pass lines.old.items refused.old
+        result lines.new.items refused.new }
 {
     if refused.is_some() {
         return pass;
@@ -56,7 +57,8 @@ fn answer<G: Gate>(
     pass
 }
 
-// Tells the gate of a place. The pass that looked it up is back, so nothing is held, and this lookup is the last that it made.
+// Tells the gate of a place. The pass that looked it up is back, so nothing is held, and this lookup is the last that
+// it made.
 fn tell<G: Gate>(gate: &G, worker: u32, place: u32, pass: &Pass)
     requires looked_up { (before : PassView) × (row : Row) × Visits before place row pass.now }
 {

@@ -1,11 +1,13 @@
 -- The names that lines begin with, and what the words behind them stand for (own).
-use Rattle.std.specs.Prelude.{ℕ, ◌≤◌, Bool, List, [], ◌∷◌, length, map, Option, Some, None, codes, bytes_eq, if◌then◌else◌}
+use Rattle.std.specs.Prelude.{ℕ, ◌≤◌, Bool, List, [], ◌∷◌, length, map, Option, Some, None, codes, bytes_eq}
+use Rattle.std.specs.Prelude.{if◌then◌else◌}
 use Rattle.std.specs.Char.{to_ascii_lowercase}
 use Rattle.std.specs.List.{list_any}
 use Rattle.std.specs.Option.{is_some}
 use denote.Ref.{Bor}
 use Rattle.ksm_lines.specs.declared.line.Line.{Line}
-use Rattle.ksm_lines.specs.declared.knob.Knob.TheVariants.{Run, PagesToScan, MergeAcrossNodes, MaxPageSharing, UseZeroPages}
+use Rattle.ksm_lines.specs.declared.knob.Knob.TheVariants.{Run, PagesToScan, MergeAcrossNodes, MaxPageSharing}
+use Rattle.ksm_lines.specs.declared.knob.Knob.TheVariants.{UseZeroPages}
 use Rattle.ksm_lines.specs.declared.knob.Shown.TheVariants.{ZeroPages}
 use Rattle.ksm_lines.specs.Grammar.{Writes}
 use Rattle.ksm_lines.specs.Knobs.{knob_name, shown_name}

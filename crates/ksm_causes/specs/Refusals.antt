@@ -1,7 +1,9 @@
 -- The sentences that say why a line was refused (own).
 use Rattle.std.specs.Prelude.{ℕ, List, [], ◌∷◌, Option, None, Some, codes, decimal, option_map}
 use Rattle.std.specs.List.{concat}
-use Rattle.ksm_base.specs.declared.fault.Fault.TheVariants.{Memory, UnknownPage, AlreadyRegistered, NoFrame, NotRunning, SharedPages, BadValue, InUse, CrossesNodes, UnknownPlace, BadNode}
+use Rattle.ksm_base.specs.declared.fault.Fault.TheVariants.{Memory, UnknownPage, AlreadyRegistered, NoFrame, NotRunning}
+use Rattle.ksm_base.specs.declared.fault.Fault.TheVariants.{SharedPages, BadValue, InUse, CrossesNodes, UnknownPlace}
+use Rattle.ksm_base.specs.declared.fault.Fault.TheVariants.{BadNode}
 use Rattle.ksm_script.specs.declared.refusal.Refusal.{Refusal}
 use Rattle.ksm_script.specs.declared.refusal.Refusal.TheVariants.{Book, NoPass, Holding, NotHolding}
 use Rattle.ksm_script.specs.declared.reply.LineReply.{LineReply}
@@ -36,5 +38,6 @@ why_refused NotHolding = codes "the pass holds no frame"
 abbrev pub refused_text : ℕ → List ℕ → Refusal → List ℕ
 refused_text number line refusal =
     concat (
-    codes "line " ∷ decimal number ∷ codes ", refused " ∷ decimal (refusal_number refusal) ∷ codes ": " ∷ why_refused refusal
+    codes "line " ∷ decimal number ∷ codes ", refused " ∷ decimal (refusal_number refusal)
+    ∷ codes ": " ∷ why_refused refusal
     ∷ codes ": " ∷ shortened line ∷ codes "\n" ∷ [])

@@ -1,5 +1,6 @@
 -- The sentences that say why a line is bad (own).
-use Rattle.std.specs.Prelude.{ℕ, ◌-◌, ◌*◌, ◌/◌, ◌%◌, false, nat_lt, List, [], ◌∷◌, length, drop, take, codes, decimal, slice_index, if◌then◌else◌}
+use Rattle.std.specs.Prelude.{ℕ, ◌-◌, ◌*◌, ◌/◌, ◌%◌, false, nat_lt, List, [], ◌∷◌, length, drop, take, codes, decimal}
+use Rattle.std.specs.Prelude.{slice_index, if◌then◌else◌}
 use Rattle.std.specs.Fmt.{digit_glyph}
 use Rattle.std.specs.Str.{is_utf8}
 use Rattle.std.specs.List.{concat}
@@ -10,7 +11,11 @@ use Rattle.ksm_causes.specs.declared.part.Number.TheVariants.{Guest, Page, Node,
 use Rattle.ksm_causes.specs.declared.part.Part.{Part}
 use Rattle.ksm_causes.specs.declared.part.Part.TheVariants.{Number, Content, Knob, Shown}
 use Rattle.ksm_causes.specs.declared.cause.Cause.{Cause}
-use Rattle.ksm_causes.specs.declared.cause.Cause.TheVariants.{LongLine, SpaceBefore, TwoSpaces, SpaceAfter, Tab, CarriageReturn, OtherByte, Comment, Capital, UnknownName, Missing, OneWordMore, Sign, LeadingZero, NotANumber, TooLarge, NotHexadecimal, ContentLength, UnknownKnob, UnknownShown, CounterSet}
+use Rattle.ksm_causes.specs.declared.cause.Cause.TheVariants.{LongLine, SpaceBefore, TwoSpaces, SpaceAfter, Tab}
+use Rattle.ksm_causes.specs.declared.cause.Cause.TheVariants.{CarriageReturn, OtherByte, Comment, Capital, UnknownName}
+use Rattle.ksm_causes.specs.declared.cause.Cause.TheVariants.{Missing, OneWordMore, Sign, LeadingZero, NotANumber}
+use Rattle.ksm_causes.specs.declared.cause.Cause.TheVariants.{TooLarge, NotHexadecimal, ContentLength, UnknownKnob}
+use Rattle.ksm_causes.specs.declared.cause.Cause.TheVariants.{UnknownShown, CounterSet}
 use Rattle.ksm_causes.specs.declared.cause.Trouble.{Trouble}
 use Rattle.ksm_causes.specs.Troubles.{most}
 

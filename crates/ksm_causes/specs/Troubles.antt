@@ -1,5 +1,6 @@
 -- Why a line is bad: of its words, read from left to right, the first that can't stand there (own).
-use Rattle.std.specs.Prelude.{ℕ, ◌+◌, ◌*◌, Bool, true, false, not, ◌&&◌, ◌||◌, ◌==◌, nat_lt, List, [], ◌∷◌, length, drop, Option, Some, None, option_map, position, slice_index, if◌then◌else◌}
+use Rattle.std.specs.Prelude.{ℕ, ◌+◌, ◌*◌, Bool, true, false, not, ◌&&◌, ◌||◌, ◌==◌, nat_lt, List, [], ◌∷◌, length}
+use Rattle.std.specs.Prelude.{drop, Option, Some, None, option_map, position, slice_index, if◌then◌else◌}
 use Rattle.std.specs.Char.{is_ascii_digit, is_ascii_graphic, is_ascii_hexdigit}
 use Rattle.std.specs.List.{list_all}
 use Rattle.std.specs.Option.{option_or}
@@ -11,7 +12,11 @@ use Rattle.ksm_causes.specs.declared.part.Number.TheVariants.{Guest, Visits}
 use Rattle.ksm_causes.specs.declared.part.Part.{Part}
 use Rattle.ksm_causes.specs.declared.part.Part.TheVariants.{Number, Content, Knob, Shown}
 use Rattle.ksm_causes.specs.declared.cause.Cause.{Cause}
-use Rattle.ksm_causes.specs.declared.cause.Cause.TheVariants.{LongLine, SpaceBefore, TwoSpaces, SpaceAfter, Tab, CarriageReturn, OtherByte, Comment, Capital, UnknownName, Missing, OneWordMore, Sign, LeadingZero, NotANumber, TooLarge, NotHexadecimal, ContentLength, UnknownKnob, UnknownShown, CounterSet}
+use Rattle.ksm_causes.specs.declared.cause.Cause.TheVariants.{LongLine, SpaceBefore, TwoSpaces, SpaceAfter, Tab}
+use Rattle.ksm_causes.specs.declared.cause.Cause.TheVariants.{CarriageReturn, OtherByte, Comment, Capital, UnknownName}
+use Rattle.ksm_causes.specs.declared.cause.Cause.TheVariants.{Missing, OneWordMore, Sign, LeadingZero, NotANumber}
+use Rattle.ksm_causes.specs.declared.cause.Cause.TheVariants.{TooLarge, NotHexadecimal, ContentLength, UnknownKnob}
+use Rattle.ksm_causes.specs.declared.cause.Cause.TheVariants.{UnknownShown, CounterSet}
 use Rattle.ksm_causes.specs.declared.cause.Trouble.{Trouble}
 use Rattle.ksm_causes.specs.Forms.{forms, parts_in, is_name, is_knob, is_counter, lowered}
 
@@ -75,7 +80,8 @@ shown_cause word =
 abbrev pub part_trouble : Part → ℕ → List ℕ → Option Trouble
 part_trouble (Number number) column word = option_map (at column) (number_cause number word)
 part_trouble Content column word =
-    option_or (byte_trouble is_ascii_hexdigit (λ byte. NotHexadecimal) column word) (option_map (at column) (length_cause word))
+    option_or (byte_trouble is_ascii_hexdigit (λ byte. NotHexadecimal) column word)
+    (option_map (at column) (length_cause word))
 part_trouble Knob column word = option_map (at column) (knob_cause word)
 part_trouble Shown column word = option_map (at column) (shown_cause word)
 

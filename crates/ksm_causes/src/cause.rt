@@ -54,7 +54,8 @@ pub enum Cause {
 /// What is wrong with a line.
 #[derive(Clone, Copy)]
 pub struct Trouble {
-    /// The column of the first byte that is wrong, counted in bytes from 1; of a word that is missing, the one behind the line.
+    /// The column of the first byte that is wrong, counted in bytes from 1; of a word that is missing, the one behind
+    /// the line.
     pub column: usize,
     /// Why it is wrong.
     pub cause: Cause,

@@ -5,7 +5,8 @@ ghost use Rattle.ksm_lines.specs.Grammar.{words_of};
 ghost use Rattle.ksm_lines.specs.Reading.{words_left};
 ghost use Rattle.ksm_causes.specs.Forms.{IsGood, forms, parts_in};
 ghost use Rattle.ksm_causes.specs.Sizes.{left_length};
-ghost use Rattle.ksm_causes.specs.Troubles.{is_empty, missing_trouble, space_trouble, parts_trouble, named_trouble, words_trouble, trouble_of};
+ghost use Rattle.ksm_causes.specs.Troubles.{is_empty, missing_trouble, space_trouble, parts_trouble, named_trouble};
+ghost use Rattle.ksm_causes.specs.Troubles.{words_trouble, trouble_of};
 
 use crate::cause::{Cause, Trouble};
 use crate::part::{Number, Part, parts_of};

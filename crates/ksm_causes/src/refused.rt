@@ -7,7 +7,8 @@ use ksm_base::Fault;
 use ksm_script::{LineReply, Refusal};
 use std::fmt::{self, Display, Formatter, Write};
 
-/// A line that was refused, with its number. Its text is one line: `line 7, refused 4: no frame of node 0 is free: put 0 0 bb`.
+/// A line that was refused, with its number. Its text is one line:
+/// `line 7, refused 4: no frame of node 0 is free: put 0 0 bb`.
 #[derive(Drop)]
 pub struct Refused<'a> {
     number: u64,
@@ -18,7 +19,8 @@ pub struct Refused<'a> {
 impl<'a> Refused<'a> {
     /// The line of this number, if its reply is a refusal or tells of one that stopped it.
     pub fn of(number: u64, line: &'a [u8], reply: &LineReply) -> Option<Refused<'a>>
-        ensures refused { IfSome result (λ told. (told.number ≡ number) × (told.line.now ≡ line.now) × (refusal_in reply.now ≡ Some told.refusal)) }
+        ensures refused { IfSome result
+            (λ told. (told.number ≡ number) × (told.line.now ≡ line.now) × (refusal_in reply.now ≡ Some told.refusal)) }
         ensures other { IfNone result (refusal_in reply.now ≡ None) }
     {
         let refusal = refusal_in(reply)?;

@@ -2,7 +2,8 @@
 ghost use Rattle.std.specs.Prelude.{◌≡◌, ◌-◌, IfSome, IfNone, Some, drop, take, slice_index};
 ghost use Rattle.ksm_lines.specs.Grammar.{words_of};
 ghost use Rattle.ksm_causes.specs.Forms.{IsGood};
-ghost use Rattle.ksm_causes.specs.Sentences.{bad_line_text, first_word, hexadecimal, number_noun, part_noun, quote_of, quoted_word, sentence_of, shortened, text_in};
+ghost use Rattle.ksm_causes.specs.Sentences.{bad_line_text, first_word, hexadecimal, number_noun, part_noun, quote_of};
+ghost use Rattle.ksm_causes.specs.Sentences.{quoted_word, sentence_of, shortened, text_in};
 ghost use Rattle.ksm_causes.specs.Troubles.{trouble_of};
 
 use crate::cause::{Cause, Trouble};
@@ -14,7 +15,8 @@ use std::fmt::{self, Display, Formatter, Write};
 /// A word that is quoted is cut behind so many bytes.
 const LONGEST_QUOTE: usize = 32;
 
-/// A bad line, with its number. Its text is one line, which says where and why: `line 7, column 5: a number with a leading zero: 00`.
+/// A bad line, with its number. Its text is one line, which says where and why:
+/// `line 7, column 5: a number with a leading zero: 00`.
 #[derive(Drop)]
 pub struct BadLine<'a> {
     number: u64,
@@ -25,7 +27,8 @@ pub struct BadLine<'a> {
 impl<'a> BadLine<'a> {
     /// The line of this number, if it is bad.
     pub fn of(number: u64, line: &'a [u8]) -> Option<BadLine<'a>>
-        ensures bad { IfSome result (λ bad. (bad.number ≡ number) × (bad.line.now ≡ line.now) × (trouble_of line.now ≡ Some bad.trouble)) }
+        ensures bad { IfSome result
+            (λ bad. (bad.number ≡ number) × (bad.line.now ≡ line.now) × (trouble_of line.now ≡ Some bad.trouble)) }
         ensures good { IfNone result (IsGood line.now) }
     {
         let trouble = cause_of(line)?;

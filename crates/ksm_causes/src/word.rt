@@ -1,5 +1,6 @@
 //! Why a word can't stand where it stands.
-ghost use Rattle.std.specs.Prelude.{◌≡◌, ◌+◌, ◌<◌, ◌≤◌, ◌∷◌, ◌||◌, ◌==◌, true, not, length, position, nat_lt, option_map, bytes_eq, IfSome};
+ghost use Rattle.std.specs.Prelude.{◌≡◌, ◌+◌, ◌<◌, ◌≤◌, ◌∷◌, ◌||◌, ◌==◌, true, not, length, position, nat_lt};
+ghost use Rattle.std.specs.Prelude.{option_map, bytes_eq, IfSome};
 ghost use Rattle.std.specs.Char.{is_ascii_digit, is_ascii_graphic, is_ascii_hexdigit};
 ghost use Rattle.std.specs.List.{list_all};
 ghost use Rattle.std.specs.Str.Parse.{digits_value};
@@ -8,7 +9,9 @@ ghost use Rattle.ksm_lines.specs.Grammar.{words_of};
 ghost use Rattle.ksm_lines.specs.Reading.{words_left};
 ghost use Rattle.ksm_causes.specs.declared.part.Part.TheVariants.{Content as content};
 ghost use Rattle.ksm_causes.specs.Forms.{is_knob, is_counter, lowered};
-ghost use Rattle.ksm_causes.specs.Troubles.{at, are_digits, is_signed, has_leading_zero, strange_cause, strange_trouble, number_cause, length_cause, knob_cause, shown_cause, part_trouble, word_trouble, name_cause};
+ghost use Rattle.ksm_causes.specs.Troubles.{at, are_digits, is_signed, has_leading_zero, strange_cause};
+ghost use Rattle.ksm_causes.specs.Troubles.{strange_trouble, number_cause, length_cause, knob_cause, shown_cause};
+ghost use Rattle.ksm_causes.specs.Troubles.{part_trouble, word_trouble, name_cause};
 ghost use Rattle.ksm_causes.specs.Sizes.{left_length};
 
 use crate::cause::{Cause, Trouble};

@@ -3,3 +3,4 @@ pub mod Read
 pub mod Seen
 pub mod Told
 pub mod Values
+pub mod Waiting

@@ -1,5 +1,6 @@
 -- What the calls of a book say: those of ksm_book, with their answers as numbers (own).
-use Rattle.std.specs.Prelude.{◌≡◌, ◌<◌, ◌≤◌, ◌+◌, ◌*◌, ◌^◌, ℕ, [], List, length, take, drop, map, Option, Some, None, Result, Ok, Err}
+use Rattle.std.specs.Prelude.{◌≡◌, ◌<◌, ◌≤◌, ◌+◌, ◌*◌, ◌^◌, ℕ, [], List, length, take, drop, map, Option, Some, None}
+use Rattle.std.specs.Prelude.{Result, Ok, Err}
 use Rattle.ksm_base.specs.declared.command.Command.{Command}
 use Rattle.ksm_base.specs.declared.counters.Counters.{Counters}
 use Rattle.ksm_base.specs.declared.fault.Fault.{Fault}
@@ -26,17 +27,19 @@ use Rattle.ksm_ffi.specs.declared.request.Made.{Made}
 
 -- the opening book, in the frames of a keeper that has made no step, with no journal
 abbrev pub IsOpening : Shape → JournaledBook → Type 0
-IsOpening sh b = (v : KeeperView) × IsNewOf sh v × (unjournaled b ≡ record { state = opening sh; frame = nowhere; keeper = v }) × (b.journal ≡ [])
+IsOpening sh b = (v : KeeperView) × IsNewOf sh v
+    × (unjournaled b ≡ record { state = opening sh; frame = nowhere; keeper = v }) × (b.journal ≡ [])
 
 -- a book on a table of this shape and number, of which no pass is out
 abbrev pub OpensBook : Shape → ℕ → Result (JournaledBook × HomeView) Answer → Type 0
-OpensBook sh number (Ok r) = IsShape sh × IsOpening sh r.0 × (r.1 ≡ all_back number sh.passes)
+OpensBook sh number (Ok r) = IsShape sh × IsOpening sh r.0 × (r.1 ≡ all_back r.0.keeper.table number)
 OpensBook sh number (Err a) = OpensNot sh a
 
 -- a command is done as the book does it, and this is answered and told of it
 abbrev pub Applies : JournaledBook → Command → Answer → Made → JournaledBook → Type 0
 Applies b c a made after_b = (given : Result Reply Fault) × IsAnswerOrMemory b.state c given
-    × (after_b.state ≡ after b.state c given) × CarriedOut (unjournaled b) (unjournaled after_b) c given × (after_b.journal ≡ journal_after b.journal c given)
+    × (after_b.state ≡ after b.state c given) × CarriedOut (unjournaled b) (unjournaled after_b) c given
+    × (after_b.journal ≡ journal_after b.journal c given)
     × (a ≡ answered given) × TellsMade given made
 
 -- the bytes that were read, if there are any
@@ -65,7 +68,8 @@ packed p = p.guest * 2 ^ 32 + p.page
 
 -- these pages stand at the head of the numbers, and the numbers behind them are as they were
 abbrev pub AreTold : List GuestPage → List ℕ → List ℕ → Type 0
-AreTold pages before told = (take (length pages) told ≡ map packed pages) × (drop (length pages) told ≡ drop (length pages) before)
+AreTold pages before told =
+    (take (length pages) told ≡ map packed pages) × (drop (length pages) told ≡ drop (length pages) before)
 
 -- the pages merged into a dup, if there is room for them
 abbrev pub TellsMappers : Option (List GuestPage) → List ℕ → Answer → List ℕ → Type 0

@@ -4,7 +4,8 @@ use Rattle.ksm_base.specs.declared.page.TheConstants.{PAGE_WORDS}
 use Rattle.ksm_base.specs.declared.shape.Shape.{Shape}
 use Rattle.ksm_base.specs.Values.{frames_of}
 use Rattle.frame_core.specs.declared.event.KeeperStep.{KeeperStep}
-use Rattle.frame_core.specs.declared.event.KeeperStep.TheVariants.{Reap, Put, Raise, Open, Add, Sub, Publish, Withdraw, Freeze, Word}
+use Rattle.frame_core.specs.declared.event.KeeperStep.TheVariants.{Reap, Put, Raise, Open, Add, Sub, Publish, Withdraw}
+use Rattle.frame_core.specs.declared.event.KeeperStep.TheVariants.{Freeze, Word}
 use Rattle.frame_core.specs.declared.frame.Kind.{Kind}
 use Rattle.frame_core.specs.declared.frame.Kind.TheVariants.{Free, Filling, Private, Stable, Dying, Retired}
 use Rattle.frame_core.specs.State.{count_in}
@@ -46,7 +47,9 @@ Keeps v e a w = (May v e → (n : ℕ) × (w ≡ did v e n) × (a ≡ made_answe
 
 -- what is loaded of a frame's words
 abbrev pub KeepsWord : KeeperView → ℕ → ℕ → Answer → ℕ → KeeperView → Type 0
-KeepsWord v f i a word w = (May v (Word f i) → (a ≡ answer.Done) × (word ≡ slice_index (frame_at v.ledger f).content i) × (w ≡ did v (Word f i) word))
+KeepsWord v f i a word w =
+    (May v (Word f i) → (a ≡ answer.Done) × (word ≡ slice_index (frame_at v.ledger f).content i)
+    × (w ≡ did v (Word f i) word))
     × (¬ May v (Word f i) → Judges v (Word f i) a × (w ≡ v))
 
 -- the number of what the keeper uses a frame for
@@ -60,7 +63,9 @@ kind_number Retired = 5
 
 -- what is told of a frame: what the keeper uses it for, its own references, and the frame's life
 abbrev pub TellsFrame : KeeperView → ℕ → Answer → ℕ → ℕ → ℕ → Type 0
-TellsFrame v f a kind base life = (f < frames_of v.table.shape → (a ≡ answer.Done) × (kind ≡ kind_number (frame_at v.ledger f).kind) × (base ≡ (frame_at v.ledger f).base) × (life ≡ (frame_at v.ledger f).generation))
+TellsFrame v f a kind base life =
+    (f < frames_of v.table.shape → (a ≡ answer.Done) × (kind ≡ kind_number (frame_at v.ledger f).kind)
+    × (base ≡ (frame_at v.ledger f).base) × (life ≡ (frame_at v.ledger f).generation))
     × (frames_of v.table.shape ≤ f → a ≡ answer.Range)
 
 -- the same, and the keeper is as it was

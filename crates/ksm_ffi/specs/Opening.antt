@@ -18,5 +18,5 @@ OpensNot sh a = ((a ≡ answer.Shape) × ¬ IsShape sh) ⊎ ((a ≡ answer.Memor
 
 -- a table of this shape and number, with a keeper that has made no step, and no pass out
 abbrev pub OpensTable : Shape → ℕ → Result (KeeperView × HomeView) Answer → Type 0
-OpensTable sh number (Ok r) = IsShape sh × IsNewOf sh r.0 × (r.1 ≡ all_back number sh.passes)
+OpensTable sh number (Ok r) = IsShape sh × IsNewOf sh r.0 × (r.1 ≡ all_back r.0.table number)
 OpensTable sh number (Err a) = OpensNot sh a

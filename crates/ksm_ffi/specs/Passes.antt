@@ -75,21 +75,24 @@ why_not_of Away = answer.Holding
 
 -- a lookup of a place by a pass that holds nothing
 abbrev pub Finds : Phase → ℕ → Answer → Phase → Type 0
-Finds (Idle v) place a after = (place < frames_of v.table.shape → (f : Found) × LooksUp v place f × (a ≡ found_answer f) × (after ≡ found_phase f))
+Finds (Idle v) place a after =
+    (place < frames_of v.table.shape → (f : Found) × LooksUp v place f × (a ≡ found_answer f) × (after ≡ found_phase f))
     × (frames_of v.table.shape ≤ place → Stays (Idle v) answer.Range a after)
 Finds (Held v) place a after = Stays (Held v) answer.Holding a after
 Finds Away place a after = Unit {0}
 
 -- the same, with a comparison of the frame's words with a page
 abbrev pub FindsEqual : Phase → ℕ → List ℕ → Answer → Phase → Type 0
-FindsEqual (Idle v) place page a after = (place < frames_of v.table.shape → (f : FoundEqual) × LooksUpEqual v place page f × (a ≡ equal_answer f) × (after ≡ equal_phase f))
+FindsEqual (Idle v) place page a after = (place < frames_of v.table.shape → (f : FoundEqual)
+    × LooksUpEqual v place page f × (a ≡ equal_answer f) × (after ≡ equal_phase f))
     × (frames_of v.table.shape ≤ place → Stays (Idle v) answer.Range a after)
 FindsEqual (Held v) place page a after = Stays (Held v) answer.Holding a after
 FindsEqual Away place page a after = Unit {0}
 
 -- a load of the word i of the frame that is held
 abbrev pub Reads : Phase → ℕ → Answer → ℕ → Phase → Type 0
-Reads (Held v) i a word after = (i < PAGE_WORDS → (a ≡ answer.Done) × ((w : HeldView) × ReadsWord v i word w × (after ≡ Held w)))
+Reads (Held v) i a word after =
+    (i < PAGE_WORDS → (a ≡ answer.Done) × ((w : HeldView) × ReadsWord v i word w × (after ≡ Held w)))
     × (PAGE_WORDS ≤ i → Stays (Held v) answer.Range a after)
 Reads (Idle v) i a word after = Stays (Idle v) answer.Idle a after
 Reads Away i a word after = Unit {0}
@@ -134,7 +137,8 @@ ReadsAndLeaves (found.Busy p) words after = after ≡ Idle p
 -- a whole lookup: where a frame was found, its words are read, and the reference is given back
 abbrev pub LooksUpAll : Phase → ℕ → Answer → List ℕ → Phase → Type 0
 LooksUpAll (Idle v) place a words after = (frames_of v.table.shape ≤ place → Stays (Idle v) answer.Range a after)
-    × (place < frames_of v.table.shape → (f : Found) × LooksUp v place f × (a ≡ found_answer f) × ReadsAndLeaves f words after)
+    × (place < frames_of v.table.shape → (f : Found) × LooksUp v place f × (a ≡ found_answer f)
+    × ReadsAndLeaves f words after)
 LooksUpAll (Held v) place a words after = Stays (Held v) answer.Holding a after
 LooksUpAll Away place a words after = Unit {0}
 

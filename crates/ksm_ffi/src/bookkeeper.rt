@@ -2,7 +2,8 @@
 ghost use Rattle.std.specs.Prelude.{◌≡◌, ◌≢◌};
 ghost use Rattle.ksm_base.specs.Counting.{counters_of};
 ghost use Rattle.ksm_base.specs.Reading.{mappers_of, ticket_of};
-ghost use Rattle.ksm_ffi.specs.Books.{Applies, OpensBook, ReadsBook, TellsCount, TellsCounters, TellsMappers, TellsTicket, packed};
+ghost use Rattle.ksm_ffi.specs.Books.{Applies, OpensBook, ReadsBook, TellsCount, TellsCounters, TellsMappers};
+ghost use Rattle.ksm_ffi.specs.Books.{TellsTicket, packed};
 ghost use Rattle.ksm_ffi.specs.Requests.{LeavesMade};
 ghost use Rattle.ksm_ffi.specs.declared.answer.Answer.TheVariants as answer;
 

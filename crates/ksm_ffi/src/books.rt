@@ -1,4 +1,5 @@
-//! The calls of a book. One thread at a time makes them, by the handle of the book's table; its passes are those of a table.
+//! The calls of a book. One thread at a time makes them, by the handle of the book's table; its passes are those of a
+//! table.
 ghost use Rattle.std.specs.Prelude.{◌≡◌, ◌≢◌};
 ghost use Rattle.ksm_base.specs.Counting.{counters_of};
 ghost use Rattle.ksm_base.specs.Reading.{mappers_of, ticket_of};
@@ -34,7 +35,13 @@ pub extern "C" fn ksm_book_open(
     last_generation: u64,
     tries: u32,
 ) -> u32
-    ensures { OpensBookAt (record { nodes = nodes; frames_per_node = frames_per_node; passes = passes; last_generation = last_generation; tries = tries }) number book.old.thing result book.new.thing }
+    ensures { OpensBookAt (record {
+      nodes = nodes;
+      frames_per_node = frames_per_node;
+      passes = passes;
+      last_generation = last_generation;
+      tries = tries;
+    }) number book.old.thing result book.new.thing }
 {
     if let Some(_) = book.as_mut() {
         return Answer::Open.number();
@@ -91,7 +98,8 @@ pub extern "C" fn ksm_book_read(
     page: u32,
     bytes: &mut PageBytes,
 ) -> u32
-    ensures read { OnBook (λ v a w. ReadsBook v (record { guest = guest; page = page }) a bytes.new w) book.old.thing result book.new.thing }
+    ensures read { OnBook (λ v a w. ReadsBook v (record { guest = guest; page = page }) a bytes.new w) book.old.thing
+        result book.new.thing }
     ensures kept { result ≢ 0 → bytes.new ≡ bytes.old }
 {
     let Some(mut thing) = book.take(alloc) else {
@@ -114,7 +122,8 @@ pub extern "C" fn ksm_book_ticket(
     page: u32,
     place: &mut u32,
 ) -> u32
-    ensures told { OnBook (SeesBook (λ v a. TellsTicket (ticket_of (record { guest = guest; page = page }) v.state) a place.new)) book.old.thing result book.new.thing }
+    ensures told { OnBook (SeesBook (λ v a. TellsTicket
+        (ticket_of (record { guest = guest; page = page }) v.state) a place.new)) book.old.thing result book.new.thing }
     ensures kept { result ≢ 0 → place.new ≡ place.old }
 {
     let Some(thing) = book.take(alloc) else {
@@ -137,8 +146,10 @@ pub extern "C" fn ksm_book_mappers(
     pages: &mut [u64],
     count: &mut u64,
 ) -> u32
-    ensures told { OnBook (SeesBook (λ v a. TellsMappers (mappers_of place v.state) pages.old a pages.new)) book.old.thing result book.new.thing }
-    ensures count { OnBook (SeesBook (λ v a. TellsCount (mappers_of place v.state) count.old a count.new)) book.old.thing result book.new.thing }
+    ensures told { OnBook (SeesBook (λ v a. TellsMappers (mappers_of place v.state) pages.old a pages.new))
+        book.old.thing result book.new.thing }
+    ensures count { OnBook (SeesBook (λ v a. TellsCount (mappers_of place v.state) count.old a count.new))
+        book.old.thing result book.new.thing }
     ensures kept { result ≢ 0 → pages.new ≡ pages.old }
     ensures uncounted { result ≢ 0 → result ≢ 15 → count.new ≡ count.old }
 {
@@ -156,7 +167,8 @@ pub extern "C" fn ksm_book_mappers(
 /// Counts the pages and dups of the book.
 #[unsafe(no_mangle)]
 pub extern "C" fn ksm_book_counters(alloc: Global, book: &mut Handle, counted: &mut Counted) -> u32
-    ensures counted { OnBook (SeesBook (λ v a. TellsCounters (counters_of v.state) a counted.new)) book.old.thing result book.new.thing }
+    ensures counted { OnBook
+        (SeesBook (λ v a. TellsCounters (counters_of v.state) a counted.new)) book.old.thing result book.new.thing }
     ensures kept { result ≢ 0 → counted.new ≡ counted.old }
 {
     let Some(thing) = book.take(alloc) else {

@@ -1,5 +1,5 @@
 //! The passes of a table that are not out, and how they are lent and come back.
-ghost use Rattle.std.specs.Prelude.{◌≡◌, ◌<◌, ◌↔◌, IsTrue, IfOk, IfSome, false};
+ghost use Rattle.std.specs.Prelude.{◌≡◌, ◌<◌, ◌↔◌, IsTrue, IfOk, IfSome, false, length};
 ghost use Rattle.ksm_base.specs.Values.{IsShape};
 ghost use Rattle.frame_table.specs.Seats.{new_keeper};
 ghost use Rattle.ksm_ffi.specs.Homes.{Judged, Lends, all_back, one_back};
@@ -14,7 +14,8 @@ use std::marker::Model;
 use std::mem::ManuallyDrop;
 use std::sync::Arc;
 
-/// The passes of a table that are not out. Contracts see the table's number, how many passes it has, and how many are not out.
+/// The passes of a table that are not out. Contracts see the table's number, how many passes it has, and those that are
+/// not out, the last of which is lent next.
 pub struct Home {
     table: Arc<FrameTable>,
     // What tells the table's passes from those of others.
@@ -26,24 +27,28 @@ pub struct Home {
 }
 
 impl Model for Home {
-    ghost use Rattle.std.specs.Prelude.{◌+◌, vec_len};
-    ghost use Rattle.ksm_ffi.specs.Homes.{HomeView};
+    ghost use Rattle.ksm_ffi.specs.Homes.{HomeView, waiting};
     ghost use Rattle.ksm_ffi.specs.Owned.{IsHome};
 
     ghost Value = { HomeView };
 
-    ghost view = { λ h. record { number = h.number; count = h.count; back = vec_len h.passes + vec_len h.returned } };
+    ghost view = { λ h. record {
+      number = h.number;
+      count = h.count;
+      back = waiting h.passes.items h.returned.items;
+    } };
 
     ghost invariant = { IsHome };
 }
 
 impl Home {
     /// A table with all frames free, all places empty and no pass out, and its keeper. None where there is no memory.
+    #[tactic(auto, using(crate::proofs::Waiting::as_waiting))]
     pub fn open(alloc: Global, shape: Shape, number: u64) -> Option<(Arc<FrameTable>, Keeper, Home)>
         requires { IsShape shape }
         ensures table { IfSome result (λ opened. opened.0.value.shape ≡ shape) }
         ensures keeper { IfSome result (λ opened. opened.1 ≡ new_keeper opened.0.value) }
-        ensures home { IfSome result (λ opened. opened.2 ≡ all_back number shape.passes) }
+        ensures home { IfSome result (λ opened. opened.2 ≡ all_back opened.0.value number) }
     {
         let count = shape.passes as usize;
         let Ok(returned) = Vec::with_capacity(alloc, count) else {
@@ -84,10 +89,11 @@ impl Home {
         self.number
     }
 
-    /// A pass that is not out: one that came back, or else one that never was out.
+    /// A pass that is not out: the last that came back, or else one that never was out.
+    #[tactic(auto, using(crate::proofs::Waiting::as_waiting))]
     pub fn lend(&mut self) -> Result<Reader, Answer>
         ensures lent { Lends self.old result self.new }
-        ensures out { IfOk result (λ _. self.new.back < self.new.count) }
+        ensures out { IfOk result (λ _. length self.new.back < self.new.count) }
     {
         if let Some(reader) = self.returned.pop() {
             return Ok(reader);
@@ -104,7 +110,8 @@ impl Home {
         }
     }
 
-    /// Whether a pass of a table with this number may come back: it is this table's number, one is out, and the pass holds nothing.
+    /// Whether a pass of a table with this number may come back: it is this table's number, one is out, and the pass
+    /// holds nothing.
     pub fn judge_back(&self, reader: &Reader, number: u64) -> Answer
         ensures { Judged self.now reader.now number result }
     {
@@ -119,18 +126,20 @@ impl Home {
     }
 
     /// Takes a pass back.
+    #[tactic(auto, using(crate::proofs::Waiting::as_waiting))]
     pub fn take_back(&mut self, reader: Reader)
         requires idle { IsIdle reader }
-        requires out { self.old.back < self.old.count }
-        ensures { self.new ≡ one_back self.old }
+        requires out { length self.old.back < self.old.count }
+        ensures { self.new ≡ one_back self.old reader }
     {
         self.returned.push_reserved(reader);
     }
 
     /// Whether no pass is out.
+    #[tactic(auto, using(crate::proofs::Waiting::as_waiting))]
     pub fn is_whole(&self) -> bool
-        ensures whole { IsTrue result ↔ self.now.back ≡ self.now.count }
-        ensures less { result ≡ false → self.now.back < self.now.count }
+        ensures whole { IsTrue result ↔ length self.now.back ≡ self.now.count }
+        ensures less { result ≡ false → length self.now.back < self.now.count }
     {
         self.passes.len() + self.returned.len() == self.count
     }

@@ -1,7 +1,9 @@
-//! The frame table and the book for programs in C, and in what calls C: opaque handles, and a number for each answer (own).
+//! The frame table and the book for programs in C, and in what calls C: opaque handles, and a number for each answer
+//! (own).
 //!
-//! A handle owns a table with its keeper or its book, or a pass. Every condition of a call is tested here: a caller can pass what it likes, but a pointer
-//! that is no handle, one handle twice in a call, or one handle in two calls at a time. `bindings/ksmbook.h` says so in C.
+//! A handle owns a table with its keeper or its book, or a pass. Every condition of a call is tested here: a caller can
+//! pass what it likes, but a pointer that is no handle, one handle twice in a call, or one handle in two calls at a
+//! time. `bindings/ksmbook.h` says so in C.
 #![tactic(auto)]
 
 mod answer;

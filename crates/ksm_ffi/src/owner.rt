@@ -1,7 +1,8 @@
 //! A table with its keeper: what the keeper may do is tested here, so that nothing is required of a caller.
 ghost use Rattle.std.specs.Prelude.{◌≡◌, ◌≢◌, ◌<◌, ◌↔◌, IsTrue, MatchResult, length};
 ghost use Rattle.ksm_base.specs.Values.{frames_of};
-ghost use Rattle.frame_core.specs.declared.event.KeeperStep.TheVariants.{Reap, Put, Raise, Open, Add, Sub, Publish, Withdraw, Freeze, Word};
+ghost use Rattle.frame_core.specs.declared.event.KeeperStep.TheVariants.{Reap, Put, Raise, Open, Add, Sub, Publish};
+ghost use Rattle.frame_core.specs.declared.event.KeeperStep.TheVariants.{Withdraw, Freeze, Word};
 ghost use Rattle.frame_core.specs.Ledger.{IsLoose, IsReadable, IsWritable, frame_at, named_at};
 ghost use Rattle.frame_table.specs.Kept.{May};
 ghost use Rattle.frame_core.specs.declared.event.KeeperStep.{KeeperStep};
@@ -296,7 +297,8 @@ impl Owner {
     /// Tells what the keeper uses a frame for, how many references are its own, and the frame's life.
     pub fn frame(&self, frame: u32, kind: &mut u32, references: &mut u64, life: &mut u64) -> Answer
         ensures told { TellsFrame self.now frame result kind.new references.new life.new }
-        ensures kept { result ≢ answer.Done → (kind.new ≡ kind.old) × (references.new ≡ references.old) × (life.new ≡ life.old) }
+        ensures kept { result ≢ answer.Done → (kind.new ≡ kind.old) × (references.new ≡ references.old)
+            × (life.new ≡ life.old) }
     {
         if frame >= self.table.places() {
             return Answer::Range;
@@ -311,7 +313,8 @@ impl Owner {
 
 // Opening and closing.
 impl Owner {
-    /// A table with all frames free, all places empty and no pass out. It tells its passes from those of tables with other numbers.
+    /// A table with all frames free, all places empty and no pass out. It tells its passes from those of tables with
+    /// other numbers.
     pub fn open(alloc: Global, shape: Shape, number: u64) -> Result<(Owner, Home), Answer>
         ensures { OpensTable shape number result }
     {

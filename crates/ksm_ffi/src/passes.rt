@@ -67,7 +67,8 @@ fn may_look_up(thing: &Thing, place: u32) -> bool
     }
 }
 
-// The number that tells why no place is looked up. It is a function of its own, so that a lookup which is made loads none of these.
+// The number that tells why no place is looked up. It is a function of its own, so that a lookup which is made loads
+// none of these.
 #[cold]
 #[inline(never)]
 fn why_not(pass: &mut Handle) -> u32

@@ -2,7 +2,8 @@
 ghost use Rattle.std.specs.Prelude.{◌≡◌, ◌≢◌, ◌↔◌, IsTrue, Some, None};
 ghost use Rattle.ksm_ffi.specs.declared.reader.Phase.TheVariants.{Idle};
 ghost use Rattle.ksm_ffi.specs.declared.answer.Answer.TheVariants as answer;
-ghost use Rattle.ksm_ffi.specs.Passes.{Finds, FindsEqual, GoesIdle, IsIdle, LooksUpAll, MayLookUp, Reads, ReadsAll, ReadsPage, ReadsThenLeaves, Tells, why_answer_of, why_not_of};
+ghost use Rattle.ksm_ffi.specs.Passes.{Finds, FindsEqual, GoesIdle, IsIdle, LooksUpAll, MayLookUp, Reads, ReadsAll};
+ghost use Rattle.ksm_ffi.specs.Passes.{ReadsPage, ReadsThenLeaves, Tells, why_answer_of, why_not_of};
 
 use crate::answer::Answer;
 use frame_table::{Found, FoundEqual, FrameTable, Held, Pass, Why};
@@ -248,7 +249,8 @@ impl Reader {
     /// Tells where the frame that is held was found: its place, its frame and its life.
     pub fn held(&self, place: &mut u32, frame: &mut u32, life: &mut u64) -> Answer
         ensures told { Tells self.now result place.new frame.new life.new }
-        ensures kept { result ≢ answer.Done → (place.new ≡ place.old) × (frame.new ≡ frame.old) × (life.new ≡ life.old) }
+        ensures kept { result ≢ answer.Done → (place.new ≡ place.old) × (frame.new ≡ frame.old)
+            × (life.new ≡ life.old) }
     {
         let Some(held) = &self.held else {
             return Answer::Idle;

@@ -1,6 +1,7 @@
 //! A command, a reply and counters as C has them.
 ghost use Rattle.std.specs.Prelude.{◌≡◌, Ok};
-ghost use Rattle.ksm_ffi.specs.Requests.{IsMade, LeavesMade, TellsFault, TellsMade, answered, commanded, counted_of, fault_answer, node_of};
+ghost use Rattle.ksm_ffi.specs.Requests.{IsMade, LeavesMade, TellsFault, TellsMade, answered, commanded, counted_of};
+ghost use Rattle.ksm_ffi.specs.Requests.{fault_answer, node_of};
 
 use crate::answer::Answer;
 use ksm_base::{Command, Counters, Fault, GuestPage, PageBytes, Reply};

@@ -1,8 +1,10 @@
 //! Opening a table, closing it or a book, passes, and the calls of the keeper, which one thread makes at a time.
 ghost use Rattle.std.specs.Prelude.{◌≡◌, ◌≢◌};
-ghost use Rattle.frame_core.specs.declared.event.KeeperStep.TheVariants.{Reap, Put, Raise, Open, Add, Sub, Publish, Withdraw, Freeze};
+ghost use Rattle.frame_core.specs.declared.event.KeeperStep.TheVariants.{Reap, Put, Raise, Open, Add, Sub, Publish};
+ghost use Rattle.frame_core.specs.declared.event.KeeperStep.TheVariants.{Withdraw, Freeze};
 ghost use Rattle.ksm_ffi.specs.Keeping.{Keeps, KeepsWord, TellsOf};
-ghost use Rattle.ksm_ffi.specs.Things.{Closes, ClosesPass, IsGivenBack, JudgesBack, JudgesClose, JudgesHome, LendsBox, LendsThing, OnTable, Opens, OpensPass, OpensThing};
+ghost use Rattle.ksm_ffi.specs.Things.{Closes, ClosesPass, IsGivenBack, JudgesBack, JudgesClose, JudgesHome, LendsBox};
+ghost use Rattle.ksm_ffi.specs.Things.{LendsThing, OnTable, Opens, OpensPass, OpensThing};
 ghost use Rattle.ksm_ffi.specs.declared.answer.Answer.TheVariants as answer;
 
 use crate::answer::Answer;
@@ -33,7 +35,13 @@ pub extern "C" fn ksm_table_open(
     last_generation: u64,
     tries: u32,
 ) -> u32
-    ensures { Opens (record { nodes = nodes; frames_per_node = frames_per_node; passes = passes; last_generation = last_generation; tries = tries }) number table.old.thing result table.new.thing }
+    ensures { Opens (record {
+      nodes = nodes;
+      frames_per_node = frames_per_node;
+      passes = passes;
+      last_generation = last_generation;
+      tries = tries;
+    }) number table.old.thing result table.new.thing }
 {
     if let Some(_) = table.as_mut() {
         return Answer::Open.number();
@@ -115,7 +123,7 @@ fn lend(alloc: Global, table: &mut Thing) -> Result<Box<Thing>, Answer>
     }
 }
 
-/// Opens a pass of the table.
+/// Opens a pass of the table: the last that came back, or else one that never was out.
 #[unsafe(no_mangle)]
 pub extern "C" fn ksm_pass_open(alloc: Global, table: &mut Handle, pass: &mut Handle) -> u32
     ensures { OpensPass table.old.thing pass.old.thing result table.new.thing pass.new.thing }
@@ -145,7 +153,7 @@ fn judge_back(table: &Thing, pass: &Thing) -> Answer
 // Gives a pass back that may come back.
 fn give_back(table: &mut Thing, pass: Thing)
     requires { JudgesBack table.old pass answer.Done }
-    ensures { IsGivenBack table.old table.new }
+    ensures { IsGivenBack table.old pass table.new }
 {
     let Some(reader) = pass.into_reader() else {
         unreachable!()
@@ -356,7 +364,8 @@ pub extern "C" fn ksm_frame(
     references: &mut u64,
     life: &mut u64,
 ) -> u32
-    ensures told { OnTable (λ v a w. TellsOf v frame a kind.new references.new life.new w) table.old.thing result table.new.thing }
+    ensures told { OnTable
+        (λ v a w. TellsOf v frame a kind.new references.new life.new w) table.old.thing result table.new.thing }
     ensures kept { result ≢ 0 → (kind.new ≡ kind.old) × (references.new ≡ references.old) × (life.new ≡ life.old) }
 {
     let Some(mut thing) = table.take(alloc) else {

@@ -23,12 +23,14 @@ abbrev pub IsFresh : PartsId → ScriptState → Type 0
 IsFresh parts s = (s.book ≡ opening parts.frames.shape) × (s.journal ≡ [])
     × (s.passes ≡ replicate parts.frames.shape.passes (Idle (new_pass parts.frames)))
 
--- what a session came to, by the status: at *done* all was read and each reply sent; at a bad line the replies up to its own are sent; else a
--- read or a write failed, and what is sent, with what waited behind it, is a beginning of the replies
+-- what a session came to, by the status: at *done* all was read and each reply sent; at a bad line the replies up to
+-- its own are sent; else a read or a write failed, and what is sent, with what waited behind it, is a beginning of the
+-- replies
 abbrev pub Serves : Streams → ScriptState → Status → Type 0
 Serves io from Done = (to : ScriptState) × Runs io from to (Ok AllRead)
 Serves io from NotUnderstood = (to : ScriptState) × (number : ℕ) × Runs io from to (Ok (BadLine number))
-Serves io from Broken = (to : ScriptState) × (text : List ℕ) × (waiting : List ℕ) × Replies io.unread io.left from to text
+Serves io from Broken =
+    (to : ScriptState) × (text : List ℕ) × (waiting : List ℕ) × Replies io.unread io.left from to text
     × AppendsPart io.begun (append_known io.written waiting) text
 Serves io from NoMemory = ⊥
 
@@ -38,7 +40,10 @@ EndsOn parts io status None = status ≡ NoMemory
 EndsOn parts io status (Some table) = (table.shape ≡ parts.frames.shape) × EndsLawfully parts table
     × (from : ScriptState) × IsFresh parts from × Serves io from status
 
--- the session was on a table of the shape that the words tell; or there was none, for want of memory or as the words tell no shape
+-- the session was on a table of the shape that the words tell; or there was none, for want of memory or as the words
+-- tell no shape
 abbrev pub EndsBy : List Text → Streams → Status → Option ClosedView → Type 0
-EndsBy words io status None = (status ≡ NoMemory) ⊎ ((status ≡ NotUnderstood) × ((given : List Given) → Tells words given → ⊥))
-EndsBy words io status (Some table) = (parts : PartsId) × IsToldBy words parts.frames.shape × EndsOn parts io status (Some table)
+EndsBy words io status None =
+    (status ≡ NoMemory) ⊎ ((status ≡ NotUnderstood) × ((given : List Given) → Tells words given → ⊥))
+EndsBy words io status (Some table) =
+    (parts : PartsId) × IsToldBy words parts.frames.shape × EndsOn parts io status (Some table)

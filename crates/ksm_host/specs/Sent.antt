@@ -10,7 +10,8 @@ use Rattle.ksm_script.specs.Script.{AnsweredAll, AnsweredBefore, AnsweredToBad}
 abbrev pub RepliesTo : Option (List ℕ) → Option (List ℕ) → ScriptState → ScriptState → List ℕ → Type 0
 RepliesTo old new from to text =
     AnsweredAll old new from to text
-    ⊎ (((before : List ℕ) × (count : ℕ) × AnsweredToBad old new from to before count × (text ≡ before ++ text_of (BadLine (count + 1))))
+    ⊎ (((before : List ℕ) × (count : ℕ) × AnsweredToBad old new from to before count
+    × (text ≡ before ++ text_of (BadLine (count + 1))))
     ⊎ ((count : ℕ) × (rest : List ℕ) × AnsweredBefore old new from to text count rest))
 
 -- the same, where all holds were given back then

@@ -17,9 +17,10 @@ use std::thread::Threads;
 
 /// Answers the script that the reader holds, sends the replies, and has them heard.
 ///
-/// At `Done` all of it was read, each line carried out, and each reply sent. At `NotUnderstood` it was read to a bad line, and
-/// the replies up to `bad line` are sent: the second value is its number, and the session has its bytes. Else a read or a write
-/// failed: what is sent, and what waits in the writer behind it, is a beginning of the replies to what was read.
+/// At `Done` all of it was read, each line carried out, and each reply sent. At `NotUnderstood` it was read to a bad
+/// line, and the replies up to `bad line` are sent: the second value is its number, and the session has its bytes. Else
+/// a read or a write failed: what is sent, and what waits in the writer behind it, is a beginning of the replies to
+/// what was read.
 pub fn answer<
     H: Hears<BufWriter<O>>,
     N: Naming,
@@ -33,13 +34,17 @@ pub fn answer<
     session: &mut Session<N>,
     hears: &mut H,
 ) -> (Status, Option<u64>)
-    ensures done { result.0 ≡ Status.Done → Runs (streams (reader_remaining I.remaining reader.old) (reader_remaining I.remaining reader.new)
-        (writer_contents O.contents writer.old) (O.contents (writer_inner writer.new))) session.old.state session.new.state (Ok End.AllRead) }
-    ensures bad { result.0 ≡ Status.NotUnderstood → (number : ℕ) × (result.1 ≡ Some number) × Runs (streams (reader_remaining I.remaining reader.old) (reader_remaining I.remaining reader.new)
-        (writer_contents O.contents writer.old) (O.contents (writer_inner writer.new))) session.old.state session.new.state (Ok (End.BadLine number)) }
-    ensures line { EndsBad (reader_remaining I.remaining reader.old) (reader_remaining I.remaining reader.new) session.new.line (bad_end result.1) }
-    ensures written { (text : List ℕ)
-        × Replies (reader_remaining I.remaining reader.old) (reader_remaining I.remaining reader.new) session.old.state session.new.state text
+    ensures done { result.0 ≡ Status.Done → Runs (streams (reader_remaining I.remaining reader.old)
+        (reader_remaining I.remaining reader.new) (writer_contents O.contents writer.old)
+        (O.contents (writer_inner writer.new))) session.old.state session.new.state (Ok End.AllRead) }
+    ensures bad { result.0 ≡ Status.NotUnderstood → (number : ℕ) × (result.1 ≡ Some number)
+        × Runs (streams (reader_remaining I.remaining reader.old) (reader_remaining I.remaining reader.new)
+        (writer_contents O.contents writer.old) (O.contents (writer_inner writer.new))) session.old.state
+        session.new.state (Ok (End.BadLine number)) }
+    ensures line { EndsBad (reader_remaining I.remaining reader.old)
+        (reader_remaining I.remaining reader.new) session.new.line (bad_end result.1) }
+    ensures written { (text : List ℕ) × Replies (reader_remaining I.remaining reader.old)
+        (reader_remaining I.remaining reader.new) session.old.state session.new.state text
         × AppendsPart (writer_contents O.contents writer.old) (writer_contents O.contents writer.new) text }
     ensures began { result.0 ≢ Status.NoMemory }
 {
@@ -62,7 +67,8 @@ fn bad_line_of(ended: Result<End, RunFault>) -> Option<u64>
 #[tactic(auto, using(crate::proofs::Sent::kept_where_sent))]
 fn sent<O: Write + Drop>(writer: &mut BufWriter<O>) -> bool
     ensures kept { Keeps (writer_contents O.contents writer.old) (writer_contents O.contents writer.new) }
-    ensures sent { IsTrue result → Keeps (writer_contents O.contents writer.old) (O.contents (writer_inner writer.new)) }
+    ensures sent { IsTrue result
+        → Keeps (writer_contents O.contents writer.old) (O.contents (writer_inner writer.new)) }
 {
     writer.flush().is_ok()
 }

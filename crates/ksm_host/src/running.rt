@@ -18,8 +18,8 @@ use std::rt::Env;
 use std::sync::Wait;
 use std::thread::Threads;
 
-/// How many bytes are read at once, at most. The reader fills its buffer with zeroes first, and a line that lies across its end is read by
-/// parts: a larger buffer costs more at the start, a smaller one more for each such line.
+/// How many bytes are read at once, at most. The reader fills its buffer with zeroes first, and a line that lies across
+/// its end is read by parts: a larger buffer costs more at the start, a smaller one more for each such line.
 const READ_BLOCK: usize = 8192;
 
 /// How many bytes are sent at once, at most.
@@ -36,8 +36,9 @@ pub struct Ended<O> {
     pub output: O,
 }
 
-/// The program on a host: it reads the words and the input there, and prints the replies. Audits run in the threads. Refusals are told in
-/// words too where the variable `KSMBOOK_EXPLAIN` is 1, or where it is not 0 and standard error, `errors`, is a terminal.
+/// The program on a host: it reads the words and the input there, and prints the replies. Audits run in the threads.
+/// Refusals are told in words too where the variable `KSMBOOK_EXPLAIN` is 1, or where it is not 0 and standard error,
+/// `errors`, is a terminal.
 pub fn run_on<
     R: Env + Input + Print + Eprint + AllocGlobal,
     T: Threads + Wait + Sync,
@@ -59,10 +60,11 @@ pub fn run_on<
     }
 }
 
-/// The program over its words, its input and its output: it opens the book that the words tell, answers the script, and closes the book.
-/// Where it `tells` refusals, each is told in words on standard error too.
+/// The program over its words, its input and its output: it opens the book that the words tell, answers the script, and
+/// closes the book. Where it `tells` refusals, each is told in words on standard error too.
 ///
-/// Without a table in what is left, no line was read and nothing was sent: memory was refused, or the words tell no shape.
+/// Without a table in what is left, no line was read and nothing was sent: memory was refused, or the words tell no
+/// shape.
 pub fn played<R: Eprint + AllocGlobal, T: Threads + Wait + Sync, I: Read, O: Write + Drop>(
     rt: &R,
     threads: &T,
@@ -71,7 +73,8 @@ pub fn played<R: Eprint + AllocGlobal, T: Threads + Wait + Sync, I: Read, O: Wri
     reader: &mut BufReader<I>,
     writer: BufWriter<O>,
 ) -> Ended<O>
-    ensures ends { EndsBy (map string_bytes words.now) (streams (reader_remaining I.remaining reader.old) (reader_remaining I.remaining reader.new)
+    ensures ends { EndsBy (map string_bytes words.now)
+        (streams (reader_remaining I.remaining reader.old) (reader_remaining I.remaining reader.new)
         (writer_contents O.contents writer) (O.contents result.output)) result.status result.table }
     ensures untouched { result.table ≡ None → (result.output ≡ writer_inner writer) × (reader.new ≡ reader.old) }
 {
@@ -98,7 +101,8 @@ fn in_session<
 ) -> Ended<O>
     requires name { parts ≡ N.parts }
     requires alone { parts.callers ≡ 1 }
-    ensures ends { EndsOn N.parts (streams (reader_remaining I.remaining reader.old) (reader_remaining I.remaining reader.new)
+    ensures ends { EndsOn N.parts
+        (streams (reader_remaining I.remaining reader.old) (reader_remaining I.remaining reader.new)
         (writer_contents O.contents writer) (O.contents result.output)) result.status result.table }
     ensures untouched { result.table ≡ None → (result.output ≡ writer_inner writer) × (reader.new ≡ reader.old) }
 {
@@ -127,8 +131,8 @@ fn unopened<O: Write + Drop>(status: Status, writer: BufWriter<O>) -> Ended<O>
     }
 }
 
-/// Answers the script. The writer is taken apart, so that what could not be sent is let go, and not tried again. Behind `bad line`
-/// it is said why.
+/// Answers the script. The writer is taken apart, so that what could not be sent is let go, and not tried again. Behind
+/// `bad line` it is said why.
 fn served<N: Naming, R: Eprint, T: Threads + Wait + Sync, I: Read, O: Write + Drop>(
     rt: &R,
     threads: &T,

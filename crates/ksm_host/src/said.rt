@@ -2,7 +2,8 @@
 use ksm_causes::BadLine;
 use std::fmt::{self, Display, Formatter, Write};
 
-/// A text with its control characters escaped, all but newlines: it names what a user typed, and may not steer the terminal.
+/// A text with its control characters escaped, all but newlines: it names what a user typed, and may not steer the
+/// terminal.
 #[derive(Drop)]
 pub(crate) struct Escaped<T>(pub(crate) T);
 

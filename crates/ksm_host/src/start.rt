@@ -35,15 +35,16 @@ pub(crate) fn opened<R: Eprint + AllocGlobal>(rt: &R, words: &[String]) -> Resul
     ensures told { IfOk result (λ parts. IsToldBy (map string_bytes words.now) parts.frames.shape) }
     ensures alone { IfOk result (λ parts. parts.callers ≡ 1) }
     ensures status { IfErr result IsBeforeRun }
-    ensures refused { result ≡ Err Status.NotUnderstood → (given : List Given) → ¬ (Tells (map string_bytes words.now) given) }
+    ensures refused { result ≡ Err Status.NotUnderstood → (given : List Given)
+        → ¬ (Tells (map string_bytes words.now) given) }
 {
     let shape = told(rt, options(rt.alloc(), words))?;
     let parts = Parts::open(rt.alloc(), shape, 1).map_err(|_| Status::NoMemory)?;
     Ok(parts.unread())
 }
 
-/// The shape that was told, or the status to end with. Why the words are no options is said on standard error; of a want of memory
-/// nothing is said.
+/// The shape that was told, or the status to end with. Why the words are no options is said on standard error; of a
+/// want of memory nothing is said.
 pub fn told<R: Eprint>(rt: &R, read: Result<Shape, Error>) -> Result<Shape, Status>
     ensures { result ≡ told_of read }
 {

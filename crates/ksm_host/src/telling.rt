@@ -7,7 +7,8 @@ use std::rt::Env;
 /// The variable that asks for refusals in words.
 const EXPLAIN: &str = "KSMBOOK_EXPLAIN";
 
-/// Whether refusals are to be told in words too: with 1 as the variable's value, and not with 0; else where standard error is a terminal.
+/// Whether refusals are to be told in words too: with 1 as the variable's value, and not with 0; else where standard
+/// error is a terminal.
 pub(crate) fn tells_refusals<R: Env, E: IsTerminal>(rt: &R, errors: &E) -> bool {
     let mut value = [0u8; 1];
     match rt.var(EXPLAIN, &mut value) {
@@ -17,8 +18,8 @@ pub(crate) fn tells_refusals<R: Env, E: IsTerminal>(rt: &R, errors: &E) -> bool 
     }
 }
 
-/// Tells each refusal that it hears in words, if that is asked for. The replies are sent before, so that the words stand behind their
-/// reply. One type serves both, so the loop of a run stands in the program once.
+/// Tells each refusal that it hears in words, if that is asked for. The replies are sent before, so that the words
+/// stand behind their reply. One type serves both, so the loop of a run stands in the program once.
 #[derive(Drop)]
 pub(crate) struct Telling<'a, R> {
     pub(crate) rt: &'a R,

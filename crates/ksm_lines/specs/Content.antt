@@ -1,5 +1,6 @@
 -- The hexadecimal texts of a page's content (own).
-use Rattle.std.specs.Prelude.{◌≡◌, true, ℕ, Bool, ◌+◌, ◌*◌, not, ◌==◌, nat_lt, List, length, map, take, drop, Option, Some, None, slice_index, if◌then◌else◌}
+use Rattle.std.specs.Prelude.{◌≡◌, true, ℕ, Bool, ◌+◌, ◌*◌, not, ◌==◌, nat_lt, List, length, map, take, drop, Option}
+use Rattle.std.specs.Prelude.{Some, None, slice_index, if◌then◌else◌}
 use Rattle.std.specs.Char.{digit_value, is_ascii_hexdigit}
 use Rattle.std.specs.Int.{w64, from_le_bytes}
 use Rattle.std.specs.List.{list_all, range_with_len}
@@ -19,7 +20,8 @@ is_small value = nat_lt value 16
 
 -- the values of digits, and of any other byte one that is no digit's
 abbrev pub AreValues : List ℕ → List ℕ → Type 0
-AreValues digits values = (list_all is_small values ≡ list_all is_ascii_hexdigit digits) × (list_all is_ascii_hexdigit digits ≡ true → values ≡ map hex_value digits)
+AreValues digits values = (list_all is_small values ≡ list_all is_ascii_hexdigit digits)
+    × (list_all is_ascii_hexdigit digits ≡ true → values ≡ map hex_value digits)
 
 -- the byte that the digits 2k and 2k + 1 of a text write
 abbrev pub byte_at : List ℕ → ℕ → ℕ

@@ -1,9 +1,12 @@
 -- Reading a line, by its first word.
 use Rattle.std.specs.Prelude.{List, ℕ, [], ◌∷◌, Option, Some, None, option_map, codes, bytes_eq, if◌then◌else◌}
 use Rattle.ksm_lines.specs.declared.line.Line.{Line}
-use Rattle.ksm_lines.specs.declared.line.Line.TheVariants.{Empty, Register, Drop, Store, Get, Ticket, Mappers, ScanPages, Scan, Prune, Unmerge, Mergeable, MovePage, MoveDup, Set, Show, Stat, Find, Equal, Look, Leave, Audit}
+use Rattle.ksm_lines.specs.declared.line.Line.TheVariants.{Empty, Register, Drop, Store, Get, Ticket, Mappers}
+use Rattle.ksm_lines.specs.declared.line.Line.TheVariants.{ScanPages, Scan, Prune, Unmerge, Mergeable, MovePage}
+use Rattle.ksm_lines.specs.declared.line.Line.TheVariants.{MoveDup, Set, Show, Stat, Find, Equal, Look, Leave, Audit}
 use Rattle.ksm_lines.specs.Content.{content_of}
-use Rattle.ksm_lines.specs.Reading.{◌>>=◌, field, guest_of, number_of, page_at, ended, alone, page_alone, knob_of, shown_of}
+use Rattle.ksm_lines.specs.Reading.{◌>>=◌, field, guest_of, number_of, page_at, ended, alone, page_alone, knob_of}
+use Rattle.ksm_lines.specs.Reading.{shown_of}
 
 abbrev pub register_at : List (List ℕ) → Option Line
 register_at words = do

@@ -2,7 +2,9 @@
 use Rattle.std.specs.Prelude.{◌≡◌, ℕ, ◌^◌, ◌<◌, ◌==◌, List, [], ◌∷◌, Some, codes, decimal}
 use Rattle.std.specs.List.{slice_split}
 use Rattle.ksm_lines.specs.declared.line.Line.{Line}
-use Rattle.ksm_lines.specs.declared.line.Line.TheVariants.{Empty, Register, Drop, Store, Get, Ticket, Mappers, ScanPages, Scan, Prune, Unmerge, Mergeable, MovePage, MoveDup, Set, Show, Stat, Find, Equal, Look, Leave, Audit}
+use Rattle.ksm_lines.specs.declared.line.Line.TheVariants.{Empty, Register, Drop, Store, Get, Ticket, Mappers}
+use Rattle.ksm_lines.specs.declared.line.Line.TheVariants.{ScanPages, Scan, Prune, Unmerge, Mergeable, MovePage}
+use Rattle.ksm_lines.specs.declared.line.Line.TheVariants.{MoveDup, Set, Show, Stat, Find, Equal, Look, Leave, Audit}
 use Rattle.ksm_lines.specs.Content.{content_of}
 use Rattle.ksm_lines.specs.Knobs.{knob_name, shown_name}
 
@@ -17,7 +19,8 @@ pub data Part : Type 0 where
   number : ℕ → Part
   content : List ℕ → Part
 
--- A name is written by its own bytes, a number by its decimal digits without leading zeros, a page's content in hexadecimal.
+-- A name is written by its own bytes, a number by its decimal digits without leading zeros, a page's content in
+-- hexadecimal.
 abbrev pub IsWritten : Part → List ℕ → Type 0
 IsWritten (name text) word = word ≡ text
 IsWritten (guest n) word = (n < 2 ^ 16) × (word ≡ decimal n)
@@ -34,7 +37,8 @@ AreWritten (part ∷ parts) [] = ⊥
 -- what each line is made of; no bytes are one empty word
 abbrev pub parts_of : Line → List Part
 parts_of Empty = name [] ∷ []
-parts_of (Register page node bytes) = name (codes "reg") ∷ guest page.guest ∷ number page.page ∷ number node ∷ content bytes ∷ []
+parts_of (Register page node bytes) =
+    name (codes "reg") ∷ guest page.guest ∷ number page.page ∷ number node ∷ content bytes ∷ []
 parts_of (Drop page) = name (codes "drop") ∷ guest page.guest ∷ number page.page ∷ []
 parts_of (Store page bytes) = name (codes "put") ∷ guest page.guest ∷ number page.page ∷ content bytes ∷ []
 parts_of (Get page) = name (codes "get") ∷ guest page.guest ∷ number page.page ∷ []

@@ -26,4 +26,5 @@ page_form (Equal pass place) bytes = lines.Equal pass place bytes
 
 -- a text is a line of this form, its newline, and the rest
 abbrev pub BeginsWith : Line → List ℕ → List ℕ → Type 0
-BeginsWith form text rest = (line : List ℕ) × Writes form line × All (λ byte. byte ≢ 10) line × (text ≡ line ++ 10 ∷ rest)
+BeginsWith form text rest =
+    (line : List ℕ) × Writes form line × All (λ byte. byte ≢ 10) line × (text ≡ line ++ 10 ∷ rest)

@@ -1,5 +1,6 @@
 -- Reading the words of a line from left to right.
-use Rattle.std.specs.Prelude.{◌≡◌, ℕ, ◌^◌, Bool, not, ◌&&◌, ◌||◌, ◌==◌, nat_lt, List, [], ◌∷◌, length, Option, Some, None, option_map, Result, Ok, Err, bytes_eq, slice_index, if◌then◌else◌}
+use Rattle.std.specs.Prelude.{◌≡◌, ℕ, ◌^◌, Bool, not, ◌&&◌, ◌||◌, ◌==◌, nat_lt, List, [], ◌∷◌, length, Option, Some}
+use Rattle.std.specs.Prelude.{None, option_map, Result, Ok, Err, bytes_eq, slice_index, if◌then◌else◌}
 use Rattle.std.specs.Char.{is_ascii_digit}
 use Rattle.std.specs.List.{list_all}
 use Rattle.std.specs.Str.Parse.{digits_value}
@@ -7,7 +8,8 @@ use denote.Ref.{Bor}
 use Rattle.ksm_base.specs.declared.page.GuestPage.{GuestPage}
 use Rattle.ksm_lines.specs.declared.line.LineFault.{LineFault}
 use Rattle.ksm_lines.specs.declared.knob.Knob.{Knob}
-use Rattle.ksm_lines.specs.declared.knob.Knob.TheVariants.{Run, PagesToScan, MergeAcrossNodes, MaxPageSharing, UseZeroPages}
+use Rattle.ksm_lines.specs.declared.knob.Knob.TheVariants.{Run, PagesToScan, MergeAcrossNodes, MaxPageSharing}
+use Rattle.ksm_lines.specs.declared.knob.Knob.TheVariants.{UseZeroPages}
 use Rattle.ksm_lines.specs.declared.knob.Shown.{Shown}
 use Rattle.ksm_lines.specs.declared.knob.Shown.TheVariants.{Knob as OfKnob, ZeroPages}
 use Rattle.ksm_lines.specs.Grammar.{words_of}
@@ -29,7 +31,8 @@ Gives (Ok x) read = read ≡ Some x
 Gives (Err e) read = read ≡ None
 
 -- a call returned the value that reading gives, and the words behind it
-abbrev pub GivesField : {A : Type 0} → Result (A × Option (Bor (List ℕ))) LineFault → Option (A × List (List ℕ)) → Type 0
+abbrev pub GivesField : {A : Type 0} → Result (A × Option (Bor (List ℕ))) LineFault → Option (A × List (List ℕ))
+    → Type 0
 GivesField (Ok x) read = read ≡ Some (x.0, words_left x.1)
 GivesField (Err e) read = read ≡ None
 
@@ -42,10 +45,12 @@ field read (word ∷ words) = do
 
 -- decimal digits, the first no zero but in `0`
 abbrev pub is_plain : List ℕ → Bool
-is_plain word = list_all is_ascii_digit word && nat_lt 0 (length word) && (not (slice_index word 0 == 48) || length word == 1)
+is_plain word =
+    list_all is_ascii_digit word && nat_lt 0 (length word) && (not (slice_index word 0 == 48) || length word == 1)
 
 abbrev pub number_below : ℕ → List ℕ → Option ℕ
-number_below limit word = if is_plain word && nat_lt (digits_value 10 word) limit then Some (digits_value 10 word) else None
+number_below limit word =
+    if is_plain word && nat_lt (digits_value 10 word) limit then Some (digits_value 10 word) else None
 
 abbrev pub guest_of : List ℕ → Option ℕ
 guest_of word = number_below (2 ^ 16) word

@@ -1,12 +1,15 @@
 //! The fields of a line: its words, read one by one.
-ghost use Rattle.std.specs.Prelude.{◌≡◌, ◌+◌, ◌*◌, ◌<◌, ◌≤◌, ◌↔◌, ◌==◌, ◌∷◌, ◌++◌, ◌&&◌, map, not, false, true, length, take, slice_index, None, IsSome, IsTrue, IfSome, IfOk, IfErr, bytes_eq, position};
+ghost use Rattle.std.specs.Prelude.{◌≡◌, ◌+◌, ◌*◌, ◌<◌, ◌≤◌, ◌↔◌, ◌==◌, ◌∷◌, ◌++◌, ◌&&◌, map, not, false, true, length};
+ghost use Rattle.std.specs.Prelude.{take, slice_index, None, IsSome, IsTrue, IfSome, IfOk, IfErr, bytes_eq, position};
 ghost use Rattle.std.specs.Char.{is_ascii_digit, is_ascii_hexdigit};
 ghost use Rattle.std.specs.List.{list_all, range_with_len};
 ghost use Rattle.std.specs.Int.{w32, w64, from_le_bytes, to_le_bytes};
-ghost use Rattle.ksm_lines.specs.Content.{AreValues, digit_or_none, is_small, byte_at, pair_in, page_of_digits, content_of};
+ghost use Rattle.ksm_lines.specs.Content.{AreValues, digit_or_none, is_small, byte_at, pair_in, page_of_digits};
+ghost use Rattle.ksm_lines.specs.Content.{content_of};
 ghost use Rattle.ksm_lines.specs.Grammar.{words_of};
 ghost use Rattle.ksm_lines.specs.Digits.{digits_of, IsReadTo, IsHigh};
-ghost use Rattle.ksm_lines.specs.Reading.{Gives, GivesField, words_left, field, guest_of, number_of, page_at, alone, page_alone, knob_of, shown_of, ended};
+ghost use Rattle.ksm_lines.specs.Reading.{Gives, GivesField, words_left, field, guest_of, number_of, page_at, alone};
+ghost use Rattle.ksm_lines.specs.Reading.{page_alone, knob_of, shown_of, ended};
 
 use crate::knob::{Knob, Shown, knob_named, shown_named};
 use crate::line::LineFault;

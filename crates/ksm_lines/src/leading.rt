@@ -1,8 +1,8 @@
 //! The lines that come by the million, read where they lie: at the front of a text that has more behind them.
 //!
-//! A number ends at the byte behind it, and a line at its newline, so nobody looks for the newline first. No line is laid in a value
-//! that has room for a page: a short line has none, and one with a content gives that apart. What is not read here may still be a line;
-//! `read_line` tells.
+//! A number ends at the byte behind it, and a line at its newline, so nobody looks for the newline first. No line is
+//! laid in a value that has room for a page: a short line has none, and one with a content gives that apart. What is
+//! not read here may still be a line; `read_line` tells.
 ghost use Rattle.std.specs.Prelude.{◌≡◌, ◌<◌, ◌^◌, ◌++◌, ◌∷◌, ℕ, List, IfSome, Some, decimal};
 ghost use Rattle.ksm_lines.specs.Content.{content_of};
 ghost use Rattle.ksm_lines.specs.Leading.{BeginsWith, short_form, page_form};
@@ -217,7 +217,8 @@ fn guest_to(text: &[u8], end: u8) -> Option<(u16, &[u8])>
     Some((number as u16, left))
 }
 
-/// The number at the front of a text, and what is behind the byte that ends it. It need not be among the last few that fit.
+/// The number at the front of a text, and what is behind the byte that ends it. It need not be among the last few that
+/// fit.
 #[inline(always)]
 fn number_to(text: &[u8], end: u8) -> Option<(u32, &[u8])>
     ensures text { IfSome result (λ r. text.now ≡ decimal r.0 ++ end ∷ r.1.now) }

@@ -2,9 +2,12 @@
 ghost use Rattle.std.specs.Prelude.{◌≡◌, IfOk, Ok, option_map};
 ghost use Rattle.ksm_lines.specs.declared.line.Line.{Line};
 ghost use Rattle.ksm_lines.specs.Grammar.{Writes, words_of};
-ghost use Rattle.ksm_lines.specs.declared.line.Line.TheVariants.{Get as line_get, Ticket as line_ticket, Look as line_look, Leave as line_leave};
+ghost use Rattle.ksm_lines.specs.declared.line.Line.TheVariants.{Get as line_get, Ticket as line_ticket};
+ghost use Rattle.ksm_lines.specs.declared.line.Line.TheVariants.{Look as line_look, Leave as line_leave};
 ghost use Rattle.ksm_lines.specs.Reading.{Gives, alone, number_of, page_alone, words_left};
-ghost use Rattle.ksm_lines.specs.Forms.{forms, managing_forms, look_up_forms, line_at, named_line, name_alone, register_at, store_at, scan_at, move_page_at, move_dup_at, set_at, find_at, equal_at};
+ghost use Rattle.ksm_lines.specs.Forms.{forms, managing_forms, look_up_forms, line_at, named_line, name_alone};
+ghost use Rattle.ksm_lines.specs.Forms.{register_at, store_at, scan_at, move_page_at, move_dup_at, set_at, find_at};
+ghost use Rattle.ksm_lines.specs.Forms.{equal_at};
 
 use crate::field::{
     behind_name, content_alone, cut, ended, guest_alone, is, is_name, knob, number, number_alone,

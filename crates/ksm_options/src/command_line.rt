@@ -36,6 +36,10 @@ fn required<'a>(alloc: Global, name: &'a str, most: u64, help: &'a str) -> Arg<'
     number(alloc, name, most, help).required(true)
 }
 
+/// What stands under the options in the help.
+const WHERE_TO_READ: &str =
+    "The commands are in the manual page ksmbook(5), the rest in ksmbook(1); in a checkout both are docs/SCRIPT.md";
+
 /// The command line without an option.
 fn named<'a>(alloc: Global) -> Result<Command<'a>, AllocError>
     ensures { IfOk result (λ command. app_of command ≡ new_app (codes "ksmbook")) }
@@ -46,9 +50,7 @@ fn named<'a>(alloc: Global) -> Result<Command<'a>, AllocError>
             .about(
                 "Keeps a book of merged pages: commands on standard input, replies on standard output",
             )
-            .after_help(
-                "The commands are in the manual page ksmbook(5), the rest in ksmbook(1); in a checkout both are docs/SCRIPT.md",
-            ),
+            .after_help(WHERE_TO_READ),
     )
 }
 

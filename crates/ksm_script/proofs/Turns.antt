@@ -1,5 +1,5 @@
 -- A run goes on by one line.
-use Rattle.std.proofs.Common.{◌≡◌, ◌≢◌, ℕ, Bool, false, ◌+◌, ◌≤◌, List, [], ◌∷◌, ◌++◌, length, Option, None, Some, Result, Ok, Err, ap, ◌∙◌, sym, subst, append_assoc, inl, inr, refl}
+use Rattle.std.proofs.Common.{◌≡◌, ◌≢◌, ℕ, Bool, false, ◌+◌, ◌≤◌, List, [], ◌∷◌, ◌++◌, ◌⊎◌, length, Option, None, Some, Result, Ok, Err, ap, ◌∙◌, sym, subst, append_assoc, inl, inr, refl}
 use Rattle.std.specs.Io.KnownBytes.{Appends, Consumes, IsAtEnd, Keeps}
 use Rattle.std.proofs.lemmas.List.{append-nil}
 use Rattle.std.proofs.KnownBytes.{Appends-kept, Appends-nil, Appends-trans, Consumes-nil, Consumes-trans}
@@ -10,7 +10,7 @@ use Rattle.ksm_lines.specs.declared.line.Line.TheVariants.{Empty}
 use Rattle.ksm_lines.specs.declared.line.LineFault.{LineFault}
 use Rattle.ksm_script.specs.declared.reply.LineReply.{LineReply}
 use Rattle.ksm_script.specs.declared.script.End.{End}
-use Rattle.ksm_script.specs.declared.script.End.TheVariants.{BadLine}
+use Rattle.ksm_script.specs.declared.script.End.TheVariants.{AllRead, BadLine}
 use Rattle.ksm_script.specs.declared.script.RunFault.{RunFault}
 use Rattle.ksm_script.specs.declared.script.RunFault.TheVariants.{Write}
 use Rattle.ksm_script.specs.declared.input.LineEnd.{LineEnd}
@@ -19,7 +19,7 @@ use Rattle.ksm_lines.specs.Grammar.{Writes, IsNoLine}
 use Rattle.ksm_script.specs.Input.{EndsAs, IsPlain}
 use Rattle.ksm_script.specs.Answering.{Answers, reply_text}
 use Rattle.ksm_script.specs.Going.{GoesOn, IsSoFar}
-use Rattle.ksm_script.specs.LastLine.{EndsBad}
+use Rattle.ksm_script.specs.LastLine.{EndsBad, EndsOpen}
 use Rattle.ksm_script.specs.Said.{IsSaid, ReturnsReply, WritesReply}
 use Rattle.ksm_script.specs.Takes.{TakesForm}
 use Rattle.ksm_script.specs.Script.{Answered, none, more, CarriesOut, ReadFor, AnsweredAll, AnsweredLast, IsBad, IsReadAs, AnsweredToBad, AnsweredOne, AnsweredPart, Streams, streams, Goes}
@@ -150,7 +150,25 @@ pub goes_to_end : (first now begun written : Option (List ℕ)) (from : ScriptSt
     → GoesOn first now begun written from session number (Ok x) → Goes (streams first now begun written) from session.state (Ok end) × EndsBad first now session.line (Ok end)
 goes_to_end first now begun written from session number x end is on = subst (λ (y : Option End). GoesOn first now begun written from session number (Ok y)) is on
 
-abbrev found : LineEnd → Result LineEnd RunFault
+-- a run ends so, or goes on
+abbrev ended_so : End → Result End RunFault
+ended_so end = Ok end
+
+abbrev went_so : Option End → Result (Option End) RunFault
+went_so x = Ok x
+
+-- where a run ends with all read, its last line ended it so
+pub all_told : (x : Option End) (end : End) → x ≡ Some end → ended_so end ≡ ended_so AllRead → went_so x ≡ went_so (Some AllRead)
+all_told x end is all = cc
+
+-- what ends within a line, or is sent, does so behind the lines that were read before
+pub open_behind : {S : Type 0} (first now later : Option (List ℕ)) (lines : List ℕ) → Consumes first now lines → S ⊎ EndsOpen now later → S ⊎ EndsOpen first later
+open_behind first now later lines so (inl sent) = inl sent
+open_behind first now later lines so (inr last) =
+    let consumed = subst (λ (t : List ℕ). Consumes first later t) (sym (append_assoc lines last.0 last.1)) (Consumes-trans first now later lines (last.0 ++ last.1) so last.2) in
+    inr (lines ++ last.0, last.1, consumed, last.3, last.4)
+
+abbrev pub found : LineEnd → Result LineEnd RunFault
 found end = Ok end
 
 -- a plain line that was taken from the input was read
@@ -158,6 +176,12 @@ pub read_as : (now next : Option (List ℕ)) (line : List ℕ) (end : LineEnd) �
     → (found end ≡ found Input → IsAtEnd next) → IsRead now next line end
 read_as now next line end read plain last =
     record { bytes = read.0; ends = read.1; consumed = read.2; plain = plain; last = λ e. last (ap (λ (x : LineEnd). found x) e) }
+
+-- a line of some bytes that the end of the input ended
+pub ends_within : (now later : Option (List ℕ)) (line : List ℕ) (end : LineEnd) → IsRead now later line end → end ≡ Input → length line ≢ 0 → EndsOpen now later
+ends_within now later line end read last some =
+    let whole : read.bytes ≡ line = (subst (λ (e : LineEnd). EndsAs e line read.bytes) last read.ends).0 in
+    ([], line, subst (λ (t : List ℕ). Consumes now later t) whole read.consumed, read.plain, λ is. some (ap length is))
 
 -- a line that was carried out
 pub record IsDone (state next : ScriptState) (line : List ℕ) (end : LineEnd) (form : Line) (reply : Option LineReply) : Type 0 where

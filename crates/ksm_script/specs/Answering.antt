@@ -14,11 +14,14 @@ use Rattle.ksm_base.specs.Reading.{bytes_of, ticket_of, mappers_of}
 use Rattle.ksm_base.specs.declared.page.GuestPage.{GuestPage}
 use Rattle.ksm_base.specs.Refusals.{is_known}
 use Rattle.ksm_lines.specs.declared.line.Line.{Line}
-use Rattle.ksm_lines.specs.declared.line.Line.TheVariants.{Empty, Register, Drop, Store, Get, Ticket, Mappers, ScanPages, Scan, Prune, Unmerge, Mergeable, MovePage, MoveDup, Set, Show, Stat, Find, Equal, Look, Leave, Audit}
+use Rattle.ksm_lines.specs.declared.line.Line.TheVariants.{Empty, Register, Drop, Store, Get, Ticket, Mappers}
+use Rattle.ksm_lines.specs.declared.line.Line.TheVariants.{ScanPages, Scan, Prune, Unmerge, Mergeable, MovePage}
+use Rattle.ksm_lines.specs.declared.line.Line.TheVariants.{MoveDup, Set, Show, Stat, Find, Equal, Look, Leave, Audit}
 use Rattle.ksm_script.specs.declared.pass_state.PassState.{PassState}
 use Rattle.ksm_script.specs.declared.refusal.Refusal.TheVariants.{Book}
 use Rattle.ksm_script.specs.declared.reply.LineReply.{LineReply}
-use Rattle.ksm_script.specs.declared.reply.LineReply.TheVariants.{Done, Content, Place, Private, Mappers as Pages, Scanned, Pruned, Unmerged, Value, Counters, Refused}
+use Rattle.ksm_script.specs.declared.reply.LineReply.TheVariants.{Done, Content, Place, Private, Mappers as Pages}
+use Rattle.ksm_script.specs.declared.reply.LineReply.TheVariants.{Scanned, Pruned, Unmerged, Value, Counters, Refused}
 use Rattle.ksm_lines.specs.Knobs.{setting, shown_in}
 use Rattle.ksm_script.specs.State.{ScriptState}
 use Rattle.ksm_script.specs.Lookups.{Finds, Equals, LooksAt, GivesUp, AtPass, Audits, EndsIdle}
@@ -40,7 +43,8 @@ commanded s command answer =
 -- A command is a step of the book, and an entry of its journal; refused for memory it is left out.
 abbrev pub Commands : Command → ScriptState → Option LineReply → ScriptState → Type 0
 Commands command s reply next =
-    (answer : Answer) × IsAnswerOrMemory s.book command answer × (reply ≡ Some (reply_to answer)) × (next ≡ commanded s command answer)
+    (answer : Answer) × IsAnswerOrMemory s.book command answer × (reply ≡ Some (reply_to answer))
+    × (next ≡ commanded s command answer)
 
 -- what a line reads is a function of the book state, and nothing changes
 abbrev pub Reads : (BookState → Option LineReply) → ScriptState → Option LineReply → ScriptState → Type 0
@@ -74,7 +78,8 @@ abbrev pub KeepsBook : ScriptState → ScriptState → Type 0
 KeepsBook s next = (next.book ≡ s.book) × (next.journal ≡ s.journal)
 
 -- a line of the passes leaves the book as it is
-abbrev pub OnPasses : (List PassState → LineReply → List PassState → Type 0) → ScriptState → Option LineReply → ScriptState → Type 0
+abbrev pub OnPasses : (List PassState → LineReply → List PassState → Type 0) → ScriptState → Option LineReply
+    → ScriptState → Type 0
 OnPasses Does s None next = ⊥
 OnPasses Does s (Some reply) next = Does s.passes reply next.passes × KeepsBook s next
 

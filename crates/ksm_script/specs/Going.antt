@@ -9,7 +9,8 @@ use Rattle.ksm_script.specs.Seen.{SessionView}
 use Rattle.ksm_script.specs.State.{ScriptState}
 
 -- what a run read, did and wrote before the line of a number
-pub record IsSoFar (first now : Option (List ℕ)) (begun written : Option (List ℕ)) (from state : ScriptState) (number : ℕ) : Type 0 where
+pub record IsSoFar (first now : Option (List ℕ)) (begun written : Option (List ℕ)) (from state : ScriptState)
+    (number : ℕ) : Type 0 where
   pub lines : List ℕ
   pub text : List ℕ
   pub count : ℕ
@@ -19,8 +20,11 @@ pub record IsSoFar (first now : Option (List ℕ)) (begun written : Option (List
   pub appended : Appends begun written text
 
 -- what it read, did and wrote with that line: it goes on behind it, or ends there
-abbrev pub GoesOn : Option (List ℕ) → Option (List ℕ) → Option (List ℕ) → Option (List ℕ) → ScriptState → SessionView → ℕ → Result (Option End) RunFault → Type 0
-GoesOn first now begun written from session number (Ok None) = IsSoFar first now begun written from session.state (number + 1)
+abbrev pub GoesOn : Option (List ℕ) → Option (List ℕ) → Option (List ℕ) → Option (List ℕ) → ScriptState → SessionView
+    → ℕ → Result (Option End) RunFault → Type 0
+GoesOn first now begun written from session number (Ok None) =
+    IsSoFar first now begun written from session.state (number + 1)
 GoesOn first now begun written from session number (Ok (Some end)) =
     Goes (streams first now begun written) from session.state (Ok end) × EndsBad first now session.line (Ok end)
-GoesOn first now begun written from session number (Err fault) = Goes (streams first now begun written) from session.state (Err fault)
+GoesOn first now begun written from session number (Err fault) =
+    Goes (streams first now begun written) from session.state (Err fault)

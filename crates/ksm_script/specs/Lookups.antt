@@ -16,7 +16,8 @@ use Rattle.ksm_script.specs.declared.pass_state.Act.{Act}
 use Rattle.ksm_script.specs.declared.pass_state.Act.TheVariants.{Find, Equal, Look, Leave}
 use Rattle.ksm_script.specs.declared.refusal.Refusal.TheVariants.{Book, NoPass, NotHolding, Holding as PassHolds}
 use Rattle.ksm_script.specs.declared.reply.LineReply.{LineReply}
-use Rattle.ksm_script.specs.declared.reply.LineReply.TheVariants.{Done, Content, Held, Differs, Gone, Busy, Audit, Refused}
+use Rattle.ksm_script.specs.declared.reply.LineReply.TheVariants.{Done, Content, Held, Differs, Gone, Busy, Audit}
+use Rattle.ksm_script.specs.declared.reply.LineReply.TheVariants.{Refused}
 
 -- the table of a pass
 abbrev pub table_of : PassState → TableName
@@ -25,15 +26,18 @@ table_of (Holding h) = h.table
 
 -- the reply tells how a lookup ended, and the pass holds what it found
 abbrev pub Found : PassView → ℕ → LineReply → PassState → Type 0
-Found v place (Held frame generation) (Holding h) = LooksUp v place (found.Held h) × (frame ≡ h.frame) × (generation ≡ h.generation)
+Found v place (Held frame generation) (Holding h) =
+    LooksUp v place (found.Held h) × (frame ≡ h.frame) × (generation ≡ h.generation)
 Found v place (Gone why) (Idle w) = LooksUp v place (found.Gone w why)
 Found v place Busy (Idle w) = LooksUp v place (found.Busy w)
 Found v place _ _ = ⊥
 
 -- the same of a lookup that compares the content with a page: it is held also where it differs
 abbrev pub Compared : PassView → ℕ → List ℕ → LineReply → PassState → Type 0
-Compared v place page (Held frame generation) (Holding h) = LooksUpEqual v place page (compared.Held h) × (frame ≡ h.frame) × (generation ≡ h.generation)
-Compared v place page (Differs frame generation) (Holding h) = LooksUpEqual v place page (compared.Differs h) × (frame ≡ h.frame) × (generation ≡ h.generation)
+Compared v place page (Held frame generation) (Holding h) =
+    LooksUpEqual v place page (compared.Held h) × (frame ≡ h.frame) × (generation ≡ h.generation)
+Compared v place page (Differs frame generation) (Holding h) =
+    LooksUpEqual v place page (compared.Differs h) × (frame ≡ h.frame) × (generation ≡ h.generation)
 Compared v place page (Gone why) (Idle w) = LooksUpEqual v place page (compared.Gone w why)
 Compared v place page Busy (Idle w) = LooksUpEqual v place page (compared.Busy w)
 Compared v place page _ _ = ⊥
@@ -82,11 +86,14 @@ Acts Look = LooksAt
 Acts Leave = GivesUp
 
 -- the pass of a number does this, and no other does anything; refused where there is none
-abbrev pub DoesAt : (PassState → LineReply → PassState → Type 0) → Option PassState → ℕ → List PassState → LineReply → List PassState → Type 0
+abbrev pub DoesAt : (PassState → LineReply → PassState → Type 0) → Option PassState → ℕ → List PassState → LineReply
+    → List PassState → Type 0
 DoesAt Does None number passes reply next = (reply ≡ Refused NoPass) × (next ≡ passes)
-DoesAt Does (Some state) number passes reply next = (after : PassState) × Does state reply after × (next ≡ slice_set passes number after)
+DoesAt Does (Some state) number passes reply next =
+    (after : PassState) × Does state reply after × (next ≡ slice_set passes number after)
 
-abbrev pub AtPass : ℕ → (PassState → LineReply → PassState → Type 0) → List PassState → LineReply → List PassState → Type 0
+abbrev pub AtPass : ℕ → (PassState → LineReply → PassState → Type 0) → List PassState → LineReply → List PassState
+    → Type 0
 AtPass number Does passes reply next = DoesAt Does (slice_get passes number) number passes reply next
 
 -- the passes that hold nothing, in order

@@ -6,7 +6,9 @@ use Rattle.ksm_base.specs.declared.counters.Counters.{Counters}
 use Rattle.ksm_base.specs.declared.fault.Fault.{Fault}
 use Rattle.ksm_base.specs.Values.{fault_number}
 use Rattle.ksm_script.specs.declared.reply.LineReply.{LineReply}
-use Rattle.ksm_script.specs.declared.reply.LineReply.TheVariants.{Done, Content, Place, Private, Mappers, Scanned, Pruned, Unmerged, Value, Counters as CountersReply, Held, Differs, Gone, Busy, Audit, Refused, BadLine}
+use Rattle.ksm_script.specs.declared.reply.LineReply.TheVariants.{Done, Content, Place, Private, Mappers, Scanned}
+use Rattle.ksm_script.specs.declared.reply.LineReply.TheVariants.{Pruned, Unmerged, Value, Counters as CountersReply}
+use Rattle.ksm_script.specs.declared.reply.LineReply.TheVariants.{Held, Differs, Gone, Busy, Audit, Refused, BadLine}
 use Rattle.frame_table.specs.Gone.{why_number}
 use Rattle.ksm_audit.specs.declared.report.Row.{Row}
 use Rattle.ksm_audit.specs.declared.report.Row.TheVariants as rows
@@ -23,14 +25,16 @@ counted_text name count = concat (name ∷ decimal count ∷ codes "\n" ∷ [])
 -- a name, a number, and the refusal that stopped the command, if one did
 abbrev pub stopped_text : List ℕ → ℕ → Option Fault → List ℕ
 stopped_text name count None = counted_text name count
-stopped_text name count (Some fault) = concat (name ∷ decimal count ∷ codes " refused " ∷ decimal (fault_number fault) ∷ codes "\n" ∷ [])
+stopped_text name count (Some fault) =
+    concat (name ∷ decimal count ∷ codes " refused " ∷ decimal (fault_number fault) ∷ codes "\n" ∷ [])
 
 -- the counters, each behind its name
 abbrev pub counters_text : Counters → List ℕ
 counters_text c =
     concat (
-    codes "stat shared=" ∷ decimal c.shared ∷ codes " sharing=" ∷ decimal c.sharing ∷ codes " unshared=" ∷ decimal c.unshared
-    ∷ codes " volatile=" ∷ decimal c.volatile ∷ codes " chains=" ∷ decimal c.chains ∷ codes " dups=" ∷ decimal c.dups
+    codes "stat shared=" ∷ decimal c.shared ∷ codes " sharing=" ∷ decimal c.sharing
+    ∷ codes " unshared=" ∷ decimal c.unshared ∷ codes " volatile=" ∷ decimal c.volatile
+    ∷ codes " chains=" ∷ decimal c.chains ∷ codes " dups=" ∷ decimal c.dups
     ∷ codes " full_scans=" ∷ decimal c.full_scans ∷ codes "\n" ∷ [])
 
 -- a page that is merged into a dup
@@ -47,7 +51,8 @@ held_text name frame generation = concat (name ∷ decimal frame ∷ codes " " �
 
 -- how the lookup of a place ended
 abbrev pub row_text : Row → List ℕ
-row_text (rows.Found generation bytes) = concat (codes " found:" ∷ decimal generation ∷ codes ":" ∷ content_text bytes ∷ [])
+row_text (rows.Found generation bytes) =
+    concat (codes " found:" ∷ decimal generation ∷ codes ":" ∷ content_text bytes ∷ [])
 row_text (rows.Gone why) = concat (codes " gone:" ∷ decimal (why_number why) ∷ [])
 row_text rows.Busy = codes " busy"
 

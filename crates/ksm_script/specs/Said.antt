@@ -18,7 +18,8 @@ abbrev pub ReturnsReply : Option LineReply → Option LineReply → LineReply �
 ReturnsReply old new reply result = (new ≡ Some reply) × (result ≡ Ok tt)
 
 -- A reply of which something is true was handed over so; where it is true of no reply, nothing was.
-abbrev pub IsSaid : {S : Type 0} → (S → S → LineReply → Result (Unit {0}) RunFault → Type 0) → (Option LineReply → Type 0) → S → S → Result (Unit {0}) RunFault → Type 0
+abbrev pub IsSaid : {S : Type 0} → (S → S → LineReply → Result (Unit {0}) RunFault → Type 0)
+    → (Option LineReply → Type 0) → S → S → Result (Unit {0}) RunFault → Type 0
 IsSaid Takes Is old new result =
     ((reply : LineReply) × Is (Some reply) × Takes old new reply result)
     ⊎ (Is None × (new ≡ old) × (result ≡ Ok tt))

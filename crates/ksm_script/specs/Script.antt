@@ -40,17 +40,20 @@ ReadFor lines bytes left = (bytes ≡ lines) ⊎ ((bytes ++ 10 ∷ [] ≡ lines)
 -- whole lines were read, and answered with a text
 abbrev pub AnsweredAll : Option (List ℕ) → Option (List ℕ) → ScriptState → ScriptState → List ℕ → Type 0
 AnsweredAll old new from to text =
-    (lines : List ℕ) × (bytes : List ℕ) × (count : ℕ) × Answered from lines text count to × ReadFor lines bytes new × Consumes old new bytes
+    (lines : List ℕ) × (bytes : List ℕ) × (count : ℕ) × Answered from lines text count to × ReadFor lines bytes new
+    × Consumes old new bytes
 
 -- whole lines were read, and answered with a text; then one more was read, and carried out with this reply
 abbrev pub AnsweredLast : Option (List ℕ) → Option (List ℕ) → ScriptState → ScriptState → List ℕ → LineReply → Type 0
 AnsweredLast old new from to text reply =
-    (lines : List ℕ) × (line : List ℕ) × (bytes : List ℕ) × (count : ℕ) × (now : ScriptState) × Answered from lines text count now
+    (lines : List ℕ) × (line : List ℕ) × (bytes : List ℕ) × (count : ℕ) × (now : ScriptState)
+    × Answered from lines text count now
     × CarriesOut now line (Some reply) to × ReadFor (lines ++ (line ++ 10 ∷ [])) bytes new × Consumes old new bytes
 
 -- so many whole lines were read and answered with a text, and some bytes were read behind them
 abbrev pub AnsweredBefore : Option (List ℕ) → Option (List ℕ) → ScriptState → ScriptState → List ℕ → ℕ → List ℕ → Type 0
-AnsweredBefore old new from to text count bytes = (lines : List ℕ) × Answered from lines text count to × Consumes old new (lines ++ bytes)
+AnsweredBefore old new from to text count bytes =
+    (lines : List ℕ) × Answered from lines text count to × Consumes old new (lines ++ bytes)
 
 -- a bad line, by how it ended: none of the forms, or more bytes than a line may have
 abbrev pub IsBad : LineEnd → List ℕ → Option (List ℕ) → Type 0
@@ -82,17 +85,19 @@ streams unread left begun written = record { unread = unread; left = left; begun
 -- one whole line was read, carried out and answered
 abbrev pub AnsweredOne : Streams → ScriptState → ScriptState → Type 0
 AnsweredOne io from to =
-    (line : List ℕ) × (reply : Option LineReply) × CarriesOut from line reply to × Consumes io.unread io.left (line ++ 10 ∷ [])
+    (line : List ℕ) × (reply : Option LineReply) × CarriesOut from line reply to
+    × Consumes io.unread io.left (line ++ 10 ∷ [])
     × Appends io.begun io.written (reply_text reply)
 
 -- one whole line was read and carried out, and a beginning of its reply is written
 abbrev pub AnsweredPart : Streams → ScriptState → ScriptState → Type 0
 AnsweredPart io from to =
-    (line : List ℕ) × (reply : LineReply) × CarriesOut from line (Some reply) to × Consumes io.unread io.left (line ++ 10 ∷ [])
+    (line : List ℕ) × (reply : LineReply) × CarriesOut from line (Some reply) to
+    × Consumes io.unread io.left (line ++ 10 ∷ [])
     × AppendsPart io.begun io.written (text_of reply)
 
--- What was read, done and written, by how it ended. At a failed write a beginning of one reply stands behind those before it: that of the
--- line read last, or of a bad line
+-- What was read, done and written, by how it ended. At a failed write a beginning of one reply stands behind those
+-- before it: that of the line read last, or of a bad line
 abbrev pub Goes : Streams → ScriptState → ScriptState → Result End RunFault → Type 0
 Goes io from to (Ok AllRead) =
     (text : List ℕ) × AnsweredAll io.unread io.left from to text × Appends io.begun io.written text × IsAtEnd io.left
@@ -103,7 +108,8 @@ Goes io from to (Err Read) =
     (text : List ℕ) × (count : ℕ) × (rest : List ℕ) × IsPlain rest × (length rest ≤ 256)
     × AnsweredBefore io.unread io.left from to text count rest × Appends io.begun io.written text
 Goes io from to (Err Write) =
-    ((text : List ℕ) × (reply : LineReply) × AnsweredLast io.unread io.left from to text reply × AppendsBroken io.begun io.written text (text_of reply))
+    ((text : List ℕ) × (reply : LineReply) × AnsweredLast io.unread io.left from to text reply
+    × AppendsBroken io.begun io.written text (text_of reply))
     ⊎ ((text : List ℕ) × (count : ℕ) × AnsweredToBad io.unread io.left from to text count
     × AppendsBroken io.begun io.written text (text_of (Bad (count + 1))))
 

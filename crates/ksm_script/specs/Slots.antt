@@ -17,7 +17,8 @@ abbrev pub AreThere : {A : Type 0} → List (Option A) → Type 0
 AreThere slots = slots ≡ map (λ x. Some x) (present slots)
 
 -- the pass of a number did something, all passes are there, and are of the table
-pub record ActsAt (table : TableName) (number : ℕ) (Does : PassState → LineReply → PassState → Type 0) (slots : List (Option PassState)) (reply : LineReply) (next : List (Option PassState)) : Type 0 where
+pub record ActsAt (table : TableName) (number : ℕ) (Does : PassState → LineReply → PassState → Type 0)
+    (slots : List (Option PassState)) (reply : LineReply) (next : List (Option PassState)) : Type 0 where
   pub does : AtPass number Does (present slots) reply (present next)
   pub there : AreThere next
   pub own : All (λ (s : PassState). table_of s ≡ table) (present next)

@@ -14,7 +14,8 @@ AppendsPart old new text = (part : List ℕ) × (rest : List ℕ) × (part ++ re
 
 -- known bytes grow by a text, and by a beginning of the next one
 abbrev pub AppendsBroken : Option (List ℕ) → Option (List ℕ) → List ℕ → List ℕ → Type 0
-AppendsBroken old new text next = (part : List ℕ) × (rest : List ℕ) × (part ++ rest ≡ next) × Appends old new (text ++ part)
+AppendsBroken old new text next =
+    (part : List ℕ) × (rest : List ℕ) × (part ++ rest ≡ next) × Appends old new (text ++ part)
 
 -- a byte in two hexadecimal digits, lower case
 abbrev pub byte_digits : ℕ → List ℕ

@@ -1,4 +1,5 @@
--- Worked lines, by which the definitions of the script are tried: what a line is answered in a state, and what never (own).
+-- Worked lines, by which the definitions of the script are tried: what a line is answered in a state, and what never
+-- (own).
 use Rattle.std.specs.Prelude.{◌≡◌, ℕ, ◌*◌, ◌^◌, List, [], ◌∷◌, ◌++◌, length, Option, None, Some, Ok, Err}
 use Rattle.std.specs.Global.{Vec}
 use Rattle.std.specs.List.{repeat}
@@ -9,7 +10,8 @@ use Rattle.ksm_base.specs.declared.command.Command.{Command}
 use Rattle.ksm_base.specs.declared.command.Command.TheVariants as commands
 use Rattle.ksm_base.specs.declared.reply.Reply.TheVariants as replies
 use Rattle.ksm_base.specs.declared.fault.Fault.{Fault}
-use Rattle.ksm_base.specs.declared.fault.Fault.TheVariants.{Memory, UnknownPage, NotRunning, BadValue, UnknownPlace, BadNode}
+use Rattle.ksm_base.specs.declared.fault.Fault.TheVariants.{Memory, UnknownPage, NotRunning, BadValue, UnknownPlace}
+use Rattle.ksm_base.specs.declared.fault.Fault.TheVariants.{BadNode}
 use Rattle.ksm_base.specs.State.{opening}
 use Rattle.frame_table.specs.declared.pass.Why.TheVariants.{Vacant}
 use Rattle.frame_table.specs.Named.{TableName, PassView, HeldView}
@@ -24,7 +26,9 @@ use Rattle.ksm_lines.specs.declared.line.Line.TheVariants as lines
 use Rattle.ksm_script.specs.declared.pass_state.PassState.TheVariants.{Idle, Holding}
 use Rattle.ksm_script.specs.declared.refusal.Refusal.TheVariants.{Book, NoPass, NotHolding, Holding as PassHolds}
 use Rattle.ksm_script.specs.declared.reply.LineReply.{LineReply}
-use Rattle.ksm_script.specs.declared.reply.LineReply.TheVariants.{Done, Content, Place, Private, Mappers, Scanned, Pruned, Unmerged, Value, Held, Gone, Busy, Audit, Refused}
+use Rattle.ksm_script.specs.declared.reply.LineReply.TheVariants.{Done, Content, Place, Private, Mappers, Scanned}
+use Rattle.ksm_script.specs.declared.reply.LineReply.TheVariants.{Pruned, Unmerged, Value, Held, Gone, Busy, Audit}
+use Rattle.ksm_script.specs.declared.reply.LineReply.TheVariants.{Refused}
 use Rattle.ksm_script.specs.State.{ScriptState}
 use Rattle.ksm_script.specs.Answering.{Answers, commanded}
 
@@ -61,33 +65,46 @@ register page = commands.Register (at 0 page) 0 (full 0xaa)
 
 -- two equal pages are merged
 abbrev pub merged : TableName → ScriptState
-merged t = commanded (commanded (commanded (commanded (start t) (register 0) (Ok replies.Done)) (register 1) (Ok replies.Done)) (commands.SetRun 1) (Ok replies.Done)) (commands.Scan 4) (Ok (replies.Scanned 4 None))
+merged t = commanded (commanded (commanded (commanded (start t) (register 0) (Ok replies.Done)) (register 1)
+    (Ok replies.Done)) (commands.SetRun 1) (Ok replies.Done)) (commands.Scan 4) (Ok (replies.Scanned 4 None))
 
 -- Lines that are commands
 pub record CommandLines (t : TableName) : Type 0 where
-  pub registered : Leads (start t) (lines.Register (at 0 0) 0 (full 0xaa)) (Some Done) (commanded (start t) (register 0) (Ok replies.Done))
+  pub registered : Leads (start t) (lines.Register (at 0 0) 0 (full 0xaa)) (Some Done)
+      (commanded (start t) (register 0) (Ok replies.Done))
   pub no_memory : Leads (start t) (lines.Register (at 0 0) 0 (full 0xaa)) (Some (Refused (Book Memory))) (start t)
   pub not_unknown : Never (start t) (lines.Register (at 0 0) 0 (full 0xaa)) (Some (Refused (Book UnknownPage)))
-  pub no_page : Leads (start t) (lines.Drop (at 0 0)) (Some (Refused (Book UnknownPage))) (noted (start t) (commands.Drop (at 0 0)) UnknownPage)
+  pub no_page : Leads (start t) (lines.Drop (at 0 0)) (Some (Refused (Book UnknownPage)))
+      (noted (start t) (commands.Drop (at 0 0)) UnknownPage)
   pub not_dropped : Never (start t) (lines.Drop (at 0 0)) (Some Done)
-  pub stored : Leads (merged t) (lines.Store (at 0 0) (full 0xbb)) (Some Done) (commanded (merged t) (commands.Store (at 0 0) (full 0xbb)) (Ok replies.Done))
+  pub stored : Leads (merged t) (lines.Store (at 0 0) (full 0xbb)) (Some Done)
+      (commanded (merged t) (commands.Store (at 0 0) (full 0xbb)) (Ok replies.Done))
   pub not_stored : Never (start t) (lines.Store (at 0 0) (full 0xbb)) (Some Done)
-  pub scanned : Leads (merged t) (lines.Scan 2) (Some (Scanned 2 None)) (commanded (merged t) (commands.Scan 2) (Ok (replies.Scanned 2 None)))
+  pub scanned : Leads (merged t) (lines.Scan 2) (Some (Scanned 2 None))
+      (commanded (merged t) (commands.Scan 2) (Ok (replies.Scanned 2 None)))
   pub not_more : Never (merged t) (lines.Scan 2) (Some (Scanned 3 None))
-  pub scanned_by_knob : Leads (merged t) lines.ScanPages (Some (Scanned 100 None)) (commanded (merged t) (commands.Scan 100) (Ok (replies.Scanned 100 None)))
+  pub scanned_by_knob : Leads (merged t) lines.ScanPages (Some (Scanned 100 None))
+      (commanded (merged t) (commands.Scan 100) (Ok (replies.Scanned 100 None)))
   pub not_by_knob : Never (merged t) lines.ScanPages (Some (Scanned 4 None))
-  pub not_running : Leads (start t) (lines.Scan 2) (Some (Refused (Book NotRunning))) (noted (start t) (commands.Scan 2) NotRunning)
-  pub pruned : Leads (merged t) lines.Prune (Some (Pruned 0)) (commanded (merged t) commands.Prune (Ok (replies.Pruned 0)))
+  pub not_running : Leads (start t) (lines.Scan 2) (Some (Refused (Book NotRunning)))
+      (noted (start t) (commands.Scan 2) NotRunning)
+  pub pruned : Leads (merged t) lines.Prune (Some (Pruned 0))
+      (commanded (merged t) commands.Prune (Ok (replies.Pruned 0)))
   pub not_pruned : Never (merged t) lines.Prune (Some (Pruned 1))
-  pub unmerged : Leads (merged t) (lines.Unmerge 0) (Some (Unmerged 2 None)) (commanded (merged t) (commands.Unmerge 0) (Ok (replies.Unmerged 2 None)))
+  pub unmerged : Leads (merged t) (lines.Unmerge 0) (Some (Unmerged 2 None))
+      (commanded (merged t) (commands.Unmerge 0) (Ok (replies.Unmerged 2 None)))
   pub not_one : Never (merged t) (lines.Unmerge 0) (Some (Unmerged 1 None))
-  pub mergeable : Leads (merged t) (lines.Mergeable 0) (Some Done) (commanded (merged t) (commands.Mergeable 0) (Ok replies.Done))
+  pub mergeable : Leads (merged t) (lines.Mergeable 0) (Some Done)
+      (commanded (merged t) (commands.Mergeable 0) (Ok replies.Done))
   pub not_mergeable : Never (merged t) (lines.Mergeable 7) (Some Done)
-  pub no_node : Leads (merged t) (lines.MovePage (at 0 0) 9) (Some (Refused (Book BadNode))) (noted (merged t) (commands.MovePage (at 0 0) 9) BadNode)
+  pub no_node : Leads (merged t) (lines.MovePage (at 0 0) 9) (Some (Refused (Book BadNode)))
+      (noted (merged t) (commands.MovePage (at 0 0) 9) BadNode)
   pub not_moved : Never (merged t) (lines.MovePage (at 0 0) 9) (Some Done)
-  pub no_dup : Leads (merged t) (lines.MoveDup 3 0) (Some (Refused (Book UnknownPlace))) (noted (merged t) (commands.MoveDup 3 0) UnknownPlace)
+  pub no_dup : Leads (merged t) (lines.MoveDup 3 0) (Some (Refused (Book UnknownPlace)))
+      (noted (merged t) (commands.MoveDup 3 0) UnknownPlace)
   pub not_moved_dup : Never (merged t) (lines.MoveDup 3 0) (Some Done)
-  pub bad_value : Leads (merged t) (lines.Set Run 3) (Some (Refused (Book BadValue))) (noted (merged t) (commands.SetRun 3) BadValue)
+  pub bad_value : Leads (merged t) (lines.Set Run 3) (Some (Refused (Book BadValue)))
+      (noted (merged t) (commands.SetRun 3) BadValue)
   pub not_set : Never (merged t) (lines.Set Run 3) (Some Done)
 
 -- Lines that read the book
@@ -99,8 +116,10 @@ pub record ReadingLines (t : TableName) : Type 0 where
   pub no_page : Leads (merged t) (lines.Get (at 7 0)) (Some (Refused (Book UnknownPage))) (merged t)
   pub place : Leads (merged t) (lines.Ticket (at 0 1)) (Some (Place 0)) (merged t)
   pub not_private : Never (merged t) (lines.Ticket (at 0 1)) (Some Private)
-  pub mappers : (pages : Vec GuestPage) → pages.items ≡ at 0 0 ∷ at 0 1 ∷ [] → Leads (merged t) (lines.Mappers 0) (Some (Mappers pages)) (merged t)
-  pub not_fewer : (pages : Vec GuestPage) → pages.items ≡ at 0 0 ∷ [] → Never (merged t) (lines.Mappers 0) (Some (Mappers pages))
+  pub mappers : (pages : Vec GuestPage) → pages.items ≡ at 0 0 ∷ at 0 1 ∷ []
+      → Leads (merged t) (lines.Mappers 0) (Some (Mappers pages)) (merged t)
+  pub not_fewer : (pages : Vec GuestPage) → pages.items ≡ at 0 0 ∷ []
+      → Never (merged t) (lines.Mappers 0) (Some (Mappers pages))
   pub not_without : Never (merged t) (lines.Mappers 0) (Some (Refused (Book UnknownPlace)))
   pub no_memory : Leads (merged t) (lines.Mappers 0) (Some (Refused (Book Memory))) (merged t)
   pub not_for_memory : Never (merged t) (lines.Mappers 1) (Some (Refused (Book Memory)))
@@ -125,21 +144,29 @@ pub record LookupLines (v : PassView) (h k : HeldView) : Type 0 where
   pub not_busy : Never (one_holds v h) (lines.Find 0 4) (Some Busy)
   pub not_refused : Never (one_holds v h) (lines.Find 0 3) (Some (Refused (Book UnknownPlace)))
   pub not_while_held : Never (one_holds v h) (lines.Find 1 3) (Some Busy)
-  pub vacant : (log : ReaderLog) → IsVacant 3 log → Leads (one_holds v h) (lines.Find 0 3) (Some (Gone Vacant)) (one_holds (record v { log = v.log ++ log }) h)
-  pub held : (frame generation : ℕ) (n : ScriptState) → Answers (lines.Find 0 3) (one_holds v h) (Some (Held frame generation)) n → (x : HeldView) × (n ≡ both_hold x h) × (x.place ≡ 3) × (x.frame ≡ frame)
-  pub equal_no_pass : (page : List ℕ) → Leads (one_holds v h) (lines.Equal 2 9 page) (Some (Refused NoPass)) (one_holds v h)
-  pub equal_holds : (page : List ℕ) → Leads (one_holds v h) (lines.Equal 1 9 page) (Some (Refused PassHolds)) (one_holds v h)
-  pub equal_no_place : (page : List ℕ) → Leads (one_holds v h) (lines.Equal 0 4 page) (Some (Refused (Book UnknownPlace))) (one_holds v h)
+  pub vacant : (log : ReaderLog) → IsVacant 3 log
+      → Leads (one_holds v h) (lines.Find 0 3) (Some (Gone Vacant)) (one_holds (record v { log = v.log ++ log }) h)
+  pub held : (frame generation : ℕ) (n : ScriptState) → Answers (lines.Find 0 3) (one_holds v h)
+      (Some (Held frame generation)) n → (x : HeldView) × (n ≡ both_hold x h) × (x.place ≡ 3) × (x.frame ≡ frame)
+  pub equal_no_pass : (page : List ℕ)
+      → Leads (one_holds v h) (lines.Equal 2 9 page) (Some (Refused NoPass)) (one_holds v h)
+  pub equal_holds : (page : List ℕ)
+      → Leads (one_holds v h) (lines.Equal 1 9 page) (Some (Refused PassHolds)) (one_holds v h)
+  pub equal_no_place : (page : List ℕ)
+      → Leads (one_holds v h) (lines.Equal 0 4 page) (Some (Refused (Book UnknownPlace))) (one_holds v h)
   pub look_no_pass : Leads (one_holds v h) (lines.Look 2) (Some (Refused NoPass)) (one_holds v h)
   pub look_idle : Leads (one_holds v h) (lines.Look 0) (Some (Refused NotHolding)) (one_holds v h)
   pub not_looked : (bytes : List ℕ) → Never (one_holds v h) (lines.Look 0) (Some (Content bytes))
-  pub looked : (bytes : List ℕ) (n : ScriptState) → Answers (lines.Look 1) (one_holds v h) (Some (Content bytes)) n → (x : HeldView) × (n ≡ one_holds v x) × (x.log ≡ h.log ++ word_loads 0 bytes)
+  pub looked : (bytes : List ℕ) (n : ScriptState) → Answers (lines.Look 1) (one_holds v h) (Some (Content bytes)) n
+      → (x : HeldView) × (n ≡ one_holds v x) × (x.log ≡ h.log ++ word_loads 0 bytes)
   pub leave_no_pass : Leads (one_holds v h) (lines.Leave 2) (Some (Refused NoPass)) (one_holds v h)
   pub leave_idle : Leads (one_holds v h) (lines.Leave 0) (Some (Refused NotHolding)) (one_holds v h)
   pub not_left : Never (one_holds v h) (lines.Leave 0) (Some Done)
-  pub left : (n : ScriptState) → Answers (lines.Leave 1) (one_holds v h) (Some Done) n → (w : PassView) × (n ≡ record { book = opening (shape 1 4); journal = []; passes = Idle v ∷ Idle w ∷ [] })
+  pub left : (n : ScriptState) → Answers (lines.Leave 1) (one_holds v h) (Some Done) n → (w : PassView)
+      × (n ≡ record { book = opening (shape 1 4); journal = []; passes = Idle v ∷ Idle w ∷ [] })
   pub audit_holds : Leads (both_hold h k) lines.Audit (Some (Refused PassHolds)) (both_hold h k)
   pub audit_not_held : Never (one_holds v h) lines.Audit (Some (Refused PassHolds))
   pub audit_memory : Leads (one_holds v h) lines.Audit (Some (Refused (Book Memory))) (one_holds v h)
-  pub audited : (rows : List Row) (n : ScriptState) → Answers lines.Audit (one_holds v h) (Some (Audit rows)) n → (w : PassView) × (n ≡ one_holds w h) × (length rows ≡ 4)
+  pub audited : (rows : List Row) (n : ScriptState) → Answers lines.Audit (one_holds v h) (Some (Audit rows)) n
+      → (w : PassView) × (n ≡ one_holds w h) × (length rows ≡ 4)
   pub not_audited : (rows : List Row) → Never (both_hold h k) lines.Audit (Some (Audit rows))

@@ -11,8 +11,8 @@ pub trait Hears<W: Write> {
     /// Whether it hears replies. Where it does not, a reply may be kept from it.
     fn listens(&self) -> bool;
 
-    /// Hears the reply to the line of this number, which stands in the writer. The writer may send what it has, and where that fails
-    /// the run ends with a failed write.
+    /// Hears the reply to the line of this number, which stands in the writer. The writer may send what it has, and
+    /// where that fails the run ends with a failed write.
     fn hear(
         &mut self,
         writer: &mut W,

@@ -1,5 +1,6 @@
 //! Lines from a reader.
-ghost use Rattle.std.specs.Prelude.{◌≡◌, ◌≢◌, ◌+◌, ◌<◌, ◌≤◌, ◌++◌, ◌∷◌, ◌⊎◌, [], ℕ, List, Option, Some, Ok, true, false, length, take, IfOk, IfErr, IfNone, IfSome, IsTrue, ◌↔◌, option_to_list};
+ghost use Rattle.std.specs.Prelude.{◌≡◌, ◌≢◌, ◌+◌, ◌<◌, ◌≤◌, ◌++◌, ◌∷◌, ◌⊎◌, ⊤, [], ℕ, List, Option, Some, Ok, true};
+ghost use Rattle.std.specs.Prelude.{false, length, take, IfOk, IfErr, IfNone, IfSome, IsTrue, ◌↔◌, option_to_list};
 ghost use Rattle.std.specs.Io.Buffered.{reader_inner, reader_remaining, writer_buffer, writer_contents};
 ghost use Rattle.std.specs.Io.KnownBytes.{Consumes, Keeps, IsAtEnd};
 ghost use Rattle.ksm_lines.specs.Leading.{short_form, page_form};
@@ -147,7 +148,8 @@ fn take_byte<R: Read>(reader: &mut R, line: &mut LineBuffer) -> Result<Option<Li
 fn take_block<R: Read>(reader: &mut BufReader<R>, line: &mut LineBuffer) -> Option<LineEnd>
     requires plain { IsPlain line.old }
     requires room { length line.old ≤ LONGEST_LINE }
-    ensures taken { Takes result line.old line.new (reader_remaining R.remaining reader.old) (reader_remaining R.remaining reader.new) }
+    ensures taken { Takes result line.old line.new (reader_remaining R.remaining reader.old)
+        (reader_remaining R.remaining reader.new) }
     ensures plain { IsPlain line.new }
     ensures end { result ≢ Some LineEnd.Input }
     ensures source { reader_inner reader.new ≡ reader_inner reader.old }
@@ -169,10 +171,12 @@ fn take_block<R: Read>(reader: &mut BufReader<R>, line: &mut LineBuffer) -> Opti
     }
 }
 
-/// Takes the newline of a line of no bytes, if that is next in the reader's buffer; tells whether it did. Else nothing is taken.
+/// Takes the newline of a line of no bytes, if that is next in the reader's buffer; tells whether it did. Else nothing
+/// is taken.
 #[inline(always)]
 fn take_empty<R: Read>(reader: &mut BufReader<R>) -> bool
-    ensures taken { result ≡ true → TakesForm Line.Empty (reader_remaining R.remaining reader.old) (reader_remaining R.remaining reader.new) }
+    ensures taken { result ≡ true
+        → TakesForm Line.Empty (reader_remaining R.remaining reader.old) (reader_remaining R.remaining reader.new) }
     ensures none { result ≡ false → reader.new ≡ reader.old }
 {
     let [b'\n', ..] = reader.buffer() else {
@@ -185,7 +189,8 @@ fn take_empty<R: Read>(reader: &mut BufReader<R>) -> bool
 /// Takes the short line that a reader has next in its buffer, read where it lies, if it is one. Else nothing is taken.
 #[inline(always)]
 fn take_short<R: Read>(reader: &mut BufReader<R>) -> Option<ShortLine>
-    ensures taken { IfSome result (λ line. TakesForm (short_form line) (reader_remaining R.remaining reader.old) (reader_remaining R.remaining reader.new)) }
+    ensures taken { IfSome result (λ line. TakesForm (short_form line) (reader_remaining R.remaining reader.old)
+        (reader_remaining R.remaining reader.new)) }
     ensures none { IfNone result (reader.new ≡ reader.old) }
 {
     let buffer = reader.buffer();
@@ -198,10 +203,12 @@ fn take_short<R: Read>(reader: &mut BufReader<R>) -> Option<ShortLine>
     Some(line)
 }
 
-/// Takes the line with a content that a reader has next in its buffer, read where it lies, if it is one. Else nothing is taken.
+/// Takes the line with a content that a reader has next in its buffer, read where it lies, if it is one. Else nothing
+/// is taken.
 #[inline(always)]
 fn take_page<R: Read>(reader: &mut BufReader<R>) -> Option<(PageLine, PageBytes)>
-    ensures taken { IfSome result (λ r. TakesForm (page_form r.0 r.1) (reader_remaining R.remaining reader.old) (reader_remaining R.remaining reader.new)) }
+    ensures taken { IfSome result (λ r. TakesForm (page_form r.0 r.1) (reader_remaining R.remaining reader.old)
+        (reader_remaining R.remaining reader.new)) }
     ensures none { IfNone result (reader.new ≡ reader.old) }
 {
     let buffer = reader.buffer();
@@ -212,9 +219,11 @@ fn take_page<R: Read>(reader: &mut BufReader<R>) -> Option<(PageLine, PageBytes)
     Some((line, bytes))
 }
 
-/// Takes the line that a reader has whole in its buffer, read where it lies, if it is one of the forms. Else nothing is taken.
+/// Takes the line that a reader has whole in its buffer, read where it lies, if it is one of the forms. Else nothing is
+/// taken.
 fn take_whole<R: Read>(reader: &mut BufReader<R>) -> Option<Line>
-    ensures taken { IfSome result (λ form. TakesForm form (reader_remaining R.remaining reader.old) (reader_remaining R.remaining reader.new)) }
+    ensures taken { IfSome result
+        (λ form. TakesForm form (reader_remaining R.remaining reader.old) (reader_remaining R.remaining reader.new)) }
     ensures none { IfNone result (reader.new ≡ reader.old) }
 {
     let buffer = reader.buffer();
@@ -229,7 +238,8 @@ fn take_whole<R: Read>(reader: &mut BufReader<R>) -> Option<Line>
     Some(line)
 }
 
-/// Reads a line up to its newline, to the end of the input, or until it is too long. At a fault the line has what was read of it.
+/// Reads a line up to its newline, to the end of the input, or until it is too long. At a fault the line has what was
+/// read of it.
 pub fn next_line<R: Read>(reader: &mut R, line: &mut LineBuffer) -> Result<LineEnd, RunFault>
     ensures read { IfOk result (λ end. (bytes : List ℕ) × EndsAs end line.new bytes
         × Consumes (R.remaining reader.old) (R.remaining reader.new) bytes) }
@@ -252,6 +262,12 @@ pub(crate) trait TakesLines<R, W: Write> {
     /// The bytes that the reader still gives, where they are known.
     ghost remaining: { R → Option (List ℕ) };
 
+    /// From the one reader to the other nothing was read that might have to be waited for.
+    ghost waits_not: { R → R → Type 0 };
+
+    /// All that the writer was given is sent.
+    ghost is_sent: { W → Type 0 };
+
     /// Takes the next line at once, if it is at hand and has no bytes; tells whether it did. Else nothing is taken.
     fn take_empty(reader: &mut R) -> bool
         ensures taken { result ≡ true → TakesForm Line.Empty (remaining reader.old) (remaining reader.new) }
@@ -259,12 +275,15 @@ pub(crate) trait TakesLines<R, W: Write> {
 
     /// Takes the next line at once, if it is at hand and a short one. Else nothing is taken, which may be of any line.
     fn take_short(reader: &mut R) -> Option<ShortLine>
-        ensures taken { IfSome result (λ line. TakesForm (short_form line) (remaining reader.old) (remaining reader.new)) }
+        ensures taken { IfSome result
+            (λ line. TakesForm (short_form line) (remaining reader.old) (remaining reader.new)) }
         ensures none { IfNone result (reader.new ≡ reader.old) };
 
-    /// Takes the next line at once, if it is at hand and has a content, which comes apart. Else nothing is taken, which may be of any line.
+    /// Takes the next line at once, if it is at hand and has a content, which comes apart. Else nothing is taken, which
+    /// may be of any line.
     fn take_page(reader: &mut R) -> Option<(PageLine, PageBytes)>
-        ensures taken { IfSome result (λ r. TakesForm (page_form r.0 r.1) (remaining reader.old) (remaining reader.new)) }
+        ensures taken { IfSome result
+            (λ r. TakesForm (page_form r.0 r.1) (remaining reader.old) (remaining reader.new)) }
         ensures none { IfNone result (reader.new ≡ reader.old) };
 
     /// Takes the next line at once, if it is at hand and one of the forms. Else nothing is taken.
@@ -272,7 +291,8 @@ pub(crate) trait TakesLines<R, W: Write> {
         ensures taken { IfSome result (λ form. TakesForm form (remaining reader.old) (remaining reader.new)) }
         ensures none { IfNone result (reader.new ≡ reader.old) };
 
-    /// Reads a line up to its newline, to the end of the input, or until it is too long. At a fault the line has what was read of it.
+    /// Reads a line up to its newline, to the end of the input, or until it is too long. At a fault the line has what
+    /// was read of it. Where it may have waited, all replies were sent before.
     fn next_line(reader: &mut R, writer: &mut W, line: &mut LineBuffer) -> Result<LineEnd, RunFault>
         ensures read { IfOk result (λ end. (bytes : List ℕ) × EndsAs end line.new bytes
             × Consumes (remaining reader.old) (remaining reader.new) bytes) }
@@ -280,7 +300,9 @@ pub(crate) trait TakesLines<R, W: Write> {
         ensures end { result ≡ Ok LineEnd.Input → IsAtEnd (remaining reader.new) }
         ensures fault { IfErr result (λ e. (e ≡ RunFault.Read) × (length line.new ≤ LONGEST_LINE)
             × Consumes (remaining reader.old) (remaining reader.new) line.new) }
-        ensures kept { Keeps (W.contents writer.old) (W.contents writer.new) };
+        ensures kept { Keeps (W.contents writer.old) (W.contents writer.new) }
+        ensures sent { waits_not reader.old reader.new ⊎ is_sent writer.new }
+        ensures waited { result ≡ Ok LineEnd.Input → is_sent writer.new };
 }
 
 /// Byte by byte, from any reader.
@@ -288,6 +310,10 @@ pub(crate) struct ByBytes;
 
 impl<R: Read, W: Write> TakesLines<R, W> for ByBytes {
     ghost remaining = { R.remaining };
+
+    ghost waits_not = { λ _ _. ⊤ };
+
+    ghost is_sent = { λ _. ⊤ };
 
     fn take_empty(_reader: &mut R) -> bool {
         false
@@ -314,11 +340,16 @@ impl<R: Read, W: Write> TakesLines<R, W> for ByBytes {
     }
 }
 
-/// Out of a reader's buffer, a whole line where it lies there. Before the reader waits for more input, the replies are sent.
+/// Out of a reader's buffer, a whole line where it lies there. Before the reader waits for more input, the replies are
+/// sent; a failed sending is a failed read, and reads nothing more.
 pub(crate) struct ByBlocks;
 
 impl<R: Read, W: Write + Drop> TakesLines<BufReader<R>, BufWriter<W>> for ByBlocks {
     ghost remaining = { reader_remaining R.remaining };
+
+    ghost waits_not = { λ old new. reader_inner new ≡ reader_inner old };
+
+    ghost is_sent = { λ writer. writer_buffer writer ≡ [] };
 
     #[inline(always)]
     fn take_empty(reader: &mut BufReader<R>) -> bool {
@@ -345,8 +376,14 @@ impl<R: Read, W: Write + Drop> TakesLines<BufReader<R>, BufWriter<W>> for ByBloc
         line: &mut LineBuffer,
     ) -> Result<LineEnd, RunFault> {
         line.clear();
+        if let Some(end) = take_block(reader, line) {
+            return Ok(end);
+        }
+        if writer.flush().is_err() {
+            return Err(RunFault::Read);
+        }
         'turns: for _ in 0..u64::MAX {
-            if let Some(end) = take_more(reader, writer, line)? {
+            if let Some(end) = take_more(reader, line)? {
                 return Ok(end);
             }
         }
@@ -354,28 +391,24 @@ impl<R: Read, W: Write + Drop> TakesLines<BufReader<R>, BufWriter<W>> for ByBloc
     }
 }
 
-/// Adds more bytes to a line, and tells how the line ended with them, if it has. Before the reader waits for more input, the
-/// replies are sent; a failed sending is a failed read, and reads nothing.
-fn take_more<R: Read, W: Write + Drop>(
+/// Adds more bytes to a line, and tells how the line ended with them, if it has. The reader waits for them where it has
+/// none in its buffer.
+fn take_more<R: Read>(
     reader: &mut BufReader<R>,
-    writer: &mut BufWriter<W>,
     line: &mut LineBuffer,
 ) -> Result<Option<LineEnd>, RunFault>
     requires plain { IsPlain line.old }
     requires room { length line.old ≤ LONGEST_LINE }
-    ensures taken { IfOk result (λ end. Takes end line.old line.new (reader_remaining R.remaining reader.old) (reader_remaining R.remaining reader.new)) }
+    ensures taken { IfOk result (λ end. Takes end line.old line.new (reader_remaining R.remaining reader.old)
+        (reader_remaining R.remaining reader.new)) }
     ensures plain { IsPlain line.new }
     ensures end { result ≡ Ok (Some LineEnd.Input) → IsAtEnd (reader_remaining R.remaining reader.new) }
     ensures fault { IfErr result (λ e. (e ≡ RunFault.Read) × (line.new ≡ line.old)
         × Keeps (reader_remaining R.remaining reader.old) (reader_remaining R.remaining reader.new)) }
-    ensures kept { Keeps (writer_contents W.contents writer.old) (writer_contents W.contents writer.new) }
-    ensures sent { (reader_inner reader.new ≡ reader_inner reader.old) ⊎ (writer_buffer writer.new ≡ []) }
 {
-    if !reader.buffer().is_empty() {
-        return Ok(take_block(reader, line));
+    if reader.buffer().is_empty() {
+        take_byte(reader, line)
+    } else {
+        Ok(take_block(reader, line))
     }
-    if writer.flush().is_err() {
-        return Err(RunFault::Read);
-    }
-    take_byte(reader, line)
 }

@@ -6,9 +6,11 @@ ghost use Rattle.ksm_script.specs.Texts.{AppendsPart};
 use crate::script::RunFault;
 use std::io::Write;
 
-// It is inlined so that the compiler knows the length of a text, and writes a short one by a few stores to the writer's buffer.
+// It is inlined so that the compiler knows the length of a text, and writes a short one by a few stores to the writer's
+// buffer.
 
-/// Writes a text, or the beginning of it that the writer took before its fault. Mostly the writer takes all of it at once.
+/// Writes a text, or the beginning of it that the writer took before its fault. Mostly the writer takes all of it at
+/// once.
 #[inline(always)]
 pub fn write_text<W: Write>(writer: &mut W, text: &[u8]) -> Result<(), RunFault>
     ensures whole { OnOk result (Appends (W.contents writer.old) (W.contents writer.new) text.now) }

@@ -1,5 +1,6 @@
 //! The passes of a session, by their numbers.
-ghost use Rattle.std.specs.Prelude.{◌≡◌, ◌+◌, ◌<◌, ◌≤◌, ◌++◌, [], All, IfSome, IfNone, IsSomeAnd, length, replicate, map, option_to_list, slice_get, slice_set, vec_len, vec_capacity, Some, None};
+ghost use Rattle.std.specs.Prelude.{◌≡◌, ◌+◌, ◌<◌, ◌≤◌, ◌++◌, [], All, IfSome, IfNone, IsSomeAnd, length, replicate};
+ghost use Rattle.std.specs.Prelude.{map, option_to_list, slice_get, slice_set, vec_len, vec_capacity, Some, None};
 ghost use Rattle.std.specs.List.{AllZip};
 ghost use Rattle.frame_table.specs.Seats.{new_pass};
 ghost use Rattle.ksm_script.specs.declared.pass_state.PassState.TheVariants.{Idle as idle_state};

@@ -4,7 +4,8 @@ ghost use Rattle.std.specs.List.{concat, flat_map};
 ghost use Rattle.std.specs.Io.KnownBytes.{Appends};
 ghost use Rattle.ksm_script.specs.Texts.{AppendsPart};
 ghost use Rattle.ksm_audit.specs.declared.report.Row.TheVariants.{Found as found_row, Gone as gone_row};
-ghost use Rattle.ksm_script.specs.Replies.{text_of, content_line, counted_text, stopped_text, counters_text, mapper_text, mappers_text, held_text, row_text, audit_text};
+ghost use Rattle.ksm_script.specs.Replies.{text_of, content_line, counted_text, stopped_text, counters_text};
+ghost use Rattle.ksm_script.specs.Replies.{mapper_text, mappers_text, held_text, row_text, audit_text};
 
 use crate::line_text::{LineText, PAGE_DIGITS, digits_of_words};
 use crate::output::write_text;
@@ -67,7 +68,8 @@ pub enum LineReply {
 
 /// Writes the line of a reply, its newline included.
 ///
-/// At a fault of the writer, or where it takes no byte, the answer is `RunFault::Write`, and a beginning of the line is written.
+/// At a fault of the writer, or where it takes no byte, the answer is `RunFault::Write`, and a beginning of the line is
+/// written.
 #[inline(always)]
 pub fn write_reply<W: Write>(writer: &mut W, reply: &LineReply) -> Result<(), RunFault>
     ensures whole { OnOk result (Appends (W.contents writer.old) (W.contents writer.new) (text_of reply.now)) }
@@ -122,7 +124,8 @@ fn write_count<const N: usize, W: Write>(
     count: u64,
 ) -> Result<(), RunFault>
     requires { length name.now ≤ 16 }
-    ensures whole { OnOk result (Appends (W.contents writer.old) (W.contents writer.new) (counted_text name.now count)) }
+    ensures whole { OnOk result
+        (Appends (W.contents writer.old) (W.contents writer.new) (counted_text name.now count)) }
     ensures fault { IfErr result (λ e. (e ≡ RunFault.Write)
         × AppendsPart (W.contents writer.old) (W.contents writer.new) (counted_text name.now count)) }
 {
@@ -141,7 +144,8 @@ fn write_stopped<const N: usize, W: Write>(
     stop: Option<Fault>,
 ) -> Result<(), RunFault>
     requires { length name.now ≤ 16 }
-    ensures whole { OnOk result (Appends (W.contents writer.old) (W.contents writer.new) (stopped_text name.now count stop)) }
+    ensures whole { OnOk result
+        (Appends (W.contents writer.old) (W.contents writer.new) (stopped_text name.now count stop)) }
     ensures fault { IfErr result (λ e. (e ≡ RunFault.Write)
         × AppendsPart (W.contents writer.old) (W.contents writer.new) (stopped_text name.now count stop)) }
 {
@@ -188,7 +192,8 @@ fn write_mapper<W: Write>(writer: &mut W, page: GuestPage) -> Result<(), RunFaul
 
 /// Writes the pages of a dup, each behind a space.
 fn write_pages<W: Write>(writer: &mut W, pages: &[GuestPage]) -> Result<(), RunFault>
-    ensures whole { OnOk result (Appends (W.contents writer.old) (W.contents writer.new) (flat_map mapper_text pages.now)) }
+    ensures whole { OnOk result
+        (Appends (W.contents writer.old) (W.contents writer.new) (flat_map mapper_text pages.now)) }
     ensures fault { IfErr result (λ e. (e ≡ RunFault.Write)
         × AppendsPart (W.contents writer.old) (W.contents writer.new) (flat_map mapper_text pages.now)) }
 {
@@ -217,7 +222,8 @@ fn write_held<const N: usize, W: Write>(
     generation: u64,
 ) -> Result<(), RunFault>
     requires { length name.now ≤ 16 }
-    ensures whole { OnOk result (Appends (W.contents writer.old) (W.contents writer.new) (held_text name.now frame generation)) }
+    ensures whole { OnOk result
+        (Appends (W.contents writer.old) (W.contents writer.new) (held_text name.now frame generation)) }
     ensures fault { IfErr result (λ e. (e ≡ RunFault.Write)
         × AppendsPart (W.contents writer.old) (W.contents writer.new) (held_text name.now frame generation)) }
 {
@@ -231,7 +237,8 @@ fn write_held<const N: usize, W: Write>(
 
 /// Writes what a lookup of an audit held and read.
 fn write_found<W: Write>(writer: &mut W, generation: u64, bytes: &PageBytes) -> Result<(), RunFault>
-    ensures whole { OnOk result (Appends (W.contents writer.old) (W.contents writer.new) (row_text (found_row generation bytes.now))) }
+    ensures whole { OnOk result
+        (Appends (W.contents writer.old) (W.contents writer.new) (row_text (found_row generation bytes.now))) }
     ensures fault { IfErr result (λ e. (e ≡ RunFault.Write)
         × AppendsPart (W.contents writer.old) (W.contents writer.new) (row_text (found_row generation bytes.now))) }
 {

@@ -1,6 +1,6 @@
 //! Runs of a session over a reader and a writer.
-ghost use Rattle.std.specs.Prelude.{◌≡◌, ℕ, All, List, Ok, Option, Some, true, false, OnOk, IfErr};
-ghost use Rattle.std.specs.Io.Buffered.{reader_remaining, writer_contents};
+ghost use Rattle.std.specs.Prelude.{◌≡◌, ◌⊎◌, [], ℕ, All, List, Ok, Option, Some, true, false, OnOk, IfErr};
+ghost use Rattle.std.specs.Io.Buffered.{reader_remaining, writer_buffer, writer_contents};
 ghost use Rattle.std.specs.Io.KnownBytes.{Appends};
 ghost use Rattle.ksm_script.specs.declared.reply.LineReply.{LineReply};
 ghost use Rattle.ksm_script.specs.Answering.{reply_text};
@@ -8,7 +8,7 @@ ghost use Rattle.ksm_script.specs.Going.{GoesOn, IsSoFar};
 ghost use Rattle.ksm_script.specs.State.{ScriptState};
 ghost use Rattle.ksm_script.specs.Replies.{text_of};
 ghost use Rattle.ksm_script.specs.Lookups.{IsIdle};
-ghost use Rattle.ksm_script.specs.LastLine.{EndsBad};
+ghost use Rattle.ksm_script.specs.LastLine.{EndsBad, EndsOpen};
 ghost use Rattle.ksm_script.specs.Script.{AnsweredOne, AnsweredPart, Goes, IsReadAs, Runs, streams};
 ghost use Rattle.ksm_script.specs.Texts.{AppendsPart};
 
@@ -46,18 +46,18 @@ pub enum End {
 
 /// Answers each line of the reader, up to the end of the input or to a bad line.
 ///
-/// Lines are numbered from 1; those of no bytes count, and have no reply. Each fault of a read or a write ends the run, an
-/// interrupted one too. At `RunFault::Read` the replies to the whole lines read are written. At `RunFault::Write` a beginning of
-/// the last line's reply is written behind whole replies to the lines before, and no further line is read. At each end all holds are
-/// given back. At a bad line the session keeps it ([`Session::line`]).
+/// Lines are numbered from 1; those of no bytes count, and have no reply. Each fault of a read or a write ends the run,
+/// an interrupted one too. At `RunFault::Read` the replies to the whole lines read are written. At `RunFault::Write` a
+/// beginning of the last line's reply is written behind whole replies to the lines before, and no further line is read.
+/// At each end all holds are given back. At a bad line the session keeps it ([`Session::line`]).
 pub fn run<N: Naming, T: Threads + Wait + Sync, R: Read, W: Write>(
     rt: &T,
     reader: &mut R,
     writer: &mut W,
     session: &mut Session<N>,
 ) -> Result<End, RunFault>
-    ensures ran { Runs (streams (R.remaining reader.old) (R.remaining reader.new) (W.contents writer.old) (W.contents writer.new))
-        session.old.state session.new.state result }
+    ensures ran { Runs (streams (R.remaining reader.old) (R.remaining reader.new) (W.contents writer.old)
+        (W.contents writer.new)) session.old.state session.new.state result }
     ensures line { EndsBad (R.remaining reader.old) (R.remaining reader.new) session.new.line result }
     ensures idle { All IsIdle session.new.state.passes }
 {
@@ -68,8 +68,8 @@ pub fn run<N: Naming, T: Threads + Wait + Sync, R: Read, W: Write>(
 
 /// Answers each line as [`run`] does, out of the reader's buffer.
 ///
-/// Before the reader waits for more input, the replies are sent; where that fails, it is a failed read. Nothing is sent at the
-/// end.
+/// Before the reader waits for more input, the replies are sent; where that fails, it is a failed read. So at the end
+/// of the input all are sent, but that to a last line without a newline. At another end nothing is sent.
 pub fn run_buffered<N: Naming, T: Threads + Wait + Sync, R: Read, W: Write + Drop>(
     rt: &T,
     reader: &mut BufReader<R>,
@@ -77,9 +77,13 @@ pub fn run_buffered<N: Naming, T: Threads + Wait + Sync, R: Read, W: Write + Dro
     session: &mut Session<N>,
 ) -> Result<End, RunFault>
     ensures ran { Runs (streams (reader_remaining R.remaining reader.old) (reader_remaining R.remaining reader.new)
-        (writer_contents W.contents writer.old) (writer_contents W.contents writer.new)) session.old.state session.new.state result }
-    ensures line { EndsBad (reader_remaining R.remaining reader.old) (reader_remaining R.remaining reader.new) session.new.line result }
+        (writer_contents W.contents writer.old) (writer_contents W.contents writer.new))
+        session.old.state session.new.state result }
+    ensures line { EndsBad (reader_remaining R.remaining reader.old)
+        (reader_remaining R.remaining reader.new) session.new.line result }
     ensures idle { All IsIdle session.new.state.passes }
+    ensures sent { result ≡ Ok End.AllRead → (writer_buffer writer.new ≡ [])
+        ⊎ EndsOpen (reader_remaining R.remaining reader.old) (reader_remaining R.remaining reader.new) }
 {
     run_heard(rt, reader, writer, session, &mut Unheard)
 }
@@ -99,9 +103,13 @@ pub fn run_heard<
     hears: &mut H,
 ) -> Result<End, RunFault>
     ensures ran { Runs (streams (reader_remaining R.remaining reader.old) (reader_remaining R.remaining reader.new)
-        (writer_contents W.contents writer.old) (writer_contents W.contents writer.new)) session.old.state session.new.state result }
-    ensures line { EndsBad (reader_remaining R.remaining reader.old) (reader_remaining R.remaining reader.new) session.new.line result }
+        (writer_contents W.contents writer.old) (writer_contents W.contents writer.new))
+        session.old.state session.new.state result }
+    ensures line { EndsBad (reader_remaining R.remaining reader.old)
+        (reader_remaining R.remaining reader.new) session.new.line result }
     ensures idle { All IsIdle session.new.state.passes }
+    ensures sent { result ≡ Ok End.AllRead → (writer_buffer writer.new ≡ [])
+        ⊎ EndsOpen (reader_remaining R.remaining reader.old) (reader_remaining R.remaining reader.new) }
 {
     let ended = run_by::<ByBlocks, H, N, T, BufReader<R>, BufWriter<W>>(
         rt, reader, writer, session, hears,
@@ -118,9 +126,11 @@ fn run_by<M: TakesLines<R, W>, H: Hears<W>, N: Naming, T: Threads + Wait + Sync,
     session: &mut Session<N>,
     hears: &mut H,
 ) -> Result<End, RunFault>
-    ensures goes { Goes (streams (M.remaining reader.old) (M.remaining reader.new) (W.contents writer.old) (W.contents writer.new))
-        session.old.state session.new.state result }
+    ensures goes { Goes (streams (M.remaining reader.old) (M.remaining reader.new) (W.contents writer.old)
+        (W.contents writer.new)) session.old.state session.new.state result }
     ensures line { EndsBad (M.remaining reader.old) (M.remaining reader.new) session.new.line result }
+    ensures sent { result ≡ Ok End.AllRead
+        → M.is_sent writer.new ⊎ EndsOpen (M.remaining reader.old) (M.remaining reader.new) }
 {
     'lines: for number in 1..u64::MAX {
         if M::take_empty(reader) {
@@ -137,8 +147,8 @@ fn run_by<M: TakesLines<R, W>, H: Hears<W>, N: Naming, T: Threads + Wait + Sync,
     Err(RunFault::Read)
 }
 
-/// Answers the next line at once, if it is at hand and one of the forms, and nobody hears the reply; tells whether it did. Else
-/// nothing is read.
+/// Answers the next line at once, if it is at hand and one of the forms, and nobody hears the reply; tells whether it
+/// did. Else nothing is read.
 #[inline(always)]
 fn answer_whole<M: TakesLines<R, W>, N: Naming, T: Threads + Wait + Sync, R, W: Write>(
     rt: &T,
@@ -147,12 +157,12 @@ fn answer_whole<M: TakesLines<R, W>, N: Naming, T: Threads + Wait + Sync, R, W: 
     session: &mut Session<N>,
     is_heard: bool,
 ) -> Result<bool, RunFault>
-    ensures answered { result ≡ Ok true → AnsweredOne (streams (M.remaining reader.old) (M.remaining reader.new) (W.contents writer.old) (W.contents writer.new))
-        session.old.state session.new.state }
-    ensures none { result ≡ Ok false → (session.new ≡ session.old) × (reader.new ≡ reader.old) × (writer.new ≡ writer.old) }
-    ensures fault { IfErr result (λ e. (e ≡ RunFault.Write)
-        × AnsweredPart (streams (M.remaining reader.old) (M.remaining reader.new) (W.contents writer.old) (W.contents writer.new))
-        session.old.state session.new.state) }
+    ensures answered { result ≡ Ok true → AnsweredOne (streams (M.remaining reader.old) (M.remaining reader.new)
+        (W.contents writer.old) (W.contents writer.new)) session.old.state session.new.state }
+    ensures none { result ≡ Ok false → (session.new ≡ session.old) × (reader.new ≡ reader.old)
+        × (writer.new ≡ writer.old) }
+    ensures fault { IfErr result (λ e. (e ≡ RunFault.Write) × AnsweredPart (streams (M.remaining reader.old)
+        (M.remaining reader.new) (W.contents writer.old) (W.contents writer.new)) session.old.state session.new.state) }
 {
     if is_heard {
         return Ok(false);
@@ -164,8 +174,8 @@ fn answer_whole<M: TakesLines<R, W>, N: Naming, T: Threads + Wait + Sync, R, W: 
     Ok(true)
 }
 
-/// Answers the next line at once, if it is at hand and one of the forms, first tried as one with a content; tells whether it did. Else
-/// nothing is read.
+/// Answers the next line at once, if it is at hand and one of the forms, first tried as one with a content; tells
+/// whether it did. Else nothing is read.
 ///
 /// It stands apart, so that a page is cleared before no short line.
 #[inline(never)]
@@ -175,12 +185,12 @@ fn answer_page<M: TakesLines<R, W>, N: Naming, T: Threads + Wait + Sync, R, W: W
     writer: &mut W,
     session: &mut Session<N>,
 ) -> Result<bool, RunFault>
-    ensures answered { result ≡ Ok true → AnsweredOne (streams (M.remaining reader.old) (M.remaining reader.new) (W.contents writer.old) (W.contents writer.new))
-        session.old.state session.new.state }
-    ensures none { result ≡ Ok false → (session.new ≡ session.old) × (reader.new ≡ reader.old) × (writer.new ≡ writer.old) }
-    ensures fault { IfErr result (λ e. (e ≡ RunFault.Write)
-        × AnsweredPart (streams (M.remaining reader.old) (M.remaining reader.new) (W.contents writer.old) (W.contents writer.new))
-        session.old.state session.new.state) }
+    ensures answered { result ≡ Ok true → AnsweredOne (streams (M.remaining reader.old) (M.remaining reader.new)
+        (W.contents writer.old) (W.contents writer.new)) session.old.state session.new.state }
+    ensures none { result ≡ Ok false → (session.new ≡ session.old) × (reader.new ≡ reader.old)
+        × (writer.new ≡ writer.old) }
+    ensures fault { IfErr result (λ e. (e ≡ RunFault.Write) × AnsweredPart (streams (M.remaining reader.old)
+        (M.remaining reader.new) (W.contents writer.old) (W.contents writer.new)) session.old.state session.new.state) }
 {
     let Some(taken) = M::take_page(reader) else {
         return answer_any::<M, N, T, R, W>(rt, reader, writer, session);
@@ -200,12 +210,12 @@ fn answer_any<M: TakesLines<R, W>, N: Naming, T: Threads + Wait + Sync, R, W: Wr
     writer: &mut W,
     session: &mut Session<N>,
 ) -> Result<bool, RunFault>
-    ensures answered { result ≡ Ok true → AnsweredOne (streams (M.remaining reader.old) (M.remaining reader.new) (W.contents writer.old) (W.contents writer.new))
-        session.old.state session.new.state }
-    ensures none { result ≡ Ok false → (session.new ≡ session.old) × (reader.new ≡ reader.old) × (writer.new ≡ writer.old) }
-    ensures fault { IfErr result (λ e. (e ≡ RunFault.Write)
-        × AnsweredPart (streams (M.remaining reader.old) (M.remaining reader.new) (W.contents writer.old) (W.contents writer.new))
-        session.old.state session.new.state) }
+    ensures answered { result ≡ Ok true → AnsweredOne (streams (M.remaining reader.old) (M.remaining reader.new)
+        (W.contents writer.old) (W.contents writer.new)) session.old.state session.new.state }
+    ensures none { result ≡ Ok false → (session.new ≡ session.old) × (reader.new ≡ reader.old)
+        × (writer.new ≡ writer.old) }
+    ensures fault { IfErr result (λ e. (e ≡ RunFault.Write) × AnsweredPart (streams (M.remaining reader.old)
+        (M.remaining reader.new) (W.contents writer.old) (W.contents writer.new)) session.old.state session.new.state) }
 {
     let Some(line) = M::take_whole(reader) else {
         return Ok(false);
@@ -226,9 +236,11 @@ fn answer_next<M: TakesLines<R, W>, H: Hears<W>, N: Naming, T: Threads + Wait + 
     hears: &mut H,
     number: u64,
 ) -> Result<Option<End>, RunFault>
-    ensures { (first begun : Option (List ℕ)) → (from : ScriptState)
+    ensures on { (first begun : Option (List ℕ)) → (from : ScriptState)
         → IsSoFar first (M.remaining reader.old) begun (W.contents writer.old) from session.old.state number
         → GoesOn first (M.remaining reader.new) begun (W.contents writer.new) from session.new number result }
+    ensures sent { result ≡ Ok (Some End.AllRead)
+        → M.is_sent writer.new ⊎ EndsOpen (M.remaining reader.old) (M.remaining reader.new) }
 {
     let end = session.read_next::<M, R, W>(reader, writer)?;
     if end == LineEnd::Input && session.line().is_empty() {

@@ -7,13 +7,18 @@ ghost use Rattle.ksm_base.specs.Refusals.{is_known};
 ghost use Rattle.ksm_base.specs.declared.command.Command.TheVariants.{Scan as scan};
 ghost use Rattle.ksm_lines.specs.Knobs.{shown_in};
 ghost use Rattle.ksm_lines.specs.Leading.{short_form, page_form};
-ghost use Rattle.ksm_lines.specs.declared.line.Line.TheVariants.{Get as get_line, Ticket as ticket_line, Find as find_line, Look as look_line, Leave as leave_line, Scan as scan_line, ScanPages as scan_pages_line, Stat as stat_line};
+ghost use Rattle.ksm_lines.specs.declared.line.Line.TheVariants.{Get as get_line, Ticket as ticket_line};
+ghost use Rattle.ksm_lines.specs.declared.line.Line.TheVariants.{Find as find_line, Look as look_line};
+ghost use Rattle.ksm_lines.specs.declared.line.Line.TheVariants.{Leave as leave_line, Scan as scan_line};
+ghost use Rattle.ksm_lines.specs.declared.line.Line.TheVariants.{ScanPages as scan_pages_line, Stat as stat_line};
 ghost use Rattle.ksm_base.specs.Counting.{counters_of};
-ghost use Rattle.ksm_script.specs.declared.reply.LineReply.TheVariants.{Counters as counters_reply, Done as done_reply, Value as value_reply};
+ghost use Rattle.ksm_script.specs.declared.reply.LineReply.TheVariants.{Counters as counters_reply, Done as done_reply};
+ghost use Rattle.ksm_script.specs.declared.reply.LineReply.TheVariants.{Value as value_reply};
 ghost use Rattle.frame_table.specs.Seats.{new_pass};
 ghost use Rattle.ksm_shared.specs.Locked.{EndsLawfully};
 ghost use Rattle.ksm_script.specs.declared.pass_state.PassState.TheVariants.{Idle as idle_state};
-ghost use Rattle.ksm_script.specs.Answering.{Answers, IsTold, AllGivenBack, OnPasses, Commands, IsMappers, reply_to, ticket_reply};
+ghost use Rattle.ksm_script.specs.Answering.{Answers, IsTold, AllGivenBack, OnPasses, Commands, IsMappers, reply_to};
+ghost use Rattle.ksm_script.specs.Answering.{ticket_reply};
 ghost use Rattle.ksm_script.specs.Input.{EndsAs, IsPlain};
 ghost use Rattle.ksm_script.specs.declared.input.TheConstants.{LONGEST_LINE as longest_line};
 ghost use Rattle.ksm_script.specs.Lookups.{Acts, AtPass, Audits};
@@ -36,7 +41,8 @@ use std::marker::Model;
 use std::sync::Wait;
 use std::thread::Threads;
 
-/// What a run works on: a book of one caller, and its passes. Contracts see the book state to which its journal leads. It must be closed.
+/// What a run works on: a book of one caller, and its passes. Contracts see the book state to which its journal leads.
+/// It must be closed.
 pub struct Session<N: Naming> {
     alloc: Global,
     ksm: Ksm<N>,
@@ -54,17 +60,20 @@ impl<N: Naming> Model for Session<N> {
 
     ghost view = { λ s. record { state = script_of N.parts s.share s.passes; line = s.line } };
 
-    ghost invariant = { λ s. (N.parts.callers ≡ 1) × (length s.passes ≡ N.parts.frames.shape.passes) × All (λ p. table_of p ≡ N.parts.frames) s.passes };
+    ghost invariant = { λ s. (N.parts.callers ≡ 1) × (length s.passes ≡ N.parts.frames.shape.passes)
+        × All (λ p. table_of p ≡ N.parts.frames) s.passes };
 }
 
 impl<N: Naming> Session<N> {
-    /// A session whose book has no pages. Refused for memory alone; what was opened by then is closed. The line buffer is taken here.
+    /// A session whose book has no pages. Refused for memory alone; what was opened by then is closed. The line buffer
+    /// is taken here.
     pub fn open(alloc: Global, parts: Parts) -> Result<Session<N>, Fault>
         requires name { parts ≡ N.parts }
         requires alone { parts.callers ≡ 1 }
         ensures book { IfOk result (λ s. s.state.book ≡ opening N.parts.frames.shape) }
         ensures journal { IfOk result (λ s. s.state.journal ≡ []) }
-        ensures passes { IfOk result (λ s. s.state.passes ≡ replicate N.parts.frames.shape.passes (idle_state (new_pass N.parts.frames))) }
+        ensures passes { IfOk result
+            (λ s. s.state.passes ≡ replicate N.parts.frames.shape.passes (idle_state (new_pass N.parts.frames))) }
         ensures memory { IfErr result (λ fault. fault ≡ Fault.Memory) }
     {
         let Ok(slots) = Vec::with_capacity(alloc, parts.shape().passes as usize) else {
@@ -121,19 +130,21 @@ impl<N: Naming> Session<N> {
         ensures fault { IfErr result (λ e. (e ≡ RunFault.Read) × (length self.new.line ≤ longest_line)
             × Consumes (M.remaining reader.old) (M.remaining reader.new) self.new.line) }
         ensures kept { Keeps (W.contents writer.old) (W.contents writer.new) }
+        ensures waited { result ≡ Ok LineEnd.Input → M.is_sent writer.new }
     {
         M::next_line(reader, writer, &mut self.line)
     }
 
-    /// The bytes of the line that was read last, without its newline: of one that is too long, one byte more than a line may have.
+    /// The bytes of the line that was read last, without its newline: of one that is too long, one byte more than a
+    /// line may have.
     pub fn line(&self) -> &[u8]
         ensures { result.now ≡ self.now.line }
     {
         self.line.as_slice()
     }
 
-    // Each line that comes by the million has a function of its own, which is not inlined: so the values of the others are not cleared
-    // before it.
+    // Each line that comes by the million has a function of its own, which is not inlined: so the values of the others
+    // are not cleared before it.
 
     /// Does what a short line says, and hands its reply over.
     #[inline(always)]
@@ -143,7 +154,8 @@ impl<N: Naming> Session<N> {
         line: ShortLine,
         to: &mut S,
     ) -> Result<(), RunFault>
-        ensures answers { IsSaid P.takes (λ reply. Answers (short_form line) self.old.state reply self.new.state) to.old to.new result }
+        ensures answers { IsSaid P.takes
+            (λ reply. Answers (short_form line) self.old.state reply self.new.state) to.old to.new result }
     {
         match line {
             ShortLine::Get { page } => self.tell_content::<P, R, S>(rt, page, to),
@@ -163,7 +175,8 @@ impl<N: Naming> Session<N> {
         page: GuestPage,
         to: &mut S,
     ) -> Result<(), RunFault>
-        ensures answers { IsSaid P.takes (λ reply. Answers (get_line page) self.old.state reply self.new.state) to.old to.new result }
+        ensures answers { IsSaid P.takes
+            (λ reply. Answers (get_line page) self.old.state reply self.new.state) to.old to.new result }
     {
         match self.ksm.read(rt, &mut self.share, page) {
             None => P::reply(to, LineReply::Refused(Refusal::Book(Fault::UnknownPage))),
@@ -178,7 +191,8 @@ impl<N: Naming> Session<N> {
         page: GuestPage,
         to: &mut S,
     ) -> Result<(), RunFault>
-        ensures answers { IsSaid P.takes (λ reply. Answers (ticket_line page) self.old.state reply self.new.state) to.old to.new result }
+        ensures answers { IsSaid P.takes
+            (λ reply. Answers (ticket_line page) self.old.state reply self.new.state) to.old to.new result }
     {
         // A page that is merged has a row, so the lock is taken once for it.
         match self.ksm.ticket(rt, &mut self.share, page) {
@@ -194,21 +208,24 @@ impl<N: Naming> Session<N> {
         place: u32,
         to: &mut S,
     ) -> Result<(), RunFault>
-        ensures answers { IsSaid P.takes (λ reply. Answers (find_line pass place) self.old.state reply self.new.state) to.old to.new result }
+        ensures answers { IsSaid P.takes
+            (λ reply. Answers (find_line pass place) self.old.state reply self.new.state) to.old to.new result }
     {
         P::reply(to, self.act(pass, Act::Find { place }))
     }
 
     #[inline(never)]
     fn tell_held<P: Replies<S>, S>(&mut self, pass: u32, to: &mut S) -> Result<(), RunFault>
-        ensures answers { IsSaid P.takes (λ reply. Answers (look_line pass) self.old.state reply self.new.state) to.old to.new result }
+        ensures answers { IsSaid P.takes
+            (λ reply. Answers (look_line pass) self.old.state reply self.new.state) to.old to.new result }
     {
         P::reply(to, self.act(pass, Act::Look))
     }
 
     #[inline(never)]
     fn tell_left<P: Replies<S>, S>(&mut self, pass: u32, to: &mut S) -> Result<(), RunFault>
-        ensures answers { IsSaid P.takes (λ reply. Answers (leave_line pass) self.old.state reply self.new.state) to.old to.new result }
+        ensures answers { IsSaid P.takes
+            (λ reply. Answers (leave_line pass) self.old.state reply self.new.state) to.old to.new result }
     {
         P::reply(to, self.act(pass, Act::Leave))
     }
@@ -220,7 +237,8 @@ impl<N: Naming> Session<N> {
         visits: u32,
         to: &mut S,
     ) -> Result<(), RunFault>
-        ensures answers { IsSaid P.takes (λ reply. Answers (scan_line visits) self.old.state reply self.new.state) to.old to.new result }
+        ensures answers { IsSaid P.takes
+            (λ reply. Answers (scan_line visits) self.old.state reply self.new.state) to.old to.new result }
     {
         self.tell_made::<P, R, S>(rt, scan_of(visits), to)
     }
@@ -231,7 +249,8 @@ impl<N: Naming> Session<N> {
         rt: &R,
         to: &mut S,
     ) -> Result<(), RunFault>
-        ensures answers { IsSaid P.takes (λ reply. Answers stat_line self.old.state reply self.new.state) to.old to.new result }
+        ensures answers { IsSaid P.takes
+            (λ reply. Answers stat_line self.old.state reply self.new.state) to.old to.new result }
     {
         P::reply(to, self.counters(rt))
     }
@@ -245,7 +264,8 @@ impl<N: Naming> Session<N> {
         bytes: PageBytes,
         to: &mut S,
     ) -> Result<(), RunFault>
-        ensures answers { IsSaid P.takes (λ reply. Answers (page_form line bytes) self.old.state reply self.new.state) to.old to.new result }
+        ensures answers { IsSaid P.takes
+            (λ reply. Answers (page_form line bytes) self.old.state reply self.new.state) to.old to.new result }
     {
         match line {
             PageLine::Store { page } => {
@@ -268,7 +288,8 @@ impl<N: Naming> Session<N> {
         act: Act,
         to: &mut S,
     ) -> Result<(), RunFault>
-        ensures answers { IsSaid P.takes (λ reply. OnPasses (AtPass pass (Acts act)) self.old.state reply self.new.state) to.old to.new result }
+        ensures answers { IsSaid P.takes
+            (λ reply. OnPasses (AtPass pass (Acts act)) self.old.state reply self.new.state) to.old to.new result }
     {
         P::reply(to, self.act(pass, act))
     }
@@ -280,7 +301,8 @@ impl<N: Naming> Session<N> {
         line: Line,
         to: &mut S,
     ) -> Result<(), RunFault>
-        ensures answers { IsSaid P.takes (λ reply. Answers line self.old.state reply self.new.state) to.old to.new result }
+        ensures answers { IsSaid P.takes
+            (λ reply. Answers line self.old.state reply self.new.state) to.old to.new result }
     {
         let command = match line {
             Line::Empty => return Ok(()),
@@ -307,7 +329,8 @@ impl<N: Naming> Session<N> {
         to: &mut S,
     ) -> Result<(), RunFault>
         requires told { IsTold line }
-        ensures answers { IsSaid P.takes (λ reply. Answers line self.old.state reply self.new.state) to.old to.new result }
+        ensures answers { IsSaid P.takes
+            (λ reply. Answers line self.old.state reply self.new.state) to.old to.new result }
     {
         match line {
             Line::Get { page } => self.tell_content::<P, R, S>(rt, page, to),
@@ -353,7 +376,8 @@ impl<N: Naming> Session<N> {
         rt: &R,
         to: &mut S,
     ) -> Result<(), RunFault>
-        ensures answers { IsSaid P.takes (λ reply. Answers scan_pages_line self.old.state reply self.new.state) to.old to.new result }
+        ensures answers { IsSaid P.takes
+            (λ reply. Answers scan_pages_line self.old.state reply self.new.state) to.old to.new result }
     {
         let knobs = self.ksm.knobs(rt, &mut self.share);
         self.tell_made::<P, R, S>(rt, scan_of(knobs.pages_to_scan), to)
@@ -402,7 +426,8 @@ impl<N: Naming> Session<N> {
         command: Command,
         to: &mut S,
     ) -> Result<(), RunFault>
-        ensures answers { IsSaid P.takes (λ reply. Commands command self.old.state reply self.new.state) to.old to.new result }
+        ensures answers { IsSaid P.takes
+            (λ reply. Commands command self.old.state reply self.new.state) to.old to.new result }
     {
         let answer = self.apply(rt, command);
         if let Ok(Reply::Done) = answer {
@@ -411,6 +436,8 @@ impl<N: Naming> Session<N> {
         tell_other::<P, S>(to, answer)
     }
 
+    // Makes a command. It is inlined, so that the command is laid once where the book takes it.
+    #[inline(always)]
     fn apply<R: Wait>(&mut self, rt: &R, command: Command) -> Result<Reply, Fault>
         ensures answers { Commands command self.old.state (Some (reply_to result)) self.new.state }
     {

@@ -4,3 +4,4 @@ pub mod Locked
 pub mod Handed
 pub mod Published
 pub mod Opening
+pub mod Unlocked

@@ -1,5 +1,6 @@
 -- The locked book, and what a call under the lock tells its share (own).
-use Rattle.std.specs.Prelude.{◌≡◌, ℕ, zero, suc, ◌+◌, ◌<◌, if◌then◌else◌, List, [], ◌∷◌, ◌++◌, length, Option, Some, None}
+use Rattle.std.specs.Prelude.{◌≡◌, ℕ, zero, suc, ◌+◌, ◌<◌, if◌then◌else◌, List, [], ◌∷◌, ◌++◌, length, Option, Some}
+use Rattle.std.specs.Prelude.{None}
 use Rattle.ksm_base.specs.declared.command.Command.{Command}
 use Rattle.ksm_base.specs.Answers.{Answer}
 use Rattle.ksm_base.specs.Apply.{IsAnswerOrMemory, after}
@@ -14,13 +15,15 @@ use Rattle.ksm_shared.specs.declared.seen.Caller.{Caller}
 use Rattle.ksm_shared.specs.Named.{PartsId}
 use Rattle.ksm_shared.specs.Seen.{entries, entries_by, CallersFit, times, caller, owned, OwnersBelow}
 
--- the book, the entries of its journal with their owners, and the entries after which the counters stand that readers are shown
+-- the book, the entries of its journal with their owners, and the entries after which the counters stand that readers
+-- are shown
 pub record Locked : Type 0 where
   pub book : JournaledBook
   pub log : List Owned
   pub shown : List Entry
 
--- what contracts see of an answer: what the book answered, and the entries after which the counters stand that it published
+-- what contracts see of an answer: what the book answered, and the entries after which the counters stand that it
+-- published
 pub record Answered : Type 0 where
   pub result : Answer
   pub shown : List Entry
@@ -45,8 +48,8 @@ made_by number c r = if is_memory r then [] else owned number (c, r) ∷ []
 abbrev pub said_of : Command → Answer → Option Entry
 said_of c r = if is_memory r then None else Some (c, r)
 
--- The share has seen on: a legal journal, which begins with what it had seen; then come entries of others, and then those added.
--- With one share there are no others, and the journal is its part.
+-- The share has seen on: a legal journal, which begins with what it had seen; then come entries of others, and then
+-- those added. With one share there are no others, and the journal is its part.
 pub record SeesOn (parts : PartsId) (old new : Caller) (more : List Owned) : Type 0 where
   pub number : new.number ≡ old.number
   pub between : List Owned
@@ -56,9 +59,11 @@ pub record SeesOn (parts : PartsId) (old new : Caller) (more : List Owned) : Typ
   pub alone : parts.callers ≡ 1 → between ≡ []
   pub whole : parts.callers ≡ 1 → part_of new ≡ entries new.seen
 
--- with one share the command is a step of the book from the state that the share had seen to the state that it then has seen
+-- with one share the command is a step of the book from the state that the share had seen to the state that it then has
+-- seen
 abbrev pub StepsAlone : PartsId → Caller → Caller → Command → Answer → Type 0
-StepsAlone parts old new c r = parts.callers ≡ 1 → IsAnswerOrMemory (state_seen parts old) c r × (state_seen parts new ≡ after (state_seen parts old) c r)
+StepsAlone parts old new c r = parts.callers ≡ 1 → IsAnswerOrMemory (state_seen parts old) c r
+    × (state_seen parts new ≡ after (state_seen parts old) c r)
 
 -- so many shares that have seen nothing
 abbrev pub fresh : ℕ → List Caller
@@ -70,7 +75,8 @@ abbrev pub owned_total : List Caller → ℕ
 owned_total [] = 0
 owned_total (c ∷ cs) = length (part_of c) + owned_total cs
 
--- All shares are here, each once, and each entry of the journal is in the part of one. What each had seen begins the journal.
+-- All shares are here, each once, and each entry of the journal is in the part of one. What each had seen begins the
+-- journal.
 pub record Gathered (callers : ℕ) (log : List Owned) (cs : List Caller) : Type 0 where
   pub begins : CallersFit log callers cs
   pub once : (number : ℕ) → number < callers → times number cs ≡ 1

@@ -5,8 +5,8 @@ use Rattle.logbook.specs.Pages.{Book}
 use Rattle.ksm_base.specs.declared.shape.Shape.{Shape}
 use Rattle.frame_table.specs.Named.{TableName}
 
--- the parts of one book: the table of its frames, the table of what its shares have seen, the logbook of its journal, how many shares
--- there are, and how many readers of counters
+-- the parts of one book: the table of its frames, the table of what its shares have seen, the logbook of its journal,
+-- how many shares there are, and how many readers of counters
 pub record PartsId : Type 0 where
   pub frames : TableName
   pub seen : TableId
@@ -25,4 +25,10 @@ no_logbook = record { number = 0; log_name = 0; cells_name = 0 }
 
 -- no parts
 abbrev pub no_parts : PartsId
-no_parts = record { frames = record { id = no_table; shape = no_shape }; seen = no_table; logbook = no_logbook; callers = 0; readers = 0 }
+no_parts = record {
+  frames = record { id = no_table; shape = no_shape };
+  seen = no_table;
+  logbook = no_logbook;
+  callers = 0;
+  readers = 0;
+}

@@ -2,6 +2,7 @@
 use Rattle.std.specs.Prelude.{◌≡◌, ◌≤◌, []}
 use Rattle.ksm_base.specs.State.{opening}
 use Rattle.ksm_base.specs.Values.{IsShape}
+use Rattle.frame_table.specs.Named.{TableName}
 use Rattle.frame_table.specs.Seats.{new_keeper}
 use Rattle.ksm_book.specs.Carried.{unjournaled}
 use Rattle.ksm_pages.specs.Paged.{nowhere}
@@ -11,6 +12,16 @@ use Rattle.ksm_shared.specs.Named.{PartsId}
 use Rattle.ksm_shared.specs.Locked.{Locked}
 use Rattle.ksm_shared.specs.Published.{length_word}
 use Rattle.ksm_shared.specs.Seen.{book_view}
+
+-- the parts that are made of a table of frames and of what is to lie under the lock
+abbrev pub parts_of : TableName → Inner → PartsId
+parts_of frames p = record {
+  frames = frames;
+  seen = p.seen.shared.table_id;
+  logbook = p.journal.book;
+  callers = p.callers;
+  readers = p.readers;
+}
 
 -- what is to lie under the lock is of these parts, and none of it has made a step
 pub record IsNew (parts : PartsId) (p : Inner) : Type 0 where
@@ -34,7 +45,8 @@ pub record IsNew (parts : PartsId) (p : Inner) : Type 0 where
 abbrev pub opening_book : PartsId → BookView
 opening_book parts = record { state = opening parts.frames.shape; frame = nowhere; keeper = new_keeper parts.frames }
 
--- the locked book is as it opens: it has no entry, nobody owns one, and readers are shown the counters of the opening book
+-- the locked book is as it opens: it has no entry, nobody owns one, and readers are shown the counters of the opening
+-- book
 pub record IsOpeningLock (parts : PartsId) (locked : Locked) : Type 0 where
   pub book : unjournaled locked.book ≡ opening_book parts
   pub journal : locked.book.journal ≡ []

@@ -51,7 +51,8 @@ nothing_seen parts = record { logbook = parts.logbook; journal = [] }
 -- the rule of the rows: what was seen begins the journal of the row shown
 abbrev pub RowsGoOn : PartsId → ShownRow → List Reached → Type 0
 RowsGoOn parts x views = IsRowOf parts x
-    × ((seat : ℕ) (v : Reached) → get_elem? views seat ≡ some v → IsPrefix v.journal x.reached.journal × (v.logbook ≡ parts.logbook))
+    × ((seat : ℕ) (v : Reached) → get_elem? views seat ≡ some v → IsPrefix v.journal x.reached.journal
+    × (v.logbook ≡ parts.logbook))
 
 -- the row y is shown: its journal begins with what was seen, and is seen now
 abbrev pub Shows : PartsId → Reached → ShownRow → ShownRow → Reached → Type 0
@@ -62,7 +63,8 @@ abbrev pub list_of : Option Entry → List Entry
 list_of None = []
 list_of (Some e) = e ∷ []
 
--- the row tells how many entries the journal has, and the counters after them; the journal is a legal one of these parts
+-- the row tells how many entries the journal has, and the counters after them; the journal is a legal one of these
+-- parts
 pub record Tells (parts : PartsId) (row : Row) (journal : List Entry) : Type 0 where
   pub legal : AreAnswers (opening parts.frames.shape) journal
   pub number : row.number ≡ length journal

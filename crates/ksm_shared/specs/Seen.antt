@@ -1,5 +1,7 @@
--- What shares have seen of the journal: the rule of a table whose seats are the book's and the shares', and what its steps tell (own).
-use Rattle.std.specs.Prelude.{◌≡◌, ◌==◌, ℕ, ◌+◌, ◌<◌, ◌≤◌, Bool, true, false, if◌then◌else◌, List, [], ◌∷◌, ◌++◌, map, Option, Some, None}
+-- What shares have seen of the journal: the rule of a table whose seats are the book's and the shares', and what its
+-- steps tell (own).
+use Rattle.std.specs.Prelude.{◌≡◌, ◌==◌, ℕ, ◌+◌, ◌<◌, ◌≤◌, Bool, true, false, if◌then◌else◌, List, [], ◌∷◌, ◌++◌, map}
+use Rattle.std.specs.Prelude.{Option, Some, None}
 use mathlib.Core.Option.{some}
 use lib.ListN.{get_elem?}
 use Rattle.atomic_table.specs.Table.{State, Me, Step}
@@ -46,10 +48,11 @@ OwnersBelow count (o ∷ os) = (o.owner < count) × OwnersBelow count os
 
 -- the book's seat knows the whole journal and the number of shares, and each share at a seat fits
 abbrev pub Fits : ℕ → List Owned → ℕ → ℕ → View → Type 0
-Fits book log count by v = (v.is_book ≡ true → (by ≡ book) × (v.log ≡ log) × (v.shares ≡ count)) × CallersFit log count v.callers
+Fits book log count by v =
+    (v.is_book ≡ true → (by ≡ book) × (v.log ≡ log) × (v.shares ≡ count)) × CallersFit log count v.callers
 
--- There is one journal, known to one seat. What each share has seen begins it, and after that comes no entry that the share owns. No two
--- shares have one number.
+-- There is one journal, known to one seat. What each share has seen begins it, and after that comes no entry that the
+-- share owns. No two shares have one number.
 pub record IsKept (views : List View) : Type 0 where
   pub book : ℕ
   pub log : List Owned
@@ -94,7 +97,9 @@ added (c ∷ cs) (Some e) = owned c.number e ∷ []
 
 -- the journal with the entry, which each share at the seat then has seen
 abbrev pub after : View → Option Entry → View
-after v e = let log = v.log ++ added v.callers e in view_of v.is_book log v.shares (map (λ c. caller c.number log) v.callers)
+after v e =
+    let log = v.log ++ added v.callers e in
+    view_of v.is_book log v.shares (map (λ c. caller c.number log) v.callers)
 
 -- what the rule tells of the book's seat: the shares joined to it fit the journal that it knows
 pub record Knows (v : View) : Type 0 where

@@ -6,8 +6,8 @@ use crate::rows::CountedRow;
 use ksm_base::{Fault, Reply};
 use std::marker::{Model, PhantomData};
 
-/// The answer to one command, made under the lock. Contracts see what the book answered, and the journal after which the counters stand that
-/// readers were shown by it.
+/// The answer to one command, made under the lock. Contracts see what the book answered, and the journal after which
+/// the counters stand that readers were shown by it.
 #[derive(Drop)]
 pub struct Answer<N: Naming> {
     pub(crate) result: Result<Reply, Fault>,

@@ -1,4 +1,5 @@
-//! Beginnings of the one journal, which can be copied and compared. Their entries have no bytes: only how many there are is kept.
+//! Beginnings of the one journal, which can be copied and compared. Their entries have no bytes: only how many there
+//! are is kept.
 ghost use Rattle.std.specs.Prelude.{◌≡◌, ◌++◌, ◌∷◌, [], length, MatchBool};
 ghost use mathlib.Core.List.{IsPrefix};
 ghost use Rattle.ksm_shared.specs.Published.{length_word};
@@ -102,15 +103,16 @@ impl Beginning {
     /// Whether the other goes on where this one ends. Of two beginnings of one journal the shorter begins the longer.
     pub fn begins(&self, other: &Beginning) -> bool
         requires { other.now.logbook ≡ self.now.logbook }
-        ensures { MatchBool result (IsPrefix self.now.journal other.now.journal) (IsPrefix other.now.journal self.now.journal) }
+        ensures { MatchBool result (IsPrefix self.now.journal other.now.journal)
+            (IsPrefix other.now.journal self.now.journal) }
     {
         let mut both = self.seen.again();
         both.learn(&other.seen);
         self.count <= other.count
     }
 
-    /// Adds an entry to all that was seen. Only who has the word adds entries, so the journal is as long as was seen. Where it was not, or
-    /// no number were left for the entry, this would wait for ever.
+    /// Adds an entry to all that was seen. Only who has the word adds entries, so the journal is as long as was seen.
+    /// Where it was not, or no number were left for the entry, this would wait for ever.
     pub fn add<R: Wait>(&mut self, rt: &R, word: &LengthWord, entry: &Entry)
         requires word { word.now ≡ length_word self.old.logbook }
         ensures logbook { self.new.logbook ≡ self.old.logbook }

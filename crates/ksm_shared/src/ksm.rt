@@ -1,5 +1,6 @@
 //! What callers share: the table of frames, and the book behind the merge lock.
-ghost use Rattle.std.specs.Prelude.{◌≡◌, ◌++◌, ◌<◌, List, [], Some, true, false, All, IfOk, IfErr, IfNone, IfSome, IsSome, option_map, replicate, vec_len};
+ghost use Rattle.std.specs.Prelude.{◌≡◌, ◌++◌, ◌<◌, List, [], Some, true, false, All, IfOk, IfErr, IfNone, IfSome};
+ghost use Rattle.std.specs.Prelude.{IsSome, option_map, replicate, vec_len};
 ghost use mathlib.Core.List.{IsPrefix};
 ghost use Rattle.ksm_base.specs.Counting.{counters_of};
 ghost use Rattle.ksm_base.specs.Journal.{last_stored};
@@ -48,17 +49,19 @@ impl<N: Naming> Model for Ksm<N> {
 }
 
 impl<N: Naming> Ksm<N> {
-    /// The opening book, with its passes, a share for each caller, and the readers of counters, each with its place. No share has seen an
-    /// entry, and there is none: each is owned by a share, and behind what a share has seen comes none of its own. Refused for memory alone;
-    /// what was opened by then is closed.
+    /// The opening book, with its passes, a share for each caller, and the readers of counters, each with its place. No
+    /// share has seen an entry, and there is none: each is owned by a share, and behind what a share has seen comes
+    /// none of its own. Refused for memory alone; what was opened by then is closed.
     pub fn open(
         parts: Parts,
     ) -> Result<(Ksm<N>, Vec<Pass>, Vec<Share<N>>, Vec<CounterReader<N>>), Fault>
         requires { parts ≡ N.parts }
-        ensures passes { IfOk result (λ opened. opened.1.items ≡ replicate N.parts.frames.shape.passes (new_pass N.parts.frames)) }
+        ensures passes { IfOk result
+            (λ opened. opened.1.items ≡ replicate N.parts.frames.shape.passes (new_pass N.parts.frames)) }
         ensures shares { IfOk result (λ opened. opened.2.items ≡ fresh N.parts.callers) }
         ensures readers { IfOk result (λ opened. opened.3.items ≡ replicate N.parts.readers []) }
-        ensures empty { IfOk result (λ opened. (log : List Owned) → OwnersBelow N.parts.callers log → CallersFit log N.parts.callers opened.2.items → log ≡ []) }
+        ensures empty { IfOk result (λ opened. (log : List Owned) → OwnersBelow N.parts.callers log
+            → CallersFit log N.parts.callers opened.2.items → log ≡ []) }
         ensures memory { IfErr result (λ fault. fault ≡ Fault.Memory) }
     {
         let Parts {
@@ -78,14 +81,16 @@ impl<N: Naming> Ksm<N> {
         Ok((Ksm { frames, merge }, passes, shares, readers))
     }
 
-    /// Takes the merge lock, for several calls in a row. Until it is given back (`MutexGuard::unlock`) no other call of this book that takes
-    /// the lock returns; lookups and rows of counters go on. Of the book that is lent nothing is known but what `Merge::lies_lawfully` says.
+    /// Takes the merge lock, for several calls in a row. Until it is given back (`MutexGuard::unlock`) no other call of
+    /// this book that takes the lock returns; lookups and rows of counters go on. Of the book that is lent nothing is
+    /// known but what `Merge::lies_lawfully` says.
     pub fn lock<'a, R: Wait>(&'a self, rt: &R) -> MutexGuard<'a, Merge<N>> {
         self.merge.lock(rt)
     }
 
-    /// Makes a command. The share owns its entry, but for want of memory, and has then seen a legal journal that ends with it. The answer tells
-    /// how many entries that journal has, after which the counters stand that readers are shown.
+    /// Makes a command. The share owns its entry, but for want of memory, and has then seen a legal journal that ends
+    /// with it. The answer tells how many entries that journal has, after which the counters stand that readers are
+    /// shown.
     pub fn command<R: Wait>(&self, rt: &R, share: &mut Share<N>, command: Command) -> Answer<N>
         ensures seen { SeesOn N.parts share.old share.new (made_by share.old.number command result.result) }
         ensures part { part_of share.new ≡ part_of share.old ++ made command result.result }
@@ -118,8 +123,8 @@ impl<N: Naming> Ksm<N> {
         result
     }
 
-    /// The bytes of a page, loaded from the words of its frame; none where it has no row. They are those stored last by the journal that the
-    /// share then has seen.
+    /// The bytes of a page, loaded from the words of its frame; none where it has no row. They are those stored last by
+    /// the journal that the share then has seen.
     pub fn read<R: Wait>(&self, rt: &R, share: &mut Share<N>, page: GuestPage) -> Option<PageBytes>
         ensures seen { SeesOn N.parts share.old share.new [] }
         ensures part { part_of share.new ≡ part_of share.old }
@@ -158,7 +163,8 @@ impl<N: Naming> Ksm<N> {
         ensures seen { SeesOn N.parts share.old share.new [] }
         ensures part { part_of share.new ≡ part_of share.old }
         ensures alone { N.parts.callers ≡ 1 → share.new ≡ share.old }
-        ensures known { IfSome result (λ place. (is_known (state_seen N.parts share.new) page ≡ true) × (place ≡ ticket_of page (state_seen N.parts share.new))) }
+        ensures known { IfSome result (λ place. (is_known (state_seen N.parts share.new) page ≡ true)
+            × (place ≡ ticket_of page (state_seen N.parts share.new))) }
         ensures unknown { IfNone result (is_known (state_seen N.parts share.new) page ≡ false) }
     {
         let mut merge = self.merge.lock(rt);
@@ -212,8 +218,8 @@ impl<N: Naming> Ksm<N> {
         knobs
     }
 
-    /// The pages merged into the dup at a place, ascending; none where no dup with items stands there. Refused for memory alone, and
-    /// only where pages are there.
+    /// The pages merged into the dup at a place, ascending; none where no dup with items stands there. Refused for
+    /// memory alone, and only where pages are there.
     pub fn mappers<R: Wait>(
         &self,
         rt: &R,
@@ -224,7 +230,8 @@ impl<N: Naming> Ksm<N> {
         ensures seen { SeesOn N.parts share.old share.new [] }
         ensures part { part_of share.new ≡ part_of share.old }
         ensures alone { N.parts.callers ≡ 1 → share.new ≡ share.old }
-        ensures mappers { IfOk result (λ pages. option_map (λ v. v.items) pages ≡ mappers_of place (state_seen N.parts share.new)) }
+        ensures mappers { IfOk result
+            (λ pages. option_map (λ v. v.items) pages ≡ mappers_of place (state_seen N.parts share.new)) }
         ensures memory { IfErr result (λ fault. fault ≡ Fault.Memory) }
         ensures refused { IfErr result (λ _. IsSome (mappers_of place (state_seen N.parts share.new))) }
     {
@@ -235,8 +242,9 @@ impl<N: Naming> Ksm<N> {
         mappers
     }
 
-    /// The counters after the first `number` entries of the journal. It takes no lock. The journal goes on where the reader's last row ended,
-    /// and begins with what each answer told of that the reader has learnt. None where the reader's entry into its place was refused.
+    /// The counters after the first `number` entries of the journal. It takes no lock. The journal goes on where the
+    /// reader's last row ended, and begins with what each answer told of that the reader has learnt. None where the
+    /// reader's entry into its place was refused.
     pub fn counters_now(&self, reader: &mut CounterReader<N>) -> Option<Row>
         ensures shown { IfSome result (λ row. IsPrefix reader.old reader.new × Tells N.parts row reader.new) }
         ensures none { IfNone result (reader.new ≡ reader.old) }

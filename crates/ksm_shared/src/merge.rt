@@ -23,11 +23,13 @@ use ksm_book::Book;
 use std::marker::{Model, PhantomData};
 use std::sync::Wait;
 
-/// The book with the keeper of its frames, its seat among the shares, and what publishes its counters. Contracts see the book, the entries of
-/// its journal with their owners, and the entries after which the counters stand that readers are shown.
+/// The book with the keeper of its frames, its seat among the shares, and what publishes its counters. Contracts see
+/// the book, the entries of its journal with their owners, and the entries after which the counters stand that readers
+/// are shown.
 ///
-/// Whenever the lock is free: the book lies lawfully in the frames of the table of `N`, its journal is legal and leads to its state,
-/// each entry is owned by one of the shares of `N`, and readers are shown the counters after the whole journal (`lies_lawfully`).
+/// Whenever the lock is free: the book lies lawfully in the frames of the table of `N`, its journal is legal and leads
+/// to its state, each entry is owned by one of the shares of `N`, and readers are shown the counters after the whole
+/// journal (`lies_lawfully`).
 pub struct Merge<N: Naming> {
     pub(crate) book: Book,
     pub(crate) seen: SeenTable,
@@ -38,20 +40,19 @@ pub struct Merge<N: Naming> {
 }
 
 impl<N: Naming> Model for Merge<N> {
-    ghost use Rattle.std.specs.Prelude.{◌≡◌, []};
     ghost use Rattle.ksm_shared.specs.Locked.{Locked};
-    ghost use Rattle.ksm_shared.specs.Seen.{OwnersBelow, book_view, entries};
+    ghost use Rattle.ksm_shared.specs.Unlocked.{IsUnlocked};
 
     ghost Value = { Locked };
 
     ghost view = { λ m. record { book = m.book; log = m.seat.me.0.log; shown = m.publisher } };
 
-    ghost invariant = { λ m. (m.book.keeper.table ≡ N.parts.frames) × (m.book.journal ≡ entries m.seat.me.0.log) × (m.seen.shared.table_id ≡ N.parts.seen) × (m.seen.shared.table_id.words ≡ 1) × (m.seat.table_id ≡ N.parts.seen) × (m.seat.me ≡ (book_view m.seat.me.0.log N.parts.callers, [])) × OwnersBelow N.parts.callers m.seat.me.0.log × (m.callers ≡ N.parts.callers) × (m.publisher ≡ entries m.seat.me.0.log) };
+    ghost invariant = { IsUnlocked N.parts };
 }
 
 impl<N: Naming> Merge<N> {
-    /// Makes a command for the share's caller, and shows readers the counters after it. The share owns its entry, and has then seen the whole
-    /// journal.
+    /// Makes a command for the share's caller, and shows readers the counters after it. The share owns its entry, and
+    /// has then seen the whole journal.
     #[inline(always)]
     pub fn command<R: Wait>(
         &mut self,
@@ -127,14 +128,16 @@ impl<N: Naming> Merge<N> {
         &self.book
     }
 
-    /// The bytes of a page, loaded from the words of its frame; none where it has no row. They are those stored last by the journal.
+    /// The bytes of a page, loaded from the words of its frame; none where it has no row. They are those stored last by
+    /// the journal.
     pub fn read(&mut self, frames: &FrameTable, page: GuestPage) -> Option<PageBytes>
         requires own { frames.now ≡ N.parts.frames }
         ensures bytes { result ≡ bytes_of page self.old.book.state }
         ensures stored { IfSome result (λ bytes. last_stored page (entries self.old.log) ≡ Some bytes) }
         ensures state { self.new.book.state ≡ self.old.book.state }
         ensures log { self.new.log ≡ self.old.log }
-        ensures loads { LoadsIf ((unjournaled self.old.book).frame page) result self.old.book.keeper self.new.book.keeper }
+        ensures loads { LoadsIf ((unjournaled self.old.book).frame page) result
+            self.old.book.keeper self.new.book.keeper }
     {
         self.book.read(frames, page)
     }
@@ -156,8 +159,10 @@ impl<N: Naming> Merge<N> {
     /// How many entries all shares own together, where all shares are here; they are spent. Else they come back.
     pub fn gather(&mut self, shares: Vec<Share<N>>) -> Result<Tally, GatherFault<N>>
         ensures kept { self.new ≡ self.old }
-        ensures all { IfOk result (λ tally. Gathered N.parts.callers self.old.log shares.items × (tally.entries ≡ length self.old.log)) }
-        ensures missing { IfErr result (λ fault. (missing_of fault ≡ shares.items) × LacksOne N.parts.callers shares.items) }
+        ensures all { IfOk result
+            (λ tally. Gathered N.parts.callers self.old.log shares.items × (tally.entries ≡ length self.old.log)) }
+        ensures missing { IfErr result
+            (λ fault. (missing_of fault ≡ shares.items) × LacksOne N.parts.callers shares.items) }
     {
         if shares.len() < self.callers as usize {
             return Err(GatherFault::Missing(shares));
@@ -203,7 +208,8 @@ impl<N: Naming> Merge<N> {
 
 // Joins the shares to the book's seat, looks, and lets them go.
 fn join_all<N: Naming>(table: &SeenWords, book: &mut SeenSeat, shares: Vec<Share<N>>)
-    requires table { (book.old.table_id ≡ table.now.table_id) × (N.parts.seen ≡ table.now.table_id) × (0 < table.now.table_id.words) }
+    requires table { (book.old.table_id ≡ table.now.table_id) × (N.parts.seen ≡ table.now.table_id)
+        × (0 < table.now.table_id.words) }
     requires book { IsBookSeat book.old.me }
     ensures table { book.new.table_id ≡ book.old.table_id }
     ensures book { book.new.me ≡ book.old.me }

@@ -19,8 +19,8 @@ use ksm_book::Book;
 use std::alloc::Global;
 use std::marker::PhantomData;
 
-/// What is to lie under the merge lock: the keeper, the table of what shares have seen with the book's seat there, and the logbook by which
-/// beginnings of the journal are compared, with the word that has its length.
+/// What is to lie under the merge lock: the keeper, the table of what shares have seen with the book's seat there, and
+/// the logbook by which beginnings of the journal are compared, with the word that has its length.
 pub(crate) struct Inner {
     pub shape: Shape,
     pub keeper: Keeper,
@@ -51,8 +51,8 @@ impl Inner {
     }
 }
 
-/// The book that is to lie under the lock, with a share for each caller, and the readers of counters. Refused for memory alone, it gives the
-/// keeper back.
+/// The book that is to lie under the lock, with a share for each caller, and the readers of counters. Refused for
+/// memory alone, it gives the keeper back.
 pub(crate) fn open_lock<N: Naming>(
     alloc: Global,
     inner: Inner,
@@ -80,7 +80,8 @@ fn room<N: Naming>(
     callers: u32,
     count: u32,
 ) -> Result<(Vec<Share<N>>, Vec<CounterReader<N>>), Fault>
-    ensures shares { IfOk result (λ room. (room.0.items ≡ []) × (vec_len room.0 ≡ 0) × (callers ≤ vec_capacity room.0)) }
+    ensures shares { IfOk result
+        (λ room. (room.0.items ≡ []) × (vec_len room.0 ≡ 0) × (callers ≤ vec_capacity room.0)) }
     ensures readers { IfOk result (λ room. (room.1.items ≡ []) × (vec_len room.1 ≡ 0) × (count ≤ vec_capacity room.1)) }
     ensures memory { IfErr result (λ fault. fault ≡ Fault.Memory) }
 {
@@ -154,7 +155,8 @@ fn mint_all<N: Naming>(
     shares: &mut Vec<Share<N>>,
     callers: u32,
 )
-    requires table { (book.old.table_id ≡ table.now.table_id) × (N.parts.seen ≡ table.now.table_id) × (0 < table.now.table_id.words) }
+    requires table { (book.old.table_id ≡ table.now.table_id) × (N.parts.seen ≡ table.now.table_id)
+        × (0 < table.now.table_id.words) }
     requires book { book.old.me ≡ (book_view [] 0, []) }
     requires room { (shares.old.items ≡ []) × (vec_len shares.old ≡ 0) × (callers ≤ vec_capacity shares.old) }
     ensures table { book.new.table_id ≡ table.now.table_id }

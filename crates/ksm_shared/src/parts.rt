@@ -26,22 +26,24 @@ impl Model for Parts {
     ghost use Rattle.std.specs.Prelude.{◌≡◌, replicate};
     ghost use Rattle.frame_table.specs.Seats.{new_pass};
     ghost use Rattle.ksm_shared.specs.Named.{PartsId};
-    ghost use Rattle.ksm_shared.specs.Opening.{IsNew};
+    ghost use Rattle.ksm_shared.specs.Opening.{IsNew, parts_of};
 
     ghost Value = { PartsId };
 
-    ghost view = { λ p. record { frames = p.frames; seen = p.inner.seen.shared.table_id; logbook = p.inner.journal.book; callers = p.inner.callers; readers = p.inner.readers } };
+    ghost view = { λ p. parts_of p.frames p.inner };
 
-    ghost invariant = { λ p. IsNew (record { frames = p.frames; seen = p.inner.seen.shared.table_id; logbook = p.inner.journal.book; callers = p.inner.callers; readers = p.inner.readers }) p.inner × (p.passes.items ≡ replicate p.frames.shape.passes (new_pass p.frames)) };
+    ghost invariant = { λ p. IsNew (parts_of p.frames p.inner) p.inner
+        × (p.passes.items ≡ replicate p.frames.shape.passes (new_pass p.frames)) };
 }
 
 impl Parts {
-    /// The parts of a book of this shape, with 1 to 16 callers and a reader of counters for each. Refused for memory alone; then nothing is
-    /// kept.
+    /// The parts of a book of this shape, with 1 to 16 callers and a reader of counters for each. Refused for memory
+    /// alone; then nothing is kept.
     pub fn open(alloc: Global, shape: Shape, callers: u32) -> Result<Parts, Fault>
         requires shape { IsShape shape }
         requires callers { (1 ≤ callers) × (callers ≤ 16) }
-        ensures opened { IfOk result (λ parts. (parts.frames.shape ≡ shape) × (parts.callers ≡ callers) × (parts.readers ≡ callers)) }
+        ensures opened { IfOk result
+            (λ parts. (parts.frames.shape ≡ shape) × (parts.callers ≡ callers) × (parts.readers ≡ callers)) }
         ensures memory { IfErr result (λ fault. fault ≡ Fault.Memory) }
     {
         let (seen, seat) = SeenTable::of_words(alloc, &[0], &())?;
@@ -65,7 +67,8 @@ impl Parts {
         })
     }
 
-    /// The same for a book whose counters are read under the lock alone: it has no readers, and no rows are published for them.
+    /// The same for a book whose counters are read under the lock alone: it has no readers, and no rows are published
+    /// for them.
     pub fn unread(self) -> Parts
         ensures { result ≡ record self { readers = 0 } }
     {

@@ -15,8 +15,8 @@ use std::alloc::Global;
 use std::marker::Model;
 use std::sync::Wait;
 
-/// The rows that readers take, and the word of the logbook by which they follow the journal. Contracts see the journal after which the counters
-/// stand that readers are shown.
+/// The rows that readers take, and the word of the logbook by which they follow the journal. Contracts see the journal
+/// after which the counters stand that readers are shown.
 ///
 /// It must be closed.
 pub struct Publisher<N: Naming> {

@@ -17,7 +17,8 @@ pub struct Row {
     pub counters: Counters,
 }
 
-/// Reads counters with no lock. Contracts see it as the longest beginning of the journal that it was shown or has learnt of.
+/// Reads counters with no lock. Contracts see it as the longest beginning of the journal that it was shown or has
+/// learnt of.
 #[derive(Drop)]
 pub struct CounterReader<N: Naming> {
     reader: RowReader<N>,
@@ -58,7 +59,8 @@ impl<N: Naming> CounterReader<N> {
         self.row.rise(&answer.row);
     }
 
-    /// The counters after a beginning of the journal that goes on where the last one ended; none where the entry was refused.
+    /// The counters after a beginning of the journal that goes on where the last one ended; none where the entry was
+    /// refused.
     pub(crate) fn look(&mut self) -> Option<Row>
         ensures shown { IfSome result (λ row. IsPrefix self.old self.new × Tells N.parts row self.new) }
         ensures none { IfNone result (self.new ≡ self.old) }

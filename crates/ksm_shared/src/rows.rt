@@ -1,5 +1,5 @@
-//! Rows of counters, and the two copies of the newest one that readers take with no lock. A row is written whole to the copy that no reader
-//! has, and readers take that one from then on; so to show a row takes no memory.
+//! Rows of counters, and the two copies of the newest one that readers take with no lock. A row is written whole to the
+//! copy that no reader has, and readers take that one from then on; so to show a row takes no memory.
 ghost use Rattle.std.specs.Prelude.{◌≡◌, ◌<◌, ◌^◌, ◌⊎◌, IfOk};
 ghost use mathlib.Core.List.{IsPrefix};
 ghost use Rattle.ksm_shared.specs.Published.{IsRowOf, row_at};
@@ -71,7 +71,8 @@ impl CountedRow {
     pub fn rise(&mut self, other: &CountedRow)
         requires { other.now.reached.logbook ≡ self.old.reached.logbook }
         ensures one { (self.new ≡ self.old) ⊎ (self.new ≡ other.now) }
-        ensures rises { IsPrefix self.old.reached.journal self.new.reached.journal × IsPrefix other.now.reached.journal self.new.reached.journal }
+        ensures rises { IsPrefix self.old.reached.journal self.new.reached.journal
+            × IsPrefix other.now.reached.journal self.new.reached.journal }
     {
         if self.beginning.begins(&other.beginning) {
             *self = other.again();
@@ -134,7 +135,8 @@ impl<N: Naming> Model for Rows<N> {
 
     ghost view = { λ r. r.newest };
 
-    ghost invariant = { λ r. IsRowOf N.parts r.newest × IfNone r.copies (N.parts.readers ≡ 0) × IfSome r.copies (λ w. w.desk.shown.value ≡ r.newest) };
+    ghost invariant = { λ r. IsRowOf N.parts r.newest × IfNone r.copies (N.parts.readers ≡ 0)
+        × IfSome r.copies (λ w. w.desk.shown.value ≡ r.newest) };
 }
 
 impl<N: Naming> Rows<N> {
@@ -200,9 +202,10 @@ impl<N: Naming> Rows<N> {
         }
     }
 
-    /// Leaves the copies where they lie, for good. Their writer must be spent, and only a wait for its readers spends it; an opening has no
-    /// handle to wait by. What is left is never freed, so a reader in it would find its copy as it was. No run comes here, as a place is
-    /// refused only where all are taken; but no clause of `left_right` says so.
+    /// Leaves the copies where they lie, for good. Their writer must be spent, and only a wait for its readers spends
+    /// it; an opening has no handle to wait by. What is left is never freed, so a reader in it would find its copy as
+    /// it was. No run comes here, as a place is refused only where all are taken; but no clause of `left_right` says
+    /// so.
     pub fn leave(self) {
         let Rows { newest: _, copies } = self;
         let _left = unsafe { ManuallyDrop::new_unchecked(copies) };

@@ -1,5 +1,5 @@
-//! What shares have seen of the journal: a table whose seats are the book's and the shares', and its rule. The journal there has no bytes;
-//! it stands in the views of the seats.
+//! What shares have seen of the journal: a table whose seats are the book's and the shares', and its rule. The journal
+//! there has no bytes; it stands in the views of the seats.
 
 use atomic_table::{Join, Play, Seat, Shared, Split, Table, TableRule};
 use ksm_base::{Command, Fault, Reply};
@@ -21,8 +21,8 @@ pub struct Caller {
     pub seen: LinkedList<Owned>,
 }
 
-/// What a seat knows: the book's the journal and how many shares there are, and each the shares that sit there. Contracts speak of it; no
-/// value of it is made.
+/// What a seat knows: the book's the journal and how many shares there are, and each the shares that sit there.
+/// Contracts speak of it; no value of it is made.
 pub struct View {
     pub is_book: bool,
     pub log: LinkedList<Owned>,

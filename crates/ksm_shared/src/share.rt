@@ -4,8 +4,8 @@ use crate::naming::Naming;
 use crate::seen::SeenSeat;
 use std::marker::{Model, PhantomData};
 
-/// What a caller commands and reads the book with. Contracts see its number among the shares, and the journal that it has seen; the entries
-/// that it owns there are its part.
+/// What a caller commands and reads the book with. Contracts see its number among the shares, and the journal that it
+/// has seen; the entries that it owns there are its part.
 #[derive(Drop)]
 pub struct Share<N: Naming> {
     pub(crate) seat: SeenSeat,

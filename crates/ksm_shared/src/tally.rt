@@ -25,15 +25,17 @@ pub enum GatherFault<N: Naming> {
     Missing(Vec<Share<N>>),
 }
 
-/// How many entries all shares own together, where all are handed in; they are spent. Each entry of the journal is then in the part of just
-/// one of them.
+/// How many entries all shares own together, where all are handed in; they are spent. Each entry of the journal is then
+/// in the part of just one of them.
 pub fn gather<N: Naming, R: Wait>(
     rt: &R,
     ksm: &Ksm<N>,
     shares: Vec<Share<N>>,
 ) -> Result<Tally, GatherFault<N>>
-    ensures all { IfOk result (λ tally. (log : List Owned) × AreAnswers (opening N.parts.frames.shape) (entries log) × Gathered N.parts.callers log shares.items × (tally.entries ≡ length log)) }
-    ensures missing { IfErr result (λ fault. (missing_of fault ≡ shares.items) × LacksOne N.parts.callers shares.items) }
+    ensures all { IfOk result (λ tally. (log : List Owned) × AreAnswers (opening N.parts.frames.shape) (entries log)
+        × Gathered N.parts.callers log shares.items × (tally.entries ≡ length log)) }
+    ensures missing { IfErr result
+        (λ fault. (missing_of fault ≡ shares.items) × LacksOne N.parts.callers shares.items) }
 {
     let mut merge = ksm.merge.lock(rt);
     merge.lies_lawfully();

@@ -4,14 +4,16 @@ ghost use Rattle.ksm_shared.specs.Seen.{IsShareSeat, IsBookSeat, Wrote, book_vie
 
 use crate::seen::{Entry, Looking, NewShare, SeenSeat, SeenWords, Shares, Whole, Writing};
 
-/// The share's seat is joined to the book's, the entry is added, if there is one, and the share's seat is cut off again.
+/// The share's seat is joined to the book's, the entry is added, if there is one, and the share's seat is cut off
+/// again.
 pub(crate) fn write(
     table: &SeenWords,
     book: &mut SeenSeat,
     share: &mut SeenSeat,
     entry: &Option<Entry>,
 )
-    requires table { (book.old.table_id ≡ table.now.table_id) × (share.old.table_id ≡ table.now.table_id) × (0 < table.now.table_id.words) }
+    requires table { (book.old.table_id ≡ table.now.table_id) × (share.old.table_id ≡ table.now.table_id)
+        × (0 < table.now.table_id.words) }
     requires book { IsBookSeat book.old.me }
     requires share { IsShareSeat share.old.me }
     ensures table { (book.new.table_id ≡ table.now.table_id) × (share.new.table_id ≡ table.now.table_id) }
@@ -25,9 +27,11 @@ pub(crate) fn write(
     *share = table.split_seat::<Shares>(book);
 }
 
-/// The share's seat is joined to the book's, the journal is looked at, and the share's seat is cut off again. The word is loaded alone.
+/// The share's seat is joined to the book's, the journal is looked at, and the share's seat is cut off again. The word
+/// is loaded alone.
 pub(crate) fn look(table: &SeenWords, book: &mut SeenSeat, share: &mut SeenSeat)
-    requires table { (book.old.table_id ≡ table.now.table_id) × (share.old.table_id ≡ table.now.table_id) × (0 < table.now.table_id.words) }
+    requires table { (book.old.table_id ≡ table.now.table_id) × (share.old.table_id ≡ table.now.table_id)
+        × (0 < table.now.table_id.words) }
     requires book { IsBookSeat book.old.me }
     requires share { IsShareSeat share.old.me }
     ensures table { (book.new.table_id ≡ table.now.table_id) × (share.new.table_id ≡ table.now.table_id) }

@@ -13,9 +13,9 @@ returns-clause-seen g c =
     let w = c.look.ensures in
     let number = (first c.share.inside.seat.me.0.callers).number in
     let same = same_log _ c.share.inside.seat.me _ _ c.share.invariant.1 w.wrote in
-    let below = subst (λ (n : ℕ). number < n) (ap (λ m. m.0.shares) i.5) w.wrote.number in
-    let owners = subst (λ (l : List Owned). OwnersBelow g.N.Naming.parts.callers l) (sym same) i.6 in
-    let legal = answers_seen g.N.Naming.parts c.self.inside.book _ i.0 (i.1 ∙ ap entries (sym same)) c.lies_lawfully.ensures.legal in
+    let below = subst (λ (n : ℕ). number < n) (ap (λ m. m.0.shares) i.seat) w.wrote.number in
+    let owners = subst (λ (l : List Owned). OwnersBelow g.N.Naming.parts.callers l) (sym same) i.owners in
+    let legal = answers_seen g.N.Naming.parts c.self.inside.book _ i.own (i.journal ∙ ap entries (sym same)) c.lies_lawfully.ensures.legal in
     subst (λ (o : Caller). SeesOn g.N.Naming.parts o (first c.look.new.share.me.0.callers) []) c.share.view_is
     (sees_on g.N.Naming.parts (first c.share.inside.seat.me.0.callers) _ _ _ [] (same ∙ sym (append-nil _)) (shown_all _ _ _ _ _ w.wrote) w.wrote.begins below owners legal)
 
