@@ -1,5 +1,5 @@
 -- Rows that change at one page: what becomes of what holds of each row, and of how many lie on a frame.
-use Rattle.ksm_book.proofs.Names.{[], All, All-cons, All-head, All-map, All-tail, ap, arith, Bool, both_ways, cases_Bool, change_row, cond, cond_both, count_by, count_more, count_with_row, count_without_page, counts_one, eq-eqb, eqb-true, false, filter, filter_passes, find_all, find_none, find_passes, Frames, get_or, GuestPage, if◌then◌else◌, inl, InPageOrder, inr, is_frame, lies_on, List, map, ne_eqb, None, not, not-true, one_of_each_page, Option, refl, Row, row_at, same_page, same_page_eq, same_page_refl, Some, subst, suc, sym, true, uses, with_row, without_page, ℕ, ◌+◌, ◌∙◌, ◌∷◌, ◌≡◌, ◌≢◌, ◌≤◌, ◌⊎◌}
+use Rattle.ksm_book.proofs.Names.{[], All, All-cons, All-head, All-map, All-tail, ap, arith, Bool, both_ways, cases_Bool, change_row, cond, cond_both, count_with_row, count_without_page, counts_one, eq-eqb, eqb-true, false, filter, filter_passes, find_all, find_none, find_passes, Frames, get_or, GuestPage, inl, InPageOrder, inr, is_frame, lies_on, List, map, ne_eqb, None, not, not-true, one_of_each_page, Option, refl, Row, row_at, same_page, same_page_eq, same_page_refl, Some, subst, sym, true, uses, with_row, without_page, ℕ, ◌+◌, ◌∙◌, ◌∷◌, ◌≡◌, ◌≢◌, ◌≤◌, ◌⊎◌, count_alike, count_mapped, map_mapped, find_changed, if◌then◌else◌}
 
 -- frames that are equal at each page are equal
 pub same_frames : (f g : Frames) → ((page : GuestPage) → f page ≡ g page) → f ≡ g
@@ -102,22 +102,10 @@ filter_back t P (x ∷ xs) h = elim (cases_Bool (t x)) [
 
 -- ---------------------------------------------------------------- how many lie on a frame
 
--- tests that agree at each row count the same
-pub counts_agree : (p q : Row → Bool) (rows : List Row) → All (λ r. p r ≡ q r) rows → count_by p rows ≡ count_by q rows
-counts_agree p q [] agree = refl
-counts_agree p q (r ∷ rows) agree =
-    let here = All-head (λ s. p s ≡ q s) r rows agree in
-    let rest = counts_agree p q rows (All-tail (λ s. p s ≡ q s) r rows agree) in
-    count_more p r rows ∙ (λ i. (if here i then 1 else 0) + rest i) ∙ sym (count_more q r rows)
-
-count_map : (p : Row → Bool) (c : Row → Row) (rows : List Row) → count_by p (map c rows) ≡ count_by (λ r. p (c r)) rows
-count_map p c [] = refl
-count_map p c (r ∷ rows) = count_more p (c r) (map c rows) ∙ ap (λ n. (if p (c r) then 1 else 0) + n) (count_map p c rows) ∙ sym (count_more (λ s. p (c s)) r rows)
-
 -- as many rows lie on a frame once they are changed, each on its page
 pub uses_mapped : (f : ℕ) (frame : Frames) (c : Row → Row) (rows : List Row) → ((r : Row) → (c r).page ≡ r.page) → uses f frame (map c rows) ≡ uses f frame rows
-uses_mapped f frame c rows keeps = count_map (λ r. is_frame f (frame r.page)) c rows
-    ∙ counts_agree _ _ rows (λ i d lt. ap (λ p. is_frame f (frame p)) (keeps (get_or rows i d)))
+uses_mapped f frame c rows keeps = count_mapped c (λ r. is_frame f (frame r.page)) (λ r. is_frame f (frame r.page)) rows
+    (λ i d lt. ap (λ p. is_frame f (frame p)) (keeps (get_or rows i d)))
 
 module _ (f : ℕ) (page : GuestPage) (o : Option ℕ) (frame : Frames) where
   abbrev old_test : Row → Bool
@@ -128,7 +116,7 @@ module _ (f : ℕ) (page : GuestPage) (o : Option ℕ) (frame : Frames) where
 
   -- where no row is of the page, as many lie on the frame as did
   apart_uses : (rows : List Row) → All (λ r. same_page r.page page ≡ false) rows → uses f (lies_on page o frame) rows ≡ uses f frame rows
-  apart_uses rows apart = counts_agree new_test old_test rows (λ i d lt. ap (is_frame f) (off_page page o frame (get_or rows i d).page (apart i d lt)))
+  apart_uses rows apart = count_alike new_test old_test rows (λ i d lt. ap (is_frame f) (off_page page o frame (get_or rows i d).page (apart i d lt)))
 
   -- where the row of a page goes, one row less lies on the frame if the page lay there, else as many
   pub uses_gone : (rows : List Row) (row : Row) → InPageOrder rows → row_at page rows ≡ Some row → uses f (lies_on page o frame) (without_page page rows) + one_at f (frame page) ≡ uses f frame rows
@@ -164,16 +152,13 @@ uses_some f frame rows = λ i d lt e. counts_one (λ r. is_frame f (frame r.page
 -- a change of a page's row, and then another, are one change where the second makes the same of both
 pub change_twice : (page : GuestPage) (c d e : Row → Row) (rows : List Row) → ((r : Row) → (c r).page ≡ r.page) → All (λ r. same_page r.page page ≡ true → d (c r) ≡ e r) rows
     → change_row page d (change_row page c rows) ≡ change_row page e rows
-change_twice page c d e [] keeps same = refl
-change_twice page c d e (r ∷ rows) keeps same = elim (cases_Bool (same_page r.page page)) [
-  | inl is ↦ let k = keeps r in let s = same 0 r (omega arith) is in grind (arith, is, k, s, change_twice page c d e rows keeps (λ i x lt. same (suc i) x (omega (arith, lt))))
-  | inr other ↦ grind (arith, other, change_twice page c d e rows keeps (λ i x lt. same (suc i) x (omega (arith, lt))))
-]
+change_twice page c d e rows keeps same =
+    map_mapped (λ r. if same_page r.page page then d r else r) (λ r. if same_page r.page page then c r else r)
+    (λ r. if same_page r.page page then e r else r) rows (λ i x lt. let r = get_or rows i x in elim (cases_Bool (same_page r.page page)) [
+      | inl is ↦ let k = keeps r in let s = same i x lt is in grind (arith, is, k, s)
+      | inr other ↦ grind (arith, other)
+    ])
 
 -- where the row of a page changes, the changed row is found at the page
 pub at_changed : (page : GuestPage) (c : Row → Row) (rows : List Row) (row : Row) → ((r : Row) → (c r).page ≡ r.page) → row_at page rows ≡ Some row → row_at page (change_row page c rows) ≡ Some (c row)
-at_changed page c [] row keeps found = absurd (grind (arith, found))
-at_changed page c (r ∷ rows) row keeps found = elim (cases_Bool (same_page r.page page)) [
-  | inl same ↦ let k = keeps r in grind (arith, same, k, found)
-  | inr other ↦ grind (arith, other, at_changed page c rows row keeps (grind (arith, other, found)))
-]
+at_changed page c rows row keeps found = find_changed (λ (r : Row). r.page) page c keeps rows row found

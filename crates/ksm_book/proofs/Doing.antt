@@ -1,5 +1,5 @@
 -- What visits do to the frames is done beside: nothing by the visit of a shared row, and the same wherever the cursor stands.
-use Rattle.ksm_book.proofs.Names.{ap, append-nil, best_dup, BookState, Deed, doing, DupRow, emptying, Frames, GuestPage, handling, idle, if◌then◌else◌, is_for_zero, IsBeside, next_row, next_visited, None, Option, pairing, partner, refl, Row, row_visiting, scanning, shared_state, Some, suc, sym, then_doing, visit_begun, visiting, visiting_of, visits_beside, zero, ℕ, ◌∙◌, ◌≡◌}
+use Rattle.ksm_book.proofs.Names.{ap, append-nil, best_dup, BookState, Deed, doing, DupRow, emptying, Frames, GuestPage, handling, idle, is_for_zero, IsBeside, next_row, next_visited, None, Option, pairing, partner, refl, Row, row_visiting, scanning, shared_state, Some, suc, sym, then_doing, visit_begun, visiting, visiting_of, visits_beside, zero, ℕ, ◌∙◌, ◌≡◌, if◌then◌else◌}
 use Rattle.ksm_book.proofs.Going.{elsewhere}
 use Rattle.ksm_book.proofs.Folded.{beside_state}
 

@@ -1,5 +1,5 @@
 -- The visits of a pass are a fold over its pages, only restless pages count, and a quiet pass is repeated by those behind it.
-use Rattle.ksm_book.proofs.Names.{[], after_cursor, All, All-head, All-map, All-tail, AllPairs-cons, AllPairs-filter, and_parts, ap, append-nil, AreAscending, arith, begun, best_dup, BookState, Bool, cases_Bool, comes_before, cond_both, each_at_page, false, filter, filter_all, find_all, find_passes, get_or, GuestPage, handled, has_item, if◌then◌else◌, inl, InPageOrder, inr, is_none, is_restless, is_some, IsBeside, IsStill, last_of, length, List, map, mergeable_pages, min, next_row, next_visited, None, not, not-true, Option, option_map, page_visited, pages_ahead, pages_visited, PageState, pairs_head, pairs_tail, pass_at, pass_begun, pass_ended, pass_ended_at_last, refl, restless_at, restless_row, Row, row_at, row_visited, rowwise_visits, same_page, same_page_eq, same_Some, settled, settled_state, shared_state, slice_get, Some, subst, suc, suc-mul, sym, true, visit, visit_begun, visit_of, visited, visits, visits_beside, with_none_waiting, zero, zero-mul, ℕ, ◌&&◌, ◌*◌, ◌++◌, ◌+◌, ◌-◌, ◌^◌, ◌∙◌, ◌∷◌, ◌≡◌, ◌≤◌}
+use Rattle.ksm_book.proofs.Names.{[], after_cursor, All, All-head, All-map, All-tail, AllPairs-cons, AllPairs-filter, and_parts, ap, append-nil, AreAscending, arith, begun, best_dup, BookState, Bool, cases_Bool, comes_before, cond_both, each_at_page, false, filter, filter_all, find_all, find_passes, get_or, GuestPage, handled, has_item, inl, InPageOrder, inr, is_none, is_restless, is_some, IsBeside, IsStill, last_of, length, List, map, mergeable_pages, min, next_row, next_visited, None, not, not-true, Option, option_map, page_visited, pages_ahead, pages_visited, PageState, pairs_head, pairs_tail, pass_at, pass_begun, pass_ended, pass_ended_at_last, refl, restless_at, restless_row, Row, row_at, row_visited, rowwise_visits, same_page, same_page_eq, same_Some, settled, settled_state, shared_state, slice_get, Some, subst, suc, suc-mul, sym, true, visit, visit_begun, visit_of, visited, visits, visits_beside, with_none_waiting, zero, zero-mul, ℕ, ◌&&◌, ◌*◌, ◌++◌, ◌+◌, ◌-◌, ◌^◌, ◌∙◌, ◌∷◌, ◌≡◌, ◌≤◌, map_mapped, if◌then◌else◌}
 use Rattle.ksm_base.specs.declared.row.PageState.TheVariants.{Private}
 use Rattle.ksm_book.proofs.Going.{Goes, begun_goes, elsewhere, goes_on, mergeable_kept, goes_same, row_visited_alike, settled_goes, visited_goes}
 use Rattle.ksm_book.proofs.PagesAhead.{Before, behind_first, filter_in, filter_out, has_filter, same_pages}
@@ -11,14 +11,7 @@ pub next_first : (cursor : Option GuestPage) (rows : List Row)
     → option_map (λ r. r.page) (next_row cursor rows) ≡ slice_get (filter (after_cursor cursor) (mergeable_pages rows)) 0
 next_first cursor [] = refl
 next_first cursor (r ∷ rows) =
-    let rest = next_first cursor rows in
-    elim (cases_Bool r.mergeable) [
-      | inl mergeable ↦ elim (cases_Bool (after_cursor cursor r.page)) [
-        | inl ahead ↦ grind (arith, mergeable, ahead, rest)
-        | inr behind ↦ grind (arith, mergeable, behind, rest)
-      ]
-      | inr not_so ↦ grind (arith, not_so, rest)
-    ]
+    let rest = next_first cursor rows in grind (arith, rest)
 
 -- the next row, where a page is ahead
 some_next : (c : BookState) (page : GuestPage) (more : List GuestPage) → pages_ahead c ≡ page ∷ more
@@ -84,8 +77,7 @@ last_stands page (next ∷ pages) = last_stands next pages
 
 -- rows that settled are settled
 settled_twice : (rows : List Row) → map settled (map settled rows) ≡ map settled rows
-settled_twice [] = refl
-settled_twice (r ∷ rows) = λ t. record r { state = same r.state t } ∷ settled_twice rows t
+settled_twice rows = map_mapped settled settled settled rows (λ i d lt t. record (get_or rows i d) { state = same (get_or rows i d).state t })
   where
     same : (s : PageState) → settled_state (settled_state s) ≡ settled_state s
     same Private = refl

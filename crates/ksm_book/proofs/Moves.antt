@@ -1,9 +1,9 @@
 -- What each step of a command does to a placement.
-use Rattle.ksm_book.proofs.Names.{[], Agrees, All, All-append, All-cons, All-filter, All-head, All-map, All-tail, All-weaker, all_with_row, ap, arith, Bool, both_ways, cases_lt, change_row, cond_both, DupFits, DupRow, eq-eqb, eqb-true, false, filter, filter_passes, find_all, find_none, FitsBase, frame_at, Frames, frames_of, GenerationFits, get_or, get_or-set_other, get_or-set_same, GuestPage, if◌then◌else◌, in_hand, inl, InPageOrder, inr, is_frame, is_some, IsInLife, IsServed, item_count, Kind, kind_for, Ledger, length, length-set, lies_on, Life, life_or, List, lt-ltb, ltb-true, map, Merged, merged_into, named_at, nat_lt, nat_tests, None, not, not-true, Note, Option, ordered_change, PAGE_WORDS, PageState, place_frame, place_life, Placed, Private, refl, Row, row_at, RowFits, same_page, same_page_refl, set, Shape, shared_state, Some, Stable, subst, sym, true, uses, with_dup, with_frame, with_row, without_page, Zero, zero_state, ℕ, ◌++◌, ◌+◌, ◌/◌, ◌<◌, ◌==◌, ◌∙◌, ◌∷◌, ◌≡◌, ◌≢◌, ◌≤◌}
+use Rattle.ksm_book.proofs.Names.{[], Agrees, All, All-append, All-cons, All-filter, All-head, All-map, All-tail, All-weaker, all_with_row, ap, arith, Bool, both_ways, cases_lt, change_row, cond_both, DupFits, DupRow, eq-eqb, eqb-true, false, filter, filter_passes, find_all, find_none, FitsBase, frame_at, Frames, frames_of, GenerationFits, get_or, get_or-set_other, get_or-set_same, GuestPage, if◌then◌else◌, in_hand, inl, InPageOrder, inr, is_frame, is_some, IsInLife, IsServed, item_count, Kind, kind_for, Ledger, length, length-set, lies_on, Life, life_or, List, lt-ltb, ltb-true, map, Merged, merged_into, named_at, nat_lt, nat_tests, None, not, not-true, Note, Option, ordered_change, PAGE_WORDS, PageState, place_frame, place_life, Placed, Private, refl, Row, row_at, RowFits, same_page, same_page_refl, set, Shape, shared_state, Some, Stable, subst, sym, true, uses, with_dup, with_frame, with_row, without_page, Zero, zero_state, ℕ, ◌++◌, ◌+◌, ◌/◌, ◌<◌, ◌==◌, ◌∙◌, ◌∷◌, ◌≡◌, ◌≢◌, ◌≤◌, count_alike}
 use mathlib.Core.Logic.{dite}
 use native.Mathlib.Decide.{ℕ_discrete}
 use Rattle.ksm_book.proofs.Noted.{by_frame, noted}
-use Rattle.ksm_book.proofs.ByPage.{all_changed_row, at_changed, change_twice, lies_again, lies_still, one_same, row_of_page, uses_some, counts_agree, filter_back, found_page, off_page, on_page, uses_changed, uses_come, uses_gone, uses_mapped}
+use Rattle.ksm_book.proofs.ByPage.{all_changed_row, at_changed, change_twice, lies_again, lies_still, one_same, row_of_page, uses_some, filter_back, found_page, off_page, on_page, uses_changed, uses_come, uses_gone, uses_mapped}
 
 -- a frame serves a row: the row fits the frame, and agrees with each dup
 abbrev pub Serves : Shape → Ledger → List DupRow → Row → ℕ → Type 0
@@ -357,7 +357,7 @@ base_is_items {k = k} {rows} {frame} {dups} p n d lt life =
     let e : DupRow = get_or dups n d in
     let f : ℕ = place_frame k e.place in
     let b : (frame_at k f).base ≡ uses f frame rows + 0 = p.bases f in
-    let c : uses f frame rows ≡ item_count rows e = counts_agree (λ r. is_frame f (frame r.page)) (λ r. merged_into e.number r.state) rows (lies_as_item p n d lt life) in
+    let c : uses f frame rows ≡ item_count rows e = count_alike (λ r. is_frame f (frame r.page)) (λ r. merged_into e.number r.state) rows (lies_as_item p n d lt life) in
     omega (arith, b, c)
 
 -- a dup without items has no Stable frame in the life that its place names

@@ -1,5 +1,5 @@
 -- The visit of a page: what was found of its row, and what becomes of the book where the row alone changes.
-use Rattle.ksm_book.proofs.Names.{[], All, ap, arith, BookState, BookValue, BookView, change_row, Comes, cond_both, Deed, doing, false, Find, FindsAt, Frames, get_or, GuestPage, HasStayed, idle, if◌then◌else◌, inl, InPageOrder, inr, is_restless, IsLaid, IsSound, IsStill, KeeperView, List, lying, map, mapped, MatchOption, Merged, None, Option, page_visited, PageState, PagesView, paired, pairing, partner, Performs, refl, restless_at, restless_row, Row, row_at, row_visited, row_visiting, same_page, settled, settled_state, shared_state, Some, state_of, subst, suc, sym, then_doing, true, true≢false, view_of, visited, VisitsPage, Waiting, Zero, ℕ, ◌∙◌, ◌∷◌, ◌≡◌}
+use Rattle.ksm_book.proofs.Names.{All, ap, arith, BookState, BookValue, BookView, change_row, Comes, cond_both, Deed, doing, false, Find, FindsAt, Frames, get_or, GuestPage, HasStayed, idle, inl, InPageOrder, inr, is_restless, IsLaid, IsSound, IsStill, KeeperView, List, lying, map, mapped, MatchOption, Merged, None, Option, page_visited, PageState, PagesView, paired, pairing, partner, Performs, refl, restless_at, restless_row, Row, row_at, row_visited, row_visiting, same_page, settled, settled_state, shared_state, Some, state_of, subst, sym, then_doing, true, true≢false, view_of, visited, VisitsPage, Waiting, Zero, ℕ, ◌∙◌, ◌∷◌, ◌≡◌, if◌then◌else◌, map_mapped}
 use Rattle.ksm_base.specs.declared.row.PageState.TheVariants.{Private}
 use Rattle.ksm_pages.specs.declared.pages.Find.TheVariants as finds
 use Rattle.ksm_pages.specs.Paged.{Finds, visited as row_changed}
@@ -7,7 +7,7 @@ use Rattle.ksm_book.proofs.ByPage.{found_page, row_of_page}
 use Rattle.ksm_book.proofs.Doing.{then_idle}
 use Rattle.ksm_book.proofs.Laying.{LodgesAs, laid_mapped}
 use Rattle.ksm_book.proofs.Made.{made_none}
-use Rattle.ksm_book.proofs.RowVisits.{Leads, Meets, leads, marked_is, marking_is, restless_own, stayed_is, staying_is, there_is, visit_comes}
+use Rattle.ksm_book.proofs.RowVisits.{Leads, Meets, leads, marked_is, restless_own, stayed_is, there_is, visit_comes}
 use Rattle.ksm_book.proofs.Singles.{book}
 
 -- ---------------------------------------------------------------- what was found
@@ -49,13 +49,10 @@ shared_comes {k = k} {cursor} {passes} v w {page} at restless q same did =
 
 waiting_settles : (page : GuestPage) (rows : List Row) → All (λ r. same_page r.page page ≡ true → shared_state r.state ≡ false) rows
     → map settled (change_row page (λ r. record r { state = Waiting }) rows) ≡ map settled rows
-waiting_settles page [] alone = refl
-waiting_settles page (r ∷ rows) alone =
-    let rest = waiting_settles page rows (λ i d lt. alone (suc i) d (omega (arith, lt))) in
-    let here : settled (if same_page r.page page then record r { state = Waiting } else r) ≡ settled r =
+waiting_settles page rows alone =
+    map_mapped settled (λ r. if same_page r.page page then record r { state = Waiting } else r) settled rows (λ i d lt. let r = get_or rows i d in
     cond_both (same_page r.page page) (record r { state = Waiting }) r (λ (x : Row). settled x ≡ settled r)
-    (λ is t. record r { state = by r.state (alone 0 r (omega arith) is) t }) (λ _. refl) in
-    λ t. here t ∷ rest t
+    (λ is t. record r { state = by r.state (alone i d lt is) t }) (λ _. refl))
   where
     by : (s : PageState) → shared_state s ≡ false → Private ≡ settled_state s
     by (Merged d) e = absurd (grind (arith, e))
@@ -66,11 +63,11 @@ waiting_settles page (r ∷ rows) alone =
 module _ (b : BookState) (row : Row) (stays : HasStayed b false row) (alone : partner b.knobs b.rows row ≡ None) where
   -- the visit of a row that has stayed and has no partner makes the row Waiting
   pub waits_is : row_visited b row ≡ record b { rows = change_row row.page (λ r. record r { state = Waiting }) b.rows }
-  waits_is = stayed_is b (λ _. None) row false stays ∙ ap (λ o. paired o b row) alone
+  waits_is = (stayed_is b (λ _. None) row false stays).0 ∙ ap (λ o. paired o b row) alone
 
   -- the visit of a row that has stayed and has no partner does nothing to the frames
   pub waiting_is : (frame : Frames) → row_visiting b frame row ≡ idle frame
-  waiting_is frame = staying_is b frame row false stays ∙ ap (λ o. pairing o b frame row) alone
+  waiting_is frame = (stayed_is b frame row false stays).1 ∙ ap (λ o. pairing o b frame row) alone
 
   -- the visit of a row that has stayed and has no partner changes nothing but which rows wait
   pub waits_still : (deed : Deed) (page : GuestPage) → InPageOrder b.rows → row_at page b.rows ≡ Some row → IsStill (b, deed)
@@ -134,7 +131,7 @@ module _ {p q : PagesView} {k : KeeperView} {cursor : Option GuestPage} {passes 
 pub changed_leads : {p q : PagesView} {k : KeeperView} {cursor : Option GuestPage} {passes : ℕ} {v : BookView} {page : GuestPage}
     → Meets (λ _ r. FindsAt p q r finds.Changed) p k cursor passes v page → Leads v q k cursor passes page
 changed_leads {p} {q} {k} {cursor} {passes} at =
-    let b = state_of p cursor passes in
+    let marked = marked_is (state_of p cursor passes) p.frame at.row at.so.0 at.so.1 at.so.2 in
     row_leads at at.so.0 (λ r. record r { unchanged = true; state = Private }) (λ r. refl)
     (refl, refl, inr (restless_own at.row at.so.0, refl))
-    (marked_is b at.row at.so.0 at.so.1 at.so.2) (marking_is b p.frame at.row at.so.0 at.so.1 at.so.2) at.so.3
+    marked.0 marked.1 at.so.3

@@ -1,5 +1,6 @@
 -- Ascending lists of pages: their parts before and behind a page, by test and by index; and each is known by what it has.
-use Rattle.ksm_book.proofs.Names.{[], after_cursor, All, All-cons, All-filter, All-head, All-tail, and_right, any-filter_same, ap, AreAscending, arith, before_differs, before_irrefl, before_trans, Bool, cases_Bool, cases_lt, comes_before, Contains-from_any, drop, drop-append-le, drop_of_length-le, false, filter, filter_all, filter_none, from_to, get_or, get_or-drop, get_or-take, get_or_from_slice_get, GuestPage, has_item, if◌then◌else◌, inl, inr, last_of, length, length-drop, length-take, length-take-le, List, list_any_none, max, None, not, not_both, one_before, Option, pairs_head, pairs_tail, refl, same_page, same_page_eq, same_page_refl, same_Some, slice_get, slice_get-get_or, slice_get_within, Some, subst, suc, sym, take, take_more, true, true≢false, up_to, zero, ℕ, ◌&&◌, ◌++◌, ◌+◌, ◌-◌, ◌<◌, ◌||◌, ◌∙◌, ◌∷◌, ◌≡◌, ◌≤◌}
+use Rattle.ksm_book.proofs.Names.{[], after_cursor, All, All-cons, All-filter, All-head, and_right, any-filter_same, ap, AreAscending, arith, before_differs, before_irrefl, before_trans, Bool, cases_Bool, cases_lt, comes_before, Contains-from_any, drop, drop-append-le, drop_of_length-le, false, filter, filter_all, filter_none, from_to, get_or, get_or-drop, get_or-take, get_or_from_slice_get, GuestPage, has_item, inl, inr, last_of, length, length-drop, length-take, length-take-le, List, list_any_none, max, None, not, not_both, one_before, Option, pairs_head, pairs_tail, refl, same_page, same_page_eq, same_page_refl, same_Some, slice_get, slice_get-get_or, slice_get_within, Some, subst, suc, sym, take, take_more, true, true≢false, up_to, zero, ℕ, ◌&&◌, ◌++◌, ◌+◌, ◌-◌, ◌<◌, ◌||◌, ◌∙◌, ◌∷◌, ◌≡◌, ◌≤◌, filter_mapped, if◌then◌else◌}
+use Rattle.std.proofs.lemmas.List.{map-id}
 
 -- the first page comes before the second
 abbrev pub Before : GuestPage → GuestPage → Type 0
@@ -59,11 +60,7 @@ pub before_down : (page : GuestPage) → GoesDown (λ p. comes_before p page)
 before_down page p q before is = before_trans p q page before is
 
 filter_same : {X : Type 0} (t u : X → Bool) (xs : List X) → All (λ x. t x ≡ u x) xs → filter t xs ≡ filter u xs
-filter_same t u [] same = refl
-filter_same t u (x ∷ xs) same =
-    let here = All-head (λ y. t y ≡ u y) x xs same in
-    let rest = filter_same t u xs (All-tail (λ y. t y ≡ u y) x xs same) in
-    λ i. if here i then x ∷ rest i else rest i
+filter_same t u xs same = ap (filter t) (sym (map-id xs)) ∙ filter_mapped (λ x. x) t u xs same ∙ map-id (filter u xs)
 
 drop_none : (n : ℕ) → drop {A = GuestPage} n [] ≡ []
 drop_none zero = refl

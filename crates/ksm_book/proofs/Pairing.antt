@@ -1,11 +1,11 @@
 -- A visited page makes a dup with the page that waits for it: what the keeper may do, and what becomes of the book.
-use Rattle.ksm_book.proofs.Names.{[], Add, All, All-contains_itself, ap, arith, BookState, BookView, Bool, cases_Bool, change_row, change_rows, Contains, Contains-append_right, count_none, did, dup_of_row, DupRow, each_at_page, eq-eqb, false, filter, find_all, find_passes, frame_number, frames_of, get_or, GuestPage, HasStayed, IfSome, if◌then◌else◌, inl, InPageOrder, inr, IsFree, IsLaid, IsSound, IsVacant, item_count, joined_count, KeeperView, leaving, lies_on, List, list_any, lying, Made, MatchOption, May, MayPair, MeetsPage, Merged, merged_into, merged_state, nat_lt, nat_tests, new_place, new_place_free, next_is_new, None, Option, ordered_change, PageState, PagesView, paired, pairing, partner, Performs, place_count, Publish, refl, Row, row_at, row_visiting, same_page, same_page_eq, shared_state, Some, state_of, Sub, subst, sym, true, true≢false, waiting_state, waits_for, waits_tells, WaitsFor, with_dup, Withdraw, withdrawing, Zero, ℕ, ◌++◌, ◌+◌, ◌<◌, ◌==◌, ◌||◌, ◌∙◌, ◌∷◌, ◌≡◌, ◌≤◌}
+use Rattle.ksm_book.proofs.Names.{[], Add, All, All-contains_itself, ap, arith, BookState, BookView, Bool, cases_Bool, change_row, change_rows, Contains, Contains-append_right, count_none, did, dup_of_row, DupRow, each_at_page, eq-eqb, false, filter, find_all, find_passes, frame_number, frames_of, get_or, GuestPage, HasStayed, IfSome, inl, InPageOrder, inr, IsFree, IsLaid, IsSound, IsVacant, item_count, joined_count, KeeperView, leaving, lies_on, List, list_any, lying, Made, MatchOption, May, MayPair, MeetsPage, Merged, merged_into, merged_state, nat_lt, nat_tests, new_place, new_place_free, next_is_new, None, Option, ordered_change, PageState, PagesView, paired, pairing, partner, Performs, place_count, Publish, refl, Row, row_at, row_visiting, same_page, shared_state, Some, state_of, Sub, subst, sym, true, true≢false, waiting_state, waits_for, waits_tells, WaitsFor, with_dup, Withdraw, withdrawing, Zero, ℕ, ◌++◌, ◌+◌, ◌<◌, ◌==◌, ◌||◌, ◌∙◌, ◌∷◌, ◌≡◌, ◌≤◌, find_changed_other, if◌then◌else◌}
 use Rattle.ksm_pages.specs.Paged.{paired as are_paired}
 use Rattle.ksm_book.proofs.Made.{made_one, made_then}
 use Rattle.ksm_book.proofs.Sharing.{laid_found, laid_joined, may_clear, may_found, may_join, may_part, spent_most, tree_is_home}
 use Rattle.ksm_book.proofs.ByPage.{at_changed}
 use Rattle.ksm_book.proofs.Standing.{finds_places}
-use Rattle.ksm_book.proofs.RowVisits.{Leads, Meets, at_row, leads, page_is, restless_own, there_is, staying_is, stayed_is}
+use Rattle.ksm_book.proofs.RowVisits.{Leads, Meets, at_row, leads, page_is, restless_own, there_is, stayed_is}
 
 -- a row that waits is not shared
 waiting_is_alone : (s : PageState) → waiting_state s ≡ true → (shared_state s ≡ false) × (merged_state s ≡ false)
@@ -20,31 +20,7 @@ in_state s r = record r { state = s }
 two_changes : (p q : GuestPage) (s : PageState) (rows : List Row) → change_row q (in_state s) (change_row p (in_state s) rows) ≡ change_rows
     (λ r. same_page r.page p || same_page r.page q) (in_state s) rows
 two_changes p q s [] = refl
-two_changes p q s (r ∷ rs) =
-    let rest = two_changes p q s rs in
-    elim (cases_Bool (same_page r.page p)) [
-      | inl first ↦ elim (cases_Bool (same_page r.page q)) [
-        | inl second ↦ grind (arith, first, second, rest)
-        | inr second ↦ grind (arith, first, second, rest)
-      ]
-      | inr first ↦ elim (cases_Bool (same_page r.page q)) [
-        | inl second ↦ grind (arith, first, second, rest)
-        | inr second ↦ grind (arith, first, second, rest)
-      ]
-    ]
-
--- the row of another page stays
-row_elsewhere : (p q : GuestPage) (s : PageState) (rows : List Row) → same_page p q ≡ false → row_at q (change_row p (in_state s) rows) ≡
-    row_at q rows
-row_elsewhere p q s [] other = refl
-row_elsewhere p q s (r ∷ rs) other =
-    let rest = row_elsewhere p q s rs other in
-    elim (cases_Bool (same_page r.page p)) [
-      | inl here ↦
-          let not_q : same_page r.page q ≡ false = ap (λ x. same_page x q) (same_page_eq r.page p here) ∙ other in
-          grind (arith, here, not_q, rest)
-      | inr there ↦ grind (arith, there, rest)
-    ]
+two_changes p q s (r ∷ rs) = let rest = two_changes p q s rs in grind (arith, rest)
 
 contains_dup : (d : DupRow) (dups : List DupRow) → Contains (with_dup d dups) d
 contains_dup d dups =
@@ -198,7 +174,7 @@ module _ {p : PagesView} {k : KeeperView} {cursor : Option GuestPage} {passes : 
       first_rise = ordered_change (λ r. same_page r.page w.page) change p.rows (λ r. refl) s.rows_rise
 
       row_still : row_at page first.rows ≡ Some row
-      row_still = row_elsewhere w.page page (Merged p.next) p.rows apart ∙ at.met.found
+      row_still = find_changed_other (λ (r : Row). r.page) w.page change (λ r. refl) page p.rows apart ∙ at.met.found
 
       item_at : row_at w.page first.rows ≡ Some (change w)
       item_at = at_changed w.page change p.rows w (λ r. refl) waits_at
@@ -246,7 +222,7 @@ module _ {p : PagesView} {k : KeeperView} {cursor : Option GuestPage} {passes : 
                 (Publish place f ∷ Add f ∷ leaving (p.frame page));
             frame = lies_on page (Some f) p.frame;
           }
-          deed_is = staying_is b p.frame row false at.met.so ∙ ap (λ o. pairing o b p.frame row) at.waits
+          deed_is = (stayed_is b p.frame row false at.met.so).1 ∙ ap (λ o. pairing o b p.frame row) at.waits
               ∙ (λ t. record {
                 steps = withdrawing p.dups (sym at.chosen t) ++ (Publish (sym at.chosen t) (frame_number (lies t)) ∷ Add
                     (frame_number (lies t)) ∷ leaving (p.frame (at_page t)));
@@ -260,6 +236,6 @@ module _ {p : PagesView} {k : KeeperView} {cursor : Option GuestPage} {passes : 
               (laid_joined first_laid first_rise page row (change w) row_still item_at f lies refl change (λ r. refl) refl (sym tells.bytes)
               l p.restless steps))
               (ap (λ (x : PagesView). state_of x cursor passes) goes ∙ (λ t. state_of (are_paired (at.chosen t) w row p) cursor passes)
-              ∙ sym (stayed_is b p.frame row false at.met.so ∙ ap (λ o. paired o b row) at.waits))
+              ∙ sym ((stayed_is b p.frame row false at.met.so).0 ∙ ap (λ o. paired o b row) at.waits))
               (subst (Performs (lying p k) (lying q l)) (sym deed_is) (record
               { made = all_steps; frame = ap (λ (x : PagesView). x.frame) q_is }))

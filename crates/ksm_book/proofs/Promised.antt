@@ -1,21 +1,19 @@
 -- A lawful placement says the sentences that are promised.
-use Rattle.ksm_book.proofs.Names.{eqb-true, find_passes, eq-eqb, [], All, All-filter, All-head, All-map, All-tail, AllPairs, AllPairs-cons, AllPairs-filter, ap, arith, BookState, Bool, cases_Bool, Contains, Contains-append_left, Contains-append_right, count_by, count_more, counts_one, dup_frames, dup_of_item, DupRow, false, Filling, filter, filter_passes, FitsBase, frame_at, frame_number, Frames, get_or, GuestPage, has_items, HasItsOwn, home_of_item, if◌then◌else◌, inl, inr, is_frame, is_in_use, is_some, IsOutlived, IsServed, IsSound, item_count, Kind, kind_for, Ledger, length, LieOn, Life, life_or, List, lt-ltb, map, MatchOption, Merged, merged_into, named_at, nat_tests, None, none_counted, not, not-true, Option, own_frames, PageState, pairs_append, pairs_head, pairs_tail, place_frame, Placed, Private, refl, Row, row_at, shared_state, Some, Stable, StandsOn, subst, suc, sym, true, uses, Zero, zero, zero_state, ℕ, ◌++◌, ◌+◌, ◌<◌, ◌==◌, ◌∙◌, ◌∷◌, ◌≡◌, ◌≢◌, ◌≤◌}
+use Rattle.ksm_book.proofs.Names.{eqb-true, find_passes, eq-eqb, [], All, All-filter, All-head, All-map, All-tail, AllPairs, AllPairs-cons, AllPairs-filter, ap, arith, BookState, Bool, cases_Bool, Contains, Contains-append_left, Contains-append_right, count_by, count_more, counts_one, dup_frames, dup_of_item, DupRow, false, Filling, filter, filter_passes, FitsBase, frame_at, frame_number, Frames, get_or, GuestPage, has_items, HasItsOwn, home_of_item, inl, inr, is_frame, is_in_use, is_some, IsOutlived, IsServed, IsSound, item_count, Kind, kind_for, Ledger, length, LieOn, Life, life_or, List, lt-ltb, map, MatchOption, Merged, merged_into, named_at, nat_tests, None, none_counted, not, not-true, Option, own_frames, PageState, pairs_append, pairs_head, pairs_tail, place_frame, Placed, Private, refl, Row, row_at, shared_state, Some, Stable, StandsOn, subst, sym, true, uses, Zero, zero, zero_state, ℕ, ◌++◌, ◌+◌, ◌<◌, ◌==◌, ◌∙◌, ◌∷◌, ◌≡◌, ◌≢◌, ◌≤◌, if◌then◌else◌, get_or-map, length-map}
 use Rattle.ksm_book.proofs.ByPage.{is_that}
 use Rattle.ksm_book.proofs.Laying.{own_kind, own_framed}
 use Rattle.ksm_book.proofs.Moves.{base_is_items, stale_is_loose, framed}
 use Rattle.ksm_book.proofs.Standing.{Lives, frames_apart, lives}
 use Rattle.ksm_book.proofs.Sharing.{first_found, index_found, state_of_item}
+use Rattle.ksm_book.proofs.Shown.{contains_filter}
+use Rattle.std.proofs.lemmas.List.Elements.{Contains-get_or}
 
 -- what passes a test is among those that pass, and so is what is made of it
 passing : {X : Type 0} (f : X → ℕ) (test : X → Bool) (xs : List X) (i : ℕ) (d : X) → i < length xs → test (get_or xs i d) ≡ true → Contains (map f (filter test xs)) (f (get_or xs i d))
-passing f test [] i d lt passes = absurd (omega arith)
-passing f test (x ∷ xs) zero d lt passes = subst (λ ys. Contains (map f ys) (f x)) (let is : x ∷ filter test xs ≡ filter test (x ∷ xs) = grind (arith, passes) in is) (0, omega arith, refl)
-passing f test (x ∷ xs) (suc i) d lt passes =
-    let rest = passing f test xs i d (omega arith) passes in
-    elim (cases_Bool (test x)) [
-      | inl here ↦ subst (λ ys. Contains (map f ys) (f (get_or xs i d))) (let is : x ∷ filter test xs ≡ filter test (x ∷ xs) = grind (arith, here) in is) (suc rest.0, (let l = rest.1 in omega (arith, l)), rest.2)
-      | inr there ↦ subst (λ ys. Contains (map f ys) (f (get_or xs i d))) (let is : filter test xs ≡ filter test (x ∷ xs) = grind (arith, there) in is) rest
-    ]
+passing f test xs i d lt passes =
+    let kept = contains_filter test xs (get_or xs i d) (Contains-get_or xs i d lt) passes in
+    let here = kept.1 in
+    (kept.0, omega (arith, here, length-map (filter test xs) f), get_or-map f (filter test xs) kept.0 (get_or xs i d) _ here ∙ ap f kept.2)
 
 -- numbers that are each counted once differ
 once_each : (xs : List ℕ) → All (λ f. count_by (λ g. g == f) xs ≤ 1) xs → AllPairs (λ f g. f ≢ g) xs
@@ -124,7 +122,7 @@ module _ (b : BookState) (k : Ledger) (s : IsSound b) (frame : Frames) (p : Plac
   zero_none r None served zero_is = refl
   zero_none r (Some f) served zero_is = (let not_so = served.0.mapped in absurd (grind (arith, not_so, zero_is)))
 
-  dup_lives : All (λ d. has_items b.rows d ≡ true → Lives k b.dups b.shape frame d) b.dups
+  dup_lives : All (λ d. has_items b.rows d ≡ true → Lives k b.dups b.shape b.rows frame d) b.dups
   dup_lives n d lt some = lives p n d lt (λ none. absurd (grind (arith, nat_tests, some, none)))
 
   stands : All (λ d. has_items b.rows d ≡ true → StandsOn b k d (place_frame k d.place)) b.dups
@@ -157,7 +155,7 @@ module _ (b : BookState) (k : Ledger) (s : IsSound b) (frame : Frames) (p : Plac
       omega (arith, one, listed, few))
 
   abbrev Live : DupRow → Type 0
-  Live d = Lives k b.dups b.shape frame d
+  Live d = Lives k b.dups b.shape b.rows frame d
 
   live_kept : All Live (filter (has_items b.rows) b.dups)
   live_kept =

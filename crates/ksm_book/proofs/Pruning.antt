@@ -29,10 +29,7 @@ live_elsewhere rows place (d ∷ ds) vacant =
           let none : item_count rows d ≡ 0 = All-head (λ x. x.place ≡ place → item_count rows x ≡ 0) d ds vacant (eqb-true d.place place here) in
           let stale : has_items rows d ≡ false = grind (arith, nat_tests, none) in
           grind (arith, here, stale, rest)
-      | inr there ↦ elim (cases_Bool (has_items rows d)) [
-        | inl lives ↦ grind (arith, there, lives, rest)
-        | inr dies ↦ grind (arith, there, dies, rest)
-      ]
+      | inr there ↦ grind (arith, there, rest)
     ]
 
 -- the dup whose place was found
@@ -61,7 +58,7 @@ first_stale rows (x ∷ xs) d rise found = elim (cases_Bool (is_stale rows x)) [
   | inr lives ↦
       let rest = first_stale rows xs d (pairs_tail (λ (a b : DupRow). (a.place < b.place) × ((a.number == b.number) ≡ false)) x xs rise)
       (grind (arith, found, lives)) in
-      elim (cases_Bool (elsewhere d.place x)) [ inl kept ↦ grind (arith, kept, lives, rest) | inr gone ↦ grind (arith, gone, lives, rest) ]
+      grind (arith, lives, rest)
 ]
 
 -- so far the places of the stale dups that went were withdrawn, in their order
@@ -126,7 +123,8 @@ pub record Drops (p q : PagesView) (k l : KeeperView) (count : ℕ) : Type 0 whe
   pub withdraws : Withdraws k l p.rows p.dups q.dups
 
 -- the first stale dup goes next
-module _ (p q : PagesView) (k l : KeeperView) (count : ℕ) (h : Drops p q k l count) (place : ℕ) (told : Some place ≡ option_map (λ d. d.place) (find (is_stale q.rows) q.dups)) where
+module _ {p q : PagesView} {k l : KeeperView} {count : ℕ} (h : Drops p q k l count) {place : ℕ}
+    (told : Some place ≡ option_map (λ d. d.place) (find (is_stale q.rows) q.dups)) where
   rows_are : q.rows ≡ p.rows
   rows_are = ap (λ (x : PagesView). x.rows) h.pages
 
@@ -191,7 +189,8 @@ module _ (p q : PagesView) (k l : KeeperView) (count : ℕ) (h : Drops p q k l c
       }
 
 -- where none is stale any more, all are gone
-module _ (p q : PagesView) (k l : KeeperView) (count : ℕ) (h : Drops p q k l count) (told : None ≡ option_map (λ d. d.place) (find (is_stale q.rows) q.dups)) where
+module _ {p q : PagesView} {k l : KeeperView} {count : ℕ} (h : Drops p q k l count)
+    (told : None ≡ option_map (λ d. d.place) (find (is_stale q.rows) q.dups)) where
   none : find (is_stale p.rows) q.dups ≡ None
   none = ap (λ (x : PagesView). find (is_stale x.rows) q.dups) (sym h.pages) ∙ no_dup_at (find (is_stale q.rows) q.dups) told
 

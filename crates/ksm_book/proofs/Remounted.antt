@@ -1,8 +1,8 @@
 -- A dup moves to another frame, with all of its items.
-use Rattle.ksm_book.proofs.Names.{eqb-true, Agrees, All, ap, arith, blank, Bool, cond, count_none, DupFits, DupRow, Dying, eq-eqb, false, FitsBase, frame_at, Frames, frames_of, Free, GenerationFits, get_or, get_or-set_other, get_or-set_same, GuestPage, inl, inr, instead, is_frame, is_some, IsInLife, IsServed, Kind, kind_for, Ledger, length, length-set, Life, life_or, List, Merged, merged_into, named_at, ne_eqb, node_of, None, none_counted, Note, Option, PAGE_WORDS, PageState, place_frame, place_life, Placed, Private, refl, Row, RowFits, same_Some, set, Shape, shared_state, Some, Stable, subst, sym, true, uses, ℕ, ◌+◌, ◌<◌, ◌∙◌, ◌≡◌, ◌≢◌, ◌≤◌}
+use Rattle.ksm_book.proofs.Names.{eqb-true, Agrees, All, ap, arith, blank, Bool, cond, count_none, DupFits, DupRow, Dying, eq-eqb, false, FitsBase, frame_at, Frames, frames_of, Free, GenerationFits, get_or, get_or-set_other, get_or-set_same, GuestPage, inl, inr, instead, is_frame, is_some, IsInLife, IsServed, Kind, kind_for, Ledger, length, length-set, Life, life_or, List, Merged, merged_into, named_at, ne_eqb, node_of, None, none_counted, Note, Option, PAGE_WORDS, PageState, place_frame, place_life, Placed, Private, refl, Row, RowFits, same_Some, set, Shape, shared_state, Some, Stable, subst, sym, true, uses, ℕ, ◌+◌, ◌<◌, ◌∙◌, ◌≡◌, ◌≢◌, ◌≤◌, count_alike}
 use mathlib.Core.Logic.{dite}
 use native.Mathlib.Decide.{ℕ_discrete}
-use Rattle.ksm_book.proofs.ByPage.{counts_agree, frame_cases, not_on, uses_some}
+use Rattle.ksm_book.proofs.ByPage.{frame_cases, not_on, uses_some}
 use Rattle.ksm_book.proofs.Moves.{Serves}
 
 merged_of_kind : (s : PageState) → kind_for s ≡ Stable → shared_state s ≡ true
@@ -31,7 +31,7 @@ module _ (f g : ℕ) (frame : Frames) (rows : List Row) where
   unused_is none = none_counted (λ r. is_frame g (frame r.page)) rows none
 
   uses_new : uses g frame rows ≡ 0 → uses g (instead f g frame) rows ≡ uses f frame rows
-  uses_new none = counts_agree _ _ rows (λ i d lt.
+  uses_new none = count_alike _ _ rows (λ i d lt.
       let page = (get_or rows i d).page in
       elim (frame_cases f (frame page)) [
         | inl on ↦ ap (is_frame g) (instead_here f g frame page on) ∙ eq-eqb g g refl ∙ sym (ap (is_frame f) on ∙ eq-eqb f f refl)
@@ -47,25 +47,20 @@ module _ (f g : ℕ) (frame : Frames) (rows : List Row) where
       ])
 
   uses_still : (x : ℕ) → x ≢ f → x ≢ g → uses x (instead f g frame) rows ≡ uses x frame rows
-  uses_still x nf ng = counts_agree _ _ rows (λ i d lt.
+  uses_still x nf ng = count_alike _ _ rows (λ i d lt.
       let page = (get_or rows i d).page in
       elim (frame_cases f (frame page)) [
         | inl on ↦ ap (is_frame x) (instead_here f g frame page on) ∙ not_on x (Some g) (λ e. ng (sym (same_Some g x e))) ∙ sym (ap (is_frame x) on ∙ not_on x (Some f) (λ e. nf (sym (same_Some f x e))))
         | inr off ↦ ap (is_frame x) (instead_there f g frame page off)
       ])
 
-module _ {sh : Shape} {across : ℕ} {k : Ledger} {rows : List Row} {frame : Frames} {dups : List DupRow} (p : Placed sh across k rows frame dups None) (n : ℕ) (d : DupRow) (lt : n < length dups) (g : ℕ) where
-  -- the dup that moves
-  abbrev pub moving : DupRow
-  moving = get_or dups n d
-
+-- one of the dups moves from the frame that its place names to another
+module _ {sh : Shape} {across : ℕ} {k : Ledger} {rows : List Row} {frame : Frames} {dups : List DupRow}
+    (p : Placed sh across k rows frame dups None) (moving : DupRow) (among : (P : DupRow → Type 0) → All P dups → P moving) (left g : ℕ)
+    (leaves : left ≡ place_frame k moving.place) where
   -- the place of the dup that moves
   abbrev pub q : ℕ
   q = moving.place
-
-  -- the frame that the dup leaves
-  abbrev pub left : ℕ
-  left = place_frame k q
 
   -- the note of the frame that the dup leaves, once it is left
   abbrev pub dead : Note
@@ -85,7 +80,7 @@ module _ {sh : Shape} {across : ℕ} {k : Ledger} {rows : List Row} {frame : Fra
 
   module _ (inside : g < frames_of sh) (free : (frame_at k g).kind ≡ Free) (in_life : IsInLife k q) (stable : (frame_at k left).kind ≡ Stable) (node : across ≡ 0 → node_of sh g ≡ node_of sh left) (numbers : All (λ e. e.place ≢ q → e.number ≢ moving.number) dups) where
     fits : DupFits sh across k moving
-    fits = p.each_dup n d lt
+    fits = among (DupFits sh across k) p.each_dup
 
     apart : g ≢ left
     apart e = let both : Free ≡ Stable = sym free ∙ ap (λ h. (frame_at k h).kind) e ∙ stable in cc
@@ -100,7 +95,7 @@ module _ {sh : Shape} {across : ℕ} {k : Ledger} {rows : List Row} {frame : Fra
     at P h here there else' =
         let long : length k.frames ≡ frames_of sh = p.frames_long in
         let long' : length (set k.frames left dead) ≡ length k.frames = length-set k.frames left dead in
-        let low : left < frames_of sh = fits.frame in
+        let low : left < frames_of sh = subst (λ x. x < frames_of sh) (sym leaves) fits.frame in
         dite (ℕ_discrete h g)
         (λ e. subst P (sym (ap (frame_at next) e ∙ get_or-set_same (set k.frames left dead) g mounted blank (omega (arith, long, long', inside)))) (here e))
         (λ ne. subst P (sym (get_or-set_other (set k.frames left dead) g h mounted blank ne)) (dite (ℕ_discrete h left)
@@ -154,7 +149,7 @@ module _ {sh : Shape} {across : ℕ} {k : Ledger} {rows : List Row} {frame : Fra
       was = had.0
 
       item_of : f ≡ left → merged_into moving.number r.state ≡ true
-      item_of e = (had.1 n d lt).back in_life e
+      item_of e = (among (Agrees k r f) had.1).back in_life (e ∙ leaves)
 
       moved_row : f ≡ left → RowFits sh next r g
       moved_row e = record {
@@ -170,7 +165,7 @@ module _ {sh : Shape} {across : ℕ} {k : Ledger} {rows : List Row} {frame : Fra
       moved_agrees is e m others a = dite (ℕ_discrete e.place q)
           (λ same. record {
             item = λ _. (sym (frame_is e.place same), is_in_life e.place same);
-            back = λ _ _. a.back (subst (λ x. IsInLife k x) (sym same) in_life) (is ∙ ap (place_frame k) (sym same));
+            back = λ _ _. a.back (subst (λ x. IsInLife k x) (sym same) in_life) (is ∙ leaves ∙ ap (place_frame k) (sym same));
           })
           (λ ne. record {
             item = λ t. absurd (others ne (one_number r.state moving.number e.number (item_of is) t));
@@ -192,7 +187,7 @@ module _ {sh : Shape} {across : ℕ} {k : Ledger} {rows : List Row} {frame : Fra
       still_agrees : f ≢ left → (e : DupRow) → DupFits sh across k e → Agrees k r f e → Agrees next r f e
       still_agrees not' e m a = dite (ℕ_discrete e.place q)
           (λ same. record {
-            item = λ t. absurd (not' ((a.item t).0 ∙ ap (place_frame k) same));
+            item = λ t. absurd (not' ((a.item t).0 ∙ ap (place_frame k) same ∙ sym leaves));
             back = λ _ t. absurd (far (t ∙ frame_is e.place same));
           })
           (λ ne. record {
@@ -218,9 +213,9 @@ module _ {sh : Shape} {across : ℕ} {k : Ledger} {rows : List Row} {frame : Fra
           named = ap (λ x. is_some (named_at next x)) same ∙ ap is_some named;
           frame = subst (λ x. x < frames_of sh) (sym fr) inside;
           life = (let l : (frame_at next (place_frame next e.place)).generation ≡ place_life next e.place = is_in_life e.place same in omega (arith, l));
-          content = λ _. ap (λ h. (frame_at next h).content) fr ∙ at_g (λ x. x.content ≡ e.bytes) (ap (λ x. (frame_at k (place_frame k x)).content) (sym same) ∙ m.content (subst (λ x. IsInLife k x) (sym same) in_life));
+          content = λ _. ap (λ h. (frame_at next h).content) fr ∙ at_g (λ x. x.content ≡ e.bytes) (ap (λ x. (frame_at k x).content) (leaves ∙ ap (place_frame k) (sym same)) ∙ m.content (subst (λ x. IsInLife k x) (sym same) in_life));
           shown = λ _ own. at_g (λ x. x.kind ≡ Private → ⊥) (λ bad. cc) (ap (λ h. (frame_at next h).kind) (sym fr) ∙ own);
-          node = λ z. ap (node_of sh) fr ∙ node z ∙ ap (λ x. node_of sh (place_frame k x)) (sym same) ∙ m.node z;
+          node = λ z. ap (node_of sh) fr ∙ node z ∙ ap (node_of sh) (leaves ∙ ap (place_frame k) (sym same)) ∙ m.node z;
         }
 
     dup_there : (e : DupRow) → e.place ≢ q → DupFits sh across k e → DupFits sh across next e
@@ -258,5 +253,5 @@ module _ {sh : Shape} {across : ℕ} {k : Ledger} {rows : List Row} {frame : Fra
           (λ e. let none : uses h (instead left g frame) rows ≡ 0 = ap (λ y. uses y (instead left g frame) rows) e ∙ uses_old left g frame rows apart in omega (arith, none))
           (λ ng nf. let still : uses h (instead left g frame) rows ≡ uses h frame rows = uses_still left g frame rows h nf ng in let old : (frame_at k h).base ≡ uses h frame rows + 0 = p.bases h in omega (arith, still, old));
       kinds = λ h. at (λ x. FitsBase x.kind x.base) h (λ _. some) (λ _. refl) (λ _ _. p.kinds h);
-      empty = λ e none. dite (ℕ_discrete e q) (λ same. absurd (none n d lt (sym same))) (λ ne. named_off e ne ∙ p.empty e none);
+      empty = λ e none. dite (ℕ_discrete e q) (λ same. absurd (among (λ d. d.place ≢ e) none (sym same))) (λ ne. named_off e ne ∙ p.empty e none);
     }

@@ -1,5 +1,5 @@
 -- The visit of a row, by what is found: what becomes of the book, and what is done to the frames.
-use Rattle.ksm_book.proofs.Names.{[], Add, All, All-contains_itself, and_parts, ap, arith, Best, best_dup, best_dup_has_room, BookState, BookValue, BookView, Bool, change_row, Comes, Contains, doing, DupRow, each_at_page, emptying, false, find, find_all, find_passes, frame_found, frame_number, Frames, GuestPage, handled, handling, HasRoom, HasStayed, idle, IfSome, if◌then◌else◌, is_best, is_restless, IsAlone, IsDupOf, IsForZero, IsJoined, IsLaid, IsSound, item_count, joining, KeeperStep, KeeperView, leaving, leb-true, lies_on, List, lying, Made, mapped, MatchOption, May, may_join, MayJoin, Merged, merged_into, merged_state, nat_le, nat_lt, None, not, Option, page_visited, PagesView, paired, pairing, partner, Performs, Placed, Reached, refl, Row, row_at, row_visited, row_visiting, same_Some, shared_state, Some, sound_row_visited, state_of, stayed, staying, Sub, subst, sym, true, true≢false, view_of, visited, VisitsPage, Zero, ℕ, ◌∙◌, ◌∷◌, ◌≡◌, ◌≤◌}
+use Rattle.ksm_book.proofs.Names.{[], Add, All, All-contains_itself, and_parts, ap, arith, Best, best_dup, best_dup_has_room, BookState, BookValue, BookView, Bool, change_row, Comes, Contains, doing, DupRow, each_at_page, emptying, false, find_all, find_passes, frame_found, frame_number, Frames, GuestPage, handled, handling, HasRoom, HasStayed, idle, IfSome, is_best, is_restless, IsAlone, IsDupOf, IsForZero, IsJoined, IsLaid, IsSound, item_count, joining, KeeperStep, KeeperView, leaving, leb-true, lies_on, List, lying, Made, mapped, MatchOption, May, may_join, MayJoin, Merged, merged_into, merged_state, nat_le, nat_lt, None, not, Option, page_visited, PagesView, paired, pairing, partner, Performs, Placed, Reached, refl, Row, row_at, row_visited, row_visiting, same_Some, shared_state, Some, sound_row_visited, state_of, stayed, Sub, subst, sym, true, true≢false, view_of, visited, VisitsPage, Zero, ℕ, ◌∙◌, ◌∷◌, ◌≡◌, ◌≤◌, if◌then◌else◌}
 use Rattle.ksm_base.specs.declared.row.PageState.TheVariants.{Private}
 use Rattle.frame_table.specs.Kept.{Did}
 use Rattle.ksm_book.proofs.ByPage.{found_page, row_of_page}
@@ -7,58 +7,35 @@ use Rattle.ksm_book.proofs.Keeping.{left_placed, left_spends, may_leave}
 use Rattle.ksm_book.proofs.Laying.{laid_rows}
 use Rattle.ksm_book.proofs.Made.{made_one, made_then}
 use Rattle.ksm_book.proofs.Moves.{swapped}
-use Rattle.ksm_book.proofs.Sharing.{first_found, laid_joined, may_join as join_may, may_part, state_of_item}
+use Rattle.ksm_book.proofs.Sharing.{laid_joined, may_join as join_may, may_part, state_of_item}
 use Rattle.ksm_book.proofs.Singles.{alone_now, book}
+use Rattle.ksm_book.proofs.Standing.{Lives, lives}
 
 -- a row that a visit may change has a frame of its own
 pub restless_own : (row : Row) → is_restless row ≡ true → shared_state row.state ≡ false
 restless_own row is = let both = and_parts row.mergeable (not (shared_state row.state)) is in grind (arith, both.1)
 
--- the visit of a row that a visit may change handles the row by the dup that it may join, if there is one
-pub visited_by : (b : BookState) (row : Row) (o : Option DupRow) → is_restless row ≡ true → best_dup b.knobs b.rows b.dups row ≡ o →
-    row_visited b row ≡ handled o b row
-visited_by b row o is best = ap (λ m. if m then b else handled (best_dup b.knobs b.rows b.dups row) b row) (restless_own row is) ∙ ap
-    (λ x. handled x b row) best
+-- to the book and to the frames the visit of a row that a visit may change does what its handling does, by the dup that it may join
+pub visited_by : (b : BookState) (frame : Frames) (row : Row) (o : Option DupRow) → is_restless row ≡ true
+    → best_dup b.knobs b.rows b.dups row ≡ o
+    → (row_visited b row ≡ handled o b row) × (row_visiting b frame row ≡ handling o b frame row)
+visited_by b frame row o is best = let own = restless_own row is in (rw (own, best), rw (own, best))
 
--- to the frames the visit of a row that a visit may change does what its handling does, by the dup that it may join
-pub visiting_by : (b : BookState) (frame : Frames) (row : Row) (o : Option DupRow) → is_restless row ≡ true → best_dup b.knobs b.rows b.dups
-    row ≡ o
-    → row_visiting b frame row ≡ handling o b frame row
-visiting_by b frame row o is best = ap (λ m. if m then idle frame else handling (best_dup b.knobs b.rows b.dups row) b frame row)
-    (restless_own row is) ∙ ap (λ x. handling x b frame row) best
+-- the visit of a row with no dup to join that was not unchanged marks it so, makes it Private, and does nothing to the frames
+pub marked_is : (b : BookState) (frame : Frames) (row : Row) → is_restless row ≡ true → best_dup b.knobs b.rows b.dups row ≡ None
+    → row.unchanged ≡ false
+    → (row_visited b row ≡ record b { rows = change_row row.page (λ r. record r { unchanged = true; state = Private }) b.rows })
+    × (row_visiting b frame row ≡ idle frame)
+marked_is b frame row is best changed = let own = restless_own row is in (rw (own, best, changed), rw (own, best, changed))
 
--- the visit of a row with no dup to join that was not unchanged marks it so, and makes it Private
-pub marked_is : (b : BookState) (row : Row) → is_restless row ≡ true → best_dup b.knobs b.rows b.dups row ≡ None → row.unchanged ≡ false
-    → row_visited b row ≡ record b { rows = change_row row.page (λ r. record r { unchanged = true; state = Private }) b.rows }
-marked_is b row is best changed =
-    visited_by b row None is best ∙ ap (λ u. if u then stayed b row else record b
-    { rows = change_row row.page (λ r. record r { unchanged = true; state = Private }) b.rows }) changed
-
--- the visit of a row with no dup to join that was not unchanged does nothing to the frames
-pub marking_is : (b : BookState) (frame : Frames) (row : Row) → is_restless row ≡ true → best_dup b.knobs b.rows b.dups row ≡ None →
-    row.unchanged ≡ false → row_visiting b frame row ≡ idle frame
-marking_is b frame row is best changed = visiting_by b frame row None is best ∙ ap (λ u. if u then staying b frame row else idle frame)
-    changed
-
--- a row whose bytes have stayed becomes Zero, or is paired
-module _ (b : BookState) (frame : Frames) (row : Row) (zeroes : Bool) (stays : HasStayed b zeroes row) where
-  -- the visit of a row whose bytes have stayed makes it Zero where its zeroes are to merge, and else pairs it
-  pub stayed_is : row_visited b row ≡ (if zeroes then record b { rows = change_row row.page (λ r. record r { state = Zero }) b.rows } else
-      paired (partner b.knobs b.rows row) b row)
-  stayed_is =
-      visited_by b row None stays.restless stays.none
-      ∙ ap (λ u. if u then stayed b row else record b {
-        rows = change_row row.page (λ r. record r { unchanged = true; state = Private })
-            b.rows;
-      }) stays.unchanged
-      ∙ ap (λ z. if z then record b { rows = change_row row.page (λ r. record r { state = Zero }) b.rows } else paired
-      (partner b.knobs b.rows row) b row) stays.zeroes
-
-  -- to the frames the visit of a row whose bytes have stayed does what leaving for Zero does, or what pairing does
-  pub staying_is : row_visiting b frame row ≡ (if zeroes then emptying frame row.page else pairing (partner b.knobs b.rows row) b frame row)
-  staying_is =
-      visiting_by b frame row None stays.restless stays.none ∙ ap (λ u. if u then staying b frame row else idle frame) stays.unchanged
-      ∙ ap (λ z. if z then emptying frame row.page else pairing (partner b.knobs b.rows row) b frame row) stays.zeroes
+-- the visit of a row whose bytes have stayed makes it Zero where its zeroes are to merge, and else pairs it
+pub stayed_is : (b : BookState) (frame : Frames) (row : Row) (zeroes : Bool) → HasStayed b zeroes row
+    → (row_visited b row ≡ (if zeroes then record b { rows = change_row row.page (λ r. record r { state = Zero }) b.rows } else
+    paired (partner b.knobs b.rows row) b row))
+    × (row_visiting b frame row ≡ (if zeroes then emptying frame row.page else pairing (partner b.knobs b.rows row) b frame row))
+stayed_is b frame row zeroes stays =
+    let own = restless_own row stays.restless in
+    (rw (own, stays.none, stays.unchanged, stays.zeroes), rw (own, stays.none, stays.unchanged, stays.zeroes))
 
 -- ---------------------------------------------------------------- what the visit of a page comes to
 
@@ -183,37 +160,37 @@ module _ (best : Best) {p : PagesView} {k : KeeperView} {cursor : Option GuestPa
     abbrev dup : DupRow
     dup = told.0
 
-    first : (item : Row) × (find (λ r. merged_into dup.number r.state) p.rows ≡ Some item)
-    first = first_found (λ r. merged_into dup.number r.state) p.rows (best_has_item (state_of p cursor passes) row dup told.1)
+    -- what holds of all dups holds of this one, and what holds of all rows of its first item
+    among : (P : DupRow → Type 0) → All P p.dups → P dup
+    among P all = find_all (is_best p.knobs p.rows p.dups row) P p.dups dup told.1 all
+
+    live : Lives k.ledger p.dups p.shape p.rows p.frame dup
+    live = among (λ d. (item_count p.rows d ≡ 0 → ⊥) → Lives k.ledger p.dups p.shape p.rows p.frame d) (lives at.laid.placed)
+        (λ none. let some = best_has_item (state_of p cursor passes) row dup told.1 in omega (arith, none, some))
 
     abbrev item : Row
-    item = first.0
+    item = live.item
 
-    is_item : merged_into dup.number item.state ≡ true
-    is_item = find_passes (λ r. merged_into dup.number r.state) p.rows item first.1
+    of_item : (P : Row → Type 0) → All P p.rows → P item
+    of_item P all = find_all (λ r. merged_into dup.number r.state) P p.rows item live.first all
 
     item_merged : merged_state item.state ≡ true
-    item_merged = ap merged_state (state_of_item dup.number item.state is_item)
+    item_merged = ap merged_state (state_of_item dup.number item.state live.merged)
 
     found_item : row_at item.page p.rows ≡ Some item
-    found_item = find_all (λ r. merged_into dup.number r.state) (λ r. row_at r.page p.rows ≡ Some r) p.rows item first.1
-        (each_at_page p.rows at.sound.rows_rise)
+    found_item = of_item (λ r. row_at r.page p.rows ≡ Some r) (each_at_page p.rows at.sound.rows_rise)
 
     there : p.frame item.page ≡ Some g
-    there =
-        find_all (λ r. merged_into dup.number r.state) (λ r. merged_into dup.number r.state ≡ true → p.frame r.page ≡ Some g) p.rows item
-        first.1
-        (find_all (is_best p.knobs p.rows p.dups row) (λ d. d.place ≡ best.place → All
-        (λ r. merged_into d.number r.state ≡ true → p.frame r.page ≡ Some g) p.rows) p.dups dup told.1 lies (sym told.3)) is_item
+    there = of_item (λ r. merged_into dup.number r.state ≡ true → p.frame r.page ≡ Some g) (among (λ d. d.place ≡ best.place → All
+        (λ r. merged_into d.number r.state ≡ true → p.frame r.page ≡ Some g) p.rows) lies (sym told.3)) live.merged
 
     joins : IsJoined (state_of p cursor passes) row dup
     joins = best_dup_has_room (state_of p cursor passes) row dup at.sound told.1
 
     same_bytes : row.bytes ≡ item.bytes
     same_bytes =
-        let its = find_all (λ r. merged_into dup.number r.state) (λ r. (number : ℕ) → r.state ≡ Merged number → (d : DupRow) × IsDupOf
-        p.knobs p.dups r number d) p.rows item first.1 at.sound.items dup.number
-        (state_of_item dup.number item.state is_item) in
+        let its = of_item (λ r. (number : ℕ) → r.state ≡ Merged number → (d : DupRow) × IsDupOf p.knobs p.dups r number d) at.sound.items
+        dup.number (state_of_item dup.number item.state live.merged) in
         let same : its.0 ≡ dup = same_Some its.0 dup (sym its.1.stands ∙ joins.stands) in
         sym joins.bytes ∙ ap (λ (d : DupRow). d.bytes) (sym same) ∙ its.1.bytes
 
@@ -221,7 +198,7 @@ module _ (best : Best) {p : PagesView} {k : KeeperView} {cursor : Option GuestPa
     few = (let r = joins.room in let m = at.sound.knobs.max_page_sharing.1 in omega (arith, r, m))
 
     stands : Contains p.dups dup
-    stands = find_all (is_best p.knobs p.rows p.dups row) (Contains p.dups) p.dups dup told.1 (All-contains_itself p.dups)
+    stands = among (Contains p.dups) (All-contains_itself p.dups)
 
     -- the dup that a page is to join has room for one item more
     pub has_room : HasRoom p.rows p.dups best.number
@@ -230,13 +207,13 @@ module _ (best : Best) {p : PagesView} {k : KeeperView} {cursor : Option GuestPa
     -- a reference may come to the frame of the dup that a page is to join
     pub may_add : May k (Add g)
     may_add = join_may at.laid at.sound.rows_rise page row item at.found found_item g there
-        item_merged dup stands is_item few
+        item_merged dup stands live.merged few
 
     abbrev change : Row → Row
     change r = record r { state = Merged best.number }
 
     state_is : Merged best.number ≡ item.state
-    state_is = ap Merged told.2 ∙ sym (state_of_item dup.number item.state is_item)
+    state_is = ap Merged told.2 ∙ sym (state_of_item dup.number item.state live.merged)
 
     module _ (lone : ℕ) (left : p.frame page ≡ Some lone) where
       -- once a reference came to the dup's frame, the joining page's own frame may be left
@@ -250,9 +227,8 @@ module _ (best : Best) {p : PagesView} {k : KeeperView} {cursor : Option GuestPa
           (frame : All (λ r. merged_into best.number r.state ≡ true → q.frame ≡ lies_on page (p.frame r.page) p.frame) p.rows) where
         frame_is : q.frame ≡ lies_on page (Some g) p.frame
         frame_is =
-            find_all (λ r. merged_into dup.number r.state) (λ r. merged_into best.number r.state ≡ true → q.frame ≡ lies_on page
-            (p.frame r.page) p.frame) p.rows item first.1 frame
-            (ap (λ n. merged_into n item.state) told.2 ∙ is_item) ∙ ap (λ o. lies_on page o p.frame) there
+            of_item (λ r. merged_into best.number r.state ≡ true → q.frame ≡ lies_on page (p.frame r.page) p.frame) frame
+            (ap (λ n. merged_into n item.state) told.2 ∙ live.merged) ∙ ap (λ o. lies_on page o p.frame) there
 
         q_is : q ≡ record p { rows = change_row page change p.rows; frame = lies_on page (Some g) p.frame }
         q_is = goes ∙ (λ t. record p { rows = change_row page change p.rows; frame = frame_is t })
@@ -261,8 +237,8 @@ module _ (best : Best) {p : PagesView} {k : KeeperView} {cursor : Option GuestPa
         steps = subst (λ o. Made k l (Add g ∷ leaving o)) (sym left) (made_then comes leaves)
 
         deed_is : row_visiting (state_of p cursor passes) p.frame row ≡ joining p.frame page g
-        deed_is = visiting_by (state_of p cursor passes) p.frame row (Some dup) at.so.0 told.1
-            ∙ (λ t. joining p.frame (page_is at t) ((ap (frame_found p.frame) first.1 ∙ ap frame_number there) t))
+        deed_is = (visited_by (state_of p cursor passes) p.frame row (Some dup) at.so.0 told.1).1
+            ∙ (λ t. joining p.frame (page_is at t) ((ap (frame_found p.frame) live.first ∙ ap frame_number there) t))
 
         -- once the page is an item of the dup and lies on the dup's frame, the book is what the visit leads to
         pub joined_leads : Leads v q l cursor passes page
@@ -275,7 +251,7 @@ module _ (best : Best) {p : PagesView} {k : KeeperView} {cursor : Option GuestPa
               rows = change_row (sym (page_is at) t) (λ r. record r { state = Merged (told.2 t) })
                   p.rows;
             })
-            ∙ sym (visited_by (state_of p cursor passes) row (Some dup) at.so.0 told.1))
+            ∙ sym (visited_by (state_of p cursor passes) p.frame row (Some dup) at.so.0 told.1).0)
             (subst (Performs (lying p k) (lying q l)) (sym deed_is) (record { made = steps; frame = frame_is }))
 
 -- ---------------------------------------------------------------- a page becomes Zero
@@ -308,6 +284,6 @@ module _ {p : PagesView} {k : KeeperView} {cursor : Option GuestPage} {passes : 
       (laid_rows at.laid (change_row page zeroed p.rows) (lies_on page None p.frame) p.restless l
       (ap (λ (z : KeeperView). z.table) leaves.after) (left_spends (p.frame page) leaves) (left_placed (p.frame page) leaves zero_hand)))
       (ap (λ (x : PagesView). state_of x cursor passes) goes ∙ (λ t. record b { rows = change_row (sym (page_is at) t) zeroed p.rows }) ∙
-      sym (stayed_is b p.frame at.row true at.so))
-      (subst (Performs (lying p k) (lying q l)) (sym (staying_is b p.frame at.row true at.so ∙ ap (emptying p.frame) (page_is at)))
+      sym (stayed_is b p.frame at.row true at.so).0)
+      (subst (Performs (lying p k) (lying q l)) (sym ((stayed_is b p.frame at.row true at.so).1 ∙ ap (emptying p.frame) (page_is at)))
       (record { made = leaves; frame = ap (λ (x : PagesView). x.frame) goes }))

@@ -5,9 +5,11 @@ use Rattle.ksm_book.proofs.Moves.{Serves, framed}
 use Rattle.ksm_book.proofs.Sharing.{first_found, state_of_item}
 
 -- a dup with items: an item lies on the frame that its place names, which is stable in the life named
-pub record Lives (k : Ledger) (dups : List DupRow) (sh : Shape) (frame : Frames) (d : DupRow) : Type 0 where
-  -- an item of the dup
+pub record Lives (k : Ledger) (dups : List DupRow) (sh : Shape) (rows : List Row) (frame : Frames) (d : DupRow) : Type 0 where
+  -- the first item of the dup
   pub item : Row
+  -- it is found as the first
+  pub first : find (λ r. merged_into d.number r.state) rows ≡ Some item
   -- the item is served by its frame
   pub served : IsServed sh k dups item (frame item.page)
   -- the item is merged into the dup
@@ -21,7 +23,7 @@ pub record Lives (k : Ledger) (dups : List DupRow) (sh : Shape) (frame : Frames)
 
 module _ {sh : Shape} {across : ℕ} {k : Ledger} {rows : List Row} {frame : Frames} {dups : List DupRow} (p : Placed sh across k rows frame dups None) where
   -- a dup with items has one on the frame that its place names, in the life that it names
-  pub lives : (n : ℕ) (d : DupRow) → n < length dups → (item_count rows (get_or dups n d) ≡ 0 → ⊥) → Lives k dups sh frame (get_or dups n d)
+  pub lives : (n : ℕ) (d : DupRow) → n < length dups → (item_count rows (get_or dups n d) ≡ 0 → ⊥) → Lives k dups sh rows frame (get_or dups n d)
   lives n d lt some =
       let e = get_or dups n d in
       let test : Row → Bool = λ r. merged_into e.number r.state in
@@ -35,6 +37,7 @@ module _ {sh : Shape} {across : ℕ} {k : Ledger} {rows : List Row} {frame : Fra
       let on = (fits.1 n d lt).item into in
       record {
         item = row;
+        first = first.1;
         served = served;
         merged = into;
         lies = has.1 ∙ ap Some on.0;
@@ -43,7 +46,7 @@ module _ {sh : Shape} {across : ℕ} {k : Ledger} {rows : List Row} {frame : Fra
       }
 
   -- two dups with items on one frame have one number
-  one_number : (n m : ℕ) (d : DupRow) → n < length dups → m < length dups → Lives k dups sh frame (get_or dups n d) → Lives k dups sh frame (get_or dups m d)
+  one_number : (n m : ℕ) (d : DupRow) → n < length dups → m < length dups → Lives k dups sh rows frame (get_or dups n d) → Lives k dups sh rows frame (get_or dups m d)
       → place_frame k (get_or dups n d).place ≡ place_frame k (get_or dups m d).place → (get_or dups m d).number ≡ (get_or dups n d).number
   one_number n m d lt lt' a b same =
       let e = get_or dups n d in
@@ -56,7 +59,7 @@ module _ {sh : Shape} {across : ℕ} {k : Ledger} {rows : List Row} {frame : Fra
   -- the frames of dups with items differ, and none of them is a page's own
   module _ (rise : InPlaceOrder dups) where
     -- two dups with items stand on frames that differ, where the dups are in the order of their places
-    pub frames_apart : (n m : ℕ) (d : DupRow) → n < m → m < length dups → Lives k dups sh frame (get_or dups n d) → Lives k dups sh frame (get_or dups m d)
+    pub frames_apart : (n m : ℕ) (d : DupRow) → n < m → m < length dups → Lives k dups sh rows frame (get_or dups n d) → Lives k dups sh rows frame (get_or dups m d)
         → place_frame k (get_or dups n d).place ≢ place_frame k (get_or dups m d).place
     frames_apart n m d before lt a b same =
         let other = (rise n m d before lt).1 in
@@ -64,7 +67,7 @@ module _ {sh : Shape} {across : ℕ} {k : Ledger} {rows : List Row} {frame : Fra
         absurd (grind (arith, nat_tests, other, one))
 
   -- a row with a frame of its own does not lie on the frame of a dup with items
-  pub own_apart : (row : Row) (f : ℕ) → IsServed sh k dups row (frame row.page) → shared_state row.state ≡ false → frame row.page ≡ Some f → (d : DupRow) → Lives k dups sh frame d → f ≢ place_frame k d.place
+  pub own_apart : (row : Row) (f : ℕ) → IsServed sh k dups row (frame row.page) → shared_state row.state ≡ false → frame row.page ≡ Some f → (d : DupRow) → Lives k dups sh rows frame d → f ≢ place_frame k d.place
   own_apart row f served alone is d a same =
       let own = (subst (IsServed sh k dups row) is served).0.kind ∙ own_kind row.state alone in
       let both : Private ≡ Stable = sym (ap (λ f. (frame_at k f).kind) (sym same) ∙ own) ∙ a.kind in cc
@@ -100,7 +103,7 @@ finds_place {sh} {k = k} {rows} {frame} {dups} p rise row served alone =
     go (Some d) is = find_all (is_stale rows) (λ e. e.place < frames_of sh) dups d is (λ n e l. (p.each_dup n e l).place)
     go None is =
         let none = find_none (is_stale rows) dups is in
-        let live : (n : ℕ) (d : DupRow) → n < length dups → Lives k dups sh frame (get_or dups n d) = λ n d l.
+        let live : (n : ℕ) (d : DupRow) → n < length dups → Lives k dups sh rows frame (get_or dups n d) = λ n d l.
         lives p n d l (λ zero_is. let not_stale = none n d l in absurd (grind (arith, nat_tests, not_stale, zero_is))) in
         let of_dup : DupRow → ℕ = λ d. place_frame k d.place in
         let all = own.0 ∷ map of_dup dups in
@@ -116,7 +119,7 @@ finds_place {sh} {k = k} {rows} {frame} {dups} p rise row served alone =
         d0 : DupRow
         d0 = record { number = 0; place = 0; tree = 0; bytes = [] }
 
-        differ : ((n : ℕ) (d : DupRow) → n < length dups → Lives k dups sh frame (get_or dups n d)) → (n m f : ℕ) → n < m → m < length (own.0 ∷ map (λ d. place_frame k d.place) dups)
+        differ : ((n : ℕ) (d : DupRow) → n < length dups → Lives k dups sh rows frame (get_or dups n d)) → (n m f : ℕ) → n < m → m < length (own.0 ∷ map (λ d. place_frame k d.place) dups)
             → eqb (get_or (own.0 ∷ map (λ d. place_frame k d.place) dups) n f) (get_or (own.0 ∷ map (λ d. place_frame k d.place) dups) m f) ≡ false
         differ live n zero f before l = absurd (omega (arith, before))
         differ live zero (suc m) f before l =

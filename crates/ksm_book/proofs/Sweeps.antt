@@ -1,5 +1,5 @@
 -- The dying frames of a range, one after another.
-use Rattle.ksm_book.proofs.Names.{[], ap, append-nil, arith, Bool, cases_Bool, Dying, dying_from, dying_kind, dying_on, false, filter, filter-append, Finds, FindsNone, frame_at, Free, free_kind, if◌then◌else◌, inl, inr, IsFirstOf, KeeperView, Kind, Ledger, Made, map, MatchOption, None, NoneOf, Note, Option, range_with_len, Reap, refl, Some, suc, sym, true, zero, ℕ, ◌*◌, ◌++◌, ◌+◌, ◌-◌, ◌<◌, ◌∙◌, ◌∷◌, ◌≡◌, ◌≤◌}
+use Rattle.ksm_book.proofs.Names.{[], ap, append-nil, arith, Bool, cases_Bool, Dying, dying_from, dying_kind, dying_on, false, filter, filter-append, Finds, FindsNone, frame_at, Free, free_kind, inl, inr, IsFirstOf, KeeperView, Kind, Ledger, Made, map, MatchOption, None, NoneOf, Note, Option, range_with_len, Reap, refl, Some, suc, sym, true, zero, ℕ, ◌*◌, ◌++◌, ◌+◌, ◌-◌, ◌<◌, ◌∙◌, ◌∷◌, ◌≡◌, ◌≤◌, if◌then◌else◌}
 
 -- a kind that tests as dying is Dying
 pub is_dying_kind : (x : Kind) → dying_kind x ≡ true → x ≡ Dying

@@ -1,5 +1,5 @@
 -- Pages that leave their dups, or the zero page, one after another.
-use Rattle.ksm_book.proofs.Names.{[], All, All-head, All-tail, and-true, ap, append-nil, arith, change_row, change_rows, cond-false, cond-true, cond_both, Does, false, Fault, filter, filter-append, filter_none, find, get_or, GuestPage, HasLeft, Held, if◌then◌else◌, inl, InPageOrder, inr, is_next, is_of, is_shared_of, is_some, IsAlone, IsHeld, IsKnown, IsLaid, KeeperView, left_by, length, length-append, let_go, List, list_any, list_any-append, lying, map, map-append, Mapped, MatchOption, MayNotLeave, NoFrame, None, NoneLeft, not, not-false, not-true, of_guest, on_its_own, Option, option_map, or_right, PagesView, refl, Resettled, Resettles, ResettlesEach, Row, row_at, same_page, same_Some, shared_of, shared_state, slice_get, Some, subst, sym, take, take-append_seam, true, UnmergesTo, unshared, Unshares, ℕ, ◌&&◌, ◌++◌, ◌+◌, ◌<◌, ◌||◌, ◌∙◌, ◌∷◌, ◌≡◌, ◌≤◌}
+use Rattle.ksm_book.proofs.Names.{[], All, All-head, All-tail, and-true, ap, append-nil, arith, change_row, change_rows, cond-false, cond-true, cond_both, Does, false, Fault, filter, filter-append, filter_none, find, get_or, GuestPage, HasLeft, Held, inl, InPageOrder, inr, is_next, is_of, is_shared_of, is_some, IsAlone, IsHeld, IsKnown, IsLaid, KeeperView, left_by, length, length-append, let_go, List, lying, map, map-append, Mapped, MatchOption, MayNotLeave, NoFrame, None, NoneLeft, not, not-false, not-true, of_guest, on_its_own, Option, option_map, PagesView, refl, Resettled, Resettles, ResettlesEach, Row, row_at, same_page, same_Some, shared_of, shared_state, slice_get, Some, subst, sym, take, take-append_seam, true, UnmergesTo, unshared, Unshares, ℕ, ◌&&◌, ◌++◌, ◌+◌, ◌<◌, ◌||◌, ◌∙◌, ◌∷◌, ◌≡◌, ◌≤◌, if◌then◌else◌}
 use Rattle.ksm_base.specs.declared.row.PageState.TheVariants.{Private}
 use Rattle.ksm_book.proofs.Along.{FitsPage, IsAlong, IsCut, along_cut, along_end, along_first, further, position}
 use Rattle.ksm_book.proofs.ByPage.{at_changed, change_twice, found_page, row_of_page}
@@ -290,7 +290,7 @@ module _ {p q : PagesView} {k l : KeeperView} {guest : Option ℕ} {count : ℕ}
       let all : filter (is_shared_of guest) p.rows ≡ met =
       ap (filter (is_shared_of guest)) u.along.whole ∙ filter-append (is_shared_of guest) u.done u.left
       ∙ ap (λ l. met ++ l) (filter_none (is_shared_of guest) u.left (λ i d lt. ap (λ b. b && shared_state (get_or u.left i d).state)
-      (done.2 i d lt))) ∙ append-nil met in
+      (done.1 i d lt))) ∙ append-nil met in
       let taken : met ≡ take count (filter (is_shared_of guest) p.rows) =
       sym (ap (take count) (all ∙ sym (append-nil met)) ∙ ap (λ n. take n (met ++ [])) u.counted ∙ take-append_seam met []) in
       record {
@@ -311,7 +311,7 @@ module _ {p q : PagesView} {k l : KeeperView} {guest : Option ℕ} {count : ℕ}
 abbrev pub in_scan : Row → Row
 in_scan r = record r { mergeable = true }
 
--- a guest's pages are mergeable up to the cursor, which is at one of them where there is one
+-- a guest's pages are mergeable up to the cursor
 pub record IsMarking (p q : PagesView) (guest : ℕ) (last : Option GuestPage) : Type 0 where
   -- the rows that were looked at
   pub done : List Row
@@ -321,15 +321,13 @@ pub record IsMarking (p q : PagesView) (guest : ℕ) (last : Option GuestPage) :
   pub along : IsAlong (is_of guest) in_scan p.rows q.rows last done left
   -- nothing changed but the rows and the listing
   pub pages : q ≡ record p { rows = q.rows; restless = q.restless }
-  -- there is a page at the cursor exactly where a row looked at is the guest's
-  pub any : is_some last ≡ list_any (is_of guest) done
   -- the numbers of the cursor's page fit
   pub fits : FitsPage last
 
 -- before the first page is looked at no page of the guest is marked
 pub marking_first : (p : PagesView) (guest : ℕ) → IsMarking p p guest None
 marking_first p guest =
-    record { done = []; left = p.rows; along = along_first (is_of guest) in_scan p.rows; pages = refl; any = refl; fits = tt }
+    record { done = []; left = p.rows; along = along_first (is_of guest) in_scan p.rows; pages = refl; fits = tt }
 
 module _ {p q : PagesView} {guest : ℕ} {last : Option GuestPage} (u : IsMarking p q guest last) where
   -- the next page is there
@@ -352,14 +350,10 @@ module _ {p q : PagesView} {guest : ℕ} {last : Option GuestPage} (u : IsMarkin
           left = at.rest;
           along = subst (λ x. IsAlong (is_of guest) in_scan p.rows x (Some page) (at.before ++ at.row ∷ []) at.rest) (sym rows) at.next;
           pages = goes ∙ (λ t. record (u.pages t) { rows = sym rows t; restless = v.restless });
-          any = sym (list_any-append (is_of guest) at.before (at.row ∷ [])
-              ∙ or_right (list_any (is_of guest) at.before) _ (ap (λ b. b || false) at.of));
           fits = fits;
         }
 
-  -- where no page of the guest is left, all its rows are mergeable, and there is one exactly if there is a cursor
-  pub marking_end : find (is_next (Some guest) last) q.rows ≡ None → (is_some last ≡ list_any (is_of guest) p.rows)
-      × (q ≡ record p { rows = change_rows (is_of guest) in_scan p.rows; restless = q.restless })
+  -- where no page of the guest is left, all its rows are mergeable
+  pub marking_end : find (is_next (Some guest) last) q.rows ≡ None → q ≡ record p { rows = change_rows (is_of guest) in_scan p.rows; restless = q.restless }
   marking_end ended =
-      let done = along_end in_scan (λ _. refl) u.along ended in
-      (u.any ∙ sym done.1, u.pages ∙ (λ t. record p { rows = done.0 t; restless = q.restless }))
+      let done = along_end in_scan (λ _. refl) u.along ended in u.pages ∙ (λ t. record p { rows = done.0 t; restless = q.restless })

@@ -30,6 +30,7 @@ pub returns-clause-remounted : goal.returns-clause-remounted
 returns-clause-remounted c =
     has_remounted (leaves c.requires.may c.dup_frame-left.ensures c.lie_in_order.ensures.absent) c.in-Some.ensures c.freeze.ensures.0
     c.freeze.ensures.1 (c.freeze.ensures.2.0 c.if-not-freeze.false) c.base-items.ensures c.mount.ensures.made
+    c.mount.ensures.ledger
     (seen c.set_dup_frame.new.self)
     (find_all (λ d. d.place == c.args.dup.place && has_items c.args.pages.now.rows d)
     (λ d. d.place ≡ c.args.dup.place → seen c.set_dup_frame.new.self

@@ -20,8 +20,5 @@ pages-smaller c =
     let end = not_far (Some page) (search rules, search rules) in
     omega (arith, far, end)
 
-pub returns-clause-any : goal.returns-clause-any
-returns-clause-any c = c.is_some.ensures ∙ (marking_end c.pages.invariant c.in_default.ensures).0
-
-pub returns-clause-pages : goal.returns-clause-pages
-returns-clause-pages c = (marking_end c.pages.invariant c.in_default.ensures).1
+pub returns : goal.returns
+returns c = marking_end c.pages.invariant c.in_default.ensures
