@@ -1,5 +1,5 @@
 -- The keeper's steps as changes of a placement, and the lives that they spend.
-use Rattle.ksm_book.proofs.Names.{[], Add, added, All, All-filter, All-head, All-tail, ap, arith, blank, Bool, cases_lt, cond, count_in, did, DupRow, Dying, dying_kind, dying_on, false, Filling, filter_passes, FitsBase, frame_at, Frames, frames_of, Free, GenerationFits, get_or, get_or-range_with_len, get_or_past, IfSome, inl, inr, KeeperView, Kind, leaving, Ledger, ledger_after, length, length-range_with_len, List, lowered, Made, map, May, nat_tests, ne_eqb, None, Note, Option, past_lives, Placed, Private, range_with_len, Reap, reaped, refl, Retired, Row, same_Some, set, Shape, Some, spent, spent_on, Stable, Sub, subst, suc, sum_by, sum_by-cons, sum_by-set, sym, true, uses, with_frame, zero, ℕ, ◌*◌, ◌+◌, ◌-◌, ◌<◌, ◌==◌, ◌∷◌, ◌≡◌, ◌≢◌, ◌≤◌}
+use Rattle.ksm_book.proofs.Names.{[], Add, added, All, All-filter, All-head, All-tail, ap, arith, blank, Bool, cases_lt, cond, count_in, did, DupRow, Dying, dying_kind, dying_on, false, Filling, filter_passes, FitsBase, frame_at, Frames, frames_of, Free, GenerationFits, get_or, get_or-range_with_len, get_or_past, IfSome, inl, inr, KeeperView, Kind, leaving, Ledger, ledger_after, length, length-range_with_len, List, lowered, Made, map, May, nat_tests, ne_eqb, None, Note, Option, past_lives, Placed, Private, range_with_len, Reap, reaped, refl, Retired, Row, same_Some, set, Shape, Some, spent, spent_on, Stable, Sub, subst, suc, sum_by, sum_by-cons, sum_by-set, sym, true, uses, with_frame, zero, ℕ, ◌*◌, ◌+◌, ◌-◌, ◌<◌, ◌==◌, ◌∷◌, ◌≡◌, ◌≢◌, ◌≤◌, cond_both}
 use Rattle.ksm_book.proofs.ByPage.{one_same, one_other}
 use Rattle.ksm_book.proofs.Made.{first_made, none_made, step_made}
 use Rattle.ksm_book.proofs.Noted.{noted}
@@ -7,17 +7,9 @@ use Rattle.ksm_book.proofs.Sweeps.{is_dying_kind}
 
 -- ---------------------------------------------------------------- kinds
 
-not_private : (c : Bool) → ¬ (cond c Retired Free ≡ Private)
-not_private true e = grind (arith, e)
-not_private false e = grind (arith, e)
-
 taken_private : (b : Bool) (kind : Kind) → cond b Dying kind ≡ Private → kind ≡ Private
 taken_private true kind e = grind (arith, e)
 taken_private false kind e = e
-
-fits_reaped : (c : Bool) → FitsBase (cond c Retired Free) 0
-fits_reaped true = refl
-fits_reaped false = refl
 
 fits_taken : (kind : Kind) (n : ℕ) → 1 ≤ n → FitsBase kind n → (b : Bool) → (b ≡ (n == 1)) → FitsBase (cond b Dying kind) (n - 1)
 fits_taken kind n some fits true e = let t : n ≡ 1 = grind (arith, e, nat_tests) in omega arith
@@ -51,14 +43,6 @@ lived_reaped last n kind false e h = let ne : n ≢ last = λ is. grind (arith, 
 pub past_le : (kind : Kind) (n : ℕ) → past_lives kind n ≤ n
 past_le Free n = omega arith
 past_le _ n = omega arith
-
-past_taken : (c : Bool) (kind : Kind) (n : ℕ) → past_lives kind n ≤ past_lives (cond c Dying kind) n
-past_taken true kind n = past_le kind n
-past_taken false kind n = omega arith
-
-past_reaped : (c : Bool) (kind : Kind) (n : ℕ) → past_lives kind n ≤ past_lives (cond c Retired Free) n
-past_reaped true kind n = past_le kind n
-past_reaped false kind n = past_le kind n
 
 -- the lives spent, where one frame's note is another, differ by those of this frame
 pub spent_set : (k : Ledger) (g : ℕ) (fr : Note) → g < length k.frames → spent (with_frame k g fr) + spent_on (frame_at k g) ≡ spent k + spent_on fr
@@ -123,7 +107,8 @@ left_spends {v} {w} None m = let same = ap (λ (z : KeeperView). spent z.ledger)
 left_spends {v} {w} (Some g) m =
     let old : Note = frame_at v.ledger g in
     let same = ap (λ (z : KeeperView). spent z.ledger) (step_made m).1 in
-    let more = spent_kept v.ledger g (lowered old) (past_taken (old.base == 1) old.kind old.generation) in
+    let more = spent_kept v.ledger g (lowered old) (cond_both (old.base == 1) Dying old.kind
+    (λ x. past_lives old.kind old.generation ≤ past_lives x old.generation) (λ _. past_le old.kind old.generation) (λ _. omega arith)) in
     omega (arith, same, more)
 
 -- ---------------------------------------------------------------- a reference comes
@@ -182,7 +167,9 @@ module _ (sh : Shape) (k : Ledger) (g found : ℕ) where
 
   reap_spends : spent k ≤ spent (ledger_after sh k (Reap g) found)
   reap_spends = elim (count_in found == 0) as (λ b. spent k ≤ spent (after b)) [
-    | true ↦ spent_kept k g (reaped sh.last_generation old) (past_reaped (old.generation == sh.last_generation) old.kind old.generation)
+    | true ↦ spent_kept k g (reaped sh.last_generation old) (cond_both (old.generation == sh.last_generation) Retired Free
+        (λ x. past_lives old.kind old.generation ≤ past_lives x old.generation)
+        (λ _. past_le old.kind old.generation) (λ _. past_le old.kind old.generation))
     | false ↦ omega arith
   ]
 
@@ -196,9 +183,16 @@ module _ (sh : Shape) (k : Ledger) (g found : ℕ) where
           wide = p.widths g;
           lived = lived_reaped sh.last_generation old.generation old.kind (old.generation == sh.last_generation) refl (p.lives g);
           base = omega (arith, base, none);
-          fits = fits_reaped (old.generation == sh.last_generation);
+          fits = cond_both (old.generation == sh.last_generation) Retired Free (λ x. FitsBase x 0) (λ _. refl) (λ _. refl);
           same = λ some. absurd (omega (arith, base, none, some));
-          life = inr (refl, inr (refl, λ own. absurd (not_private (old.generation == sh.last_generation) own)));
+          life = inr (
+            refl,
+            inr (
+              refl,
+              cond_both (old.generation == sh.last_generation) Retired Free
+                  (λ x. x ≡ Private → old.kind ≡ Private) (λ _ own. cc) (λ _ own. cc),
+            ),
+          );
         }) (λ f ne. refl)
     | false ↦ p
   ]

@@ -300,7 +300,7 @@ module _ {sh : Shape} {across : ℕ} {k : Ledger} {rows : List Row} {frame : Fra
           kind = kind ∙ ap kind_for (sym item);
           content = words ∙ served.content ∙ sym same;
           given = subst (λ y. 1 ≤ y) (sym (gens g)) served.given;
-          node = λ m. absurd (own_not_merged (c row).state d.number item m);
+          node = λ m. absurd (let e : true ≡ false = ap shared_state (sym item) ∙ m in grind (arith, e));
         },
         all_with (Agrees (named q kind served.frame life (gens g) d inside) (c row) g) d dups
             (record {
@@ -315,9 +315,6 @@ module _ {sh : Shape} {across : ℕ} {k : Ledger} {rows : List Row} {frame : Fra
     where
       only : (n : ℕ) (s : PageState) (m : ℕ) → s ≡ Merged m → merged_into n s ≡ true → n ≡ m
       only n s m is into = let e : (m == n) ≡ true = sym (ap (merged_into n) is) ∙ into in grind (arith, nat_tests, e)
-
-      own_not_merged : (s : PageState) (m : ℕ) → s ≡ Merged m → shared_state s ≡ false → ⊥
-      own_not_merged s m is alone = let e : true ≡ false = ap shared_state (sym is) ∙ alone in grind (arith, e)
 
 -- a row in the state of another that is served by a frame, with the frame's bytes, is served by it too
 pub serves_like : (sh : Shape) (k : Ledger) (dups : List DupRow) (s r : Row) (f : ℕ) → Serves sh k dups s f → r.state ≡ s.state → (frame_at k f).content ≡ r.bytes → shared_state r.state ≡ true → Serves sh k dups r f

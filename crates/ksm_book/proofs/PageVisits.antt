@@ -1,11 +1,11 @@
 -- The visit of a page: what was found of its row, and what becomes of the book where the row alone changes.
-use Rattle.ksm_book.proofs.Names.{All, ap, arith, BookState, BookValue, BookView, change_row, Comes, cond_both, Deed, doing, false, Find, FindsAt, Frames, get_or, GuestPage, HasStayed, idle, inl, InPageOrder, inr, is_restless, IsLaid, IsSound, IsStill, KeeperView, List, lying, map, mapped, MatchOption, Merged, None, Option, page_visited, PageState, PagesView, paired, pairing, partner, Performs, refl, restless_at, restless_row, Row, row_at, row_visited, row_visiting, same_page, settled, settled_state, shared_state, Some, state_of, subst, sym, then_doing, true, true≢false, view_of, visited, VisitsPage, Waiting, Zero, ℕ, ◌∙◌, ◌∷◌, ◌≡◌, if◌then◌else◌, map_mapped}
+use Rattle.ksm_book.proofs.Names.{All, ap, arith, BookState, BookValue, BookView, change_row, Comes, cond_both, Deed, doing, false, Find, FindsAt, Frames, get_or, GuestPage, HasStayed, idle, InPageOrder, inr, is_restless, IsLaid, IsSound, IsStill, KeeperView, List, lying, map, mapped, MatchOption, Merged, None, Option, page_visited, PageState, PagesView, paired, pairing, partner, Performs, refl, restless_at, restless_row, Row, row_at, row_visited, row_visiting, same_page, settled, settled_state, shared_state, Some, state_of, subst, sym, then_doing, true, true≢false, view_of, visited, VisitsPage, Waiting, Zero, ℕ, ◌∙◌, ◌∷◌, ◌≡◌, if◌then◌else◌, map_mapped}
 use Rattle.ksm_base.specs.declared.row.PageState.TheVariants.{Private}
 use Rattle.ksm_pages.specs.declared.pages.Find.TheVariants as finds
 use Rattle.ksm_pages.specs.Paged.{Finds, visited as row_changed}
 use Rattle.ksm_book.proofs.ByPage.{found_page, row_of_page}
 use Rattle.ksm_book.proofs.Doing.{then_idle}
-use Rattle.ksm_book.proofs.Laying.{LodgesAs, laid_mapped}
+use Rattle.ksm_book.proofs.Laying.{LodgesAs, laid_changed}
 use Rattle.ksm_book.proofs.Made.{made_none}
 use Rattle.ksm_book.proofs.RowVisits.{Leads, Meets, leads, marked_is, restless_own, stayed_is, there_is, visit_comes}
 use Rattle.ksm_book.proofs.Singles.{book}
@@ -99,11 +99,8 @@ row_leads : {P : BookState → Row → Type 0} {p : PagesView} {k : KeeperView} 
     → Leads v q k cursor passes page
 row_leads {p = p} {k} {cursor} {passes} at restless c keeps lodges becomes rests {q} goes =
     leads at q k restless
-    (subst (λ (x : PagesView). IsLaid x k) (sym goes) (laid_mapped at.laid (λ r. if same_page r.page at.row.page then c r else r) p.restless
-    (λ r. cond_both (same_page r.page at.row.page) (c r) r (λ (x : Row). x.page ≡ r.page) (λ _. keeps r) (λ _. refl))
-    (λ i d lt. let r = get_or p.rows i d in cond_both (same_page r.page at.row.page) (c r) r (λ x. LodgesAs x r)
-    (λ is. subst (λ x. LodgesAs (c x) x) (sym (row_of_page at.row.page p.rows at.row at.sound.rows_rise (there_is at) i d lt is)) lodges)
-    (λ _. (refl, refl, inl refl)))))
+    (subst (λ (x : PagesView). IsLaid x k) (sym goes)
+    (laid_changed at.laid at.row.page at.row c p.restless at.sound.rows_rise (there_is at) keeps lodges))
     (ap (λ (x : PagesView). state_of x cursor passes) goes ∙ sym becomes)
     (subst (Performs (lying p k) (lying q k)) (sym rests) (record {
       made = made_none refl;

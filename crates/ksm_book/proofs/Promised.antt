@@ -28,33 +28,24 @@ once_each (x ∷ xs) once =
     AllPairs-cons R x xs (λ k d lt same. let other = apart k d lt in absurd (grind (arith, nat_tests, other, same)))
     (once_each xs (λ k d lt. let f = get_or xs k d in let all = All-tail P x xs once k d lt in let more = count_more (λ g. g == f) x xs in grind (arith, all, more)))
 
--- there is a frame
-abbrev IsThere : Option ℕ → Type 0
-IsThere None = ⊥
-IsThere (Some f) = Unit {0}
-
 -- a frame is a row's own at most as often as rows lie on it
-own_count : (f : ℕ) (frame : Frames) (rows : List Row) → All (λ r. shared_state r.state ≡ false → IsThere (frame r.page)) rows → count_by (λ g. g == f) (own_frames rows frame) ≤ uses f frame rows
+own_count : (f : ℕ) (frame : Frames) (rows : List Row) → All (λ r. shared_state r.state ≡ false → (g : ℕ) × (frame r.page ≡ Some g)) rows → count_by (λ g. g == f) (own_frames rows frame) ≤ uses f frame rows
 own_count f frame [] all = omega arith
 own_count f frame (r ∷ rows) all =
-    let Q : Row → Type 0 = λ r. shared_state r.state ≡ false → IsThere (frame r.page) in
+    let Q : Row → Type 0 = λ r. shared_state r.state ≡ false → (g : ℕ) × (frame r.page ≡ Some g) in
     let rest = own_count f frame rows (All-tail Q r rows all) in
     let here = All-head Q r rows all in
     let more = count_more (λ s. is_frame f (frame s.page)) r rows in
     elim (cases_Bool (shared_state r.state)) [
       | inl shared ↦ grind (arith, rest, more, shared)
-      | inr own ↦ by (frame r.page) refl rest more own (here own)
+      | inr own ↦
+          let is = (here own).1 in
+          let list : own_frames (r ∷ rows) frame ≡ frame_number (frame r.page) ∷ own_frames rows frame = grind (arith, own) in
+          let count = ap (count_by (λ g. g == f)) list ∙ count_more (λ g. g == f) (frame_number (frame r.page)) (own_frames rows frame) in
+          let number = ap {B = ℕ} (λ n. if n == f then 1 else 0) (ap frame_number is) in
+          let test = ap {B = ℕ} (λ (o : Option ℕ). if is_frame f o then 1 else 0) is in
+          omega (arith, rest, more, count, number, test)
     ]
-  where
-    by : (o : Option ℕ) → frame r.page ≡ o → count_by (λ g. g == f) (own_frames rows frame) ≤ uses f frame rows → uses f frame (r ∷ rows) ≡ (if is_frame f (frame r.page) then 1 else 0) + uses f frame rows
-        → shared_state r.state ≡ false → IsThere o → count_by (λ g. g == f) (own_frames (r ∷ rows) frame) ≤ uses f frame (r ∷ rows)
-    by None e rest more own none = absurd none
-    by (Some h) e rest more own there =
-        let list : own_frames (r ∷ rows) frame ≡ frame_number (frame r.page) ∷ own_frames rows frame = grind (arith, own) in
-        let count = ap (count_by (λ g. g == f)) list ∙ count_more (λ g. g == f) (frame_number (frame r.page)) (own_frames rows frame) in
-        let number = ap {B = ℕ} (λ n. if n == f then 1 else 0) (ap frame_number e) in
-        let test = ap {B = ℕ} (λ (o : Option ℕ). if is_frame f o then 1 else 0) e in
-        omega (arith, rest, more, count, number, test)
 
 all_own : (P : ℕ → Type 0) (rows : List Row) (frame : Frames) → All (λ r. shared_state r.state ≡ false → P (frame_number (frame r.page))) rows → All P (own_frames rows frame)
 all_own P rows frame all =
@@ -86,36 +77,23 @@ module _ (b : BookState) (k : Ledger) (s : IsSound b) (frame : Frames) (p : Plac
   abbrev shown : List ℕ
   shown = dup_frames b k
 
-  abbrev Owns : Row → Type 0
-  Owns r = shared_state r.state ≡ false → MatchOption (frame r.page) ⊥ (HasItsOwn b.shape k r)
-
-  has_its_own : (r : Row) (o : Option ℕ) → IsServed b.shape k b.dups r o → shared_state r.state ≡ false → MatchOption o ⊥ (HasItsOwn b.shape k r)
-  has_its_own r None zero_is alone = let none = own_framed r.state alone in absurd (grind (arith, zero_is, none))
-  has_its_own r (Some f) served alone =
-      let fits = served.0 in
-      let kind = fits.kind ∙ own_kind r.state alone in
-      record {
-        exists = fits.frame;
-        kind = kind;
-        base = subst (λ (x : Kind). FitsBase x (frame_at k f).base) kind (p.kinds f);
-        node = fits.node alone;
-        content = fits.content;
-      }
-
-  owns : All Owns b.rows
-  owns = λ i r lt. has_its_own (get_or b.rows i r) (frame (get_or b.rows i r).page) (p.each_row i r lt)
-
-  -- what is true of an own frame
-  of_own : (P : ℕ → Type 0) (r : Row) (o : Option ℕ) → ((f : ℕ) → HasItsOwn b.shape k r f → P f) → MatchOption o ⊥ (HasItsOwn b.shape k r) → P (frame_number o)
-  of_own P r None f h = absurd h
-  of_own P r (Some g) f h = f g h
-
-  there_is : (o : Option ℕ) (r : Row) → MatchOption o ⊥ (HasItsOwn b.shape k r) → IsThere o
-  there_is None r h = h
-  there_is (Some g) r h = tt
-
-  owns_there : All (λ r. shared_state r.state ≡ false → IsThere (frame r.page)) b.rows
-  owns_there = λ i r lt alone. let row = get_or b.rows i r in there_is (frame row.page) row (owns i r lt alone)
+  -- a row that is not shared has its own frame
+  owns : All (λ r. shared_state r.state ≡ false → (f : ℕ) × (frame r.page ≡ Some f) × HasItsOwn b.shape k r f) b.rows
+  owns i r0 lt alone =
+      let r = get_or b.rows i r0 in
+      let has = framed b.shape k b.dups r (frame r.page) (own_framed r.state alone) (p.each_row i r0 lt) in
+      let fits = has.2.0 in
+      let kind = fits.kind ∙ own_kind r.state alone in (
+        has.0,
+        has.1,
+        record {
+          exists = fits.frame;
+          kind = kind;
+          base = subst (λ (x : Kind). FitsBase x (frame_at k has.0).base) kind (p.kinds has.0);
+          node = fits.node alone;
+          content = fits.content;
+        },
+      )
 
   -- a Zero row has no frame, and only zeroes
   zero_none : (r : Row) (o : Option ℕ) → IsServed b.shape k b.dups r o → zero_state r.state ≡ true → o ≡ None
@@ -143,7 +121,8 @@ module _ (b : BookState) (k : Ledger) (s : IsSound b) (frame : Frames) (p : Plac
       }
 
   own_kinds : All (λ f. (frame_at k f).kind ≡ Private) own
-  own_kinds = all_own (λ f. (frame_at k f).kind ≡ Private) b.rows frame (λ i r lt alone. let row = get_or b.rows i r in of_own (λ f. (frame_at k f).kind ≡ Private) row (frame row.page) (λ f own. own.kind) (owns i r lt alone))
+  own_kinds = all_own (λ f. (frame_at k f).kind ≡ Private) b.rows frame (λ i r lt alone. let o = owns i r lt alone in
+      subst (λ (x : Option ℕ). (frame_at k (frame_number x)).kind ≡ Private) (sym o.1) o.2.kind)
 
   -- a frame with one reference is listed once
   own_distinct : AllPairs (λ f g. f ≢ g) own
@@ -151,7 +130,7 @@ module _ (b : BookState) (k : Ledger) (s : IsSound b) (frame : Frames) (p : Plac
       let f = get_or own i d in
       let one : (frame_at k f).base ≡ 1 = subst (λ (x : Kind). FitsBase x (frame_at k f).base) (own_kinds i d lt) (p.kinds f) in
       let listed : (frame_at k f).base ≡ uses f frame b.rows + 0 = p.bases f in
-      let few = own_count f frame b.rows owns_there in
+      let few = own_count f frame b.rows (λ i r lt alone. let o = owns i r lt alone in (o.0, o.1)) in
       omega (arith, one, listed, few))
 
   abbrev Live : DupRow → Type 0
@@ -245,7 +224,8 @@ module _ (b : BookState) (k : Ledger) (s : IsSound b) (frame : Frames) (p : Plac
   -- a sound book lies on its frames as promised, where it is placed lawfully and pages without a row lie on none
   pub lie_on : LieOn b frame k
   lie_on = record {
-    own = owns;
+    own = λ i r lt alone. let o = owns i r lt alone in
+        subst (λ x. MatchOption x ⊥ (HasItsOwn b.shape k (get_or b.rows i r))) (sym o.1) o.2;
     merged = λ i r lt n d l into.
         let row = get_or b.rows i r in
         let has = framed b.shape k b.dups row (frame row.page) (ap zero_state (state_of_item (get_or b.dups n d).number row.state into)) (p.each_row i r lt) in

@@ -1,5 +1,5 @@
 -- Stale dups go one by one.
-use Rattle.ksm_book.proofs.Names.{[], All, All-head, All-tail, ap, append-nil, append_assoc, arith, cases_Bool, count_by, count_by-le-length, count_none, did, DupRow, elsewhere, eqb-true, false, filter, filter_all, filter_none, find, find_all, find_none, find_passes, frames_of, get_or, has_items, inl, InPlaceOrder, inr, is_stale, IsLaid, IsLoose, IsVacant, item_count, KeeperStep, KeeperView, length, length-filter, List, lying, Made, map, named_at, nat_lt, nat_tests, None, not, one_of_each_place, Option, option_map, ordered_filter, PagesView, pairs_tail, Performs, pruning, refl, Row, same_Some, Shape, Some, subst, suc, sym, true, Withdraw, ℕ, ◌++◌, ◌+◌, ◌<◌, ◌==◌, ◌^◌, ◌∙◌, ◌∷◌, ◌≡◌, ◌≤◌}
+use Rattle.ksm_book.proofs.Names.{[], All, All-head, All-tail, ap, append-nil, append_assoc, arith, cases_Bool, count_by, count_by-le-length, count_none, did, DupRow, elsewhere, eqb-true, false, filter, filter_all, filter_none, find, find_all, find_none, find_passes, frames_of, get_or, has_items, inl, InPlaceOrder, inr, is_stale, IsLaid, IsVacant, item_count, KeeperStep, KeeperView, length, length-filter, List, lying, Made, map, nat_lt, nat_tests, None, not, one_of_each_place, Option, option_map, ordered_filter, PagesView, pairs_tail, Performs, pruning, refl, Row, same_Some, Shape, Some, subst, suc, sym, true, Withdraw, ℕ, ◌++◌, ◌+◌, ◌<◌, ◌==◌, ◌^◌, ◌∙◌, ◌∷◌, ◌≡◌, ◌≤◌, May}
 use Rattle.std.proofs.lemmas.Bool.{eq-eqb}
 use Rattle.ksm_book.proofs.Sharing.{frames_few, laid_cleared, vacant_loose}
 use Rattle.ksm_book.proofs.Made.{made_one, made_then}
@@ -141,13 +141,9 @@ module _ {p q : PagesView} {k l : KeeperView} {count : ℕ} (h : Drops p q k l c
   inside : place < frames_of q.shape
   inside = subst (λ x. x < frames_of q.shape) stale.2 (find_all (is_stale q.rows) (λ d. d.place < frames_of q.shape) q.dups stale.0 stale.1 (λ n d lt. (h.laid.placed.each_dup n d lt).place))
 
-  -- the place of the first stale dup is one of the table's
-  pub drop_inside : place < frames_of l.table.shape
-  drop_inside = subst (λ (s : Shape). place < frames_of s) (sym h.laid.same) inside
-
-  -- the place of the first stale dup names no frame that is Stable in the life named
-  pub drop_loose : IsLoose l.ledger (named_at l.ledger place)
-  drop_loose = vacant_loose place h.laid.placed drop_vacant
+  -- what the place of the first stale dup names may be withdrawn
+  pub drop_may : May l (Withdraw place)
+  drop_may = (subst (λ (s : Shape). place < frames_of s) (sym h.laid.same) inside, vacant_loose place h.laid.placed drop_vacant)
 
   -- once the first stale dup goes, one dup less is stale
   pub drop_fewer : count_by (is_stale p.rows) (filter (elsewhere place) q.dups) + 1 ≡ count_by (is_stale p.rows) q.dups
@@ -194,17 +190,17 @@ module _ {p q : PagesView} {k l : KeeperView} {count : ℕ} (h : Drops p q k l c
   none : find (is_stale p.rows) q.dups ≡ None
   none = ap (λ (x : PagesView). find (is_stale x.rows) q.dups) (sym h.pages) ∙ no_dup_at (find (is_stale q.rows) q.dups) told
 
-  -- where no stale dup is left, nothing changed but that the dups are those with items
-  pub dropped_pages : q ≡ record p { dups = filter (has_items p.rows) p.dups }
-  dropped_pages = h.pages ∙ (λ t. record p { dups = (sym (none_stale p.rows q.dups none) ∙ h.live) t })
-
-  -- where no stale dup is left, as many dups went as were stale
-  pub dropped_count : count ≡ count_by (is_stale p.rows) p.dups
-  dropped_count = let zero' = count_none (is_stale p.rows) q.dups (find_none (is_stale p.rows) q.dups none) in let many = h.many in omega (arith, zero', many)
-
-  -- where no stale dup is left, the keeper made just the steps of a pruning, and each page lies where it lay
-  pub dropped_performs : Performs (lying p k) (lying q l) (pruning p.rows p.dups p.frame)
-  dropped_performs = record {
-    made = withdraws_all k l p.rows p.dups q.dups (find_none (is_stale p.rows) q.dups none) h.withdraws;
-    frame = ap (λ (x : PagesView). x.frame) h.pages;
-  }
+  -- where no stale dup is left, the dups are those with items, as many went as were stale, and just the steps of a pruning were made
+  pub dropped : (q ≡ record p { dups = filter (has_items p.rows) p.dups }) × (count ≡ count_by (is_stale p.rows) p.dups)
+      × Performs (lying p k) (lying q l) (pruning p.rows p.dups p.frame)
+  dropped =
+      let lives = find_none (is_stale p.rows) q.dups none in
+      let gone = count_none (is_stale p.rows) q.dups lives in
+      let many = h.many in (
+        h.pages ∙ (λ t. record p { dups = (sym (none_stale p.rows q.dups none) ∙ h.live) t }),
+        omega (arith, gone, many),
+        record {
+          made = withdraws_all k l p.rows p.dups q.dups lives h.withdraws;
+          frame = ap (λ (x : PagesView). x.frame) h.pages;
+        },
+      )

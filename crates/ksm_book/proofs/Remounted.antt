@@ -1,5 +1,5 @@
 -- A dup moves to another frame, with all of its items.
-use Rattle.ksm_book.proofs.Names.{eqb-true, Agrees, All, ap, arith, blank, Bool, cond, count_none, DupFits, DupRow, Dying, eq-eqb, false, FitsBase, frame_at, Frames, frames_of, Free, GenerationFits, get_or, get_or-set_other, get_or-set_same, GuestPage, inl, inr, instead, is_frame, is_some, IsInLife, IsServed, Kind, kind_for, Ledger, length, length-set, Life, life_or, List, Merged, merged_into, named_at, ne_eqb, node_of, None, none_counted, Note, Option, PAGE_WORDS, PageState, place_frame, place_life, Placed, Private, refl, Row, RowFits, same_Some, set, Shape, shared_state, Some, Stable, subst, sym, true, uses, ℕ, ◌+◌, ◌<◌, ◌∙◌, ◌≡◌, ◌≢◌, ◌≤◌, count_alike}
+use Rattle.ksm_book.proofs.Names.{eqb-true, Agrees, All, ap, arith, blank, Bool, cond, count_none, DupFits, DupRow, Dying, eq-eqb, FitsBase, frame_at, Frames, frames_of, Free, GenerationFits, get_or, get_or-set_other, get_or-set_same, GuestPage, inl, inr, instead, is_frame, is_some, IsInLife, IsServed, Kind, kind_for, Ledger, length, length-set, Life, life_or, List, Merged, merged_into, named_at, ne_eqb, node_of, None, none_counted, Note, Option, PAGE_WORDS, PageState, place_frame, place_life, Placed, Private, refl, Row, RowFits, same_Some, set, Shape, shared_state, Some, Stable, subst, sym, true, uses, ℕ, ◌+◌, ◌<◌, ◌∙◌, ◌≡◌, ◌≢◌, ◌≤◌, count_alike}
 use mathlib.Core.Logic.{dite}
 use native.Mathlib.Decide.{ℕ_discrete}
 use Rattle.ksm_book.proofs.ByPage.{frame_cases, not_on, uses_some}
@@ -27,15 +27,12 @@ instead_there f g frame page ne = by (frame page) ne
 
 -- those that lay on f lie on g, and none lies on f any more
 module _ (f g : ℕ) (frame : Frames) (rows : List Row) where
-  unused_is : uses g frame rows ≡ 0 → All (λ r. is_frame g (frame r.page) ≡ false) rows
-  unused_is none = none_counted (λ r. is_frame g (frame r.page)) rows none
-
   uses_new : uses g frame rows ≡ 0 → uses g (instead f g frame) rows ≡ uses f frame rows
   uses_new none = count_alike _ _ rows (λ i d lt.
       let page = (get_or rows i d).page in
       elim (frame_cases f (frame page)) [
         | inl on ↦ ap (is_frame g) (instead_here f g frame page on) ∙ eq-eqb g g refl ∙ sym (ap (is_frame f) on ∙ eq-eqb f f refl)
-        | inr off ↦ ap (is_frame g) (instead_there f g frame page off) ∙ unused_is none i d lt ∙ sym (not_on f (frame page) off)
+        | inr off ↦ ap (is_frame g) (instead_there f g frame page off) ∙ none_counted (λ r. is_frame g (frame r.page)) rows none i d lt ∙ sym (not_on f (frame page) off)
       ])
 
   uses_old : g ≢ f → uses f (instead f g frame) rows ≡ 0
@@ -140,16 +137,10 @@ module _ {sh : Shape} {across : ℕ} {k : Ledger} {rows : List Row} {frame : Fra
         let far : place_frame k e.place ≢ g = λ same. too_young e m ne same l in
         (sym (same_life (place_frame k e.place) far) ∙ ap (λ h. (frame_at next h).generation) (sym (frame_off e.place ne)) ∙ l ∙ life_off e.place ne, far)
 
-    unlisted : All (λ r. frame r.page ≢ Some g) rows
-    unlisted i r0 low e = let used : 1 ≤ uses g frame rows = uses_some g frame rows i r0 low e in omega (arith, used, unused)
-
     -- a row on the frame that it has now
     module _ (r : Row) (f : ℕ) (far : f ≢ g) (had : Serves sh k dups r f) where
       was : RowFits sh k r f
       was = had.0
-
-      item_of : f ≡ left → merged_into moving.number r.state ≡ true
-      item_of e = (among (Agrees k r f) had.1).back in_life (e ∙ leaves)
 
       moved_row : f ≡ left → RowFits sh next r g
       moved_row e = record {
@@ -168,7 +159,7 @@ module _ {sh : Shape} {across : ℕ} {k : Ledger} {rows : List Row} {frame : Fra
             back = λ _ _. a.back (subst (λ x. IsInLife k x) (sym same) in_life) (is ∙ leaves ∙ ap (place_frame k) (sym same));
           })
           (λ ne. record {
-            item = λ t. absurd (others ne (one_number r.state moving.number e.number (item_of is) t));
+            item = λ t. absurd (others ne (one_number r.state moving.number e.number ((among (Agrees k r f) had.1).back in_life (is ∙ leaves)) t));
             back = λ l t. absurd ((off e m ne l).1 (sym (frame_off e.place ne) ∙ sym t));
           })
 
@@ -246,7 +237,8 @@ module _ {sh : Shape} {across : ℕ} {k : Ledger} {rows : List Row} {frame : Fra
           (λ _. let below : (frame_at k g).generation < sh.last_generation = subst (λ (x : Kind). GenerationFits sh.last_generation x (frame_at k g).generation) free (p.lives g) in (omega arith, omega (arith, below)))
           (λ _. subst (λ (x : Kind). GenerationFits sh.last_generation x (frame_at k left).generation) stable (p.lives left))
           (λ _ _. p.lives h);
-      each_row = λ i r0 low. let r = get_or rows i r0 in served r (frame r.page) (unlisted i r0 low) (p.each_row i r0 low);
+      each_row = λ i r0 low. let r = get_or rows i r0 in served r (frame r.page)
+          (λ e. (let used = uses_some g frame rows i r0 low e in omega (arith, used, unused))) (p.each_row i r0 low);
       each_dup = λ m x l. dite (ℕ_discrete (get_or dups m x).place q) (λ same. dup_here (get_or dups m x) same (p.each_dup m x l)) (λ ne. dup_there (get_or dups m x) ne (p.each_dup m x l));
       bases = λ h. at (λ x. x.base ≡ uses h (instead left g frame) rows + 0) h
           (λ e. let new : uses h (instead left g frame) rows ≡ uses left frame rows = ap (λ y. uses y (instead left g frame) rows) e ∙ uses_new left g frame rows unused in let old : (frame_at k left).base ≡ uses left frame rows + 0 = p.bases left in omega (arith, new, old))

@@ -1,10 +1,10 @@
 -- A dup with items, and where its pages lie before and after it moves.
-use Rattle.ksm_book.proofs.Names.{list_any_at, [], All, and_parts, ap, arith, blank, Bool, cond, count_in, did, dup_frame, dup_numbered, DupFits, DupRow, Dying, each_has_number, eq-eqb, find_all, find_passes, Err, Finds, FindsHeld, FindsNone, HasRemounted, InUse, MayMount, MayMove, NoFrame, Ok, frame_at, frame_found, frame_number, frames_of, Free, Freeze, get_or, get_or-set_other, GuestPage, has_items, instead, is_frame, is_item, IsInLife, IsLaid, IsLoose, IsLowestFree, item_count, items_on, KeeperView, Kind, Ledger, length, length-set, Life, life_or, List, list_any, ltb-true, lying, Made, merged_into, mounting, Moves, named_at, ne_eqb, node_of, None, Note, Option, PagesView, past_lives, place_frame, Placed, Publish, refl, Row, row_at, same_page, same_Some, set, Shape, Some, spent, spent_on, Stable, subst, sym, true, with_frame, ℕ, ◌&&◌, ◌*◌, ◌+◌, ◌<◌, ◌==◌, ◌∙◌, ◌∷◌, ◌≡◌, ◌≢◌, ◌≤◌, if◌then◌else◌, once_mounted}
+use Rattle.ksm_book.proofs.Names.{list_any_at, [], All, and_parts, ap, arith, blank, Bool, cond, count_in, did, dup_frame, dup_numbered, DupFits, DupRow, Dying, each_has_number, eq-eqb, find_all, find_passes, Err, Finds, FindsHeld, FindsNone, HasRemounted, InUse, MayMount, MayMove, NoFrame, Ok, frame_at, frame_found, frame_number, frames_of, Free, Freeze, get_or, get_or-set_other, GuestPage, has_items, instead, is_frame, is_item, IsInLife, IsLaid, IsLoose, IsLowestFree, item_count, items_on, KeeperView, Ledger, length, length-set, Life, life_or, List, list_any, ltb-true, lying, Made, merged_into, mounting, Moves, named_at, ne_eqb, node_of, None, Note, Option, PagesView, place_frame, Placed, Publish, refl, Row, row_at, same_page, same_Some, set, Shape, Some, spent, Stable, subst, sym, true, with_frame, ℕ, ◌&&◌, ◌*◌, ◌+◌, ◌<◌, ◌==◌, ◌∙◌, ◌∷◌, ◌≡◌, ◌≢◌, ◌≤◌, if◌then◌else◌, once_mounted}
 use mathlib.Core.Logic.{dite}
 use native.Mathlib.Decide.{ℕ_discrete}
 use Rattle.ksm_book.proofs.ByPage.{found_page, same_frames}
 use Rattle.ksm_book.proofs.Filling.{at_again, on_node}
-use Rattle.ksm_book.proofs.Keeping.{node_end, searched_placed, searched_spends, spent_set}
+use Rattle.ksm_book.proofs.Keeping.{node_end, searched_placed, searched_spends, past_le, spent_kept}
 use Rattle.ksm_book.proofs.Laying.{kept, shape_same}
 use Rattle.ksm_book.proofs.Made.{made_one}
 use Rattle.ksm_book.proofs.Moves.{base_is_items, lies_as_item}
@@ -60,10 +60,6 @@ module _ {v : PagesView} {k : KeeperView} {dup : DupRow} {node g : ℕ} (at : Le
   item_some = ltb-true 0 (item_count v.rows dup) (and_parts (dup.place == dup.place) (has_items v.rows dup)
       (find_passes test dups dup at.may.live)).1
 
-  item_few : item_count v.rows dup ≤ 1024
-  item_few =
-      omega (arith, among (λ d. item_count v.rows d ≤ v.knobs.max_page_sharing) at.may.sound.2.limit, at.may.sound.2.knobs.max_page_sharing.1)
-
   stands : dup_numbered dup.number dups ≡ Some dup
   stands = among (λ d. dup_numbered d.number dups ≡ Some d) (each_has_number dups at.may.sound.2.dups_rise)
 
@@ -77,9 +73,6 @@ module _ {v : PagesView} {k : KeeperView} {dup : DupRow} {node g : ℕ} (at : Le
     p = kept k at.may.laid.same w None
         (λ a rows frame ds. searched_placed node (subst (λ (x : Shape). node < x.nodes) (sym at.may.laid.same) at.may.exists) to.reaped a
         rows frame ds None) at.may.laid.placed
-
-    table_is : w.table ≡ k.table
-    table_is = ap (λ (z : KeeperView). z.table) to.reaped.after
 
     more_spent : spent k.ledger ≤ spent w.ledger
     more_spent = searched_spends node to.reaped
@@ -143,7 +136,7 @@ module _ {v : PagesView} {k : KeeperView} {dup : DupRow} {node g : ℕ} (at : Le
     bytes = ap (λ x. (frame_at w.ledger x).content) on_frame ∙ dup_fits.content live.life
 
     shape_is : w.table.shape ≡ sh
-    shape_is = shape_same sh k w at.may.laid.same table_is
+    shape_is = shape_same sh k w at.may.laid.same (ap (λ (z : KeeperView). z.table) to.reaped.after)
 
     -- the frame that the dup is to leave is one of the table and Stable, so the exchange of its count may be tried
     pub may_freeze : (g < frames_of w.table.shape) × (n.kind ≡ Stable)
@@ -244,7 +237,13 @@ module _ {v : PagesView} {k : KeeperView} {dup : DupRow} {node g : ℕ} (at : Le
               at = subst (λ (x : Shape). dup.place < frames_of x) same dup_fits.place;
               loose = loose_of (named_at u.ledger dup.place) (ap (λ (z : Ledger). place_frame z dup.place) frozen ∙ sym on_frame);
               some = omega (arith, is, base, item_some);
-              few = omega (arith, is, base, item_few);
+              few = omega (
+                arith,
+                is,
+                base,
+                among (λ d. item_count v.rows d ≤ v.knobs.max_page_sharing) at.may.sound.2.limit,
+                at.may.sound.2.knobs.max_page_sharing.1,
+              );
             }
 
         -- and the dup stands on the new frame
@@ -306,19 +305,15 @@ module _ {v : PagesView} {k : KeeperView} {dup : DupRow} {node g : ℕ} (at : Le
                 spent_still : v.next ≤ spent x.ledger
                 spent_still =
                     let k1 : Ledger = with_frame w.ledger g dead in
-                    let in1 : f < length k1.frames = (let e : length k1.frames ≡ length w.ledger.frames = length-set w.ledger.frames g
-                    dead in let lt = within in omega (arith, e, lt)) in
-                    let one : spent k1 + spent_on n ≡ spent w.ledger + n.generation = spent_set w.ledger g dead within_g in
-                    let was : spent_on n ≡ n.generation = ap (λ (y : Kind). past_lives y n.generation) stable in
-                    let two : spent (with_frame k1 f full) + spent_on (frame_at k1 f) ≡ spent k1 +
-                    ((frame_at w.ledger f).generation + 1) = spent_set k1 f full in1 in
                     let here : frame_at k1 f ≡ frame_at w.ledger f = get_or-set_other w.ledger.frames g f dead blank apart in
-                    let was_free : spent_on (frame_at k1 f) ≡ (frame_at w.ledger f).generation = ap spent_on here
-                    ∙ ap (λ (y : Kind). past_lives y (frame_at w.ledger f).generation) lowest.free in
+                    let same = ap (λ (y : Note). y.generation) here in
+                    let past = past_le (frame_at k1 f).kind (frame_at k1 f).generation in
+                    let one = spent_kept w.ledger g dead (past_le n.kind n.generation) in
+                    let two = spent_kept k1 f full (omega (arith, same, past)) in
                     let end : spent x.ledger ≡ spent (with_frame k1 f full) = ap spent ledger_is in
                     let before = at.may.laid.spent in
                     let more = more_spent in
-                    omega (arith, one, was, two, was_free, end, before, more)
+                    omega (arith, one, two, end, before, more)
 
             -- once the new frame is mounted and the items lie there, the dup has moved to a frame of the node
             pub has_remounted : {X : Type 0} {done : X} → (before : KeeperView) × (x ≡ did before (Publish dup.place f) 0)

@@ -166,9 +166,6 @@ above_elsewhere : (place : ℕ) (ds : List DupRow) → filter (λ d. nat_lt plac
 above_elsewhere place [] = refl
 above_elsewhere place (d ∷ ds) = grind (arith, nat_tests, above_elsewhere place ds)
 
-pub with_elsewhere : (d : DupRow) (ds : List DupRow) → with_dup d (filter (elsewhere d.place) ds) ≡ with_dup d ds
-with_elsewhere d ds = λ t. below_elsewhere d.place ds t ++ d ∷ above_elsewhere d.place ds t
-
 product_most : (a b m n : ℕ) → a ≤ m → b ≤ n → a * b ≤ m * n
 product_most a b m n le le' = grind (arith, le, le')
 
@@ -265,7 +262,7 @@ module _ {p : PagesView} {k : KeeperView} (h : IsLaid p k) (rise : InPageOrder p
         small = h.small;
         same = ap (λ (z : KeeperView). z.table.shape) is ∙ ap (λ x. x.shape) table ∙ h.same;
         placed = subst (λ (z : Ledger × List DupRow). Placed sh p.knobs.merge_across_nodes z.0 (change_row page c p.rows) p.frame z.1 None)
-            (λ t. (sym ledger t, with_elsewhere d p.dups t)) shown;
+            (λ t. (sym ledger t, below_elsewhere d.place p.dups t ++ d ∷ above_elsewhere d.place p.dups t)) shown;
         spent = (let s = h.spent in let given = fits.given in omega (arith, s, more, was, now, given));
       }
 

@@ -207,10 +207,6 @@ lowest_still sh k node f g true h stable = record {
   least = λ i low lt. set_holds (λ x. free_kind x.kind ≡ false) k.frames f i (frozen (frame_at k f)) refl (h.least i low lt);
 }
 
--- the log tells the steps that were made
-steps_told : (v w : KeeperView) (nodes : List ℕ) (part : Log) (steps : List KeeperStep) → Did v w nodes part → Made v w steps → steps_of part ≡ steps
-steps_told v w nodes part steps d m = ap steps_of (append_cancel_left v.log part m.part (sym d.log ∙ ap (λ (z : KeeperView). z.log) m.after)) ∙ m.are
-
 -- a step that is told is in the log, with what it found
 found_in : (part : Log) (step : KeeperStep) → Contains (steps_of part) step → (found : ℕ) × Contains part (step, found)
 found_in [] step (i, lt, is) = absurd (omega (arith, lt))
@@ -250,7 +246,8 @@ moved v w rows dup node h ends stable =
     (refl, quiet_both (replicate (count - 1) (Add g)) (Publish dup.place g ∷ []) (quiet_adds (count - 1) g) (refl, tt)))) in
     let does = does_then (does_then searched freezes) mounts in
     let made = made_then h.finds.reaped (made_then h.freezes h.mounts) in
-    let told = steps_told v.keeper w.keeper (node ∷ []) does.0 (reaps ++ (Freeze f ∷ Raise g ∷ rest)) does.1 made in
+    let told : steps_of does.0 ≡ reaps ++ (Freeze f ∷ Raise g ∷ rest) =
+    ap steps_of (append_cancel_left v.keeper.log does.0 made.part (sym does.1.log ∙ ap (λ (z : KeeperView). z.log) made.after)) ∙ made.are in
     let raised = found_in does.0 (Raise g) (subst (λ steps. Contains steps (Raise g)) (sym told) (Contains-append_right reaps (Freeze f ∷ Raise g ∷ rest) (Raise g) (1, omega arith, refl))) in
     record {
       part = does.0;

@@ -1,5 +1,5 @@
 -- The commands on single pages, carried out.
-use Rattle.ksm_book.proofs.Names.{[], All, Answer, ap, arith, BookValue, BookView, Bool, CarriedOut, change_row, comes_before, Command, cond_both, Does, Done, Drop, Err, false, filter, FindsNone, frame_at, frame_number, frame_on, Frames, frames_of, fresh_row, get_or, GuestPage, Houses, IfErr, IfSome, InPageOrder, is_some, IsAlone, IsLaid, IsReadable, IsServed, IsSound, IsWritable, KeeperView, leaving, length, lies_on, List, listed, lying, Made, MatchBool, MatchOption, May, moved, MovePage, nat_le, nat_tests, NoFrame, None, not, Ok, on_its_own, Option, ordered_with, PAGE_WORDS, PagesView, Performs, Placed, private_state, Provides, puts, refl, Register, Resettled, Resettles, Result, rewriting, Row, row_at, same_page, same_page_refl, Shape, shared_state, Some, sound_after, state_of, stepped, steps_of, Store, stored, Sub, subst, sym, true, view_of, with_row, without_page, ℕ, ◌++◌, ◌<◌, ◌==◌, ◌∙◌, ◌∷◌, ◌≡◌, map_fixed, without_between, pages_ordered, absent_parts, find_put, filter_passes, cond, if◌then◌else◌, Held, IsHeld, Took}
+use Rattle.ksm_book.proofs.Names.{[], All, Answer, ap, arith, BookValue, BookView, Bool, CarriedOut, change_row, comes_before, Command, cond_both, Does, Done, Drop, Err, false, filter, FindsNone, frame_at, frame_number, frame_on, Frames, frames_of, fresh_row, get_or, GuestPage, Houses, IfErr, IfSome, InPageOrder, is_some, IsAlone, IsLaid, IsReadable, IsServed, IsSound, IsWritable, KeeperView, leaving, length, lies_on, List, listed, lying, Made, MatchBool, MatchOption, May, moved, MovePage, nat_le, nat_tests, NoFrame, None, not, Ok, on_its_own, Option, ordered_with, PAGE_WORDS, PagesView, Performs, Placed, Provides, puts, refl, Register, Resettled, Resettles, Result, rewriting, Row, row_at, same_page, same_page_refl, Shape, shared_state, Some, sound_after, state_of, stepped, steps_of, Store, stored, Sub, subst, sym, true, view_of, with_row, without_page, ℕ, ◌++◌, ◌<◌, ◌==◌, ◌∙◌, ◌∷◌, ◌≡◌, map_fixed, without_between, pages_ordered, absent_parts, find_put, filter_passes, cond, if◌then◌else◌, Held, IsHeld, Took}
 use Rattle.std.proofs.lemmas.Bool.{eq-eqb}
 use Rattle.ksm_base.specs.declared.row.PageState.TheVariants.{Private}
 use Rattle.ksm_book.proofs.ByPage.{at_changed, change_twice, found_page, lies_again, lies_still, row_of_page}
@@ -32,29 +32,37 @@ row_held {p} h = ap (λ q. row_at q p.rows) h.spot ∙ h.found
 
 -- ---------------------------------------------------------------- a page with another frame
 
--- a page was resettled, and then its row tells of home and bytes
-module _ {p m q : PagesView} {k l : KeeperView} {page : GuestPage} {node : ℕ} {bytes : List ℕ} (h : IsLaid p k) (table : l.table ≡ k.table) (r : Resettled p m k l page node bytes)
-    (d change : Row → Row) (goes : q ≡ record m { rows = change_row page d m.rows; restless = q.restless }) (rows : change_row page d (change_row page on_its_own p.rows) ≡ change_row page change p.rows) where
-  settled_frame : q.frame ≡ m.frame
-  settled_frame = ap (λ (x : PagesView). x.frame) goes
-
-  -- a page was resettled and its row then changed: the pages differ in that row, in where pages lie and in the listing
-  pub settled_pages : q ≡ record p { rows = change_row page change p.rows; frame = q.frame; restless = q.restless }
-  settled_pages = goes ∙ (λ t. record (r.pages t) { rows = change_row page d (r.pages t).rows; restless = q.restless })
-      ∙ (λ t. record p { rows = rows t; frame = sym settled_frame t; restless = q.restless })
-
-  -- a page that was resettled, and whose row then changed, is resettled by the same steps
-  pub settled_steps : Resettles (lying p k) (lying q l) page node bytes
-  settled_steps = subst (λ (f : Frames). Resettles (lying p k) (record { frame = f; keeper = l }) page node bytes) (sym settled_frame) r.resettles
-
-  -- rows and dups lie lawfully once the row of a resettled page tells of its home and bytes too
-  pub settled_laid : Houses change page node bytes p.rows → IsLaid q l
-  settled_laid by_this = subst (λ (x : PagesView). IsLaid x l) (sym settled_pages) (record {
-    small = h.small;
-    same = shape_same p.shape k l h.same table;
-    placed = subst (λ (f : Frames). Placed p.shape p.knobs.merge_across_nodes l.ledger (change_row page change p.rows) f p.dups None) (sym settled_frame) (r.placed change by_this);
-    spent = r.spent;
-  })
+-- a page was resettled, and then its row changed to tell of home and bytes: the pages differ in that row, in where pages lie and in the
+-- listing, the steps are those of the resettling, and rows and dups lie lawfully
+pub settled_then : {p m q : PagesView} {k l : KeeperView} {page : GuestPage} {node : ℕ} {bytes : List ℕ} {row : Row} → IsLaid p k → InPageOrder p.rows
+    → row_at page p.rows ≡ Some row → Resettled p m k l page node bytes → (d change : Row → Row)
+    → q ≡ record m { rows = change_row page d m.rows; restless = q.restless } → ((x : Row) → (change x).page ≡ x.page)
+    → d (on_its_own row) ≡ change row → ((change row).state ≡ Private) × ((change row).home ≡ node) × ((change row).bytes ≡ bytes)
+    → (q ≡ record p { rows = change_row page change p.rows; frame = q.frame; restless = q.restless })
+    × Resettles (lying p k) (lying q l) row.page node bytes × IsLaid q l
+settled_then {p} {m} {q} {k} {l} {page} {node} {bytes} {row} h rise found r d change goes keeps to housed =
+    let one = row_of_page page p.rows row rise found in
+    let rows = change_twice page on_its_own d change p.rows (λ x. refl)
+    (λ i x lt at. subst (λ y. d (on_its_own y) ≡ change y) (sym (one i x lt at)) to) in
+    let frame : q.frame ≡ m.frame = ap (λ (x : PagesView). x.frame) goes in
+    let pages : q ≡ record p { rows = change_row page change p.rows; frame = q.frame; restless = q.restless } =
+    goes ∙ (λ t. record (r.pages t) { rows = change_row page d (r.pages t).rows; restless = q.restless })
+    ∙ (λ t. record p { rows = rows t; frame = sym frame t; restless = q.restless }) in
+    let houses : Houses change page node bytes p.rows = record {
+      pages = keeps;
+      row = subst (λ o. MatchOption o ⊥ (λ x. ((change x).state ≡ Private) × ((change x).home ≡ node) × ((change x).bytes ≡ bytes))) (sym found) housed;
+    } in (
+      pages,
+      subst (λ (z : Frames × GuestPage). Resettles (lying p k) (record { frame = z.0; keeper = l }) z.1 node bytes)
+          (λ t. (sym frame t, sym (found_page page p.rows row found) t)) r.resettles,
+      subst (λ (x : PagesView). IsLaid x l) (sym pages) (record {
+        small = h.small;
+        same = shape_same p.shape k l h.same r.does.1.table;
+        placed = subst (λ (f : Frames). Placed p.shape p.knobs.merge_across_nodes l.ledger (change_row page change p.rows) f p.dups None)
+            (sym frame) (r.placed change houses);
+        spent = r.spent;
+      }),
+    )
 
 -- a page whose row is found and not shared has a frame of its own
 pub alone_now : (rows : List Row) (page : GuestPage) (row : Row) → row_at page rows ≡ Some row → shared_state row.state ≡ false → IsAlone page rows
@@ -72,15 +80,11 @@ pub if_err : {T E : Type 0} (r : Result T E) (P : Type 0) → P → IfErr r (λ 
 if_err (Ok x) P h = tt
 if_err (Err e) P h = h
 
--- a page that was resettled has a frame of its own
-pub alone_resettled : (rows : List Row) (page : GuestPage) (row : Row) → row_at page rows ≡ Some row → (now : List Row) → now ≡ change_row page on_its_own rows → IsAlone page now
-alone_resettled rows page row found now made =
-    alone_now now page (on_its_own row) (ap (row_at page) made ∙ at_changed page on_its_own rows row (λ r. refl) found) refl
-
--- a page that was resettled is Private
-pub private_resettled : (rows : List Row) (page : GuestPage) (row : Row) → row_at page rows ≡ Some row → (now : List Row) → now ≡ change_row page on_its_own rows → MatchOption (row_at page now) (true ≡ false) (λ r. private_state r.state ≡ true)
-private_resettled rows page row found now made =
-    subst (λ o. MatchOption o (true ≡ false) (λ r. private_state r.state ≡ true)) (sym (ap (row_at page) made ∙ at_changed page on_its_own rows row (λ r. refl) found)) refl
+-- the row of a page that was resettled is found with a frame of its own
+pub found_resettled : {p m : PagesView} {k l : KeeperView} {page : GuestPage} {node : ℕ} {bytes : List ℕ} {row : Row}
+    → Resettled p m k l page node bytes → row_at page p.rows ≡ Some row → row_at page m.rows ≡ Some (on_its_own row)
+found_resettled {p} {page = page} {row = row} r found =
+    ap (λ (x : PagesView). row_at page x.rows) r.pages ∙ at_changed page on_its_own p.rows row (λ x. refl) found
 
 -- ---------------------------------------------------------------- a store
 
@@ -117,17 +121,12 @@ module _ (p : PagesView) (k l : KeeperView) (cursor : Option GuestPage) (passes 
       }) (quiet_does (made_part k l (puts g 0 bytes) wrote) (quiet_puts g 0 bytes))
 
   -- `Store` is carried out, and all lies lawfully, where a shared page is resettled with the bytes, as its row tells
-  pub store_copied : (m q : PagesView) → IsLaid p k → Resettled p m k l page row.home bytes → q ≡ record m { rows = change_row page (stored bytes) m.rows; restless = q.restless } → shared_state row.state ≡ true
+  pub store_copied : (m q : PagesView) → IsLaid p k → InPageOrder p.rows → Resettled p m k l page row.home bytes
+      → q ≡ record m { rows = change_row page (stored bytes) m.rows; restless = q.restless } → shared_state row.state ≡ true
       → Carries p k q l cursor passes (Store page bytes) (Ok Done)
-  store_copied m q h r goes shared =
-      let rows = change_twice page on_its_own (stored bytes) (stored bytes) p.rows (λ x. refl) (λ i x lt is. refl) in (
-        stores q (ap (λ x. state_of x cursor passes) (settled_pages h table r (stored bytes) (stored bytes) goes rows)) true shared
-            (subst (λ x. Resettles (lying p k) (lying q l) x row.home bytes) (sym (found_page page p.rows row found)) (settled_steps h table r (stored bytes) (stored bytes) goes rows)) r.does,
-        settled_laid h table r (stored bytes) (stored bytes) goes rows (record {
-          pages = λ x. refl;
-          row = subst (λ o. MatchOption o ⊥ (λ x. ((stored bytes x).state ≡ Private) × ((stored bytes x).home ≡ row.home) × ((stored bytes x).bytes ≡ bytes))) (sym found) (refl, refl, refl);
-        }),
-      )
+  store_copied m q h rise r goes shared =
+      let s = settled_then h rise found r (stored bytes) (stored bytes) goes (λ x. refl) refl (refl, refl, refl) in
+      (stores q (ap (λ x. state_of x cursor passes) s.0) true shared s.1 r.does, s.2)
 
 -- ---------------------------------------------------------------- a move to another node
 
@@ -164,23 +163,20 @@ module _ (p : PagesView) (k : KeeperView) (cursor : Option GuestPage) (passes : 
     pub move_moved : (m q : PagesView) → IsLaid p k → Resettled p m k l page node row.bytes → q ≡ record m { rows = change_row page (λ r. record r { home = node }) m.rows; restless = q.restless }
         → Carries p k q l cursor passes (MovePage page node) (Ok Done)
     move_moved m q h r goes =
-        let one = row_of_page page p.rows row rise found in
-        let to : moved node row ≡ record row { home = node; state = Private } = ap (λ (x : Bool). if x then row else record row { home = node; state = Private }) away in
-        let rows = change_twice page on_its_own (λ r. record r { home = node }) (moved node) p.rows (λ x. refl) (λ i x lt of_page. subst (λ r. record r { home = node; state = Private } ≡ moved node r) (sym (one i x lt of_page)) (sym to)) in (
+        let to : moved node row ≡ record row { home = node; state = Private } =
+        ap (λ (x : Bool). if x then row else record row { home = node; state = Private }) away in
+        let s = settled_then h rise found r (λ r. record r { home = node }) (moved node) goes
+        (λ x. cond_both (x.home == node) x (record x { home = node; state = Private }) (λ y. y.page ≡ x.page) (λ _. refl) (λ _. refl))
+        (sym to) (ap (λ (x : Row). x.state) to, ap (λ (x : Row). x.home) to, ap (λ (x : Row). x.bytes) to) in (
           record {
             own = table;
             answer = rw (there, found) tt;
-            state = ap (λ x. state_of x cursor passes) (settled_pages h table r (λ r. record r { home = node }) (moved node) goes rows);
-            steps = rw (found, away) (subst (λ x. Resettles (lying p k) (lying q l) x node row.bytes) (sym (found_page page p.rows row found))
-                (settled_steps h table r (λ r. record r { home = node }) (moved node) goes rows));
+            state = ap (λ x. state_of x cursor passes) s.0;
+            steps = rw (found, away) s.1;
             frames = rw (found, away) r.does;
             shown = tt;
           },
-          settled_laid h table r (λ r. record r { home = node }) (moved node) goes rows (record {
-            pages = λ x. cond_both (x.home == node) x (record x { home = node; state = Private }) (λ y. y.page ≡ x.page) (λ _. refl) (λ _. refl);
-            row = subst (λ o. MatchOption o ⊥ (λ x. ((moved node x).state ≡ Private) × ((moved node x).home ≡ node) × ((moved node x).bytes ≡ row.bytes))) (sym found)
-                (ap (λ (x : Row). x.state) to, ap (λ (x : Row). x.home) to, ap (λ (x : Row). x.bytes) to);
-          }),
+          s.2,
         )
 
 -- ---------------------------------------------------------------- a page that goes

@@ -1,5 +1,5 @@
 -- The frames of dups with items in a lawful placement, and why a new dup finds a place.
-use Rattle.ksm_book.proofs.Names.{find_passes, Merged, [], All, All-cons, All-head, All-tail, ap, arith, BookState, Bool, cases_Bool, cond_both, DupRow, empty_from, eqb, eqb-true, false, find, find_all, find_none, FindsPlace, frame_at, Frames, frames_of, get_or, get_or-map, GuestPage, inl, InPlaceOrder, inr, is_stale, IsDistinct-from_apart, IsInLife, IsLaid, IsServed, IsSound, item_count, KeeperView, kind_for, Ledger, length, length-le_from_distinct_below, length-map, List, list_any, ltb-true, map, merged_into, nat_lt, nat_tests, ne_eqb, new_place, None, NumbersAreSmall, Option, PagesView, place_frame, place_or, Placed, Private, refl, Row, Shape, shared_state, Some, Stable, state_of, subst, suc, sym, true, zero, zero_state, ℕ, ◌+◌, ◌<◌, ◌==◌, ◌^◌, ◌∙◌, ◌∷◌, ◌≡◌, ◌≢◌, ◌≤◌}
+use Rattle.ksm_book.proofs.Names.{find_passes, Merged, [], All, All-cons, All-head, All-tail, ap, arith, Bool, cases_Bool, cond_both, DupRow, empty_from, eqb, eqb-true, false, find, find_all, find_none, FindsPlace, frame_at, Frames, frames_of, get_or, get_or-map, GuestPage, inl, InPlaceOrder, inr, is_stale, IsDistinct-from_apart, IsInLife, IsLaid, IsServed, IsSound, item_count, KeeperView, kind_for, Ledger, length, length-le_from_distinct_below, length-map, List, list_any, ltb-true, map, merged_into, nat_lt, nat_tests, ne_eqb, new_place, None, Option, PagesView, place_frame, place_or, Placed, Private, refl, Row, Shape, shared_state, Some, Stable, state_of, subst, suc, sym, true, zero, zero_state, ℕ, ◌+◌, ◌<◌, ◌==◌, ◌^◌, ◌∙◌, ◌∷◌, ◌≡◌, ◌≢◌, ◌≤◌}
 use Rattle.ksm_book.proofs.Laying.{own_kind, own_framed}
 use Rattle.ksm_book.proofs.Moves.{Serves, framed}
 use Rattle.ksm_book.proofs.Sharing.{first_found, state_of_item}
@@ -140,7 +140,3 @@ pub finds_places : {p : PagesView} {k : KeeperView} {cursor : Option GuestPage} 
 finds_places {p} {k} {cursor} {passes} s h row in_rows alone =
     finds_place h.placed s.dups_rise row
     (subst (λ r. IsServed p.shape k.ledger p.dups r (p.frame r.page)) in_rows.2 (h.placed.each_row in_rows.0 row in_rows.1)) alone
-
--- the numbers of dups are below 2^50, where the number of the next dup is 2^50 at most
-pub numbers_small : (b : BookState) → IsSound b → b.next ≤ 2 ^ 50 → NumbersAreSmall b
-numbers_small b s few k d lt = let below = s.numbers k d lt in omega (arith, below, few)

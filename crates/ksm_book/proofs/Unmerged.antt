@@ -1,12 +1,12 @@
 -- Pages that leave their dups, or the zero page, one after another.
-use Rattle.ksm_book.proofs.Names.{[], All, All-head, All-tail, and-true, ap, append-nil, arith, change_row, change_rows, cond-false, cond-true, cond_both, Does, false, Fault, filter, filter-append, filter_none, find, get_or, GuestPage, HasLeft, Held, inl, InPageOrder, inr, is_next, is_of, is_shared_of, is_some, IsAlone, IsHeld, IsKnown, IsLaid, KeeperView, left_by, length, length-append, let_go, List, lying, map, map-append, Mapped, MatchOption, MayNotLeave, NoFrame, None, NoneLeft, not, not-false, not-true, of_guest, on_its_own, Option, option_map, PagesView, refl, Resettled, Resettles, ResettlesEach, Row, row_at, same_page, same_Some, shared_of, shared_state, slice_get, Some, subst, sym, take, take-append_seam, true, UnmergesTo, unshared, Unshares, ℕ, ◌&&◌, ◌++◌, ◌+◌, ◌<◌, ◌||◌, ◌∙◌, ◌∷◌, ◌≡◌, ◌≤◌, if◌then◌else◌}
+use Rattle.ksm_book.proofs.Names.{[], All, All-head, All-tail, and-true, ap, append-nil, arith, change_row, change_rows, cond-false, cond-true, cond_both, Does, false, Fault, filter, filter-append, filter_none, find, get_or, GuestPage, HasLeft, Held, inl, InPageOrder, inr, is_next, is_of, is_shared_of, is_some, IsAlone, IsHeld, IsKnown, IsLaid, KeeperView, left_by, length, length-append, let_go, List, lying, map, map-append, Mapped, MayNotLeave, NoFrame, None, NoneLeft, not, not-false, not-true, of_guest, on_its_own, Option, option_map, PagesView, refl, Resettled, ResettlesEach, Row, row_at, same_page, same_Some, shared_of, shared_state, slice_get, Some, subst, sym, take, take-append_seam, true, UnmergesTo, unshared, Unshares, ℕ, ◌&&◌, ◌++◌, ◌+◌, ◌<◌, ◌||◌, ◌∙◌, ◌∷◌, ◌≡◌, ◌≤◌, if◌then◌else◌}
 use Rattle.ksm_base.specs.declared.row.PageState.TheVariants.{Private}
 use Rattle.ksm_book.proofs.Along.{FitsPage, IsAlong, IsCut, along_cut, along_end, along_first, further, position}
-use Rattle.ksm_book.proofs.ByPage.{at_changed, change_twice, found_page, row_of_page}
-use Rattle.ksm_book.proofs.Laying.{LodgesAs, laid_mapped}
+use Rattle.ksm_book.proofs.ByPage.{row_of_page}
+use Rattle.ksm_book.proofs.Laying.{LodgesAs, laid_changed}
 use Rattle.ksm_book.proofs.Made.{made_none}
 use Rattle.ksm_book.proofs.Shown.{does_then, quiet_does}
-use Rattle.ksm_book.proofs.Singles.{alone_now, change_still, settled_laid, settled_pages, settled_steps}
+use Rattle.ksm_book.proofs.Singles.{alone_now, change_still, found_resettled, settled_then}
 
 -- a row that is left keeps its page
 pub page_left : (guest : Option ℕ) (r : Row) → (left_by guest r).page ≡ r.page
@@ -62,14 +62,8 @@ module _ {p : PagesView} {k : KeeperView} (guest : Option ℕ) {page : GuestPage
           pages = goes ∙ (λ t. record p { rows = change_row page (left_by guest) p.rows; frame = sym frame t; restless = q.restless });
           steps = subst (λ rs. ResettlesEach rs (lying p k) (lying q k)) (sym none) (record { keeper = refl; frame = frame });
           does = subst (λ rs. Does k k (map (λ (x : Row). x.home) rs)) (sym none) (does_nothing k);
-          laid =
-              let there = λ (r : Row). same_page r.page page in
-              let lodged : All (λ r. LodgesAs (if there r then left_by guest r else r) r) p.rows = λ i d lt. let r = get_or p.rows i d in
-              cond_both (there r) (left_by guest r) r (λ x. LodgesAs x r)
-              (λ same. subst (λ (x : Row). LodgesAs (left_by guest x) x) (sym (one i d lt same)) (lodges guest))
-              (λ _. (refl, refl, inl refl)) in
-              subst (λ (x : PagesView). IsLaid x k) (sym goes) (laid_mapped h (λ r. if there r then left_by guest r else r) q.restless
-              (λ r. cond_both (there r) (left_by guest r) r (λ x. x.page ≡ r.page) (λ _. page_left guest r) (λ _. refl)) lodged);
+          laid = subst (λ (x : PagesView). IsLaid x k) (sym goes)
+              (laid_changed h page row (left_by guest) q.restless rise told.found (page_left guest) (lodges guest));
         }
 
     -- a row with a frame of its own is left as it is where all pages are asked for
@@ -93,7 +87,7 @@ module _ {p : PagesView} {k : KeeperView} (guest : Option ℕ) {page : GuestPage
     shared = sym told.shared ∙ not-false held.shared test
 
     now : row_at page m.rows ≡ Some (on_its_own row)
-    now = ap (λ (x : PagesView). row_at page x.rows) r.pages ∙ at_changed page on_its_own p.rows row (λ x. refl) told.found
+    now = found_resettled r told.found
 
     -- a shared page that was resettled has a row
     pub left_known : IsKnown page m.rows
@@ -107,31 +101,20 @@ module _ {p : PagesView} {k : KeeperView} (guest : Option ℕ) {page : GuestPage
         → ((x : Row) → shared_state x.state ≡ true → d (on_its_own x) ≡ left_by guest x) → (d (on_its_own row)).state ≡ Private
         → (d (on_its_own row)).home ≡ row.home → (d (on_its_own row)).bytes ≡ row.bytes → HasLeft p q k l guest page 1
     left_shared q d goes same state home content =
-        let table = r.does.1.table in
-        let rows = change_twice page on_its_own d (left_by guest) p.rows (λ x. refl)
-        (λ i x lt at. same (get_or p.rows i x) (ap (λ (y : Row). shared_state y.state) (one i x lt at) ∙ shared)) in
         let wrote : bytes ≡ row.bytes = same_Some bytes row.bytes (sym are ∙ ap (option_map (λ (x : Row). x.bytes)) told.found) in
         let got = subst (λ (z : ℕ × List ℕ). Resettled p m k l page z.0 z.1) (λ t. (told.home t, wrote t)) r in
         let all : shared_of row ≡ row ∷ [] = cond-true (shared_state row.state) (row ∷ []) [] shared in
+        let to = same row shared in
+        let s = settled_then h rise told.found got d (left_by guest) goes (page_left guest) to
+        (subst (λ (x : Row). (x.state ≡ Private) × (x.home ≡ row.home) × (x.bytes ≡ row.bytes)) to (state, home, content)) in
         record {
           row = row;
           found = told.found;
           given = ap length (sym all);
-          pages = settled_pages h table got d (left_by guest) goes rows;
-          steps = subst (λ rs. ResettlesEach rs (lying p k) (lying q l)) (sym all) (
-            lying q l,
-            subst (λ x. Resettles (lying p k) (lying q l) x row.home row.bytes) (sym (found_page page p.rows row told.found))
-                (settled_steps h table got d (left_by guest) goes rows),
-            record { keeper = refl; frame = refl },
-          );
+          pages = s.0;
+          steps = subst (λ rs. ResettlesEach rs (lying p k) (lying q l)) (sym all) (lying q l, s.1, record { keeper = refl; frame = refl });
           does = subst (λ rs. Does k l (map (λ (x : Row). x.home) rs)) (sym all) got.does;
-          laid = settled_laid h table got d (left_by guest) goes rows (record {
-            pages = page_left guest;
-            row = subst (λ o. MatchOption o ⊥ (λ (x : Row). ((left_by guest x).state ≡ Private) × ((left_by guest x).home ≡ row.home)
-                × ((left_by guest x).bytes ≡ row.bytes))) (sym told.found)
-                (subst (λ (x : Row). (x.state ≡ Private) × (x.home ≡ row.home) × (x.bytes ≡ row.bytes)) (same row shared)
-                (state, home, content));
-          });
+          laid = s.2;
         }
 
     -- a shared row of a guest is left once its page was resettled and it is let go, and one frame is given for it

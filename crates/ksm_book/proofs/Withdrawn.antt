@@ -5,10 +5,6 @@ use native.Mathlib.Decide.{ℕ_discrete}
 use Rattle.ksm_book.proofs.ByPage.{filter_back}
 use Rattle.ksm_book.proofs.Moves.{served_as}
 
--- a dup that passes the test for dups elsewhere stands at another place
-pub elsewhere_is : (q : ℕ) (d : DupRow) → elsewhere q d ≡ true → d.place ≢ q
-elsewhere_is q d e same = both_ways (d.place == q) (not-true (d.place == q) e) (eq-eqb d.place q same)
-
 -- a dup at another place passes the test for dups elsewhere
 pub elsewhere_so : (q : ℕ) (d : DupRow) → d.place ≢ q → elsewhere q d ≡ true
 elsewhere_so q d ne = ap not (ne_eqb d.place q ne)
@@ -33,7 +29,9 @@ module _ {sh : Shape} {across : ℕ} {k : Ledger} {rows : List Row} {frame : Fra
 
   -- what holds of each dup is said of those that stay
   staying : (P Q : DupRow → Type 0) → ((d : DupRow) → d.place ≢ q → P d → Q d) → All P dups → All Q (filter (elsewhere q) dups)
-  staying P Q f h = λ n x lt. f (get_or (filter (elsewhere q) dups) n x) (elsewhere_is q (get_or (filter (elsewhere q) dups) n x) (filter_passes (elsewhere q) dups n x lt)) (All-filter (elsewhere q) P dups h n x lt)
+  staying P Q f h = λ n x lt. let e = get_or (filter (elsewhere q) dups) n x in
+      f e (λ at. both_ways (e.place == q) (not-true (e.place == q) (filter_passes (elsewhere q) dups n x lt)) (eq-eqb e.place q at))
+      (All-filter (elsewhere q) P dups h n x lt)
 
   -- rows and dups lie lawfully where the place names nothing and the dup that stood there is gone
   pub withdrawn : Placed sh across emptied rows frame (filter (elsewhere q) dups) hand

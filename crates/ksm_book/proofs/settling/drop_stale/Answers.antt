@@ -1,11 +1,10 @@
 use Rattle.ksm_book.proofs.Names.{ap, arith, count_by, filter, is_stale, PagesView, seen, sym, ◌∙◌}
-use Rattle.ksm_book.proofs.Pruning.{drop_few, drop_fewer, drop_inside, drop_loose, drop_vacant, dropped_count, dropped_pages, dropped_performs, drops_more}
+use Rattle.ksm_book.proofs.Pruning.{drop_few, drop_fewer, drop_vacant, drops_more, drop_may, dropped}
 use Rattle.ksm_book.proofs.Shown.{quiet_does, quiet_withdraws}
 use Rattle.ksm_book.proofs.settling.drop_stale.Goals as goal
 
 pub withdraw-requires-clause-may : goal.withdraw-requires-clause-may
-withdraw-requires-clause-may c =
-    let told = sym c.in-Some.is ∙ c.stale_place.ensures in (drop_inside c.stale.invariant told, drop_loose c.stale.invariant told)
+withdraw-requires-clause-may c = drop_may c.stale.invariant (sym c.in-Some.is ∙ c.stale_place.ensures)
 
 pub drop_stale-requires : goal.drop_stale-requires
 drop_stale-requires c = drop_vacant c.stale.invariant (sym c.in-Some.is ∙ c.stale_place.ensures)
@@ -27,12 +26,11 @@ stale-smaller c =
 pub returns : goal.returns
 returns c =
     let p = seen c.args.pages.now in
-    let told = sym c.in_default.is ∙ c.stale_place.ensures in
-    let performs = dropped_performs c.stale.invariant told in
+    let done = dropped c.stale.invariant (sym c.in_default.is ∙ c.stale_place.ensures) in
     record {
-      pages = dropped_pages c.stale.invariant told;
-      count = dropped_count c.stale.invariant told;
+      pages = done.0;
+      count = done.1;
       laid = c.stale.invariant.laid;
-      does = quiet_does performs.made (quiet_withdraws (filter (is_stale p.rows) p.dups));
-      performs = performs;
+      does = quiet_does done.2.made (quiet_withdraws (filter (is_stale p.rows) p.dups));
+      performs = done.2;
     }

@@ -1,7 +1,7 @@
-use Rattle.ksm_book.proofs.Names.{BookValue, FindsPlace, IsSound, LieOn, NumbersAreSmall, seen, spent, state_of, subst, view_of, ◌≤◌}
+use Rattle.ksm_book.proofs.Names.{BookValue, FindsPlace, IsSound, LieOn, NumbersAreSmall, seen, spent, state_of, subst, view_of, ◌≤◌, arith}
 use Rattle.ksm_book.proofs.Promised.{lie_on}
 use Rattle.ksm_book.proofs.Sharing.{spent_most}
-use Rattle.ksm_book.proofs.Standing.{finds_places, numbers_small}
+use Rattle.ksm_book.proofs.Standing.{finds_places}
 use Rattle.ksm_book.proofs.state.State.lies_lawfully.Goals as goal
 
 pub returns : goal.returns
@@ -17,5 +17,5 @@ returns c =
           (lie_on b s.keeper.ledger sound p.frame laid.placed c.lie_in_order.ensures.absent);
       place = subst (λ (x : BookValue). FindsPlace x.state) c.self.view_is (finds_places sound laid);
       lives = subst (λ (x : BookValue). x.state.next ≤ spent x.keeper.ledger) c.self.view_is laid.spent;
-      numbers = subst (λ (x : BookValue). NumbersAreSmall x.state) c.self.view_is (numbers_small b sound (spent_most laid));
+      numbers = subst (λ (x : BookValue). NumbersAreSmall x.state) c.self.view_is (λ k d lt. let below = sound.numbers k d lt in let few = spent_most laid in omega (arith, below, few));
     }

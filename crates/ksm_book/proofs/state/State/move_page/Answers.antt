@@ -1,5 +1,5 @@
-use Rattle.ksm_book.proofs.Names.{ap, CarriedOut, Done, MovePage, ne_eqb, Ok, option_map, PagesView, refl, Resettled, same_Some, seen, Shape, subst, sym, view_of, ◌<◌, ◌∙◌, ◌≡◌}
-use Rattle.ksm_book.proofs.Singles.{book, carried_so, move_home, move_moved, private_resettled, sound_carried, row_held, Carries}
+use Rattle.ksm_book.proofs.Names.{ap, CarriedOut, Done, MovePage, ne_eqb, Ok, option_map, refl, Resettled, same_Some, seen, Shape, subst, sym, view_of, ◌<◌, ◌∙◌, ◌≡◌, MatchOption, private_state, true, false}
+use Rattle.ksm_book.proofs.Singles.{book, carried_so, move_home, move_moved, sound_carried, row_held, Carries, found_resettled}
 use Rattle.ksm_book.proofs.state.State.move_page.Goals as goal
 
 pub returns-then-held-node : goal.returns-then-held-node
@@ -10,9 +10,8 @@ returns-then-held-node c =
     (subst (λ (s : Shape). c.args.node < s.nodes) c.shape.ensures c.if-node-shape.false) (sym c.in-Some.ensures.home ∙ c.if-held-node.true)))
 
 pub set_home-requires : goal.set_home-requires
-set_home-requires c = private_resettled c.self.inside.pages.rows c.in-Some.held.spot.page c.in-Some.ensures.row
-    (row_held c.in-Some.ensures)
-    c.resettle.new.pages.rows (ap (λ (p : PagesView). p.rows) c.in_default-resettle.ensures.resettled.pages)
+set_home-requires c = subst (λ o. MatchOption o (true ≡ false) (λ r. private_state r.state ≡ true))
+    (sym (found_resettled c.in_default-resettle.ensures.resettled (row_held c.in-Some.ensures))) refl
 
 moved_there : (c : goal.After-set_home) → Carries (seen c.self.inside.pages) c.self.inside.keeper (seen c.set_home.new.self)
     c.resettle.new.keeper c.self.inside.cursor c.self.inside.passes (MovePage c.in-Some.held.spot.page c.args.node) (Ok Done)

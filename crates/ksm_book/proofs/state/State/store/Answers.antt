@@ -1,6 +1,6 @@
 use Rattle.ksm_book.proofs.Names.{ap, CarriedOut, Done, find_all, is_some, IsLaid, KeeperView, length, Ok, PAGE_WORDS, PagesView, refl, Resettled, rules, same_page, seen, Store, stored, subst, sym, ◌<◌, ◌∙◌, ◌≡◌}
 use Rattle.ksm_book.proofs.Laying.{has_frame, laid_written, own_framed}
-use Rattle.ksm_book.proofs.Singles.{alone_now, alone_resettled, book, carried_so, own_ready, sound_carried, store_copied, store_written, row_held, Carries}
+use Rattle.ksm_book.proofs.Singles.{alone_now, book, carried_so, own_ready, sound_carried, store_copied, store_written, row_held, Carries, found_resettled}
 use Rattle.ksm_book.proofs.state.State.store.Goals as goal
 
 pub known_frame-frame-requires : goal.known_frame-frame-requires
@@ -46,16 +46,15 @@ resettle-requires-clause-node c = subst (λ n. n < c.self.inside.pages.shape.nod
     (find_all (λ r. same_page r.page c.args.page) (λ r. r.home < c.self.inside.pages.shape.nodes) c.self.inside.pages.rows c.in-Some.ensures.row c.in-Some.ensures.found c.self.invariant.0.homes)
 
 pub store-requires : goal.store-requires
-store-requires c = alone_resettled c.self.inside.pages.rows c.in-Some.held.spot.page c.in-Some.ensures.row
-    (row_held c.in-Some.ensures)
-    c.resettle.new.pages.rows (ap (λ (p : PagesView). p.rows) c.in_default-resettle.ensures.resettled.pages)
+store-requires c = alone_now c.resettle.new.pages.rows c.in-Some.held.spot.page _
+    (found_resettled c.in_default-resettle.ensures.resettled (row_held c.in-Some.ensures)) refl
 
 copied : (c : goal.After-store) → Carries (seen c.self.inside.pages) c.self.inside.keeper (seen c.store.new.self)
     c.resettle.new.keeper c.self.inside.cursor c.self.inside.passes (Store c.in-Some.held.spot.page c.args.bytes) (Ok Done)
 copied c =
     store_copied (seen c.self.inside.pages) c.self.inside.keeper c.resettle.new.keeper c.self.inside.cursor c.self.inside.passes c.in-Some.held.spot.page c.args.bytes c.in-Some.ensures.row
     (row_held c.in-Some.ensures) c.in_default-resettle.ensures.resettled.does.1.table
-    (seen c.resettle.new.pages) (seen c.store.new.self) c.self.invariant.1
+    (seen c.resettle.new.pages) (seen c.store.new.self) c.self.invariant.1 c.self.invariant.0.rows_rise
     (subst (λ n. Resettled (seen c.self.inside.pages) (seen c.resettle.new.pages) c.self.inside.keeper c.resettle.new.keeper c.in-Some.held.spot.page n c.args.bytes) c.in-Some.ensures.home c.in_default-resettle.ensures.resettled)
     c.store.ensures (sym c.in-Some.ensures.shared ∙ c.if-held.true)
 
