@@ -1,7 +1,7 @@
 -- Pages that leave their dups, or the zero page, one after another.
 use Rattle.ksm_book.proofs.Names.{[], All, All-head, All-tail, and-true, ap, append-nil, arith, change_row, change_rows, cond-false, cond-true, cond_both, Does, false, Fault, filter, filter-append, filter_none, find, get_or, GuestPage, HasLeft, Held, inl, InPageOrder, inr, is_next, is_of, is_shared_of, is_some, IsAlone, IsHeld, IsKnown, IsLaid, KeeperView, left_by, length, length-append, let_go, List, lying, map, map-append, Mapped, MayNotLeave, NoFrame, None, NoneLeft, not, not-false, not-true, of_guest, on_its_own, Option, option_map, PagesView, refl, Resettled, ResettlesEach, Row, row_at, same_page, same_Some, shared_of, shared_state, slice_get, Some, subst, sym, take, take-append_seam, true, UnmergesTo, unshared, Unshares, ℕ, ◌&&◌, ◌++◌, ◌+◌, ◌<◌, ◌||◌, ◌∙◌, ◌∷◌, ◌≡◌, ◌≤◌, if◌then◌else◌}
 use Rattle.ksm_base.specs.declared.row.PageState.TheVariants.{Private}
-use Rattle.ksm_book.proofs.Along.{FitsPage, IsAlong, IsCut, along_cut, along_end, along_first, further, position}
+use Rattle.ksm_book.proofs.Along.{FitsPage, IsAlong, IsCut, along_cut, along_end, further, position}
 use Rattle.ksm_book.proofs.ByPage.{row_of_page}
 use Rattle.ksm_book.proofs.Laying.{LodgesAs, laid_changed}
 use Rattle.ksm_book.proofs.Made.{made_none}
@@ -160,21 +160,6 @@ pub record IsUnsharing (p q : PagesView) (k l : KeeperView) (guest : Option ℕ)
   -- the numbers of the cursor's page fit
   pub fits : FitsPage last
 
--- before the first page is looked at no page got a frame
-pub unsharing_first : (p : PagesView) (k : KeeperView) (guest : Option ℕ) → IsLaid p k → IsUnsharing p p k k guest 0 None
-unsharing_first p k guest h = record {
-  done = [];
-  left = p.rows;
-  along = along_first (of_guest guest) (left_by guest) p.rows;
-  pages = refl;
-  counted = refl;
-  each = record { keeper = refl; frame = refl };
-  does = does_nothing k;
-  laid = h;
-  few = omega arith;
-  fits = tt;
-}
-
 -- what holds of each element holds of one in their midst
 all_seam : (P : Row → Type 0) (xs : List Row) (r : Row) (ys : List Row) → All P (xs ++ r ∷ ys) → P r
 all_seam P [] r ys all = All-head P r ys all
@@ -307,21 +292,12 @@ pub record IsMarking (p q : PagesView) (guest : ℕ) (last : Option GuestPage) :
   -- the numbers of the cursor's page fit
   pub fits : FitsPage last
 
--- before the first page is looked at no page of the guest is marked
-pub marking_first : (p : PagesView) (guest : ℕ) → IsMarking p p guest None
-marking_first p guest =
-    record { done = []; left = p.rows; along = along_first (is_of guest) in_scan p.rows; pages = refl; fits = tt }
-
 module _ {p q : PagesView} {guest : ℕ} {last : Option GuestPage} (u : IsMarking p q guest last) where
   -- the next page is there
   module _ (rise : InPageOrder p.rows) {page : GuestPage}
       (told : option_map (λ r. r.page) (find (is_next (Some guest) last) q.rows) ≡ Some page) where
     at : IsCut (is_of guest) in_scan p.rows q.rows u.done page
     at = along_cut in_scan (λ _. refl) u.along rise page told
-
-    -- the next page of the guest has a row
-    pub marking_known : IsKnown page q.rows
-    marking_known = ap is_some at.there
 
     -- once the next page of the guest is mergeable too, the guest's pages are so up to that page
     pub marking_next : {v : PagesView} → v ≡ record q { rows = change_row page in_scan q.rows; restless = v.restless }

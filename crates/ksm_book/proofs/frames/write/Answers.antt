@@ -1,10 +1,7 @@
-use Rattle.ksm_book.proofs.Names.{ap, append-nil, arith, drop, drop_of_length-le, filled, frame_at, get_or, holding, KeeperView, Ledger, length, Note, PAGE_WORDS, Put, refl, rules, sym, take, take_all, with_frame, ℕ, ◌++◌, ◌+◌, ◌∙◌, ◌≡◌, []}
-use Rattle.ksm_book.proofs.Filling.{as_it_was, at_again, follow}
+use Rattle.ksm_book.proofs.Names.{ap, arith, drop, filled, frame_at, get_or, holding, KeeperView, Ledger, length, Note, PAGE_WORDS, Put, rules, sym, take, with_frame, ℕ, ◌++◌, ◌+◌, ◌∙◌, ◌≡◌}
+use Rattle.ksm_book.proofs.Filling.{at_again, follow}
 use Rattle.ksm_book.proofs.Made.{along_one, word_written}
 use Rattle.ksm_book.proofs.frames.write.Goals as goal
-
-pub loop-i-init : goal.loop-i-init
-loop-i-init c = record { wrote = search rules; ledger = sym (as_it_was c.args.keeper.now.ledger c.args.frame); kind = refl }
 
 pub loop-i-preserved : goal.loop-i-preserved
 loop-i-preserved c =
@@ -22,13 +19,3 @@ loop-i-preserved c =
       ledger = ledger;
       kind = ap (λ (z : Ledger). (frame_at z frame).kind) ledger ∙ ap (λ (n : Note). n.kind) (at_again k frame c.requires.within _);
     }
-
-pub returns-clause-ledger : goal.returns-clause-ledger
-returns-clause-ledger c =
-    let k = c.args.keeper.now.ledger in
-    let bytes = c.args.bytes in
-    let old = frame_at k c.args.frame in
-    let wide : length bytes ≡ PAGE_WORDS = search rules in
-    let all : take c.loop-i.i bytes ≡ bytes = take_all c.loop-i.i bytes (omega (arith, wide)) in
-    let none : drop c.loop-i.i old.content ≡ [] = drop_of_length-le old.content (omega (arith, c.requires.wide)) in
-    c.loop-i.invariant.ledger ∙ ap (λ cs. with_frame k c.args.frame (holding old cs)) ((λ t. all t ++ none t) ∙ append-nil bytes)

@@ -1,12 +1,6 @@
 use Rattle.ksm_book.proofs.Names.{refl, seen}
-use Rattle.ksm_book.proofs.Laying.{lawful}
 use Rattle.ksm_book.proofs.Resettled.{may_left, resettled, turned}
 use Rattle.ksm_book.proofs.settling.resettle.Goals as goal
-
-pub take_frame-requires-clause-lawful : goal.take_frame-requires-clause-lawful
-take_frame-requires-clause-lawful c =
-    let p = seen c.args.pages.now in
-    lawful c.args.keeper.now c.requires.laid.same c.requires.laid.placed
 
 pub returns-in_default-clause-turned : goal.returns-in_default-clause-turned
 returns-in_default-clause-turned c = (refl, turned c.requires.laid c.requires.node c.in_default.ensures.provides)

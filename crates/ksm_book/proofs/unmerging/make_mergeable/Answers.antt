@@ -1,13 +1,7 @@
-use Rattle.ksm_book.proofs.Names.{arith, rules, seen, Some, ◌∙◌}
+use Rattle.ksm_book.proofs.Names.{arith, rules, Some, ◌∙◌}
 use Rattle.ksm_book.proofs.Along.{further, not_far}
-use Rattle.ksm_book.proofs.Unmerged.{marking_end, marking_first, marking_known, marking_next}
+use Rattle.ksm_book.proofs.Unmerged.{marking_end, marking_next}
 use Rattle.ksm_book.proofs.unmerging.make_mergeable.Goals as goal
-
-pub pages-init : goal.pages-init
-pages-init c = marking_first (seen c.args.pages.now) c.args.guest
-
-pub make_mergeable-requires : goal.make_mergeable-requires
-make_mergeable-requires c = marking_known c.pages.invariant c.lie_in_order.ensures.rise c.in-Some.ensures.1
 
 pub pages-preserved : goal.pages-preserved
 pages-preserved c =
