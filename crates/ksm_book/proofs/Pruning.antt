@@ -1,5 +1,5 @@
 -- Stale dups go one by one.
-use Rattle.ksm_book.proofs.Names.{[], All, All-head, All-tail, ap, append-nil, append_assoc, arith, cases_Bool, count_by, count_by-le-length, count_none, did, DupRow, elsewhere, eqb-true, false, filter, filter_all, filter_none, find, find_all, find_none, find_passes, frames_of, get_or, has_items, inl, InPlaceOrder, inr, is_stale, IsLaid, IsVacant, item_count, KeeperStep, KeeperView, length, length-filter, List, lying, Made, map, nat_lt, nat_tests, None, not, one_of_each_place, Option, option_map, ordered_filter, PagesView, pairs_tail, Performs, pruning, refl, Row, same_Some, Shape, Some, subst, suc, sym, true, Withdraw, ℕ, ◌++◌, ◌+◌, ◌<◌, ◌==◌, ◌^◌, ◌∙◌, ◌∷◌, ◌≡◌, ◌≤◌, May}
+use Rattle.ksm_book.proofs.Names.{[], All, All-head, All-tail, ap, append-nil, append_assoc, arith, cases_Bool, count_by, count_by-le-length, did, DupRow, elsewhere, eqb-true, false, filter, filter_all, filter_none, find, find_all, find_none, find_passes, frames_of, get_or, has_items, inl, InPlaceOrder, inr, is_stale, IsLaid, IsVacant, item_count, KeeperView, length, length-filter, List, lying, Made, map, nat_lt, nat_tests, None, not, one_of_each_place, Option, option_map, ordered_filter, PagesView, pairs_tail, Performs, pruning, refl, Row, same_Some, Shape, Some, subst, suc, sym, true, Withdraw, ℕ, ◌++◌, ◌+◌, ◌<◌, ◌==◌, ◌^◌, ◌∙◌, ◌∷◌, ◌≡◌, ◌≤◌, May, length-append, map-append}
 use Rattle.std.proofs.lemmas.Bool.{eq-eqb}
 use Rattle.ksm_book.proofs.Sharing.{frames_few, laid_cleared, vacant_loose}
 use Rattle.ksm_book.proofs.Made.{made_one, made_then}
@@ -61,34 +61,6 @@ first_stale rows (x ∷ xs) d rise found = elim (cases_Bool (is_stale rows x)) [
       grind (arith, lives, rest)
 ]
 
--- so far the places of the stale dups that went were withdrawn, in their order
-pub record Withdraws (v w : KeeperView) (rows : List Row) (before now : List DupRow) : Type 0 where
-  -- the steps that were made
-  pub steps : List KeeperStep
-  -- the keeper made these steps and no others
-  pub made : Made v w steps
-  -- with the withdrawals that are still to come, the steps are the withdrawals of all that were stale
-  pub whole : steps ++ map (λ d. Withdraw d.place) (filter (is_stale rows) now) ≡ map (λ d. Withdraw d.place) (filter (is_stale rows) before)
-
--- where the first stale dup's place is withdrawn next, one place more of the stale dups is withdrawn
-pub withdraws_more : (v w w' : KeeperView) (rows : List Row) (before now : List DupRow) (d : DupRow) → InPlaceOrder now → find (is_stale rows) now ≡ Some d
-    → Withdraws v w rows before now → Made w w' (Withdraw d.place ∷ [])
-    → Withdraws v w' rows before (filter (elsewhere d.place) now)
-withdraws_more v w w' rows before now d rise found so_far one =
-    record {
-      steps = so_far.steps ++ Withdraw d.place ∷ [];
-      made = made_then so_far.made one;
-      whole = append_assoc so_far.steps (Withdraw d.place ∷ []) _
-          ∙ ap (λ ds. so_far.steps ++ map (λ (e : DupRow). Withdraw e.place) ds) (sym (first_stale rows now d rise found)) ∙ so_far.whole;
-    }
-
--- where no stale dup is left, all were withdrawn, in the order of their places
-pub withdraws_all : (v w : KeeperView) (rows : List Row) (before now : List DupRow) → All (λ d. is_stale rows d ≡ false) now → Withdraws v w rows before now
-    → Made v w (map (λ d. Withdraw d.place) (filter (is_stale rows) before))
-withdraws_all v w rows before now none so_far =
-    subst (Made v w) (sym (append-nil so_far.steps)
-    ∙ ap (λ ds. so_far.steps ++ map (λ (e : DupRow). Withdraw e.place) ds) (sym (filter_none (is_stale rows) now none)) ∙ so_far.whole) so_far.made
-
 -- dups in the order of their places, each place below a bound, are no more than the bound
 few_from : (m n : ℕ) (dups : List DupRow) → m ≤ n → InPlaceOrder dups → All (λ d. (m ≤ d.place) × (d.place < n)) dups → m + length dups ≤ n
 few_from m n [] le rise all = omega (arith, le)
@@ -107,8 +79,14 @@ pub record Drops (p q : PagesView) (k l : KeeperView) (count : ℕ) : Type 0 whe
   pub pages : q ≡ record p { dups = q.dups }
   -- the dups with items are those that there were
   pub live : filter (has_items p.rows) q.dups ≡ filter (has_items p.rows) p.dups
-  -- the dups that went and those still stale are as many as were stale at first
-  pub many : count + count_by (is_stale p.rows) q.dups ≡ count_by (is_stale p.rows) p.dups
+  -- the stale dups that went
+  pub gone : List DupRow
+  -- those that were stale at first are those that went and those still stale
+  pub all : filter (is_stale p.rows) p.dups ≡ gone ++ filter (is_stale p.rows) q.dups
+  -- the count is that of those that went
+  pub many : count ≡ length gone
+  -- their places were withdrawn, in their order
+  pub made : Made k l (map (λ d. Withdraw d.place) gone)
   -- at first the dups were in the order of their places
   pub first : InPlaceOrder p.dups
   -- now the dups are in the order of their places
@@ -117,10 +95,6 @@ pub record Drops (p q : PagesView) (k l : KeeperView) (count : ℕ) : Type 0 whe
   pub before : IsLaid p k
   -- now rows and dups lie lawfully
   pub laid : IsLaid q l
-  -- the keeper's table is the same
-  pub table : l.table ≡ k.table
-  -- the places of the dups that went were withdrawn, in their order
-  pub withdraws : Withdraws k l p.rows p.dups q.dups
 
 -- the first stale dup goes next
 module _ {p q : PagesView} {k l : KeeperView} {count : ℕ} (h : Drops p q k l count) {place : ℕ}
@@ -145,43 +119,41 @@ module _ {p q : PagesView} {k l : KeeperView} {count : ℕ} (h : Drops p q k l c
   pub drop_may : May l (Withdraw place)
   drop_may = (subst (λ (s : Shape). place < frames_of s) (sym h.laid.same) inside, vacant_loose place h.laid.placed drop_vacant)
 
+  -- it is the first of those still stale
+  next : filter (is_stale p.rows) q.dups ≡ stale.0 ∷ filter (is_stale p.rows) (filter (elsewhere place) q.dups)
+  next = first_stale p.rows q.dups stale.0 h.rise found
+      ∙ ap (λ x. stale.0 ∷ filter (is_stale p.rows) (filter (elsewhere x) q.dups)) stale.2
+
   -- once the first stale dup goes, one dup less is stale
   pub drop_fewer : count_by (is_stale p.rows) (filter (elsewhere place) q.dups) + 1 ≡ count_by (is_stale p.rows) q.dups
-  drop_fewer =
-      let first = ap length (first_stale p.rows q.dups stale.0 h.rise found) in
-      let here = length-filter (is_stale p.rows) q.dups in
-      let there = ap (λ x. length (filter (is_stale p.rows) (filter (elsewhere x) q.dups))) stale.2 ∙ length-filter (is_stale p.rows) (filter (elsewhere place) q.dups) in
-      omega (arith, first, here, there)
+  drop_fewer = omega (arith, ap length next, length-filter (is_stale p.rows) q.dups, length-filter (is_stale p.rows) (filter (elsewhere place) q.dups))
 
   -- the count of stale dups that went, and the next one, is below 2^64
   pub drop_few : count + 1 < 2 ^ 64
   drop_few =
-      let fewer = drop_fewer in
-      let many = h.many in
-      let most = count_by-le-length (is_stale p.rows) p.dups in
       let frames = few_from 0 (frames_of p.shape) p.dups (omega arith) h.first (λ n d lt. (omega arith, (h.before.placed.each_dup n d lt).place)) in
-      let few = frames_few p.shape h.before.small in
-      omega (arith, fewer, many, most, frames, few)
+      omega (arith, h.many, ap length h.all, length-append h.gone (filter (is_stale p.rows) q.dups), length-filter (is_stale p.rows) p.dups,
+      count_by-le-length (is_stale p.rows) p.dups, frames, frames_few p.shape h.before.small)
 
   -- where the place of the first stale dup is withdrawn and that dup goes, one stale dup more went
   pub drops_more : (q' : PagesView) (l' : KeeperView) → l' ≡ did l (Withdraw place) 0 → q' ≡ record q { dups = filter (elsewhere place) q.dups } → Drops p q' k l' (count + 1)
   drops_more q' l' is goes =
-      let table = ap (λ (z : KeeperView). z.table) is in
       let dups : q'.dups ≡ filter (elsewhere place) q.dups = ap (λ (x : PagesView). x.dups) goes in
       let vacant = subst (λ rows. IsVacant place rows q.dups) rows_are drop_vacant in
-      let fewer = drop_fewer in
-      let many = h.many in
+      let one = subst (λ x. Made l l' (Withdraw x ∷ [])) (sym stale.2) (made_one l l' (Withdraw place) 0 is) in
       record {
         pages = goes ∙ (λ t. record (h.pages t) { dups = filter (elsewhere place) q.dups }) ∙ (λ t. record p { dups = sym dups t });
         live = ap (filter (has_items p.rows)) dups ∙ live_elsewhere p.rows place q.dups vacant ∙ h.live;
-        many = subst (λ ds. count + 1 + count_by (is_stale p.rows) ds ≡ count_by (is_stale p.rows) p.dups) (sym dups) (omega (arith, fewer, many));
+        gone = h.gone ++ stale.0 ∷ [];
+        all = h.all ∙ ap (λ ds. h.gone ++ ds) next ∙ sym (append_assoc h.gone (stale.0 ∷ []) _)
+            ∙ ap (λ ds. (h.gone ++ stale.0 ∷ []) ++ filter (is_stale p.rows) ds) (sym dups);
+        many = omega (arith, h.many, length-append h.gone (stale.0 ∷ []));
+        made = subst (Made k l') (sym (map-append (λ (d : DupRow). Withdraw d.place) h.gone (stale.0 ∷ []))) (made_then h.made one);
         first = h.first;
         rise = subst InPlaceOrder (sym dups) (ordered_filter (elsewhere place) q.dups h.rise);
         before = h.before;
-        laid = subst (λ (x : PagesView). IsLaid x l') (sym goes) (laid_cleared l' place h.laid inside table (ap (λ (z : KeeperView). z.ledger) is));
-        table = table ∙ h.table;
-        withdraws = subst (Withdraws k l' p.rows p.dups) (ap (λ x. filter (elsewhere x) q.dups) stale.2 ∙ sym dups)
-            (withdraws_more k l l' p.rows p.dups q.dups stale.0 h.rise found h.withdraws (subst (λ x. Made l l' (Withdraw x ∷ [])) (sym stale.2) (made_one l l' (Withdraw place) 0 is)));
+        laid = subst (λ (x : PagesView). IsLaid x l') (sym goes)
+            (laid_cleared l' place h.laid inside (ap (λ (z : KeeperView). z.table) is) (ap (λ (z : KeeperView). z.ledger) is));
       }
 
 -- where none is stale any more, all are gone
@@ -194,13 +166,12 @@ module _ {p q : PagesView} {k l : KeeperView} {count : ℕ} (h : Drops p q k l c
   pub dropped : (q ≡ record p { dups = filter (has_items p.rows) p.dups }) × (count ≡ count_by (is_stale p.rows) p.dups)
       × Performs (lying p k) (lying q l) (pruning p.rows p.dups p.frame)
   dropped =
-      let lives = find_none (is_stale p.rows) q.dups none in
-      let gone = count_none (is_stale p.rows) q.dups lives in
-      let many = h.many in (
+      let all : filter (is_stale p.rows) p.dups ≡ h.gone = h.all
+      ∙ ap (λ ds. h.gone ++ ds) (filter_none (is_stale p.rows) q.dups (find_none (is_stale p.rows) q.dups none)) ∙ append-nil h.gone in (
         h.pages ∙ (λ t. record p { dups = (sym (none_stale p.rows q.dups none) ∙ h.live) t }),
-        omega (arith, gone, many),
+        h.many ∙ ap length (sym all) ∙ length-filter (is_stale p.rows) p.dups,
         record {
-          made = withdraws_all k l p.rows p.dups q.dups lives h.withdraws;
+          made = subst (λ ds. Made k l (map (λ (d : DupRow). Withdraw d.place) ds)) (sym all) h.made;
           frame = ap (λ (x : PagesView). x.frame) h.pages;
         },
       )
