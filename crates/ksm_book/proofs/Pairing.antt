@@ -4,8 +4,8 @@ use Rattle.ksm_pages.specs.Paged.{paired as are_paired}
 use Rattle.ksm_book.proofs.Made.{made_one, made_then}
 use Rattle.ksm_book.proofs.Sharing.{laid_found, laid_joined, may_clear, may_found, may_join, may_part, spent_most, tree_is_home}
 use Rattle.ksm_book.proofs.ByPage.{at_changed}
-use Rattle.ksm_book.proofs.Standing.{finds_places}
 use Rattle.ksm_book.proofs.RowVisits.{Leads, Meets, at_row, leads, page_is, restless_own, there_is, stayed_is}
+use Rattle.ksm_book.proofs.Promised.{finds_place}
 
 -- a row that waits is not shared
 waiting_is_alone : (s : PageState) → waiting_state s ≡ true → (shared_state s ≡ false) × (merged_state s ≡ false)
@@ -97,7 +97,7 @@ module _ {p : PagesView} {k : KeeperView} {cursor : Option GuestPage} {passes : 
 
   -- the place for a new dup is one of the places
   pub room : new_place (place_count p.shape) p.rows p.dups < place_count p.shape
-  room = finds_places s h row (find_all (λ r. same_page r.page page) (Contains p.rows) p.rows row at.met.found
+  room = finds_place b k.ledger s p.frame h.placed row (find_all (λ r. same_page r.page page) (Contains p.rows) p.rows row at.met.found
       (All-contains_itself p.rows)) (restless_own row at.met.so.restless)
 
   inside : place < frames_of p.shape

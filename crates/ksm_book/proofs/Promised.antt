@@ -1,12 +1,13 @@
--- A lawful placement says the sentences that are promised.
-use Rattle.ksm_book.proofs.Names.{eqb-true, find_passes, eq-eqb, [], All, All-filter, All-head, All-map, All-tail, AllPairs, AllPairs-cons, AllPairs-filter, ap, arith, BookState, Bool, cases_Bool, Contains, Contains-append_left, Contains-append_right, count_by, count_more, counts_one, dup_frames, dup_of_item, DupRow, false, Filling, filter, filter_passes, FitsBase, frame_at, frame_number, Frames, get_or, GuestPage, has_items, HasItsOwn, home_of_item, inl, inr, is_frame, is_in_use, is_some, IsOutlived, IsServed, IsSound, item_count, Kind, kind_for, Ledger, length, LieOn, Life, life_or, List, lt-ltb, map, MatchOption, Merged, merged_into, named_at, nat_tests, None, none_counted, not, not-true, Option, own_frames, PageState, pairs_append, pairs_head, pairs_tail, place_frame, Placed, Private, refl, Row, row_at, shared_state, Some, Stable, StandsOn, subst, sym, true, uses, Zero, zero, zero_state, ℕ, ◌++◌, ◌+◌, ◌<◌, ◌==◌, ◌∙◌, ◌∷◌, ◌≡◌, ◌≢◌, ◌≤◌, if◌then◌else◌, get_or-map, length-map}
+-- A lawful placement says the sentences that are promised, and so a new dup finds a place.
+use Rattle.ksm_book.proofs.Names.{eqb-true, find_passes, eq-eqb, [], All, All-filter, All-head, All-map, All-tail, AllPairs, AllPairs-cons, AllPairs-filter, ap, arith, BookState, Bool, cases_Bool, Contains, Contains-append_left, Contains-append_right, count_by, count_more, counts_one, dup_frames, dup_of_item, DupRow, false, Filling, filter, filter_passes, FitsBase, frame_at, frame_number, Frames, get_or, GuestPage, has_items, HasItsOwn, home_of_item, inl, inr, is_frame, is_in_use, is_some, IsOutlived, IsServed, IsSound, item_count, Kind, kind_for, Ledger, length, LieOn, Life, life_or, List, lt-ltb, map, MatchOption, Merged, merged_into, named_at, nat_tests, None, none_counted, not, not-true, Option, own_frames, PageState, pairs_append, pairs_head, pairs_tail, place_frame, Placed, Private, refl, Row, row_at, shared_state, Some, Stable, StandsOn, subst, sym, true, uses, Zero, zero, zero_state, ℕ, ◌++◌, ◌+◌, ◌<◌, ◌==◌, ◌∙◌, ◌∷◌, ◌≡◌, ◌≢◌, ◌≤◌, if◌then◌else◌, get_or-map, length-map, All-append, frames_of, FindsPlace, nat_lt, place_or, find, is_stale, cond_both, ltb-true, find_all, empty_from, length-le_from_distinct_below, IsDistinct-from_apart, ne_eqb, Contains-from_any, eqb, length-append}
 use Rattle.ksm_book.proofs.ByPage.{is_that}
 use Rattle.ksm_book.proofs.Laying.{own_kind, own_framed}
 use Rattle.ksm_book.proofs.Moves.{base_is_items, stale_is_loose, framed}
-use Rattle.ksm_book.proofs.Standing.{Lives, frames_apart, lives}
+use Rattle.ksm_book.proofs.Standing.{Lives, frames_apart, lives, empty_from_most}
 use Rattle.ksm_book.proofs.Sharing.{first_found, index_found, state_of_item}
 use Rattle.ksm_book.proofs.Shown.{contains_filter}
 use Rattle.std.proofs.lemmas.List.Elements.{Contains-get_or}
+use Rattle.ksm_book.proofs.Pruning.{none_stale}
 
 -- what passes a test is among those that pass, and so is what is made of it
 passing : {X : Type 0} (f : X → ℕ) (test : X → Bool) (xs : List X) (i : ℕ) (d : X) → i < length xs → test (get_or xs i d) ≡ true → Contains (map f (filter test xs)) (f (get_or xs i d))
@@ -67,7 +68,7 @@ number_of_kind : (s : PageState) → kind_for s ≡ Stable → (n : ℕ) × (s �
 number_of_kind (Merged n) is = (n, refl)
 number_of_kind _ is = cc
 
-module _ (b : BookState) (k : Ledger) (s : IsSound b) (frame : Frames) (p : Placed b.shape b.knobs.merge_across_nodes k b.rows frame b.dups None) (absent : (page : GuestPage) → row_at page b.rows ≡ None → frame page ≡ None) where
+module _ (b : BookState) (k : Ledger) (s : IsSound b) (frame : Frames) (p : Placed b.shape b.knobs.merge_across_nodes k b.rows frame b.dups None) where
   abbrev across : ℕ
   across = b.knobs.merge_across_nodes
 
@@ -222,8 +223,8 @@ module _ (b : BookState) (k : Ledger) (s : IsSound b) (frame : Frames) (p : Plac
       }
 
   -- a sound book lies on its frames as promised, where it is placed lawfully and pages without a row lie on none
-  pub lie_on : LieOn b frame k
-  lie_on = record {
+  pub lie_on : ((page : GuestPage) → row_at page b.rows ≡ None → frame page ≡ None) → LieOn b frame k
+  lie_on absent = record {
     own = λ i r lt alone. let o = owns i r lt alone in
         subst (λ x. MatchOption x ⊥ (HasItsOwn b.shape k (get_or b.rows i r))) (sym o.1) o.2;
     merged = λ i r lt n d l into.
@@ -239,3 +240,39 @@ module _ (b : BookState) (k : Ledger) (s : IsSound b) (frame : Frames) (p : Plac
     stale = outlived;
     empty = p.empty;
   }
+
+  inside : All (λ f. f < frames_of b.shape) (own ++ shown)
+  inside = All-append (λ f. f < frames_of b.shape) own shown
+      (all_own (λ f. f < frames_of b.shape) b.rows frame (λ i r lt alone. let o = owns i r lt alone in
+      subst (λ (x : Option ℕ). frame_number x < frames_of b.shape) (sym o.1) o.2.exists))
+      (All-map (λ f. f < frames_of b.shape) (λ d. place_frame k d.place) (filter (has_items b.rows) b.dups)
+      (All-filter (has_items b.rows) (λ d. place_frame k d.place < frames_of b.shape) b.dups (λ n d lt. (p.each_dup n d lt).frame)))
+
+  -- beside a page with a frame of its own a new dup finds a place: where no dup is stale, each has a frame, and the page's is one more
+  pub finds_place : FindsPlace b
+  finds_place row has alone =
+      cond_both (nat_lt empty (frames_of b.shape)) empty (place_or empty (find (is_stale b.rows) b.dups)) (λ n. n < frames_of b.shape)
+      (λ fits. ltb-true empty (frames_of b.shape) fits) (λ _. go (find (is_stale b.rows) b.dups) refl)
+    where
+      empty : ℕ
+      empty = empty_from 0 b.dups
+
+      go : (stale : Option DupRow) → find (is_stale b.rows) b.dups ≡ stale → place_or empty stale < frames_of b.shape
+      go (Some d) is = find_all (is_stale b.rows) (λ e. e.place < frames_of b.shape) b.dups d is (λ n e l. (p.each_dup n e l).place)
+      go None is =
+          let listed = passing (λ r. frame_number (frame r.page)) (λ r. not (shared_state r.state)) b.rows has.0 row has.1
+          (ap (λ (r : Row). not (shared_state r.state)) has.2 ∙ ap not alone) in
+          let some = listed.1 in
+          let most = length-le_from_distinct_below (own ++ shown) (frames_of b.shape)
+          (IsDistinct-from_apart eqb (own ++ shown) (λ n m f before lt. ne_eqb _ _ (all_distinct n m f before lt)))
+          (λ q in_it. let at = Contains-from_any {eq = eqb} (λ x y e. eqb-true x y e) q (own ++ shown) in_it in
+          subst (λ x. x < frames_of b.shape) at.2 (inside at.0 q at.1)) in
+          omega (
+            arith,
+            most,
+            some,
+            length-append own shown,
+            length-map (filter (has_items b.rows) b.dups) (λ d. place_frame k d.place),
+            ap length (none_stale b.rows b.dups is),
+            empty_from_most 0 b.dups,
+          )

@@ -132,8 +132,16 @@ module _ {p q : PagesView} {k l : KeeperView} {count : ℕ} (h : Drops p q k l c
   pub drop_few : count + 1 < 2 ^ 64
   drop_few =
       let frames = few_from 0 (frames_of p.shape) p.dups (omega arith) h.first (λ n d lt. (omega arith, (h.before.placed.each_dup n d lt).place)) in
-      omega (arith, h.many, ap length h.all, length-append h.gone (filter (is_stale p.rows) q.dups), length-filter (is_stale p.rows) p.dups,
-      count_by-le-length (is_stale p.rows) p.dups, frames, frames_few p.shape h.before.small)
+      omega (
+        arith,
+        h.many,
+        ap length h.all,
+        length-append h.gone (filter (is_stale p.rows) q.dups),
+        length-filter (is_stale p.rows) p.dups,
+        count_by-le-length (is_stale p.rows) p.dups,
+        frames,
+        frames_few p.shape h.before.small,
+      )
 
   -- where the place of the first stale dup is withdrawn and that dup goes, one stale dup more went
   pub drops_more : (q' : PagesView) (l' : KeeperView) → l' ≡ did l (Withdraw place) 0 → q' ≡ record q { dups = filter (elsewhere place) q.dups } → Drops p q' k l' (count + 1)
