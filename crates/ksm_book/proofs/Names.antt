@@ -12,7 +12,7 @@ pub use Rattle.frame_core.specs.declared.seat.Life.{Life}
 pub use Rattle.frame_table.specs.Kept.{did, May}
 pub use Rattle.frame_table.specs.Named.{KeeperView}
 pub use Rattle.ksm_base.proofs.Edits.{count_more, count_none, counts_one, find_all, find_none, find_nothing, find_passes, none_counted}
-pub use Rattle.ksm_base.proofs.Orders.{all_with_row, each_has_number, filter_none, one_of_each_page, one_of_each_place, ordered_change, ordered_filter, ordered_map, ordered_with, pairs_append, pairs_cross, pairs_head, pairs_tail}
+pub use Rattle.ksm_base.proofs.Orders.{all_with_dup, all_with_row, each_has_number, filter_none, one_of_each_page, one_of_each_place, ordered_change, ordered_filter, ordered_map, ordered_with, pairs_append, pairs_cross, pairs_head, pairs_tail}
 pub use Rattle.ksm_base.proofs.Pages.{after_differs, before_differs, before_irrefl, before_trans, not_both, one_before, same_page_eq, same_page_refl}
 pub use Rattle.ksm_base.proofs.RowCounts.{change_none, count_with_row, count_without_page, each_at_page, filter_all}
 pub use Rattle.ksm_base.proofs.SoundCounts.{joined_count}

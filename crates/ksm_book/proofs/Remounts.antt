@@ -14,21 +14,6 @@ use Rattle.ksm_book.proofs.Resettled.{turned}
 use Rattle.ksm_book.proofs.Shown.{lost as so_lost, moved as so_moved}
 use Rattle.ksm_book.proofs.Standing.{Lives, lives}
 
--- a dup may move, from the frame on which its items lie
-pub record Leaves (p : PagesView) (k : KeeperView) (dup : DupRow) (node g : ℕ) : Type 0 where
-  -- it may move to a frame of the node
-  pub may : MayMove p k dup node
-  -- each item of a dup at its place lies on the frame
-  pub lie : All (λ d. d.place ≡ dup.place → All (λ r. merged_into d.number r.state ≡ true → p.frame r.page ≡ Some g) p.rows) p.dups
-  -- a page without a row lies on no frame
-  pub absent : (page : GuestPage) → row_at page p.rows ≡ None → p.frame page ≡ None
-
--- a dup that may move is to leave the frame on which its items lie
-pub leaves : {p : PagesView} {k : KeeperView} {dup : DupRow} {node g : ℕ} → MayMove p k dup node
-    → All (λ d. d.place ≡ dup.place → All (λ r. merged_into d.number r.state ≡ true → p.frame r.page ≡ Some g) p.rows) p.dups
-    → ((page : GuestPage) → row_at page p.rows ≡ None → p.frame page ≡ None) → Leaves p k dup node g
-leaves may lie absent = record { may = may; lie = lie; absent = absent }
-
 -- where no frame of the node is left, the dup stays
 pub turned_away : {X : Type 0} {p : PagesView} {k l : KeeperView} {dup : DupRow} {node : ℕ} → MayMove p k dup node → FindsNone k l node
     → HasRemounted {X = X} p p k l dup node (Err (NoFrame node))
@@ -36,7 +21,10 @@ turned_away {p = p} may none =
     let away = turned may.laid may.exists none in
     record { rest = refl; laid = away.laid; shown = (refl, away.left); moves = away.turns }
 
-module _ {v : PagesView} {k : KeeperView} {dup : DupRow} {node g : ℕ} (at : Leaves v k dup node g) where
+-- a dup may move to a frame of the node, each item of a dup at its place lies on frame g, and a page without a row on none
+module _ {v : PagesView} {k : KeeperView} {dup : DupRow} {node g : ℕ} (may : MayMove v k dup node)
+    (lie : All (λ d. d.place ≡ dup.place → All (λ r. merged_into d.number r.state ≡ true → v.frame r.page ≡ Some g) v.rows) v.dups)
+    (absent : (page : GuestPage) → row_at page v.rows ≡ None → v.frame page ≡ None) where
   abbrev sh : Shape
   sh = v.shape
 
@@ -54,25 +42,25 @@ module _ {v : PagesView} {k : KeeperView} {dup : DupRow} {node g : ℕ} (at : Le
 
   -- what holds of all dups holds of the one that moves
   among : (P : DupRow → Type 0) → All P dups → P dup
-  among P all = find_all test P dups dup at.may.live all
+  among P all = find_all test P dups dup may.live all
 
   item_some : 1 ≤ item_count v.rows dup
   item_some = ltb-true 0 (item_count v.rows dup) (and_parts (dup.place == dup.place) (has_items v.rows dup)
-      (find_passes test dups dup at.may.live)).1
+      (find_passes test dups dup may.live)).1
 
   stands : dup_numbered dup.number dups ≡ Some dup
-  stands = among (λ d. dup_numbered d.number dups ≡ Some d) (each_has_number dups at.may.sound.2.dups_rise)
+  stands = among (λ d. dup_numbered d.number dups ≡ Some d) (each_has_number dups may.sound.2.dups_rise)
 
   numbers : All (λ e. e.place ≢ dup.place → e.number ≢ dup.number) dups
   numbers n x lt apart same =
-      let there : dup_numbered (get_or dups n x).number dups ≡ Some (get_or dups n x) = each_has_number dups at.may.sound.2.dups_rise n x lt in
+      let there : dup_numbered (get_or dups n x).number dups ≡ Some (get_or dups n x) = each_has_number dups may.sound.2.dups_rise n x lt in
       apart (ap (λ (y : DupRow). y.place) (same_Some _ _ (sym there ∙ ap (λ m. dup_numbered m dups) same ∙ stands)))
 
   module _ {w : KeeperView} {f : ℕ} (to : Finds k w node f) where
     abbrev p : Placed sh across w.ledger v.rows v.frame dups None
-    p = kept k at.may.laid.same w None
-        (λ a rows frame ds. searched_placed node (subst (λ (x : Shape). node < x.nodes) (sym at.may.laid.same) at.may.exists) to.reaped a
-        rows frame ds None) at.may.laid.placed
+    p = kept k may.laid.same w None
+        (λ a rows frame ds. searched_placed node (subst (λ (x : Shape). node < x.nodes) (sym may.laid.same) may.exists) to.reaped a
+        rows frame ds None) may.laid.placed
 
     more_spent : spent k.ledger ≤ spent w.ledger
     more_spent = searched_spends node to.reaped
@@ -88,7 +76,7 @@ module _ {v : PagesView} {k : KeeperView} {dup : DupRow} {node g : ℕ} (at : Le
 
     item_lies : v.frame live.item.page ≡ Some g
     item_lies = find_all by_item (λ r. by_item r ≡ true → v.frame r.page ≡ Some g) v.rows live.item live.first
-        (among (λ d. d.place ≡ dup.place → All (λ r. merged_into d.number r.state ≡ true → v.frame r.page ≡ Some g) v.rows) at.lie refl)
+        (among (λ d. d.place ≡ dup.place → All (λ r. merged_into d.number r.state ≡ true → v.frame r.page ≡ Some g) v.rows) lie refl)
         live.merged
 
     -- the frame of the dup is its first item's
@@ -117,7 +105,7 @@ module _ {v : PagesView} {k : KeeperView} {dup : DupRow} {node g : ℕ} (at : Le
         by : (page : GuestPage) (o : Option Row) → row_at page v.rows ≡ o
             → items_on dup.number f' v.rows v.frame page ≡ instead g f' v.frame page
         by page None none = ap (λ (o : Option Row). if is_item dup.number o then Some f' else v.frame page) none
-            ∙ sym (instead_there g f' v.frame page (λ on. nowhere_is (sym (at.absent page none) ∙ on)))
+            ∙ sym (instead_there g f' v.frame page (λ on. nowhere_is (sym (absent page none) ∙ on)))
           where
             nowhere_is : None ≡ Some g → ⊥
             nowhere_is e = cc
@@ -136,17 +124,17 @@ module _ {v : PagesView} {k : KeeperView} {dup : DupRow} {node g : ℕ} (at : Le
     bytes = ap (λ x. (frame_at w.ledger x).content) on_frame ∙ dup_fits.content live.life
 
     shape_is : w.table.shape ≡ sh
-    shape_is = shape_same sh k w at.may.laid.same (ap (λ (z : KeeperView). z.table) to.reaped.after)
+    shape_is = shape_same sh k w may.laid.same (ap (λ (z : KeeperView). z.table) to.reaped.after)
 
     -- the frame that the dup is to leave is one of the table and Stable, so the exchange of its count may be tried
     pub may_freeze : (g < frames_of w.table.shape) × (n.kind ≡ Stable)
     may_freeze = (subst (λ (x : Shape). g < frames_of x) (sym shape_is) inside_g, stable)
 
     lowest : IsLowestFree sh w.ledger node f
-    lowest = subst (λ (x : Shape). IsLowestFree x w.ledger node f) at.may.laid.same to.lowest
+    lowest = subst (λ (x : Shape). IsLowestFree x w.ledger node f) may.laid.same to.lowest
 
     inside : f < frames_of sh
-    inside = let end : node * sh.frames_per_node + sh.frames_per_node ≤ frames_of sh = node_end node sh.nodes sh.frames_per_node at.may.exists in
+    inside = let end : node * sh.frames_per_node + sh.frames_per_node ≤ frames_of sh = node_end node sh.nodes sh.frames_per_node may.exists in
         let high = lowest.high in omega (arith, end, high)
 
     within : f < length w.ledger.frames
@@ -185,10 +173,10 @@ module _ {v : PagesView} {k : KeeperView} {dup : DupRow} {node g : ℕ} (at : Le
 
         laid_lost : IsLaid v u
         laid_lost = record {
-          small = at.may.laid.small;
+          small = may.laid.small;
           same = shape_same sh w u shape_is frozen_table;
           placed = subst (λ (z : Ledger). Placed sh across z v.rows v.frame dups None) (sym still) p;
-          spent = (let before = at.may.laid.spent in let more = more_spent in let e : spent u.ledger ≡ spent w.ledger = ap spent still in omega
+          spent = (let before = may.laid.spent in let more = more_spent in let e : spent u.ledger ≡ spent w.ledger = ap spent still in omega
               (arith, before, more, e));
         }
 
@@ -241,8 +229,8 @@ module _ {v : PagesView} {k : KeeperView} {dup : DupRow} {node g : ℕ} (at : Le
                 arith,
                 is,
                 base,
-                among (λ d. item_count v.rows d ≤ v.knobs.max_page_sharing) at.may.sound.2.limit,
-                at.may.sound.2.knobs.max_page_sharing.1,
+                among (λ d. item_count v.rows d ≤ v.knobs.max_page_sharing) may.sound.2.limit,
+                may.sound.2.knobs.max_page_sharing.1,
               );
             }
 
@@ -293,10 +281,10 @@ module _ {v : PagesView} {k : KeeperView} {dup : DupRow} {node g : ℕ} (at : Le
             laid_moved_dup : IsLaid q x
             laid_moved_dup =
                 let there = remounted p dup among g f on_frame inside lowest.free live.life stable
-                (λ z. on_node node sh.frames_per_node f lowest.low lowest.high ∙ at.may.home z ∙ sym (dup_fits.node z)
+                (λ z. on_node node sh.frames_per_node f lowest.low lowest.high ∙ may.home z ∙ sym (dup_fits.node z)
                 ∙ ap (node_of sh) (sym on_frame)) numbers in
                 subst (λ (y : PagesView). IsLaid y x) (sym (goes ∙ ap (λ fr. record v { frame = fr }) (items_go f))) (record {
-                  small = at.may.laid.small;
+                  small = may.laid.small;
                   same = shape_same sh u x (shape_same sh w u shape_is frozen_table) (ap (λ (z : KeeperView). z.table) mounts.after);
                   placed = subst (λ (z : Ledger). Placed sh across z v.rows (instead g f v.frame) dups None) (sym ledger_is) there;
                   spent = spent_still;
@@ -311,7 +299,7 @@ module _ {v : PagesView} {k : KeeperView} {dup : DupRow} {node g : ℕ} (at : Le
                     let one = spent_kept w.ledger g dead (past_le n.kind n.generation) in
                     let two = spent_kept k1 f full (omega (arith, same, past)) in
                     let end : spent x.ledger ≡ spent (with_frame k1 f full) = ap spent ledger_is in
-                    let before = at.may.laid.spent in
+                    let before = may.laid.spent in
                     let more = more_spent in
                     omega (arith, one, two, end, before, more)
 
@@ -328,9 +316,9 @@ module _ {v : PagesView} {k : KeeperView} {dup : DupRow} {node g : ℕ} (at : Le
             }
 
 -- where a dup is to move from a place, a dup stands at that place
-pub taken_place : {v : PagesView} {k : KeeperView} {dup : DupRow} {node g : ℕ} → Leaves v k dup node g
+pub taken_place : {v : PagesView} {k : KeeperView} {dup : DupRow} {node : ℕ} → MayMove v k dup node
     → list_any (λ d. d.place == dup.place) v.dups ≡ true
-taken_place {v} {k} {dup} {node} {g} at =
-    let i = index_found (λ d. d.place == dup.place && has_items v.rows d) v.dups dup at.may.live in
+taken_place {v} {k} {dup} {node} may =
+    let i = index_found (λ d. d.place == dup.place && has_items v.rows d) v.dups dup may.live in
     list_any_at (λ d. d.place == dup.place) v.dups i.0 dup i.1
     (ap (λ (d : DupRow). d.place == dup.place) (i.2 dup) ∙ eq-eqb dup.place dup.place refl)

@@ -1,5 +1,5 @@
 -- What becomes of the layout where rows change together, join a dup, or make or lose one.
-use Rattle.ksm_book.proofs.Names.{count_by, [], Add, All, All-filter, ap, arith, blank, Bool, cases_Bool, change_row, Contains, count_none, did, DupRow, elsewhere, eqb-true, false, filter, find, find_none, FitsBase, frame_at, Frames, frames_of, get_or, get_or-set_same, get_or_default, GuestPage, IfSome, inl, InPageOrder, inr, IsInLife, IsLaid, IsLoose, IsServed, IsShape, IsVacant, item_count, KeeperView, Kind, kind_for, Knobs, leaving, Ledger, ledger_after, length, lies_on, Life, life_or, List, list_any, Listing, Made, May, Merged, merged_into, merged_state, named_at, nat_lt, nat_tests, None, Note, Option, PageState, PagesView, past_lives, place_frame, Placed, Private, Publish, refl, Row, row_at, RowFits, set, set-get_or, settled, settled_state, Shape, shared_state, Some, spent, spent_on, Stable, Sub, subst, suc, sum_by-le, sym, tree_of, true, Waiting, with_dup, with_frame, Withdraw, withdrawing, zero, ℕ, ◌*◌, ◌++◌, ◌+◌, ◌-◌, ◌<◌, ◌==◌, ◌^◌, ◌∙◌, ◌∷◌, ◌≡◌, ◌≢◌, ◌≤◌, ◌⊎◌, if◌then◌else◌}
+use Rattle.ksm_book.proofs.Names.{count_by, [], Add, All, All-filter, ap, arith, blank, Bool, cases_Bool, change_row, Contains, count_none, did, DupRow, elsewhere, eqb-true, false, filter, find, find_none, FitsBase, frame_at, Frames, frames_of, get_or, get_or-set_same, get_or_default, GuestPage, IfSome, inl, InPageOrder, inr, IsInLife, IsLaid, IsLoose, IsServed, IsShape, IsVacant, item_count, KeeperView, Kind, kind_for, Knobs, leaving, Ledger, ledger_after, length, lies_on, Life, life_or, List, list_any, Listing, Made, May, Merged, merged_into, merged_state, named_at, nat_lt, nat_tests, None, Note, Option, PageState, PagesView, past_lives, place_frame, Placed, Private, Publish, refl, Row, row_at, RowFits, set, set-get_or, settled, settled_state, Shape, shared_state, Some, spent, spent_on, Stable, Sub, subst, suc, sum_by-le, sym, tree_of, true, Waiting, with_dup, with_frame, Withdraw, withdrawing, zero, ℕ, ◌*◌, ◌++◌, ◌+◌, ◌-◌, ◌<◌, ◌==◌, ◌^◌, ◌∙◌, ◌∷◌, ◌≡◌, ◌≢◌, ◌≤◌, ◌⊎◌, if◌then◌else◌, both_ways, not-true, filter_passes, eq-eqb}
 use Rattle.ksm_book.proofs.Moves.{Serves, joined, published, base_is_items, stale_is_loose}
 use Rattle.ksm_book.proofs.Laying.{LodgesAs, laid_rows, own_kind, served_at, shape_same}
 use Rattle.ksm_book.proofs.Keeping.{added_placed, added_spends, left_placed, left_spends, lives_most, may_leave, past_le, spent_set}
@@ -250,7 +250,9 @@ module _ {p : PagesView} {k : KeeperView} (h : IsLaid p k) (rise : InPageOrder p
       let shown = published q page row rise found f lies own d inside c keeps (state ∙ ap Merged (sym number)) same bytes tree alone
       (λ i r lt. ap (λ n. merged_into n (get_or p.rows i r).state) number ∙ fresh i r lt)
       (All-filter (elsewhere d.place) (λ e. ¬ (e.number ≡ d.number)) p.dups
-      (λ n x lt same. (let below = numbers n x lt in omega (arith, below, same, number)))) in
+      (λ n x lt same. (let below = numbers n x lt in omega (arith, below, same, number))))
+      (λ n x lt at. let e = get_or (filter (elsewhere d.place) p.dups) n x in
+      both_ways (e.place == d.place) (not-true (e.place == d.place) (filter_passes (elsewhere d.place) p.dups n x lt)) (eq-eqb e.place d.place at)) in
       let ledger : w.ledger ≡ ledger_after w1.table.shape cleared (Publish d.place f) 0 = ap (λ (z : KeeperView). z.ledger) is
       ∙ (λ t. ledger_after w1.table.shape (empty t) (Publish d.place f) 0) in
       let within : f < length k.ledger.frames = (let long : length k.ledger.frames ≡ frames_of sh = h.placed.frames_long in let lt =

@@ -1,7 +1,8 @@
 -- The frames that steps give, and what the log shows of a frame that was not found, of one in use, and of a dup that moved.
-use Rattle.ksm_book.proofs.Names.{[], Add, ap, append_cancel_left, arith, blank, Bool, cases_Bool, cond, Contains, Contains-append_right, Contains-push, count_in, Did, did, Does, dup_frame, DupRow, Dying, dying_kind, dying_on, false, filter, FindsHeld, FindsNone, frame_at, Free, free_kind, Freeze, frozen, get_or, get_or-range_with_len, get_or-set_other, given_by, Gives, HasLost, HasMoved, inl, inr, IsLowestFree, IsNeeded, item_count, KeeperStep, KeeperView, leaving, Ledger, ledger_after, length, length-append, length-range_with_len, List, loads, Log, Made, map, Mapped, Moves, nat_tests, needed_after, None, NoneLeft, Note, Open, Option, Provides, Publish, puts, Raise, range_with_len, Reap, reaped, refl, replicate, Retired, Row, set, Shape, Some, Stable, stepped, steps_of, subst, suc, sym, true, with_frame, Withdraw, zero, ℕ, ◌*◌, ◌++◌, ◌+◌, ◌-◌, ◌<◌, ◌==◌, ◌∙◌, ◌∷◌, ◌≡◌, ◌≢◌, ◌≤◌, cond_both, if◌then◌else◌}
+use Rattle.ksm_book.proofs.Names.{[], Add, ap, append_cancel_left, arith, blank, Bool, cases_Bool, cond, Contains, Contains-append_right, Contains-push, count_in, Did, did, Does, dup_frame, DupRow, Dying, dying_kind, dying_on, false, FindsHeld, FindsNone, frame_at, Free, free_kind, Freeze, frozen, get_or, get_or-range_with_len, get_or-set_other, given_by, Gives, HasLost, HasMoved, inl, inr, IsLowestFree, IsNeeded, item_count, KeeperStep, KeeperView, leaving, Ledger, ledger_after, length, length-append, length-range_with_len, List, loads, Log, Made, map, Mapped, Moves, nat_tests, needed_after, None, NoneLeft, Note, Open, Option, Provides, Publish, puts, Raise, range_with_len, Reap, reaped, refl, replicate, Retired, Row, set, Shape, Some, Stable, stepped, steps_of, subst, suc, sym, true, with_frame, Withdraw, zero, ℕ, ◌*◌, ◌++◌, ◌+◌, ◌-◌, ◌<◌, ◌==◌, ◌∙◌, ◌∷◌, ◌≡◌, ◌≢◌, ◌≤◌, if◌then◌else◌}
 use Rattle.ksm_book.proofs.Keeping.{set_holds}
 use Rattle.ksm_book.proofs.Made.{chained, stepped_then, first_made, made_then, none_made, step_made}
+use Rattle.ksm_book.proofs.ByPage.{contains_filter}
 
 -- none of these steps gives a frame
 abbrev pub GivesNone : List KeeperStep → Type 0
@@ -140,16 +141,6 @@ waits (g ∷ fs) v w f (s ∷ part) after are (zero, lt, is) still =
     found : (n : ℕ) → (¬ ((frame_at (cond (n == 0) (with_frame v.ledger f note) v.ledger) f).kind ≡ Dying) → ⊥) → 1 ≤ n
     found zero dies = absurd (dies (set_here (λ x. ¬ (x.kind ≡ Dying)) v.ledger.frames f note (not_dying ((frame_at v.ledger f).generation == v.table.shape.last_generation)) (λ e. grind (arith, e))))
     found (suc n) dies = omega arith
-
--- an element of a list that passes a test is among those that pass
-pub contains_filter : {X : Type 0} (t : X → Bool) (xs : List X) (x : X) → Contains xs x → t x ≡ true → Contains (filter t xs) x
-contains_filter t [] x has e = absurd (let lt = has.1 in omega (arith, lt))
-contains_filter t (y ∷ ys) x (zero, lt, is) e =
-    subst (λ b. Contains (if b then y ∷ filter t ys else filter t ys) x) (sym (ap t is ∙ e)) (0, omega arith, is)
-contains_filter t (y ∷ ys) x (suc i, lt, is) e =
-    let rest = contains_filter t ys x (i, omega (arith, lt), is) e in
-    cond_both (t y) (y ∷ filter t ys) (filter t ys) (λ zs. Contains zs x)
-    (λ _. (suc rest.0, (let low = rest.1 in omega (arith, low)), rest.2)) (λ _. rest)
 
 -- where no frame of a node was found, each that is dying still was found with a count above zero
 pub none_left : {v w : KeeperView} {node : ℕ} → FindsNone v w node → NoneLeft v w node
