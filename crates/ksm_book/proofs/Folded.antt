@@ -1,5 +1,5 @@
 -- The visits of a pass are a fold over its pages, only restless pages count, and a quiet pass is repeated by those behind it.
-use Rattle.ksm_book.proofs.Names.{[], after_cursor, All, All-head, All-map, All-tail, AllPairs-cons, AllPairs-filter, and_parts, ap, append-nil, AreAscending, arith, begun, best_dup, BookState, Bool, cases_Bool, comes_before, cond_both, each_at_page, false, filter, filter_all, find_all, find_passes, get_or, GuestPage, handled, has_item, inl, InPageOrder, inr, is_none, is_restless, is_some, IsBeside, IsStill, last_of, length, List, map, mergeable_pages, min, next_row, next_visited, None, not, not-true, Option, option_map, page_visited, pages_ahead, pages_visited, PageState, pairs_head, pairs_tail, pass_at, pass_begun, pass_ended, pass_ended_at_last, refl, restless_at, restless_row, Row, row_at, row_visited, rowwise_visits, same_page, same_page_eq, same_Some, settled, settled_state, shared_state, slice_get, Some, subst, suc, suc-mul, sym, true, visit, visit_begun, visit_of, visited, visits, visits_beside, with_none_waiting, zero, zero-mul, ℕ, ◌&&◌, ◌*◌, ◌++◌, ◌+◌, ◌-◌, ◌^◌, ◌∙◌, ◌∷◌, ◌≡◌, ◌≤◌, map_mapped, if◌then◌else◌}
+use Rattle.ksm_book.proofs.Names.{[], after_cursor, All, All-head, All-tail, AllPairs-filter, and_parts, ap, append-nil, AreAscending, arith, begun, best_dup, BookState, Bool, cases_Bool, comes_before, cond_both, each_at_page, false, filter, filter_all, find_all, find_passes, get_or, GuestPage, handled, has_item, inl, InPageOrder, inr, is_none, is_restless, is_some, IsBeside, IsStill, last_of, length, List, map, mergeable_pages, min, next_row, next_visited, None, not, not-true, Option, option_map, page_visited, pages_ahead, pages_visited, PageState, pass_at, pass_begun, pass_ended, pass_ended_at_last, refl, restless_at, restless_row, Row, row_at, row_visited, rowwise_visits, same_page, same_page_eq, same_Some, settled, settled_state, shared_state, slice_get, Some, subst, suc, suc-mul, sym, true, visit, visit_begun, visit_of, visited, visits, visits_beside, with_none_waiting, zero, zero-mul, ℕ, ◌&&◌, ◌*◌, ◌++◌, ◌+◌, ◌-◌, ◌^◌, ◌∙◌, ◌∷◌, ◌≡◌, ◌≤◌, map_mapped, if◌then◌else◌, and_right, pairs_mapped, ⊤}
 use Rattle.ksm_base.specs.declared.row.PageState.TheVariants.{Private}
 use Rattle.ksm_book.proofs.Going.{Goes, begun_goes, elsewhere, goes_on, mergeable_kept, goes_same, row_visited_alike, settled_goes, visited_goes}
 use Rattle.ksm_book.proofs.PagesAhead.{Before, behind_first, filter_in, filter_out, has_filter, same_pages}
@@ -33,12 +33,8 @@ none_next c is = by (next_row c.cursor c.rows) (next_first c.cursor c.rows ∙ a
 
 -- a pass with a page ahead does not end
 pub pass_goes_on : (c : BookState) (page : GuestPage) (more : List GuestPage) → pages_ahead c ≡ page ∷ more → pass_ended_at_last c ≡ c
-pass_goes_on c page more is =
-    ap (λ o. if is_some c.cursor && is_none o then pass_ended c else c) (some_next c page more is).1 ∙ either (is_some c.cursor)
-  where
-    either : (x : Bool) → (if x && false then pass_ended c else c) ≡ c
-    either true = refl
-    either false = refl
+pass_goes_on c page more is = ap (λ b. if b then pass_ended c else c)
+    (and_right (is_some c.cursor) (is_none (next_row c.cursor c.rows)) (ap is_none (some_next c page more is).1))
 
 -- where a pass is under way with a page ahead, the next visit begins with nothing done
 begun_goes_on : (c : BookState) (last page : GuestPage) (more : List GuestPage) → c.cursor ≡ Some last → pages_ahead c ≡ page ∷ more
@@ -46,18 +42,11 @@ begun_goes_on : (c : BookState) (last page : GuestPage) (more : List GuestPage) 
 begun_goes_on c last page more at is =
     ap pass_begun (pass_goes_on c page more is) ∙ ap (λ (o : Option GuestPage). if is_none o then with_none_waiting c else c) at
 
--- the pages of rows in order ascend
-ascending_pages : (rows : List Row) → InPageOrder rows → AreAscending (map (λ r. r.page) rows)
-ascending_pages [] rise = λ i j d lt in_range. absurd (omega arith)
-ascending_pages (r ∷ rows) rise =
-    AllPairs-cons Before r.page (map (λ s. s.page) rows)
-    (All-map (Before r.page) (λ s. s.page) rows (pairs_head (λ a b. comes_before a.page b.page ≡ true) r rows rise))
-    (ascending_pages rows (pairs_tail (λ a b. comes_before a.page b.page ≡ true) r rows rise))
-
 ascending_mergeable : (rows : List Row) → InPageOrder rows → AreAscending (mergeable_pages rows)
 ascending_mergeable rows rise =
-    ascending_pages (filter (λ r. r.mergeable) rows)
-    (AllPairs-filter (λ a b. comes_before a.page b.page ≡ true) (λ r. r.mergeable) rows rise)
+    let S : Row → Row → Type 0 = λ a b. comes_before a.page b.page ≡ true in
+    let some = filter (λ r. r.mergeable) rows in
+    pairs_mapped S Before (λ _. ⊤) (λ r. r.page) (λ a b _ _ before. before) some (λ i d lt. tt) (AllPairs-filter S (λ r. r.mergeable) rows rise)
 
 -- the pages ahead ascend where the rows are in page order
 pub ascending_ahead : (b : BookState) → InPageOrder b.rows → AreAscending (pages_ahead b)

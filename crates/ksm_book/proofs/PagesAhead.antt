@@ -62,10 +62,6 @@ before_down page p q before is = before_trans p q page before is
 filter_same : {X : Type 0} (t u : X → Bool) (xs : List X) → All (λ x. t x ≡ u x) xs → filter t xs ≡ filter u xs
 filter_same t u xs same = ap (filter t) (sym (map-id xs)) ∙ filter_mapped (λ x. x) t u xs same ∙ map-id (filter u xs)
 
-drop_none : (n : ℕ) → drop {A = GuestPage} n [] ≡ []
-drop_none zero = refl
-drop_none (suc n) = refl
-
 module _ (t : GuestPage → Bool) (down : GoesDown t) where
   -- where the first page fails such a test, all do
   none_pass : (p : GuestPage) (pages : List GuestPage) → AreAscending (p ∷ pages) → t p ≡ false → All (λ q. t q ≡ false) (p ∷ pages)
@@ -116,7 +112,7 @@ module _ (t : GuestPage → Bool) (down : GoesDown t) where
                   filter_none both (p ∷ pages)
                   (λ k d lt. and_right (after_cursor cursor (get_or (p ∷ pages) k d)) (t (get_or (p ∷ pages) k d)) (all k d lt)) in
                   ap (λ l. from_to (length (filter low (p ∷ pages))) (length l) (p ∷ pages)) (filter_none t (p ∷ pages) all)
-                  ∙ drop_none (length (filter low (p ∷ pages))) ∙ sym neither
+                  ∙ drop_of_length-le [] (omega arith) ∙ sym neither
             ]
       ]
 

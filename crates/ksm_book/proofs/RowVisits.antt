@@ -1,5 +1,5 @@
 -- The visit of a row, by what is found: what becomes of the book, and what is done to the frames.
-use Rattle.ksm_book.proofs.Names.{[], Add, All, All-contains_itself, and_parts, ap, arith, Best, best_dup, best_dup_has_room, BookState, BookValue, BookView, Bool, change_row, Comes, Contains, doing, DupRow, each_at_page, emptying, false, find_all, find_passes, frame_found, frame_number, Frames, GuestPage, handled, handling, HasRoom, HasStayed, idle, IfSome, is_best, is_restless, IsAlone, IsDupOf, IsForZero, IsJoined, IsLaid, IsSound, item_count, joining, KeeperStep, KeeperView, leaving, leb-true, lies_on, List, lying, Made, mapped, MatchOption, May, may_join, MayJoin, Merged, merged_into, merged_state, nat_le, nat_lt, None, not, Option, page_visited, PagesView, paired, pairing, partner, Performs, Placed, Reached, refl, Row, row_at, row_visited, row_visiting, same_Some, shared_state, Some, sound_row_visited, state_of, stayed, Sub, subst, sym, true, true≢false, view_of, visited, VisitsPage, Zero, ℕ, ◌∙◌, ◌∷◌, ◌≡◌, ◌≤◌, if◌then◌else◌}
+use Rattle.ksm_book.proofs.Names.{[], Add, All, All-contains_itself, and_parts, ap, arith, Best, best_dup, best_dup_has_room, BookState, BookValue, BookView, Bool, change_row, Comes, Contains, doing, DupRow, each_at_page, emptying, false, find_all, find_passes, frame_found, frame_number, Frames, GuestPage, handled, handling, HasRoom, HasStayed, idle, IfSome, is_best, is_restless, IsDupOf, IsForZero, IsJoined, IsLaid, IsSound, item_count, joining, KeeperStep, KeeperView, leaving, leb-true, lies_on, List, lying, Made, mapped, MatchOption, May, may_join, MayJoin, Merged, merged_into, merged_state, nat_le, nat_lt, None, not, Option, page_visited, PagesView, paired, pairing, partner, Performs, Placed, Reached, refl, Row, row_at, row_visited, row_visiting, same_Some, shared_state, Some, sound_row_visited, state_of, stayed, Sub, subst, sym, true, true≢false, view_of, visited, VisitsPage, Zero, ℕ, ◌∙◌, ◌∷◌, ◌≡◌, ◌≤◌, if◌then◌else◌}
 use Rattle.ksm_base.specs.declared.row.PageState.TheVariants.{Private}
 use Rattle.frame_table.specs.Kept.{Did}
 use Rattle.ksm_book.proofs.ByPage.{found_page, row_of_page}
@@ -8,7 +8,7 @@ use Rattle.ksm_book.proofs.Laying.{laid_rows}
 use Rattle.ksm_book.proofs.Made.{made_one, made_then}
 use Rattle.ksm_book.proofs.Moves.{swapped}
 use Rattle.ksm_book.proofs.Sharing.{laid_joined, may_join as join_may, may_part, state_of_item}
-use Rattle.ksm_book.proofs.Singles.{alone_now, book}
+use Rattle.ksm_book.proofs.Singles.{book}
 use Rattle.ksm_book.proofs.Standing.{Lives, lives}
 
 -- a row that a visit may change has a frame of its own
@@ -258,10 +258,6 @@ module _ (best : Best) {p : PagesView} {k : KeeperView} {cursor : Option GuestPa
 
 module _ {p : PagesView} {k : KeeperView} {cursor : Option GuestPage} {passes : ℕ} {v : BookView} {page : GuestPage}
     (at : Meets IsForZero p k cursor passes v page) where
-  -- a page that is to become Zero has a frame of its own
-  pub zero_alone : IsAlone page p.rows
-  zero_alone = alone_now p.rows page at.row at.found (restless_own at.row at.so.restless)
-
   abbrev zeroed : Row → Row
   zeroed r = record r { state = Zero }
 

@@ -47,22 +47,11 @@ begins b = by b.cursor refl (next_row b.cursor b.rows) refl
   where
     by : (o : Option GuestPage) → b.cursor ≡ o → (next : Option Row) → next_row b.cursor b.rows ≡ next
         → ((new : BookState) × Begins b new) ⊎ ((is_some b.cursor ≡ true) × (visit_begun b ≡ b) × (1 ≤ length (pages_ahead b)))
-    by None none next found =
-        inl (
-          b,
-          (
-            none,
-            refl,
-            ap pass_begun (λ t. if is_some (none t) && is_none (next_row b.cursor b.rows) then pass_ended b else b)
-                ∙ ap (λ (o : Option GuestPage). if is_none o then with_none_waiting b else b) none,
-          ),
-        )
-    by (Some page) some None found =
-        inl (pass_ended b, (refl, refl, ap pass_begun (λ t. if is_some (some t) && is_none (found t) then pass_ended b else b)))
+    by None none next found = inl (b, (none, refl, rw none))
+    by (Some page) some None found = inl (pass_ended b, (refl, refl, rw (found, some)))
     by (Some page) some (Some row) found = inr (
       ap is_some some,
-      ap pass_begun (λ t. if is_some (some t) && is_none (found t) then pass_ended b else b)
-          ∙ ap (λ (o : Option GuestPage). if is_none o then with_none_waiting b else b) some,
+      rw (found, some),
       slice_get_within (pages_ahead b) 0 row.page (sym (next_first b.cursor b.rows) ∙ ap (option_map (λ r. r.page)) found),
     )
 
