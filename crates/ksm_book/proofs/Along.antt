@@ -1,6 +1,7 @@
 -- Rows that are changed one after another, in the order of their pages: those of a guest, or all, up to a cursor.
-use Rattle.ksm_book.proofs.Names.{[], after_cursor, after_differs, All, All-append, All-cons, All-head, All-map, All-tail, AllPairs, and-true, and_parts, and_right, ap, append-nil, arith, before_differs, before_irrefl, Bool, cases_Bool, cases_order, change_none, change_row, change_rows, comes_before, cond_both, false, filter, filter-append, filter_none, find, find_none, find_passes, get_or, GuestPage, inl, InPageOrder, inr, is_before, is_next, List, map, map-append, nat_tests, None, not_both, of_guest, Option, option_map, pairs_cross, pairs_head, pairs_tail, refl, Row, row_at, same_page, same_page_refl, same_Some, Some, subst, sym, true, ℕ, ⊤, ◌&&◌, ◌*◌, ◌++◌, ◌+◌, ◌<◌, ◌||◌, ◌∙◌, ◌∷◌, ◌≡◌, ◌≤◌, find-append, option_or, find_nothing, map_alike, if◌then◌else◌}
+use Rattle.ksm_book.proofs.Names.{[], after_cursor, after_differs, All, All-append, All-cons, All-head, All-map, All-tail, AllPairs, and-true, and_parts, and_right, ap, append-nil, arith, before_differs, before_irrefl, Bool, cases_Bool, cases_order, change_none, change_row, change_rows, comes_before, cond_both, false, filter, filter-append, filter_none, find, find_none, find_passes, get_or, GuestPage, inl, InPageOrder, inr, is_before, is_next, List, map, map-append, nat_tests, None, not_both, of_guest, Option, option_map, pairs_cross, pairs_head, pairs_tail, refl, Row, row_at, same_page, same_page_refl, Some, subst, sym, true, ℕ, ⊤, ◌&&◌, ◌*◌, ◌++◌, ◌+◌, ◌<◌, ◌||◌, ◌∙◌, ◌∷◌, ◌≡◌, ◌≤◌, find-append, option_or, find_nothing, map_alike, if◌then◌else◌}
 use Rattle.std.proofs.lemmas.List.{append_assoc}
+use Rattle.ksm_book.proofs.ByPage.{mapped_from}
 
 -- what no element of the first list passes is searched in the second alone
 find_apart : {X : Type 0} (t : X → Bool) (xs ys : List X) → All (λ x. t x ≡ false) xs → find t (xs ++ ys) ≡ find t ys
@@ -174,11 +175,9 @@ module _ {asked : Row → Bool} (f : Row → Row) (keeps : (r : Row) → (f r).p
   -- where a search tells a page as the next one asked for after the cursor, the rows are cut at that page
   pub along_cut : InPageOrder rows → (page : GuestPage) → option_map (λ r. r.page) (find (next_of last) now) ≡ Some page
       → IsCut asked f rows now done page
-  along_cut rise page told = by (find (next_of last) now) refl told
-    where
-      by : (o : Option Row) → find (next_of last) now ≡ o → option_map (λ r. r.page) o ≡ Some page → IsCut asked f rows now done page
-      by None none is = absurd (grind (arith, is))
-      by (Some r) found is = subst (IsCut asked f rows now done) (same_Some r.page page is) (cut_there rise r found)
+  along_cut rise page told =
+      let at = mapped_from (λ (r : Row). r.page) (find (next_of last) now) page told in
+      subst (IsCut asked f rows now done) at.2 (cut_there rise at.0 at.1)
 
 -- ---------------------------------------------------------------- how far the cursor is
 
@@ -195,7 +194,10 @@ FitsPage (Some p) = (p.guest < 65536) × (p.page < 4294967296)
 -- the next page of a guest, or of all, after a cursor that fits has a greater position than the cursor
 pub further : (guest : Option ℕ) (last : Option GuestPage) (rows : List Row) (page : GuestPage) → FitsPage last
     → option_map (λ r. r.page) (find (is_next guest last) rows) ≡ Some page → position last < position (Some page)
-further guest last rows page fits told = by (find (is_next guest last) rows) refl told
+further guest last rows page fits told =
+    let at = mapped_from (λ (r : Row). r.page) (find (is_next guest last) rows) page told in
+    let passes = find_passes (is_next guest last) rows at.0 at.1 in
+    far last fits (ap (after_cursor last) (sym at.2) ∙ (and_parts (of_guest guest at.0) (after_cursor last at.0.page) passes).1)
   where
     far : (o : Option GuestPage) → FitsPage o → after_cursor o page ≡ true → position o < position (Some page)
     far None fits after = omega arith
@@ -206,12 +208,6 @@ further guest last rows page fits told = by (find (is_next guest last) rows) ref
         | inr more ↦ absurd (grind (arith, nat_tests, more, after))
       ]
     ]
-
-    by : (o : Option Row) → find (is_next guest last) rows ≡ o → option_map (λ r. r.page) o ≡ Some page
-        → position last < position (Some page)
-    by None none is = absurd (grind (arith, is))
-    by (Some r) found is = far last fits (ap (after_cursor last) (sym (same_Some r.page page is))
-        ∙ (and_parts (of_guest guest r) (after_cursor last r.page) (find_passes (is_next guest last) rows r found)).1)
 
 -- the position of a cursor that fits is 2^48 at most
 pub not_far : (last : Option GuestPage) → FitsPage last → position last ≤ 281474976710656

@@ -1,9 +1,19 @@
 -- Rows that change at one page: what becomes of what holds of each row, and of how many lie on a frame.
-use Rattle.ksm_book.proofs.Names.{[], All, All-map, ap, arith, Bool, both_ways, cases_Bool, change_row, cond, cond_both, count_with_row, count_without_page, counts_one, eq-eqb, eqb-true, false, filter, filter_passes, find_all, find_none, find_passes, Frames, get_or, GuestPage, inl, InPageOrder, inr, is_frame, lies_on, List, map, ne_eqb, None, not, not-true, one_of_each_page, Option, refl, Row, row_at, same_page, same_page_eq, same_page_refl, Some, subst, sym, true, uses, with_row, without_page, ℕ, ◌+◌, ◌∙◌, ◌∷◌, ◌≡◌, ◌≢◌, ◌≤◌, ◌⊎◌, count_alike, count_mapped, map_mapped, find_changed, if◌then◌else◌, Contains, zero, suc}
+use Rattle.ksm_book.proofs.Names.{[], All, All-map, ap, arith, Bool, both_ways, cases_Bool, change_row, cond, cond_both, count_with_row, count_without_page, counts_one, eq-eqb, eqb-true, false, filter, filter_passes, find_all, find_none, find_passes, Frames, get_or, GuestPage, inl, InPageOrder, inr, is_frame, lies_on, List, map, ne_eqb, None, not, not-true, one_of_each_page, Option, refl, Row, row_at, same_page, same_page_eq, same_page_refl, Some, subst, sym, true, uses, with_row, without_page, ℕ, ◌+◌, ◌∙◌, ◌∷◌, ◌≡◌, ◌≢◌, ◌≤◌, ◌⊎◌, count_alike, count_mapped, map_mapped, find_changed, if◌then◌else◌, Contains, zero, suc, option_map, same_Some}
 
 -- frames that are equal at each page are equal
 pub same_frames : (f g : Frames) → ((page : GuestPage) → f page ≡ g page) → f ≡ g
 same_frames f g each = λ i page. each page i
+
+-- where a map of an option is there, the option is, and the map made it of that
+pub mapped_from : {X Y : Type 0} (f : X → Y) (o : Option X) (y : Y) → option_map f o ≡ Some y → (x : X) × (o ≡ Some x) × (f x ≡ y)
+mapped_from f None y told = absurd (grind (arith, told))
+mapped_from f (Some x) y told = (x, refl, same_Some (f x) y told)
+
+-- where a map of an option is empty, the option is
+pub none_mapped : {X Y : Type 0} (f : X → Y) (o : Option X) → option_map f o ≡ None → o ≡ None
+none_mapped f None told = refl
+none_mapped f (Some x) told = absurd (grind (arith, told))
 
 -- ---------------------------------------------------------------- a frame
 
@@ -14,11 +24,6 @@ one_at f o = cond (is_frame f o) 1 0
 -- a page on the frame counts once for it
 pub one_same : (f : ℕ) (o : Option ℕ) → o ≡ Some f → one_at f o ≡ 1
 one_same f o e = ap (one_at f) e ∙ ap (λ (b : Bool). cond b 1 0) (eq-eqb f f refl)
-
--- a page that is not on the frame counts for nothing
-pub one_other : (f : ℕ) (o : Option ℕ) → o ≢ Some f → one_at f o ≡ 0
-one_other f None ne = refl
-one_other f (Some g) ne = ap (λ (b : Bool). cond b 1 0) (ne_eqb g f (λ e. ne (ap Some e)))
 
 -- a frame that passes the test for frame f is f
 pub is_that : (f : ℕ) (o : Option ℕ) → is_frame f o ≡ true → o ≡ Some f
@@ -32,6 +37,10 @@ is_it f o e = ap (is_frame f) e ∙ eq-eqb f f refl
 pub not_on : (f : ℕ) (o : Option ℕ) → o ≢ Some f → is_frame f o ≡ false
 not_on f None ne = refl
 not_on f (Some g) ne = ne_eqb g f (λ e. ne (ap Some e))
+
+-- a page that is not on the frame counts for nothing
+pub one_other : (f : ℕ) (o : Option ℕ) → o ≢ Some f → one_at f o ≡ 0
+one_other f o ne = ap (λ (b : Bool). cond b 1 0) (not_on f o ne)
 
 -- a page is on the frame, or it is not
 pub frame_cases : (f : ℕ) (o : Option ℕ) → (o ≡ Some f) ⊎ (o ≢ Some f)

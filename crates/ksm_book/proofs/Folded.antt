@@ -1,8 +1,9 @@
 -- The visits of a pass are a fold over its pages, only restless pages count, and a quiet pass is repeated by those behind it.
-use Rattle.ksm_book.proofs.Names.{[], after_cursor, All, All-head, All-tail, AllPairs-filter, and_parts, ap, append-nil, AreAscending, arith, begun, best_dup, BookState, Bool, cases_Bool, comes_before, cond_both, each_at_page, false, filter, filter_all, find_all, find_passes, get_or, GuestPage, handled, has_item, inl, InPageOrder, inr, is_none, is_restless, is_some, IsBeside, IsStill, last_of, length, List, map, mergeable_pages, min, next_row, next_visited, None, not, not-true, Option, option_map, page_visited, pages_ahead, pages_visited, PageState, pass_at, pass_begun, pass_ended, pass_ended_at_last, refl, restless_at, restless_row, Row, row_at, row_visited, rowwise_visits, same_page, same_page_eq, same_Some, settled, settled_state, shared_state, slice_get, Some, subst, suc, suc-mul, sym, true, visit, visit_begun, visit_of, visited, visits, visits_beside, with_none_waiting, zero, zero-mul, ℕ, ◌&&◌, ◌*◌, ◌++◌, ◌+◌, ◌-◌, ◌^◌, ◌∙◌, ◌∷◌, ◌≡◌, ◌≤◌, map_mapped, if◌then◌else◌, and_right, pairs_mapped, ⊤}
+use Rattle.ksm_book.proofs.Names.{[], after_cursor, All, All-head, All-tail, AllPairs-filter, and_parts, ap, append-nil, AreAscending, arith, begun, best_dup, BookState, Bool, cases_Bool, comes_before, cond_both, each_at_page, false, filter, filter_all, find_all, find_passes, get_or, GuestPage, handled, has_item, inl, InPageOrder, inr, is_none, is_restless, is_some, IsBeside, IsStill, last_of, length, List, map, mergeable_pages, min, next_row, next_visited, None, not, not-true, Option, option_map, page_visited, pages_ahead, pages_visited, PageState, pass_at, pass_begun, pass_ended, pass_ended_at_last, refl, restless_at, restless_row, Row, row_at, row_visited, rowwise_visits, same_page, same_page_eq, settled, settled_state, shared_state, slice_get, Some, subst, suc, suc-mul, sym, true, visit, visit_begun, visit_of, visited, visits, visits_beside, with_none_waiting, zero, zero-mul, ℕ, ◌&&◌, ◌*◌, ◌++◌, ◌+◌, ◌-◌, ◌^◌, ◌∙◌, ◌∷◌, ◌≡◌, ◌≤◌, map_mapped, if◌then◌else◌, and_right, pairs_mapped, ⊤}
 use Rattle.ksm_base.specs.declared.row.PageState.TheVariants.{Private}
 use Rattle.ksm_book.proofs.Going.{Goes, begun_goes, elsewhere, goes_on, mergeable_kept, goes_same, row_visited_alike, settled_goes, visited_goes}
 use Rattle.ksm_book.proofs.PagesAhead.{Before, behind_first, filter_in, filter_out, has_filter, same_pages}
+use Rattle.ksm_book.proofs.ByPage.{mapped_from, none_mapped}
 
 -- ---------------------------------------------------------------- the page that is visited next
 
@@ -16,20 +17,12 @@ next_first cursor (r ∷ rows) =
 -- the next row, where a page is ahead
 some_next : (c : BookState) (page : GuestPage) (more : List GuestPage) → pages_ahead c ≡ page ∷ more
     → (row : Row) × (next_row c.cursor c.rows ≡ Some row) × (row.page ≡ page)
-some_next c page more is = by (next_row c.cursor c.rows) refl (next_first c.cursor c.rows ∙ ap (λ l. slice_get l 0) is)
-  where
-    by : (o : Option Row) → next_row c.cursor c.rows ≡ o → option_map (λ r. r.page) o ≡ Some page
-        → (row : Row) × (next_row c.cursor c.rows ≡ Some row) × (row.page ≡ page)
-    by None found at = cc
-    by (Some row) found at = (row, found, same_Some row.page page at)
+some_next c page more is =
+    mapped_from (λ (r : Row). r.page) (next_row c.cursor c.rows) page (next_first c.cursor c.rows ∙ ap (λ l. slice_get l 0) is)
 
 -- where no page is ahead there is no next row
 pub none_next : (c : BookState) → pages_ahead c ≡ [] → next_row c.cursor c.rows ≡ None
-none_next c is = by (next_row c.cursor c.rows) (next_first c.cursor c.rows ∙ ap (λ l. slice_get l 0) is)
-  where
-    by : (o : Option Row) → option_map (λ r. r.page) o ≡ None → o ≡ None
-    by None none = refl
-    by (Some row) none = cc
+none_next c is = none_mapped (λ (r : Row). r.page) (next_row c.cursor c.rows) (next_first c.cursor c.rows ∙ ap (λ l. slice_get l 0) is)
 
 -- a pass with a page ahead does not end
 pub pass_goes_on : (c : BookState) (page : GuestPage) (more : List GuestPage) → pages_ahead c ≡ page ∷ more → pass_ended_at_last c ≡ c

@@ -1,5 +1,5 @@
 -- What becomes of pages that lie lawfully, where the keeper makes its steps.
-use Rattle.ksm_book.proofs.Names.{[], All, ap, arith, blank, change_row, default_knobs, DupFits, DupRow, false, find_all, first_ledger, FitsBase, frame_at, Frames, frames_of, GenerationFits, get_or, GuestPage, holding, Houses, inl, InPageOrder, inr, IsLaid, IsLawful, IsReadable, IsServed, IsShape, KeeperView, Keeps, Kind, kind_for, Knobs, Ledger, length, length-replicate, lies_on, List, Listing, map, MatchOption, Merged, merged_into, None, Note, nowhere, Option, PAGE_WORDS, PageState, PagesView, Placed, Private, refl, replicate, Row, row_at, same_page, Shape, shared_state, slice_index_or, Some, spent, subst, suc, sym, Took, true, with_frame, with_row, Zero, zero, zero_state, ℕ, ◌/◌, ◌<◌, ◌∙◌, ◌≡◌, ◌≤◌, ◌⊎◌, cond_both, if◌then◌else◌}
+use Rattle.ksm_book.proofs.Names.{[], All, ap, arith, blank, change_row, default_knobs, DupFits, DupRow, false, find_all, first_ledger, FitsBase, frame_at, Frames, frames_of, GenerationFits, get_or, GuestPage, holding, Houses, inl, InPageOrder, inr, IsLaid, IsLawful, IsReadable, IsServed, IsShape, KeeperView, Keeps, Kind, kind_for, Knobs, Ledger, length, length-replicate, lies_on, List, Listing, map, MatchOption, Merged, merged_into, None, Note, nowhere, Option, PAGE_WORDS, PageState, PagesView, Placed, Private, refl, replicate, Row, row_at, same_page, Shape, shared_state, slice_index_or, Some, spent, subst, suc, sym, Took, true, with_frame, with_row, Zero, zero, zero_state, ℕ, ◌/◌, ◌<◌, ◌∙◌, ◌≡◌, ◌≤◌, ◌⊎◌, cond_both, if◌then◌else◌, Stable}
 use Rattle.ksm_base.specs.declared.row.PageState.TheVariants.{Private as OwnPage}
 use Rattle.ksm_book.proofs.ByPage.{found_page, row_of_page}
 use Rattle.ksm_book.proofs.Keeping.{spent_kept}
@@ -68,6 +68,11 @@ own_item _ e n = refl
 pub own_framed : (s : PageState) → shared_state s ≡ false → zero_state s ≡ false
 own_framed Zero e = absurd (grind (arith, e))
 own_framed _ e = refl
+
+-- a row whose frame is Stable is an item of a dup
+pub number_of_kind : (s : PageState) → kind_for s ≡ Stable → (n : ℕ) × (s ≡ Merged n)
+number_of_kind (Merged n) is = (n, refl)
+number_of_kind _ is = cc
 
 -- a row may stand in the stead of another on its frame: same home and bytes, and the same state, or neither is shared
 abbrev pub LodgesAs : Row → Row → Type 0

@@ -1,5 +1,5 @@
 -- The visit of a page: what was found of its row, and what becomes of the book where the row alone changes.
-use Rattle.ksm_book.proofs.Names.{All, ap, arith, BookState, BookValue, BookView, change_row, Comes, cond_both, Deed, doing, false, Find, FindsAt, Frames, get_or, GuestPage, HasStayed, idle, InPageOrder, inr, is_restless, IsLaid, IsSound, IsStill, KeeperView, List, lying, map, mapped, MatchOption, Merged, None, Option, page_visited, PageState, PagesView, paired, pairing, partner, Performs, refl, restless_at, restless_row, Row, row_at, row_visited, row_visiting, same_page, settled, settled_state, shared_state, Some, state_of, subst, sym, then_doing, true, true≢false, view_of, visited, VisitsPage, Waiting, Zero, ℕ, ◌∙◌, ◌∷◌, ◌≡◌, if◌then◌else◌, map_mapped}
+use Rattle.ksm_book.proofs.Names.{All, ap, arith, BookState, BookValue, BookView, change_row, Comes, cond_both, Deed, doing, false, Find, FindsAt, Frames, get_or, GuestPage, HasStayed, idle, InPageOrder, inr, is_restless, IsLaid, IsSound, IsStill, KeeperView, List, lying, map, mapped, MatchOption, Merged, None, Option, page_visited, PageState, PagesView, paired, pairing, partner, Performs, refl, restless_at, restless_row, Row, row_at, row_visited, row_visiting, same_page, settled, settled_state, shared_state, Some, state_of, subst, sym, then_doing, true, view_of, visited, VisitsPage, Waiting, Zero, ℕ, ◌∙◌, ◌∷◌, ◌≡◌, if◌then◌else◌, map_mapped}
 use Rattle.ksm_base.specs.declared.row.PageState.TheVariants.{Private}
 use Rattle.ksm_pages.specs.declared.pages.Find.TheVariants as finds
 use Rattle.ksm_pages.specs.Paged.{Finds, visited as row_changed}
@@ -7,7 +7,7 @@ use Rattle.ksm_book.proofs.ByPage.{found_page, row_of_page}
 use Rattle.ksm_book.proofs.Doing.{then_idle}
 use Rattle.ksm_book.proofs.Laying.{LodgesAs, laid_changed}
 use Rattle.ksm_book.proofs.Made.{made_none}
-use Rattle.ksm_book.proofs.RowVisits.{Leads, Meets, leads, marked_is, restless_own, stayed_is, there_is, visit_comes}
+use Rattle.ksm_book.proofs.RowVisits.{Leads, Meets, leads, marked_is, restless_own, stayed_is, there_is, visit_comes, filled_by}
 use Rattle.ksm_book.proofs.Singles.{book}
 
 -- ---------------------------------------------------------------- what was found
@@ -29,14 +29,10 @@ finds_it f some {p} {k} {cursor} {passes} {v} lawful same q page is told = by (r
 -- where a page's row, which a visit may change, was visited, the book has come to that
 visits_come : (v w : BookValue) (page : GuestPage) → restless_at page v.state.rows ≡ true → VisitsPage (view_of v) (view_of w) page → Comes
     v w (λ s. page_visited doing s page)
-visits_come v w page restless did = by (row_at page v.state.rows) refl restless did
-  where
-    by : (o : Option Row) → row_at page v.state.rows ≡ o → restless_row o ≡ true
-        → MatchOption o (true ≡ false) (λ r. (w.state ≡ row_visited v.state r) × Performs (mapped (view_of v)) (mapped (view_of w))
-        (row_visiting v.state (view_of v).frame r))
-        → Comes v w (λ s. page_visited doing s page)
-    by None found is told = absurd (true≢false told)
-    by (Some row) found is told = visit_comes v w page row found is told.0 told.1
+visits_come v w page restless did =
+    let at = filled_by (λ r. (w.state ≡ row_visited v.state r) × Performs (mapped (view_of v)) (mapped (view_of w))
+    (row_visiting v.state (view_of v).frame r)) (row_at page v.state.rows) did in
+    visit_comes v w page at.0 at.1 (ap restless_row (sym at.1) ∙ restless) at.2.0 at.2.1
 
 -- where a search changed nothing and the page's row was visited then, the visit of the page was reached
 pub shared_comes : {P : BookState → Row → Type 0} {p : PagesView} {k : KeeperView} {cursor : Option GuestPage} {passes : ℕ}

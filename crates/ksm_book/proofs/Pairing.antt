@@ -1,10 +1,10 @@
 -- A visited page makes a dup with the page that waits for it: what the keeper may do, and what becomes of the book.
-use Rattle.ksm_book.proofs.Names.{[], Add, All, All-contains_itself, ap, arith, BookState, BookView, Bool, cases_Bool, change_row, change_rows, Contains, Contains-append_right, count_none, did, dup_of_row, DupRow, each_at_page, eq-eqb, false, filter, find_all, find_passes, frame_number, frames_of, get_or, GuestPage, IfSome, inl, InPageOrder, inr, IsFree, IsLaid, IsSound, IsVacant, item_count, joined_count, KeeperView, leaving, lies_on, List, list_any, lying, Made, MatchOption, May, MayPair, MeetsPage, Merged, merged_into, merged_state, nat_lt, nat_tests, new_place, new_place_free, next_is_new, None, Option, ordered_change, PageState, PagesView, paired, pairing, partner, Performs, place_count, Publish, refl, Row, row_at, row_visiting, same_page, shared_state, Some, state_of, Sub, subst, sym, true, true≢false, waiting_state, waits_for, waits_tells, WaitsFor, with_dup, Withdraw, withdrawing, Zero, ℕ, ◌++◌, ◌+◌, ◌<◌, ◌==◌, ◌||◌, ◌∙◌, ◌∷◌, ◌≡◌, ◌≤◌, find_changed_other, if◌then◌else◌}
+use Rattle.ksm_book.proofs.Names.{[], Add, All, All-contains_itself, ap, arith, BookState, BookView, Bool, cases_Bool, change_row, change_rows, Contains, Contains-append_right, count_none, did, dup_of_row, DupRow, each_at_page, eq-eqb, false, filter, find_all, find_passes, frame_number, frames_of, get_or, GuestPage, IfSome, inl, InPageOrder, inr, IsFree, IsLaid, IsSound, IsVacant, item_count, joined_count, KeeperView, leaving, lies_on, List, list_any, lying, Made, MatchOption, May, MayPair, MeetsPage, Merged, merged_into, merged_state, nat_lt, nat_tests, new_place, new_place_free, next_is_new, Option, ordered_change, PageState, PagesView, paired, pairing, partner, Performs, place_count, Publish, refl, Row, row_at, row_visiting, same_page, shared_state, Some, state_of, Sub, subst, sym, true, waiting_state, waits_for, waits_tells, WaitsFor, with_dup, Withdraw, withdrawing, Zero, ℕ, ◌++◌, ◌+◌, ◌<◌, ◌==◌, ◌||◌, ◌∙◌, ◌∷◌, ◌≡◌, ◌≤◌, find_changed_other, if◌then◌else◌}
 use Rattle.ksm_pages.specs.Paged.{paired as are_paired}
 use Rattle.ksm_book.proofs.Made.{made_one, made_then}
 use Rattle.ksm_book.proofs.Sharing.{laid_found, laid_joined, may_clear, may_found, may_join, may_part, spent_most, tree_is_home}
 use Rattle.ksm_book.proofs.ByPage.{at_changed}
-use Rattle.ksm_book.proofs.RowVisits.{Leads, Meets, at_row, leads, page_is, restless_own, there_is, stayed_is}
+use Rattle.ksm_book.proofs.RowVisits.{Leads, Meets, at_row, leads, page_is, restless_own, there_is, stayed_is, filled_by}
 use Rattle.ksm_book.proofs.Promised.{finds_place}
 
 -- a row that waits is not shared
@@ -27,11 +27,6 @@ contains_dup d dups =
     let above = filter (λ e. nat_lt d.place e.place) dups in Contains-append_right (filter (λ e. nat_lt e.place d.place) dups) (d ∷ above) d
     (0, omega arith, refl)
 
--- the row that is found as the partner
-met_partner : (other : GuestPage) (o : Option Row) → MatchOption o (true ≡ false) (λ w. other ≡ w.page) → (w : Row) × (o ≡ Some w) × (other ≡ w.page)
-met_partner other None none = absurd (true≢false none)
-met_partner other (Some w) named = (w, refl, named)
-
 -- a visited page meets another one as its partner, and is to make a dup with it at the place for a new dup
 module _ (other : GuestPage) {p : PagesView} {k : KeeperView} {cursor : Option GuestPage} {passes : ℕ} {v : BookView} {one page : GuestPage}
     {place : ℕ} (at : Meets (λ b. MeetsPage b other) p k cursor passes v page) (is : one ≡ other)
@@ -47,7 +42,7 @@ module _ (other : GuestPage) {p : PagesView} {k : KeeperView} {cursor : Option G
 
   -- the partner of the visited page
   pub met : (w : Row) × (partner p.knobs p.rows row ≡ Some w) × (other ≡ w.page)
-  met = met_partner other (partner p.knobs p.rows row) at.so.1
+  met = filled_by (λ w. other ≡ w.page) (partner p.knobs p.rows row) at.so.1
 
   abbrev w : Row
   w = met.0

@@ -1,10 +1,10 @@
 -- A lawful placement says the sentences that are promised, and so a new dup finds a place.
-use Rattle.ksm_book.proofs.Names.{eqb-true, find_passes, eq-eqb, [], All, All-filter, All-head, All-map, All-tail, AllPairs, AllPairs-cons, AllPairs-filter, ap, arith, BookState, Bool, cases_Bool, Contains, Contains-append_left, Contains-append_right, count_by, count_more, counts_one, dup_frames, dup_of_item, DupRow, false, Filling, filter, filter_passes, FitsBase, frame_at, frame_number, Frames, get_or, GuestPage, has_items, HasItsOwn, home_of_item, inl, inr, is_frame, is_in_use, is_some, IsOutlived, IsServed, IsSound, item_count, Kind, kind_for, Ledger, length, LieOn, Life, life_or, List, lt-ltb, map, MatchOption, Merged, merged_into, named_at, nat_tests, None, none_counted, not, not-true, Option, own_frames, PageState, pairs_append, pairs_head, pairs_tail, place_frame, Placed, Private, refl, Row, row_at, shared_state, Some, Stable, StandsOn, subst, sym, true, uses, Zero, zero, zero_state, ℕ, ◌++◌, ◌+◌, ◌<◌, ◌==◌, ◌∙◌, ◌∷◌, ◌≡◌, ◌≢◌, ◌≤◌, if◌then◌else◌, get_or-map, length-map, All-append, frames_of, FindsPlace, nat_lt, place_or, find, is_stale, cond_both, ltb-true, find_all, empty_from, length-le_from_distinct_below, IsDistinct-from_apart, ne_eqb, Contains-from_any, eqb, length-append}
+use Rattle.ksm_book.proofs.Names.{eqb-true, find_passes, eq-eqb, [], All, All-filter, All-head, All-map, All-tail, AllPairs, AllPairs-cons, AllPairs-filter, ap, arith, BookState, Bool, cases_Bool, Contains, Contains-append_left, Contains-append_right, count_by, count_more, counts_one, dup_frames, dup_of_item, DupRow, false, Filling, filter, filter_passes, FitsBase, frame_at, frame_number, Frames, get_or, GuestPage, has_items, HasItsOwn, home_of_item, inl, inr, is_frame, is_in_use, is_some, IsOutlived, IsServed, IsSound, item_count, Kind, kind_for, Ledger, length, LieOn, Life, life_or, List, lt-ltb, map, MatchOption, Merged, merged_into, named_at, nat_tests, None, none_counted, not, not-true, Option, own_frames, PageState, pairs_append, pairs_head, pairs_tail, place_frame, Placed, Private, refl, Row, row_at, shared_state, Some, Stable, StandsOn, subst, sym, true, uses, Zero, zero, zero_state, ℕ, ◌++◌, ◌+◌, ◌<◌, ◌==◌, ◌∙◌, ◌∷◌, ◌≡◌, ◌≢◌, ◌≤◌, if◌then◌else◌, get_or-map, length-map, All-append, frames_of, FindsPlace, nat_lt, place_or, find, is_stale, cond_both, ltb-true, find_all, empty_from, length-le_from_distinct_below, IsDistinct-from_apart, ne_eqb, Contains-from_any, eqb, length-append, All-contains_itself}
 use Rattle.ksm_book.proofs.ByPage.{is_that, contains_filter}
-use Rattle.ksm_book.proofs.Laying.{own_kind, own_framed}
+use Rattle.ksm_book.proofs.Laying.{own_kind, own_framed, number_of_kind}
 use Rattle.ksm_book.proofs.Moves.{base_is_items, stale_is_loose, framed}
 use Rattle.ksm_book.proofs.Standing.{Lives, frames_apart, lives, empty_from_most}
-use Rattle.ksm_book.proofs.Sharing.{first_found, index_found, state_of_item}
+use Rattle.ksm_book.proofs.Sharing.{first_found, state_of_item}
 use Rattle.std.proofs.lemmas.List.Elements.{Contains-get_or}
 use Rattle.ksm_book.proofs.Pruning.{none_stale}
 
@@ -62,10 +62,6 @@ alone_of_kind : (s : PageState) → kind_for s ≡ Private → shared_state s �
 alone_of_kind (Merged n) is = cc
 alone_of_kind Zero is = cc
 alone_of_kind _ is = refl
-
-number_of_kind : (s : PageState) → kind_for s ≡ Stable → (n : ℕ) × (s ≡ Merged n)
-number_of_kind (Merged n) is = (n, refl)
-number_of_kind _ is = cc
 
 module _ (b : BookState) (k : Ledger) (s : IsSound b) (frame : Frames) (p : Placed b.shape b.knobs.merge_across_nodes k b.rows frame b.dups None) where
   abbrev across : ℕ
@@ -172,8 +168,8 @@ module _ (b : BookState) (k : Ledger) (s : IsSound b) (frame : Frames) (p : Plac
   row_on f rows some =
       let test : Row → Bool = λ r. is_frame f (frame r.page) in
       let first = first_found test rows some in
-      let at = index_found test rows first.0 first.1 in
-      (at.0, first.0, at.1, ap (λ (r : Row). frame r.page) (at.2 first.0) ∙ is_that f (frame first.0.page) (find_passes test rows first.0 first.1))
+      let at = find_all test (Contains rows) rows first.0 first.1 (All-contains_itself rows) in
+      (at.0, first.0, at.1, ap (λ (r : Row). frame r.page) at.2 ∙ is_that f (frame first.0.page) (find_passes test rows first.0 first.1))
 
   own_listed : (f i : ℕ) (r : Row) → i < length b.rows → frame (get_or b.rows i r).page ≡ Some f → (frame_at k f).kind ≡ Private → Contains (own ++ shown) f
   own_listed f i r lt is kind =
@@ -189,8 +185,8 @@ module _ (b : BookState) (k : Ledger) (s : IsSound b) (frame : Frames) (p : Plac
       let fits = subst (IsServed b.shape k b.dups row) is (p.each_row i r lt) in
       let number = number_of_kind row.state (sym fits.0.kind ∙ kind) in
       let its = s.items i r lt number.0 number.1 in
-      let at = index_found (λ d. d.number == number.0) b.dups its.0 its.1.stands in
-      let into : merged_into (get_or b.dups at.0 its.0).number row.state ≡ true = ap (merged_into (get_or b.dups at.0 its.0).number) number.1 ∙ eq-eqb number.0 (get_or b.dups at.0 its.0).number (sym (ap (λ (d : DupRow). d.number) (at.2 its.0) ∙ eqb-true its.0.number number.0 (find_passes (λ d. d.number == number.0) b.dups its.0 its.1.stands))) in
+      let at = find_all (λ d. d.number == number.0) (Contains b.dups) b.dups its.0 its.1.stands (All-contains_itself b.dups) in
+      let into : merged_into (get_or b.dups at.0 its.0).number row.state ≡ true = ap (merged_into (get_or b.dups at.0 its.0).number) number.1 ∙ eq-eqb number.0 (get_or b.dups at.0 its.0).number (sym (ap (λ (d : DupRow). d.number) at.2 ∙ eqb-true its.0.number number.0 (find_passes (λ d. d.number == number.0) b.dups its.0 its.1.stands))) in
       let lies = (fits.1 at.0 its.0 at.1).item into in
       let counted : 0 < item_count b.rows (get_or b.dups at.0 its.0) = counts_one (λ r. merged_into (get_or b.dups at.0 its.0).number r.state) b.rows i r lt into in
       let there = passing (λ d. place_frame k d.place) (has_items b.rows) b.dups at.0 its.0 at.1 (lt-ltb 0 (item_count b.rows (get_or b.dups at.0 its.0)) counted) in

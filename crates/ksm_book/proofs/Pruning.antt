@@ -1,9 +1,10 @@
 -- Stale dups go one by one.
-use Rattle.ksm_book.proofs.Names.{[], All, All-head, All-tail, ap, append-nil, append_assoc, arith, cases_Bool, count_by, count_by-le-length, did, DupRow, elsewhere, eqb-true, false, filter, filter_all, filter_none, find, find_all, find_none, find_passes, frames_of, get_or, has_items, inl, InPlaceOrder, inr, is_stale, IsLaid, IsVacant, item_count, KeeperView, length, length-filter, List, lying, Made, map, nat_lt, nat_tests, None, not, one_of_each_place, Option, option_map, ordered_filter, PagesView, pairs_tail, Performs, pruning, refl, Row, same_Some, Shape, Some, subst, suc, sym, true, Withdraw, ℕ, ◌++◌, ◌+◌, ◌<◌, ◌==◌, ◌^◌, ◌∙◌, ◌∷◌, ◌≡◌, ◌≤◌, May, length-append, map-append}
+use Rattle.ksm_book.proofs.Names.{[], All, All-head, All-tail, ap, append-nil, append_assoc, arith, cases_Bool, count_by, count_by-le-length, did, DupRow, elsewhere, eqb-true, false, filter, filter_all, filter_none, find, find_all, find_none, find_passes, frames_of, get_or, has_items, inl, InPlaceOrder, inr, is_stale, IsLaid, IsVacant, item_count, KeeperView, length, length-filter, List, lying, Made, map, nat_lt, nat_tests, None, not, one_of_each_place, option_map, ordered_filter, PagesView, pairs_tail, Performs, pruning, refl, Row, Shape, Some, subst, suc, sym, true, Withdraw, ℕ, ◌++◌, ◌+◌, ◌<◌, ◌==◌, ◌^◌, ◌∙◌, ◌∷◌, ◌≡◌, ◌≤◌, May, length-append, map-append}
 use Rattle.std.proofs.lemmas.Bool.{eq-eqb}
 use Rattle.ksm_book.proofs.Sharing.{frames_few, laid_cleared, vacant_loose}
 use Rattle.ksm_book.proofs.Made.{made_one, made_then}
 use Rattle.ksm_book.proofs.Withdrawn.{elsewhere_so}
+use Rattle.ksm_book.proofs.ByPage.{mapped_from, none_mapped}
 
 -- the place of the first stale dup has no other dup
 pub stale_vacant : (rows : List Row) (dups : List DupRow) (d : DupRow) → InPlaceOrder dups → find (is_stale rows) dups ≡ Some d → IsVacant d.place rows dups
@@ -31,16 +32,6 @@ live_elsewhere rows place (d ∷ ds) vacant =
           grind (arith, here, stale, rest)
       | inr there ↦ grind (arith, there, rest)
     ]
-
--- the dup whose place was found
-pub dup_at : (o : Option DupRow) (place : ℕ) → Some place ≡ option_map (λ d. d.place) o → (d : DupRow) × (o ≡ Some d) × (d.place ≡ place)
-dup_at None place e = absurd (grind (arith, e))
-dup_at (Some d) place e = (d, refl, sym (same_Some place d.place e))
-
--- where the place of no dup is told, there is none
-pub no_dup_at : (o : Option DupRow) → None ≡ option_map (λ d. d.place) o → o ≡ None
-no_dup_at None e = refl
-no_dup_at (Some d) e = absurd (grind (arith, e))
 
 -- the first stale dup is the first to go
 pub first_stale : (rows : List Row) (dups : List DupRow) (d : DupRow) → InPlaceOrder dups → find (is_stale rows) dups ≡ Some d
@@ -103,7 +94,7 @@ module _ {p q : PagesView} {k l : KeeperView} {count : ℕ} (h : Drops p q k l c
   rows_are = ap (λ (x : PagesView). x.rows) h.pages
 
   stale : (d : DupRow) × (find (is_stale q.rows) q.dups ≡ Some d) × (d.place ≡ place)
-  stale = dup_at (find (is_stale q.rows) q.dups) place told
+  stale = mapped_from (λ (d : DupRow). d.place) (find (is_stale q.rows) q.dups) place (sym told)
 
   found : find (is_stale p.rows) q.dups ≡ Some stale.0
   found = ap (λ rows. find (is_stale rows) q.dups) (sym rows_are) ∙ stale.1
@@ -168,7 +159,7 @@ module _ {p q : PagesView} {k l : KeeperView} {count : ℕ} (h : Drops p q k l c
 module _ {p q : PagesView} {k l : KeeperView} {count : ℕ} (h : Drops p q k l count)
     (told : None ≡ option_map (λ d. d.place) (find (is_stale q.rows) q.dups)) where
   none : find (is_stale p.rows) q.dups ≡ None
-  none = ap (λ (x : PagesView). find (is_stale x.rows) q.dups) (sym h.pages) ∙ no_dup_at (find (is_stale q.rows) q.dups) told
+  none = ap (λ (x : PagesView). find (is_stale x.rows) q.dups) (sym h.pages) ∙ none_mapped (λ (d : DupRow). d.place) (find (is_stale q.rows) q.dups) (sym told)
 
   -- where no stale dup is left, the dups are those with items, as many went as were stale, and just the steps of a pruning were made
   pub dropped : (q ≡ record p { dups = filter (has_items p.rows) p.dups }) × (count ≡ count_by (is_stale p.rows) p.dups)

@@ -4,10 +4,7 @@ use mathlib.Core.Logic.{dite}
 use native.Mathlib.Decide.{ℕ_discrete}
 use Rattle.ksm_book.proofs.ByPage.{frame_cases, not_on, uses_some}
 use Rattle.ksm_book.proofs.Moves.{Serves}
-
-merged_of_kind : (s : PageState) → kind_for s ≡ Stable → shared_state s ≡ true
-merged_of_kind (Merged d) e = refl
-merged_of_kind _ e = cc
+use Rattle.ksm_book.proofs.Laying.{number_of_kind}
 
 one_number : (s : PageState) (m n : ℕ) → merged_into m s ≡ true → merged_into n s ≡ true → n ≡ m
 one_number (Merged d) m n a b = sym (eqb-true d n b) ∙ eqb-true d m a
@@ -149,7 +146,7 @@ module _ {sh : Shape} {across : ℕ} {k : Ledger} {rows : List Row} {frame : Fra
         kind = at_g (λ x. x.kind ≡ kind_for r.state) (sym stable ∙ ap (λ h. (frame_at k h).kind) (sym e) ∙ was.kind);
         content = at_g (λ x. x.content ≡ r.bytes) (ap (λ h. (frame_at k h).content) (sym e) ∙ was.content);
         given = at_g (λ x. 1 ≤ x.generation) (omega arith);
-        node = λ alone. absurd (grind (arith, alone, merged_of_kind r.state (sym was.kind ∙ ap (λ h. (frame_at k h).kind) e ∙ stable)));
+        node = λ alone. absurd (grind (arith, alone, ap shared_state (number_of_kind r.state (sym was.kind ∙ ap (λ h. (frame_at k h).kind) e ∙ stable)).1));
       }
 
       moved_agrees : f ≡ left → (e : DupRow) → DupFits sh across k e → (e.place ≢ q → e.number ≢ moving.number) → Agrees k r f e → Agrees next r g e

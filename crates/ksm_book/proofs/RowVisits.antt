@@ -11,6 +11,11 @@ use Rattle.ksm_book.proofs.Sharing.{laid_joined, may_join as join_may, may_part,
 use Rattle.ksm_book.proofs.Singles.{book}
 use Rattle.ksm_book.proofs.Standing.{Lives, lives}
 
+-- where something is told of what an option holds, it holds something, of which that is so
+pub filled_by : {X : Type 0} (P : X → Type 0) (o : Option X) → MatchOption o (true ≡ false) P → (x : X) × (o ≡ Some x) × P x
+filled_by P None told = absurd (true≢false told)
+filled_by P (Some x) told = (x, refl, told)
+
 -- a row that a visit may change has a frame of its own
 pub restless_own : (row : Row) → is_restless row ≡ true → shared_state row.state ≡ false
 restless_own row is = let both = and_parts row.mergeable (not (shared_state row.state)) is in grind (arith, both.1)
@@ -68,14 +73,10 @@ pub record Meets (P : BookState → Row → Type 0) (p : PagesView) (k : KeeperV
 pub meets : (P : BookState → Row → Type 0) {p : PagesView} {k : KeeperView} {cursor : Option GuestPage} {passes : ℕ} {now : BookView}
     {page : GuestPage} → IsSound (state_of p cursor passes) × IsLaid p k → book p k cursor passes ≡ now
     → MatchOption (row_at page now.state.rows) (true ≡ false) (P now.state) → Meets P p k cursor passes now page
-meets P {p} {k} {cursor} {passes} {now = now} {page = page} lawful same told =
-    by (row_at page p.rows) refl (subst (λ (x : BookView). MatchOption (row_at page x.state.rows) (true ≡ false) (P x.state)) (sym same)
-    told)
-  where
-    by : (o : Option Row) → row_at page p.rows ≡ o → MatchOption o (true ≡ false) (P (state_of p cursor passes))
-        → Meets P p k cursor passes now page
-    by None none is = absurd (true≢false is)
-    by (Some row) found is = record { is = same; sound = lawful.0; laid = lawful.1; row = row; found = found; so = is }
+meets P {p} {cursor = cursor} {passes} {page = page} lawful same told =
+    let at = filled_by (P (state_of p cursor passes)) (row_at page p.rows)
+    (subst (λ (x : BookView). MatchOption (row_at page x.state.rows) (true ≡ false) (P x.state)) (sym same) told) in
+    record { is = same; sound = lawful.0; laid = lawful.1; row = at.0; found = at.1; so = at.2 }
 
 -- the visit of a page in the book seen as v leads to this book
 pub record Leads (v : BookView) (q : PagesView) (l : KeeperView) (cursor : Option GuestPage) (passes : ℕ) (page : GuestPage) : Type 0 where
@@ -133,12 +134,6 @@ visit_comes v w page row found restless state does = λ from s before.
 
 -- ---------------------------------------------------------------- a page joins a dup
 
--- the dup that a row joins
-pub dup_there : (o : Option DupRow) (best : Best) → MatchOption o (true ≡ false) (λ d. (best.number ≡ d.number) × (best.place ≡ d.place))
-    → (d : DupRow) × (o ≡ Some d) × (best.number ≡ d.number) × (best.place ≡ d.place)
-dup_there None best told = absurd (true≢false told)
-dup_there (Some d) best told = (d, refl, told.0, told.1)
-
 -- it has an item
 best_has_item : (b : BookState) (row : Row) (dup : DupRow) → best_dup b.knobs b.rows b.dups row ≡ Some dup → 1 ≤ item_count b.rows dup
 best_has_item b row dup found =
@@ -154,8 +149,8 @@ module _ (best : Best) {p : PagesView} {k : KeeperView} {cursor : Option GuestPa
 
   module _ (g : ℕ) (lies : All (λ d. d.place ≡ best.place → All (λ r. merged_into d.number r.state ≡ true → p.frame r.page ≡ Some g) p.rows)
       p.dups) where
-    told : (d : DupRow) × (best_dup p.knobs p.rows p.dups row ≡ Some d) × (best.number ≡ d.number) × (best.place ≡ d.place)
-    told = dup_there (best_dup p.knobs p.rows p.dups row) best at.so.1
+    told : (d : DupRow) × (best_dup p.knobs p.rows p.dups row ≡ Some d) × ((best.number ≡ d.number) × (best.place ≡ d.place))
+    told = filled_by (λ d. (best.number ≡ d.number) × (best.place ≡ d.place)) (best_dup p.knobs p.rows p.dups row) at.so.1
 
     abbrev dup : DupRow
     dup = told.0
@@ -182,7 +177,7 @@ module _ (best : Best) {p : PagesView} {k : KeeperView} {cursor : Option GuestPa
 
     there : p.frame item.page ≡ Some g
     there = of_item (λ r. merged_into dup.number r.state ≡ true → p.frame r.page ≡ Some g) (among (λ d. d.place ≡ best.place → All
-        (λ r. merged_into d.number r.state ≡ true → p.frame r.page ≡ Some g) p.rows) lies (sym told.3)) live.merged
+        (λ r. merged_into d.number r.state ≡ true → p.frame r.page ≡ Some g) p.rows) lies (sym told.2.1)) live.merged
 
     joins : IsJoined (state_of p cursor passes) row dup
     joins = best_dup_has_room (state_of p cursor passes) row dup at.sound told.1
@@ -202,7 +197,7 @@ module _ (best : Best) {p : PagesView} {k : KeeperView} {cursor : Option GuestPa
 
     -- the dup that a page is to join has room for one item more
     pub has_room : HasRoom p.rows p.dups best.number
-    has_room = (dup, stands, sym told.2, few)
+    has_room = (dup, stands, sym told.2.0, few)
 
     -- a reference may come to the frame of the dup that a page is to join
     pub may_add : May k (Add g)
@@ -213,7 +208,7 @@ module _ (best : Best) {p : PagesView} {k : KeeperView} {cursor : Option GuestPa
     change r = record r { state = Merged best.number }
 
     state_is : Merged best.number ≡ item.state
-    state_is = ap Merged told.2 ∙ sym (state_of_item dup.number item.state live.merged)
+    state_is = ap Merged told.2.0 ∙ sym (state_of_item dup.number item.state live.merged)
 
     module _ (lone : ℕ) (left : p.frame page ≡ Some lone) where
       -- once a reference came to the dup's frame, the joining page's own frame may be left
@@ -228,7 +223,7 @@ module _ (best : Best) {p : PagesView} {k : KeeperView} {cursor : Option GuestPa
         frame_is : q.frame ≡ lies_on page (Some g) p.frame
         frame_is =
             of_item (λ r. merged_into best.number r.state ≡ true → q.frame ≡ lies_on page (p.frame r.page) p.frame) frame
-            (ap (λ n. merged_into n item.state) told.2 ∙ live.merged) ∙ ap (λ o. lies_on page o p.frame) there
+            (ap (λ n. merged_into n item.state) told.2.0 ∙ live.merged) ∙ ap (λ o. lies_on page o p.frame) there
 
         q_is : q ≡ record p { rows = change_row page change p.rows; frame = lies_on page (Some g) p.frame }
         q_is = goes ∙ (λ t. record p { rows = change_row page change p.rows; frame = frame_is t })
@@ -248,7 +243,7 @@ module _ (best : Best) {p : PagesView} {k : KeeperView} {cursor : Option GuestPa
             item_merged change (λ r. refl) state_is same_bytes l p.restless steps))
             (ap (λ (x : PagesView). state_of x cursor passes) q_is
             ∙ (λ t. record (state_of p cursor passes) {
-              rows = change_row (sym (page_is at) t) (λ r. record r { state = Merged (told.2 t) })
+              rows = change_row (sym (page_is at) t) (λ r. record r { state = Merged (told.2.0 t) })
                   p.rows;
             })
             ∙ sym (visited_by (state_of p cursor passes) p.frame row (Some dup) at.so.0 told.1).0)

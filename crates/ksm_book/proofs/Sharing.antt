@@ -1,5 +1,5 @@
 -- What becomes of the layout where rows change together, join a dup, or make or lose one.
-use Rattle.ksm_book.proofs.Names.{count_by, [], Add, All, All-filter, ap, arith, blank, Bool, cases_Bool, change_row, Contains, count_none, did, DupRow, elsewhere, eqb-true, false, filter, find, find_none, FitsBase, frame_at, Frames, frames_of, get_or, get_or-set_same, get_or_default, GuestPage, IfSome, inl, InPageOrder, inr, IsInLife, IsLaid, IsLoose, IsServed, IsShape, IsVacant, item_count, KeeperView, Kind, kind_for, Knobs, leaving, Ledger, ledger_after, length, lies_on, Life, life_or, List, list_any, Listing, Made, May, Merged, merged_into, merged_state, named_at, nat_lt, nat_tests, None, Note, Option, PageState, PagesView, past_lives, place_frame, Placed, Private, Publish, refl, Row, row_at, RowFits, set, set-get_or, settled, settled_state, Shape, shared_state, Some, spent, spent_on, Stable, Sub, subst, suc, sum_by-le, sym, tree_of, true, Waiting, with_dup, with_frame, Withdraw, withdrawing, ℕ, ◌*◌, ◌++◌, ◌+◌, ◌-◌, ◌<◌, ◌==◌, ◌^◌, ◌∙◌, ◌∷◌, ◌≡◌, ◌≢◌, ◌≤◌, ◌⊎◌, if◌then◌else◌, both_ways, not-true, filter_passes, eq-eqb, none_found, find_all, find_passes}
+use Rattle.ksm_book.proofs.Names.{count_by, [], Add, All, All-filter, ap, arith, blank, Bool, cases_Bool, change_row, Contains, count_none, did, DupRow, elsewhere, eqb-true, false, filter, find, find_none, FitsBase, frame_at, Frames, frames_of, get_or, get_or-set_same, get_or_default, GuestPage, IfSome, inl, InPageOrder, inr, IsInLife, IsLaid, IsLoose, IsServed, IsShape, IsVacant, item_count, KeeperView, Kind, kind_for, Knobs, leaving, Ledger, ledger_after, length, lies_on, Life, life_or, List, list_any, Listing, Made, May, Merged, merged_into, merged_state, named_at, nat_lt, nat_tests, None, Note, Option, PageState, PagesView, past_lives, place_frame, Placed, Private, Publish, refl, Row, row_at, RowFits, set, set-get_or, settled, settled_state, Shape, shared_state, Some, spent, spent_on, Stable, Sub, subst, sum_by-le, sym, tree_of, true, Waiting, with_dup, with_frame, Withdraw, withdrawing, ℕ, ◌*◌, ◌++◌, ◌+◌, ◌-◌, ◌<◌, ◌==◌, ◌^◌, ◌∙◌, ◌∷◌, ◌≡◌, ◌≢◌, ◌≤◌, ◌⊎◌, if◌then◌else◌, both_ways, not-true, filter_passes, eq-eqb, none_found, find_all, find_passes}
 use Rattle.ksm_book.proofs.Moves.{Serves, joined, published, base_is_items, stale_is_loose}
 use Rattle.ksm_book.proofs.Laying.{LodgesAs, laid_rows, own_kind, served_at, shape_same}
 use Rattle.ksm_book.proofs.Keeping.{added_placed, added_spends, left_placed, left_spends, lives_most, may_leave, past_le, spent_set}
@@ -22,16 +22,6 @@ first_found t xs some = by (find t xs) refl
     by : (o : Option _) → find t xs ≡ o → (x : _) × (find t xs ≡ Some x)
     by (Some x) found = (x, found)
     by None none = absurd (let zero' = count_none t xs (find_none t xs none) in omega (arith, zero', some))
-
--- an element that a search finds stands at an index of the list
-pub index_found : {X : Type 0} (t : X → Bool) (xs : List X) (x : X) → find t xs ≡ Some x → (n : ℕ) × (n < length xs)
-    × ((d : X) → get_or xs n d ≡ x)
-index_found t [] x found = absurd (grind (arith, found))
-index_found t (y ∷ ys) x found = elim (cases_Bool (t y)) [
-  | inl passes ↦ (0, (omega arith), λ d. (let is : y ≡ x = grind (arith, passes, found) in is))
-  | inr fails ↦ (let later = index_found t ys x (grind (arith, fails, found)) in
-      (suc later.0, (let lt = later.1 in omega (arith, lt)), later.2))
-]
 
 -- a page joins the dup of an item
 module _ {p : PagesView} {k : KeeperView} (h : IsLaid p k) (rise : InPageOrder p.rows) (page : GuestPage) (row item : Row)

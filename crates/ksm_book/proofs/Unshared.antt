@@ -4,6 +4,7 @@ use Rattle.ksm_book.proofs.Laying.{LodgesAs, laid_mapped, retuned}
 use Rattle.ksm_book.proofs.Made.{chained}
 use Rattle.ksm_book.proofs.Singles.{book}
 use Rattle.ksm_book.proofs.Unmerged.{does_nothing, in_scan}
+use Rattle.ksm_book.proofs.ByPage.{mapped_from, none_mapped}
 
 -- the row at which there was a stop is the next of the shared ones
 stop_is : (rows : List Row) (k : ℕ) (at : Option Row) → IsStop rows k at → slice_get rows k ≡ at
@@ -29,10 +30,6 @@ gave_shown : (b : BookState) (command : Command) (k l : KeeperView) (nodes : Lis
 gave_shown b command k l nodes count None are h = tt
 gave_shown b command k l nodes count (Some row) are h = (h.0, subst (Does k h.0) (sym (are (Some (NoFrame row.home)))) h.1, h.2)
 
-some_mapped : {X : Type 0} (f : Row → X) (o : Option Row) → is_some o ≡ is_some (option_map f o)
-some_mapped f None = refl
-some_mapped f (Some r) = refl
-
 -- the first row of a guest is told, if it has one
 abbrev pub IsTold : PagesView → ℕ → Option Held → Type 0
 IsTold p guest told = MatchOption told (find (is_next (Some guest) None) p.rows ≡ None) (λ held. IsHeld p held.spot.page held
@@ -44,7 +41,7 @@ has_told p guest o told = any_found (is_of guest) p.rows ∙ (λ i. is_some (fin
   where
     by : (o : Option Held) → IsTold p guest o → is_some (find (is_next (Some guest) None) p.rows) ≡ is_some o
     by None none = ap is_some none
-    by (Some held) found = some_mapped (λ r. r.page) _ ∙ ap is_some found.1
+    by (Some held) found = ap is_some (mapped_from (λ (r : Row). r.page) _ held.spot.page found.1).1
 
 -- `Unmerge` of a guest without a row is refused, and nothing changes
 pub unmerge_refused : (p : PagesView) (k : KeeperView) (cursor : Option GuestPage) (passes guest : ℕ)
@@ -177,7 +174,7 @@ module _ {p m : PagesView} {k l : KeeperView} (cursor : Option GuestPage) (passe
   module _ (none : is_some stop ≡ false) where
     went : m.rows ≡ map (left_by None) p.rows
     went = ap (λ (x : PagesView). x.rows) u.pages ∙ ap (λ o. change_rows (λ r. of_guest None r && is_before o r) (left_by None) p.rows)
-        (none_of u.at (some_mapped (λ r. NoFrame r.home) u.at ∙ ap is_some (sym u.fault) ∙ none))
+        (none_mapped (λ (r : Row). NoFrame r.home) u.at (sym u.fault ∙ none_of stop none))
 
     -- where the unsharing of all rows did not stop, no row is merged or Zero
     pub unshare_none : All (λ r. shared_state r.state ≡ false) m.rows
