@@ -1,5 +1,5 @@
 -- A lawful placement says the sentences that are promised, and so a new dup finds a place.
-use Rattle.ksm_book.proofs.Names.{eqb-true, find_passes, eq-eqb, [], All, All-filter, All-head, All-map, All-tail, AllPairs, AllPairs-cons, AllPairs-filter, ap, arith, BookState, Bool, cases_Bool, Contains, Contains-append_left, Contains-append_right, count_by, count_more, counts_one, dup_frames, dup_of_item, DupRow, false, Filling, filter, filter_passes, FitsBase, frame_at, frame_number, Frames, get_or, GuestPage, has_items, HasItsOwn, home_of_item, inl, inr, is_frame, is_in_use, is_some, IsOutlived, IsServed, IsSound, item_count, Kind, kind_for, Ledger, length, LieOn, Life, life_or, List, lt-ltb, map, MatchOption, Merged, merged_into, named_at, nat_tests, None, none_counted, not, not-true, Option, own_frames, PageState, pairs_append, pairs_head, pairs_tail, place_frame, Placed, Private, refl, Row, row_at, shared_state, Some, Stable, StandsOn, subst, sym, true, uses, Zero, zero, zero_state, ℕ, ◌++◌, ◌+◌, ◌<◌, ◌==◌, ◌∙◌, ◌∷◌, ◌≡◌, ◌≢◌, ◌≤◌, if◌then◌else◌, get_or-map, length-map, All-append, frames_of, FindsPlace, nat_lt, place_or, find, is_stale, cond_both, ltb-true, find_all, empty_from, length-le_from_distinct_below, IsDistinct-from_apart, ne_eqb, Contains-from_any, eqb, length-append, All-contains_itself}
+use Rattle.ksm_book.proofs.Names.{eqb-true, find_passes, eq-eqb, [], All, All-filter, All-head, All-map, All-tail, AllPairs, AllPairs-cons, AllPairs-filter, ap, arith, BookState, Bool, cases_Bool, Contains, Contains-append_left, Contains-append_right, count_by, count_more, counts_one, dup_frames, dup_of_item, DupRow, false, Filling, filter, filter_passes, FitsBase, frame_at, frame_number, Frames, get_or, GuestPage, has_items, HasItsOwn, home_of_item, inl, inr, is_frame, is_in_use, is_some, IsOutlived, IsServed, IsSound, item_count, Kind, kind_for, Ledger, length, LieOn, Life, life_or, List, lt-ltb, map, MatchOption, Merged, merged_into, named_at, nat_tests, None, none_counted, not, not-true, Option, own_frames, PageState, pairs_append, place_frame, Placed, Private, refl, Row, row_at, shared_state, Some, Stable, StandsOn, subst, sym, true, uses, Zero, zero, zero_state, ℕ, ◌++◌, ◌+◌, ◌<◌, ◌==◌, ◌∙◌, ◌∷◌, ◌≡◌, ◌≢◌, ◌≤◌, if◌then◌else◌, get_or-map, length-map, All-append, frames_of, FindsPlace, nat_lt, place_or, find, is_stale, cond_both, ltb-true, find_all, empty_from, length-le_from_distinct_below, IsDistinct-from_apart, ne_eqb, Contains-from_any, eqb, length-append, All-contains_itself, pairs_mapped}
 use Rattle.ksm_book.proofs.ByPage.{is_that, contains_filter}
 use Rattle.ksm_book.proofs.Laying.{own_kind, own_framed, number_of_kind}
 use Rattle.ksm_book.proofs.Moves.{base_is_items, stale_is_loose, framed}
@@ -142,19 +142,10 @@ module _ (b : BookState) (k : Ledger) (s : IsSound b) (frame : Frames) (p : Plac
   shown_kinds = All-map (λ f. (frame_at k f).kind ≡ Stable) (λ d. place_frame k d.place) (filter (has_items b.rows) b.dups) (λ i d lt. (live_kept i d lt).kind)
 
   shown_distinct : AllPairs (λ f g. f ≢ g) shown
-  shown_distinct = go (filter (has_items b.rows) b.dups) live_kept (AllPairs-filter Apart (has_items b.rows) b.dups (λ i j d before lt. frames_apart p s.dups_rise i j d before lt))
-    where
-      Apart : DupRow → DupRow → Type 0
-      Apart d e = Live d → Live e → place_frame k d.place ≢ place_frame k e.place
-
-      go : (ds : List DupRow) → All Live ds → AllPairs Apart ds → AllPairs (λ f g. f ≢ g) (map (λ d. place_frame k d.place) ds)
-      go [] live apart = λ i j d before lt. absurd (omega arith)
-      go (d ∷ ds) live apart =
-          let later = All-tail Live d ds live in
-          let here = pairs_head Apart d ds apart in
-          AllPairs-cons (λ f g. f ≢ g) (place_frame k d.place) (map (λ e. place_frame k e.place) ds)
-          (All-map (λ g. place_frame k d.place ≢ g) (λ e. place_frame k e.place) ds (λ i e lt. here i e lt (All-head Live d ds live) (later i e lt)))
-          (go ds later (pairs_tail Apart d ds apart))
+  shown_distinct =
+      let Apart : DupRow → DupRow → Type 0 = λ d e. Live d → Live e → place_frame k d.place ≢ place_frame k e.place in
+      pairs_mapped Apart (λ f g. f ≢ g) Live (λ d. place_frame k d.place) (λ d e live other apart. apart live other) (filter (has_items b.rows) b.dups)
+      live_kept (AllPairs-filter Apart (has_items b.rows) b.dups (λ i j d before lt. frames_apart p s.dups_rise i j d before lt))
 
   all_distinct : AllPairs (λ f g. f ≢ g) (own ++ shown)
   all_distinct = pairs_append (λ f g. f ≢ g) own shown own_distinct shown_distinct (λ i f lt j g l same.

@@ -1,5 +1,5 @@
 -- A dup moves to another frame, with all of its items.
-use Rattle.ksm_book.proofs.Names.{eqb-true, Agrees, All, ap, arith, blank, Bool, cond, count_none, DupFits, DupRow, Dying, eq-eqb, FitsBase, frame_at, Frames, frames_of, Free, GenerationFits, get_or, get_or-set_other, get_or-set_same, GuestPage, inl, inr, instead, is_frame, is_some, IsInLife, IsServed, Kind, kind_for, Ledger, length, length-set, Life, life_or, List, Merged, merged_into, named_at, ne_eqb, node_of, None, none_counted, Note, Option, PAGE_WORDS, PageState, place_frame, place_life, Placed, Private, refl, Row, RowFits, same_Some, set, Shape, shared_state, Some, Stable, subst, sym, true, uses, ℕ, ◌+◌, ◌<◌, ◌∙◌, ◌≡◌, ◌≢◌, ◌≤◌, count_alike}
+use Rattle.ksm_book.proofs.Names.{eqb-true, Agrees, All, ap, arith, blank, Bool, cond, count_none, DupFits, DupRow, Dying, eq-eqb, FitsBase, frame_at, Frames, frames_of, Free, GenerationFits, get_or, get_or-set_other, get_or-set_same, GuestPage, inl, inr, instead, is_frame, is_some, IsInLife, IsServed, Kind, kind_for, Ledger, length, length-set, Life, life_or, List, Merged, merged_into, named_at, ne_eqb, node_of, None, none_counted, Note, Option, PAGE_WORDS, PageState, place_frame, place_life, Placed, Private, refl, Row, RowFits, same_Some, set, Shape, shared_state, Some, Stable, subst, sym, true, uses, ℕ, ◌+◌, ◌<◌, ◌∙◌, ◌≡◌, ◌≢◌, ◌≤◌, count_alike, if◌then◌else◌}
 use mathlib.Core.Logic.{dite}
 use native.Mathlib.Decide.{ℕ_discrete}
 use Rattle.ksm_book.proofs.ByPage.{frame_cases, not_on, uses_some}
@@ -16,11 +16,7 @@ instead_here f g frame page e = ap (λ (o : Option ℕ). cond (is_frame f o) (So
 
 -- where frame g comes in the stead of f, a page that did not lie on f lies where it lay
 pub instead_there : (f g : ℕ) (frame : Frames) (page : GuestPage) → frame page ≢ Some f → instead f g frame page ≡ frame page
-instead_there f g frame page ne = by (frame page) ne
-  where
-    by : (o : Option ℕ) → o ≢ Some f → cond (is_frame f o) (Some g) o ≡ o
-    by None off = refl
-    by (Some x) off = ap (λ (b : Bool). cond b (Some g) (Some x)) (ne_eqb x f (λ e. off (ap Some e)))
+instead_there f g frame page ne = ap (λ (b : Bool). if b then Some g else frame page) (not_on f (frame page) ne)
 
 -- those that lay on f lie on g, and none lies on f any more
 module _ (f g : ℕ) (frame : Frames) (rows : List Row) where

@@ -104,10 +104,7 @@ module _ {v : PagesView} {k : KeeperView} {dup : DupRow} {node g : ℕ} (may : M
         by : (page : GuestPage) (o : Option Row) → row_at page v.rows ≡ o
             → items_on dup.number f' v.rows v.frame page ≡ instead g f' v.frame page
         by page None none = ap (λ (o : Option Row). if is_item dup.number o then Some f' else v.frame page) none
-            ∙ sym (instead_there g f' v.frame page (λ on. nowhere_is (sym (absent page none) ∙ on)))
-          where
-            nowhere_is : None ≡ Some g → ⊥
-            nowhere_is e = cc
+            ∙ sym (instead_there g f' v.frame page (λ on. (let e : None ≡ Some g = sym (absent page none) ∙ on in cc)))
         by page (Some r) found =
             let same = ap (λ q. is_frame g (v.frame q)) (sym (found_page page v.rows r found))
             ∙ find_all (λ s. same_page s.page page) (λ s. is_frame g (v.frame s.page) ≡ merged_into dup.number s.state) v.rows r found
