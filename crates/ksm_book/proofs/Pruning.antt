@@ -24,14 +24,10 @@ none_stale rows dups none = filter_all (has_items rows) dups (λ k x lt. live (i
 pub live_elsewhere : (rows : List Row) (place : ℕ) (dups : List DupRow) → IsVacant place rows dups → filter (has_items rows) (filter (elsewhere place) dups) ≡ filter (has_items rows) dups
 live_elsewhere rows place [] vacant = refl
 live_elsewhere rows place (d ∷ ds) vacant =
-    let rest = live_elsewhere rows place ds (All-tail (λ x. x.place ≡ place → item_count rows x ≡ 0) d ds vacant) in
-    elim (cases_Bool (d.place == place)) [
-      | inl here ↦
-          let none : item_count rows d ≡ 0 = All-head (λ x. x.place ≡ place → item_count rows x ≡ 0) d ds vacant (eqb-true d.place place here) in
-          let stale : has_items rows d ≡ false = grind (arith, nat_tests, none) in
-          grind (arith, here, stale, rest)
-      | inr there ↦ grind (arith, there, rest)
-    ]
+    let P : DupRow → Type 0 = λ x. x.place ≡ place → item_count rows x ≡ 0 in
+    let rest = live_elsewhere rows place ds (All-tail P d ds vacant) in
+    let none = All-head P d ds vacant in
+    grind (arith, nat_tests, rest, none)
 
 -- the first stale dup is the first to go
 pub first_stale : (rows : List Row) (dups : List DupRow) (d : DupRow) → InPlaceOrder dups → find (is_stale rows) dups ≡ Some d

@@ -1,5 +1,5 @@
 -- What the parts of a scan come to: the end of a pass, listed pages in the stead of those ahead, visits up to a page, and whole passes.
-use Rattle.ksm_book.proofs.Names.{[], after_cursor, Ahead, All, AllPairs-filter, and_parts, ap, append-nil, AreAscending, AreListed, arith, At, begun, BookState, Bool, both_ways, cases_Bool, cases_lt, comes_before, cond_both, drop, drop_more, End, EndsAt, eqb-true, false, filter, filter_all, filter_passes, from_to, get_or, get_or_from_slice_get, GuestPage, has_item, inl, InPageOrder, inr, is_none, is_nowhere, is_restless, is_some, IsBeside, IsStill, last_of, last_visited, length, length-take-le, List, mergeable_pages, min, next_row, None, not, Option, option_map, pages_ahead, pages_visited, pass_begun, pass_ended, pass_ended_at_last, refl, restless_at, restless_row, Row, row_at, same_page, shared_state, slice_get, slice_get_within, Some, subst, suc, sym, take, take-append-drop, true, true≢false, up_to, visit_begun, visits_beside, with_none_waiting, ℕ, ◌&&◌, ◌*◌, ◌++◌, ◌+◌, ◌-◌, ◌<◌, ◌==◌, ◌^◌, ◌∙◌, ◌∷◌, ◌≡◌, ◌≤◌, ◌⊎◌, if◌then◌else◌}
+use Rattle.ksm_book.proofs.Names.{[], after_cursor, Ahead, All, AllPairs-filter, and_parts, ap, append-nil, AreAscending, AreListed, arith, At, begun, BookState, Bool, both_ways, cases_Bool, cases_lt, comes_before, cond_both, drop, drop_more, End, EndsAt, eqb-true, false, filter, filter_all, filter_passes, from_to, get_or, get_or_from_slice_get, GuestPage, has_item, inl, InPageOrder, inr, is_none, is_nowhere, is_some, IsBeside, IsStill, last_of, last_visited, length, length-take-le, List, mergeable_pages, min, next_row, None, not, Option, option_map, pages_ahead, pages_visited, pass_begun, pass_ended, pass_ended_at_last, refl, restless_at, Row, slice_get, slice_get_within, Some, subst, suc, sym, take, take-append-drop, true, true≢false, up_to, visit_begun, visits_beside, with_none_waiting, ℕ, ◌&&◌, ◌*◌, ◌++◌, ◌+◌, ◌-◌, ◌<◌, ◌==◌, ◌^◌, ◌∙◌, ◌∷◌, ◌≡◌, ◌≤◌, ◌⊎◌, if◌then◌else◌}
 use Rattle.ksm_book.proofs.PagesAhead.{Before, GoesDown, between_at, between_is, has_filter, last_of_take, place_of, place_splits}
 use Rattle.ksm_book.proofs.Going.{Goes, begun_goes, settled_goes}
 use Rattle.ksm_book.proofs.Folded.{ascending_ahead, begun_folded, beside_on, every_page, next_first, none_next, pages_alike, pages_go, pass_goes_on, repeats, same_restless, visits_folded}
@@ -80,16 +80,7 @@ was_restless old new goes page restless = elim (cases_Bool (restless_at page old
 -- scans visit a restless page
 restless_mergeable : (page : GuestPage) (rows : List Row) → restless_at page rows ≡ true → has_item page (mergeable_pages rows) ≡ true
 restless_mergeable page [] is = absurd (true≢false (sym is))
-restless_mergeable page (r ∷ rows) is =
-    elim (cases_Bool (same_page r.page page)) [
-      | inl here ↦
-          let restless : is_restless r ≡ true = ap (λ b. restless_row (if b then Some r else row_at page rows)) (sym here) ∙ is in
-          let mergeable : r.mergeable ≡ true = (and_parts r.mergeable (not (shared_state r.state)) restless).0 in
-          grind (arith, here, mergeable)
-      | inr other ↦
-          let rest = restless_mergeable page rows (ap (λ b. restless_row (if b then Some r else row_at page rows)) (sym other) ∙ is) in
-          grind (arith, other, rest)
-    ]
+restless_mergeable page (r ∷ rows) is = let rest = restless_mergeable page rows in grind (arith, is, rest)
 
 -- the listed pages from one index up to another, where these are the counts of those up to the cursor, and of those that pass a test
 module _ (t : GuestPage → Bool) (down : GoesDown t) (pages : List GuestPage) (first end : ℕ) (told : Option GuestPage) (b : BookState)
