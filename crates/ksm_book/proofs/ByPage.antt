@@ -65,17 +65,11 @@ found_page page rows row found = same_page_eq row.page page (find_passes (λ r. 
 
 -- a page that comes to lie on a frame twice lies on the second
 pub lies_again : (page : GuestPage) (o n : Option ℕ) (frame : Frames) → lies_on page n (lies_on page o frame) ≡ lies_on page n frame
-lies_again page o n frame = same_frames _ _ (λ p. elim (cases_Bool (same_page p page)) [
-  | inl same ↦ on_page page n (lies_on page o frame) p same ∙ sym (on_page page n frame p same)
-  | inr other ↦ off_page page n (lies_on page o frame) p other ∙ off_page page o frame p other ∙ sym (off_page page n frame p other)
-])
+lies_again page o n frame = same_frames _ _ (λ p. grind arith)
 
 -- a page that lies where it lay changes nothing
 pub lies_still : (page : GuestPage) (o : Option ℕ) (frame : Frames) → frame page ≡ o → lies_on page o frame ≡ frame
-lies_still page o frame there = same_frames _ _ (λ p. elim (cases_Bool (same_page p page)) [
-  | inl same ↦ on_page page o frame p same ∙ sym there ∙ ap frame (sym (same_page_eq p page same))
-  | inr other ↦ off_page page o frame p other
-])
+lies_still page o frame there = same_frames _ _ (λ p. let same = same_page_eq p page in grind (arith, same, there))
 
 -- ---------------------------------------------------------------- the rows
 
@@ -160,10 +154,8 @@ pub change_twice : (page : GuestPage) (c d e : Row → Row) (rows : List Row) �
     → change_row page d (change_row page c rows) ≡ change_row page e rows
 change_twice page c d e rows keeps same =
     map_mapped (λ r. if same_page r.page page then d r else r) (λ r. if same_page r.page page then c r else r)
-    (λ r. if same_page r.page page then e r else r) rows (λ i x lt. let r = get_or rows i x in elim (cases_Bool (same_page r.page page)) [
-      | inl is ↦ let k = keeps r in let s = same i x lt is in grind (arith, is, k, s)
-      | inr other ↦ grind (arith, other)
-    ])
+    (λ r. if same_page r.page page then e r else r) rows
+    (λ i x lt. let k = keeps (get_or rows i x) in let s = same i x lt in grind (arith, k, s))
 
 -- where the row of a page changes, the changed row is found at the page
 pub at_changed : (page : GuestPage) (c : Row → Row) (rows : List Row) (row : Row) → ((r : Row) → (c r).page ≡ r.page) → row_at page rows ≡ Some row → row_at page (change_row page c rows) ≡ Some (c row)

@@ -50,10 +50,7 @@ GoesDown t = (p q : GuestPage) → comes_before p q ≡ true → t q ≡ true �
 -- where a page is not behind a last one, no page before that page is
 pub up_to_down : (last : Option GuestPage) → GoesDown (up_to last)
 up_to_down None p q before is = refl
-up_to_down (Some last) p q before is = elim (cases_Bool (comes_before last p)) [
-  | inl later ↦ absurd (true≢false (sym is ∙ ap not (before_trans last p q later before)))
-  | inr fine ↦ ap not fine
-]
+up_to_down (Some last) p q before is = let after = before_trans last p q in grind (arith, after, before, is)
 
 -- where a page comes before another, each page before that page does
 pub before_down : (page : GuestPage) → GoesDown (λ p. comes_before p page)
@@ -69,10 +66,7 @@ module _ (t : GuestPage → Bool) (down : GoesDown t) where
       All-cons (λ q. t q ≡ false) p pages fails (λ k d lt. too (get_or pages k d) (pairs_head Before p pages rise k d lt))
     where
       too : (q : GuestPage) → comes_before p q ≡ true → t q ≡ false
-      too q later = elim (cases_Bool (t q)) [
-        | inl passes ↦ absurd (true≢false (sym (down p q later passes) ∙ fails))
-        | inr so ↦ so
-      ]
+      too q later = let passes = down p q later in grind (arith, passes, fails)
 
   -- the first pages, as many as pass, are those that pass
   pub take_down : (pages : List GuestPage) → AreAscending pages → take (length (filter t pages)) pages ≡ filter t pages

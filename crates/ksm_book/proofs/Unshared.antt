@@ -1,5 +1,5 @@
 -- The commands on all pages of a guest, or on all there are, carried out.
-use Rattle.ksm_book.proofs.Names.{All, All-map, and-true, ap, append-nil, arith, BookState, Bool, CarriedOut, change_rows, Command, cond_both, Does, Done, Err, every_row, false, Fault, find, Gave, get_or, GuestPage, has_guest, HasShown, Held, inl, inr, is_before, is_next, is_of, is_some, IsHeld, IsLaid, IsStop, IsUnmerged, KeeperView, Knobs, left_by, let_go, List, list_any, lying, map, MatchOption, Mergeable, nodes_got, NoFrame, None, not, of_guest, Ok, Option, option_map, PagesView, refl, Row, SetRun, shared_rows, shared_state, slice_get, slice_get_past, Some, state_of, subst, sym, take, true, UnknownPage, Unmerge, Unmerged, UnmergesTo, unshare_stopped, unshared, Unshares, ℕ, ◌&&◌, ◌||◌, ◌∙◌, ◌∷◌, ◌≡◌, none_of, any_found, if◌then◌else◌, map_alike, map_mapped}
+use Rattle.ksm_book.proofs.Names.{All, All-map, and-true, ap, append-nil, arith, BookState, CarriedOut, change_rows, Command, cond_both, Does, Done, Err, every_row, false, Fault, find, Gave, get_or, GuestPage, has_guest, HasShown, Held, inl, inr, is_before, is_next, is_of, is_some, IsHeld, IsLaid, IsStop, IsUnmerged, KeeperView, Knobs, left_by, let_go, List, list_any, lying, map, MatchOption, Mergeable, nodes_got, NoFrame, None, not, of_guest, Ok, Option, option_map, PagesView, refl, Row, SetRun, shared_rows, shared_state, slice_get, slice_get_past, Some, state_of, subst, sym, take, true, UnknownPage, Unmerge, Unmerged, UnmergesTo, unshare_stopped, unshared, Unshares, ℕ, ◌&&◌, ◌||◌, ◌∙◌, ◌∷◌, ◌≡◌, none_of, any_found, if◌then◌else◌, map_alike, map_mapped}
 use Rattle.ksm_book.proofs.Laying.{LodgesAs, laid_mapped, retuned}
 use Rattle.ksm_book.proofs.Made.{chained}
 use Rattle.ksm_book.proofs.Singles.{book}
@@ -115,12 +115,7 @@ module _ {p q : PagesView} {k : KeeperView} (cursor : Option GuestPage) (passes 
 stopped_rows : (at : Option Row) (rows : List Row)
     → change_rows (λ r. of_guest None r && is_before at r) (left_by None) rows
     ≡ change_rows (λ r. shared_state r.state && is_before at r) unshared rows
-stopped_rows at rows = map_alike _ _ rows (λ i d lt. let r = get_or rows i d in one r (shared_state r.state) (is_before at r))
-  where
-    one : (r : Row) (s b : Bool) → (if b then (if s then unshared r else r) else r) ≡ (if s && b then unshared r else r)
-    one r true b = refl
-    one r false true = refl
-    one r false false = refl
+stopped_rows at rows = map_alike _ _ rows (λ i d lt. grind arith)
 
 -- a run of 2
 module _ {p m : PagesView} {k l : KeeperView} (cursor : Option GuestPage) (passes : ℕ) {count : ℕ} {stop : Option Fault}
