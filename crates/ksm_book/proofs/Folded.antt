@@ -192,11 +192,7 @@ module _ {X : Type 0} (step : BookState → X → Row → X) where
       t page = restless_at page s.0.rows
 
       alike : (x : GuestPage) → has_item x (filter t ps) ≡ has_item x (filter t qs)
-      alike x = has_filter t x ps ∙ by (t x) (same x) ∙ sym (has_filter t x qs)
-        where
-          by : (z : Bool) → (z ≡ true → has_item x ps ≡ has_item x qs) → (z && has_item x ps) ≡ (z && has_item x qs)
-          by true is = is refl
-          by false is = refl
+      alike x = has_filter t x ps ∙ (let is = same x in grind (arith, is)) ∙ sym (has_filter t x qs)
 
   module _ (beside : IsBeside step) where
     -- the visit of the next row is that of its page

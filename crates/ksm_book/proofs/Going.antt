@@ -84,9 +84,7 @@ module _ (change : Row → Row) (keeps : KeepsPage change) where
   }
     where
       at : (m n s t : Bool) → n ≡ m → (s ≡ true → t ≡ true) → (m && not s) ≡ false → (n && not t) ≡ false
-      at m n s true same kept calm = grind arith
-      at m n true false same kept calm = absurd (true≢false (sym (kept refl)))
-      at m n false false same kept calm = grind (arith, same, calm)
+      at m n s t same kept calm = grind (arith, same, kept, calm)
 
       by : (page : GuestPage) (o : Option Row) → row_at page rows ≡ o → restless_row o ≡ false → restless_row (option_map change o) ≡ false
       by page None found calm = refl

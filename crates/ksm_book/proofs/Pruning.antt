@@ -1,5 +1,5 @@
 -- Stale dups go one by one.
-use Rattle.ksm_book.proofs.Names.{[], All, All-head, All-tail, ap, append-nil, append_assoc, arith, cases_Bool, count_by, count_by-le-length, did, DupRow, elsewhere, eqb-true, false, filter, filter_all, filter_none, find, find_all, find_none, find_passes, frames_of, get_or, has_items, inl, InPlaceOrder, inr, is_stale, IsLaid, IsVacant, item_count, KeeperView, length, length-filter, List, lying, Made, map, nat_lt, nat_tests, None, not, one_of_each_place, option_map, ordered_filter, PagesView, pairs_tail, Performs, pruning, refl, Row, Shape, Some, subst, suc, sym, true, Withdraw, ℕ, ◌++◌, ◌+◌, ◌<◌, ◌==◌, ◌^◌, ◌∙◌, ◌∷◌, ◌≡◌, ◌≤◌, May, length-append, map-append}
+use Rattle.ksm_book.proofs.Names.{[], All, All-head, All-tail, ap, append-nil, append_assoc, arith, cases_Bool, count_by, count_by-le-length, did, DupRow, elsewhere, eqb-true, false, filter, filter_all, filter_none, find, find_all, find_none, find_passes, frames_of, get_or, has_items, inl, InPlaceOrder, inr, is_stale, IsLaid, IsVacant, item_count, KeeperView, length, length-filter, List, lying, Made, map, nat_tests, None, not, one_of_each_place, option_map, ordered_filter, PagesView, pairs_tail, Performs, pruning, refl, Row, Shape, Some, subst, suc, sym, true, Withdraw, ℕ, ◌++◌, ◌+◌, ◌<◌, ◌==◌, ◌^◌, ◌∙◌, ◌∷◌, ◌≡◌, ◌≤◌, May, length-append, map-append}
 use Rattle.std.proofs.lemmas.Bool.{eq-eqb}
 use Rattle.ksm_book.proofs.Sharing.{frames_few, laid_cleared, vacant_loose}
 use Rattle.ksm_book.proofs.Made.{made_one, made_then}
@@ -15,10 +15,8 @@ stale_vacant rows dups d rise found k x lt same =
 
 -- where no stale dup is found, all dups have items
 pub none_stale : (rows : List Row) (dups : List DupRow) → find (is_stale rows) dups ≡ None → filter (has_items rows) dups ≡ dups
-none_stale rows dups none = filter_all (has_items rows) dups (λ k x lt. live (item_count rows (get_or dups k x)) (find_none (is_stale rows) dups none k x lt))
-  where
-    live : (n : ℕ) → (n == 0) ≡ false → nat_lt 0 n ≡ true
-    live n e = grind (arith, nat_tests, e)
+none_stale rows dups none = filter_all (has_items rows) dups
+    (λ k x lt. let lives = find_none (is_stale rows) dups none k x lt in grind (arith, nat_tests, lives))
 
 -- a stale dup less is no dup with items less
 pub live_elsewhere : (rows : List Row) (place : ℕ) (dups : List DupRow) → IsVacant place rows dups → filter (has_items rows) (filter (elsewhere place) dups) ≡ filter (has_items rows) dups

@@ -1,5 +1,5 @@
 -- The visit of a row, by what is found: what becomes of the book, and what is done to the frames.
-use Rattle.ksm_book.proofs.Names.{[], Add, All, All-contains_itself, and_parts, ap, arith, Best, best_dup, best_dup_has_room, BookState, BookValue, BookView, Bool, change_row, Comes, Contains, doing, DupRow, each_at_page, emptying, false, find_all, find_passes, frame_found, frame_number, Frames, GuestPage, handled, handling, HasRoom, HasStayed, idle, IfSome, is_best, is_restless, IsDupOf, IsForZero, IsJoined, IsLaid, IsSound, item_count, joining, KeeperStep, KeeperView, leaving, leb-true, lies_on, List, lying, Made, mapped, MatchOption, May, may_join, MayJoin, Merged, merged_into, merged_state, nat_le, nat_lt, None, not, Option, page_visited, PagesView, paired, pairing, partner, Performs, Placed, Reached, refl, Row, row_at, row_visited, row_visiting, same_Some, shared_state, Some, sound_row_visited, state_of, stayed, Sub, subst, sym, true, true≢false, view_of, visited, VisitsPage, Zero, ℕ, ◌∙◌, ◌∷◌, ◌≡◌, ◌≤◌, if◌then◌else◌}
+use Rattle.ksm_book.proofs.Names.{[], Add, All, All-contains_itself, and_parts, ap, arith, Best, best_dup, best_dup_has_room, BookState, BookValue, BookView, Bool, change_row, Comes, Contains, doing, DupRow, each_at_page, emptying, false, find_all, find_passes, frame_found, frame_number, Frames, GuestPage, handled, handling, HasRoom, HasStayed, idle, IfSome, is_best, is_restless, IsDupOf, IsForZero, IsJoined, IsLaid, IsSound, item_count, joining, KeeperStep, KeeperView, leaving, lies_on, List, lying, Made, mapped, MatchOption, May, MayJoin, Merged, merged_into, merged_state, None, not, Option, page_visited, PagesView, paired, pairing, partner, Performs, Placed, Reached, refl, Row, row_at, row_visited, row_visiting, same_Some, shared_state, Some, sound_row_visited, state_of, stayed, Sub, subst, sym, true, true≢false, view_of, visited, VisitsPage, Zero, ℕ, ◌∙◌, ◌∷◌, ◌≡◌, ◌≤◌, if◌then◌else◌, nat_tests}
 use Rattle.ksm_base.specs.declared.row.PageState.TheVariants.{Private}
 use Rattle.frame_table.specs.Kept.{Did}
 use Rattle.ksm_book.proofs.ByPage.{found_page, row_of_page}
@@ -138,9 +138,7 @@ visit_comes v w page row found restless state does = λ from s before.
 best_has_item : (b : BookState) (row : Row) (dup : DupRow) → best_dup b.knobs b.rows b.dups row ≡ Some dup → 1 ≤ item_count b.rows dup
 best_has_item b row dup found =
     let best = find_passes (is_best b.knobs b.rows b.dups row) b.dups dup found in
-    let may = (and_parts (may_join b.knobs b.rows row dup) _ best).0 in
-    let alive = (and_parts _ (nat_lt (item_count b.rows dup) b.knobs.max_page_sharing) may).0 in
-    leb-true 1 (item_count b.rows dup) (and_parts _ (nat_le 1 (item_count b.rows dup)) alive).1
+    grind (arith, nat_tests, best)
 
 module _ (best : Best) {p : PagesView} {k : KeeperView} {cursor : Option GuestPage} {passes : ℕ} {v : BookView} {page : GuestPage}
     (at : Meets (λ b. MayJoin b best) p k cursor passes v page) where

@@ -1,5 +1,5 @@
 -- The frames of dups with items in a lawful placement.
-use Rattle.ksm_book.proofs.Names.{find_passes, Merged, [], ap, arith, Bool, cond_both, DupRow, empty_from, eqb-true, find, find_all, frame_at, Frames, get_or, InPlaceOrder, IsInLife, IsServed, item_count, kind_for, Ledger, length, List, merged_into, nat_tests, None, place_frame, Placed, Row, Shape, Some, Stable, subst, sym, true, zero_state, ℕ, ◌+◌, ◌<◌, ◌==◌, ◌^◌, ◌∙◌, ◌∷◌, ◌≡◌, ◌≢◌, ◌≤◌}
+use Rattle.ksm_book.proofs.Names.{find_passes, Merged, [], ap, arith, Bool, DupRow, empty_from, eqb-true, find, find_all, frame_at, Frames, get_or, InPlaceOrder, IsInLife, IsServed, item_count, kind_for, Ledger, length, List, merged_into, nat_tests, None, place_frame, Placed, Row, Shape, Some, Stable, subst, sym, true, zero_state, ℕ, ◌+◌, ◌<◌, ◌==◌, ◌^◌, ◌∙◌, ◌∷◌, ◌≡◌, ◌≢◌, ◌≤◌}
 use Rattle.ksm_book.proofs.Moves.{framed}
 use Rattle.ksm_book.proofs.Sharing.{first_found, state_of_item}
 
@@ -70,4 +70,4 @@ pub empty_from_most : (p : ℕ) (dups : List DupRow) → empty_from p dups ≤ p
 empty_from_most p [] = omega arith
 empty_from_most p (d ∷ ds) =
     let rest = empty_from_most (p + 1) ds in
-    cond_both (d.place == p) (empty_from (p + 1) ds) p (λ n. n ≤ p + length (d ∷ ds)) (λ _. omega (arith, rest)) (λ _. omega arith)
+    grind (arith, rest)

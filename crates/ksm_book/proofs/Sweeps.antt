@@ -1,5 +1,5 @@
 -- The dying frames of a range, one after another.
-use Rattle.ksm_book.proofs.Names.{[], ap, append-nil, arith, Bool, cases_Bool, Dying, dying_from, dying_kind, false, filter, filter-append, frame_at, inl, inr, Kind, Ledger, NoneOf, Note, range_with_len, refl, suc, sym, true, zero, ℕ, ◌*◌, ◌++◌, ◌+◌, ◌-◌, ◌<◌, ◌∙◌, ◌∷◌, ◌≡◌, ◌≤◌, if◌then◌else◌}
+use Rattle.ksm_book.proofs.Names.{[], ap, append-nil, arith, Bool, Dying, dying_from, dying_kind, false, filter, filter-append, frame_at, Kind, Ledger, NoneOf, Note, range_with_len, refl, suc, sym, true, zero, ℕ, ◌*◌, ◌++◌, ◌+◌, ◌-◌, ◌<◌, ◌∙◌, ◌∷◌, ◌≡◌, ◌≤◌, if◌then◌else◌}
 
 -- a kind that tests as dying is Dying
 pub is_dying_kind : (x : Kind) → dying_kind x ≡ true → x ≡ Dying
@@ -18,10 +18,7 @@ module _ (k : Ledger) (low : ℕ) where
 
   dying_more : (n : ℕ) (b : Bool) → dies (low + n) ≡ b → dying_from k low (n + 1) ≡ dying_from k low n ++ (if b then (low + n) ∷ [] else [])
   dying_more n b is = ap (filter dies) (range_more low n) ∙ filter-append dies (range_with_len low n) ((low + n) ∷ [])
-      ∙ ap (λ fs. dying_from k low n ++ fs) (elim (cases_Bool b) [
-        | inl yes' ↦ grind (arith, is, yes')
-        | inr no' ↦ grind (arith, is, no')
-      ])
+      ∙ ap (λ fs. dying_from k low n ++ fs) (grind (arith, is))
 
   dying_past : (n m : ℕ) → ((f : ℕ) → low + n ≤ f → f < low + n + m → dies f ≡ false) → dying_from k low (n + m) ≡ dying_from k low n
   dying_past n zero none = let e : n + 0 ≡ n = omega arith in ap (dying_from k low) e

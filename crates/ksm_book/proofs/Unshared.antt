@@ -183,8 +183,7 @@ module _ {p m : PagesView} {k l : KeeperView} (cursor : Option GuestPage) (passe
         → CarriedOut (book p k cursor passes) (book q l None passes) (SetRun 2) (Ok (Unmerged count stop)) × IsLaid q l
     unshare_ends {w} {q} wide goes =
         let rows = ap (map unshared) went
-        ∙ map_mapped unshared (left_by None) unshared p.rows (λ i d lt. let r = get_or p.rows i d in
-        cond_both (shared_state r.state) (unshared r) r (λ x. unshared x ≡ unshared r) (λ _. refl) (λ _. refl)) in (
+        ∙ map_mapped unshared (left_by None) unshared p.rows (λ i d lt. grind arith) in (
           carried q None (ap (λ (x : PagesView). x.frame) goes ∙ ap (λ (x : PagesView). x.frame) wide)
               (ap (λ x. state_of x None passes) goes
               ∙ (λ t. record (state_of (wide t) None passes) { knobs = record knobs { run = 2 } })
