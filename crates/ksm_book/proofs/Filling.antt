@@ -1,5 +1,5 @@
 -- Frames written, read, found and filled, and a dup's place that comes to name another frame.
-use Rattle.ksm_book.proofs.Names.{Add, ap, arith, blank, cases_lt, did, div-mul-add, Dying, filled, Finds, FitsBase, frame_at, frames_of, Free, GenerationFits, get_or-set_other, get_or-set_same, get_or_past, inl, inr, IsLawful, KeeperView, Kind, Ledger, length, length-set, List, loads, Made, mounting, None, Note, Open, opened, PAGE_WORDS, Placed, Private, Provides, Publish, puts, Raise, raised, refl, replicate, replicate-append-replicate, same_Some, set-get_or, Shape, Some, spent, spent_on, stepped, subst, sym, Took, with_frame, ℕ, ◌*◌, ◌++◌, ◌+◌, ◌-◌, ◌/◌, ◌<◌, ◌∙◌, ◌∷◌, ◌≡◌, ◌≢◌, ◌≤◌, set-set}
+use Rattle.ksm_book.proofs.Names.{Add, ap, arith, blank, did, div-mul-add, Dying, filled, Finds, FitsBase, frame_at, frames_of, Free, GenerationFits, get_or-set_other, get_or-set_same, inl, IsLawful, KeeperView, Kind, Ledger, length, length-set, List, loads, Made, mounting, None, Note, Open, opened, PAGE_WORDS, Placed, Private, Provides, Publish, puts, Raise, raised, refl, replicate, replicate-append-replicate, same_Some, set-get_or, Shape, Some, spent, spent_on, stepped, subst, sym, Took, with_frame, ℕ, ◌*◌, ◌++◌, ◌+◌, ◌-◌, ◌/◌, ◌<◌, ◌∙◌, ◌∷◌, ◌≡◌, ◌≢◌, ◌≤◌, set-set}
 use Rattle.ksm_book.proofs.ByPage.{one_same, one_other}
 use Rattle.ksm_book.proofs.Shown.{provides_does}
 use Rattle.ksm_book.proofs.Keeping.{node_end, searched_placed, searched_spends, spent_kept}
@@ -107,13 +107,6 @@ module _ {v w : KeeperView} {node : ℕ} {bytes : List ℕ} {g : ℕ} (less : no
       }
 
 -- ---------------------------------------------------------------- a place comes to name another frame
-
--- a frame with a reference is one that the keeper knows
-pub held_within : (k : Ledger) (f : ℕ) → 1 ≤ (frame_at k f).base → f < length k.frames
-held_within k f some = elim (cases_lt f (length k.frames)) [
-  | inl less ↦ less
-  | inr more ↦ absurd (let none = ap (λ (x : Note). x.base) (get_or_past k.frames f blank more) in omega (arith, some, none))
-]
 
 -- n references that came to a frame, and one more, are n + 1 steps of the keeper
 pub add_more : (v w w' : KeeperView) (f n found : ℕ) → Made v w (replicate n (Add f)) → w' ≡ did w (Add f) found → Made v w' (replicate (n + 1) (Add f))

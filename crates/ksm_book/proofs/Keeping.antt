@@ -59,6 +59,13 @@ spent_kept k g fr le = by k.frames g le
 
 -- ---------------------------------------------------------------- a reference goes
 
+-- a frame with a reference is one that the keeper knows
+pub held_within : (k : Ledger) (f : ℕ) → 1 ≤ (frame_at k f).base → f < length k.frames
+held_within k f some = elim (cases_lt f (length k.frames)) [
+  | inl less ↦ less
+  | inr more ↦ absurd (let none = ap (λ (x : Note). x.base) (get_or_past k.frames f blank more) in omega (arith, some, none))
+]
+
 -- a frame in hand is one of the table, and has a reference
 pub held_inside : {sh : Shape} {across : ℕ} {k : Ledger} {rows : List Row} {frame : Frames} {dups : List DupRow} {g : ℕ} → Placed sh across k rows frame dups (Some g)
     → (g < frames_of sh) × (1 ≤ (frame_at k g).base)
@@ -66,13 +73,8 @@ held_inside {k = k} {g = g} p =
     let one = one_same g (Some g) refl in
     let base = p.bases g in
     let long = p.frames_long in
-    let some : 1 ≤ (frame_at k g).base = omega (arith, one, base) in (
-      elim (cases_lt g (length k.frames)) [
-        | inl less ↦ omega (arith, less, long)
-        | inr more ↦ absurd (let none : (frame_at k g).base ≡ 0 = ap (λ (x : Note). x.base) (get_or_past k.frames g blank more) in omega (arith, some, none))
-      ],
-      some,
-    )
+    let some : 1 ≤ (frame_at k g).base = omega (arith, one, base) in
+    (omega (arith, held_within k g some, long), some)
 
 -- the frame in hand, if there is one, may be left
 pub may_leave : (v : KeeperView) {sh : Shape} → v.table.shape ≡ sh → {across : ℕ} {rows : List Row} {frame : Frames} {dups : List DupRow} (o : Option ℕ)

@@ -1,7 +1,8 @@
 use Rattle.ksm_book.proofs.Names.{added, ap, arith, frame_at, KeeperView, Ledger, Note, refl, sym, with_frame, with_more, ℕ, ◌+◌, ◌∙◌, ◌≡◌}
-use Rattle.ksm_book.proofs.Filling.{add_more, as_it_was, at_again, follow, held_within}
+use Rattle.ksm_book.proofs.Filling.{add_more, as_it_was, at_again, follow}
 use Rattle.ksm_book.proofs.Made.{made_none}
 use Rattle.ksm_book.proofs.mounting.add_times.Goals as goal
+use Rattle.ksm_book.proofs.Keeping.{held_within}
 
 pub loop-done-init : goal.loop-done-init
 loop-done-init c =
