@@ -1,5 +1,5 @@
 -- Rows that are changed one after another, in the order of their pages: those of a guest, or all, up to a cursor.
-use Rattle.ksm_book.proofs.Names.{[], after_cursor, after_differs, All, All-append, All-cons, All-head, All-map, All-tail, AllPairs, and-true, and_parts, and_right, ap, append-nil, arith, before_differs, before_irrefl, Bool, cases_Bool, change_none, change_row, change_rows, comes_before, cond_both, false, filter, filter-append, filter_none, find, find_none, find_passes, get_or, GuestPage, inl, InPageOrder, inr, is_before, is_next, List, map, map-append, nat_tests, None, not_both, of_guest, Option, option_map, pairs_cross, pairs_head, pairs_tail, refl, Row, row_at, same_page, same_page_refl, Some, subst, sym, true, ℕ, ⊤, ◌&&◌, ◌*◌, ◌++◌, ◌+◌, ◌<◌, ◌||◌, ◌∙◌, ◌∷◌, ◌≡◌, ◌≤◌, find-append, option_or, find_nothing, map_alike, if◌then◌else◌}
+use Rattle.ksm_book.proofs.Names.{[], after_cursor, after_differs, All, All-append, All-cons, All-head, All-map, All-tail, AllPairs, and-true, and_parts, and_right, ap, append-nil, arith, before_differs, before_irrefl, Bool, cases_Bool, change_none, change_row, change_rows, comes_before, cond_both, false, filter, filter-append, filter_none, find, find_none, find_passes, get_or, GuestPage, inl, InPageOrder, inr, is_before, is_next, List, map, map-append, nat_tests, None, not_both, of_guest, Option, option_map, pairs_cross, pairs_head, pairs_tail, refl, Row, row_at, same_page, same_page_refl, Some, subst, sym, true, ℕ, ⊤, ◌&&◌, ◌*◌, ◌++◌, ◌+◌, ◌<◌, ◌∙◌, ◌∷◌, ◌≡◌, ◌≤◌, find-append, option_or, find_nothing, map_alike, if◌then◌else◌}
 use Rattle.std.proofs.lemmas.List.{append_assoc}
 use Rattle.ksm_book.proofs.ByPage.{mapped_from}
 

@@ -1,5 +1,5 @@
 -- What is answered where a dup is to move.
-use Rattle.ksm_book.proofs.Names.{and_parts, Answer, ap, arith, BookState, CarriedOut, crosses, Done, DupRow, eqb-true, Err, false, Fault, find, find_passes, FindsHeld, GuestPage, has_items, HasMoved, HasRemounted, InUse, IsAnswerUnless, KeeperView, live_dup_at, lying, MatchOption, MayMove, MoveDup, Moves, NoFrame, None, NoneLeft, Ok, Option, PagesView, refusal, Some, state_of, subst, sym, ℕ, ◌&&◌, ◌<◌, ◌==◌, ◌∙◌, ◌≡◌, nat_tests}
+use Rattle.ksm_book.proofs.Names.{and_parts, Answer, ap, arith, BookState, CarriedOut, crosses, Done, DupRow, eqb-true, Err, false, Fault, find, find_passes, FindsHeld, GuestPage, has_items, HasMoved, HasRemounted, InUse, IsAnswerUnless, KeeperView, live_dup_at, lying, MatchOption, MayMove, MoveDup, Moves, NoFrame, None, NoneLeft, Ok, Option, PagesView, refusal, Some, state_of, subst, sym, ℕ, ◌&&◌, ◌==◌, ◌≡◌, nat_tests}
 use Rattle.ksm_book.proofs.Singles.{book, there_is}
 
 module _ (b : BookState) (place node : ℕ) (dup : DupRow) (found : Some dup ≡ live_dup_at b place) where

@@ -1,5 +1,5 @@
 -- The visit of a page: what was found of its row, and what becomes of the book where the row alone changes.
-use Rattle.ksm_book.proofs.Names.{All, ap, arith, BookState, BookValue, BookView, change_row, Comes, cond_both, Deed, doing, false, Find, FindsAt, Frames, get_or, GuestPage, HasStayed, idle, InPageOrder, inr, is_restless, IsLaid, IsSound, IsStill, KeeperView, List, lying, map, mapped, MatchOption, Merged, None, Option, page_visited, PageState, PagesView, paired, pairing, partner, Performs, refl, restless_at, restless_row, Row, row_at, row_visited, row_visiting, same_page, settled, settled_state, shared_state, Some, state_of, subst, sym, then_doing, true, view_of, visited, VisitsPage, Waiting, Zero, ℕ, ◌∙◌, ◌∷◌, ◌≡◌, if◌then◌else◌, map_mapped}
+use Rattle.ksm_book.proofs.Names.{All, ap, arith, BookState, BookValue, BookView, change_row, Comes, cond_both, Deed, doing, false, Find, FindsAt, Frames, get_or, GuestPage, HasStayed, idle, InPageOrder, inr, is_restless, IsLaid, IsSound, IsStill, KeeperView, List, lying, map, mapped, MatchOption, Merged, None, Option, page_visited, PageState, PagesView, paired, pairing, partner, Performs, refl, restless_at, restless_row, Row, row_at, row_visited, row_visiting, same_page, settled, settled_state, shared_state, Some, state_of, subst, sym, then_doing, true, view_of, visited, VisitsPage, Waiting, Zero, ℕ, ◌∙◌, ◌≡◌, if◌then◌else◌, map_mapped}
 use Rattle.ksm_base.specs.declared.row.PageState.TheVariants.{Private}
 use Rattle.ksm_pages.specs.declared.pages.Find.TheVariants as finds
 use Rattle.ksm_pages.specs.Paged.{Finds, visited as row_changed}

@@ -187,13 +187,12 @@ has_first p pages = ap (λ b. b || has_item p pages) (same_page_refl p)
 -- ascending lists that have the same pages begin with no earlier page than the other
 no_earlier : (p q : GuestPage) (ps qs : List GuestPage) → AreAscending (q ∷ qs)
     → ((x : GuestPage) → has_item x (p ∷ ps) ≡ has_item x (q ∷ qs)) → comes_before p q ≡ false
-no_earlier p q ps qs rise same = elim (cases_Bool (comes_before p q)) [
-  | inl before ↦
-      let behind : All (Before p) (q ∷ qs) =
-      All-cons (Before p) q qs before (λ k d lt. before_trans p q (get_or qs k d) before (pairs_head Before q qs rise k d lt)) in
-      absurd (true≢false (sym (has_first p ps) ∙ same p ∙ not_behind p (q ∷ qs) behind))
-  | inr fine ↦ fine
-]
+no_earlier p q ps qs rise same =
+    let behind : comes_before p q ≡ true → has_item p (q ∷ qs) ≡ false = λ before. not_behind p (q ∷ qs)
+    (All-cons (Before p) q qs before (λ k d lt. before_trans p q (get_or qs k d) before (pairs_head Before q qs rise k d lt))) in
+    let first = has_first p ps in
+    let both = same p in
+    grind (arith, behind, first, both)
 
 -- ascending lists that have the same pages are the same
 pub same_pages : (ps qs : List GuestPage) → AreAscending ps → AreAscending qs → ((x : GuestPage) → has_item x ps ≡ has_item x qs) → ps ≡ qs

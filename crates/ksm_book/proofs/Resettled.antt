@@ -1,7 +1,6 @@
 -- How a page gets another frame.
 use Rattle.ksm_book.proofs.Names.{ap, arith, change_row, FindsNone, Frames, GuestPage, Houses, IfSome, InPageOrder, is_some, IsKnown, IsLaid, KeeperView, leaving, lies_on, List, Made, MatchOption, May, None, on_its_own, Option, PagesView, Placed, Provides, refl, Resettled, Row, row_at, Shape, Some, Sub, subst, sym, Took, true, TurnedAway, ℕ, ◌<◌, ◌∙◌, ◌≡◌}
 use Rattle.ksm_base.specs.declared.row.PageState.TheVariants.{Private}
-use Rattle.ksm_book.proofs.Filling.{took}
 use Rattle.ksm_book.proofs.Shown.{does_then, quiet_does, quiet_leaving, none_left}
 use Rattle.ksm_book.proofs.Keeping.{left_placed, left_spends, may_leave, searched_placed, searched_spends}
 use Rattle.ksm_book.proofs.Laying.{laid_kept, moved_there, shape_same}

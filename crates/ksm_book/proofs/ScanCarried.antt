@@ -1,5 +1,5 @@
 -- A scan carried out: what its visits come to is what the command promises, and they give no frame.
-use Rattle.ksm_book.proofs.Names.{[], ap, arith, best_dup, BookState, BookValue, CarriedOut, Comes, cond_both, Deed, doing, Done, DupRow, emptying, false, Fault, Frames, handling, HasScanned, idle, is_for_zero, IsScanned, length, List, list_any, list_any_none, Made, Memory, mergeable_pages, new_place, next_row, None, none_counted, not, Ok, Option, pairing, partner, place_count, refl, Reply, Row, Scan, scan_stopped, Scanned, scanning, shared_state, Some, staying, subst, suc, sym, true, view_of, visit_begun, visiting, visiting_of, visits, visits_beside, Withdraw, withdrawing, zero, ℕ, ◌==◌, ◌∙◌, ◌∷◌, ◌≡◌, ◌≤◌, if◌then◌else◌}
+use Rattle.ksm_book.proofs.Names.{[], ap, arith, best_dup, BookState, BookValue, CarriedOut, Comes, cond_both, Deed, doing, Done, DupRow, emptying, false, Fault, Frames, handling, HasScanned, idle, is_for_zero, IsScanned, length, List, list_any, list_any_none, Made, Memory, mergeable_pages, new_place, next_row, None, none_counted, Ok, Option, pairing, partner, place_count, refl, Reply, Row, Scan, scan_stopped, Scanned, scanning, shared_state, Some, staying, subst, suc, sym, true, view_of, visit_begun, visiting, visiting_of, visits, visits_beside, Withdraw, withdrawing, zero, ℕ, ◌==◌, ◌∙◌, ◌∷◌, ◌≡◌, ◌≤◌, if◌then◌else◌}
 use Rattle.ksm_book.proofs.Doing.{scanning_is}
 use Rattle.ksm_book.proofs.Folded.{beside_state}
 use Rattle.ksm_book.proofs.Listed.{some_pages}

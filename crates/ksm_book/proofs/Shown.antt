@@ -1,5 +1,5 @@
 -- The frames that steps give, and what the log shows of a frame that was not found, of one in use, and of a dup that moved.
-use Rattle.ksm_book.proofs.Names.{[], Add, ap, append_cancel_left, arith, blank, Bool, cases_Bool, cond, Contains, Contains-append_right, Contains-push, count_in, Did, did, Does, dup_frame, DupRow, Dying, dying_kind, dying_on, false, FindsHeld, FindsNone, frame_at, Free, free_kind, Freeze, frozen, get_or, get_or-range_with_len, get_or-set_other, given_by, Gives, HasLost, HasMoved, inl, inr, IsLowestFree, IsNeeded, item_count, KeeperStep, KeeperView, leaving, Ledger, ledger_after, length, length-append, length-range_with_len, List, loads, Log, Made, map, Mapped, Moves, nat_tests, needed_after, None, NoneLeft, Note, Open, Option, Provides, Publish, puts, Raise, range_with_len, Reap, reaped, refl, replicate, Retired, Row, set, Shape, Some, Stable, stepped, steps_of, subst, suc, sym, true, with_frame, Withdraw, zero, ℕ, ◌*◌, ◌++◌, ◌+◌, ◌-◌, ◌<◌, ◌==◌, ◌∙◌, ◌∷◌, ◌≡◌, ◌≢◌, ◌≤◌, if◌then◌else◌, drop}
+use Rattle.ksm_book.proofs.Names.{[], Add, ap, append_cancel_left, arith, blank, Bool, cases_Bool, cond, Contains, Contains-append_right, Contains-push, count_in, Did, did, Does, dup_frame, DupRow, Dying, dying_kind, dying_on, false, FindsHeld, FindsNone, frame_at, Free, free_kind, Freeze, frozen, get_or, get_or-range_with_len, get_or-set_other, given_by, Gives, HasLost, HasMoved, inl, inr, IsLowestFree, IsNeeded, item_count, KeeperStep, KeeperView, leaving, Ledger, ledger_after, length, length-append, length-range_with_len, List, loads, Log, Made, map, Mapped, Moves, nat_tests, needed_after, None, NoneLeft, Note, Open, Option, Provides, Publish, puts, Raise, range_with_len, Reap, reaped, refl, replicate, Retired, Row, set, Shape, Some, Stable, stepped, steps_of, subst, suc, sym, true, with_frame, Withdraw, zero, ℕ, ◌*◌, ◌++◌, ◌+◌, ◌-◌, ◌<◌, ◌==◌, ◌∙◌, ◌∷◌, ◌≡◌, ◌≢◌, ◌≤◌, drop}
 use Rattle.ksm_book.proofs.Keeping.{set_holds}
 use Rattle.ksm_book.proofs.Made.{chained, stepped_then, first_made, made_then, none_made, step_made}
 use Rattle.ksm_book.proofs.ByPage.{contains_filter}

@@ -1,5 +1,5 @@
 -- The frames of dups with items in a lawful placement.
-use Rattle.ksm_book.proofs.Names.{find_passes, Merged, [], ap, arith, Bool, DupRow, empty_from, eqb-true, find, find_all, frame_at, Frames, get_or, InPlaceOrder, IsInLife, IsServed, item_count, kind_for, Ledger, length, List, merged_into, nat_tests, None, place_frame, Placed, Row, Shape, Some, Stable, subst, sym, true, zero_state, ℕ, ◌+◌, ◌<◌, ◌==◌, ◌^◌, ◌∙◌, ◌∷◌, ◌≡◌, ◌≢◌, ◌≤◌}
+use Rattle.ksm_book.proofs.Names.{find_passes, Merged, [], ap, arith, Bool, DupRow, empty_from, eqb-true, find, find_all, frame_at, Frames, get_or, InPlaceOrder, IsInLife, IsServed, item_count, kind_for, Ledger, length, List, merged_into, nat_tests, None, place_frame, Placed, Row, Shape, Some, Stable, subst, sym, true, zero_state, ℕ, ◌+◌, ◌<◌, ◌==◌, ◌∙◌, ◌∷◌, ◌≡◌, ◌≢◌, ◌≤◌}
 use Rattle.ksm_book.proofs.Moves.{framed}
 use Rattle.ksm_book.proofs.Sharing.{first_found, state_of_item}
 

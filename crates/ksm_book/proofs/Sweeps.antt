@@ -1,5 +1,5 @@
 -- The dying frames of a range, one after another.
-use Rattle.ksm_book.proofs.Names.{[], ap, append-nil, arith, Bool, Dying, dying_from, dying_kind, false, filter, filter-append, frame_at, Kind, Ledger, NoneOf, Note, range_with_len, refl, suc, sym, true, zero, ℕ, ◌*◌, ◌++◌, ◌+◌, ◌-◌, ◌<◌, ◌∙◌, ◌∷◌, ◌≡◌, ◌≤◌, if◌then◌else◌}
+use Rattle.ksm_book.proofs.Names.{[], ap, append-nil, arith, Bool, Dying, dying_from, dying_kind, false, filter, filter-append, frame_at, Kind, Ledger, NoneOf, Note, range_with_len, refl, suc, sym, true, zero, ℕ, ◌++◌, ◌+◌, ◌-◌, ◌<◌, ◌∙◌, ◌∷◌, ◌≡◌, ◌≤◌, if◌then◌else◌}
 
 -- a kind that tests as dying is Dying
 pub is_dying_kind : (x : Kind) → dying_kind x ≡ true → x ≡ Dying

@@ -1,5 +1,5 @@
 -- The commands on all pages of a guest, or on all there are, carried out.
-use Rattle.ksm_book.proofs.Names.{All, All-map, and-true, ap, append-nil, arith, BookState, CarriedOut, change_rows, Command, cond_both, Does, Done, Err, every_row, false, Fault, find, Gave, get_or, GuestPage, has_guest, HasShown, Held, inl, inr, is_before, is_next, is_of, is_some, IsHeld, IsLaid, IsStop, IsUnmerged, KeeperView, Knobs, left_by, let_go, List, list_any, lying, map, MatchOption, Mergeable, nodes_got, NoFrame, None, not, of_guest, Ok, Option, option_map, PagesView, refl, Row, SetRun, shared_rows, shared_state, slice_get, slice_get_past, Some, state_of, subst, sym, take, true, UnknownPage, Unmerge, Unmerged, UnmergesTo, unshare_stopped, unshared, Unshares, ℕ, ◌&&◌, ◌||◌, ◌∙◌, ◌∷◌, ◌≡◌, none_of, any_found, if◌then◌else◌, map_alike, map_mapped}
+use Rattle.ksm_book.proofs.Names.{All, All-map, and-true, ap, append-nil, arith, BookState, CarriedOut, change_rows, Command, cond_both, Does, Done, Err, every_row, false, Fault, find, Gave, get_or, GuestPage, has_guest, HasShown, Held, inl, inr, is_before, is_next, is_of, is_some, IsHeld, IsLaid, IsStop, IsUnmerged, KeeperView, Knobs, left_by, let_go, List, list_any, lying, map, MatchOption, Mergeable, nodes_got, NoFrame, None, of_guest, Ok, Option, option_map, PagesView, refl, Row, SetRun, shared_rows, shared_state, slice_get, slice_get_past, Some, state_of, subst, sym, take, true, UnknownPage, Unmerge, Unmerged, UnmergesTo, unshare_stopped, unshared, Unshares, ℕ, ◌&&◌, ◌∙◌, ◌≡◌, none_of, any_found, if◌then◌else◌, map_alike, map_mapped}
 use Rattle.ksm_book.proofs.Laying.{LodgesAs, laid_mapped, retuned}
 use Rattle.ksm_book.proofs.Made.{chained}
 use Rattle.ksm_book.proofs.Singles.{book}

@@ -1,4 +1,4 @@
-use Rattle.ksm_book.proofs.Names.{arith, rules, Some, ◌∙◌}
+use Rattle.ksm_book.proofs.Names.{arith, rules, Some}
 use Rattle.ksm_book.proofs.Along.{further, not_far}
 use Rattle.ksm_book.proofs.Unmerged.{marking_end, marking_next}
 use Rattle.ksm_book.proofs.unmerging.make_mergeable.Goals as goal

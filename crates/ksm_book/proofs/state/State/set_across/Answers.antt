@@ -1,4 +1,4 @@
-use Rattle.ksm_book.proofs.Names.{[], All, ap, arith, BookValue, changes_while_shared, Done, effect, false, get_or, inr, IsLaid, IsSound, Knobs, nat_tests, ne_eqb, no_dup_lives, None, none_shared, PageState, PagesView, refl, refusal, rules, seen, SetAcross, settled, settled_state, sound_set_across, state_of, subst, sym, waiting_state, ◌==◌, ◌∙◌, ◌∷◌, ◌≡◌, ◌≤◌, All-map}
+use Rattle.ksm_book.proofs.Names.{[], All, ap, arith, BookValue, changes_while_shared, Done, effect, false, get_or, inr, IsLaid, IsSound, Knobs, nat_tests, ne_eqb, no_dup_lives, None, none_shared, PageState, PagesView, refl, refusal, rules, seen, SetAcross, settled, settled_state, sound_set_across, state_of, subst, sym, waiting_state, ◌==◌, ◌∙◌, ◌≡◌, ◌≤◌, All-map}
 use Rattle.ksm_base.specs.declared.row.PageState.TheVariants.{Private}
 use Rattle.ksm_book.proofs.Laying.{laid_mapped, retuned}
 use Rattle.ksm_book.proofs.Sharing.{settled_lodges}
