@@ -1,14 +1,11 @@
 -- Rows that are changed one after another, in the order of their pages: those of a guest, or all, up to a cursor.
-use Rattle.ksm_book.proofs.Names.{[], after_cursor, after_differs, All, All-append, All-cons, All-head, All-map, All-tail, AllPairs, and-true, and_parts, and_right, ap, append-nil, arith, before_differs, before_irrefl, Bool, cases_Bool, cases_order, change_none, change_row, change_rows, comes_before, cond_both, false, filter, filter-append, filter_none, find, find_none, find_passes, get_or, GuestPage, if◌then◌else◌, inl, InPageOrder, inr, is_before, is_next, List, list_any, list_any-append, list_any_none, map, map-append, nat_tests, None, not_both, of_guest, Option, option_map, or-false, pairs_cross, pairs_head, pairs_tail, refl, Row, row_at, same_page, same_page_refl, same_Some, Some, subst, sym, true, ℕ, ⊤, ◌&&◌, ◌*◌, ◌++◌, ◌+◌, ◌<◌, ◌||◌, ◌∙◌, ◌∷◌, ◌≡◌, ◌≤◌}
+use Rattle.ksm_book.proofs.Names.{[], after_cursor, after_differs, All, All-append, All-cons, All-head, All-map, All-tail, AllPairs, and-true, and_parts, and_right, ap, append-nil, arith, before_differs, before_irrefl, Bool, cases_Bool, change_none, change_row, change_rows, comes_before, cond_both, false, filter, filter-append, filter_none, find, find_none, find_passes, get_or, GuestPage, inl, InPageOrder, inr, is_before, is_next, List, map, map-append, nat_tests, None, not_both, of_guest, Option, option_map, pairs_cross, pairs_head, pairs_tail, refl, Row, row_at, same_page, same_page_refl, Some, subst, sym, true, ℕ, ⊤, ◌&&◌, ◌*◌, ◌++◌, ◌+◌, ◌<◌, ◌∙◌, ◌∷◌, ◌≡◌, ◌≤◌, find-append, option_or, find_nothing, map_alike, if◌then◌else◌}
 use Rattle.std.proofs.lemmas.List.{append_assoc}
+use Rattle.ksm_book.proofs.ByPage.{mapped_from}
 
 -- what no element of the first list passes is searched in the second alone
 find_apart : {X : Type 0} (t : X → Bool) (xs ys : List X) → All (λ x. t x ≡ false) xs → find t (xs ++ ys) ≡ find t ys
-find_apart t [] ys none = refl
-find_apart t (x ∷ xs) ys none =
-    let here = All-head (λ y. t y ≡ false) x xs none in
-    let rest = find_apart t xs ys (All-tail (λ y. t y ≡ false) x xs none) in
-    grind (arith, here, rest)
+find_apart t xs ys none = find-append t xs ys ∙ ap (λ o. option_or o (find t ys)) (find_nothing t xs none)
 
 -- a list in which an element is found is cut there, by any test that agrees
 find_cut : {X : Type 0} (s t : X → Bool) (xs : List X) (r : X) → All (λ x. s x ≡ t x) xs → find s xs ≡ Some r
@@ -24,15 +21,6 @@ find_cut s t (x ∷ xs) r agree found =
           let more = find_cut s t xs r (All-tail (λ y. s y ≡ t y) x xs agree) (grind (arith, other, found)) in
           (x ∷ more.0, more.1, ap (λ l. x ∷ l) more.2, more.3, All-cons (λ y. t y ≡ false) x more.0 (sym same ∙ other) more.4)
     ]
-
--- changes by tests that agree at each row are the same
-change_agree : (s t : Row → Bool) (f : Row → Row) (rows : List Row) → All (λ r. s r ≡ t r) rows
-    → change_rows s f rows ≡ change_rows t f rows
-change_agree s t f [] agree = refl
-change_agree s t f (r ∷ rows) agree =
-    let here = All-head (λ x. s x ≡ t x) r rows agree in
-    let rest = change_agree s t f rows (All-tail (λ x. s x ≡ t x) r rows agree) in
-    λ i. (if here i then f r else r) ∷ rest i
 
 -- where all pairs of two lists in a row are related, so are those of the second
 pairs_right : {X : Type 0} (R : X → X → Type 0) (xs ys : List X) → AllPairs R (xs ++ ys) → AllPairs R ys
@@ -97,15 +85,12 @@ module _ {asked : Row → Bool} (f : Row → Row) (keeps : (r : Row) → (f r).p
   agree = λ k d lt. let r = get_or left k d in ap (λ b. asked r && b) (a.ahead k d lt) ∙ and-true (asked r)
 
   -- where no row asked for comes after the cursor, each row asked for is changed, and those left are not asked for
-  pub along_end : find (next_of last) now ≡ None → (now ≡ change_rows asked f rows)
-      × (list_any asked rows ≡ list_any asked done) × All (λ r. asked r ≡ false) left
+  pub along_end : find (next_of last) now ≡ None → (now ≡ change_rows asked f rows) × All (λ r. asked r ≡ false) left
   along_end ended =
       let all = find_none (next_of last) left (sym among ∙ ended) in
       let none : All (λ r. asked r ≡ false) left = λ k d lt. sym (agree k d lt) ∙ all k d lt in (
         a.are ∙ ap (λ l. map changed done ++ l) (sym (change_none asked f left none)) ∙ sym (map-append changed done left)
             ∙ ap (map changed) (sym a.whole),
-        ap (list_any asked) a.whole ∙ list_any-append asked done left
-            ∙ ap (λ b. list_any asked done || b) (list_any_none asked left none) ∙ or-false (list_any asked done),
         none,
       )
 
@@ -178,8 +163,8 @@ module _ {asked : Row → Bool} (f : Row → Row) (keeps : (r : Row) → (f r).p
       };
       stop =
           let test = λ (x : Row). asked x && comes_before x.page r.page in
-          let few = change_agree asked test f before (λ k d lt. let x = get_or before k d in
-          sym (ap (λ b. asked x && b) (first k d lt) ∙ and-true (asked x))) in
+          let few = map_alike changed (λ x. if test x then f x else x) before (λ k d lt. let x = get_or before k d in
+          λ i. if sym (ap (λ b. asked x && b) (first k d lt) ∙ and-true (asked x)) i then f x else x) in
           let none = change_none test f (r ∷ rest) (All-cons (λ x. test x ≡ false) r rest
           (and_right (asked r) (comes_before r.page r.page) (before_irrefl r.page)) (λ k d lt. let x = get_or rest k d in
           and_right (asked x) (comes_before x.page r.page) (not_both r.page x.page (behind k d lt)))) in
@@ -190,11 +175,9 @@ module _ {asked : Row → Bool} (f : Row → Row) (keeps : (r : Row) → (f r).p
   -- where a search tells a page as the next one asked for after the cursor, the rows are cut at that page
   pub along_cut : InPageOrder rows → (page : GuestPage) → option_map (λ r. r.page) (find (next_of last) now) ≡ Some page
       → IsCut asked f rows now done page
-  along_cut rise page told = by (find (next_of last) now) refl told
-    where
-      by : (o : Option Row) → find (next_of last) now ≡ o → option_map (λ r. r.page) o ≡ Some page → IsCut asked f rows now done page
-      by None none is = absurd (grind (arith, is))
-      by (Some r) found is = subst (IsCut asked f rows now done) (same_Some r.page page is) (cut_there rise r found)
+  along_cut rise page told =
+      let at = mapped_from (λ (r : Row). r.page) (find (next_of last) now) page told in
+      subst (IsCut asked f rows now done) at.2 (cut_there rise at.0 at.1)
 
 -- ---------------------------------------------------------------- how far the cursor is
 
@@ -211,23 +194,14 @@ FitsPage (Some p) = (p.guest < 65536) × (p.page < 4294967296)
 -- the next page of a guest, or of all, after a cursor that fits has a greater position than the cursor
 pub further : (guest : Option ℕ) (last : Option GuestPage) (rows : List Row) (page : GuestPage) → FitsPage last
     → option_map (λ r. r.page) (find (is_next guest last) rows) ≡ Some page → position last < position (Some page)
-further guest last rows page fits told = by (find (is_next guest last) rows) refl told
+further guest last rows page fits told =
+    let at = mapped_from (λ (r : Row). r.page) (find (is_next guest last) rows) page told in
+    let passes = find_passes (is_next guest last) rows at.0 at.1 in
+    far last fits (ap (after_cursor last) (sym at.2) ∙ (and_parts (of_guest guest at.0) (after_cursor last at.0.page) passes).1)
   where
     far : (o : Option GuestPage) → FitsPage o → after_cursor o page ≡ true → position o < position (Some page)
     far None fits after = omega arith
-    far (Some p) fits after = elim (cases_order p.guest page.guest) [
-      | inl same ↦ (let later : p.page < page.page = grind (arith, nat_tests, same, after) in omega (arith, same, later))
-      | inr rest ↦ elim rest [
-        | inl less ↦ (let fit = fits.1 in omega (arith, less, fit))
-        | inr more ↦ absurd (grind (arith, nat_tests, more, after))
-      ]
-    ]
-
-    by : (o : Option Row) → find (is_next guest last) rows ≡ o → option_map (λ r. r.page) o ≡ Some page
-        → position last < position (Some page)
-    by None none is = absurd (grind (arith, is))
-    by (Some r) found is = far last fits (ap (after_cursor last) (sym (same_Some r.page page is))
-        ∙ (and_parts (of_guest guest r) (after_cursor last r.page) (find_passes (is_next guest last) rows r found)).1)
+    far (Some p) fits after = let fit = fits.1 in grind (arith, nat_tests, after, fit)
 
 -- the position of a cursor that fits is 2^48 at most
 pub not_far : (last : Option GuestPage) → FitsPage last → position last ≤ 281474976710656

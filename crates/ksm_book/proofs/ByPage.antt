@@ -1,9 +1,19 @@
 -- Rows that change at one page: what becomes of what holds of each row, and of how many lie on a frame.
-use Rattle.ksm_book.proofs.Names.{[], All, All-cons, All-head, All-map, All-tail, ap, arith, Bool, both_ways, cases_Bool, change_row, cond, cond_both, count_by, count_more, count_with_row, count_without_page, counts_one, eq-eqb, eqb-true, false, filter, filter_passes, find_all, find_none, find_passes, Frames, get_or, GuestPage, if◌then◌else◌, inl, InPageOrder, inr, is_frame, lies_on, List, map, ne_eqb, None, not, not-true, one_of_each_page, Option, refl, Row, row_at, same_page, same_page_eq, same_page_refl, Some, subst, suc, sym, true, uses, with_row, without_page, ℕ, ◌+◌, ◌∙◌, ◌∷◌, ◌≡◌, ◌≢◌, ◌≤◌, ◌⊎◌}
+use Rattle.ksm_book.proofs.Names.{[], All, All-map, ap, arith, Bool, both_ways, cases_Bool, change_row, cond, cond_both, count_with_row, count_without_page, counts_one, eq-eqb, eqb-true, false, filter, filter_passes, find_all, find_none, find_passes, Frames, get_or, GuestPage, inl, InPageOrder, inr, is_frame, lies_on, List, map, ne_eqb, None, not, not-true, one_of_each_page, Option, refl, Row, row_at, same_page, same_page_eq, same_page_refl, Some, subst, sym, true, uses, with_row, without_page, ℕ, ◌+◌, ◌∙◌, ◌∷◌, ◌≡◌, ◌≢◌, ◌≤◌, ◌⊎◌, count_alike, count_mapped, map_mapped, find_changed, if◌then◌else◌, Contains, zero, suc, option_map, same_Some}
 
 -- frames that are equal at each page are equal
 pub same_frames : (f g : Frames) → ((page : GuestPage) → f page ≡ g page) → f ≡ g
 same_frames f g each = λ i page. each page i
+
+-- where a map of an option is there, the option is, and the map made it of that
+pub mapped_from : {X Y : Type 0} (f : X → Y) (o : Option X) (y : Y) → option_map f o ≡ Some y → (x : X) × (o ≡ Some x) × (f x ≡ y)
+mapped_from f None y told = absurd (grind (arith, told))
+mapped_from f (Some x) y told = (x, refl, same_Some (f x) y told)
+
+-- where a map of an option is empty, the option is
+pub none_mapped : {X Y : Type 0} (f : X → Y) (o : Option X) → option_map f o ≡ None → o ≡ None
+none_mapped f None told = refl
+none_mapped f (Some x) told = absurd (grind (arith, told))
 
 -- ---------------------------------------------------------------- a frame
 
@@ -14,11 +24,6 @@ one_at f o = cond (is_frame f o) 1 0
 -- a page on the frame counts once for it
 pub one_same : (f : ℕ) (o : Option ℕ) → o ≡ Some f → one_at f o ≡ 1
 one_same f o e = ap (one_at f) e ∙ ap (λ (b : Bool). cond b 1 0) (eq-eqb f f refl)
-
--- a page that is not on the frame counts for nothing
-pub one_other : (f : ℕ) (o : Option ℕ) → o ≢ Some f → one_at f o ≡ 0
-one_other f None ne = refl
-one_other f (Some g) ne = ap (λ (b : Bool). cond b 1 0) (ne_eqb g f (λ e. ne (ap Some e)))
 
 -- a frame that passes the test for frame f is f
 pub is_that : (f : ℕ) (o : Option ℕ) → is_frame f o ≡ true → o ≡ Some f
@@ -32,6 +37,10 @@ is_it f o e = ap (is_frame f) e ∙ eq-eqb f f refl
 pub not_on : (f : ℕ) (o : Option ℕ) → o ≢ Some f → is_frame f o ≡ false
 not_on f None ne = refl
 not_on f (Some g) ne = ne_eqb g f (λ e. ne (ap Some e))
+
+-- a page that is not on the frame counts for nothing
+pub one_other : (f : ℕ) (o : Option ℕ) → o ≢ Some f → one_at f o ≡ 0
+one_other f o ne = ap (λ (b : Bool). cond b 1 0) (not_on f o ne)
 
 -- a page is on the frame, or it is not
 pub frame_cases : (f : ℕ) (o : Option ℕ) → (o ≡ Some f) ⊎ (o ≢ Some f)
@@ -56,17 +65,11 @@ found_page page rows row found = same_page_eq row.page page (find_passes (λ r. 
 
 -- a page that comes to lie on a frame twice lies on the second
 pub lies_again : (page : GuestPage) (o n : Option ℕ) (frame : Frames) → lies_on page n (lies_on page o frame) ≡ lies_on page n frame
-lies_again page o n frame = same_frames _ _ (λ p. elim (cases_Bool (same_page p page)) [
-  | inl same ↦ on_page page n (lies_on page o frame) p same ∙ sym (on_page page n frame p same)
-  | inr other ↦ off_page page n (lies_on page o frame) p other ∙ off_page page o frame p other ∙ sym (off_page page n frame p other)
-])
+lies_again page o n frame = same_frames _ _ (λ p. grind arith)
 
 -- a page that lies where it lay changes nothing
 pub lies_still : (page : GuestPage) (o : Option ℕ) (frame : Frames) → frame page ≡ o → lies_on page o frame ≡ frame
-lies_still page o frame there = same_frames _ _ (λ p. elim (cases_Bool (same_page p page)) [
-  | inl same ↦ on_page page o frame p same ∙ sym there ∙ ap frame (sym (same_page_eq p page same))
-  | inr other ↦ off_page page o frame p other
-])
+lies_still page o frame there = same_frames _ _ (λ p. let same = same_page_eq p page in grind (arith, same, there))
 
 -- ---------------------------------------------------------------- the rows
 
@@ -87,37 +90,22 @@ all_changed_row P Q page c rows row rise found all others here =
     (λ same. let is = one i d lt same in subst (λ s. P s → Q (c s)) (sym is) here (all i d lt))
     (λ other. others r other (all i d lt)))
 
--- what holds of each element of a filtered list holds of each element of the list that passes the test
-pub filter_back : {X : Type 0} (t : X → Bool) (P : X → Type 0) (xs : List X) → All P (filter t xs) → All (λ x. t x ≡ true → P x) xs
-filter_back t P [] h = λ k x lt. absurd (omega arith)
-filter_back t P (x ∷ xs) h = elim (cases_Bool (t x)) [
-  | inl yes' ↦
-      let e : filter t (x ∷ xs) ≡ x ∷ filter t xs = grind (arith, yes') in
-      let h' : All P (x ∷ filter t xs) = subst (All P) e h in
-      All-cons (λ y. t y ≡ true → P y) x xs (λ _. All-head P x (filter t xs) h') (filter_back t P xs (All-tail P x (filter t xs) h'))
-  | inr no' ↦
-      let e : filter t (x ∷ xs) ≡ filter t xs = grind (arith, no') in
-      All-cons (λ y. t y ≡ true → P y) x xs (λ m. absurd (grind (arith, m, no'))) (filter_back t P xs (subst (All P) e h))
-]
+-- an element of a list that passes a test is among those that pass
+pub contains_filter : {X : Type 0} (t : X → Bool) (xs : List X) (x : X) → Contains xs x → t x ≡ true → Contains (filter t xs) x
+contains_filter t [] x has e = absurd (let lt = has.1 in omega (arith, lt))
+contains_filter t (y ∷ ys) x (zero, lt, is) e =
+    subst (λ b. Contains (if b then y ∷ filter t ys else filter t ys) x) (sym (ap t is ∙ e)) (0, omega arith, is)
+contains_filter t (y ∷ ys) x (suc i, lt, is) e =
+    let rest = contains_filter t ys x (i, omega (arith, lt), is) e in
+    cond_both (t y) (y ∷ filter t ys) (filter t ys) (λ zs. Contains zs x)
+    (λ _. (suc rest.0, (let low = rest.1 in omega (arith, low)), rest.2)) (λ _. rest)
 
 -- ---------------------------------------------------------------- how many lie on a frame
 
--- tests that agree at each row count the same
-pub counts_agree : (p q : Row → Bool) (rows : List Row) → All (λ r. p r ≡ q r) rows → count_by p rows ≡ count_by q rows
-counts_agree p q [] agree = refl
-counts_agree p q (r ∷ rows) agree =
-    let here = All-head (λ s. p s ≡ q s) r rows agree in
-    let rest = counts_agree p q rows (All-tail (λ s. p s ≡ q s) r rows agree) in
-    count_more p r rows ∙ (λ i. (if here i then 1 else 0) + rest i) ∙ sym (count_more q r rows)
-
-count_map : (p : Row → Bool) (c : Row → Row) (rows : List Row) → count_by p (map c rows) ≡ count_by (λ r. p (c r)) rows
-count_map p c [] = refl
-count_map p c (r ∷ rows) = count_more p (c r) (map c rows) ∙ ap (λ n. (if p (c r) then 1 else 0) + n) (count_map p c rows) ∙ sym (count_more (λ s. p (c s)) r rows)
-
 -- as many rows lie on a frame once they are changed, each on its page
 pub uses_mapped : (f : ℕ) (frame : Frames) (c : Row → Row) (rows : List Row) → ((r : Row) → (c r).page ≡ r.page) → uses f frame (map c rows) ≡ uses f frame rows
-uses_mapped f frame c rows keeps = count_map (λ r. is_frame f (frame r.page)) c rows
-    ∙ counts_agree _ _ rows (λ i d lt. ap (λ p. is_frame f (frame p)) (keeps (get_or rows i d)))
+uses_mapped f frame c rows keeps = count_mapped c (λ r. is_frame f (frame r.page)) (λ r. is_frame f (frame r.page)) rows
+    (λ i d lt. ap (λ p. is_frame f (frame p)) (keeps (get_or rows i d)))
 
 module _ (f : ℕ) (page : GuestPage) (o : Option ℕ) (frame : Frames) where
   abbrev old_test : Row → Bool
@@ -128,7 +116,7 @@ module _ (f : ℕ) (page : GuestPage) (o : Option ℕ) (frame : Frames) where
 
   -- where no row is of the page, as many lie on the frame as did
   apart_uses : (rows : List Row) → All (λ r. same_page r.page page ≡ false) rows → uses f (lies_on page o frame) rows ≡ uses f frame rows
-  apart_uses rows apart = counts_agree new_test old_test rows (λ i d lt. ap (is_frame f) (off_page page o frame (get_or rows i d).page (apart i d lt)))
+  apart_uses rows apart = count_alike new_test old_test rows (λ i d lt. ap (is_frame f) (off_page page o frame (get_or rows i d).page (apart i d lt)))
 
   -- where the row of a page goes, one row less lies on the frame if the page lay there, else as many
   pub uses_gone : (rows : List Row) (row : Row) → InPageOrder rows → row_at page rows ≡ Some row → uses f (lies_on page o frame) (without_page page rows) + one_at f (frame page) ≡ uses f frame rows
@@ -164,16 +152,11 @@ uses_some f frame rows = λ i d lt e. counts_one (λ r. is_frame f (frame r.page
 -- a change of a page's row, and then another, are one change where the second makes the same of both
 pub change_twice : (page : GuestPage) (c d e : Row → Row) (rows : List Row) → ((r : Row) → (c r).page ≡ r.page) → All (λ r. same_page r.page page ≡ true → d (c r) ≡ e r) rows
     → change_row page d (change_row page c rows) ≡ change_row page e rows
-change_twice page c d e [] keeps same = refl
-change_twice page c d e (r ∷ rows) keeps same = elim (cases_Bool (same_page r.page page)) [
-  | inl is ↦ let k = keeps r in let s = same 0 r (omega arith) is in grind (arith, is, k, s, change_twice page c d e rows keeps (λ i x lt. same (suc i) x (omega (arith, lt))))
-  | inr other ↦ grind (arith, other, change_twice page c d e rows keeps (λ i x lt. same (suc i) x (omega (arith, lt))))
-]
+change_twice page c d e rows keeps same =
+    map_mapped (λ r. if same_page r.page page then d r else r) (λ r. if same_page r.page page then c r else r)
+    (λ r. if same_page r.page page then e r else r) rows
+    (λ i x lt. let k = keeps (get_or rows i x) in let s = same i x lt in grind (arith, k, s))
 
 -- where the row of a page changes, the changed row is found at the page
 pub at_changed : (page : GuestPage) (c : Row → Row) (rows : List Row) (row : Row) → ((r : Row) → (c r).page ≡ r.page) → row_at page rows ≡ Some row → row_at page (change_row page c rows) ≡ Some (c row)
-at_changed page c [] row keeps found = absurd (grind (arith, found))
-at_changed page c (r ∷ rows) row keeps found = elim (cases_Bool (same_page r.page page)) [
-  | inl same ↦ let k = keeps r in grind (arith, same, k, found)
-  | inr other ↦ grind (arith, other, at_changed page c rows row keeps (grind (arith, other, found)))
-]
+at_changed page c rows row keeps found = find_changed (λ (r : Row). r.page) page c keeps rows row found

@@ -1,5 +1,5 @@
 -- What visits do to the frames is done beside: nothing by the visit of a shared row, and the same wherever the cursor stands.
-use Rattle.ksm_book.proofs.Names.{ap, append-nil, best_dup, BookState, Deed, doing, DupRow, emptying, Frames, GuestPage, handling, idle, if◌then◌else◌, is_for_zero, IsBeside, next_row, next_visited, None, Option, pairing, partner, refl, Row, row_visiting, scanning, shared_state, Some, suc, sym, then_doing, visit_begun, visiting, visiting_of, visits_beside, zero, ℕ, ◌∙◌, ◌≡◌}
+use Rattle.ksm_book.proofs.Names.{ap, append-nil, best_dup, BookState, Deed, doing, DupRow, emptying, Frames, GuestPage, handling, idle, is_for_zero, IsBeside, next_row, next_visited, None, Option, pairing, partner, refl, Row, scanning, shared_state, Some, suc, sym, then_doing, visit_begun, visiting, visiting_of, visits_beside, zero, ℕ, ◌∙◌, ◌≡◌, if◌then◌else◌}
 use Rattle.ksm_book.proofs.Going.{elsewhere}
 use Rattle.ksm_book.proofs.Folded.{beside_state}
 
@@ -18,16 +18,14 @@ module _ (b : BookState) (frame : Frames) (row : Row) (cursor : Option GuestPage
       λ t. if row.unchanged then (if is_for_zero b.knobs row then emptying frame row.page else pairing_alike
       (partner b.knobs b.rows row) t) else idle frame
 
-  row_visiting_alike : row_visiting (elsewhere cursor passes b) frame row ≡ row_visiting b frame row
-  row_visiting_alike = λ t. if shared_state row.state then idle frame else handling_alike (best_dup b.knobs b.rows b.dups row) t
-
 -- what visits do to the frames is nothing at a shared row, and the same wherever the cursor stands
 pub doing_beside : IsBeside doing
 doing_beside = record {
   shared = λ b deed row is. ap
       (λ z. then_doing deed (if z then idle deed.frame else handling (best_dup b.knobs b.rows b.dups row) b deed.frame row)) is
       ∙ then_idle deed;
-  alike = λ b deed row cursor passes. ap (then_doing deed) (row_visiting_alike b deed.frame row cursor passes);
+  alike = λ b deed row cursor passes. ap (then_doing deed) (λ t. if shared_state row.state then idle deed.frame
+      else handling_alike b deed.frame row cursor passes (best_dup b.knobs b.rows b.dups row) t);
 }
 
 -- what n visits do to the frames is the deed that n visits come to, each with its deed beside it

@@ -1,6 +1,6 @@
 -- What is answered where a dup is to move.
-use Rattle.ksm_book.proofs.Names.{and_parts, Answer, ap, arith, BadNode, BookState, CarriedOut, cases_Bool, crosses, CrossesNodes, Done, DupRow, eq-eqb, eqb-true, Err, false, Fault, find, find_passes, FindsHeld, GuestPage, has_items, HasMoved, HasRemounted, inl, inr, InUse, is_no_node, is_none, IsAnswerUnless, KeeperView, leb-true, live_dup_at, lying, MatchOption, MayMove, MoveDup, Moves, nat_le, NoFrame, None, NoneLeft, Ok, Option, PagesView, refusal, refused_if, Some, state_of, subst, sym, true, UnknownPlace, ℕ, ◌&&◌, ◌<◌, ◌==◌, ◌∙◌, ◌≡◌}
-use Rattle.ksm_book.proofs.Singles.{book}
+use Rattle.ksm_book.proofs.Names.{and_parts, Answer, ap, arith, BookState, CarriedOut, crosses, Done, DupRow, eqb-true, Err, false, Fault, find, find_passes, FindsHeld, GuestPage, has_items, HasMoved, HasRemounted, InUse, IsAnswerUnless, KeeperView, live_dup_at, lying, MatchOption, MayMove, MoveDup, Moves, NoFrame, None, NoneLeft, Ok, Option, PagesView, refusal, Some, state_of, subst, sym, ℕ, ◌&&◌, ◌==◌, ◌≡◌, nat_tests}
+use Rattle.ksm_book.proofs.Singles.{book, there_is}
 
 module _ (b : BookState) (place node : ℕ) (dup : DupRow) (found : Some dup ≡ live_dup_at b place) where
   -- the dup that was found stands at the place that was asked for
@@ -11,26 +11,10 @@ module _ (b : BookState) (place node : ℕ) (dup : DupRow) (found : Some dup ≡
   pub live_there : find (λ d. d.place == dup.place && has_items b.rows d) b.dups ≡ Some dup
   live_there = subst (λ x. find (λ d. d.place == x && has_items b.rows d) b.dups ≡ Some dup) (sym place_is) (sym found)
 
-  module _ (one_of : node < b.shape.nodes) (home : b.knobs.merge_across_nodes ≡ 0 → node ≡ dup.tree) where
-    there_is : is_no_node b node ≡ false
-    there_is = elim (cases_Bool (nat_le b.shape.nodes node)) [
-      | inl le ↦ absurd (let over = leb-true b.shape.nodes node le in omega (arith, over, one_of))
-      | inr fits ↦ fits
-    ]
-
-    at_home : crosses b node (Some dup) ≡ false
-    at_home = elim (cases_Bool (b.knobs.merge_across_nodes == 0)) [
-      | inl apart ↦
-          let same : (dup.tree == node) ≡ true = eq-eqb dup.tree node (sym (home (eqb-true b.knobs.merge_across_nodes 0 apart))) in
-          grind (arith, apart, same)
-      | inr across ↦ grind (arith, across)
-    ]
-
-    -- the state doesn't refuse it
-    pub accepted : refusal b (MoveDup place node) ≡ None
-    accepted =
-        (λ t. refused_if (there_is t) BadNode (refused_if (is_none (sym found t)) UnknownPlace (refused_if (crosses b node (sym found t)) CrossesNodes None)))
-        ∙ ap (λ x. refused_if x CrossesNodes None) at_home
+  module _ (home : b.knobs.merge_across_nodes ≡ 0 → node ≡ dup.tree) where
+    -- where it is to move is another node only where pages merge across nodes
+    pub at_home : crosses b node (Some dup) ≡ false
+    at_home = grind (arith, nat_tests, home)
 
 -- the command is carried out where the dup moved to a frame of the node, or stayed, as it answers
 module _ (p q : PagesView) (k l : KeeperView) (cursor : Option GuestPage) (passes place node : ℕ) (dup : DupRow)
@@ -43,8 +27,7 @@ module _ (p q : PagesView) (k l : KeeperView) (cursor : Option GuestPage) (passe
 
   answers : (answer : Answer) → IsAnswerUnless None b (MoveDup place node) answer
       → IsAnswerUnless (refusal b (MoveDup place node)) b (MoveDup place node) answer
-  answers answer is =
-      subst (λ o. IsAnswerUnless o b (MoveDup place node) answer) (sym (accepted b place node dup found may.exists may.home)) is
+  answers answer is = rw (there_is p.shape.nodes node may.exists, ← found, at_home b place node dup found may.home) is
 
   -- it answers `Done` where the dup moved
   pub done_carried : {X : Type 0} {done : X} → HasRemounted {X = X} p q k l dup node (Ok done) → Carries (Ok Done)

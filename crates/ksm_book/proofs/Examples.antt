@@ -1,5 +1,5 @@
 -- The frames of a worked scan, page by page.
-use Rattle.ksm_book.proofs.Names.{apart, Bool, false, if◌then◌else◌, lies_on, None, Option, page, refl, same_page, Some, together, true, ℕ, ◌≡◌}
+use Rattle.ksm_book.proofs.Names.{apart, Bool, false, lies_on, None, Option, page, refl, same_page, Some, together, true, ℕ, ◌≡◌, if◌then◌else◌}
 use Rattle.ksm_book.proofs.ByPage.{same_frames}
 
 -- pages that come to the first one's frame, one after the other, lie on it together

@@ -1,8 +1,9 @@
 -- The visits of a pass are a fold over its pages, only restless pages count, and a quiet pass is repeated by those behind it.
-use Rattle.ksm_book.proofs.Names.{[], after_cursor, All, All-head, All-map, All-tail, AllPairs-cons, AllPairs-filter, and_parts, ap, append-nil, AreAscending, arith, begun, best_dup, BookState, Bool, cases_Bool, comes_before, cond_both, each_at_page, false, filter, filter_all, find_all, find_passes, get_or, GuestPage, handled, has_item, if◌then◌else◌, inl, InPageOrder, inr, is_none, is_restless, is_some, IsBeside, IsStill, last_of, length, List, map, mergeable_pages, min, next_row, next_visited, None, not, not-true, Option, option_map, page_visited, pages_ahead, pages_visited, PageState, pairs_head, pairs_tail, pass_at, pass_begun, pass_ended, pass_ended_at_last, refl, restless_at, restless_row, Row, row_at, row_visited, rowwise_visits, same_page, same_page_eq, same_Some, settled, settled_state, shared_state, slice_get, Some, subst, suc, suc-mul, sym, true, visit, visit_begun, visit_of, visited, visits, visits_beside, with_none_waiting, zero, zero-mul, ℕ, ◌&&◌, ◌*◌, ◌++◌, ◌+◌, ◌-◌, ◌^◌, ◌∙◌, ◌∷◌, ◌≡◌, ◌≤◌}
+use Rattle.ksm_book.proofs.Names.{[], after_cursor, All, All-head, All-tail, AllPairs-filter, and_parts, ap, append-nil, AreAscending, arith, begun, best_dup, BookState, Bool, cases_Bool, comes_before, cond_both, each_at_page, false, filter, filter_all, find_all, find_passes, get_or, GuestPage, handled, has_item, inl, InPageOrder, inr, is_none, is_restless, is_some, IsBeside, IsStill, last_of, length, List, map, mergeable_pages, min, next_row, next_visited, None, not, not-true, Option, option_map, page_visited, pages_ahead, pages_visited, PageState, pass_at, pass_begun, pass_ended, pass_ended_at_last, refl, restless_at, restless_row, Row, row_at, row_visited, rowwise_visits, same_page, same_page_eq, settled, settled_state, shared_state, slice_get, Some, subst, suc, suc-mul, sym, true, visit, visit_begun, visit_of, visited, visits, visits_beside, with_none_waiting, zero, zero-mul, ℕ, ◌&&◌, ◌*◌, ◌++◌, ◌+◌, ◌-◌, ◌^◌, ◌∙◌, ◌∷◌, ◌≡◌, ◌≤◌, map_mapped, if◌then◌else◌, and_right, pairs_mapped, ⊤}
 use Rattle.ksm_base.specs.declared.row.PageState.TheVariants.{Private}
 use Rattle.ksm_book.proofs.Going.{Goes, begun_goes, elsewhere, goes_on, mergeable_kept, goes_same, row_visited_alike, settled_goes, visited_goes}
 use Rattle.ksm_book.proofs.PagesAhead.{Before, behind_first, filter_in, filter_out, has_filter, same_pages}
+use Rattle.ksm_book.proofs.ByPage.{mapped_from, none_mapped}
 
 -- ---------------------------------------------------------------- the page that is visited next
 
@@ -11,41 +12,22 @@ pub next_first : (cursor : Option GuestPage) (rows : List Row)
     → option_map (λ r. r.page) (next_row cursor rows) ≡ slice_get (filter (after_cursor cursor) (mergeable_pages rows)) 0
 next_first cursor [] = refl
 next_first cursor (r ∷ rows) =
-    let rest = next_first cursor rows in
-    elim (cases_Bool r.mergeable) [
-      | inl mergeable ↦ elim (cases_Bool (after_cursor cursor r.page)) [
-        | inl ahead ↦ grind (arith, mergeable, ahead, rest)
-        | inr behind ↦ grind (arith, mergeable, behind, rest)
-      ]
-      | inr not_so ↦ grind (arith, not_so, rest)
-    ]
+    let rest = next_first cursor rows in grind (arith, rest)
 
 -- the next row, where a page is ahead
 some_next : (c : BookState) (page : GuestPage) (more : List GuestPage) → pages_ahead c ≡ page ∷ more
     → (row : Row) × (next_row c.cursor c.rows ≡ Some row) × (row.page ≡ page)
-some_next c page more is = by (next_row c.cursor c.rows) refl (next_first c.cursor c.rows ∙ ap (λ l. slice_get l 0) is)
-  where
-    by : (o : Option Row) → next_row c.cursor c.rows ≡ o → option_map (λ r. r.page) o ≡ Some page
-        → (row : Row) × (next_row c.cursor c.rows ≡ Some row) × (row.page ≡ page)
-    by None found at = cc
-    by (Some row) found at = (row, found, same_Some row.page page at)
+some_next c page more is =
+    mapped_from (λ (r : Row). r.page) (next_row c.cursor c.rows) page (next_first c.cursor c.rows ∙ ap (λ l. slice_get l 0) is)
 
 -- where no page is ahead there is no next row
 pub none_next : (c : BookState) → pages_ahead c ≡ [] → next_row c.cursor c.rows ≡ None
-none_next c is = by (next_row c.cursor c.rows) (next_first c.cursor c.rows ∙ ap (λ l. slice_get l 0) is)
-  where
-    by : (o : Option Row) → option_map (λ r. r.page) o ≡ None → o ≡ None
-    by None none = refl
-    by (Some row) none = cc
+none_next c is = none_mapped (λ (r : Row). r.page) (next_row c.cursor c.rows) (next_first c.cursor c.rows ∙ ap (λ l. slice_get l 0) is)
 
 -- a pass with a page ahead does not end
 pub pass_goes_on : (c : BookState) (page : GuestPage) (more : List GuestPage) → pages_ahead c ≡ page ∷ more → pass_ended_at_last c ≡ c
-pass_goes_on c page more is =
-    ap (λ o. if is_some c.cursor && is_none o then pass_ended c else c) (some_next c page more is).1 ∙ either (is_some c.cursor)
-  where
-    either : (x : Bool) → (if x && false then pass_ended c else c) ≡ c
-    either true = refl
-    either false = refl
+pass_goes_on c page more is = ap (λ b. if b then pass_ended c else c)
+    (and_right (is_some c.cursor) (is_none (next_row c.cursor c.rows)) (ap is_none (some_next c page more is).1))
 
 -- where a pass is under way with a page ahead, the next visit begins with nothing done
 begun_goes_on : (c : BookState) (last page : GuestPage) (more : List GuestPage) → c.cursor ≡ Some last → pages_ahead c ≡ page ∷ more
@@ -53,18 +35,11 @@ begun_goes_on : (c : BookState) (last page : GuestPage) (more : List GuestPage) 
 begun_goes_on c last page more at is =
     ap pass_begun (pass_goes_on c page more is) ∙ ap (λ (o : Option GuestPage). if is_none o then with_none_waiting c else c) at
 
--- the pages of rows in order ascend
-ascending_pages : (rows : List Row) → InPageOrder rows → AreAscending (map (λ r. r.page) rows)
-ascending_pages [] rise = λ i j d lt in_range. absurd (omega arith)
-ascending_pages (r ∷ rows) rise =
-    AllPairs-cons Before r.page (map (λ s. s.page) rows)
-    (All-map (Before r.page) (λ s. s.page) rows (pairs_head (λ a b. comes_before a.page b.page ≡ true) r rows rise))
-    (ascending_pages rows (pairs_tail (λ a b. comes_before a.page b.page ≡ true) r rows rise))
-
 ascending_mergeable : (rows : List Row) → InPageOrder rows → AreAscending (mergeable_pages rows)
 ascending_mergeable rows rise =
-    ascending_pages (filter (λ r. r.mergeable) rows)
-    (AllPairs-filter (λ a b. comes_before a.page b.page ≡ true) (λ r. r.mergeable) rows rise)
+    let S : Row → Row → Type 0 = λ a b. comes_before a.page b.page ≡ true in
+    let some = filter (λ r. r.mergeable) rows in
+    pairs_mapped S Before (λ _. ⊤) (λ r. r.page) (λ a b _ _ before. before) some (λ i d lt. tt) (AllPairs-filter S (λ r. r.mergeable) rows rise)
 
 -- the pages ahead ascend where the rows are in page order
 pub ascending_ahead : (b : BookState) → InPageOrder b.rows → AreAscending (pages_ahead b)
@@ -84,8 +59,7 @@ last_stands page (next ∷ pages) = last_stands next pages
 
 -- rows that settled are settled
 settled_twice : (rows : List Row) → map settled (map settled rows) ≡ map settled rows
-settled_twice [] = refl
-settled_twice (r ∷ rows) = λ t. record r { state = same r.state t } ∷ settled_twice rows t
+settled_twice rows = map_mapped settled settled settled rows (λ i d lt t. record (get_or rows i d) { state = same (get_or rows i d).state t })
   where
     same : (s : PageState) → settled_state (settled_state s) ≡ settled_state s
     same Private = refl
@@ -218,11 +192,7 @@ module _ {X : Type 0} (step : BookState → X → Row → X) where
       t page = restless_at page s.0.rows
 
       alike : (x : GuestPage) → has_item x (filter t ps) ≡ has_item x (filter t qs)
-      alike x = has_filter t x ps ∙ by (t x) (same x) ∙ sym (has_filter t x qs)
-        where
-          by : (z : Bool) → (z ≡ true → has_item x ps ≡ has_item x qs) → (z && has_item x ps) ≡ (z && has_item x qs)
-          by true is = is refl
-          by false is = refl
+      alike x = has_filter t x ps ∙ (let is = same x in grind (arith, is)) ∙ sym (has_filter t x qs)
 
   module _ (beside : IsBeside step) where
     -- the visit of the next row is that of its page

@@ -1,5 +1,5 @@
 -- The visit of a row: it keeps which pages scans visit, makes no page restless, and does the same wherever the cursor stands.
-use Rattle.ksm_book.proofs.Names.{[], All, ap, arith, best_dup, BookState, Bool, cases_Bool, change_row, change_rows, cond_both, DupRow, false, find_all, get_or, GuestPage, handled, if◌then◌else◌, inl, InPageOrder, inr, is_for_zero, is_none, is_some, List, map, mergeable_pages, Merged, next_row, None, not, one_of_each_page, Option, option_map, ordered_map, PageState, paired, partner, pass_begun, pass_ended, refl, restless_at, restless_row, Row, row_at, row_visited, same_page, settled, settled_state, shared_state, Some, stayed, subst, sym, true, true≢false, visit_begun, Waiting, with_none_waiting, Zero, ℕ, ◌&&◌, ◌||◌, ◌∙◌, ◌∷◌, ◌≡◌}
+use Rattle.ksm_book.proofs.Names.{All, ap, arith, best_dup, BookState, Bool, change_row, change_rows, cond_both, DupRow, false, find_all, get_or, GuestPage, handled, InPageOrder, is_for_zero, is_none, is_some, List, map, mergeable_pages, Merged, next_row, None, not, one_of_each_page, Option, option_map, ordered_map, PageState, paired, partner, pass_begun, pass_ended, refl, restless_at, restless_row, Row, row_at, row_visited, same_page, settled, settled_state, shared_state, Some, stayed, subst, sym, true, true≢false, visit_begun, Waiting, with_none_waiting, Zero, ℕ, ◌&&◌, ◌||◌, ◌∙◌, ◌≡◌, if◌then◌else◌, filter_mapped, map_mapped, find_mapped, filter}
 use Rattle.ksm_base.specs.declared.row.PageState.TheVariants.{Private}
 
 -- ---------------------------------------------------------------- wherever the cursor stands
@@ -65,24 +65,14 @@ KeepsPage change = (r : Row) → ((change r).page ≡ r.page) × ((change r).mer
 module _ (change : Row → Row) (keeps : KeepsPage change) where
   -- where a change keeps each row's page and whether scans visit it, scans visit the same pages
   pub mergeable_kept : (rows : List Row) → mergeable_pages (map change rows) ≡ mergeable_pages rows
-  mergeable_kept [] = refl
-  mergeable_kept (r ∷ rows) =
-      let rest = mergeable_kept rows in
-      let page = (keeps r).0 in
-      elim (cases_Bool r.mergeable) [
-        | inl is ↦ let still = (keeps r).1 ∙ is in grind (arith, is, still, page, rest)
-        | inr not_so ↦ let still = (keeps r).1 ∙ not_so in grind (arith, not_so, still, rest)
-      ]
+  mergeable_kept rows =
+      ap (map (λ r. r.page)) (filter_mapped change (λ r. r.mergeable) (λ r. r.mergeable) rows (λ i d lt. (keeps (get_or rows i d)).1))
+      ∙ map_mapped (λ r. r.page) change (λ r. r.page) (filter (λ r. r.mergeable) rows)
+      (λ i d lt. (keeps (get_or (filter (λ r. r.mergeable) rows) i d)).0)
 
   row_changed : (page : GuestPage) (rows : List Row) → row_at page (map change rows) ≡ option_map change (row_at page rows)
-  row_changed page [] = refl
-  row_changed page (r ∷ rows) =
-      let rest = row_changed page rows in
-      let same = ap (λ p. same_page p page) (keeps r).0 in
-      elim (cases_Bool (same_page r.page page)) [
-        | inl here ↦ let still = same ∙ here in grind (arith, here, still)
-        | inr other ↦ let still = same ∙ other in grind (arith, other, still, rest)
-      ]
+  row_changed page rows = find_mapped change (λ r. same_page r.page page) (λ r. same_page r.page page) rows
+      (λ i d lt. ap (λ p. same_page p page) (keeps (get_or rows i d)).0)
 
   -- each row is changed, and a shared one stays shared
   pub change_goes : (rows : List Row) → All (λ r. shared_state r.state ≡ true → shared_state (change r).state ≡ true) rows
@@ -94,9 +84,7 @@ module _ (change : Row → Row) (keeps : KeepsPage change) where
   }
     where
       at : (m n s t : Bool) → n ≡ m → (s ≡ true → t ≡ true) → (m && not s) ≡ false → (n && not t) ≡ false
-      at m n s true same kept calm = grind arith
-      at m n true false same kept calm = absurd (true≢false (sym (kept refl)))
-      at m n false false same kept calm = grind (arith, same, calm)
+      at m n s t same kept calm = grind (arith, same, kept, calm)
 
       by : (page : GuestPage) (o : Option Row) → row_at page rows ≡ o → restless_row o ≡ false → restless_row (option_map change o) ≡ false
       by page None found calm = refl
@@ -174,8 +162,3 @@ begun_goes b =
     begins : Goes b.rows (pass_begun b).rows
     begins =
         cond_both (is_none b.cursor) (with_none_waiting b) b (λ c. Goes b.rows c.rows) (λ _. settled_goes b.rows) (λ _. goes_same b.rows)
-
--- an option that holds nothing is None
-pub none_of : {X : Type 0} (o : Option X) → is_some o ≡ false → o ≡ None
-none_of None none = refl
-none_of (Some x) none = absurd (true≢false none)

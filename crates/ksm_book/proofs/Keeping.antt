@@ -1,5 +1,5 @@
 -- The keeper's steps as changes of a placement, and the lives that they spend.
-use Rattle.ksm_book.proofs.Names.{[], Add, added, All, All-filter, All-head, All-tail, ap, arith, blank, Bool, cases_lt, cond, count_in, did, DupRow, Dying, dying_kind, dying_on, false, Filling, filter_passes, FitsBase, frame_at, Frames, frames_of, Free, GenerationFits, get_or, get_or-range_with_len, get_or_past, IfSome, inl, inr, KeeperView, Kind, leaving, Ledger, ledger_after, length, length-range_with_len, List, lowered, Made, map, May, nat_tests, ne_eqb, None, Note, Option, past_lives, Placed, Private, range_with_len, Reap, reaped, refl, Retired, Row, same_Some, set, Shape, Some, spent, spent_on, Stable, Sub, subst, suc, sum_by, sum_by-cons, sum_by-set, sym, true, uses, with_frame, zero, ℕ, ◌*◌, ◌+◌, ◌-◌, ◌<◌, ◌==◌, ◌∷◌, ◌≡◌, ◌≢◌, ◌≤◌}
+use Rattle.ksm_book.proofs.Names.{[], Add, added, All, All-filter, All-head, All-tail, ap, arith, blank, Bool, cases_lt, cond, count_in, did, DupRow, Dying, dying_kind, dying_on, false, Filling, filter_passes, FitsBase, frame_at, Frames, frames_of, Free, GenerationFits, get_or, get_or-range_with_len, get_or_past, IfSome, inl, inr, KeeperView, Kind, leaving, Ledger, ledger_after, length, length-range_with_len, List, lowered, Made, map, May, nat_tests, ne_eqb, None, Note, Option, past_lives, Placed, Private, range_with_len, Reap, reaped, refl, Retired, Row, same_Some, set, Shape, Some, spent, spent_on, Stable, Sub, subst, suc, sum_by, sum_by-cons, sum_by-set, sym, true, uses, with_frame, zero, ℕ, ◌*◌, ◌+◌, ◌-◌, ◌<◌, ◌==◌, ◌∷◌, ◌≡◌, ◌≢◌, ◌≤◌, cond_both}
 use Rattle.ksm_book.proofs.ByPage.{one_same, one_other}
 use Rattle.ksm_book.proofs.Made.{first_made, none_made, step_made}
 use Rattle.ksm_book.proofs.Noted.{noted}
@@ -7,17 +7,9 @@ use Rattle.ksm_book.proofs.Sweeps.{is_dying_kind}
 
 -- ---------------------------------------------------------------- kinds
 
-not_private : (c : Bool) → ¬ (cond c Retired Free ≡ Private)
-not_private true e = grind (arith, e)
-not_private false e = grind (arith, e)
-
 taken_private : (b : Bool) (kind : Kind) → cond b Dying kind ≡ Private → kind ≡ Private
 taken_private true kind e = grind (arith, e)
 taken_private false kind e = e
-
-fits_reaped : (c : Bool) → FitsBase (cond c Retired Free) 0
-fits_reaped true = refl
-fits_reaped false = refl
 
 fits_taken : (kind : Kind) (n : ℕ) → 1 ≤ n → FitsBase kind n → (b : Bool) → (b ≡ (n == 1)) → FitsBase (cond b Dying kind) (n - 1)
 fits_taken kind n some fits true e = let t : n ≡ 1 = grind (arith, e, nat_tests) in omega arith
@@ -52,14 +44,6 @@ pub past_le : (kind : Kind) (n : ℕ) → past_lives kind n ≤ n
 past_le Free n = omega arith
 past_le _ n = omega arith
 
-past_taken : (c : Bool) (kind : Kind) (n : ℕ) → past_lives kind n ≤ past_lives (cond c Dying kind) n
-past_taken true kind n = past_le kind n
-past_taken false kind n = omega arith
-
-past_reaped : (c : Bool) (kind : Kind) (n : ℕ) → past_lives kind n ≤ past_lives (cond c Retired Free) n
-past_reaped true kind n = past_le kind n
-past_reaped false kind n = past_le kind n
-
 -- the lives spent, where one frame's note is another, differ by those of this frame
 pub spent_set : (k : Ledger) (g : ℕ) (fr : Note) → g < length k.frames → spent (with_frame k g fr) + spent_on (frame_at k g) ≡ spent k + spent_on fr
 spent_set k g fr lt = sum_by-set spent_on k.frames g fr blank lt
@@ -75,6 +59,13 @@ spent_kept k g fr le = by k.frames g le
 
 -- ---------------------------------------------------------------- a reference goes
 
+-- a frame with a reference is one that the keeper knows
+pub held_within : (k : Ledger) (f : ℕ) → 1 ≤ (frame_at k f).base → f < length k.frames
+held_within k f some = elim (cases_lt f (length k.frames)) [
+  | inl less ↦ less
+  | inr more ↦ absurd (let none = ap (λ (x : Note). x.base) (get_or_past k.frames f blank more) in omega (arith, some, none))
+]
+
 -- a frame in hand is one of the table, and has a reference
 pub held_inside : {sh : Shape} {across : ℕ} {k : Ledger} {rows : List Row} {frame : Frames} {dups : List DupRow} {g : ℕ} → Placed sh across k rows frame dups (Some g)
     → (g < frames_of sh) × (1 ≤ (frame_at k g).base)
@@ -82,13 +73,8 @@ held_inside {k = k} {g = g} p =
     let one = one_same g (Some g) refl in
     let base = p.bases g in
     let long = p.frames_long in
-    let some : 1 ≤ (frame_at k g).base = omega (arith, one, base) in (
-      elim (cases_lt g (length k.frames)) [
-        | inl less ↦ omega (arith, less, long)
-        | inr more ↦ absurd (let none : (frame_at k g).base ≡ 0 = ap (λ (x : Note). x.base) (get_or_past k.frames g blank more) in omega (arith, some, none))
-      ],
-      some,
-    )
+    let some : 1 ≤ (frame_at k g).base = omega (arith, one, base) in
+    (omega (arith, held_within k g some, long), some)
 
 -- the frame in hand, if there is one, may be left
 pub may_leave : (v : KeeperView) {sh : Shape} → v.table.shape ≡ sh → {across : ℕ} {rows : List Row} {frame : Frames} {dups : List DupRow} (o : Option ℕ)
@@ -123,7 +109,8 @@ left_spends {v} {w} None m = let same = ap (λ (z : KeeperView). spent z.ledger)
 left_spends {v} {w} (Some g) m =
     let old : Note = frame_at v.ledger g in
     let same = ap (λ (z : KeeperView). spent z.ledger) (step_made m).1 in
-    let more = spent_kept v.ledger g (lowered old) (past_taken (old.base == 1) old.kind old.generation) in
+    let more = spent_kept v.ledger g (lowered old) (cond_both (old.base == 1) Dying old.kind
+    (λ x. past_lives old.kind old.generation ≤ past_lives x old.generation) (λ _. past_le old.kind old.generation) (λ _. omega arith)) in
     omega (arith, same, more)
 
 -- ---------------------------------------------------------------- a reference comes
@@ -182,7 +169,9 @@ module _ (sh : Shape) (k : Ledger) (g found : ℕ) where
 
   reap_spends : spent k ≤ spent (ledger_after sh k (Reap g) found)
   reap_spends = elim (count_in found == 0) as (λ b. spent k ≤ spent (after b)) [
-    | true ↦ spent_kept k g (reaped sh.last_generation old) (past_reaped (old.generation == sh.last_generation) old.kind old.generation)
+    | true ↦ spent_kept k g (reaped sh.last_generation old) (cond_both (old.generation == sh.last_generation) Retired Free
+        (λ x. past_lives old.kind old.generation ≤ past_lives x old.generation)
+        (λ _. past_le old.kind old.generation) (λ _. past_le old.kind old.generation))
     | false ↦ omega arith
   ]
 
@@ -196,9 +185,16 @@ module _ (sh : Shape) (k : Ledger) (g found : ℕ) where
           wide = p.widths g;
           lived = lived_reaped sh.last_generation old.generation old.kind (old.generation == sh.last_generation) refl (p.lives g);
           base = omega (arith, base, none);
-          fits = fits_reaped (old.generation == sh.last_generation);
+          fits = cond_both (old.generation == sh.last_generation) Retired Free (λ x. FitsBase x 0) (λ _. refl) (λ _. refl);
           same = λ some. absurd (omega (arith, base, none, some));
-          life = inr (refl, inr (refl, λ own. absurd (not_private (old.generation == sh.last_generation) own)));
+          life = inr (
+            refl,
+            inr (
+              refl,
+              cond_both (old.generation == sh.last_generation) Retired Free
+                  (λ x. x ≡ Private → old.kind ≡ Private) (λ _ own. cc) (λ _ own. cc),
+            ),
+          );
         }) (λ f ne. refl)
     | false ↦ p
   ]

@@ -1,7 +1,7 @@
 -- What becomes of pages that lie lawfully, where the keeper makes its steps.
-use Rattle.ksm_book.proofs.Names.{[], All, ap, arith, blank, change_row, default_knobs, DupFits, DupRow, false, find_all, first_ledger, FitsBase, frame_at, Frames, frames_of, GenerationFits, get_or, GuestPage, holding, Houses, inl, InPageOrder, inr, IsLaid, IsLawful, IsReadable, IsServed, IsShape, KeeperView, Keeps, Kind, kind_for, Knobs, Ledger, length, length-replicate, lies_on, List, Listing, map, MatchOption, Merged, merged_into, None, Note, nowhere, Option, PAGE_WORDS, PageState, PagesView, Placed, Private, refl, replicate, Row, row_at, same_page, Shape, shared_state, slice_index_or, Some, spent, subst, suc, sym, Took, true, with_frame, with_row, Zero, zero, zero_state, ℕ, ◌/◌, ◌<◌, ◌∙◌, ◌≡◌, ◌≤◌, ◌⊎◌}
+use Rattle.ksm_book.proofs.Names.{[], All, ap, arith, blank, change_row, default_knobs, DupFits, DupRow, false, find_all, first_ledger, FitsBase, frame_at, Frames, frames_of, GenerationFits, get_or, GuestPage, holding, Houses, inl, InPageOrder, inr, IsLaid, IsLawful, IsReadable, IsServed, IsShape, KeeperView, Keeps, Kind, kind_for, Knobs, Ledger, length, length-replicate, lies_on, List, Listing, map, MatchOption, Merged, merged_into, None, Note, nowhere, Option, PAGE_WORDS, PageState, PagesView, Placed, Private, refl, replicate, Row, row_at, same_page, Shape, shared_state, slice_index_or, Some, spent, subst, suc, sym, Took, true, with_frame, with_row, Zero, zero, zero_state, ℕ, ◌/◌, ◌<◌, ◌∙◌, ◌≡◌, ◌≤◌, ◌⊎◌, cond_both, if◌then◌else◌, Stable}
 use Rattle.ksm_base.specs.declared.row.PageState.TheVariants.{Private as OwnPage}
-use Rattle.ksm_book.proofs.ByPage.{found_page}
+use Rattle.ksm_book.proofs.ByPage.{found_page, row_of_page}
 use Rattle.ksm_book.proofs.Keeping.{spent_kept}
 use Rattle.ksm_book.proofs.Moves.{Serves, framed, inserted, own_agrees, remapped, swapped, written_in}
 
@@ -69,6 +69,11 @@ pub own_framed : (s : PageState) → shared_state s ≡ false → zero_state s �
 own_framed Zero e = absurd (grind (arith, e))
 own_framed _ e = refl
 
+-- a row whose frame is Stable is an item of a dup
+pub number_of_kind : (s : PageState) → kind_for s ≡ Stable → (n : ℕ) × (s ≡ Merged n)
+number_of_kind (Merged n) is = (n, refl)
+number_of_kind _ is = cc
+
 -- a row may stand in the stead of another on its frame: same home and bytes, and the same state, or neither is shared
 abbrev pub LodgesAs : Row → Row → Type 0
 LodgesAs row r = (row.home ≡ r.home) × (row.bytes ≡ r.bytes) × ((row.state ≡ r.state) ⊎ ((shared_state r.state ≡ false) × (shared_state row.state ≡ false)))
@@ -97,10 +102,6 @@ module _ {sh : Shape} {across : ℕ} {k : Ledger} {rows : List Row} {frame : Fra
   lodged_as old r (Some f) lodges served = lodged old r f served lodges
   lodged_as old r None (home, bytes, inl s) served = ap zero_state s ∙ served
   lodged_as old r None (home, bytes, inr own) served = absurd (let none = own_framed old.state own.0 in grind (arith, none, served))
-
-  -- rows may change each into one that stands in its stead on its frame
-  pub lodged_rows : (c : Row → Row) → ((r : Row) → (c r).page ≡ r.page) → All (λ r. LodgesAs (c r) r) rows → Placed sh across k (map c rows) frame dups hand
-  lodged_rows c keeps lodges = remapped hand c keeps p (λ i d lt. let r = get_or rows i d in lodged_as r (c r) (frame r.page) (lodges i d lt))
 
   -- the row of a page is served by its frame
   pub served_at : (page : GuestPage) (row : Row) → row_at page rows ≡ Some row → IsServed sh k dups row (frame page)
@@ -134,7 +135,17 @@ module _ {p : PagesView} {k : KeeperView} (h : IsLaid p k) where
 
   -- pages lie lawfully where each row changes into one that may stand in its stead on its frame
   pub laid_mapped : (c : Row → Row) (restless : Listing) → ((r : Row) → (c r).page ≡ r.page) → All (λ r. LodgesAs (c r) r) p.rows → IsLaid (record p { rows = map c p.rows; restless = restless }) k
-  laid_mapped c restless keeps lodges = laid_rows (map c p.rows) p.frame restless k refl (omega arith) (lodged_rows h.placed c keeps lodges)
+  laid_mapped c restless keeps lodges = laid_rows (map c p.rows) p.frame restless k refl (omega arith)
+      (remapped None c keeps h.placed (λ i d lt. let r = get_or p.rows i d in lodged_as h.placed r (c r) (p.frame r.page) (lodges i d lt)))
+
+  -- pages lie lawfully where the row of a page changes into one that may stand in its stead on its frame
+  pub laid_changed : (page : GuestPage) (row : Row) (c : Row → Row) (restless : Listing) → InPageOrder p.rows → row_at page p.rows ≡ Some row
+      → ((r : Row) → (c r).page ≡ r.page) → LodgesAs (c row) row → IsLaid (record p { rows = change_row page c p.rows; restless = restless }) k
+  laid_changed page row c restless rise found keeps lodges =
+      laid_mapped (λ r. if same_page r.page page then c r else r) restless
+      (λ r. cond_both (same_page r.page page) (c r) r (λ (x : Row). x.page ≡ r.page) (λ _. keeps r) (λ _. refl))
+      (λ i d lt. let r = get_or p.rows i d in cond_both (same_page r.page page) (c r) r (λ x. LodgesAs x r)
+      (λ is. subst (λ x. LodgesAs (c x) x) (sym (row_of_page page p.rows row rise found i d lt is)) lodges) (λ _. (refl, refl, inl refl)))
 
   -- a row that is not Zero lies on a frame that serves it
   pub has_frame : (page : GuestPage) (row : Row) → row_at page p.rows ≡ Some row → zero_state row.state ≡ false → (f : ℕ) × (p.frame page ≡ Some f) × Serves sh k.ledger p.dups row f
@@ -162,28 +173,27 @@ readable x _ framed e = subst IsReadable (sym e) tt
 
 -- pages lie lawfully with other knobs, where merge_across_nodes stays as it is or there are no dups
 pub retuned : {p : PagesView} (tuned : Knobs) {k : KeeperView} → (tuned.merge_across_nodes ≡ p.knobs.merge_across_nodes) ⊎ (p.dups ≡ []) → IsLaid p k → IsLaid (record p { knobs = tuned }) k
-retuned {p} tuned {k} (inl same) h = record {
-  small = h.small;
-  same = h.same;
-  placed = subst (λ a. Placed p.shape a k.ledger p.rows p.frame p.dups None) (sym same) h.placed;
-  spent = h.spent;
-}
-retuned {p} tuned {k} (inr none) h = record {
-  small = h.small;
-  same = h.same;
-  placed = (let q = h.placed in record {
-    frames_long = q.frames_long;
-    places_long = q.places_long;
-    widths = q.widths;
-    lives = q.lives;
-    each_row = q.each_row;
-    each_dup = subst (All (DupFits p.shape tuned.merge_across_nodes k.ledger)) (sym none) (λ i d lt. absurd (omega (arith, lt)));
-    bases = q.bases;
-    kinds = q.kinds;
-    empty = q.empty;
-  });
-  spent = h.spent;
-}
+retuned {p} tuned {k} either h =
+    let q = h.placed in record {
+      small = h.small;
+      same = h.same;
+      placed = record {
+        frames_long = q.frames_long;
+        places_long = q.places_long;
+        widths = q.widths;
+        lives = q.lives;
+        each_row = q.each_row;
+        each_dup = by either;
+        bases = q.bases;
+        kinds = q.kinds;
+        empty = q.empty;
+      };
+      spent = h.spent;
+    }
+  where
+    by : (tuned.merge_across_nodes ≡ p.knobs.merge_across_nodes) ⊎ (p.dups ≡ []) → All (DupFits p.shape tuned.merge_across_nodes k.ledger) p.dups
+    by (inl same) = subst (λ a. All (DupFits p.shape a k.ledger) p.dups) (sym same) h.placed.each_dup
+    by (inr none) = subst (All (DupFits p.shape tuned.merge_across_nodes k.ledger)) (sym none) (λ i d lt. absurd (omega (arith, lt)))
 
 -- ---------------------------------------------------------------- no rows
 

@@ -1,5 +1,5 @@
 -- What is told of rows, as it is of their pages: the pages ahead, where visits end, and which pages are listed.
-use Rattle.ksm_book.proofs.Names.{[], after_cursor, Ahead, ap, AreAscending, AreListed, arith, At, cases_Bool, comes_before, ComesTo, Contains, End, EndsAt, filter, find_all, GuestPage, has_item, inl, inr, is_restless, last_of, last_page, length, length-filter, length-map, List, list_any_at, Listing, map, mergeable_count, mergeable_pages, None, Option, refl, restless_row, Row, row_at, rows_ahead, rows_between, same_page, same_page_refl, slice_get-map, Some, subst, sym, true, true≢false, ℕ, ◌-◌, ◌∙◌, ◌∷◌, ◌≡◌}
+use Rattle.ksm_book.proofs.Names.{[], after_cursor, Ahead, ap, AreAscending, AreListed, arith, At, comes_before, ComesTo, Contains, End, EndsAt, filter, find_all, GuestPage, has_item, is_restless, last_of, last_page, length, length-filter, length-map, List, list_any_at, Listing, map, mergeable_count, mergeable_pages, None, Option, refl, restless_row, Row, row_at, rows_ahead, rows_between, same_page, same_page_refl, slice_get-map, Some, subst, sym, true, true≢false, ℕ, ◌-◌, ◌∙◌, ◌∷◌, ◌≡◌, filter_mapped}
 use Rattle.ksm_pages.specs.Paged.{AreListed as RowsListed}
 use Rattle.ksm_book.proofs.ByPage.{found_page}
 
@@ -8,14 +8,7 @@ pages_are : (cursor : Option GuestPage) (rows : List Row)
     → map (λ r. r.page) (rows_ahead cursor rows) ≡ filter (after_cursor cursor) (mergeable_pages rows)
 pages_are cursor [] = refl
 pages_are cursor (r ∷ rows) =
-    let rest = pages_are cursor rows in
-    elim (cases_Bool r.mergeable) [
-      | inl mergeable ↦ elim (cases_Bool (after_cursor cursor r.page)) [
-        | inl ahead ↦ grind (arith, mergeable, ahead, rest)
-        | inr behind ↦ grind (arith, mergeable, behind, rest)
-      ]
-      | inr not_so ↦ grind (arith, not_so, rest)
-    ]
+    let rest = pages_are cursor rows in grind (arith, rest)
 
 -- where so many visits of the rows ahead end, so many visits of the pages ahead end
 pub ahead_ends : (cursor : Option GuestPage) (rows : List Row) (visits : ℕ) (ahead : Ahead) → ComesTo (rows_ahead cursor rows) visits ahead
@@ -30,21 +23,12 @@ ahead_ends cursor rows visits ahead comes = subst (λ l. EndsAt l visits ahead) 
         (let less = told.0 in omega (arith, same, less), slice_get-map (λ (r : Row). r.page) (rows_ahead cursor rows) (visits - 1) ∙ told.1)
     by (End made) told = (told.0 ∙ sym same, told.1)
 
--- the pages of rows that come before a page
-before_are : (page : GuestPage) (rows : List Row)
-    → map (λ r. r.page) (filter (λ r. comes_before r.page page) rows) ≡ filter (λ p. comes_before p page) (map (λ r. r.page) rows)
-before_are page [] = refl
-before_are page (r ∷ rows) =
-    let rest = before_are page rows in
-    elim (cases_Bool (comes_before r.page page)) [
-      | inl before ↦ grind (arith, before, rest)
-      | inr behind ↦ grind (arith, behind, rest)
-    ]
-
 between_are : (cursor : Option GuestPage) (page : GuestPage) (rows : List Row)
     → map (λ r. r.page) (rows_between cursor page rows)
     ≡ filter (λ p. comes_before p page) (filter (after_cursor cursor) (mergeable_pages rows))
-between_are cursor page rows = before_are page (rows_ahead cursor rows) ∙ ap (filter (λ p. comes_before p page)) (pages_are cursor rows)
+between_are cursor page rows =
+    sym (filter_mapped (λ (r : Row). r.page) (λ p. comes_before p page) (λ r. comes_before r.page page) (rows_ahead cursor rows) (λ i d lt. refl))
+    ∙ ap (filter (λ p. comes_before p page)) (pages_are cursor rows)
 
 -- the rows that scans visit between the cursor and a page are as many as the pages ahead before that page
 pub between_many : (cursor : Option GuestPage) (page : GuestPage) (rows : List Row)

@@ -1,9 +1,9 @@
 -- What each step of a command does to a placement.
-use Rattle.ksm_book.proofs.Names.{[], Agrees, All, All-append, All-cons, All-filter, All-head, All-map, All-tail, All-weaker, all_with_row, ap, arith, Bool, both_ways, cases_lt, change_row, cond_both, DupFits, DupRow, eq-eqb, eqb-true, false, filter, filter_passes, find_all, find_none, FitsBase, frame_at, Frames, frames_of, GenerationFits, get_or, get_or-set_other, get_or-set_same, GuestPage, if◌then◌else◌, in_hand, inl, InPageOrder, inr, is_frame, is_some, IsInLife, IsServed, item_count, Kind, kind_for, Ledger, length, length-set, lies_on, Life, life_or, List, lt-ltb, ltb-true, map, Merged, merged_into, named_at, nat_lt, nat_tests, None, not, not-true, Note, Option, ordered_change, PAGE_WORDS, PageState, place_frame, place_life, Placed, Private, refl, Row, row_at, RowFits, same_page, same_page_refl, set, Shape, shared_state, Some, Stable, subst, sym, true, uses, with_dup, with_frame, with_row, without_page, Zero, zero_state, ℕ, ◌++◌, ◌+◌, ◌/◌, ◌<◌, ◌==◌, ◌∙◌, ◌∷◌, ◌≡◌, ◌≢◌, ◌≤◌}
-use mathlib.Core.Logic.{dite}
-use native.Mathlib.Decide.{ℕ_discrete}
+use Rattle.ksm_book.proofs.Names.{Agrees, All, All-filter, All-map, All-weaker, all_with_row, ap, arith, both_ways, cases_lt, change_row, cond_both, DupFits, DupRow, eq-eqb, eqb-true, false, filter, filter_passes, find_all, find_none, FitsBase, frame_at, Frames, frames_of, GenerationFits, get_or, get_or-set_other, get_or-set_same, GuestPage, if◌then◌else◌, in_hand, inl, InPageOrder, inr, is_frame, is_some, IsInLife, IsServed, item_count, Kind, kind_for, Ledger, length, length-set, lies_on, Life, life_or, List, lt-ltb, map, Merged, merged_into, named_at, nat_lt, nat_tests, None, not, not-true, Note, Option, ordered_change, PAGE_WORDS, PageState, place_frame, place_life, Placed, Private, refl, Row, row_at, RowFits, same_page, same_page_refl, set, Shape, shared_state, Some, Stable, subst, sym, true, uses, with_dup, with_frame, with_row, without_page, Zero, zero_state, ℕ, ◌+◌, ◌/◌, ◌<◌, ◌==◌, ◌∙◌, ◌∷◌, ◌≡◌, ◌≢◌, ◌≤◌, count_alike, Contains, Contains-append_left, Contains-append_right, suc, all_with_dup}
 use Rattle.ksm_book.proofs.Noted.{by_frame, noted}
-use Rattle.ksm_book.proofs.ByPage.{all_changed_row, at_changed, change_twice, lies_again, lies_still, one_same, row_of_page, uses_some, counts_agree, filter_back, found_page, off_page, on_page, uses_changed, uses_come, uses_gone, uses_mapped}
+use Rattle.ksm_book.proofs.ByPage.{all_changed_row, at_changed, change_twice, lies_again, lies_still, one_same, row_of_page, uses_some, found_page, off_page, on_page, uses_changed, uses_come, uses_gone, uses_mapped, contains_filter}
+use Rattle.std.proofs.lemmas.List.Elements.{Contains-get_or}
+use Rattle.std.specs.Cmp.{both_ways as same_tests}
 
 -- a frame serves a row: the row fits the frame, and agrees with each dup
 abbrev pub Serves : Shape → Ledger → List DupRow → Row → ℕ → Type 0
@@ -85,36 +85,19 @@ module _ {sh : Shape} {across : ℕ} {k : Ledger} {rows : List Row} {frame : Fra
       subst (IsServed sh k dups r) (sym (off_page page None frame r.page (not-true _ (filter_passes (λ s. not (same_page s.page page)) rows i d lt)))) (kept i d lt))
       (λ f. let gone = uses_gone f page None frame rows row rise found in let b = p.bases f in omega (arith, gone, b))
 
-all_with : (P : DupRow → Type 0) (d : DupRow) (dups : List DupRow) → P d → All (λ e. e.place ≢ d.place → P e) dups → All P (with_dup d dups)
-all_with P d dups here there =
+-- where no other dup stands at the place of a new one, what all dups pass with it, it passes and so do all others
+all_without : (P : DupRow → Type 0) (d : DupRow) (dups : List DupRow) → All (λ e. e.place ≢ d.place) dups → All P (with_dup d dups) → P d × All P dups
+all_without P d dups apart h =
     let lower = filter (λ e. nat_lt e.place d.place) dups in
     let higher = filter (λ e. nat_lt d.place e.place) dups in
-    let Q : DupRow → Type 0 = λ e. e.place ≢ d.place → P e in
-    All-append P lower (d ∷ higher)
-    (λ k x lt. (All-filter (λ e. nat_lt e.place d.place) Q dups there k x lt) (λ e. let l : (get_or lower k x).place < d.place = ltb-true _ _ (filter_passes (λ e. nat_lt e.place d.place) dups k x lt) in omega arith))
-    (All-cons P d higher here
-    (λ k x lt. (All-filter (λ e. nat_lt d.place e.place) Q dups there k x lt) (λ e. let l : d.place < (get_or higher k x).place = ltb-true _ _ (filter_passes (λ e. nat_lt d.place e.place) dups k x lt) in omega arith)))
-
-all_first : (P : DupRow → Type 0) (xs ys : List DupRow) → All P (xs ++ ys) → All P xs
-all_first P [] ys h = λ k x lt. absurd (omega arith)
-all_first P (x ∷ xs) ys h = All-cons P x xs (All-head P x (xs ++ ys) h) (all_first P xs ys (All-tail P x (xs ++ ys) h))
-
-all_second : (P : DupRow → Type 0) (xs ys : List DupRow) → All P (xs ++ ys) → All P ys
-all_second P [] ys h = h
-all_second P (x ∷ xs) ys h = all_second P xs ys (All-tail P x (xs ++ ys) h)
-
--- what all of the dups pass with a new one, all of the others pass
-all_without : (P : DupRow → Type 0) (d : DupRow) (dups : List DupRow) → All P (with_dup d dups) → P d × All (λ e. e.place ≢ d.place → P e) dups
-all_without P d dups h =
-    let lower = filter (λ e. nat_lt e.place d.place) dups in
-    let higher = filter (λ e. nat_lt d.place e.place) dups in
-    let low = filter_back (λ e. nat_lt e.place d.place) P dups (all_first P lower (d ∷ higher) h) in
-    let rest : All P (d ∷ higher) = all_second P lower (d ∷ higher) h in
-    let high = filter_back (λ e. nat_lt d.place e.place) P dups (All-tail P d higher rest) in (
-      All-head P d higher rest,
-      λ k x lt ne. elim (cases_lt (get_or dups k x).place d.place) [
-        | inl below ↦ low k x lt (lt-ltb _ _ below)
-        | inr above ↦ high k x lt (lt-ltb _ _ (omega arith))
+    let at : (e : DupRow) → Contains (with_dup d dups) e → P e = λ e has. subst P has.2 (h has.0 e has.1) in (
+      at d (Contains-append_right lower (d ∷ higher) d (0, omega arith, refl)),
+      λ k x lt. let e : DupRow = get_or dups k x in let has = Contains-get_or dups k x lt in elim (cases_lt e.place d.place) [
+        | inl below ↦
+            at e (Contains-append_left lower (d ∷ higher) e (contains_filter (λ y. nat_lt y.place d.place) dups e has (lt-ltb _ _ below)))
+        | inr above ↦
+            let there = contains_filter (λ y. nat_lt d.place y.place) dups e has (lt-ltb _ _ (let ne = apart k x lt in omega (arith, above, ne))) in
+            at e (Contains-append_right lower (d ∷ higher) e (suc there.0, (let l = there.1 in omega (arith, l)), there.2))
       ],
     )
 
@@ -142,26 +125,26 @@ module _ {sh : Shape} {across : ℕ} {k : Ledger} {rows : List Row} {frame : Fra
   life_off : (e : DupRow) → e.place ≢ d.place → IsInLife named e.place → IsInLife k e.place
   life_off e ne l = ap (λ h. (frame_at k h).generation) (sym (names_off e ne)) ∙ l ∙ ap (λ x. (life_or x).generation) (named_off e.place ne)
 
-  named_anew : uses g frame rows ≡ 0 → (frame_at k g).content ≡ d.bytes → (across ≡ 0 → g / sh.frames_per_node ≡ d.tree) → All (λ r. merged_into d.number r.state ≡ false) rows
+  named_anew : All (λ e. e.place ≢ d.place) dups → uses g frame rows ≡ 0 → (frame_at k g).content ≡ d.bytes → (across ≡ 0 → g / sh.frames_per_node ≡ d.tree) → All (λ r. merged_into d.number r.state ≡ false) rows
       → Placed sh across named rows frame (with_dup d dups) (Some g)
-  named_anew unused bytes tree fresh = record {
+  named_anew apart unused bytes tree fresh = record {
     frames_long = p.frames_long;
     places_long = length-set k.places d.place (Some (record { frame = g; generation = life })) ∙ p.places_long;
     widths = p.widths;
     lives = p.lives;
     each_row = λ i x lt. let r : Row = get_or rows i x in served_as sh k named dups (with_dup d dups) r r (frame r.page) refl (λ f is m. (
       (let n = m.0 in record { mapped = n.mapped; frame = n.frame; kind = n.kind; content = n.content; given = n.given; node = n.node }),
-      all_with (Agrees named r f) d dups
+      all_with_dup (Agrees named r f) d dups
           (record {
             item = λ into. absurd (let none = fresh i x lt in grind (arith, into, none));
             back = λ _ e. absurd (let some = uses_some g frame rows i x lt (is ∙ ap Some (e ∙ names)) in omega (arith, some, unused));
           })
-          (λ n y l ne. let e : DupRow = get_or dups n y in let a = m.1 n y l in record {
+          (λ n y l. let e : DupRow = get_or dups n y in let ne = apart n y l in let a = m.1 n y l in record {
             item = λ into. let y = a.item into in (y.0 ∙ sym (names_off e ne), ap (λ h. (frame_at k h).generation) (names_off e ne) ∙ y.1 ∙ sym (ap (λ x. (life_or x).generation) (named_off e.place ne)));
             back = λ l e2. a.back (life_off e ne l) (e2 ∙ names_off e ne);
           }),
     )) (p.each_row i x lt);
-    each_dup = all_with (DupFits sh across named) d dups
+    each_dup = all_with_dup (DupFits sh across named) d dups
         (record {
           place = at;
           named = ap is_some named_is;
@@ -171,7 +154,7 @@ module _ {sh : Shape} {across : ℕ} {k : Ledger} {rows : List Row} {frame : Fra
           shown = λ _ e. (let bad : Stable ≡ Private = sym stable ∙ ap (λ h. (frame_at k h).kind) (sym names) ∙ e in cc);
           node = λ z. ap (λ h. h / sh.frames_per_node) names ∙ tree z;
         })
-        (λ n x l ne. let e : DupRow = get_or dups n x in let m = p.each_dup n x l in record {
+        (λ n x l. let e : DupRow = get_or dups n x in let ne = apart n x l in let m = p.each_dup n x l in record {
           place = m.place;
           named = ap is_some (named_off e.place ne) ∙ m.named;
           frame = subst (λ y. y < frames_of sh) (sym (names_off e ne)) m.frame;
@@ -182,8 +165,7 @@ module _ {sh : Shape} {across : ℕ} {k : Ledger} {rows : List Row} {frame : Fra
         });
     bases = p.bases;
     kinds = p.kinds;
-    empty = λ q h. (let w = all_without (λ e. e.place ≢ q) d dups h in
-        named_off q (λ e. w.0 (sym e)) ∙ p.empty q (λ n x l. dite (ℕ_discrete (get_or dups n x).place d.place) (λ e e2. w.0 (sym e ∙ e2)) (λ ne. w.1 n x l ne)));
+    empty = λ q h. (let w = all_without (λ e. e.place ≢ q) d dups apart h in named_off q (λ e. w.0 (sym e)) ∙ p.empty q w.1);
   }
 
 -- the row of a page leaves its frame, and comes back changed
@@ -275,10 +257,10 @@ module _ {sh : Shape} {across : ℕ} {k : Ledger} {rows : List Row} {frame : Fra
 
   -- rows and dups lie lawfully where a place names the frame of a row, which becomes the first item of a new dup
   pub published : (d : DupRow) → d.place < frames_of sh → (c : Row → Row) → ((r : Row) → (c r).page ≡ r.page) → (c row).state ≡ Merged d.number → (c row).bytes ≡ row.bytes → d.bytes ≡ row.bytes → (across ≡ 0 → row.home ≡ d.tree) → shared_state row.state ≡ false
-      → All (λ r. merged_into d.number r.state ≡ false) rows → All (λ e. ¬ (e.number ≡ d.number)) dups
+      → All (λ r. merged_into d.number r.state ≡ false) rows → All (λ e. ¬ (e.number ≡ d.number)) dups → All (λ e. e.place ≢ d.place) dups
       → Placed sh across (record { frames = set k.frames g stable; places = set k.places d.place (Some (record { frame = g; generation = (frame_at k g).generation })) })
       (change_row page c rows) frame (with_dup d dups) None
-  published d inside c keeps item same bytes home was fresh numbers =
+  published d inside c keeps item same bytes home was fresh numbers apart =
       let served = fits.0 in
       let here = turned_note stable refl in
       let gens = turned_life stable refl in
@@ -290,7 +272,7 @@ module _ {sh : Shape} {across : ℕ} {k : Ledger} {rows : List Row} {frame : Fra
       let off_life = life_off q kind served.frame life (gens g) d inside in
       let off_there = names_off q kind served.frame life (gens g) d inside in
       back c keeps
-      (named_anew q kind served.frame life (gens g) d inside unused (words ∙ served.content ∙ sym bytes)
+      (named_anew q kind served.frame life (gens g) d inside apart unused (words ∙ served.content ∙ sym bytes)
       (λ z. served.node was ∙ home z)
       (All-map (λ r. merged_into d.number r.state ≡ false) (λ r. if same_page r.page page then record r { state = Zero } else r) rows (λ i x lt. let r : Row = get_or rows i x in
       cond_both (same_page r.page page) (record r { state = Zero }) r (λ y. merged_into d.number y.state ≡ false) (λ _. refl) (λ _. fresh i x lt)))) (
@@ -300,14 +282,14 @@ module _ {sh : Shape} {across : ℕ} {k : Ledger} {rows : List Row} {frame : Fra
           kind = kind ∙ ap kind_for (sym item);
           content = words ∙ served.content ∙ sym same;
           given = subst (λ y. 1 ≤ y) (sym (gens g)) served.given;
-          node = λ m. absurd (own_not_merged (c row).state d.number item m);
+          node = λ m. absurd (let e : true ≡ false = ap shared_state (sym item) ∙ m in grind (arith, e));
         },
-        all_with (Agrees (named q kind served.frame life (gens g) d inside) (c row) g) d dups
+        all_with_dup (Agrees (named q kind served.frame life (gens g) d inside) (c row) g) d dups
             (record {
               item = λ _. (sym (names q kind served.frame life (gens g) d inside), in_life q kind served.frame life (gens g) d inside);
               back = λ _ _. ap (merged_into d.number) item ∙ eq-eqb d.number d.number refl;
             })
-            (λ n x l ne. let e : DupRow = get_or dups n x in record {
+            (λ n x l. let e : DupRow = get_or dups n x in let ne = apart n x l in record {
               item = λ m. absurd (numbers n x l (only e.number (c row).state d.number item m));
               back = λ lives e2. absurd (not_named e (p.each_dup n x l) (sym (gens _) ∙ off_life e ne lives) (sym (e2 ∙ off_there e ne)));
             }),
@@ -315,9 +297,6 @@ module _ {sh : Shape} {across : ℕ} {k : Ledger} {rows : List Row} {frame : Fra
     where
       only : (n : ℕ) (s : PageState) (m : ℕ) → s ≡ Merged m → merged_into n s ≡ true → n ≡ m
       only n s m is into = let e : (m == n) ≡ true = sym (ap (merged_into n) is) ∙ into in grind (arith, nat_tests, e)
-
-      own_not_merged : (s : PageState) (m : ℕ) → s ≡ Merged m → shared_state s ≡ false → ⊥
-      own_not_merged s m is alone = let e : true ≡ false = ap shared_state (sym is) ∙ alone in grind (arith, e)
 
 -- a row in the state of another that is served by a frame, with the frame's bytes, is served by it too
 pub serves_like : (sh : Shape) (k : Ledger) (dups : List DupRow) (s r : Row) (f : ℕ) → Serves sh k dups s f → r.state ≡ s.state → (frame_at k f).content ≡ r.bytes → shared_state r.state ≡ true → Serves sh k dups r f
@@ -334,11 +313,6 @@ pub lies_as_item : {sh : Shape} {across : ℕ} {k : Ledger} {rows : List Row} {f
     → All (λ r. is_frame (place_frame k (get_or dups n d).place) (frame r.page) ≡ merged_into (get_or dups n d).number r.state) rows
 lies_as_item {sh} {k = k} {rows} {frame} {dups} p n d lt life i r0 l = by (get_or rows i r0) (frame (get_or rows i r0).page) (p.each_row i r0 l)
   where
-    same_tests : (x y : Bool) → (x ≡ true → y ≡ true) → (y ≡ true → x ≡ true) → x ≡ y
-    same_tests true y f g = sym (f refl)
-    same_tests false true f g = g refl
-    same_tests false false f g = refl
-
     -- a row without a frame is no item
     not_item : (s : PageState) → zero_state s ≡ true → merged_into (get_or dups n d).number s ≡ false
     not_item (Merged m) z = absurd (grind (arith, z))
@@ -357,7 +331,7 @@ base_is_items {k = k} {rows} {frame} {dups} p n d lt life =
     let e : DupRow = get_or dups n d in
     let f : ℕ = place_frame k e.place in
     let b : (frame_at k f).base ≡ uses f frame rows + 0 = p.bases f in
-    let c : uses f frame rows ≡ item_count rows e = counts_agree (λ r. is_frame f (frame r.page)) (λ r. merged_into e.number r.state) rows (lies_as_item p n d lt life) in
+    let c : uses f frame rows ≡ item_count rows e = count_alike (λ r. is_frame f (frame r.page)) (λ r. merged_into e.number r.state) rows (lies_as_item p n d lt life) in
     omega (arith, b, c)
 
 -- a dup without items has no Stable frame in the life that its place names

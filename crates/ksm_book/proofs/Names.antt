@@ -12,7 +12,7 @@ pub use Rattle.frame_core.specs.declared.seat.Life.{Life}
 pub use Rattle.frame_table.specs.Kept.{did, May}
 pub use Rattle.frame_table.specs.Named.{KeeperView}
 pub use Rattle.ksm_base.proofs.Edits.{count_more, count_none, counts_one, find_all, find_none, find_nothing, find_passes, none_counted}
-pub use Rattle.ksm_base.proofs.Orders.{all_with_row, each_has_number, filter_none, one_of_each_page, one_of_each_place, ordered_change, ordered_filter, ordered_map, ordered_with, pairs_append, pairs_cross, pairs_head, pairs_tail}
+pub use Rattle.ksm_base.proofs.Orders.{all_with_dup, all_with_row, each_has_number, filter_none, one_of_each_page, one_of_each_place, ordered_change, ordered_filter, ordered_map, ordered_with, pairs_append, pairs_cross, pairs_head, pairs_tail}
 pub use Rattle.ksm_base.proofs.Pages.{after_differs, before_differs, before_irrefl, before_trans, not_both, one_before, same_page_eq, same_page_refl}
 pub use Rattle.ksm_base.proofs.RowCounts.{change_none, count_with_row, count_without_page, each_at_page, filter_all}
 pub use Rattle.ksm_base.proofs.SoundCounts.{joined_count}
@@ -54,9 +54,9 @@ pub use Rattle.ksm_book.specs.Commands.{Deed, dup_frame, emptying, Finds, FindsH
 pub use Rattle.ksm_book.specs.Folded.{begun, IsBeside, IsStill, last_of, mergeable_pages, next_visited, page_visited, pages_ahead, pages_visited, pass_at, restless_at, restless_row, visited, visits_beside}
 pub use Rattle.ksm_tree.specs.NumberSets.{has, HasNone, IsLeast, Marks}
 pub use Rattle.ksm_book.specs.FrameSets.{AreSets, IsFirstOf, IsSetOf, NoneOf}
-pub use Rattle.ksm_book.specs.Keeping.{holding, IsLawful, Keeps, NoneLeft, past_lives, spent, spent_on, Took}
+pub use Rattle.ksm_book.specs.Keeping.{holding, IsLawful, Keeps, NoneLeft, past_lives, spent, spent_on, Took, with_more}
 pub use Rattle.ksm_book.specs.Laid.{HasRemounted, Houses, IsLaid, LoadsIf, lying, MayMove, MovesOr, Resettled, state_of, TurnedAway}
-pub use Rattle.ksm_book.specs.Mounted.{HasLost, HasMoved, IsMoved, MayMount}
+pub use Rattle.ksm_book.specs.Mounted.{HasLost, HasMoved, IsMoved, MayMount, once_mounted}
 pub use Rattle.ksm_book.specs.Placement.{Agrees, DupFits, FitsBase, in_hand, is_frame, IsInLife, IsServed, kind_for, life_or, node_of, place_frame, place_life, Placed, RowFits, uses}
 pub use Rattle.ksm_book.specs.Promised.{dup_frames, FindsPlace, HasItsOwn, is_in_use, IsOutlived, LieOn, NumbersAreSmall, own_frames, StandsOn}
 pub use Rattle.ksm_book.specs.Scanned.{ahead_before, ahead_up_to, AreListed, Comes, doing, EndsAt, from_to, GoesOn, HasScanned, HasStayed, HasVisited, is_nowhere, IsForZero, last_visited, ListsAll, MayJoin, MeetsPage, Reached, StopsAt, StopsBefore, StopsShort, up_to, VisitsPage}
@@ -64,6 +64,7 @@ pub use Rattle.ksm_book.specs.Steps.{along, Did, Does, dying_from, dying_kind, d
 pub use Rattle.ksm_book.specs.Unmerged.{Gave, HasLeft, is_shared_of, IsStop, left_by, MayNotLeave, shared_of, Unshares}
 pub use Rattle.ksm_book.specs.Whole.{BookValue, BookView, HasShown, listed, mapped, nodes_got, view_of}
 pub use Rattle.ksm_book.specs.Worked.{apart, page, together}
+pub use Rattle.ksm_pages.proofs.Found.{find_changed, find_changed_other, find_put}
 pub use Rattle.ksm_pages.specs.Held.{Listing}
 pub use Rattle.ksm_pages.specs.Paged.{ComesTo, dup_of_row, elsewhere, FindsAt, Frames, HasRoom, is_item, is_next, is_restless, IsAlone, IsHeld, IsKnown, IsVacant, items_on, last_page, lies_on, MayPair, nowhere, of_guest, on_its_own, PagesValue, PagesView, rows_ahead, rows_between, seen}
 pub use Rattle.ksm_pages.specs.declared.ahead.Ahead.{Ahead}
@@ -71,7 +72,10 @@ pub use Rattle.ksm_pages.specs.declared.ahead.Ahead.TheVariants.{At, End}
 pub use Rattle.ksm_pages.specs.declared.pages.Find.{Find}
 pub use Rattle.ksm_pages.specs.declared.pages.Find.TheVariants.{Dup, Partner}
 pub use Rattle.ksm_pages.specs.declared.pages.Held.{Held}
+pub use Rattle.ksm_rmap.proofs.Ordered.{absent_parts, any_found, none_found, none_of, without_between}
+pub use Rattle.ksm_rmap.proofs.Pages.{pages_ordered}
 pub use Rattle.ksm_rmap.specs.Items.{AreAscending, has_item}
+pub use Rattle.ksm_tree.proofs.Alike.{count_alike, count_mapped, filter_mapped, find_mapped, map_alike, map_mapped, pairs_mapped}
 pub use Rattle.ksm_tree.specs.declared.dup.Best.{Best}
 pub use Rattle.std.proofs.Common.{[], ap, append-nil, append_assoc, arith, Bool, cond, drop, eq-eqb, Err, false, get_or, get_or-set_other, get_or-set_same, inl, inr, IsSome, length, length-set, List, map, None, Ok, Option, refl, replicate, rules, set, shr-shr, slice_index_or, Some, subst, suc, suc-mul, sym, take, take_all, true, true≢false, w64, zero, zero-mul, ℕ, ◌%◌, ◌*◌, ◌++◌, ◌+◌, ◌-◌, ◌/◌, ◌<◌, ◌^◌, ◌∙◌, ◌∷◌, ◌≡◌, ◌≢◌, ◌≤◌, ◌⊎◌}
 pub use Rattle.std.proofs.Math.Bool.{and-true, or-false}
@@ -81,9 +85,9 @@ pub use Rattle.std.proofs.Math.Nat.{div-le_self, mul_comm}
 pub use Rattle.std.proofs.Math.Seq.{take-append_seam}
 pub use Rattle.std.proofs.lemmas.Bool.{and_parts, and_right, both_ways, cases_Bool, cases_eq, cases_lt, cases_order, cond-false, cond-true, cond_both, eqb-true, false≢true, leb-true, lt-ltb, ltb-true, ne_eqb, not-false, not-true, or_right}
 pub use Rattle.std.proofs.lemmas.Bool.Decides.{nat_tests}
-pub use Rattle.std.proofs.lemmas.List.{append_cancel_left, drop-append-le, drop_more, get_or-drop, get_or-map, get_or-take, get_or_default, get_or_past, length-append, length-drop, length-map, length-replicate, length-take, length-take-le, map-append, replicate-append-replicate, set-get_or, take-append-drop, take_more}
+pub use Rattle.std.proofs.lemmas.List.{append_cancel_left, drop-append-le, drop_more, get_or-drop, get_or-map, get_or-take, get_or_default, get_or_past, length-append, length-drop, length-map, length-replicate, length-take, length-take-le, map-append, replicate-append-replicate, set-get_or, set-set, set_at, take-append-drop, take_more}
 pub use Rattle.std.proofs.lemmas.List.Elements.{All-append, All-cons, All-contains_itself, All-filter, All-head, All-map, All-tail, All-weaker, Contains-append_left, Contains-append_right, Contains-push, filter-append, filter_passes}
-pub use Rattle.std.proofs.lemmas.List.Folds.{list_any-append, list_any_at, list_any_none}
+pub use Rattle.std.proofs.lemmas.List.Folds.{find-append, list_any-append, list_any_at, list_any_none, map_fixed}
 pub use Rattle.std.proofs.lemmas.List.FromFn.{get_or-range_with_len, length-range_with_len}
 pub use Rattle.std.proofs.lemmas.List.Kept.{AllPairs-cons, AllPairs-filter}
 pub use Rattle.std.proofs.lemmas.List.Sums.{count_by-le-length, length-filter, sum_by-cons, sum_by-le, sum_by-set}
@@ -95,4 +99,5 @@ pub use Rattle.std.proofs.lemmas.Nat.Bits.{bit_at-trailing_zeros, bit_at-zero, b
 pub use Rattle.std.proofs.lemmas.Option.{get_or_from_slice_get, same_Some, slice_get-get_or, slice_get-map, slice_get_past, slice_get_within}
 pub use Rattle.std.specs.Int.{bit_at, trailing_zeros}
 pub use Rattle.std.specs.List.{list_any, range_with_len, sum_by}
+pub use Rattle.std.specs.Option.{option_or}
 pub use Rattle.std.specs.Prelude.{All, AllPairs, Contains, count_by, filter, find, IfErr, IfSome, if◌then◌else◌, is_none, is_some, MatchBool, MatchOption, max, min, nat_le, nat_lt, not, option_and_then, option_map, Result, slice_get, slice_index, slice_set, ⊤, ◌&&◌, ◌==◌, ◌||◌}

@@ -1,13 +1,13 @@
 -- The visit of a page: what was found of its row, and what becomes of the book where the row alone changes.
-use Rattle.ksm_book.proofs.Names.{[], All, ap, arith, BookState, BookValue, BookView, change_row, Comes, cond_both, Deed, doing, false, Find, FindsAt, Frames, get_or, GuestPage, HasStayed, idle, if◌then◌else◌, inl, InPageOrder, inr, is_restless, IsLaid, IsSound, IsStill, KeeperView, List, lying, map, mapped, MatchOption, Merged, None, Option, page_visited, PageState, PagesView, paired, pairing, partner, Performs, refl, restless_at, restless_row, Row, row_at, row_visited, row_visiting, same_page, settled, settled_state, shared_state, Some, state_of, subst, suc, sym, then_doing, true, true≢false, view_of, visited, VisitsPage, Waiting, Zero, ℕ, ◌∙◌, ◌∷◌, ◌≡◌}
+use Rattle.ksm_book.proofs.Names.{All, ap, arith, BookState, BookValue, BookView, change_row, Comes, cond_both, Deed, doing, false, Find, FindsAt, Frames, get_or, GuestPage, HasStayed, idle, InPageOrder, inr, is_restless, IsLaid, IsSound, IsStill, KeeperView, List, lying, map, mapped, MatchOption, Merged, None, Option, page_visited, PageState, PagesView, paired, pairing, partner, Performs, refl, restless_at, restless_row, Row, row_at, row_visited, row_visiting, same_page, settled, settled_state, shared_state, Some, state_of, subst, sym, then_doing, true, view_of, visited, VisitsPage, Waiting, Zero, ℕ, ◌∙◌, ◌≡◌, if◌then◌else◌, map_mapped}
 use Rattle.ksm_base.specs.declared.row.PageState.TheVariants.{Private}
 use Rattle.ksm_pages.specs.declared.pages.Find.TheVariants as finds
 use Rattle.ksm_pages.specs.Paged.{Finds, visited as row_changed}
 use Rattle.ksm_book.proofs.ByPage.{found_page, row_of_page}
 use Rattle.ksm_book.proofs.Doing.{then_idle}
-use Rattle.ksm_book.proofs.Laying.{LodgesAs, laid_mapped}
+use Rattle.ksm_book.proofs.Laying.{LodgesAs, laid_changed}
 use Rattle.ksm_book.proofs.Made.{made_none}
-use Rattle.ksm_book.proofs.RowVisits.{Leads, Meets, leads, marked_is, marking_is, restless_own, stayed_is, staying_is, there_is, visit_comes}
+use Rattle.ksm_book.proofs.RowVisits.{Leads, Meets, leads, marked_is, restless_own, stayed_is, there_is, visit_comes, filled_by}
 use Rattle.ksm_book.proofs.Singles.{book}
 
 -- ---------------------------------------------------------------- what was found
@@ -29,14 +29,10 @@ finds_it f some {p} {k} {cursor} {passes} {v} lawful same q page is told = by (r
 -- where a page's row, which a visit may change, was visited, the book has come to that
 visits_come : (v w : BookValue) (page : GuestPage) → restless_at page v.state.rows ≡ true → VisitsPage (view_of v) (view_of w) page → Comes
     v w (λ s. page_visited doing s page)
-visits_come v w page restless did = by (row_at page v.state.rows) refl restless did
-  where
-    by : (o : Option Row) → row_at page v.state.rows ≡ o → restless_row o ≡ true
-        → MatchOption o (true ≡ false) (λ r. (w.state ≡ row_visited v.state r) × Performs (mapped (view_of v)) (mapped (view_of w))
-        (row_visiting v.state (view_of v).frame r))
-        → Comes v w (λ s. page_visited doing s page)
-    by None found is told = absurd (true≢false told)
-    by (Some row) found is told = visit_comes v w page row found is told.0 told.1
+visits_come v w page restless did =
+    let at = filled_by (λ r. (w.state ≡ row_visited v.state r) × Performs (mapped (view_of v)) (mapped (view_of w))
+    (row_visiting v.state (view_of v).frame r)) (row_at page v.state.rows) did in
+    visit_comes v w page at.0 at.1 (ap restless_row (sym at.1) ∙ restless) at.2.0 at.2.1
 
 -- where a search changed nothing and the page's row was visited then, the visit of the page was reached
 pub shared_comes : {P : BookState → Row → Type 0} {p : PagesView} {k : KeeperView} {cursor : Option GuestPage} {passes : ℕ}
@@ -49,13 +45,10 @@ shared_comes {k = k} {cursor} {passes} v w {page} at restless q same did =
 
 waiting_settles : (page : GuestPage) (rows : List Row) → All (λ r. same_page r.page page ≡ true → shared_state r.state ≡ false) rows
     → map settled (change_row page (λ r. record r { state = Waiting }) rows) ≡ map settled rows
-waiting_settles page [] alone = refl
-waiting_settles page (r ∷ rows) alone =
-    let rest = waiting_settles page rows (λ i d lt. alone (suc i) d (omega (arith, lt))) in
-    let here : settled (if same_page r.page page then record r { state = Waiting } else r) ≡ settled r =
+waiting_settles page rows alone =
+    map_mapped settled (λ r. if same_page r.page page then record r { state = Waiting } else r) settled rows (λ i d lt. let r = get_or rows i d in
     cond_both (same_page r.page page) (record r { state = Waiting }) r (λ (x : Row). settled x ≡ settled r)
-    (λ is t. record r { state = by r.state (alone 0 r (omega arith) is) t }) (λ _. refl) in
-    λ t. here t ∷ rest t
+    (λ is t. record r { state = by r.state (alone i d lt is) t }) (λ _. refl))
   where
     by : (s : PageState) → shared_state s ≡ false → Private ≡ settled_state s
     by (Merged d) e = absurd (grind (arith, e))
@@ -66,11 +59,11 @@ waiting_settles page (r ∷ rows) alone =
 module _ (b : BookState) (row : Row) (stays : HasStayed b false row) (alone : partner b.knobs b.rows row ≡ None) where
   -- the visit of a row that has stayed and has no partner makes the row Waiting
   pub waits_is : row_visited b row ≡ record b { rows = change_row row.page (λ r. record r { state = Waiting }) b.rows }
-  waits_is = stayed_is b (λ _. None) row false stays ∙ ap (λ o. paired o b row) alone
+  waits_is = (stayed_is b (λ _. None) row false stays).0 ∙ ap (λ o. paired o b row) alone
 
   -- the visit of a row that has stayed and has no partner does nothing to the frames
   pub waiting_is : (frame : Frames) → row_visiting b frame row ≡ idle frame
-  waiting_is frame = staying_is b frame row false stays ∙ ap (λ o. pairing o b frame row) alone
+  waiting_is frame = (stayed_is b frame row false stays).1 ∙ ap (λ o. pairing o b frame row) alone
 
   -- the visit of a row that has stayed and has no partner changes nothing but which rows wait
   pub waits_still : (deed : Deed) (page : GuestPage) → InPageOrder b.rows → row_at page b.rows ≡ Some row → IsStill (b, deed)
@@ -102,11 +95,8 @@ row_leads : {P : BookState → Row → Type 0} {p : PagesView} {k : KeeperView} 
     → Leads v q k cursor passes page
 row_leads {p = p} {k} {cursor} {passes} at restless c keeps lodges becomes rests {q} goes =
     leads at q k restless
-    (subst (λ (x : PagesView). IsLaid x k) (sym goes) (laid_mapped at.laid (λ r. if same_page r.page at.row.page then c r else r) p.restless
-    (λ r. cond_both (same_page r.page at.row.page) (c r) r (λ (x : Row). x.page ≡ r.page) (λ _. keeps r) (λ _. refl))
-    (λ i d lt. let r = get_or p.rows i d in cond_both (same_page r.page at.row.page) (c r) r (λ x. LodgesAs x r)
-    (λ is. subst (λ x. LodgesAs (c x) x) (sym (row_of_page at.row.page p.rows at.row at.sound.rows_rise (there_is at) i d lt is)) lodges)
-    (λ _. (refl, refl, inl refl)))))
+    (subst (λ (x : PagesView). IsLaid x k) (sym goes)
+    (laid_changed at.laid at.row.page at.row c p.restless at.sound.rows_rise (there_is at) keeps lodges))
     (ap (λ (x : PagesView). state_of x cursor passes) goes ∙ sym becomes)
     (subst (Performs (lying p k) (lying q k)) (sym rests) (record {
       made = made_none refl;
@@ -134,7 +124,7 @@ module _ {p q : PagesView} {k : KeeperView} {cursor : Option GuestPage} {passes 
 pub changed_leads : {p q : PagesView} {k : KeeperView} {cursor : Option GuestPage} {passes : ℕ} {v : BookView} {page : GuestPage}
     → Meets (λ _ r. FindsAt p q r finds.Changed) p k cursor passes v page → Leads v q k cursor passes page
 changed_leads {p} {q} {k} {cursor} {passes} at =
-    let b = state_of p cursor passes in
+    let marked = marked_is (state_of p cursor passes) p.frame at.row at.so.0 at.so.1 at.so.2 in
     row_leads at at.so.0 (λ r. record r { unchanged = true; state = Private }) (λ r. refl)
     (refl, refl, inr (restless_own at.row at.so.0, refl))
-    (marked_is b at.row at.so.0 at.so.1 at.so.2) (marking_is b p.frame at.row at.so.0 at.so.1 at.so.2) at.so.3
+    marked.0 marked.1 at.so.3

@@ -1,5 +1,6 @@
 -- Ascending lists of pages: their parts before and behind a page, by test and by index; and each is known by what it has.
-use Rattle.ksm_book.proofs.Names.{[], after_cursor, All, All-cons, All-filter, All-head, All-tail, and_right, any-filter_same, ap, AreAscending, arith, before_differs, before_irrefl, before_trans, Bool, cases_Bool, cases_lt, comes_before, Contains-from_any, drop, drop-append-le, drop_of_length-le, false, filter, filter_all, filter_none, from_to, get_or, get_or-drop, get_or-take, get_or_from_slice_get, GuestPage, has_item, if◌then◌else◌, inl, inr, last_of, length, length-drop, length-take, length-take-le, List, list_any_none, max, None, not, not_both, one_before, Option, pairs_head, pairs_tail, refl, same_page, same_page_eq, same_page_refl, same_Some, slice_get, slice_get-get_or, slice_get_within, Some, subst, suc, sym, take, take_more, true, true≢false, up_to, zero, ℕ, ◌&&◌, ◌++◌, ◌+◌, ◌-◌, ◌<◌, ◌||◌, ◌∙◌, ◌∷◌, ◌≡◌, ◌≤◌}
+use Rattle.ksm_book.proofs.Names.{[], after_cursor, All, All-cons, All-filter, All-head, and_right, any-filter_same, ap, AreAscending, arith, before_differs, before_irrefl, before_trans, Bool, cases_Bool, cases_lt, comes_before, Contains-from_any, drop, drop-append-le, drop_of_length-le, false, filter, filter_all, filter_none, from_to, get_or, get_or-drop, get_or-take, get_or_from_slice_get, GuestPage, has_item, inl, inr, last_of, length, length-drop, length-take, length-take-le, List, list_any_none, max, None, not, not_both, one_before, Option, pairs_head, pairs_tail, refl, same_page, same_page_eq, same_page_refl, same_Some, slice_get, slice_get-get_or, slice_get_within, Some, subst, suc, sym, take, take_more, true, true≢false, up_to, zero, ℕ, ◌&&◌, ◌++◌, ◌+◌, ◌-◌, ◌<◌, ◌||◌, ◌∙◌, ◌∷◌, ◌≡◌, ◌≤◌, filter_mapped, if◌then◌else◌}
+use Rattle.std.proofs.lemmas.List.{map-id}
 
 -- the first page comes before the second
 abbrev pub Before : GuestPage → GuestPage → Type 0
@@ -49,25 +50,14 @@ GoesDown t = (p q : GuestPage) → comes_before p q ≡ true → t q ≡ true �
 -- where a page is not behind a last one, no page before that page is
 pub up_to_down : (last : Option GuestPage) → GoesDown (up_to last)
 up_to_down None p q before is = refl
-up_to_down (Some last) p q before is = elim (cases_Bool (comes_before last p)) [
-  | inl later ↦ absurd (true≢false (sym is ∙ ap not (before_trans last p q later before)))
-  | inr fine ↦ ap not fine
-]
+up_to_down (Some last) p q before is = let after = before_trans last p q in grind (arith, after, before, is)
 
 -- where a page comes before another, each page before that page does
 pub before_down : (page : GuestPage) → GoesDown (λ p. comes_before p page)
 before_down page p q before is = before_trans p q page before is
 
 filter_same : {X : Type 0} (t u : X → Bool) (xs : List X) → All (λ x. t x ≡ u x) xs → filter t xs ≡ filter u xs
-filter_same t u [] same = refl
-filter_same t u (x ∷ xs) same =
-    let here = All-head (λ y. t y ≡ u y) x xs same in
-    let rest = filter_same t u xs (All-tail (λ y. t y ≡ u y) x xs same) in
-    λ i. if here i then x ∷ rest i else rest i
-
-drop_none : (n : ℕ) → drop {A = GuestPage} n [] ≡ []
-drop_none zero = refl
-drop_none (suc n) = refl
+filter_same t u xs same = ap (filter t) (sym (map-id xs)) ∙ filter_mapped (λ x. x) t u xs same ∙ map-id (filter u xs)
 
 module _ (t : GuestPage → Bool) (down : GoesDown t) where
   -- where the first page fails such a test, all do
@@ -76,10 +66,7 @@ module _ (t : GuestPage → Bool) (down : GoesDown t) where
       All-cons (λ q. t q ≡ false) p pages fails (λ k d lt. too (get_or pages k d) (pairs_head Before p pages rise k d lt))
     where
       too : (q : GuestPage) → comes_before p q ≡ true → t q ≡ false
-      too q later = elim (cases_Bool (t q)) [
-        | inl passes ↦ absurd (true≢false (sym (down p q later passes) ∙ fails))
-        | inr so ↦ so
-      ]
+      too q later = let passes = down p q later in grind (arith, passes, fails)
 
   -- the first pages, as many as pass, are those that pass
   pub take_down : (pages : List GuestPage) → AreAscending pages → take (length (filter t pages)) pages ≡ filter t pages
@@ -119,7 +106,7 @@ module _ (t : GuestPage → Bool) (down : GoesDown t) where
                   filter_none both (p ∷ pages)
                   (λ k d lt. and_right (after_cursor cursor (get_or (p ∷ pages) k d)) (t (get_or (p ∷ pages) k d)) (all k d lt)) in
                   ap (λ l. from_to (length (filter low (p ∷ pages))) (length l) (p ∷ pages)) (filter_none t (p ∷ pages) all)
-                  ∙ drop_none (length (filter low (p ∷ pages))) ∙ sym neither
+                  ∙ drop_of_length-le [] (omega arith) ∙ sym neither
             ]
       ]
 
@@ -200,13 +187,12 @@ has_first p pages = ap (λ b. b || has_item p pages) (same_page_refl p)
 -- ascending lists that have the same pages begin with no earlier page than the other
 no_earlier : (p q : GuestPage) (ps qs : List GuestPage) → AreAscending (q ∷ qs)
     → ((x : GuestPage) → has_item x (p ∷ ps) ≡ has_item x (q ∷ qs)) → comes_before p q ≡ false
-no_earlier p q ps qs rise same = elim (cases_Bool (comes_before p q)) [
-  | inl before ↦
-      let behind : All (Before p) (q ∷ qs) =
-      All-cons (Before p) q qs before (λ k d lt. before_trans p q (get_or qs k d) before (pairs_head Before q qs rise k d lt)) in
-      absurd (true≢false (sym (has_first p ps) ∙ same p ∙ not_behind p (q ∷ qs) behind))
-  | inr fine ↦ fine
-]
+no_earlier p q ps qs rise same =
+    let behind : comes_before p q ≡ true → has_item p (q ∷ qs) ≡ false = λ before. not_behind p (q ∷ qs)
+    (All-cons (Before p) q qs before (λ k d lt. before_trans p q (get_or qs k d) before (pairs_head Before q qs rise k d lt))) in
+    let first = has_first p ps in
+    let both = same p in
+    grind (arith, behind, first, both)
 
 -- ascending lists that have the same pages are the same
 pub same_pages : (ps qs : List GuestPage) → AreAscending ps → AreAscending qs → ((x : GuestPage) → has_item x ps ≡ has_item x qs) → ps ≡ qs

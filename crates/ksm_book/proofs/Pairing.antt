@@ -1,11 +1,11 @@
 -- A visited page makes a dup with the page that waits for it: what the keeper may do, and what becomes of the book.
-use Rattle.ksm_book.proofs.Names.{[], Add, All, All-contains_itself, ap, arith, BookState, BookView, Bool, cases_Bool, change_row, change_rows, Contains, Contains-append_right, count_none, did, dup_of_row, DupRow, each_at_page, eq-eqb, false, filter, find_all, find_passes, frame_number, frames_of, get_or, GuestPage, HasStayed, IfSome, if◌then◌else◌, inl, InPageOrder, inr, IsFree, IsLaid, IsSound, IsVacant, item_count, joined_count, KeeperView, leaving, lies_on, List, list_any, lying, Made, MatchOption, May, MayPair, MeetsPage, Merged, merged_into, merged_state, nat_lt, nat_tests, new_place, new_place_free, next_is_new, None, Option, ordered_change, PageState, PagesView, paired, pairing, partner, Performs, place_count, Publish, refl, Row, row_at, row_visiting, same_page, same_page_eq, shared_state, Some, state_of, Sub, subst, sym, true, true≢false, waiting_state, waits_for, waits_tells, WaitsFor, with_dup, Withdraw, withdrawing, Zero, ℕ, ◌++◌, ◌+◌, ◌<◌, ◌==◌, ◌||◌, ◌∙◌, ◌∷◌, ◌≡◌, ◌≤◌}
+use Rattle.ksm_book.proofs.Names.{[], Add, All, All-contains_itself, ap, arith, BookState, BookView, Bool, change_row, change_rows, Contains, Contains-append_right, count_none, did, dup_of_row, DupRow, each_at_page, eq-eqb, false, filter, find_all, find_passes, frame_number, frames_of, GuestPage, IfSome, InPageOrder, IsFree, IsLaid, IsSound, IsVacant, item_count, joined_count, KeeperView, leaving, lies_on, List, list_any, lying, Made, MatchOption, May, MayPair, MeetsPage, Merged, merged_into, merged_state, nat_lt, nat_tests, new_place, new_place_free, next_is_new, Option, ordered_change, PageState, PagesView, paired, pairing, partner, Performs, place_count, Publish, refl, Row, row_at, row_visiting, same_page, shared_state, Some, state_of, Sub, subst, sym, true, waiting_state, waits_for, waits_tells, WaitsFor, with_dup, Withdraw, withdrawing, Zero, ℕ, ◌++◌, ◌+◌, ◌<◌, ◌==◌, ◌||◌, ◌∙◌, ◌∷◌, ◌≡◌, ◌≤◌, find_changed_other, if◌then◌else◌}
 use Rattle.ksm_pages.specs.Paged.{paired as are_paired}
 use Rattle.ksm_book.proofs.Made.{made_one, made_then}
 use Rattle.ksm_book.proofs.Sharing.{laid_found, laid_joined, may_clear, may_found, may_join, may_part, spent_most, tree_is_home}
 use Rattle.ksm_book.proofs.ByPage.{at_changed}
-use Rattle.ksm_book.proofs.Standing.{finds_places}
-use Rattle.ksm_book.proofs.RowVisits.{Leads, Meets, at_row, leads, page_is, restless_own, there_is, staying_is, stayed_is}
+use Rattle.ksm_book.proofs.RowVisits.{Leads, Meets, at_row, leads, page_is, restless_own, there_is, stayed_is, filled_by}
+use Rattle.ksm_book.proofs.Promised.{finds_place}
 
 -- a row that waits is not shared
 waiting_is_alone : (s : PageState) → waiting_state s ≡ true → (shared_state s ≡ false) × (merged_state s ≡ false)
@@ -20,82 +20,32 @@ in_state s r = record r { state = s }
 two_changes : (p q : GuestPage) (s : PageState) (rows : List Row) → change_row q (in_state s) (change_row p (in_state s) rows) ≡ change_rows
     (λ r. same_page r.page p || same_page r.page q) (in_state s) rows
 two_changes p q s [] = refl
-two_changes p q s (r ∷ rs) =
-    let rest = two_changes p q s rs in
-    elim (cases_Bool (same_page r.page p)) [
-      | inl first ↦ elim (cases_Bool (same_page r.page q)) [
-        | inl second ↦ grind (arith, first, second, rest)
-        | inr second ↦ grind (arith, first, second, rest)
-      ]
-      | inr first ↦ elim (cases_Bool (same_page r.page q)) [
-        | inl second ↦ grind (arith, first, second, rest)
-        | inr second ↦ grind (arith, first, second, rest)
-      ]
-    ]
-
--- the row of another page stays
-row_elsewhere : (p q : GuestPage) (s : PageState) (rows : List Row) → same_page p q ≡ false → row_at q (change_row p (in_state s) rows) ≡
-    row_at q rows
-row_elsewhere p q s [] other = refl
-row_elsewhere p q s (r ∷ rs) other =
-    let rest = row_elsewhere p q s rs other in
-    elim (cases_Bool (same_page r.page p)) [
-      | inl here ↦
-          let not_q : same_page r.page q ≡ false = ap (λ x. same_page x q) (same_page_eq r.page p here) ∙ other in
-          grind (arith, here, not_q, rest)
-      | inr there ↦ grind (arith, there, rest)
-    ]
+two_changes p q s (r ∷ rs) = let rest = two_changes p q s rs in grind (arith, rest)
 
 contains_dup : (d : DupRow) (dups : List DupRow) → Contains (with_dup d dups) d
 contains_dup d dups =
     let above = filter (λ e. nat_lt d.place e.place) dups in Contains-append_right (filter (λ e. nat_lt e.place d.place) dups) (d ∷ above) d
     (0, omega arith, refl)
 
--- a visited page is to make a dup at a place, with another page, which waits for it
-pub record Pairs (p : PagesView) (k : KeeperView) (cursor : Option GuestPage) (passes : ℕ) (v : BookView) (one page : GuestPage)
-    (place : ℕ) : Type 0 where
-  -- the visited page's row is met; its bytes have stayed, and are not to merge with the zero page
-  pub met : Meets (λ b. HasStayed b false) p k cursor passes v page
-  -- the row that waits for the visited one
-  pub waiting : Row
-  -- the waiting row is the partner of the visited one
-  pub waits : partner p.knobs p.rows met.row ≡ Some waiting
-  -- the other page is that of the waiting row
-  pub named : one ≡ waiting.page
-  -- the place is the one for a new dup
-  pub chosen : place ≡ new_place (place_count p.shape) p.rows p.dups
-
--- a visited page that meets another page as its partner is to make a dup with it at the place for a new dup
-pub pairs : (other : GuestPage) {p : PagesView} {k : KeeperView} {cursor : Option GuestPage} {passes : ℕ} {v : BookView}
-    {one page : GuestPage}
-    {place : ℕ} → Meets (λ b. MeetsPage b other) p k cursor passes v page → one ≡ other
-    → place ≡ new_place (place_count p.shape) p.rows p.dups → Pairs p k cursor passes v one page place
-pairs other {p} at is chosen =
-    let w = by (partner p.knobs p.rows at.row) at.so.1 in record {
-      met = record { is = at.is; sound = at.sound; laid = at.laid; row = at.row; found = at.found; so = at.so.0 };
-      waiting = w.0;
-      waits = w.1;
-      named = is ∙ w.2;
-      chosen = chosen;
-    }
-  where
-    by : (o : Option Row) → MatchOption o (true ≡ false) (λ w. other ≡ w.page) → (w : Row) × (o ≡ Some w) × (other ≡ w.page)
-    by None none = absurd (true≢false none)
-    by (Some w) named = (w, refl, named)
-
-module _ {p : PagesView} {k : KeeperView} {cursor : Option GuestPage} {passes : ℕ} {v : BookView} {one page : GuestPage} {place : ℕ}
-    (at : Pairs p k cursor passes v one page place) where
+-- a visited page meets another one as its partner, and is to make a dup with it at the place for a new dup
+module _ (other : GuestPage) {p : PagesView} {k : KeeperView} {cursor : Option GuestPage} {passes : ℕ} {v : BookView} {one page : GuestPage}
+    {place : ℕ} (at : Meets (λ b. MeetsPage b other) p k cursor passes v page) (is : one ≡ other)
+    (chosen : place ≡ new_place (place_count p.shape) p.rows p.dups) where
   abbrev s : IsSound (state_of p cursor passes)
-  s = at.met.sound
+  s = at.sound
 
   abbrev h : IsLaid p k
-  h = at.met.laid
+  h = at.laid
 
   abbrev row : Row
-  row = at.met.row
+  row = at.row
+
+  -- the partner of the visited page
+  pub met : (w : Row) × (partner p.knobs p.rows row ≡ Some w) × (other ≡ w.page)
+  met = filled_by (λ w. other ≡ w.page) (partner p.knobs p.rows row) at.so.1
 
   abbrev w : Row
-  w = at.waiting
+  w = met.0
 
   abbrev b : BookState
   b = state_of p cursor passes
@@ -104,14 +54,14 @@ module _ {p : PagesView} {k : KeeperView} {cursor : Option GuestPage} {passes : 
   dup = dup_of_row p.knobs p.next place row
 
   at_page : row.page ≡ page
-  at_page = page_is at.met
+  at_page = page_is at
 
   tells : WaitsFor p.knobs row w
-  tells = waits_tells p.knobs row w (find_passes (waits_for p.knobs row) p.rows w at.waits)
+  tells = waits_tells p.knobs row w (find_passes (waits_for p.knobs row) p.rows w met.1)
 
   -- the waiting row is found at its page
   pub waits_at : row_at w.page p.rows ≡ Some w
-  waits_at = find_all (waits_for p.knobs row) (λ r. row_at r.page p.rows ≡ Some r) p.rows w at.waits (each_at_page p.rows s.rows_rise)
+  waits_at = find_all (waits_for p.knobs row) (λ r. row_at r.page p.rows ≡ Some r) p.rows w met.1 (each_at_page p.rows s.rows_rise)
 
   alone : shared_state w.state ≡ false
   alone = (waiting_is_alone w.state tells.state).0
@@ -121,23 +71,17 @@ module _ {p : PagesView} {k : KeeperView} {cursor : Option GuestPage} {passes : 
 
   -- the place for a new dup is one of the places
   pub room : new_place (place_count p.shape) p.rows p.dups < place_count p.shape
-  room = finds_places s h row (find_all (λ r. same_page r.page page) (Contains p.rows) p.rows row at.met.found
-      (All-contains_itself p.rows)) (restless_own row at.met.so.restless)
+  room = finds_place b k.ledger s p.frame h.placed row (find_all (λ r. same_page r.page page) (Contains p.rows) p.rows row at.found
+      (All-contains_itself p.rows)) (restless_own row at.so.0.restless)
 
   inside : place < frames_of p.shape
-  inside = subst (λ x. x < place_count p.shape) (sym at.chosen) room
+  inside = subst (λ x. x < place_count p.shape) (sym chosen) room
 
   vacant : IsVacant place p.rows p.dups
   vacant = λ n d lt same.
-      let free : IsFree b place = subst (IsFree b) (sym at.chosen) (new_place_free b s) in
-      vacant_at (item_count p.rows (get_or p.dups n d)) (λ lives. let other = free.apart n d lt lives in absurd
-      (grind (arith, nat_tests, other, same)))
-    where
-      vacant_at : (n : ℕ) → (nat_lt 0 n ≡ true → ⊥) → n ≡ 0
-      vacant_at n none = elim (cases_Bool (nat_lt 0 n)) [
-        | inl some ↦ absurd (none some)
-        | inr zero_is ↦ grind (arith, nat_tests, zero_is)
-      ]
+      let free : IsFree b place = subst (IsFree b) (sym chosen) (new_place_free b s) in
+      let other = free.apart n d lt in
+      grind (arith, nat_tests, other, same)
 
   fresh : All (λ r. merged_into p.next r.state ≡ false) p.rows
   fresh = next_is_new b s
@@ -145,9 +89,9 @@ module _ {p : PagesView} {k : KeeperView} {cursor : Option GuestPage} {passes : 
   may_pair : MayPair p place w row
   may_pair = record {
     first_is = waits_at;
-    second_is = there_is at.met;
+    second_is = there_is at;
     first_alone = alone;
-    second_alone = restless_own row at.met.so.restless;
+    second_alone = restless_own row at.so.0.restless;
     apart = tells.other;
     inside = inside;
     vacant = vacant;
@@ -160,19 +104,19 @@ module _ {p : PagesView} {k : KeeperView} {cursor : Option GuestPage} {passes : 
   may_withdraw = may_clear k h place inside vacant
 
   waits_one : row_at one p.rows ≡ Some w
-  waits_one = ap (λ q. row_at q p.rows) at.named ∙ waits_at
+  waits_one = ap (λ q. row_at q p.rows) (is ∙ met.2) ∙ waits_at
 
   -- the two pages may become the items of a new dup at the place
   pub pair_may : MatchOption (row_at one p.rows) (true ≡ false) (λ r. MatchOption (row_at page p.rows) (true ≡ false) (MayPair p place r))
   pair_may = subst (λ o. MatchOption o (true ≡ false) (λ r. MatchOption (row_at page p.rows) (true ≡ false) (MayPair p place r)))
       (sym waits_one)
-      (subst (λ o. MatchOption o (true ≡ false) (MayPair p place w)) (sym at.met.found) may_pair)
+      (subst (λ o. MatchOption o (true ≡ false) (MayPair p place w)) (sym at.found) may_pair)
 
   module _ {f : ℕ} (stands : p.frame one ≡ Some f) {k1 : KeeperView} {taken : Bool}
       (taken_is : taken ≡ list_any (λ d. d.place == place) p.dups)
       (cleared : Made k k1 (if taken then Withdraw place ∷ [] else [])) where
     lies : p.frame w.page ≡ Some f
-    lies = ap p.frame (sym at.named) ∙ stands
+    lies = ap p.frame (sym (is ∙ met.2)) ∙ stands
 
     clears : Made k k1 (withdrawing p.dups place)
     clears = subst (λ t. Made k k1 (if t then Withdraw place ∷ [] else [])) taken_is cleared
@@ -198,7 +142,7 @@ module _ {p : PagesView} {k : KeeperView} {cursor : Option GuestPage} {passes : 
       first_rise = ordered_change (λ r. same_page r.page w.page) change p.rows (λ r. refl) s.rows_rise
 
       row_still : row_at page first.rows ≡ Some row
-      row_still = row_elsewhere w.page page (Merged p.next) p.rows apart ∙ at.met.found
+      row_still = find_changed_other (λ (r : Row). r.page) w.page change (λ r. refl) page p.rows apart ∙ at.found
 
       item_at : row_at w.page first.rows ≡ Some (change w)
       item_at = at_changed w.page change p.rows w (λ r. refl) waits_at
@@ -226,7 +170,7 @@ module _ {p : PagesView} {k : KeeperView} {cursor : Option GuestPage} {passes : 
             (told : MatchOption (row_at one p.rows) (true ≡ false) (λ r. MatchOption (row_at page p.rows) (true ≡ false)
             (λ x. q ≡ are_paired place r x p))) where
           goes : q ≡ are_paired place w row p
-          goes = at_row (λ x. q ≡ are_paired place w x p) page p.rows row at.met.found
+          goes = at_row (λ x. q ≡ are_paired place w x p) page p.rows row at.found
               (at_row (λ r. MatchOption (row_at page p.rows) (true ≡ false) (λ x. q ≡ are_paired place r x p)) one p.rows w waits_one told)
 
           steps : Made k2 l (Add f ∷ leaving (p.frame page))
@@ -246,20 +190,20 @@ module _ {p : PagesView} {k : KeeperView} {cursor : Option GuestPage} {passes : 
                 (Publish place f ∷ Add f ∷ leaving (p.frame page));
             frame = lies_on page (Some f) p.frame;
           }
-          deed_is = staying_is b p.frame row false at.met.so ∙ ap (λ o. pairing o b p.frame row) at.waits
+          deed_is = (stayed_is b p.frame row false at.so.0).1 ∙ ap (λ o. pairing o b p.frame row) met.1
               ∙ (λ t. record {
-                steps = withdrawing p.dups (sym at.chosen t) ++ (Publish (sym at.chosen t) (frame_number (lies t)) ∷ Add
+                steps = withdrawing p.dups (sym chosen t) ++ (Publish (sym chosen t) (frame_number (lies t)) ∷ Add
                     (frame_number (lies t)) ∷ leaving (p.frame (at_page t)));
                 frame = lies_on (at_page t) (lies t) p.frame;
               })
 
           -- once the two pages are the items of a new dup, on one frame, the book is what the visit leads to
           pub pair_leads : Leads v q l cursor passes page
-          pair_leads = leads at.met q l at.met.so.restless
+          pair_leads = leads at q l at.so.0.restless
               (subst (λ (x : PagesView). IsLaid x l) (sym q_is)
               (laid_joined first_laid first_rise page row (change w) row_still item_at f lies refl change (λ r. refl) refl (sym tells.bytes)
               l p.restless steps))
-              (ap (λ (x : PagesView). state_of x cursor passes) goes ∙ (λ t. state_of (are_paired (at.chosen t) w row p) cursor passes)
-              ∙ sym (stayed_is b p.frame row false at.met.so ∙ ap (λ o. paired o b row) at.waits))
+              (ap (λ (x : PagesView). state_of x cursor passes) goes ∙ (λ t. state_of (are_paired (chosen t) w row p) cursor passes)
+              ∙ sym ((stayed_is b p.frame row false at.so.0).0 ∙ ap (λ o. paired o b row) met.1))
               (subst (Performs (lying p k) (lying q l)) (sym deed_is) (record
               { made = all_steps; frame = ap (λ (x : PagesView). x.frame) q_is }))

@@ -1,21 +1,19 @@
--- A lawful placement says the sentences that are promised.
-use Rattle.ksm_book.proofs.Names.{eqb-true, find_passes, eq-eqb, [], All, All-filter, All-head, All-map, All-tail, AllPairs, AllPairs-cons, AllPairs-filter, ap, arith, BookState, Bool, cases_Bool, Contains, Contains-append_left, Contains-append_right, count_by, count_more, counts_one, dup_frames, dup_of_item, DupRow, false, Filling, filter, filter_passes, FitsBase, frame_at, frame_number, Frames, get_or, GuestPage, has_items, HasItsOwn, home_of_item, if◌then◌else◌, inl, inr, is_frame, is_in_use, is_some, IsOutlived, IsServed, IsSound, item_count, Kind, kind_for, Ledger, length, LieOn, Life, life_or, List, lt-ltb, map, MatchOption, Merged, merged_into, named_at, nat_tests, None, none_counted, not, not-true, Option, own_frames, PageState, pairs_append, pairs_head, pairs_tail, place_frame, Placed, Private, refl, Row, row_at, shared_state, Some, Stable, StandsOn, subst, suc, sym, true, uses, Zero, zero, zero_state, ℕ, ◌++◌, ◌+◌, ◌<◌, ◌==◌, ◌∙◌, ◌∷◌, ◌≡◌, ◌≢◌, ◌≤◌}
-use Rattle.ksm_book.proofs.ByPage.{is_that}
-use Rattle.ksm_book.proofs.Laying.{own_kind, own_framed}
+-- A lawful placement says the sentences that are promised, and so a new dup finds a place.
+use Rattle.ksm_book.proofs.Names.{eqb-true, find_passes, eq-eqb, [], All, All-filter, All-head, All-map, All-tail, AllPairs, AllPairs-cons, AllPairs-filter, ap, arith, BookState, Bool, cases_Bool, Contains, Contains-append_left, Contains-append_right, count_by, count_more, counts_one, dup_frames, dup_of_item, DupRow, false, Filling, filter, filter_passes, FitsBase, frame_at, frame_number, Frames, get_or, GuestPage, has_items, HasItsOwn, home_of_item, inl, inr, is_frame, is_in_use, is_some, IsOutlived, IsServed, IsSound, item_count, Kind, kind_for, Ledger, length, LieOn, Life, life_or, List, lt-ltb, map, MatchOption, Merged, merged_into, named_at, nat_tests, None, none_counted, not, not-true, Option, own_frames, PageState, pairs_append, place_frame, Placed, Private, refl, Row, row_at, shared_state, Some, Stable, StandsOn, subst, sym, true, uses, Zero, zero_state, ℕ, ◌++◌, ◌+◌, ◌<◌, ◌==◌, ◌∙◌, ◌∷◌, ◌≡◌, ◌≢◌, ◌≤◌, if◌then◌else◌, get_or-map, length-map, All-append, frames_of, FindsPlace, nat_lt, place_or, find, is_stale, cond_both, ltb-true, find_all, empty_from, length-le_from_distinct_below, IsDistinct-from_apart, ne_eqb, Contains-from_any, eqb, length-append, All-contains_itself, pairs_mapped}
+use Rattle.ksm_book.proofs.ByPage.{is_that, contains_filter}
+use Rattle.ksm_book.proofs.Laying.{own_kind, own_framed, number_of_kind}
 use Rattle.ksm_book.proofs.Moves.{base_is_items, stale_is_loose, framed}
-use Rattle.ksm_book.proofs.Standing.{Lives, frames_apart, lives}
-use Rattle.ksm_book.proofs.Sharing.{first_found, index_found, state_of_item}
+use Rattle.ksm_book.proofs.Standing.{Lives, frames_apart, lives, empty_from_most}
+use Rattle.ksm_book.proofs.Sharing.{first_found, state_of_item}
+use Rattle.std.proofs.lemmas.List.Elements.{Contains-get_or}
+use Rattle.ksm_book.proofs.Pruning.{none_stale}
 
 -- what passes a test is among those that pass, and so is what is made of it
 passing : {X : Type 0} (f : X → ℕ) (test : X → Bool) (xs : List X) (i : ℕ) (d : X) → i < length xs → test (get_or xs i d) ≡ true → Contains (map f (filter test xs)) (f (get_or xs i d))
-passing f test [] i d lt passes = absurd (omega arith)
-passing f test (x ∷ xs) zero d lt passes = subst (λ ys. Contains (map f ys) (f x)) (let is : x ∷ filter test xs ≡ filter test (x ∷ xs) = grind (arith, passes) in is) (0, omega arith, refl)
-passing f test (x ∷ xs) (suc i) d lt passes =
-    let rest = passing f test xs i d (omega arith) passes in
-    elim (cases_Bool (test x)) [
-      | inl here ↦ subst (λ ys. Contains (map f ys) (f (get_or xs i d))) (let is : x ∷ filter test xs ≡ filter test (x ∷ xs) = grind (arith, here) in is) (suc rest.0, (let l = rest.1 in omega (arith, l)), rest.2)
-      | inr there ↦ subst (λ ys. Contains (map f ys) (f (get_or xs i d))) (let is : filter test xs ≡ filter test (x ∷ xs) = grind (arith, there) in is) rest
-    ]
+passing f test xs i d lt passes =
+    let kept = contains_filter test xs (get_or xs i d) (Contains-get_or xs i d lt) passes in
+    let here = kept.1 in
+    (kept.0, omega (arith, here, length-map (filter test xs) f), get_or-map f (filter test xs) kept.0 (get_or xs i d) _ here ∙ ap f kept.2)
 
 -- numbers that are each counted once differ
 once_each : (xs : List ℕ) → All (λ f. count_by (λ g. g == f) xs ≤ 1) xs → AllPairs (λ f g. f ≢ g) xs
@@ -30,33 +28,24 @@ once_each (x ∷ xs) once =
     AllPairs-cons R x xs (λ k d lt same. let other = apart k d lt in absurd (grind (arith, nat_tests, other, same)))
     (once_each xs (λ k d lt. let f = get_or xs k d in let all = All-tail P x xs once k d lt in let more = count_more (λ g. g == f) x xs in grind (arith, all, more)))
 
--- there is a frame
-abbrev IsThere : Option ℕ → Type 0
-IsThere None = ⊥
-IsThere (Some f) = Unit {0}
-
 -- a frame is a row's own at most as often as rows lie on it
-own_count : (f : ℕ) (frame : Frames) (rows : List Row) → All (λ r. shared_state r.state ≡ false → IsThere (frame r.page)) rows → count_by (λ g. g == f) (own_frames rows frame) ≤ uses f frame rows
+own_count : (f : ℕ) (frame : Frames) (rows : List Row) → All (λ r. shared_state r.state ≡ false → (g : ℕ) × (frame r.page ≡ Some g)) rows → count_by (λ g. g == f) (own_frames rows frame) ≤ uses f frame rows
 own_count f frame [] all = omega arith
 own_count f frame (r ∷ rows) all =
-    let Q : Row → Type 0 = λ r. shared_state r.state ≡ false → IsThere (frame r.page) in
+    let Q : Row → Type 0 = λ r. shared_state r.state ≡ false → (g : ℕ) × (frame r.page ≡ Some g) in
     let rest = own_count f frame rows (All-tail Q r rows all) in
     let here = All-head Q r rows all in
     let more = count_more (λ s. is_frame f (frame s.page)) r rows in
     elim (cases_Bool (shared_state r.state)) [
       | inl shared ↦ grind (arith, rest, more, shared)
-      | inr own ↦ by (frame r.page) refl rest more own (here own)
+      | inr own ↦
+          let is = (here own).1 in
+          let list : own_frames (r ∷ rows) frame ≡ frame_number (frame r.page) ∷ own_frames rows frame = grind (arith, own) in
+          let count = ap (count_by (λ g. g == f)) list ∙ count_more (λ g. g == f) (frame_number (frame r.page)) (own_frames rows frame) in
+          let number = ap {B = ℕ} (λ n. if n == f then 1 else 0) (ap frame_number is) in
+          let test = ap {B = ℕ} (λ (o : Option ℕ). if is_frame f o then 1 else 0) is in
+          omega (arith, rest, more, count, number, test)
     ]
-  where
-    by : (o : Option ℕ) → frame r.page ≡ o → count_by (λ g. g == f) (own_frames rows frame) ≤ uses f frame rows → uses f frame (r ∷ rows) ≡ (if is_frame f (frame r.page) then 1 else 0) + uses f frame rows
-        → shared_state r.state ≡ false → IsThere o → count_by (λ g. g == f) (own_frames (r ∷ rows) frame) ≤ uses f frame (r ∷ rows)
-    by None e rest more own none = absurd none
-    by (Some h) e rest more own there =
-        let list : own_frames (r ∷ rows) frame ≡ frame_number (frame r.page) ∷ own_frames rows frame = grind (arith, own) in
-        let count = ap (count_by (λ g. g == f)) list ∙ count_more (λ g. g == f) (frame_number (frame r.page)) (own_frames rows frame) in
-        let number = ap {B = ℕ} (λ n. if n == f then 1 else 0) (ap frame_number e) in
-        let test = ap {B = ℕ} (λ (o : Option ℕ). if is_frame f o then 1 else 0) e in
-        omega (arith, rest, more, count, number, test)
 
 all_own : (P : ℕ → Type 0) (rows : List Row) (frame : Frames) → All (λ r. shared_state r.state ≡ false → P (frame_number (frame r.page))) rows → All P (own_frames rows frame)
 all_own P rows frame all =
@@ -74,11 +63,7 @@ alone_of_kind (Merged n) is = cc
 alone_of_kind Zero is = cc
 alone_of_kind _ is = refl
 
-number_of_kind : (s : PageState) → kind_for s ≡ Stable → (n : ℕ) × (s ≡ Merged n)
-number_of_kind (Merged n) is = (n, refl)
-number_of_kind _ is = cc
-
-module _ (b : BookState) (k : Ledger) (s : IsSound b) (frame : Frames) (p : Placed b.shape b.knobs.merge_across_nodes k b.rows frame b.dups None) (absent : (page : GuestPage) → row_at page b.rows ≡ None → frame page ≡ None) where
+module _ (b : BookState) (k : Ledger) (s : IsSound b) (frame : Frames) (p : Placed b.shape b.knobs.merge_across_nodes k b.rows frame b.dups None) where
   abbrev across : ℕ
   across = b.knobs.merge_across_nodes
 
@@ -88,43 +73,30 @@ module _ (b : BookState) (k : Ledger) (s : IsSound b) (frame : Frames) (p : Plac
   abbrev shown : List ℕ
   shown = dup_frames b k
 
-  abbrev Owns : Row → Type 0
-  Owns r = shared_state r.state ≡ false → MatchOption (frame r.page) ⊥ (HasItsOwn b.shape k r)
-
-  has_its_own : (r : Row) (o : Option ℕ) → IsServed b.shape k b.dups r o → shared_state r.state ≡ false → MatchOption o ⊥ (HasItsOwn b.shape k r)
-  has_its_own r None zero_is alone = let none = own_framed r.state alone in absurd (grind (arith, zero_is, none))
-  has_its_own r (Some f) served alone =
-      let fits = served.0 in
-      let kind = fits.kind ∙ own_kind r.state alone in
-      record {
-        exists = fits.frame;
-        kind = kind;
-        base = subst (λ (x : Kind). FitsBase x (frame_at k f).base) kind (p.kinds f);
-        node = fits.node alone;
-        content = fits.content;
-      }
-
-  owns : All Owns b.rows
-  owns = λ i r lt. has_its_own (get_or b.rows i r) (frame (get_or b.rows i r).page) (p.each_row i r lt)
-
-  -- what is true of an own frame
-  of_own : (P : ℕ → Type 0) (r : Row) (o : Option ℕ) → ((f : ℕ) → HasItsOwn b.shape k r f → P f) → MatchOption o ⊥ (HasItsOwn b.shape k r) → P (frame_number o)
-  of_own P r None f h = absurd h
-  of_own P r (Some g) f h = f g h
-
-  there_is : (o : Option ℕ) (r : Row) → MatchOption o ⊥ (HasItsOwn b.shape k r) → IsThere o
-  there_is None r h = h
-  there_is (Some g) r h = tt
-
-  owns_there : All (λ r. shared_state r.state ≡ false → IsThere (frame r.page)) b.rows
-  owns_there = λ i r lt alone. let row = get_or b.rows i r in there_is (frame row.page) row (owns i r lt alone)
+  -- a row that is not shared has its own frame
+  owns : All (λ r. shared_state r.state ≡ false → (f : ℕ) × (frame r.page ≡ Some f) × HasItsOwn b.shape k r f) b.rows
+  owns i r0 lt alone =
+      let r = get_or b.rows i r0 in
+      let has = framed b.shape k b.dups r (frame r.page) (own_framed r.state alone) (p.each_row i r0 lt) in
+      let fits = has.2.0 in
+      let kind = fits.kind ∙ own_kind r.state alone in (
+        has.0,
+        has.1,
+        record {
+          exists = fits.frame;
+          kind = kind;
+          base = subst (λ (x : Kind). FitsBase x (frame_at k has.0).base) kind (p.kinds has.0);
+          node = fits.node alone;
+          content = fits.content;
+        },
+      )
 
   -- a Zero row has no frame, and only zeroes
   zero_none : (r : Row) (o : Option ℕ) → IsServed b.shape k b.dups r o → zero_state r.state ≡ true → o ≡ None
   zero_none r None served zero_is = refl
   zero_none r (Some f) served zero_is = (let not_so = served.0.mapped in absurd (grind (arith, not_so, zero_is)))
 
-  dup_lives : All (λ d. has_items b.rows d ≡ true → Lives k b.dups b.shape frame d) b.dups
+  dup_lives : All (λ d. has_items b.rows d ≡ true → Lives k b.dups b.shape b.rows frame d) b.dups
   dup_lives n d lt some = lives p n d lt (λ none. absurd (grind (arith, nat_tests, some, none)))
 
   stands : All (λ d. has_items b.rows d ≡ true → StandsOn b k d (place_frame k d.place)) b.dups
@@ -145,7 +117,8 @@ module _ (b : BookState) (k : Ledger) (s : IsSound b) (frame : Frames) (p : Plac
       }
 
   own_kinds : All (λ f. (frame_at k f).kind ≡ Private) own
-  own_kinds = all_own (λ f. (frame_at k f).kind ≡ Private) b.rows frame (λ i r lt alone. let row = get_or b.rows i r in of_own (λ f. (frame_at k f).kind ≡ Private) row (frame row.page) (λ f own. own.kind) (owns i r lt alone))
+  own_kinds = all_own (λ f. (frame_at k f).kind ≡ Private) b.rows frame (λ i r lt alone. let o = owns i r lt alone in
+      subst (λ (x : Option ℕ). (frame_at k (frame_number x)).kind ≡ Private) (sym o.1) o.2.kind)
 
   -- a frame with one reference is listed once
   own_distinct : AllPairs (λ f g. f ≢ g) own
@@ -153,11 +126,11 @@ module _ (b : BookState) (k : Ledger) (s : IsSound b) (frame : Frames) (p : Plac
       let f = get_or own i d in
       let one : (frame_at k f).base ≡ 1 = subst (λ (x : Kind). FitsBase x (frame_at k f).base) (own_kinds i d lt) (p.kinds f) in
       let listed : (frame_at k f).base ≡ uses f frame b.rows + 0 = p.bases f in
-      let few = own_count f frame b.rows owns_there in
+      let few = own_count f frame b.rows (λ i r lt alone. let o = owns i r lt alone in (o.0, o.1)) in
       omega (arith, one, listed, few))
 
   abbrev Live : DupRow → Type 0
-  Live d = Lives k b.dups b.shape frame d
+  Live d = Lives k b.dups b.shape b.rows frame d
 
   live_kept : All Live (filter (has_items b.rows) b.dups)
   live_kept =
@@ -169,19 +142,10 @@ module _ (b : BookState) (k : Ledger) (s : IsSound b) (frame : Frames) (p : Plac
   shown_kinds = All-map (λ f. (frame_at k f).kind ≡ Stable) (λ d. place_frame k d.place) (filter (has_items b.rows) b.dups) (λ i d lt. (live_kept i d lt).kind)
 
   shown_distinct : AllPairs (λ f g. f ≢ g) shown
-  shown_distinct = go (filter (has_items b.rows) b.dups) live_kept (AllPairs-filter Apart (has_items b.rows) b.dups (λ i j d before lt. frames_apart p s.dups_rise i j d before lt))
-    where
-      Apart : DupRow → DupRow → Type 0
-      Apart d e = Live d → Live e → place_frame k d.place ≢ place_frame k e.place
-
-      go : (ds : List DupRow) → All Live ds → AllPairs Apart ds → AllPairs (λ f g. f ≢ g) (map (λ d. place_frame k d.place) ds)
-      go [] live apart = λ i j d before lt. absurd (omega arith)
-      go (d ∷ ds) live apart =
-          let later = All-tail Live d ds live in
-          let here = pairs_head Apart d ds apart in
-          AllPairs-cons (λ f g. f ≢ g) (place_frame k d.place) (map (λ e. place_frame k e.place) ds)
-          (All-map (λ g. place_frame k d.place ≢ g) (λ e. place_frame k e.place) ds (λ i e lt. here i e lt (All-head Live d ds live) (later i e lt)))
-          (go ds later (pairs_tail Apart d ds apart))
+  shown_distinct =
+      let Apart : DupRow → DupRow → Type 0 = λ d e. Live d → Live e → place_frame k d.place ≢ place_frame k e.place in
+      pairs_mapped Apart (λ f g. f ≢ g) Live (λ d. place_frame k d.place) (λ d e live other apart. apart live other) (filter (has_items b.rows) b.dups)
+      live_kept (AllPairs-filter Apart (has_items b.rows) b.dups (λ i j d before lt. frames_apart p s.dups_rise i j d before lt))
 
   all_distinct : AllPairs (λ f g. f ≢ g) (own ++ shown)
   all_distinct = pairs_append (λ f g. f ≢ g) own shown own_distinct shown_distinct (λ i f lt j g l same.
@@ -195,8 +159,8 @@ module _ (b : BookState) (k : Ledger) (s : IsSound b) (frame : Frames) (p : Plac
   row_on f rows some =
       let test : Row → Bool = λ r. is_frame f (frame r.page) in
       let first = first_found test rows some in
-      let at = index_found test rows first.0 first.1 in
-      (at.0, first.0, at.1, ap (λ (r : Row). frame r.page) (at.2 first.0) ∙ is_that f (frame first.0.page) (find_passes test rows first.0 first.1))
+      let at = find_all test (Contains rows) rows first.0 first.1 (All-contains_itself rows) in
+      (at.0, first.0, at.1, ap (λ (r : Row). frame r.page) at.2 ∙ is_that f (frame first.0.page) (find_passes test rows first.0 first.1))
 
   own_listed : (f i : ℕ) (r : Row) → i < length b.rows → frame (get_or b.rows i r).page ≡ Some f → (frame_at k f).kind ≡ Private → Contains (own ++ shown) f
   own_listed f i r lt is kind =
@@ -212,8 +176,8 @@ module _ (b : BookState) (k : Ledger) (s : IsSound b) (frame : Frames) (p : Plac
       let fits = subst (IsServed b.shape k b.dups row) is (p.each_row i r lt) in
       let number = number_of_kind row.state (sym fits.0.kind ∙ kind) in
       let its = s.items i r lt number.0 number.1 in
-      let at = index_found (λ d. d.number == number.0) b.dups its.0 its.1.stands in
-      let into : merged_into (get_or b.dups at.0 its.0).number row.state ≡ true = ap (merged_into (get_or b.dups at.0 its.0).number) number.1 ∙ eq-eqb number.0 (get_or b.dups at.0 its.0).number (sym (ap (λ (d : DupRow). d.number) (at.2 its.0) ∙ eqb-true its.0.number number.0 (find_passes (λ d. d.number == number.0) b.dups its.0 its.1.stands))) in
+      let at = find_all (λ d. d.number == number.0) (Contains b.dups) b.dups its.0 its.1.stands (All-contains_itself b.dups) in
+      let into : merged_into (get_or b.dups at.0 its.0).number row.state ≡ true = ap (merged_into (get_or b.dups at.0 its.0).number) number.1 ∙ eq-eqb number.0 (get_or b.dups at.0 its.0).number (sym (ap (λ (d : DupRow). d.number) at.2 ∙ eqb-true its.0.number number.0 (find_passes (λ d. d.number == number.0) b.dups its.0 its.1.stands))) in
       let lies = (fits.1 at.0 its.0 at.1).item into in
       let counted : 0 < item_count b.rows (get_or b.dups at.0 its.0) = counts_one (λ r. merged_into (get_or b.dups at.0 its.0).number r.state) b.rows i r lt into in
       let there = passing (λ d. place_frame k d.place) (has_items b.rows) b.dups at.0 its.0 at.1 (lt-ltb 0 (item_count b.rows (get_or b.dups at.0 its.0)) counted) in
@@ -245,9 +209,10 @@ module _ (b : BookState) (k : Ledger) (s : IsSound b) (frame : Frames) (p : Plac
       }
 
   -- a sound book lies on its frames as promised, where it is placed lawfully and pages without a row lie on none
-  pub lie_on : LieOn b frame k
-  lie_on = record {
-    own = owns;
+  pub lie_on : ((page : GuestPage) → row_at page b.rows ≡ None → frame page ≡ None) → LieOn b frame k
+  lie_on absent = record {
+    own = λ i r lt alone. let o = owns i r lt alone in
+        subst (λ x. MatchOption x ⊥ (HasItsOwn b.shape k (get_or b.rows i r))) (sym o.1) o.2;
     merged = λ i r lt n d l into.
         let row = get_or b.rows i r in
         let has = framed b.shape k b.dups row (frame row.page) (ap zero_state (state_of_item (get_or b.dups n d).number row.state into)) (p.each_row i r lt) in
@@ -261,3 +226,39 @@ module _ (b : BookState) (k : Ledger) (s : IsSound b) (frame : Frames) (p : Plac
     stale = outlived;
     empty = p.empty;
   }
+
+  inside : All (λ f. f < frames_of b.shape) (own ++ shown)
+  inside = All-append (λ f. f < frames_of b.shape) own shown
+      (all_own (λ f. f < frames_of b.shape) b.rows frame (λ i r lt alone. let o = owns i r lt alone in
+      subst (λ (x : Option ℕ). frame_number x < frames_of b.shape) (sym o.1) o.2.exists))
+      (All-map (λ f. f < frames_of b.shape) (λ d. place_frame k d.place) (filter (has_items b.rows) b.dups)
+      (All-filter (has_items b.rows) (λ d. place_frame k d.place < frames_of b.shape) b.dups (λ n d lt. (p.each_dup n d lt).frame)))
+
+  -- beside a page with a frame of its own a new dup finds a place: where no dup is stale, each has a frame, and the page's is one more
+  pub finds_place : FindsPlace b
+  finds_place row has alone =
+      cond_both (nat_lt empty (frames_of b.shape)) empty (place_or empty (find (is_stale b.rows) b.dups)) (λ n. n < frames_of b.shape)
+      (λ fits. ltb-true empty (frames_of b.shape) fits) (λ _. go (find (is_stale b.rows) b.dups) refl)
+    where
+      empty : ℕ
+      empty = empty_from 0 b.dups
+
+      go : (stale : Option DupRow) → find (is_stale b.rows) b.dups ≡ stale → place_or empty stale < frames_of b.shape
+      go (Some d) is = find_all (is_stale b.rows) (λ e. e.place < frames_of b.shape) b.dups d is (λ n e l. (p.each_dup n e l).place)
+      go None is =
+          let listed = passing (λ r. frame_number (frame r.page)) (λ r. not (shared_state r.state)) b.rows has.0 row has.1
+          (ap (λ (r : Row). not (shared_state r.state)) has.2 ∙ ap not alone) in
+          let some = listed.1 in
+          let most = length-le_from_distinct_below (own ++ shown) (frames_of b.shape)
+          (IsDistinct-from_apart eqb (own ++ shown) (λ n m f before lt. ne_eqb _ _ (all_distinct n m f before lt)))
+          (λ q in_it. let at = Contains-from_any {eq = eqb} (λ x y e. eqb-true x y e) q (own ++ shown) in_it in
+          subst (λ x. x < frames_of b.shape) at.2 (inside at.0 q at.1)) in
+          omega (
+            arith,
+            most,
+            some,
+            length-append own shown,
+            length-map (filter (has_items b.rows) b.dups) (λ d. place_frame k d.place),
+            ap length (none_stale b.rows b.dups is),
+            empty_from_most 0 b.dups,
+          )

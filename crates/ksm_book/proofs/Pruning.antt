@@ -1,9 +1,10 @@
 -- Stale dups go one by one.
-use Rattle.ksm_book.proofs.Names.{[], All, All-head, All-tail, ap, append-nil, append_assoc, arith, cases_Bool, count_by, count_by-le-length, count_none, did, DupRow, elsewhere, eqb-true, false, filter, filter_all, filter_none, find, find_all, find_none, find_passes, frames_of, get_or, has_items, inl, InPlaceOrder, inr, is_stale, IsLaid, IsLoose, IsVacant, item_count, KeeperStep, KeeperView, length, length-filter, List, lying, Made, map, named_at, nat_lt, nat_tests, None, not, one_of_each_place, Option, option_map, ordered_filter, PagesView, pairs_tail, Performs, pruning, refl, Row, same_Some, Shape, Some, subst, suc, sym, true, Withdraw, ℕ, ◌++◌, ◌+◌, ◌<◌, ◌==◌, ◌^◌, ◌∙◌, ◌∷◌, ◌≡◌, ◌≤◌}
+use Rattle.ksm_book.proofs.Names.{[], All, All-head, All-tail, ap, append-nil, append_assoc, arith, cases_Bool, count_by, count_by-le-length, did, DupRow, elsewhere, eqb-true, false, filter, filter_all, filter_none, find, find_all, find_none, find_passes, frames_of, get_or, has_items, inl, InPlaceOrder, inr, is_stale, IsLaid, IsVacant, item_count, KeeperView, length, length-filter, List, lying, Made, map, nat_tests, None, not, one_of_each_place, option_map, ordered_filter, PagesView, pairs_tail, Performs, pruning, refl, Row, Shape, Some, subst, suc, sym, true, Withdraw, ℕ, ◌++◌, ◌+◌, ◌<◌, ◌==◌, ◌^◌, ◌∙◌, ◌∷◌, ◌≡◌, ◌≤◌, May, length-append, map-append}
 use Rattle.std.proofs.lemmas.Bool.{eq-eqb}
 use Rattle.ksm_book.proofs.Sharing.{frames_few, laid_cleared, vacant_loose}
 use Rattle.ksm_book.proofs.Made.{made_one, made_then}
 use Rattle.ksm_book.proofs.Withdrawn.{elsewhere_so}
+use Rattle.ksm_book.proofs.ByPage.{mapped_from, none_mapped}
 
 -- the place of the first stale dup has no other dup
 pub stale_vacant : (rows : List Row) (dups : List DupRow) (d : DupRow) → InPlaceOrder dups → find (is_stale rows) dups ≡ Some d → IsVacant d.place rows dups
@@ -14,36 +15,17 @@ stale_vacant rows dups d rise found k x lt same =
 
 -- where no stale dup is found, all dups have items
 pub none_stale : (rows : List Row) (dups : List DupRow) → find (is_stale rows) dups ≡ None → filter (has_items rows) dups ≡ dups
-none_stale rows dups none = filter_all (has_items rows) dups (λ k x lt. live (item_count rows (get_or dups k x)) (find_none (is_stale rows) dups none k x lt))
-  where
-    live : (n : ℕ) → (n == 0) ≡ false → nat_lt 0 n ≡ true
-    live n e = grind (arith, nat_tests, e)
+none_stale rows dups none = filter_all (has_items rows) dups
+    (λ k x lt. let lives = find_none (is_stale rows) dups none k x lt in grind (arith, nat_tests, lives))
 
 -- a stale dup less is no dup with items less
 pub live_elsewhere : (rows : List Row) (place : ℕ) (dups : List DupRow) → IsVacant place rows dups → filter (has_items rows) (filter (elsewhere place) dups) ≡ filter (has_items rows) dups
 live_elsewhere rows place [] vacant = refl
 live_elsewhere rows place (d ∷ ds) vacant =
-    let rest = live_elsewhere rows place ds (All-tail (λ x. x.place ≡ place → item_count rows x ≡ 0) d ds vacant) in
-    elim (cases_Bool (d.place == place)) [
-      | inl here ↦
-          let none : item_count rows d ≡ 0 = All-head (λ x. x.place ≡ place → item_count rows x ≡ 0) d ds vacant (eqb-true d.place place here) in
-          let stale : has_items rows d ≡ false = grind (arith, nat_tests, none) in
-          grind (arith, here, stale, rest)
-      | inr there ↦ elim (cases_Bool (has_items rows d)) [
-        | inl lives ↦ grind (arith, there, lives, rest)
-        | inr dies ↦ grind (arith, there, dies, rest)
-      ]
-    ]
-
--- the dup whose place was found
-pub dup_at : (o : Option DupRow) (place : ℕ) → Some place ≡ option_map (λ d. d.place) o → (d : DupRow) × (o ≡ Some d) × (d.place ≡ place)
-dup_at None place e = absurd (grind (arith, e))
-dup_at (Some d) place e = (d, refl, sym (same_Some place d.place e))
-
--- where the place of no dup is told, there is none
-pub no_dup_at : (o : Option DupRow) → None ≡ option_map (λ d. d.place) o → o ≡ None
-no_dup_at None e = refl
-no_dup_at (Some d) e = absurd (grind (arith, e))
+    let P : DupRow → Type 0 = λ x. x.place ≡ place → item_count rows x ≡ 0 in
+    let rest = live_elsewhere rows place ds (All-tail P d ds vacant) in
+    let none = All-head P d ds vacant in
+    grind (arith, nat_tests, rest, none)
 
 -- the first stale dup is the first to go
 pub first_stale : (rows : List Row) (dups : List DupRow) (d : DupRow) → InPlaceOrder dups → find (is_stale rows) dups ≡ Some d
@@ -61,36 +43,8 @@ first_stale rows (x ∷ xs) d rise found = elim (cases_Bool (is_stale rows x)) [
   | inr lives ↦
       let rest = first_stale rows xs d (pairs_tail (λ (a b : DupRow). (a.place < b.place) × ((a.number == b.number) ≡ false)) x xs rise)
       (grind (arith, found, lives)) in
-      elim (cases_Bool (elsewhere d.place x)) [ inl kept ↦ grind (arith, kept, lives, rest) | inr gone ↦ grind (arith, gone, lives, rest) ]
+      grind (arith, lives, rest)
 ]
-
--- so far the places of the stale dups that went were withdrawn, in their order
-pub record Withdraws (v w : KeeperView) (rows : List Row) (before now : List DupRow) : Type 0 where
-  -- the steps that were made
-  pub steps : List KeeperStep
-  -- the keeper made these steps and no others
-  pub made : Made v w steps
-  -- with the withdrawals that are still to come, the steps are the withdrawals of all that were stale
-  pub whole : steps ++ map (λ d. Withdraw d.place) (filter (is_stale rows) now) ≡ map (λ d. Withdraw d.place) (filter (is_stale rows) before)
-
--- where the first stale dup's place is withdrawn next, one place more of the stale dups is withdrawn
-pub withdraws_more : (v w w' : KeeperView) (rows : List Row) (before now : List DupRow) (d : DupRow) → InPlaceOrder now → find (is_stale rows) now ≡ Some d
-    → Withdraws v w rows before now → Made w w' (Withdraw d.place ∷ [])
-    → Withdraws v w' rows before (filter (elsewhere d.place) now)
-withdraws_more v w w' rows before now d rise found so_far one =
-    record {
-      steps = so_far.steps ++ Withdraw d.place ∷ [];
-      made = made_then so_far.made one;
-      whole = append_assoc so_far.steps (Withdraw d.place ∷ []) _
-          ∙ ap (λ ds. so_far.steps ++ map (λ (e : DupRow). Withdraw e.place) ds) (sym (first_stale rows now d rise found)) ∙ so_far.whole;
-    }
-
--- where no stale dup is left, all were withdrawn, in the order of their places
-pub withdraws_all : (v w : KeeperView) (rows : List Row) (before now : List DupRow) → All (λ d. is_stale rows d ≡ false) now → Withdraws v w rows before now
-    → Made v w (map (λ d. Withdraw d.place) (filter (is_stale rows) before))
-withdraws_all v w rows before now none so_far =
-    subst (Made v w) (sym (append-nil so_far.steps)
-    ∙ ap (λ ds. so_far.steps ++ map (λ (e : DupRow). Withdraw e.place) ds) (sym (filter_none (is_stale rows) now none)) ∙ so_far.whole) so_far.made
 
 -- dups in the order of their places, each place below a bound, are no more than the bound
 few_from : (m n : ℕ) (dups : List DupRow) → m ≤ n → InPlaceOrder dups → All (λ d. (m ≤ d.place) × (d.place < n)) dups → m + length dups ≤ n
@@ -110,8 +64,14 @@ pub record Drops (p q : PagesView) (k l : KeeperView) (count : ℕ) : Type 0 whe
   pub pages : q ≡ record p { dups = q.dups }
   -- the dups with items are those that there were
   pub live : filter (has_items p.rows) q.dups ≡ filter (has_items p.rows) p.dups
-  -- the dups that went and those still stale are as many as were stale at first
-  pub many : count + count_by (is_stale p.rows) q.dups ≡ count_by (is_stale p.rows) p.dups
+  -- the stale dups that went
+  pub gone : List DupRow
+  -- those that were stale at first are those that went and those still stale
+  pub all : filter (is_stale p.rows) p.dups ≡ gone ++ filter (is_stale p.rows) q.dups
+  -- the count is that of those that went
+  pub many : count ≡ length gone
+  -- their places were withdrawn, in their order
+  pub made : Made k l (map (λ d. Withdraw d.place) gone)
   -- at first the dups were in the order of their places
   pub first : InPlaceOrder p.dups
   -- now the dups are in the order of their places
@@ -120,18 +80,15 @@ pub record Drops (p q : PagesView) (k l : KeeperView) (count : ℕ) : Type 0 whe
   pub before : IsLaid p k
   -- now rows and dups lie lawfully
   pub laid : IsLaid q l
-  -- the keeper's table is the same
-  pub table : l.table ≡ k.table
-  -- the places of the dups that went were withdrawn, in their order
-  pub withdraws : Withdraws k l p.rows p.dups q.dups
 
 -- the first stale dup goes next
-module _ (p q : PagesView) (k l : KeeperView) (count : ℕ) (h : Drops p q k l count) (place : ℕ) (told : Some place ≡ option_map (λ d. d.place) (find (is_stale q.rows) q.dups)) where
+module _ {p q : PagesView} {k l : KeeperView} {count : ℕ} (h : Drops p q k l count) {place : ℕ}
+    (told : Some place ≡ option_map (λ d. d.place) (find (is_stale q.rows) q.dups)) where
   rows_are : q.rows ≡ p.rows
   rows_are = ap (λ (x : PagesView). x.rows) h.pages
 
   stale : (d : DupRow) × (find (is_stale q.rows) q.dups ≡ Some d) × (d.place ≡ place)
-  stale = dup_at (find (is_stale q.rows) q.dups) place told
+  stale = mapped_from (λ (d : DupRow). d.place) (find (is_stale q.rows) q.dups) place (sym told)
 
   found : find (is_stale p.rows) q.dups ≡ Some stale.0
   found = ap (λ rows. find (is_stale rows) q.dups) (sym rows_are) ∙ stale.1
@@ -143,69 +100,71 @@ module _ (p q : PagesView) (k l : KeeperView) (count : ℕ) (h : Drops p q k l c
   inside : place < frames_of q.shape
   inside = subst (λ x. x < frames_of q.shape) stale.2 (find_all (is_stale q.rows) (λ d. d.place < frames_of q.shape) q.dups stale.0 stale.1 (λ n d lt. (h.laid.placed.each_dup n d lt).place))
 
-  -- the place of the first stale dup is one of the table's
-  pub drop_inside : place < frames_of l.table.shape
-  drop_inside = subst (λ (s : Shape). place < frames_of s) (sym h.laid.same) inside
+  -- what the place of the first stale dup names may be withdrawn
+  pub drop_may : May l (Withdraw place)
+  drop_may = (subst (λ (s : Shape). place < frames_of s) (sym h.laid.same) inside, vacant_loose place h.laid.placed drop_vacant)
 
-  -- the place of the first stale dup names no frame that is Stable in the life named
-  pub drop_loose : IsLoose l.ledger (named_at l.ledger place)
-  drop_loose = vacant_loose place h.laid.placed drop_vacant
+  -- it is the first of those still stale
+  next : filter (is_stale p.rows) q.dups ≡ stale.0 ∷ filter (is_stale p.rows) (filter (elsewhere place) q.dups)
+  next = first_stale p.rows q.dups stale.0 h.rise found
+      ∙ ap (λ x. stale.0 ∷ filter (is_stale p.rows) (filter (elsewhere x) q.dups)) stale.2
 
   -- once the first stale dup goes, one dup less is stale
   pub drop_fewer : count_by (is_stale p.rows) (filter (elsewhere place) q.dups) + 1 ≡ count_by (is_stale p.rows) q.dups
-  drop_fewer =
-      let first = ap length (first_stale p.rows q.dups stale.0 h.rise found) in
-      let here = length-filter (is_stale p.rows) q.dups in
-      let there = ap (λ x. length (filter (is_stale p.rows) (filter (elsewhere x) q.dups))) stale.2 ∙ length-filter (is_stale p.rows) (filter (elsewhere place) q.dups) in
-      omega (arith, first, here, there)
+  drop_fewer = omega (arith, ap length next, length-filter (is_stale p.rows) q.dups, length-filter (is_stale p.rows) (filter (elsewhere place) q.dups))
 
   -- the count of stale dups that went, and the next one, is below 2^64
   pub drop_few : count + 1 < 2 ^ 64
   drop_few =
-      let fewer = drop_fewer in
-      let many = h.many in
-      let most = count_by-le-length (is_stale p.rows) p.dups in
       let frames = few_from 0 (frames_of p.shape) p.dups (omega arith) h.first (λ n d lt. (omega arith, (h.before.placed.each_dup n d lt).place)) in
-      let few = frames_few p.shape h.before.small in
-      omega (arith, fewer, many, most, frames, few)
+      omega (
+        arith,
+        h.many,
+        ap length h.all,
+        length-append h.gone (filter (is_stale p.rows) q.dups),
+        length-filter (is_stale p.rows) p.dups,
+        count_by-le-length (is_stale p.rows) p.dups,
+        frames,
+        frames_few p.shape h.before.small,
+      )
 
   -- where the place of the first stale dup is withdrawn and that dup goes, one stale dup more went
   pub drops_more : (q' : PagesView) (l' : KeeperView) → l' ≡ did l (Withdraw place) 0 → q' ≡ record q { dups = filter (elsewhere place) q.dups } → Drops p q' k l' (count + 1)
   drops_more q' l' is goes =
-      let table = ap (λ (z : KeeperView). z.table) is in
       let dups : q'.dups ≡ filter (elsewhere place) q.dups = ap (λ (x : PagesView). x.dups) goes in
       let vacant = subst (λ rows. IsVacant place rows q.dups) rows_are drop_vacant in
-      let fewer = drop_fewer in
-      let many = h.many in
+      let one = subst (λ x. Made l l' (Withdraw x ∷ [])) (sym stale.2) (made_one l l' (Withdraw place) 0 is) in
       record {
         pages = goes ∙ (λ t. record (h.pages t) { dups = filter (elsewhere place) q.dups }) ∙ (λ t. record p { dups = sym dups t });
         live = ap (filter (has_items p.rows)) dups ∙ live_elsewhere p.rows place q.dups vacant ∙ h.live;
-        many = subst (λ ds. count + 1 + count_by (is_stale p.rows) ds ≡ count_by (is_stale p.rows) p.dups) (sym dups) (omega (arith, fewer, many));
+        gone = h.gone ++ stale.0 ∷ [];
+        all = h.all ∙ ap (λ ds. h.gone ++ ds) next ∙ sym (append_assoc h.gone (stale.0 ∷ []) _)
+            ∙ ap (λ ds. (h.gone ++ stale.0 ∷ []) ++ filter (is_stale p.rows) ds) (sym dups);
+        many = omega (arith, h.many, length-append h.gone (stale.0 ∷ []));
+        made = subst (Made k l') (sym (map-append (λ (d : DupRow). Withdraw d.place) h.gone (stale.0 ∷ []))) (made_then h.made one);
         first = h.first;
         rise = subst InPlaceOrder (sym dups) (ordered_filter (elsewhere place) q.dups h.rise);
         before = h.before;
-        laid = subst (λ (x : PagesView). IsLaid x l') (sym goes) (laid_cleared l' place h.laid inside table (ap (λ (z : KeeperView). z.ledger) is));
-        table = table ∙ h.table;
-        withdraws = subst (Withdraws k l' p.rows p.dups) (ap (λ x. filter (elsewhere x) q.dups) stale.2 ∙ sym dups)
-            (withdraws_more k l l' p.rows p.dups q.dups stale.0 h.rise found h.withdraws (subst (λ x. Made l l' (Withdraw x ∷ [])) (sym stale.2) (made_one l l' (Withdraw place) 0 is)));
+        laid = subst (λ (x : PagesView). IsLaid x l') (sym goes)
+            (laid_cleared l' place h.laid inside (ap (λ (z : KeeperView). z.table) is) (ap (λ (z : KeeperView). z.ledger) is));
       }
 
 -- where none is stale any more, all are gone
-module _ (p q : PagesView) (k l : KeeperView) (count : ℕ) (h : Drops p q k l count) (told : None ≡ option_map (λ d. d.place) (find (is_stale q.rows) q.dups)) where
+module _ {p q : PagesView} {k l : KeeperView} {count : ℕ} (h : Drops p q k l count)
+    (told : None ≡ option_map (λ d. d.place) (find (is_stale q.rows) q.dups)) where
   none : find (is_stale p.rows) q.dups ≡ None
-  none = ap (λ (x : PagesView). find (is_stale x.rows) q.dups) (sym h.pages) ∙ no_dup_at (find (is_stale q.rows) q.dups) told
+  none = ap (λ (x : PagesView). find (is_stale x.rows) q.dups) (sym h.pages) ∙ none_mapped (λ (d : DupRow). d.place) (find (is_stale q.rows) q.dups) (sym told)
 
-  -- where no stale dup is left, nothing changed but that the dups are those with items
-  pub dropped_pages : q ≡ record p { dups = filter (has_items p.rows) p.dups }
-  dropped_pages = h.pages ∙ (λ t. record p { dups = (sym (none_stale p.rows q.dups none) ∙ h.live) t })
-
-  -- where no stale dup is left, as many dups went as were stale
-  pub dropped_count : count ≡ count_by (is_stale p.rows) p.dups
-  dropped_count = let zero' = count_none (is_stale p.rows) q.dups (find_none (is_stale p.rows) q.dups none) in let many = h.many in omega (arith, zero', many)
-
-  -- where no stale dup is left, the keeper made just the steps of a pruning, and each page lies where it lay
-  pub dropped_performs : Performs (lying p k) (lying q l) (pruning p.rows p.dups p.frame)
-  dropped_performs = record {
-    made = withdraws_all k l p.rows p.dups q.dups (find_none (is_stale p.rows) q.dups none) h.withdraws;
-    frame = ap (λ (x : PagesView). x.frame) h.pages;
-  }
+  -- where no stale dup is left, the dups are those with items, as many went as were stale, and just the steps of a pruning were made
+  pub dropped : (q ≡ record p { dups = filter (has_items p.rows) p.dups }) × (count ≡ count_by (is_stale p.rows) p.dups)
+      × Performs (lying p k) (lying q l) (pruning p.rows p.dups p.frame)
+  dropped =
+      let all : filter (is_stale p.rows) p.dups ≡ h.gone = h.all
+      ∙ ap (λ ds. h.gone ++ ds) (filter_none (is_stale p.rows) q.dups (find_none (is_stale p.rows) q.dups none)) ∙ append-nil h.gone in (
+        h.pages ∙ (λ t. record p { dups = (sym (none_stale p.rows q.dups none) ∙ h.live) t }),
+        h.many ∙ ap length (sym all) ∙ length-filter (is_stale p.rows) p.dups,
+        record {
+          made = subst (λ ds. Made k l (map (λ (d : DupRow). Withdraw d.place) ds)) (sym all) h.made;
+          frame = ap (λ (x : PagesView). x.frame) h.pages;
+        },
+      )

@@ -1,13 +1,10 @@
 -- A dup moves to another frame, with all of its items.
-use Rattle.ksm_book.proofs.Names.{eqb-true, Agrees, All, ap, arith, blank, Bool, cond, count_none, DupFits, DupRow, Dying, eq-eqb, false, FitsBase, frame_at, Frames, frames_of, Free, GenerationFits, get_or, get_or-set_other, get_or-set_same, GuestPage, inl, inr, instead, is_frame, is_some, IsInLife, IsServed, Kind, kind_for, Ledger, length, length-set, Life, life_or, List, Merged, merged_into, named_at, ne_eqb, node_of, None, none_counted, Note, Option, PAGE_WORDS, PageState, place_frame, place_life, Placed, Private, refl, Row, RowFits, same_Some, set, Shape, shared_state, Some, Stable, subst, sym, true, uses, ℕ, ◌+◌, ◌<◌, ◌∙◌, ◌≡◌, ◌≢◌, ◌≤◌}
+use Rattle.ksm_book.proofs.Names.{eqb-true, Agrees, All, ap, arith, blank, Bool, cond, count_none, DupFits, DupRow, Dying, eq-eqb, FitsBase, frame_at, Frames, frames_of, Free, GenerationFits, get_or, get_or-set_other, get_or-set_same, GuestPage, inl, inr, instead, is_frame, is_some, IsInLife, IsServed, Kind, kind_for, Ledger, length, length-set, Life, life_or, List, Merged, merged_into, named_at, ne_eqb, node_of, None, none_counted, Note, Option, PAGE_WORDS, PageState, place_frame, place_life, Placed, Private, refl, Row, RowFits, same_Some, set, Shape, shared_state, Some, Stable, subst, sym, true, uses, ℕ, ◌+◌, ◌<◌, ◌∙◌, ◌≡◌, ◌≢◌, ◌≤◌, count_alike, if◌then◌else◌}
 use mathlib.Core.Logic.{dite}
 use native.Mathlib.Decide.{ℕ_discrete}
-use Rattle.ksm_book.proofs.ByPage.{counts_agree, frame_cases, not_on, uses_some}
+use Rattle.ksm_book.proofs.ByPage.{frame_cases, not_on, uses_some}
 use Rattle.ksm_book.proofs.Moves.{Serves}
-
-merged_of_kind : (s : PageState) → kind_for s ≡ Stable → shared_state s ≡ true
-merged_of_kind (Merged d) e = refl
-merged_of_kind _ e = cc
+use Rattle.ksm_book.proofs.Laying.{number_of_kind}
 
 one_number : (s : PageState) (m n : ℕ) → merged_into m s ≡ true → merged_into n s ≡ true → n ≡ m
 one_number (Merged d) m n a b = sym (eqb-true d n b) ∙ eqb-true d m a
@@ -19,23 +16,16 @@ instead_here f g frame page e = ap (λ (o : Option ℕ). cond (is_frame f o) (So
 
 -- where frame g comes in the stead of f, a page that did not lie on f lies where it lay
 pub instead_there : (f g : ℕ) (frame : Frames) (page : GuestPage) → frame page ≢ Some f → instead f g frame page ≡ frame page
-instead_there f g frame page ne = by (frame page) ne
-  where
-    by : (o : Option ℕ) → o ≢ Some f → cond (is_frame f o) (Some g) o ≡ o
-    by None off = refl
-    by (Some x) off = ap (λ (b : Bool). cond b (Some g) (Some x)) (ne_eqb x f (λ e. off (ap Some e)))
+instead_there f g frame page ne = ap (λ (b : Bool). if b then Some g else frame page) (not_on f (frame page) ne)
 
 -- those that lay on f lie on g, and none lies on f any more
 module _ (f g : ℕ) (frame : Frames) (rows : List Row) where
-  unused_is : uses g frame rows ≡ 0 → All (λ r. is_frame g (frame r.page) ≡ false) rows
-  unused_is none = none_counted (λ r. is_frame g (frame r.page)) rows none
-
   uses_new : uses g frame rows ≡ 0 → uses g (instead f g frame) rows ≡ uses f frame rows
-  uses_new none = counts_agree _ _ rows (λ i d lt.
+  uses_new none = count_alike _ _ rows (λ i d lt.
       let page = (get_or rows i d).page in
       elim (frame_cases f (frame page)) [
         | inl on ↦ ap (is_frame g) (instead_here f g frame page on) ∙ eq-eqb g g refl ∙ sym (ap (is_frame f) on ∙ eq-eqb f f refl)
-        | inr off ↦ ap (is_frame g) (instead_there f g frame page off) ∙ unused_is none i d lt ∙ sym (not_on f (frame page) off)
+        | inr off ↦ ap (is_frame g) (instead_there f g frame page off) ∙ none_counted (λ r. is_frame g (frame r.page)) rows none i d lt ∙ sym (not_on f (frame page) off)
       ])
 
   uses_old : g ≢ f → uses f (instead f g frame) rows ≡ 0
@@ -47,25 +37,20 @@ module _ (f g : ℕ) (frame : Frames) (rows : List Row) where
       ])
 
   uses_still : (x : ℕ) → x ≢ f → x ≢ g → uses x (instead f g frame) rows ≡ uses x frame rows
-  uses_still x nf ng = counts_agree _ _ rows (λ i d lt.
+  uses_still x nf ng = count_alike _ _ rows (λ i d lt.
       let page = (get_or rows i d).page in
       elim (frame_cases f (frame page)) [
         | inl on ↦ ap (is_frame x) (instead_here f g frame page on) ∙ not_on x (Some g) (λ e. ng (sym (same_Some g x e))) ∙ sym (ap (is_frame x) on ∙ not_on x (Some f) (λ e. nf (sym (same_Some f x e))))
         | inr off ↦ ap (is_frame x) (instead_there f g frame page off)
       ])
 
-module _ {sh : Shape} {across : ℕ} {k : Ledger} {rows : List Row} {frame : Frames} {dups : List DupRow} (p : Placed sh across k rows frame dups None) (n : ℕ) (d : DupRow) (lt : n < length dups) (g : ℕ) where
-  -- the dup that moves
-  abbrev pub moving : DupRow
-  moving = get_or dups n d
-
+-- one of the dups moves from the frame that its place names to another
+module _ {sh : Shape} {across : ℕ} {k : Ledger} {rows : List Row} {frame : Frames} {dups : List DupRow}
+    (p : Placed sh across k rows frame dups None) (moving : DupRow) (among : (P : DupRow → Type 0) → All P dups → P moving) (left g : ℕ)
+    (leaves : left ≡ place_frame k moving.place) where
   -- the place of the dup that moves
   abbrev pub q : ℕ
   q = moving.place
-
-  -- the frame that the dup leaves
-  abbrev pub left : ℕ
-  left = place_frame k q
 
   -- the note of the frame that the dup leaves, once it is left
   abbrev pub dead : Note
@@ -85,7 +70,7 @@ module _ {sh : Shape} {across : ℕ} {k : Ledger} {rows : List Row} {frame : Fra
 
   module _ (inside : g < frames_of sh) (free : (frame_at k g).kind ≡ Free) (in_life : IsInLife k q) (stable : (frame_at k left).kind ≡ Stable) (node : across ≡ 0 → node_of sh g ≡ node_of sh left) (numbers : All (λ e. e.place ≢ q → e.number ≢ moving.number) dups) where
     fits : DupFits sh across k moving
-    fits = p.each_dup n d lt
+    fits = among (DupFits sh across k) p.each_dup
 
     apart : g ≢ left
     apart e = let both : Free ≡ Stable = sym free ∙ ap (λ h. (frame_at k h).kind) e ∙ stable in cc
@@ -100,7 +85,7 @@ module _ {sh : Shape} {across : ℕ} {k : Ledger} {rows : List Row} {frame : Fra
     at P h here there else' =
         let long : length k.frames ≡ frames_of sh = p.frames_long in
         let long' : length (set k.frames left dead) ≡ length k.frames = length-set k.frames left dead in
-        let low : left < frames_of sh = fits.frame in
+        let low : left < frames_of sh = subst (λ x. x < frames_of sh) (sym leaves) fits.frame in
         dite (ℕ_discrete h g)
         (λ e. subst P (sym (ap (frame_at next) e ∙ get_or-set_same (set k.frames left dead) g mounted blank (omega (arith, long, long', inside)))) (here e))
         (λ ne. subst P (sym (get_or-set_other (set k.frames left dead) g h mounted blank ne)) (dite (ℕ_discrete h left)
@@ -145,16 +130,10 @@ module _ {sh : Shape} {across : ℕ} {k : Ledger} {rows : List Row} {frame : Fra
         let far : place_frame k e.place ≢ g = λ same. too_young e m ne same l in
         (sym (same_life (place_frame k e.place) far) ∙ ap (λ h. (frame_at next h).generation) (sym (frame_off e.place ne)) ∙ l ∙ life_off e.place ne, far)
 
-    unlisted : All (λ r. frame r.page ≢ Some g) rows
-    unlisted i r0 low e = let used : 1 ≤ uses g frame rows = uses_some g frame rows i r0 low e in omega (arith, used, unused)
-
     -- a row on the frame that it has now
     module _ (r : Row) (f : ℕ) (far : f ≢ g) (had : Serves sh k dups r f) where
       was : RowFits sh k r f
       was = had.0
-
-      item_of : f ≡ left → merged_into moving.number r.state ≡ true
-      item_of e = (had.1 n d lt).back in_life e
 
       moved_row : f ≡ left → RowFits sh next r g
       moved_row e = record {
@@ -163,17 +142,17 @@ module _ {sh : Shape} {across : ℕ} {k : Ledger} {rows : List Row} {frame : Fra
         kind = at_g (λ x. x.kind ≡ kind_for r.state) (sym stable ∙ ap (λ h. (frame_at k h).kind) (sym e) ∙ was.kind);
         content = at_g (λ x. x.content ≡ r.bytes) (ap (λ h. (frame_at k h).content) (sym e) ∙ was.content);
         given = at_g (λ x. 1 ≤ x.generation) (omega arith);
-        node = λ alone. absurd (grind (arith, alone, merged_of_kind r.state (sym was.kind ∙ ap (λ h. (frame_at k h).kind) e ∙ stable)));
+        node = λ alone. absurd (grind (arith, alone, ap shared_state (number_of_kind r.state (sym was.kind ∙ ap (λ h. (frame_at k h).kind) e ∙ stable)).1));
       }
 
       moved_agrees : f ≡ left → (e : DupRow) → DupFits sh across k e → (e.place ≢ q → e.number ≢ moving.number) → Agrees k r f e → Agrees next r g e
       moved_agrees is e m others a = dite (ℕ_discrete e.place q)
           (λ same. record {
             item = λ _. (sym (frame_is e.place same), is_in_life e.place same);
-            back = λ _ _. a.back (subst (λ x. IsInLife k x) (sym same) in_life) (is ∙ ap (place_frame k) (sym same));
+            back = λ _ _. a.back (subst (λ x. IsInLife k x) (sym same) in_life) (is ∙ leaves ∙ ap (place_frame k) (sym same));
           })
           (λ ne. record {
-            item = λ t. absurd (others ne (one_number r.state moving.number e.number (item_of is) t));
+            item = λ t. absurd (others ne (one_number r.state moving.number e.number ((among (Agrees k r f) had.1).back in_life (is ∙ leaves)) t));
             back = λ l t. absurd ((off e m ne l).1 (sym (frame_off e.place ne) ∙ sym t));
           })
 
@@ -192,7 +171,7 @@ module _ {sh : Shape} {across : ℕ} {k : Ledger} {rows : List Row} {frame : Fra
       still_agrees : f ≢ left → (e : DupRow) → DupFits sh across k e → Agrees k r f e → Agrees next r f e
       still_agrees not' e m a = dite (ℕ_discrete e.place q)
           (λ same. record {
-            item = λ t. absurd (not' ((a.item t).0 ∙ ap (place_frame k) same));
+            item = λ t. absurd (not' ((a.item t).0 ∙ ap (place_frame k) same ∙ sym leaves));
             back = λ _ t. absurd (far (t ∙ frame_is e.place same));
           })
           (λ ne. record {
@@ -218,9 +197,9 @@ module _ {sh : Shape} {across : ℕ} {k : Ledger} {rows : List Row} {frame : Fra
           named = ap (λ x. is_some (named_at next x)) same ∙ ap is_some named;
           frame = subst (λ x. x < frames_of sh) (sym fr) inside;
           life = (let l : (frame_at next (place_frame next e.place)).generation ≡ place_life next e.place = is_in_life e.place same in omega (arith, l));
-          content = λ _. ap (λ h. (frame_at next h).content) fr ∙ at_g (λ x. x.content ≡ e.bytes) (ap (λ x. (frame_at k (place_frame k x)).content) (sym same) ∙ m.content (subst (λ x. IsInLife k x) (sym same) in_life));
+          content = λ _. ap (λ h. (frame_at next h).content) fr ∙ at_g (λ x. x.content ≡ e.bytes) (ap (λ x. (frame_at k x).content) (leaves ∙ ap (place_frame k) (sym same)) ∙ m.content (subst (λ x. IsInLife k x) (sym same) in_life));
           shown = λ _ own. at_g (λ x. x.kind ≡ Private → ⊥) (λ bad. cc) (ap (λ h. (frame_at next h).kind) (sym fr) ∙ own);
-          node = λ z. ap (node_of sh) fr ∙ node z ∙ ap (λ x. node_of sh (place_frame k x)) (sym same) ∙ m.node z;
+          node = λ z. ap (node_of sh) fr ∙ node z ∙ ap (node_of sh) (leaves ∙ ap (place_frame k) (sym same)) ∙ m.node z;
         }
 
     dup_there : (e : DupRow) → e.place ≢ q → DupFits sh across k e → DupFits sh across next e
@@ -251,12 +230,13 @@ module _ {sh : Shape} {across : ℕ} {k : Ledger} {rows : List Row} {frame : Fra
           (λ _. let below : (frame_at k g).generation < sh.last_generation = subst (λ (x : Kind). GenerationFits sh.last_generation x (frame_at k g).generation) free (p.lives g) in (omega arith, omega (arith, below)))
           (λ _. subst (λ (x : Kind). GenerationFits sh.last_generation x (frame_at k left).generation) stable (p.lives left))
           (λ _ _. p.lives h);
-      each_row = λ i r0 low. let r = get_or rows i r0 in served r (frame r.page) (unlisted i r0 low) (p.each_row i r0 low);
+      each_row = λ i r0 low. let r = get_or rows i r0 in served r (frame r.page)
+          (λ e. (let used = uses_some g frame rows i r0 low e in omega (arith, used, unused))) (p.each_row i r0 low);
       each_dup = λ m x l. dite (ℕ_discrete (get_or dups m x).place q) (λ same. dup_here (get_or dups m x) same (p.each_dup m x l)) (λ ne. dup_there (get_or dups m x) ne (p.each_dup m x l));
       bases = λ h. at (λ x. x.base ≡ uses h (instead left g frame) rows + 0) h
           (λ e. let new : uses h (instead left g frame) rows ≡ uses left frame rows = ap (λ y. uses y (instead left g frame) rows) e ∙ uses_new left g frame rows unused in let old : (frame_at k left).base ≡ uses left frame rows + 0 = p.bases left in omega (arith, new, old))
           (λ e. let none : uses h (instead left g frame) rows ≡ 0 = ap (λ y. uses y (instead left g frame) rows) e ∙ uses_old left g frame rows apart in omega (arith, none))
           (λ ng nf. let still : uses h (instead left g frame) rows ≡ uses h frame rows = uses_still left g frame rows h nf ng in let old : (frame_at k h).base ≡ uses h frame rows + 0 = p.bases h in omega (arith, still, old));
       kinds = λ h. at (λ x. FitsBase x.kind x.base) h (λ _. some) (λ _. refl) (λ _ _. p.kinds h);
-      empty = λ e none. dite (ℕ_discrete e q) (λ same. absurd (none n d lt (sym same))) (λ ne. named_off e ne ∙ p.empty e none);
+      empty = λ e none. dite (ℕ_discrete e q) (λ same. absurd (among (λ d. d.place ≢ e) none (sym same))) (λ ne. named_off e ne ∙ p.empty e none);
     }

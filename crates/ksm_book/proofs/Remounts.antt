@@ -1,32 +1,17 @@
 -- A dup with items, and where its pages lie before and after it moves.
-use Rattle.ksm_book.proofs.Names.{list_any_at, [], Agrees, All, and_parts, ap, arith, blank, Bool, cond, count_in, did, dup_frame, dup_numbered, DupFits, DupRow, Dying, each_at_page, each_has_number, eq-eqb, find, find_all, find_passes, Err, Finds, FindsHeld, FindsNone, HasRemounted, InUse, MayMount, MayMove, NoFrame, Ok, frame_at, frame_found, frame_number, Frames, frames_of, Free, Freeze, get_or, get_or-set_other, GuestPage, has_items, if◌then◌else◌, instead, is_frame, is_item, IsInLife, IsLaid, IsLoose, IsLowestFree, IsServed, item_count, items_on, KeeperView, Kind, kind_for, Ledger, length, length-set, Life, life_or, List, list_any, ltb-true, lying, Made, merged_into, mounting, Moves, named_at, ne_eqb, node_of, None, Note, Option, PAGE_WORDS, PagesView, past_lives, place_frame, Placed, Publish, refl, Row, row_at, same_page, same_Some, set, Shape, Some, spent, spent_on, Stable, subst, sym, true, with_frame, ℕ, ◌&&◌, ◌*◌, ◌+◌, ◌<◌, ◌==◌, ◌∙◌, ◌∷◌, ◌≡◌, ◌≢◌, ◌≤◌}
+use Rattle.ksm_book.proofs.Names.{list_any_at, [], All, and_parts, ap, arith, blank, Bool, cond, count_in, did, dup_frame, dup_numbered, DupFits, DupRow, Dying, each_has_number, eq-eqb, find_all, find_passes, Err, Finds, FindsHeld, FindsNone, HasRemounted, InUse, MayMount, MayMove, NoFrame, Ok, frame_at, frame_found, frame_number, frames_of, Free, Freeze, get_or, get_or-set_other, GuestPage, has_items, instead, is_frame, is_item, IsInLife, IsLaid, IsLoose, IsLowestFree, item_count, items_on, KeeperView, Ledger, length, length-set, Life, life_or, List, list_any, ltb-true, lying, Made, merged_into, mounting, Moves, named_at, ne_eqb, node_of, None, Note, Option, PagesView, place_frame, Placed, Publish, refl, Row, row_at, same_page, same_Some, set, Shape, Some, spent, Stable, subst, sym, true, with_frame, ℕ, ◌&&◌, ◌*◌, ◌+◌, ◌<◌, ◌==◌, ◌∙◌, ◌∷◌, ◌≡◌, ◌≢◌, ◌≤◌, if◌then◌else◌, once_mounted, All-contains_itself, Contains}
 use mathlib.Core.Logic.{dite}
 use native.Mathlib.Decide.{ℕ_discrete}
 use Rattle.ksm_book.proofs.ByPage.{found_page, same_frames}
-use Rattle.ksm_book.proofs.Filling.{at_again, on_node, mounted}
-use Rattle.ksm_book.proofs.Keeping.{node_end, searched_placed, searched_spends, spent_set}
-use Rattle.ksm_book.proofs.Laying.{kept, served_at, shape_same}
+use Rattle.ksm_book.proofs.Filling.{at_again, on_node}
+use Rattle.ksm_book.proofs.Keeping.{node_end, searched_placed, searched_spends, past_le, spent_kept}
+use Rattle.ksm_book.proofs.Laying.{kept, shape_same}
 use Rattle.ksm_book.proofs.Made.{made_one}
-use Rattle.ksm_book.proofs.Moves.{Serves, base_is_items, lies_as_item}
+use Rattle.ksm_book.proofs.Moves.{base_is_items, lies_as_item}
 use Rattle.ksm_book.proofs.Remounted.{instead_there, remounted}
-use Rattle.ksm_book.proofs.Sharing.{first_found, index_found, state_of_item}
 use Rattle.ksm_book.proofs.Resettled.{turned}
 use Rattle.ksm_book.proofs.Shown.{lost as so_lost, moved as so_moved}
-
--- a dup may move, from the frame on which its items lie
-pub record Leaves (p : PagesView) (k : KeeperView) (dup : DupRow) (node g : ℕ) : Type 0 where
-  -- it may move to a frame of the node
-  pub may : MayMove p k dup node
-  -- each item of a dup at its place lies on the frame
-  pub lie : All (λ d. d.place ≡ dup.place → All (λ r. merged_into d.number r.state ≡ true → p.frame r.page ≡ Some g) p.rows) p.dups
-  -- a page without a row lies on no frame
-  pub absent : (page : GuestPage) → row_at page p.rows ≡ None → p.frame page ≡ None
-
--- a dup that may move is to leave the frame on which its items lie
-pub leaves : {p : PagesView} {k : KeeperView} {dup : DupRow} {node g : ℕ} → MayMove p k dup node
-    → All (λ d. d.place ≡ dup.place → All (λ r. merged_into d.number r.state ≡ true → p.frame r.page ≡ Some g) p.rows) p.dups
-    → ((page : GuestPage) → row_at page p.rows ≡ None → p.frame page ≡ None) → Leaves p k dup node g
-leaves may lie absent = record { may = may; lie = lie; absent = absent }
+use Rattle.ksm_book.proofs.Standing.{Lives, lives}
 
 -- where no frame of the node is left, the dup stays
 pub turned_away : {X : Type 0} {p : PagesView} {k l : KeeperView} {dup : DupRow} {node : ℕ} → MayMove p k dup node → FindsNone k l node
@@ -35,7 +20,10 @@ turned_away {p = p} may none =
     let away = turned may.laid may.exists none in
     record { rest = refl; laid = away.laid; shown = (refl, away.left); moves = away.turns }
 
-module _ {v : PagesView} {k : KeeperView} {dup : DupRow} {node g : ℕ} (at : Leaves v k dup node g) where
+-- a dup may move to a frame of the node, each item of a dup at its place lies on frame g, and a page without a row on none
+module _ {v : PagesView} {k : KeeperView} {dup : DupRow} {node g : ℕ} (may : MayMove v k dup node)
+    (lie : All (λ d. d.place ≡ dup.place → All (λ r. merged_into d.number r.state ≡ true → v.frame r.page ≡ Some g) v.rows) v.dups)
+    (absent : (page : GuestPage) → row_at page v.rows ≡ None → v.frame page ≡ None) where
   abbrev sh : Shape
   sh = v.shape
 
@@ -51,61 +39,27 @@ module _ {v : PagesView} {k : KeeperView} {dup : DupRow} {node g : ℕ} (at : Le
   abbrev by_item : Row → Bool
   by_item r = merged_into dup.number r.state
 
+  -- what holds of all dups holds of the one that moves
+  among : (P : DupRow → Type 0) → All P dups → P dup
+  among P all = find_all test P dups dup may.live all
+
   item_some : 1 ≤ item_count v.rows dup
   item_some = ltb-true 0 (item_count v.rows dup) (and_parts (dup.place == dup.place) (has_items v.rows dup)
-      (find_passes test dups dup at.may.live)).1
-
-  item_few : item_count v.rows dup ≤ 1024
-  item_few = (let few = find_all test (λ d. item_count v.rows d ≤ v.knobs.max_page_sharing) dups dup at.may.live at.may.sound.2.limit in let most =
-      at.may.sound.2.knobs.max_page_sharing.1 in omega (arith, few, most))
+      (find_passes test dups dup may.live)).1
 
   stands : dup_numbered dup.number dups ≡ Some dup
-  stands = find_all test (λ d. dup_numbered d.number dups ≡ Some d) dups dup at.may.live (each_has_number dups at.may.sound.2.dups_rise)
+  stands = among (λ d. dup_numbered d.number dups ≡ Some d) (each_has_number dups may.sound.2.dups_rise)
 
-  abbrev index : (n : ℕ) × (n < length dups) × ((d : DupRow) → get_or dups n d ≡ dup)
-  index = index_found test dups dup at.may.live
-
-  abbrev m : DupRow
-  m = get_or dups index.0 dup
-
-  m_is : m ≡ dup
-  m_is = index.2 dup
-
-  numbers : All (λ e. e.place ≢ m.place → e.number ≢ m.number) dups
+  numbers : All (λ e. e.place ≢ dup.place → e.number ≢ dup.number) dups
   numbers n x lt apart same =
-      let e : DupRow = get_or dups n x in
-      let there : dup_numbered e.number dups ≡ Some e = each_has_number dups at.may.sound.2.dups_rise n x lt in
-      let e_is : e ≡ dup = same_Some _ _ (sym there ∙ ap (λ y. dup_numbered y dups) (same ∙ ap (λ (y : DupRow). y.number) m_is) ∙ stands) in
-      apart (ap (λ (y : DupRow). y.place) (e_is ∙ sym m_is))
-
-  -- the dup has a first item
-  first : (item : Row) × (find by_item v.rows ≡ Some item)
-  first = first_found by_item v.rows item_some
-
-  abbrev item : Row
-  item = first.0
-
-  into : merged_into dup.number item.state ≡ true
-  into = find_passes by_item v.rows item first.1
-
-  item_lies : v.frame item.page ≡ Some g
-  item_lies =
-      let all = find_all test (λ d. d.place ≡ dup.place → All (λ r. merged_into d.number r.state ≡ true → v.frame r.page ≡ Some g) v.rows) dups
-      dup at.may.live at.lie refl in
-      find_all by_item (λ r. merged_into dup.number r.state ≡ true → v.frame r.page ≡ Some g) v.rows item first.1 all into
-
-  -- the frame of the dup is its first item's
-  dup_frame_is : dup_frame v.frame v.rows dup.number ≡ g
-  dup_frame_is = ap (frame_found v.frame) first.1 ∙ ap frame_number item_lies
+      let there : dup_numbered (get_or dups n x).number dups ≡ Some (get_or dups n x) = each_has_number dups may.sound.2.dups_rise n x lt in
+      apart (ap (λ (y : DupRow). y.place) (same_Some _ _ (sym there ∙ ap (λ m. dup_numbered m dups) same ∙ stands)))
 
   module _ {w : KeeperView} {f : ℕ} (to : Finds k w node f) where
     abbrev p : Placed sh across w.ledger v.rows v.frame dups None
-    p = kept k at.may.laid.same w None
-        (λ a rows frame ds. searched_placed node (subst (λ (x : Shape). node < x.nodes) (sym at.may.laid.same) at.may.exists) to.reaped a
-        rows frame ds None) at.may.laid.placed
-
-    table_is : w.table ≡ k.table
-    table_is = ap (λ (z : KeeperView). z.table) to.reaped.after
+    p = kept k may.laid.same w None
+        (λ a rows frame ds. searched_placed node (subst (λ (x : Shape). node < x.nodes) (sym may.laid.same) may.exists) to.reaped a
+        rows frame ds None) may.laid.placed
 
     more_spent : spent k.ledger ≤ spent w.ledger
     more_spent = searched_spends node to.reaped
@@ -113,22 +67,35 @@ module _ {v : PagesView} {k : KeeperView} {dup : DupRow} {node g : ℕ} (at : Le
     abbrev n : Note
     n = frame_at w.ledger g
 
-    fits : Serves sh w.ledger dups item g
-    fits = subst (IsServed sh w.ledger dups item) item_lies (served_at p item.page item
-        (find_all by_item (λ r. row_at r.page v.rows ≡ Some r) v.rows item first.1 (each_at_page v.rows at.may.sound.2.rows_rise)))
+    dup_fits : DupFits sh across w.ledger dup
+    dup_fits = among (DupFits sh across w.ledger) p.each_dup
 
-    on_frame : (g ≡ place_frame w.ledger dup.place) × IsInLife w.ledger dup.place
-    on_frame = (find_all test (Agrees w.ledger item g) dups dup at.may.live fits.1).item into
+    live : Lives w.ledger dups sh v.rows v.frame dup
+    live = among (λ d. (item_count v.rows d ≡ 0 → ⊥) → Lives w.ledger dups sh v.rows v.frame d) (lives p) (λ none. omega (arith, none, item_some))
+
+    item_lies : v.frame live.item.page ≡ Some g
+    item_lies = find_all by_item (λ r. by_item r ≡ true → v.frame r.page ≡ Some g) v.rows live.item live.first
+        (among (λ d. d.place ≡ dup.place → All (λ r. merged_into d.number r.state ≡ true → v.frame r.page ≡ Some g) v.rows) lie refl)
+        live.merged
+
+    -- the frame of the dup is its first item's
+    dup_frame_is : dup_frame v.frame v.rows dup.number ≡ g
+    dup_frame_is = ap (frame_found v.frame) live.first ∙ ap frame_number item_lies
+
+    on_frame : g ≡ place_frame w.ledger dup.place
+    on_frame = same_Some _ _ (sym item_lies ∙ live.lies)
+
+    inside_g : g < frames_of sh
+    inside_g = subst (λ x. x < frames_of sh) (sym on_frame) dup_fits.frame
 
     stable : n.kind ≡ Stable
-    stable = fits.0.kind ∙ ap kind_for (state_of_item dup.number item.state into)
+    stable = ap (λ x. (frame_at w.ledger x).kind) on_frame ∙ live.kind
 
     -- the dup's items are the rows on its frame
     on_it : All (λ r. is_frame g (v.frame r.page) ≡ merged_into dup.number r.state) v.rows
-    on_it i r lt = ap (λ x. is_frame x (v.frame (get_or v.rows i r).page)) on_frame.0
-        ∙ find_all test (λ d. IsInLife w.ledger d.place → is_frame (place_frame w.ledger d.place)
-        (v.frame (get_or v.rows i r).page) ≡ merged_into d.number (get_or v.rows i r).state) dups dup at.may.live
-        (λ m d less. λ life. lies_as_item p m d less life i r lt) on_frame.1
+    on_it i r lt = ap (λ x. is_frame x (v.frame (get_or v.rows i r).page)) on_frame
+        ∙ among (λ d. IsInLife w.ledger d.place → is_frame (place_frame w.ledger d.place) (v.frame (get_or v.rows i r).page)
+        ≡ merged_into d.number (get_or v.rows i r).state) (λ m d less life. lies_as_item p m d less life i r lt) live.life
 
     -- so they go from there
     items_go : (f' : ℕ) → items_on dup.number f' v.rows v.frame ≡ instead g f' v.frame
@@ -137,10 +104,7 @@ module _ {v : PagesView} {k : KeeperView} {dup : DupRow} {node g : ℕ} (at : Le
         by : (page : GuestPage) (o : Option Row) → row_at page v.rows ≡ o
             → items_on dup.number f' v.rows v.frame page ≡ instead g f' v.frame page
         by page None none = ap (λ (o : Option Row). if is_item dup.number o then Some f' else v.frame page) none
-            ∙ sym (instead_there g f' v.frame page (λ on. nowhere_is (sym (at.absent page none) ∙ on)))
-          where
-            nowhere_is : None ≡ Some g → ⊥
-            nowhere_is e = cc
+            ∙ sym (instead_there g f' v.frame page (λ on. (let e : None ≡ Some g = sym (absent page none) ∙ on in cc)))
         by page (Some r) found =
             let same = ap (λ q. is_frame g (v.frame q)) (sym (found_page page v.rows r found))
             ∙ find_all (λ s. same_page s.page page) (λ s. is_frame g (v.frame s.page) ≡ merged_into dup.number s.state) v.rows r found
@@ -148,34 +112,32 @@ module _ {v : PagesView} {k : KeeperView} {dup : DupRow} {node g : ℕ} (at : Le
             ap (λ (b : Bool). if b then Some f' else v.frame page) (ap (is_item dup.number) found ∙ sym same)
 
     base : n.base ≡ item_count v.rows dup
-    base = ap (λ x. (frame_at w.ledger x).base) on_frame.0
-        ∙ find_all test (λ d. IsInLife w.ledger d.place → (frame_at w.ledger (place_frame w.ledger d.place)).base ≡ item_count v.rows d)
-        dups dup at.may.live
-        (λ i d lt. base_is_items p i d lt) on_frame.1
+    base = ap (λ x. (frame_at w.ledger x).base) on_frame
+        ∙ among (λ d. IsInLife w.ledger d.place → (frame_at w.ledger (place_frame w.ledger d.place)).base ≡ item_count v.rows d)
+        (λ i d lt. base_is_items p i d lt) live.life
 
     bytes : n.content ≡ dup.bytes
-    bytes = ap (λ x. (frame_at w.ledger x).content) on_frame.0
-        ∙ (find_all test (DupFits sh across w.ledger) dups dup at.may.live p.each_dup).content on_frame.1
+    bytes = ap (λ x. (frame_at w.ledger x).content) on_frame ∙ dup_fits.content live.life
 
     shape_is : w.table.shape ≡ sh
-    shape_is = shape_same sh k w at.may.laid.same table_is
+    shape_is = shape_same sh k w may.laid.same (ap (λ (z : KeeperView). z.table) to.reaped.after)
 
     -- the frame that the dup is to leave is one of the table and Stable, so the exchange of its count may be tried
     pub may_freeze : (g < frames_of w.table.shape) × (n.kind ≡ Stable)
-    may_freeze = (subst (λ (x : Shape). g < frames_of x) (sym shape_is) fits.0.frame, stable)
+    may_freeze = (subst (λ (x : Shape). g < frames_of x) (sym shape_is) inside_g, stable)
 
     lowest : IsLowestFree sh w.ledger node f
-    lowest = subst (λ (x : Shape). IsLowestFree x w.ledger node f) at.may.laid.same to.lowest
+    lowest = subst (λ (x : Shape). IsLowestFree x w.ledger node f) may.laid.same to.lowest
 
     inside : f < frames_of sh
-    inside = let end : node * sh.frames_per_node + sh.frames_per_node ≤ frames_of sh = node_end node sh.nodes sh.frames_per_node at.may.exists in
+    inside = let end : node * sh.frames_per_node + sh.frames_per_node ≤ frames_of sh = node_end node sh.nodes sh.frames_per_node may.exists in
         let high = lowest.high in omega (arith, end, high)
 
     within : f < length w.ledger.frames
     within = let long : length w.ledger.frames ≡ frames_of sh = p.frames_long in let lt = inside in omega (arith, long, lt)
 
     within_g : g < length w.ledger.frames
-    within_g = let long : length w.ledger.frames ≡ frames_of sh = p.frames_long in let lt = fits.0.frame in omega (arith, long, lt)
+    within_g = let long : length w.ledger.frames ≡ frames_of sh = p.frames_long in let lt = inside_g in omega (arith, long, lt)
 
     apart : f ≢ g
     apart e = let both : Free ≡ Stable = sym lowest.free ∙ ap (λ x. (frame_at w.ledger x).kind) e ∙ stable in cc
@@ -207,10 +169,10 @@ module _ {v : PagesView} {k : KeeperView} {dup : DupRow} {node g : ℕ} (at : Le
 
         laid_lost : IsLaid v u
         laid_lost = record {
-          small = at.may.laid.small;
+          small = may.laid.small;
           same = shape_same sh w u shape_is frozen_table;
           placed = subst (λ (z : Ledger). Placed sh across z v.rows v.frame dups None) (sym still) p;
-          spent = (let before = at.may.laid.spent in let more = more_spent in let e : spent u.ledger ≡ spent w.ledger = ap spent still in omega
+          spent = (let before = may.laid.spent in let more = more_spent in let e : spent u.ledger ≡ spent w.ledger = ap spent still in omega
               (arith, before, more, e));
         }
 
@@ -238,64 +200,40 @@ module _ {v : PagesView} {k : KeeperView} {dup : DupRow} {node g : ℕ} (at : Le
         at_other : (x : ℕ) → x ≢ g → frame_at u.ledger x ≡ frame_at w.ledger x
         at_other x ne = ap (λ (z : Ledger). frame_at z x) frozen ∙ get_or-set_other w.ledger.frames g x dead blank ne
 
-        -- after the exchange the new frame is one that the keeper knows
-        mount_within : f < length u.ledger.frames
-        mount_within = (let e : length u.ledger.frames ≡ length w.ledger.frames = ap (λ (z : Ledger). length z.frames) frozen
-            ∙ length-set w.ledger.frames g dead in let lt = within in omega (arith, e, lt))
-
-        -- after the exchange the place of the dup is one of the table's
-        mount_place : dup.place < frames_of u.table.shape
-        mount_place = subst (λ (x : Shape). dup.place < frames_of x) (sym (shape_same sh w u shape_is frozen_table))
-            (find_all test (DupFits sh across w.ledger) dups dup at.may.live p.each_dup).place
-
-        -- after the exchange the new frame is Free
-        mount_free : (frame_at u.ledger f).kind ≡ Free
-        mount_free = ap (λ (x : Note). x.kind) (at_other f apart) ∙ lowest.free
-
-        -- after the exchange the old frame is Dying
-        mount_dying : (frame_at u.ledger g).kind ≡ Dying
-        mount_dying = ap (λ (x : Note). x.kind) at_g
-
-        -- after the exchange the content of each frame has as many words as a page
-        mount_wide : (x : ℕ) → length (frame_at u.ledger x).content ≡ PAGE_WORDS
-        mount_wide x = dite (ℕ_discrete x g)
-            (λ e. ap (λ y. length (frame_at u.ledger y).content) e ∙ ap (λ (y : Note). length y.content) at_g ∙ p.widths g)
-            (λ ne. ap (λ (y : Note). length y.content) (at_other x ne) ∙ p.widths x)
-
-        -- the dup's items, as many as the old frame had references, are one at least
-        mount_some : {items : ℕ} → items ≡ n.base → 1 ≤ items
-        mount_some is = (let b = base in let one = item_some in omega (arith, is, b, one))
-
-        -- the dup's items, as many as the old frame had references, are 1,024 at most
-        mount_few : {items : ℕ} → items ≡ n.base → items ≤ 1024
-        mount_few is = (let b = base in let most = item_few in omega (arith, is, b, most))
-
+        -- the place of the dup names the frame that is Dying now
         loose_of : (o : Option Life) → (life_or o).frame ≡ g → IsLoose u.ledger o
         loose_of None e = tt
-        loose_of (Some life) e = λ _ kind. let both : Dying ≡ Stable = sym mount_dying ∙ ap (λ x. (frame_at u.ledger x).kind) (sym e) ∙ kind in cc
-
-        -- after the exchange the place of the dup names no frame that is Stable in the life named
-        mount_loose : IsLoose u.ledger (named_at u.ledger dup.place)
-        mount_loose = loose_of (named_at u.ledger dup.place) (ap (λ (z : Ledger). place_frame z dup.place) frozen ∙ sym on_frame.0)
+        loose_of (Some life) e = λ _ kind.
+            let both : Dying ≡ Stable = sym (ap (λ (x : Note). x.kind) at_g) ∙ ap (λ x. (frame_at u.ledger x).kind) (sym e) ∙ kind in cc
 
         -- after the exchange the new frame may take the place of the old one, with as many references as that had
         pub may_mount : {items : ℕ} → items ≡ n.base → MayMount u g f dup.place items
-        may_mount is = record {
-          exists = subst (λ (x : Shape). f < frames_of x) (sym (shape_same sh w u shape_is frozen_table)) inside;
-          known = mount_within;
-          free = mount_free;
-          old = subst (λ (z : KeeperView). g < frames_of z.table.shape) (sym freezes) may_freeze.0;
-          dying = mount_dying;
-          wide = mount_wide;
-          at = mount_place;
-          loose = mount_loose;
-          some = mount_some is;
-          few = mount_few is;
-        }
+        may_mount is =
+            let same : sh ≡ u.table.shape = sym (shape_same sh w u shape_is frozen_table) in record {
+              exists = subst (λ (x : Shape). f < frames_of x) same inside;
+              known = omega (arith, within, ap (λ (z : Ledger). length z.frames) frozen, length-set w.ledger.frames g dead);
+              free = ap (λ (x : Note). x.kind) (at_other f apart) ∙ lowest.free;
+              old = subst (λ (x : Shape). g < frames_of x) same inside_g;
+              dying = ap (λ (x : Note). x.kind) at_g;
+              wide = λ x. dite (ℕ_discrete x g)
+                  (λ e. ap (λ y. length (frame_at u.ledger y).content) e ∙ ap (λ (y : Note). length y.content) at_g ∙ p.widths g)
+                  (λ ne. ap (λ (y : Note). length y.content) (at_other x ne) ∙ p.widths x);
+              at = subst (λ (x : Shape). dup.place < frames_of x) same dup_fits.place;
+              loose = loose_of (named_at u.ledger dup.place) (ap (λ (z : Ledger). place_frame z dup.place) frozen ∙ sym on_frame);
+              some = omega (arith, is, base, item_some);
+              few = omega (
+                arith,
+                is,
+                base,
+                among (λ d. item_count v.rows d ≤ v.knobs.max_page_sharing) may.sound.2.limit,
+                may.sound.2.knobs.max_page_sharing.1,
+              );
+            }
 
         -- and the dup stands on the new frame
         module _ {x : KeeperView} {items : ℕ} (items_are : items ≡ n.base)
-            (does : Made u x (mounting g f dup.place items (frame_at u.ledger g).content)) where
+            (does : Made u x (mounting g f dup.place items (frame_at u.ledger g).content))
+            (knows : x.ledger ≡ once_mounted u.ledger g f dup.place items) where
           mounts : Made u x (mounting g f dup.place n.base (frame_at u.ledger g).content)
           mounts = subst (λ y. Made u x (mounting g f dup.place y (frame_at u.ledger g).content)) items_are does
 
@@ -310,7 +248,7 @@ module _ {v : PagesView} {k : KeeperView} {dup : DupRow} {node g : ℕ} (at : Le
               finds = to;
               frozen = u;
               freezes = subst (λ y. Made w u (Freeze y ∷ [])) (sym dup_frame_is) by_freeze;
-              exchanged = ap (λ y. (frame_at u.ledger y).kind) dup_frame_is ∙ mount_dying;
+              exchanged = ap (λ y. (frame_at u.ledger y).kind) dup_frame_is ∙ (may_mount refl).dying;
               mounts = subst (λ (z : ℕ × ℕ × List ℕ). Made u x (mounting z.0 f dup.place z.1 z.2))
                   (λ t. (sym dup_frame_is t, base t, (ap (λ (y : Note). y.content) at_g ∙ bytes) t)) mounts;
               frame = goes_there ∙ ap (λ y. instead y f v.frame) (sym dup_frame_is);
@@ -326,74 +264,40 @@ module _ {v : PagesView} {k : KeeperView} {dup : DupRow} {node g : ℕ} (at : Le
               frames = set (set w.ledger.frames g dead) f full;
               places = set w.ledger.places dup.place (Some life);
             }
-            ledger_is = mounted u x g f dup.place n.base (frame_at u.ledger g).content mount_within (mount_wide f ∙ sym (mount_wide g))
-                (mount_some refl) refl mounts ∙ (λ t. record {
-                  frames = set (frozen t).frames f (record {
-                    kind = Stable;
-                    base = n.base;
-                    generation = (at_other f apart t).generation + 1;
-                    content = (at_g t).content;
-                  });
-                  places = set (frozen t).places dup.place (Some (record { frame = f; generation = (at_other f apart t).generation + 1 }));
-                })
-
-            -- by the dup's index the same
-            left_is : g ≡ place_frame w.ledger m.place
-            left_is = on_frame.0 ∙ ap (λ (y : DupRow). place_frame w.ledger y.place) (sym m_is)
+            ledger_is = knows ∙ ap (once_mounted u.ledger g f dup.place) items_are ∙ (λ t. record {
+              frames = set (frozen t).frames f (record {
+                kind = Stable;
+                base = n.base;
+                generation = (at_other f apart t).generation + 1;
+                content = (at_g t).content;
+              });
+              places = set (frozen t).places dup.place (Some (record { frame = f; generation = (at_other f apart t).generation + 1 }));
+            })
 
             laid_moved_dup : IsLaid q x
             laid_moved_dup =
-                let there = remounted p index.0 dup index.1 f inside lowest.free
-                (subst (λ (y : DupRow). IsInLife w.ledger y.place) (sym m_is) on_frame.1)
-                (ap (λ y. (frame_at w.ledger y).kind) (sym left_is) ∙ stable)
-                (λ z. on_node node sh.frames_per_node f lowest.low lowest.high ∙ at.may.home z
-                ∙ sym ((find_all test (DupFits sh across w.ledger) dups dup at.may.live p.each_dup).node z)
-                ∙ ap (node_of sh) (sym on_frame.0 ∙ left_is))
-                numbers in
+                let there = remounted p dup among g f on_frame inside lowest.free live.life stable
+                (λ z. on_node node sh.frames_per_node f lowest.low lowest.high ∙ may.home z ∙ sym (dup_fits.node z)
+                ∙ ap (node_of sh) (sym on_frame)) numbers in
                 subst (λ (y : PagesView). IsLaid y x) (sym (goes ∙ ap (λ fr. record v { frame = fr }) (items_go f))) (record {
-                  small = at.may.laid.small;
+                  small = may.laid.small;
                   same = shape_same sh u x (shape_same sh w u shape_is frozen_table) (ap (λ (z : KeeperView). z.table) mounts.after);
-                  placed = subst (λ (z : Ledger × Frames). Placed sh across z.0 v.rows z.1 dups None)
-                      (λ t. (
-                        ((λ i. record {
-                          frames = set (set w.ledger.frames (sym left_is i)
-                              (record {
-                                kind = Dying;
-                                base = 0;
-                                generation = (frame_at w.ledger (sym left_is i)).generation;
-                                content =
-                                    (frame_at w.ledger (sym left_is i)).content;
-                              })) f
-                              (record {
-                                kind = Stable;
-                                base = (frame_at w.ledger (sym left_is i)).base;
-                                generation =
-                                    (frame_at w.ledger f).generation + 1;
-                                content = (frame_at w.ledger (sym left_is i)).content;
-                              });
-                          places = set w.ledger.places (ap (λ (y : DupRow). y.place) m_is i) (Some life);
-                        }) ∙ sym ledger_is) t,
-                        ap (λ y. instead y f v.frame) (sym left_is) t,
-                      )) there;
+                  placed = subst (λ (z : Ledger). Placed sh across z v.rows (instead g f v.frame) dups None) (sym ledger_is) there;
                   spent = spent_still;
                 })
               where
                 spent_still : v.next ≤ spent x.ledger
                 spent_still =
                     let k1 : Ledger = with_frame w.ledger g dead in
-                    let in1 : f < length k1.frames = (let e : length k1.frames ≡ length w.ledger.frames = length-set w.ledger.frames g
-                    dead in let lt = within in omega (arith, e, lt)) in
-                    let one : spent k1 + spent_on n ≡ spent w.ledger + n.generation = spent_set w.ledger g dead within_g in
-                    let was : spent_on n ≡ n.generation = ap (λ (y : Kind). past_lives y n.generation) stable in
-                    let two : spent (with_frame k1 f full) + spent_on (frame_at k1 f) ≡ spent k1 +
-                    ((frame_at w.ledger f).generation + 1) = spent_set k1 f full in1 in
                     let here : frame_at k1 f ≡ frame_at w.ledger f = get_or-set_other w.ledger.frames g f dead blank apart in
-                    let was_free : spent_on (frame_at k1 f) ≡ (frame_at w.ledger f).generation = ap spent_on here
-                    ∙ ap (λ (y : Kind). past_lives y (frame_at w.ledger f).generation) lowest.free in
+                    let same = ap (λ (y : Note). y.generation) here in
+                    let past = past_le (frame_at k1 f).kind (frame_at k1 f).generation in
+                    let one = spent_kept w.ledger g dead (past_le n.kind n.generation) in
+                    let two = spent_kept k1 f full (omega (arith, same, past)) in
                     let end : spent x.ledger ≡ spent (with_frame k1 f full) = ap spent ledger_is in
-                    let before = at.may.laid.spent in
+                    let before = may.laid.spent in
                     let more = more_spent in
-                    omega (arith, one, was, two, was_free, end, before, more)
+                    omega (arith, one, two, end, before, more)
 
             -- once the new frame is mounted and the items lie there, the dup has moved to a frame of the node
             pub has_remounted : {X : Type 0} {done : X} → (before : KeeperView) × (x ≡ did before (Publish dup.place f) 0)
@@ -408,9 +312,9 @@ module _ {v : PagesView} {k : KeeperView} {dup : DupRow} {node g : ℕ} (at : Le
             }
 
 -- where a dup is to move from a place, a dup stands at that place
-pub taken_place : {v : PagesView} {k : KeeperView} {dup : DupRow} {node g : ℕ} → Leaves v k dup node g
+pub taken_place : {v : PagesView} {k : KeeperView} {dup : DupRow} {node : ℕ} → MayMove v k dup node
     → list_any (λ d. d.place == dup.place) v.dups ≡ true
-taken_place {v} {k} {dup} {node} {g} at =
-    let i = index_found (λ d. d.place == dup.place && has_items v.rows d) v.dups dup at.may.live in
-    list_any_at (λ d. d.place == dup.place) v.dups i.0 dup i.1
-    (ap (λ (d : DupRow). d.place == dup.place) (i.2 dup) ∙ eq-eqb dup.place dup.place refl)
+taken_place {v} {k} {dup} {node} may =
+    let at = find_all (λ d. d.place == dup.place && has_items v.rows d) (Contains v.dups) v.dups dup may.live (All-contains_itself v.dups) in
+    list_any_at (λ d. d.place == dup.place) v.dups at.0 dup at.1
+    (ap (λ (d : DupRow). d.place == dup.place) at.2 ∙ eq-eqb dup.place dup.place refl)

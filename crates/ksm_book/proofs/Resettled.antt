@@ -1,17 +1,16 @@
 -- How a page gets another frame.
-use Rattle.ksm_book.proofs.Names.{ap, arith, change_row, FindsNone, Frames, GuestPage, Houses, IfSome, InPageOrder, is_some, IsKnown, IsLaid, KeeperView, leaving, length, lies_on, List, Made, MatchOption, May, None, on_its_own, Option, PAGE_WORDS, PagesView, Placed, Provides, refl, Resettled, Row, row_at, Shape, Some, Sub, subst, sym, Took, true, TurnedAway, ℕ, ◌<◌, ◌∙◌, ◌≡◌}
+use Rattle.ksm_book.proofs.Names.{ap, arith, change_row, FindsNone, Frames, GuestPage, Houses, IfSome, InPageOrder, is_some, IsKnown, IsLaid, KeeperView, leaving, lies_on, List, Made, MatchOption, May, None, on_its_own, Option, PagesView, Placed, Provides, refl, Resettled, Row, row_at, Shape, Some, Sub, subst, sym, Took, true, TurnedAway, ℕ, ◌<◌, ◌∙◌, ◌≡◌}
 use Rattle.ksm_base.specs.declared.row.PageState.TheVariants.{Private}
-use Rattle.ksm_book.proofs.Filling.{took}
 use Rattle.ksm_book.proofs.Shown.{does_then, quiet_does, quiet_leaving, none_left}
 use Rattle.ksm_book.proofs.Keeping.{left_placed, left_spends, may_leave, searched_placed, searched_spends}
-use Rattle.ksm_book.proofs.Laying.{laid_kept, lawful, moved_there, shape_same}
+use Rattle.ksm_book.proofs.Laying.{laid_kept, moved_there, shape_same}
 
 -- a row at home on the node, with these bytes and a frame of its own
 abbrev pub housed : ℕ → List ℕ → Row → Row
 housed node bytes r = record r { home = node; bytes = bytes; state = Private }
 
 module _ {p : PagesView} {k w : KeeperView} (h : IsLaid p k) (rise : InPageOrder p.rows) (page : GuestPage) (known : IsKnown page p.rows) {node : ℕ} {bytes : List ℕ} {g : ℕ}
-    (less : node < p.shape.nodes) (long : length bytes ≡ PAGE_WORDS) (provides : Provides k w node bytes g) where
+    (provides : Provides k w node bytes g) (taken : Took k w node bytes g) where
   abbrev across : ℕ
   across = p.knobs.merge_across_nodes
 
@@ -21,9 +20,6 @@ module _ {p : PagesView} {k w : KeeperView} (h : IsLaid p k) (rise : InPageOrder
       by : (o : Option Row) → is_some o ≡ true → MatchOption o ⊥ (λ r. ((housed node bytes r).state ≡ Private) × ((housed node bytes r).home ≡ node) × ((housed node bytes r).bytes ≡ bytes))
       by None none = grind (arith, none)
       by (Some row) some = (refl, refl, refl)
-
-  taken : Took k w node bytes g
-  taken = took (subst (λ (s : Shape). node < s.nodes) (sym h.same) less) (lawful k h.same h.placed) long provides
 
   same : w.table.shape ≡ p.shape
   same = shape_same p.shape k w h.same (taken.does.1.table)

@@ -1,5 +1,5 @@
 -- The visit of a row, by what is found: what becomes of the book, and what is done to the frames.
-use Rattle.ksm_book.proofs.Names.{[], Add, All, All-contains_itself, and_parts, ap, arith, Best, best_dup, best_dup_has_room, BookState, BookValue, BookView, Bool, change_row, Comes, Contains, doing, DupRow, each_at_page, emptying, false, find, find_all, find_passes, frame_found, frame_number, Frames, GuestPage, handled, handling, HasRoom, HasStayed, idle, IfSome, if◌then◌else◌, is_best, is_restless, IsAlone, IsDupOf, IsForZero, IsJoined, IsLaid, IsSound, item_count, joining, KeeperStep, KeeperView, leaving, leb-true, lies_on, List, lying, Made, mapped, MatchOption, May, may_join, MayJoin, Merged, merged_into, merged_state, nat_le, nat_lt, None, not, Option, page_visited, PagesView, paired, pairing, partner, Performs, Placed, Reached, refl, Row, row_at, row_visited, row_visiting, same_Some, shared_state, Some, sound_row_visited, state_of, stayed, staying, Sub, subst, sym, true, true≢false, view_of, visited, VisitsPage, Zero, ℕ, ◌∙◌, ◌∷◌, ◌≡◌, ◌≤◌}
+use Rattle.ksm_book.proofs.Names.{[], Add, All, All-contains_itself, and_parts, ap, arith, Best, best_dup, best_dup_has_room, BookState, BookValue, BookView, Bool, change_row, Comes, Contains, doing, DupRow, each_at_page, emptying, false, find_all, find_passes, frame_found, frame_number, Frames, GuestPage, handled, handling, HasRoom, HasStayed, idle, IfSome, is_best, is_restless, IsDupOf, IsForZero, IsJoined, IsLaid, IsSound, item_count, joining, KeeperStep, KeeperView, leaving, lies_on, List, lying, Made, mapped, MatchOption, May, MayJoin, Merged, merged_into, merged_state, None, not, Option, page_visited, PagesView, paired, pairing, partner, Performs, Placed, Reached, refl, Row, row_at, row_visited, row_visiting, same_Some, shared_state, Some, sound_row_visited, state_of, Sub, subst, sym, true, true≢false, view_of, visited, VisitsPage, Zero, ℕ, ◌∙◌, ◌∷◌, ◌≡◌, ◌≤◌, if◌then◌else◌, nat_tests}
 use Rattle.ksm_base.specs.declared.row.PageState.TheVariants.{Private}
 use Rattle.frame_table.specs.Kept.{Did}
 use Rattle.ksm_book.proofs.ByPage.{found_page, row_of_page}
@@ -7,58 +7,40 @@ use Rattle.ksm_book.proofs.Keeping.{left_placed, left_spends, may_leave}
 use Rattle.ksm_book.proofs.Laying.{laid_rows}
 use Rattle.ksm_book.proofs.Made.{made_one, made_then}
 use Rattle.ksm_book.proofs.Moves.{swapped}
-use Rattle.ksm_book.proofs.Sharing.{first_found, laid_joined, may_join as join_may, may_part, state_of_item}
-use Rattle.ksm_book.proofs.Singles.{alone_now, book}
+use Rattle.ksm_book.proofs.Sharing.{laid_joined, may_join as join_may, may_part, state_of_item}
+use Rattle.ksm_book.proofs.Singles.{book}
+use Rattle.ksm_book.proofs.Standing.{Lives, lives}
+
+-- where something is told of what an option holds, it holds something, of which that is so
+pub filled_by : {X : Type 0} (P : X → Type 0) (o : Option X) → MatchOption o (true ≡ false) P → (x : X) × (o ≡ Some x) × P x
+filled_by P None told = absurd (true≢false told)
+filled_by P (Some x) told = (x, refl, told)
 
 -- a row that a visit may change has a frame of its own
 pub restless_own : (row : Row) → is_restless row ≡ true → shared_state row.state ≡ false
 restless_own row is = let both = and_parts row.mergeable (not (shared_state row.state)) is in grind (arith, both.1)
 
--- the visit of a row that a visit may change handles the row by the dup that it may join, if there is one
-pub visited_by : (b : BookState) (row : Row) (o : Option DupRow) → is_restless row ≡ true → best_dup b.knobs b.rows b.dups row ≡ o →
-    row_visited b row ≡ handled o b row
-visited_by b row o is best = ap (λ m. if m then b else handled (best_dup b.knobs b.rows b.dups row) b row) (restless_own row is) ∙ ap
-    (λ x. handled x b row) best
+-- to the book and to the frames the visit of a row that a visit may change does what its handling does, by the dup that it may join
+pub visited_by : (b : BookState) (frame : Frames) (row : Row) (o : Option DupRow) → is_restless row ≡ true
+    → best_dup b.knobs b.rows b.dups row ≡ o
+    → (row_visited b row ≡ handled o b row) × (row_visiting b frame row ≡ handling o b frame row)
+visited_by b frame row o is best = let own = restless_own row is in (rw (own, best), rw (own, best))
 
--- to the frames the visit of a row that a visit may change does what its handling does, by the dup that it may join
-pub visiting_by : (b : BookState) (frame : Frames) (row : Row) (o : Option DupRow) → is_restless row ≡ true → best_dup b.knobs b.rows b.dups
-    row ≡ o
-    → row_visiting b frame row ≡ handling o b frame row
-visiting_by b frame row o is best = ap (λ m. if m then idle frame else handling (best_dup b.knobs b.rows b.dups row) b frame row)
-    (restless_own row is) ∙ ap (λ x. handling x b frame row) best
+-- the visit of a row with no dup to join that was not unchanged marks it so, makes it Private, and does nothing to the frames
+pub marked_is : (b : BookState) (frame : Frames) (row : Row) → is_restless row ≡ true → best_dup b.knobs b.rows b.dups row ≡ None
+    → row.unchanged ≡ false
+    → (row_visited b row ≡ record b { rows = change_row row.page (λ r. record r { unchanged = true; state = Private }) b.rows })
+    × (row_visiting b frame row ≡ idle frame)
+marked_is b frame row is best changed = let own = restless_own row is in (rw (own, best, changed), rw (own, best, changed))
 
--- the visit of a row with no dup to join that was not unchanged marks it so, and makes it Private
-pub marked_is : (b : BookState) (row : Row) → is_restless row ≡ true → best_dup b.knobs b.rows b.dups row ≡ None → row.unchanged ≡ false
-    → row_visited b row ≡ record b { rows = change_row row.page (λ r. record r { unchanged = true; state = Private }) b.rows }
-marked_is b row is best changed =
-    visited_by b row None is best ∙ ap (λ u. if u then stayed b row else record b
-    { rows = change_row row.page (λ r. record r { unchanged = true; state = Private }) b.rows }) changed
-
--- the visit of a row with no dup to join that was not unchanged does nothing to the frames
-pub marking_is : (b : BookState) (frame : Frames) (row : Row) → is_restless row ≡ true → best_dup b.knobs b.rows b.dups row ≡ None →
-    row.unchanged ≡ false → row_visiting b frame row ≡ idle frame
-marking_is b frame row is best changed = visiting_by b frame row None is best ∙ ap (λ u. if u then staying b frame row else idle frame)
-    changed
-
--- a row whose bytes have stayed becomes Zero, or is paired
-module _ (b : BookState) (frame : Frames) (row : Row) (zeroes : Bool) (stays : HasStayed b zeroes row) where
-  -- the visit of a row whose bytes have stayed makes it Zero where its zeroes are to merge, and else pairs it
-  pub stayed_is : row_visited b row ≡ (if zeroes then record b { rows = change_row row.page (λ r. record r { state = Zero }) b.rows } else
-      paired (partner b.knobs b.rows row) b row)
-  stayed_is =
-      visited_by b row None stays.restless stays.none
-      ∙ ap (λ u. if u then stayed b row else record b {
-        rows = change_row row.page (λ r. record r { unchanged = true; state = Private })
-            b.rows;
-      }) stays.unchanged
-      ∙ ap (λ z. if z then record b { rows = change_row row.page (λ r. record r { state = Zero }) b.rows } else paired
-      (partner b.knobs b.rows row) b row) stays.zeroes
-
-  -- to the frames the visit of a row whose bytes have stayed does what leaving for Zero does, or what pairing does
-  pub staying_is : row_visiting b frame row ≡ (if zeroes then emptying frame row.page else pairing (partner b.knobs b.rows row) b frame row)
-  staying_is =
-      visiting_by b frame row None stays.restless stays.none ∙ ap (λ u. if u then staying b frame row else idle frame) stays.unchanged
-      ∙ ap (λ z. if z then emptying frame row.page else pairing (partner b.knobs b.rows row) b frame row) stays.zeroes
+-- the visit of a row whose bytes have stayed makes it Zero where its zeroes are to merge, and else pairs it
+pub stayed_is : (b : BookState) (frame : Frames) (row : Row) (zeroes : Bool) → HasStayed b zeroes row
+    → (row_visited b row ≡ (if zeroes then record b { rows = change_row row.page (λ r. record r { state = Zero }) b.rows } else
+    paired (partner b.knobs b.rows row) b row))
+    × (row_visiting b frame row ≡ (if zeroes then emptying frame row.page else pairing (partner b.knobs b.rows row) b frame row))
+stayed_is b frame row zeroes stays =
+    let own = restless_own row stays.restless in
+    (rw (own, stays.none, stays.unchanged, stays.zeroes), rw (own, stays.none, stays.unchanged, stays.zeroes))
 
 -- ---------------------------------------------------------------- what the visit of a page comes to
 
@@ -91,14 +73,10 @@ pub record Meets (P : BookState → Row → Type 0) (p : PagesView) (k : KeeperV
 pub meets : (P : BookState → Row → Type 0) {p : PagesView} {k : KeeperView} {cursor : Option GuestPage} {passes : ℕ} {now : BookView}
     {page : GuestPage} → IsSound (state_of p cursor passes) × IsLaid p k → book p k cursor passes ≡ now
     → MatchOption (row_at page now.state.rows) (true ≡ false) (P now.state) → Meets P p k cursor passes now page
-meets P {p} {k} {cursor} {passes} {now = now} {page = page} lawful same told =
-    by (row_at page p.rows) refl (subst (λ (x : BookView). MatchOption (row_at page x.state.rows) (true ≡ false) (P x.state)) (sym same)
-    told)
-  where
-    by : (o : Option Row) → row_at page p.rows ≡ o → MatchOption o (true ≡ false) (P (state_of p cursor passes))
-        → Meets P p k cursor passes now page
-    by None none is = absurd (true≢false is)
-    by (Some row) found is = record { is = same; sound = lawful.0; laid = lawful.1; row = row; found = found; so = is }
+meets P {p} {cursor = cursor} {passes} {page = page} lawful same told =
+    let at = filled_by (P (state_of p cursor passes)) (row_at page p.rows)
+    (subst (λ (x : BookView). MatchOption (row_at page x.state.rows) (true ≡ false) (P x.state)) (sym same) told) in
+    record { is = same; sound = lawful.0; laid = lawful.1; row = at.0; found = at.1; so = at.2 }
 
 -- the visit of a page in the book seen as v leads to this book
 pub record Leads (v : BookView) (q : PagesView) (l : KeeperView) (cursor : Option GuestPage) (passes : ℕ) (page : GuestPage) : Type 0 where
@@ -156,19 +134,11 @@ visit_comes v w page row found restless state does = λ from s before.
 
 -- ---------------------------------------------------------------- a page joins a dup
 
--- the dup that a row joins
-pub dup_there : (o : Option DupRow) (best : Best) → MatchOption o (true ≡ false) (λ d. (best.number ≡ d.number) × (best.place ≡ d.place))
-    → (d : DupRow) × (o ≡ Some d) × (best.number ≡ d.number) × (best.place ≡ d.place)
-dup_there None best told = absurd (true≢false told)
-dup_there (Some d) best told = (d, refl, told.0, told.1)
-
 -- it has an item
 best_has_item : (b : BookState) (row : Row) (dup : DupRow) → best_dup b.knobs b.rows b.dups row ≡ Some dup → 1 ≤ item_count b.rows dup
 best_has_item b row dup found =
     let best = find_passes (is_best b.knobs b.rows b.dups row) b.dups dup found in
-    let may = (and_parts (may_join b.knobs b.rows row dup) _ best).0 in
-    let alive = (and_parts _ (nat_lt (item_count b.rows dup) b.knobs.max_page_sharing) may).0 in
-    leb-true 1 (item_count b.rows dup) (and_parts _ (nat_le 1 (item_count b.rows dup)) alive).1
+    grind (arith, nat_tests, best)
 
 module _ (best : Best) {p : PagesView} {k : KeeperView} {cursor : Option GuestPage} {passes : ℕ} {v : BookView} {page : GuestPage}
     (at : Meets (λ b. MayJoin b best) p k cursor passes v page) where
@@ -177,43 +147,43 @@ module _ (best : Best) {p : PagesView} {k : KeeperView} {cursor : Option GuestPa
 
   module _ (g : ℕ) (lies : All (λ d. d.place ≡ best.place → All (λ r. merged_into d.number r.state ≡ true → p.frame r.page ≡ Some g) p.rows)
       p.dups) where
-    told : (d : DupRow) × (best_dup p.knobs p.rows p.dups row ≡ Some d) × (best.number ≡ d.number) × (best.place ≡ d.place)
-    told = dup_there (best_dup p.knobs p.rows p.dups row) best at.so.1
+    told : (d : DupRow) × (best_dup p.knobs p.rows p.dups row ≡ Some d) × ((best.number ≡ d.number) × (best.place ≡ d.place))
+    told = filled_by (λ d. (best.number ≡ d.number) × (best.place ≡ d.place)) (best_dup p.knobs p.rows p.dups row) at.so.1
 
     abbrev dup : DupRow
     dup = told.0
 
-    first : (item : Row) × (find (λ r. merged_into dup.number r.state) p.rows ≡ Some item)
-    first = first_found (λ r. merged_into dup.number r.state) p.rows (best_has_item (state_of p cursor passes) row dup told.1)
+    -- what holds of all dups holds of this one, and what holds of all rows of its first item
+    among : (P : DupRow → Type 0) → All P p.dups → P dup
+    among P all = find_all (is_best p.knobs p.rows p.dups row) P p.dups dup told.1 all
+
+    live : Lives k.ledger p.dups p.shape p.rows p.frame dup
+    live = among (λ d. (item_count p.rows d ≡ 0 → ⊥) → Lives k.ledger p.dups p.shape p.rows p.frame d) (lives at.laid.placed)
+        (λ none. let some = best_has_item (state_of p cursor passes) row dup told.1 in omega (arith, none, some))
 
     abbrev item : Row
-    item = first.0
+    item = live.item
 
-    is_item : merged_into dup.number item.state ≡ true
-    is_item = find_passes (λ r. merged_into dup.number r.state) p.rows item first.1
+    of_item : (P : Row → Type 0) → All P p.rows → P item
+    of_item P all = find_all (λ r. merged_into dup.number r.state) P p.rows item live.first all
 
     item_merged : merged_state item.state ≡ true
-    item_merged = ap merged_state (state_of_item dup.number item.state is_item)
+    item_merged = ap merged_state (state_of_item dup.number item.state live.merged)
 
     found_item : row_at item.page p.rows ≡ Some item
-    found_item = find_all (λ r. merged_into dup.number r.state) (λ r. row_at r.page p.rows ≡ Some r) p.rows item first.1
-        (each_at_page p.rows at.sound.rows_rise)
+    found_item = of_item (λ r. row_at r.page p.rows ≡ Some r) (each_at_page p.rows at.sound.rows_rise)
 
     there : p.frame item.page ≡ Some g
-    there =
-        find_all (λ r. merged_into dup.number r.state) (λ r. merged_into dup.number r.state ≡ true → p.frame r.page ≡ Some g) p.rows item
-        first.1
-        (find_all (is_best p.knobs p.rows p.dups row) (λ d. d.place ≡ best.place → All
-        (λ r. merged_into d.number r.state ≡ true → p.frame r.page ≡ Some g) p.rows) p.dups dup told.1 lies (sym told.3)) is_item
+    there = of_item (λ r. merged_into dup.number r.state ≡ true → p.frame r.page ≡ Some g) (among (λ d. d.place ≡ best.place → All
+        (λ r. merged_into d.number r.state ≡ true → p.frame r.page ≡ Some g) p.rows) lies (sym told.2.1)) live.merged
 
     joins : IsJoined (state_of p cursor passes) row dup
     joins = best_dup_has_room (state_of p cursor passes) row dup at.sound told.1
 
     same_bytes : row.bytes ≡ item.bytes
     same_bytes =
-        let its = find_all (λ r. merged_into dup.number r.state) (λ r. (number : ℕ) → r.state ≡ Merged number → (d : DupRow) × IsDupOf
-        p.knobs p.dups r number d) p.rows item first.1 at.sound.items dup.number
-        (state_of_item dup.number item.state is_item) in
+        let its = of_item (λ r. (number : ℕ) → r.state ≡ Merged number → (d : DupRow) × IsDupOf p.knobs p.dups r number d) at.sound.items
+        dup.number (state_of_item dup.number item.state live.merged) in
         let same : its.0 ≡ dup = same_Some its.0 dup (sym its.1.stands ∙ joins.stands) in
         sym joins.bytes ∙ ap (λ (d : DupRow). d.bytes) (sym same) ∙ its.1.bytes
 
@@ -221,22 +191,22 @@ module _ (best : Best) {p : PagesView} {k : KeeperView} {cursor : Option GuestPa
     few = (let r = joins.room in let m = at.sound.knobs.max_page_sharing.1 in omega (arith, r, m))
 
     stands : Contains p.dups dup
-    stands = find_all (is_best p.knobs p.rows p.dups row) (Contains p.dups) p.dups dup told.1 (All-contains_itself p.dups)
+    stands = among (Contains p.dups) (All-contains_itself p.dups)
 
     -- the dup that a page is to join has room for one item more
     pub has_room : HasRoom p.rows p.dups best.number
-    has_room = (dup, stands, sym told.2, few)
+    has_room = (dup, stands, sym told.2.0, few)
 
     -- a reference may come to the frame of the dup that a page is to join
     pub may_add : May k (Add g)
     may_add = join_may at.laid at.sound.rows_rise page row item at.found found_item g there
-        item_merged dup stands is_item few
+        item_merged dup stands live.merged few
 
     abbrev change : Row → Row
     change r = record r { state = Merged best.number }
 
     state_is : Merged best.number ≡ item.state
-    state_is = ap Merged told.2 ∙ sym (state_of_item dup.number item.state is_item)
+    state_is = ap Merged told.2.0 ∙ sym (state_of_item dup.number item.state live.merged)
 
     module _ (lone : ℕ) (left : p.frame page ≡ Some lone) where
       -- once a reference came to the dup's frame, the joining page's own frame may be left
@@ -250,9 +220,8 @@ module _ (best : Best) {p : PagesView} {k : KeeperView} {cursor : Option GuestPa
           (frame : All (λ r. merged_into best.number r.state ≡ true → q.frame ≡ lies_on page (p.frame r.page) p.frame) p.rows) where
         frame_is : q.frame ≡ lies_on page (Some g) p.frame
         frame_is =
-            find_all (λ r. merged_into dup.number r.state) (λ r. merged_into best.number r.state ≡ true → q.frame ≡ lies_on page
-            (p.frame r.page) p.frame) p.rows item first.1 frame
-            (ap (λ n. merged_into n item.state) told.2 ∙ is_item) ∙ ap (λ o. lies_on page o p.frame) there
+            of_item (λ r. merged_into best.number r.state ≡ true → q.frame ≡ lies_on page (p.frame r.page) p.frame) frame
+            (ap (λ n. merged_into n item.state) told.2.0 ∙ live.merged) ∙ ap (λ o. lies_on page o p.frame) there
 
         q_is : q ≡ record p { rows = change_row page change p.rows; frame = lies_on page (Some g) p.frame }
         q_is = goes ∙ (λ t. record p { rows = change_row page change p.rows; frame = frame_is t })
@@ -261,8 +230,8 @@ module _ (best : Best) {p : PagesView} {k : KeeperView} {cursor : Option GuestPa
         steps = subst (λ o. Made k l (Add g ∷ leaving o)) (sym left) (made_then comes leaves)
 
         deed_is : row_visiting (state_of p cursor passes) p.frame row ≡ joining p.frame page g
-        deed_is = visiting_by (state_of p cursor passes) p.frame row (Some dup) at.so.0 told.1
-            ∙ (λ t. joining p.frame (page_is at t) ((ap (frame_found p.frame) first.1 ∙ ap frame_number there) t))
+        deed_is = (visited_by (state_of p cursor passes) p.frame row (Some dup) at.so.0 told.1).1
+            ∙ (λ t. joining p.frame (page_is at t) ((ap (frame_found p.frame) live.first ∙ ap frame_number there) t))
 
         -- once the page is an item of the dup and lies on the dup's frame, the book is what the visit leads to
         pub joined_leads : Leads v q l cursor passes page
@@ -272,20 +241,16 @@ module _ (best : Best) {p : PagesView} {k : KeeperView} {cursor : Option GuestPa
             item_merged change (λ r. refl) state_is same_bytes l p.restless steps))
             (ap (λ (x : PagesView). state_of x cursor passes) q_is
             ∙ (λ t. record (state_of p cursor passes) {
-              rows = change_row (sym (page_is at) t) (λ r. record r { state = Merged (told.2 t) })
+              rows = change_row (sym (page_is at) t) (λ r. record r { state = Merged (told.2.0 t) })
                   p.rows;
             })
-            ∙ sym (visited_by (state_of p cursor passes) row (Some dup) at.so.0 told.1))
+            ∙ sym (visited_by (state_of p cursor passes) p.frame row (Some dup) at.so.0 told.1).0)
             (subst (Performs (lying p k) (lying q l)) (sym deed_is) (record { made = steps; frame = frame_is }))
 
 -- ---------------------------------------------------------------- a page becomes Zero
 
 module _ {p : PagesView} {k : KeeperView} {cursor : Option GuestPage} {passes : ℕ} {v : BookView} {page : GuestPage}
     (at : Meets IsForZero p k cursor passes v page) where
-  -- a page that is to become Zero has a frame of its own
-  pub zero_alone : IsAlone page p.rows
-  zero_alone = alone_now p.rows page at.row at.found (restless_own at.row at.so.restless)
-
   abbrev zeroed : Row → Row
   zeroed r = record r { state = Zero }
 
@@ -308,6 +273,6 @@ module _ {p : PagesView} {k : KeeperView} {cursor : Option GuestPage} {passes : 
       (laid_rows at.laid (change_row page zeroed p.rows) (lies_on page None p.frame) p.restless l
       (ap (λ (z : KeeperView). z.table) leaves.after) (left_spends (p.frame page) leaves) (left_placed (p.frame page) leaves zero_hand)))
       (ap (λ (x : PagesView). state_of x cursor passes) goes ∙ (λ t. record b { rows = change_row (sym (page_is at) t) zeroed p.rows }) ∙
-      sym (stayed_is b p.frame at.row true at.so))
-      (subst (Performs (lying p k) (lying q l)) (sym (staying_is b p.frame at.row true at.so ∙ ap (emptying p.frame) (page_is at)))
+      sym (stayed_is b p.frame at.row true at.so).0)
+      (subst (Performs (lying p k) (lying q l)) (sym ((stayed_is b p.frame at.row true at.so).1 ∙ ap (emptying p.frame) (page_is at)))
       (record { made = leaves; frame = ap (λ (x : PagesView). x.frame) goes }))

@@ -1,5 +1,5 @@
 -- A scan carried out: what its visits come to is what the command promises, and they give no frame.
-use Rattle.ksm_book.proofs.Names.{[], ap, arith, best_dup, BookState, BookValue, CarriedOut, cases_Bool, Comes, cond_both, Deed, doing, Done, DupRow, emptying, false, Fault, Frames, handling, HasScanned, idle, if◌then◌else◌, inl, inr, is_for_zero, IsAnswerUnless, IsScanned, length, List, list_any, list_any_none, Made, Memory, mergeable_pages, new_place, next_row, None, none_counted, not, NotRunning, Ok, Option, pairing, partner, place_count, refl, refused_if, Reply, Row, Scan, scan_stopped, Scanned, scanning, shared_state, Some, staying, subst, suc, sym, true, view_of, visit_begun, visiting, visiting_of, visits, visits_beside, Withdraw, withdrawing, zero, ℕ, ◌==◌, ◌∙◌, ◌∷◌, ◌≡◌, ◌≤◌}
+use Rattle.ksm_book.proofs.Names.{[], ap, arith, best_dup, BookState, BookValue, CarriedOut, Comes, cond_both, Deed, doing, Done, DupRow, emptying, false, Fault, Frames, handling, HasScanned, idle, is_for_zero, IsScanned, length, List, list_any, list_any_none, Made, Memory, mergeable_pages, new_place, next_row, None, none_counted, Ok, Option, pairing, partner, place_count, refl, Reply, Row, Scan, scan_stopped, Scanned, scanning, shared_state, Some, staying, subst, suc, sym, true, view_of, visit_begun, visiting, visiting_of, visits, visits_beside, Withdraw, withdrawing, zero, ℕ, ◌==◌, ◌∙◌, ◌∷◌, ◌≡◌, ◌≤◌, if◌then◌else◌}
 use Rattle.ksm_book.proofs.Doing.{scanning_is}
 use Rattle.ksm_book.proofs.Folded.{beside_state}
 use Rattle.ksm_book.proofs.Listed.{some_pages}
@@ -48,10 +48,7 @@ quiet_scanning (suc n) b frame =
 -- where there are pages to visit, some row is mergeable
 any_some : (rows : List Row) → 1 ≤ length (mergeable_pages rows) → list_any (λ r. r.mergeable) rows ≡ true
 any_some [] some = absurd (omega (arith, some))
-any_some (r ∷ rows) some = elim (cases_Bool r.mergeable) [
-  | inl is ↦ grind (arith, is)
-  | inr not_so ↦ let rest = any_some rows (grind (arith, not_so, some)) in grind (arith, not_so, rest)
-]
+any_some (r ∷ rows) some = let rest = any_some rows in grind (arith, some, rest)
 
 -- where no page is mergeable, no row is
 pub any_none : (rows : List Row) → length (mergeable_pages rows) ≡ 0 → list_any (λ r. r.mergeable) rows ≡ false
@@ -68,8 +65,7 @@ module _ (v w : BookValue) (count : ℕ) (running : v.state.knobs.run ≡ 1) (ta
       let steps = subst (λ (d : Deed). Made v.keeper w.keeper d.steps) deed there.1.made in
       record {
         own = table;
-        answer = subst (λ n. IsAnswerUnless (refused_if (not (n == 1)) NotRunning None) v.state (Scan count) (Ok (Scanned made stop)))
-            (sym running) is;
+        answer = rw running is;
         state = there.0 ∙ ap (scan_stopped stop) (beside_state doing made (first v));
         steps = record { made = steps; frame = there.1.frame ∙ ap (λ (d : Deed). d.frame) deed };
         frames = quiet_does steps (quiet_scanning made v.state (view_of v).frame);

@@ -1,5 +1,5 @@
 -- What the parts of a scan come to: the end of a pass, listed pages in the stead of those ahead, visits up to a page, and whole passes.
-use Rattle.ksm_book.proofs.Names.{[], after_cursor, Ahead, All, AllPairs-filter, and_parts, ap, append-nil, AreAscending, AreListed, arith, At, begun, BookState, Bool, both_ways, cases_Bool, cases_lt, comes_before, cond_both, drop, drop_more, End, EndsAt, eqb-true, false, filter, filter_all, filter_passes, from_to, get_or, get_or_from_slice_get, GuestPage, has_item, if◌then◌else◌, inl, InPageOrder, inr, is_none, is_nowhere, is_restless, is_some, IsBeside, IsStill, last_of, last_visited, length, length-take-le, List, mergeable_pages, min, next_row, None, not, Option, option_map, pages_ahead, pages_visited, pass_begun, pass_ended, pass_ended_at_last, refl, restless_at, restless_row, Row, row_at, same_page, shared_state, slice_get, slice_get_within, Some, subst, suc, sym, take, take-append-drop, true, true≢false, up_to, visit_begun, visits_beside, with_none_waiting, ℕ, ◌&&◌, ◌*◌, ◌++◌, ◌+◌, ◌-◌, ◌<◌, ◌==◌, ◌^◌, ◌∙◌, ◌∷◌, ◌≡◌, ◌≤◌, ◌⊎◌}
+use Rattle.ksm_book.proofs.Names.{[], after_cursor, Ahead, All, AllPairs-filter, and_parts, ap, append-nil, AreAscending, AreListed, arith, At, begun, BookState, Bool, both_ways, cases_lt, comes_before, cond_both, drop, drop_more, End, EndsAt, eqb-true, false, filter, filter_all, filter_passes, from_to, get_or, get_or_from_slice_get, GuestPage, has_item, inl, InPageOrder, inr, is_none, is_nowhere, is_some, IsBeside, IsStill, last_of, last_visited, length, length-take-le, List, mergeable_pages, min, next_row, None, not, Option, option_map, pages_ahead, pages_visited, pass_begun, pass_ended, pass_ended_at_last, refl, restless_at, Row, slice_get, slice_get_within, Some, subst, suc, sym, take, take-append-drop, true, true≢false, up_to, visit_begun, visits_beside, with_none_waiting, ℕ, ◌&&◌, ◌*◌, ◌++◌, ◌+◌, ◌-◌, ◌<◌, ◌==◌, ◌^◌, ◌∙◌, ◌∷◌, ◌≡◌, ◌≤◌, ◌⊎◌, if◌then◌else◌}
 use Rattle.ksm_book.proofs.PagesAhead.{Before, GoesDown, between_at, between_is, has_filter, last_of_take, place_of, place_splits}
 use Rattle.ksm_book.proofs.Going.{Goes, begun_goes, settled_goes}
 use Rattle.ksm_book.proofs.Folded.{ascending_ahead, begun_folded, beside_on, every_page, next_first, none_next, pages_alike, pages_go, pass_goes_on, repeats, same_restless, visits_folded}
@@ -47,22 +47,11 @@ begins b = by b.cursor refl (next_row b.cursor b.rows) refl
   where
     by : (o : Option GuestPage) → b.cursor ≡ o → (next : Option Row) → next_row b.cursor b.rows ≡ next
         → ((new : BookState) × Begins b new) ⊎ ((is_some b.cursor ≡ true) × (visit_begun b ≡ b) × (1 ≤ length (pages_ahead b)))
-    by None none next found =
-        inl (
-          b,
-          (
-            none,
-            refl,
-            ap pass_begun (λ t. if is_some (none t) && is_none (next_row b.cursor b.rows) then pass_ended b else b)
-                ∙ ap (λ (o : Option GuestPage). if is_none o then with_none_waiting b else b) none,
-          ),
-        )
-    by (Some page) some None found =
-        inl (pass_ended b, (refl, refl, ap pass_begun (λ t. if is_some (some t) && is_none (found t) then pass_ended b else b)))
+    by None none next found = inl (b, (none, refl, rw none))
+    by (Some page) some None found = inl (pass_ended b, (refl, refl, rw (found, some)))
     by (Some page) some (Some row) found = inr (
       ap is_some some,
-      ap pass_begun (λ t. if is_some (some t) && is_none (found t) then pass_ended b else b)
-          ∙ ap (λ (o : Option GuestPage). if is_none o then with_none_waiting b else b) some,
+      rw (found, some),
       slice_get_within (pages_ahead b) 0 row.page (sym (next_first b.cursor b.rows) ∙ ap (option_map (λ r. r.page)) found),
     )
 
@@ -83,27 +72,12 @@ some_ahead b some = elim (begins b) [
 
 -- a page that is restless after a change that makes no page restless was so before
 pub was_restless : (old new : List Row) → Goes old new → (page : GuestPage) → restless_at page new ≡ true → restless_at page old ≡ true
-was_restless old new goes page restless = elim (cases_Bool (restless_at page old)) [
-  | inl was ↦ was
-  | inr calm ↦ absurd (both_ways (restless_at page new) (goes.calm page calm) restless)
-]
+was_restless old new goes page restless = let calm = goes.calm page in grind (arith, calm, restless)
 
 -- scans visit a restless page
 restless_mergeable : (page : GuestPage) (rows : List Row) → restless_at page rows ≡ true → has_item page (mergeable_pages rows) ≡ true
 restless_mergeable page [] is = absurd (true≢false (sym is))
-restless_mergeable page (r ∷ rows) is =
-    elim (cases_Bool (same_page r.page page)) [
-      | inl here ↦
-          let restless : is_restless r ≡ true = ap (λ b. restless_row (if b then Some r else row_at page rows)) (sym here) ∙ is in
-          let mergeable : r.mergeable ≡ true = (and_parts r.mergeable (not (shared_state r.state)) restless).0 in
-          grind (arith, here, mergeable)
-      | inr other ↦
-          let rest = restless_mergeable page rows (ap (λ b. restless_row (if b then Some r else row_at page rows)) (sym other) ∙ is) in
-          elim (cases_Bool r.mergeable) [
-            | inl mergeable ↦ grind (arith, other, mergeable, rest)
-            | inr not_so ↦ grind (arith, not_so, rest)
-          ]
-    ]
+restless_mergeable page (r ∷ rows) is = let rest = restless_mergeable page rows in grind (arith, is, rest)
 
 -- the listed pages from one index up to another, where these are the counts of those up to the cursor, and of those that pass a test
 module _ (t : GuestPage → Bool) (down : GoesDown t) (pages : List GuestPage) (first end : ℕ) (told : Option GuestPage) (b : BookState)
@@ -134,10 +108,7 @@ module _ (t : GuestPage → Bool) (down : GoesDown t) (pages : List GuestPage) (
       ∙ ap (λ c. pages_visited step s (filter t (pages_ahead c))) same
     where
       either_way : (a c : Bool) → ((a && c) && true) ≡ (c && (a && true))
-      either_way true true = refl
-      either_way true false = refl
-      either_way false true = refl
-      either_way false false = refl
+      either_way a c = grind arith
 
   -- a restless page among the listed ones from first up to end is ahead, and passes the test
   pub part_ahead : (n : ℕ) (page : GuestPage) → slice_get pages n ≡ Some page → first ≤ n → n < end → restless_at page b.rows ≡ true

@@ -1,5 +1,5 @@
 -- What becomes of the layout where rows change together, join a dup, or make or lose one.
-use Rattle.ksm_book.proofs.Names.{count_by, [], Add, All, All-filter, ap, arith, blank, Bool, cases_Bool, change_row, Contains, count_none, did, DupRow, elsewhere, eqb-true, false, filter, find, find_none, FitsBase, frame_at, Frames, frames_of, get_or, get_or-set_same, get_or_default, GuestPage, IfSome, if◌then◌else◌, inl, InPageOrder, inr, IsInLife, IsLaid, IsLoose, IsServed, IsShape, IsVacant, item_count, KeeperView, Kind, kind_for, Knobs, leaving, Ledger, ledger_after, length, lies_on, Life, life_or, List, list_any, Listing, Made, May, Merged, merged_into, merged_state, named_at, nat_lt, nat_tests, None, Note, Option, PageState, PagesView, past_lives, place_frame, Placed, Private, Publish, refl, Row, row_at, RowFits, set, set-get_or, settled, settled_state, Shape, shared_state, Some, spent, spent_on, Stable, Sub, subst, suc, sum_by-le, sym, tree_of, true, Waiting, with_dup, with_frame, Withdraw, withdrawing, zero, ℕ, ◌*◌, ◌++◌, ◌+◌, ◌-◌, ◌<◌, ◌==◌, ◌^◌, ◌∙◌, ◌∷◌, ◌≡◌, ◌≢◌, ◌≤◌, ◌⊎◌}
+use Rattle.ksm_book.proofs.Names.{count_by, [], Add, All, All-filter, ap, arith, blank, Bool, cases_Bool, change_row, Contains, count_none, did, DupRow, elsewhere, eqb-true, false, filter, find, find_none, FitsBase, frame_at, Frames, frames_of, get_or, get_or-set_same, get_or_default, GuestPage, IfSome, inl, InPageOrder, inr, IsInLife, IsLaid, IsLoose, IsServed, IsShape, IsVacant, item_count, KeeperView, Kind, kind_for, Knobs, leaving, Ledger, ledger_after, length, lies_on, Life, life_or, List, list_any, Listing, Made, May, Merged, merged_into, merged_state, named_at, nat_lt, nat_tests, None, Note, Option, PageState, PagesView, past_lives, place_frame, Placed, Private, Publish, refl, Row, row_at, RowFits, set, set-get_or, settled, settled_state, Shape, shared_state, Some, spent, spent_on, Stable, Sub, subst, sum_by-le, sym, tree_of, true, Waiting, with_dup, with_frame, Withdraw, withdrawing, ℕ, ◌*◌, ◌++◌, ◌+◌, ◌-◌, ◌<◌, ◌==◌, ◌^◌, ◌∙◌, ◌∷◌, ◌≡◌, ◌≢◌, ◌≤◌, ◌⊎◌, if◌then◌else◌, both_ways, not-true, filter_passes, eq-eqb, none_found, find_all, find_passes}
 use Rattle.ksm_book.proofs.Moves.{Serves, joined, published, base_is_items, stale_is_loose}
 use Rattle.ksm_book.proofs.Laying.{LodgesAs, laid_rows, own_kind, served_at, shape_same}
 use Rattle.ksm_book.proofs.Keeping.{added_placed, added_spends, left_placed, left_spends, lives_most, may_leave, past_le, spent_set}
@@ -22,16 +22,6 @@ first_found t xs some = by (find t xs) refl
     by : (o : Option _) → find t xs ≡ o → (x : _) × (find t xs ≡ Some x)
     by (Some x) found = (x, found)
     by None none = absurd (let zero' = count_none t xs (find_none t xs none) in omega (arith, zero', some))
-
--- an element that a search finds stands at an index of the list
-pub index_found : {X : Type 0} (t : X → Bool) (xs : List X) (x : X) → find t xs ≡ Some x → (n : ℕ) × (n < length xs)
-    × ((d : X) → get_or xs n d ≡ x)
-index_found t [] x found = absurd (grind (arith, found))
-index_found t (y ∷ ys) x found = elim (cases_Bool (t y)) [
-  | inl passes ↦ (0, (omega arith), λ d. (let is : y ≡ x = grind (arith, passes, found) in is))
-  | inr fails ↦ (let later = index_found t ys x (grind (arith, fails, found)) in
-      (suc later.0, (let lt = later.1 in omega (arith, lt)), later.2))
-]
 
 -- a page joins the dup of an item
 module _ {p : PagesView} {k : KeeperView} (h : IsLaid p k) (rise : InPageOrder p.rows) (page : GuestPage) (row item : Row)
@@ -91,31 +81,24 @@ module _ (k : Ledger) where
   loose_named None h = tt
   loose_named (Some life) h = h
 
-has_some : (place : ℕ) (dups : List DupRow) → list_any (λ d. d.place == place) dups ≡ true → (n : ℕ) × (n < length dups)
-    × ((d : DupRow) → (get_or dups n d).place ≡ place)
-has_some place [] e = absurd (grind (arith, e))
-has_some place (d ∷ ds) e = elim (cases_Bool (d.place == place)) [
-  | inl here ↦ (0, omega arith, λ x. grind (arith, nat_tests, here))
-  | inr there ↦ let rest = has_some place ds (grind (arith, e, there)) in (suc rest.0, (let lt = rest.1 in omega (arith, lt)), rest.2)
-]
-
 has_none : (place : ℕ) (dups : List DupRow) → list_any (λ d. d.place == place) dups ≡ false → All (λ d. d.place ≢ place) dups
-has_none place [] e k x lt same = absurd (omega arith)
-has_none place (d ∷ ds) e zero x lt same = absurd (grind (arith, nat_tests, e, same))
-has_none place (d ∷ ds) e (suc k) x lt same = has_none place ds (grind (arith, e)) k x (omega arith) same
+has_none place dups e k x lt same =
+    both_ways ((get_or dups k x).place == place) (find_none (λ d. d.place == place) dups (none_found _ dups e) k x lt) (eq-eqb _ _ same)
 
 -- a place where no dup with items stands names no frame that is Stable in the life named
 pub vacant_loose : {sh : Shape} {across : ℕ} {k : Ledger} {rows : List Row} {frame : Frames} {dups : List DupRow} (place : ℕ)
     → Placed sh across k rows frame dups None → IsVacant place rows dups → IsLoose k (named_at k place)
-vacant_loose {k = k} {dups = dups} place p vacant = elim (cases_Bool (list_any (λ d. d.place == place) dups)) [
-  | inl taken ↦
-      let some = has_some place dups taken in
-      let d : DupRow = record { number = 0; place = 0; tree = 0; bytes = [] } in
-      let at : (get_or dups some.0 d).place ≡ place = some.2 d in
-      loose_named k (named_at k place) (subst (λ q. IsInLife k q → ¬ ((frame_at k (place_frame k q)).kind ≡ Stable)) at
-      (stale_is_loose p some.0 d some.1 (vacant some.0 d some.1 at)))
-  | inr none ↦ subst (IsLoose k) (sym (p.empty place (has_none place dups none))) tt
-]
+vacant_loose {k = k} {dups = dups} place p vacant = by (find (λ d. d.place == place) dups) refl
+  where
+    Loose : ℕ → Type 0
+    Loose q = IsInLife k q → ¬ ((frame_at k (place_frame k q)).kind ≡ Stable)
+
+    by : (o : Option DupRow) → find (λ d. d.place == place) dups ≡ o → IsLoose k (named_at k place)
+    by None none = subst (IsLoose k) (sym (p.empty place (λ n x lt same. both_ways ((get_or dups n x).place == place)
+        (find_none (λ d. d.place == place) dups none n x lt) (eq-eqb _ _ same)))) tt
+    by (Some d) found = loose_named k (named_at k place) (subst Loose (eqb-true d.place place (find_passes (λ e. e.place == place) dups d found))
+        (find_all (λ e. e.place == place) (λ e. e.place ≡ place → Loose e.place) dups d found
+        (λ n x lt same. stale_is_loose p n x lt (vacant n x lt same)) (eqb-true d.place place (find_passes (λ e. e.place == place) dups d found))))
 
 -- what a vacant place names is withdrawn, and then it names nothing
 module _ {p : PagesView} {k : KeeperView} (w : KeeperView) (h : IsLaid p k) (place : ℕ) (inside : place < frames_of p.shape)
@@ -165,9 +148,6 @@ above_elsewhere : (place : ℕ) (ds : List DupRow) → filter (λ d. nat_lt plac
     (λ d. nat_lt place d.place) ds
 above_elsewhere place [] = refl
 above_elsewhere place (d ∷ ds) = grind (arith, nat_tests, above_elsewhere place ds)
-
-pub with_elsewhere : (d : DupRow) (ds : List DupRow) → with_dup d (filter (elsewhere d.place) ds) ≡ with_dup d ds
-with_elsewhere d ds = λ t. below_elsewhere d.place ds t ++ d ∷ above_elsewhere d.place ds t
 
 product_most : (a b m n : ℕ) → a ≤ m → b ≤ n → a * b ≤ m * n
 product_most a b m n le le' = grind (arith, le, le')
@@ -253,7 +233,9 @@ module _ {p : PagesView} {k : KeeperView} (h : IsLaid p k) (rise : InPageOrder p
       let shown = published q page row rise found f lies own d inside c keeps (state ∙ ap Merged (sym number)) same bytes tree alone
       (λ i r lt. ap (λ n. merged_into n (get_or p.rows i r).state) number ∙ fresh i r lt)
       (All-filter (elsewhere d.place) (λ e. ¬ (e.number ≡ d.number)) p.dups
-      (λ n x lt same. (let below = numbers n x lt in omega (arith, below, same, number)))) in
+      (λ n x lt same. (let below = numbers n x lt in omega (arith, below, same, number))))
+      (λ n x lt at. let e = get_or (filter (elsewhere d.place) p.dups) n x in
+      both_ways (e.place == d.place) (not-true (e.place == d.place) (filter_passes (elsewhere d.place) p.dups n x lt)) (eq-eqb e.place d.place at)) in
       let ledger : w.ledger ≡ ledger_after w1.table.shape cleared (Publish d.place f) 0 = ap (λ (z : KeeperView). z.ledger) is
       ∙ (λ t. ledger_after w1.table.shape (empty t) (Publish d.place f) 0) in
       let within : f < length k.ledger.frames = (let long : length k.ledger.frames ≡ frames_of sh = h.placed.frames_long in let lt =
@@ -265,7 +247,7 @@ module _ {p : PagesView} {k : KeeperView} (h : IsLaid p k) (rise : InPageOrder p
         small = h.small;
         same = ap (λ (z : KeeperView). z.table.shape) is ∙ ap (λ x. x.shape) table ∙ h.same;
         placed = subst (λ (z : Ledger × List DupRow). Placed sh p.knobs.merge_across_nodes z.0 (change_row page c p.rows) p.frame z.1 None)
-            (λ t. (sym ledger t, with_elsewhere d p.dups t)) shown;
+            (λ t. (sym ledger t, below_elsewhere d.place p.dups t ++ d ∷ above_elsewhere d.place p.dups t)) shown;
         spent = (let s = h.spent in let given = fits.given in omega (arith, s, more, was, now, given));
       }
 

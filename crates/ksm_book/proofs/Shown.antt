@@ -1,7 +1,8 @@
 -- The frames that steps give, and what the log shows of a frame that was not found, of one in use, and of a dup that moved.
-use Rattle.ksm_book.proofs.Names.{[], Add, ap, append_cancel_left, arith, blank, Bool, cases_Bool, cond, Contains, Contains-append_right, Contains-push, count_in, Did, did, Does, dup_frame, DupRow, Dying, dying_kind, dying_on, false, filter, FindsHeld, FindsNone, frame_at, Free, free_kind, Freeze, frozen, get_or, get_or-range_with_len, get_or-set_other, given_by, Gives, HasLost, HasMoved, inl, inr, IsLowestFree, IsNeeded, item_count, KeeperStep, KeeperView, leaving, Ledger, ledger_after, length, length-append, length-range_with_len, List, loads, Log, Made, map, Mapped, Moves, nat_tests, needed_after, None, NoneLeft, Note, Open, Option, Provides, Publish, puts, Raise, range_with_len, Reap, reaped, refl, replicate, Retired, Row, set, Shape, Some, Stable, stepped, steps_of, subst, suc, sym, true, with_frame, Withdraw, zero, ℕ, ◌*◌, ◌++◌, ◌+◌, ◌-◌, ◌<◌, ◌==◌, ◌∙◌, ◌∷◌, ◌≡◌, ◌≢◌, ◌≤◌}
+use Rattle.ksm_book.proofs.Names.{[], Add, ap, append_cancel_left, arith, blank, Bool, cases_Bool, cond, Contains, Contains-append_right, Contains-push, count_in, Did, did, Does, dup_frame, DupRow, Dying, dying_kind, dying_on, false, FindsHeld, FindsNone, frame_at, Free, free_kind, Freeze, frozen, get_or, get_or-range_with_len, get_or-set_other, given_by, Gives, HasLost, HasMoved, inl, inr, IsLowestFree, IsNeeded, item_count, KeeperStep, KeeperView, leaving, Ledger, ledger_after, length, length-append, length-range_with_len, List, loads, Log, Made, map, Mapped, Moves, nat_tests, needed_after, None, NoneLeft, Note, Open, Option, Provides, Publish, puts, Raise, range_with_len, Reap, reaped, refl, replicate, Retired, Row, set, Shape, Some, Stable, stepped, steps_of, subst, suc, sym, true, with_frame, Withdraw, zero, ℕ, ◌*◌, ◌++◌, ◌+◌, ◌-◌, ◌<◌, ◌==◌, ◌∙◌, ◌∷◌, ◌≡◌, ◌≢◌, ◌≤◌, drop}
 use Rattle.ksm_book.proofs.Keeping.{set_holds}
 use Rattle.ksm_book.proofs.Made.{chained, stepped_then, first_made, made_then, none_made, step_made}
+use Rattle.ksm_book.proofs.ByPage.{contains_filter}
 
 -- none of these steps gives a frame
 abbrev pub GivesNone : List KeeperStep → Type 0
@@ -141,18 +142,6 @@ waits (g ∷ fs) v w f (s ∷ part) after are (zero, lt, is) still =
     found zero dies = absurd (dies (set_here (λ x. ¬ (x.kind ≡ Dying)) v.ledger.frames f note (not_dying ((frame_at v.ledger f).generation == v.table.shape.last_generation)) (λ e. grind (arith, e))))
     found (suc n) dies = omega arith
 
-contains_filter : (t : ℕ → Bool) (xs : List ℕ) (x : ℕ) → Contains xs x → t x ≡ true → Contains (filter t xs) x
-contains_filter t [] x has e = absurd (let lt = has.1 in omega (arith, lt))
-contains_filter t (y ∷ ys) x (zero, lt, is) e =
-    let here : filter t (y ∷ ys) ≡ y ∷ filter t ys = grind (arith, e, is) in
-    subst (λ zs. Contains zs x) (sym here) (0, omega arith, is)
-contains_filter t (y ∷ ys) x (suc i, lt, is) e =
-    let rest = contains_filter t ys x (i, omega (arith, lt), is) e in
-    elim (cases_Bool (t y)) [
-      | inl passes ↦ let here : filter t (y ∷ ys) ≡ y ∷ filter t ys = grind (arith, passes) in subst (λ zs. Contains zs x) (sym here) (suc rest.0, (let low = rest.1 in omega (arith, low)), rest.2)
-      | inr fails ↦ let here : filter t (y ∷ ys) ≡ filter t ys = grind (arith, fails) in subst (λ zs. Contains zs x) (sym here) rest
-    ]
-
 -- where no frame of a node was found, each that is dying still was found with a count above zero
 pub none_left : {v w : KeeperView} {node : ℕ} → FindsNone v w node → NoneLeft v w node
 none_left {v} {w} {node} h =
@@ -209,10 +198,6 @@ lowest_still sh k node f g true h stable = record {
   least = λ i low lt. set_holds (λ x. free_kind x.kind ≡ false) k.frames f i (frozen (frame_at k f)) refl (h.least i low lt);
 }
 
--- the log tells the steps that were made
-steps_told : (v w : KeeperView) (nodes : List ℕ) (part : Log) (steps : List KeeperStep) → Did v w nodes part → Made v w steps → steps_of part ≡ steps
-steps_told v w nodes part steps d m = ap steps_of (append_cancel_left v.log part m.part (sym d.log ∙ ap (λ (z : KeeperView). z.log) m.after)) ∙ m.are
-
 -- a step that is told is in the log, with what it found
 found_in : (part : Log) (step : KeeperStep) → Contains (steps_of part) step → (found : ℕ) × Contains part (step, found)
 found_in [] step (i, lt, is) = absurd (omega (arith, lt))
@@ -224,11 +209,7 @@ ends_so : {X : Type 0} (xs part ys : List X) (e : X) → 1 ≤ length part → x
 ends_so [] part ys e some same = subst (λ zs. Contains zs e) (sym same) (Contains-push ys e)
 ends_so (x ∷ xs) part [] e some same =
     (let lengths = ap length same in let both = length-append xs part in absurd (omega (arith, some, lengths, both)))
-ends_so (x ∷ xs) part (y ∷ ys) e some same = ends_so xs part ys e some (ap tail same)
-  where
-    tail : {X : Type 0} → List X → List X
-    tail [] = []
-    tail (z ∷ zs) = zs
+ends_so (x ∷ xs) part (y ∷ ys) e some same = ends_so xs part ys e some (ap (drop 1) same)
 
 -- a dup that moved: a frame of the node was raised, and published at the dup's place
 pub moved : (v w : Mapped) (rows : List Row) (dup : DupRow) (node : ℕ) (h : Moves v w rows dup node) → (before : KeeperView) × (w.keeper ≡ did before (Publish dup.place h.got) 0) → (frame_at h.searched.ledger (dup_frame v.frame rows dup.number)).kind ≡ Stable
@@ -252,7 +233,8 @@ moved v w rows dup node h ends stable =
     (refl, quiet_both (replicate (count - 1) (Add g)) (Publish dup.place g ∷ []) (quiet_adds (count - 1) g) (refl, tt)))) in
     let does = does_then (does_then searched freezes) mounts in
     let made = made_then h.finds.reaped (made_then h.freezes h.mounts) in
-    let told = steps_told v.keeper w.keeper (node ∷ []) does.0 (reaps ++ (Freeze f ∷ Raise g ∷ rest)) does.1 made in
+    let told : steps_of does.0 ≡ reaps ++ (Freeze f ∷ Raise g ∷ rest) =
+    ap steps_of (append_cancel_left v.keeper.log does.0 made.part (sym does.1.log ∙ ap (λ (z : KeeperView). z.log) made.after)) ∙ made.are in
     let raised = found_in does.0 (Raise g) (subst (λ steps. Contains steps (Raise g)) (sym told) (Contains-append_right reaps (Freeze f ∷ Raise g ∷ rest) (Raise g) (1, omega arith, refl))) in
     record {
       part = does.0;

@@ -1,10 +1,9 @@
 -- The commands on single pages, carried out.
-use Rattle.ksm_book.proofs.Names.{[], All, All-filter, AlreadyRegistered, Answer, ap, arith, BadNode, before_trans, BookState, BookValue, BookView, Bool, CarriedOut, cases_Bool, change_row, comes_before, Command, cond_both, Does, Done, Drop, Err, false, filter, filter_all, filter_none, find_none, find_nothing, FindsNone, frame_at, frame_needed, frame_number, frame_on, Frames, frames_of, fresh_row, get_or, GuestPage, Houses, IfErr, IfSome, if◌then◌else◌, inl, InPageOrder, inr, is_some, IsAlone, IsAnswerUnless, IsDoneOr, IsIdle, IsLaid, IsReadable, IsServed, IsSound, IsWritable, KeeperView, leaving, length, lies_on, List, listed, lying, Made, MatchBool, MatchOption, May, moved, MovePage, MovesTo, nat_le, nat_tests, NoFrame, None, not, not_both, Ok, on_its_own, one_before, Option, option_and_then, ordered_with, PAGE_WORDS, PagesView, pairs_tail, Performs, Placed, private_state, Provides, puts, refl, refusal, refused_if, Register, Resettled, Resettles, Result, rewriting, Row, row_at, same_page, same_page_refl, Shape, shared_state, Some, sound_after, state_of, stepped, steps_of, Store, stored, StoresTo, Sub, subst, suc, sym, true, UnknownPage, view_of, with_row, without_page, ℕ, ◌++◌, ◌<◌, ◌==◌, ◌∙◌, ◌∷◌, ◌≡◌}
+use Rattle.ksm_book.proofs.Names.{[], All, Answer, ap, arith, BookValue, BookView, Bool, CarriedOut, change_row, comes_before, Command, cond_both, Does, Done, Drop, Err, false, filter, FindsNone, frame_at, frame_number, frame_on, Frames, frames_of, fresh_row, get_or, GuestPage, Houses, IfErr, IfSome, InPageOrder, is_some, IsAlone, IsLaid, IsReadable, IsServed, IsSound, IsWritable, KeeperView, leaving, length, lies_on, List, listed, lying, Made, MatchBool, MatchOption, May, moved, MovePage, nat_le, nat_tests, NoFrame, None, not, Ok, on_its_own, Option, ordered_with, PAGE_WORDS, PagesView, Performs, Placed, Provides, puts, refl, Register, Resettled, Resettles, Result, rewriting, Row, row_at, same_page, same_page_refl, Shape, shared_state, Some, sound_after, state_of, stepped, steps_of, Store, stored, Sub, subst, sym, true, view_of, with_row, without_page, ℕ, ◌++◌, ◌<◌, ◌==◌, ◌∙◌, ◌∷◌, ◌≡◌, map_fixed, without_between, pages_ordered, absent_parts, find_put, filter_passes, cond, if◌then◌else◌, Held, IsHeld, Took}
 use Rattle.std.proofs.lemmas.Bool.{eq-eqb}
 use Rattle.ksm_base.specs.declared.row.PageState.TheVariants.{Private}
 use Rattle.ksm_book.proofs.ByPage.{at_changed, change_twice, found_page, lies_again, lies_still, row_of_page}
-use Rattle.ksm_book.proofs.Laying.{come_there, lawful, laid_rows, own_kind, readable, served_at, shape_same}
-use Rattle.ksm_book.proofs.Filling.{took}
+use Rattle.ksm_book.proofs.Laying.{come_there, laid_rows, own_kind, readable, served_at, shape_same}
 use Rattle.ksm_book.proofs.Keeping.{left_placed, left_spends, may_leave, searched_spends}
 use Rattle.ksm_book.proofs.Made.{made_none, made_part}
 use Rattle.ksm_book.proofs.Resettled.{turned}
@@ -15,6 +14,10 @@ use Rattle.ksm_book.proofs.Moves.{removed}
 abbrev pub book : PagesView → KeeperView → Option GuestPage → ℕ → BookView
 book p k cursor passes = record { state = state_of p cursor passes; frame = p.frame; keeper = k }
 
+-- a command was carried out on the pages and their keeper, with the cursor and the passes as they were, and all lies lawfully
+abbrev pub Carries : PagesView → KeeperView → PagesView → KeeperView → Option GuestPage → ℕ → Command → Answer → Type 0
+Carries p k q l cursor passes command answer = CarriedOut (book p k cursor passes) (book q l cursor passes) command answer × IsLaid q l
+
 -- a command that was carried out leaves a sound state
 pub sound_carried : {v w : BookView} {command : Command} {answer : Answer} → IsSound v.state → CarriedOut v w command answer → IsSound w.state
 sound_carried {v} {w} {command} {answer} s h = subst IsSound (sym h.state) (sound_after v.state command answer s h.answer)
@@ -23,35 +26,43 @@ sound_carried {v} {w} {command} {answer} s h = subst IsSound (sym h.state) (soun
 pub carried_so : {old now : BookValue} {w : BookView} {by given : Command} {answer : Answer} → old ≡ now → by ≡ given → CarriedOut (view_of old) w by answer → CarriedOut (view_of now) w given answer
 carried_so {old} {now} {w} {by} {given} {answer} same told h = subst (λ (z : BookValue × Command). CarriedOut (view_of z.0) w z.1 answer) (λ t. (same t, told t)) h
 
--- a page's row is found where the page was found to be
-pub found_spot : (rows : List Row) (page at : GuestPage) (row : Row) → at ≡ page → row_at page rows ≡ Some row → row_at at rows ≡ Some row
-found_spot rows page at row same found = ap (λ q. row_at q rows) same ∙ found
+-- the row of a page is found by the page that was told of it
+pub row_held : {p : PagesView} {page : GuestPage} {held : Held} (h : IsHeld p page held) → row_at held.spot.page p.rows ≡ Some h.row
+row_held {p} h = ap (λ q. row_at q p.rows) h.spot ∙ h.found
 
 -- ---------------------------------------------------------------- a page with another frame
 
--- a page was resettled, and then its row tells of home and bytes
-module _ {p m q : PagesView} {k l : KeeperView} {page : GuestPage} {node : ℕ} {bytes : List ℕ} (h : IsLaid p k) (table : l.table ≡ k.table) (r : Resettled p m k l page node bytes)
-    (d change : Row → Row) (goes : q ≡ record m { rows = change_row page d m.rows; restless = q.restless }) (rows : change_row page d (change_row page on_its_own p.rows) ≡ change_row page change p.rows) where
-  settled_frame : q.frame ≡ m.frame
-  settled_frame = ap (λ (x : PagesView). x.frame) goes
-
-  -- a page was resettled and its row then changed: the pages differ in that row, in where pages lie and in the listing
-  pub settled_pages : q ≡ record p { rows = change_row page change p.rows; frame = q.frame; restless = q.restless }
-  settled_pages = goes ∙ (λ t. record (r.pages t) { rows = change_row page d (r.pages t).rows; restless = q.restless })
-      ∙ (λ t. record p { rows = rows t; frame = sym settled_frame t; restless = q.restless })
-
-  -- a page that was resettled, and whose row then changed, is resettled by the same steps
-  pub settled_steps : Resettles (lying p k) (lying q l) page node bytes
-  settled_steps = subst (λ (f : Frames). Resettles (lying p k) (record { frame = f; keeper = l }) page node bytes) (sym settled_frame) r.resettles
-
-  -- rows and dups lie lawfully once the row of a resettled page tells of its home and bytes too
-  pub settled_laid : Houses change page node bytes p.rows → IsLaid q l
-  settled_laid by_this = subst (λ (x : PagesView). IsLaid x l) (sym settled_pages) (record {
-    small = h.small;
-    same = shape_same p.shape k l h.same table;
-    placed = subst (λ (f : Frames). Placed p.shape p.knobs.merge_across_nodes l.ledger (change_row page change p.rows) f p.dups None) (sym settled_frame) (r.placed change by_this);
-    spent = r.spent;
-  })
+-- a page was resettled, and then its row changed to tell of home and bytes: the pages differ in that row, in where pages lie and in the
+-- listing, the steps are those of the resettling, and rows and dups lie lawfully
+pub settled_then : {p m q : PagesView} {k l : KeeperView} {page : GuestPage} {node : ℕ} {bytes : List ℕ} {row : Row} → IsLaid p k → InPageOrder p.rows
+    → row_at page p.rows ≡ Some row → Resettled p m k l page node bytes → (d change : Row → Row)
+    → q ≡ record m { rows = change_row page d m.rows; restless = q.restless } → ((x : Row) → (change x).page ≡ x.page)
+    → d (on_its_own row) ≡ change row → ((change row).state ≡ Private) × ((change row).home ≡ node) × ((change row).bytes ≡ bytes)
+    → (q ≡ record p { rows = change_row page change p.rows; frame = q.frame; restless = q.restless })
+    × Resettles (lying p k) (lying q l) row.page node bytes × IsLaid q l
+settled_then {p} {m} {q} {k} {l} {page} {node} {bytes} {row} h rise found r d change goes keeps to housed =
+    let one = row_of_page page p.rows row rise found in
+    let rows = change_twice page on_its_own d change p.rows (λ x. refl)
+    (λ i x lt at. subst (λ y. d (on_its_own y) ≡ change y) (sym (one i x lt at)) to) in
+    let frame : q.frame ≡ m.frame = ap (λ (x : PagesView). x.frame) goes in
+    let pages : q ≡ record p { rows = change_row page change p.rows; frame = q.frame; restless = q.restless } =
+    goes ∙ (λ t. record (r.pages t) { rows = change_row page d (r.pages t).rows; restless = q.restless })
+    ∙ (λ t. record p { rows = rows t; frame = sym frame t; restless = q.restless }) in
+    let houses : Houses change page node bytes p.rows = record {
+      pages = keeps;
+      row = subst (λ o. MatchOption o ⊥ (λ x. ((change x).state ≡ Private) × ((change x).home ≡ node) × ((change x).bytes ≡ bytes))) (sym found) housed;
+    } in (
+      pages,
+      subst (λ (z : Frames × GuestPage). Resettles (lying p k) (record { frame = z.0; keeper = l }) z.1 node bytes)
+          (λ t. (sym frame t, sym (found_page page p.rows row found) t)) r.resettles,
+      subst (λ (x : PagesView). IsLaid x l) (sym pages) (record {
+        small = h.small;
+        same = shape_same p.shape k l h.same r.does.1.table;
+        placed = subst (λ (f : Frames). Placed p.shape p.knobs.merge_across_nodes l.ledger (change_row page change p.rows) f p.dups None)
+            (sym frame) (r.placed change houses);
+        spent = r.spent;
+      }),
+    )
 
 -- a page whose row is found and not shared has a frame of its own
 pub alone_now : (rows : List Row) (page : GuestPage) (row : Row) → row_at page rows ≡ Some row → shared_state row.state ≡ false → IsAlone page rows
@@ -69,20 +80,11 @@ pub if_err : {T E : Type 0} (r : Result T E) (P : Type 0) → P → IfErr r (λ 
 if_err (Ok x) P h = tt
 if_err (Err e) P h = h
 
--- an option of a row that holds nothing is None
-pub absent_so : (o : Option Row) → is_some o ≡ false → o ≡ None
-absent_so None none = refl
-absent_so (Some row) none = absurd (grind (arith, none))
-
--- a page that was resettled has a frame of its own
-pub alone_resettled : (rows : List Row) (page : GuestPage) (row : Row) → row_at page rows ≡ Some row → (now : List Row) → now ≡ change_row page on_its_own rows → IsAlone page now
-alone_resettled rows page row found now made =
-    alone_now now page (on_its_own row) (ap (row_at page) made ∙ at_changed page on_its_own rows row (λ r. refl) found) refl
-
--- a page that was resettled is Private
-pub private_resettled : (rows : List Row) (page : GuestPage) (row : Row) → row_at page rows ≡ Some row → (now : List Row) → now ≡ change_row page on_its_own rows → MatchOption (row_at page now) (true ≡ false) (λ r. private_state r.state ≡ true)
-private_resettled rows page row found now made =
-    subst (λ o. MatchOption o (true ≡ false) (λ r. private_state r.state ≡ true)) (sym (ap (row_at page) made ∙ at_changed page on_its_own rows row (λ r. refl) found)) refl
+-- the row of a page that was resettled is found with a frame of its own
+pub found_resettled : {p m : PagesView} {k l : KeeperView} {page : GuestPage} {node : ℕ} {bytes : List ℕ} {row : Row}
+    → Resettled p m k l page node bytes → row_at page p.rows ≡ Some row → row_at page m.rows ≡ Some (on_its_own row)
+found_resettled {p} {page = page} {row = row} r found =
+    ap (λ (x : PagesView). row_at page x.rows) r.pages ∙ at_changed page on_its_own p.rows row (λ x. refl) found
 
 -- ---------------------------------------------------------------- a store
 
@@ -96,31 +98,18 @@ own_ready {p} {k} h page row found alone g lies =
     (subst (λ (s : Shape). g < frames_of s) (sym h.same) inside, omega (arith, inside, long), subst IsWritable (sym (served.0.kind ∙ own_kind row.state alone)) tt, h.placed.widths g)
 
 module _ (p : PagesView) (k l : KeeperView) (cursor : Option GuestPage) (passes : ℕ) (page : GuestPage) (bytes : List ℕ) (row : Row) (found : row_at page p.rows ≡ Some row) (table : l.table ≡ k.table) where
-  abbrev b : BookState
-  b = state_of p cursor passes
-
-  needs : (shared : Bool) → shared_state row.state ≡ shared → frame_needed b (Store page bytes) ≡ (if shared then Some row.home else None)
-  needs shared is = ap (option_and_then (λ r. if shared_state r.state then Some r.home else None)) found ∙ ap (λ (x : Bool). if x then Some row.home else None) is
-
-  not_refused : refusal b (Store page bytes) ≡ None
-  not_refused = ap (λ o. refused_if (not (is_some o)) UnknownPage None) found
-
-  module _ (q : PagesView) (state : state_of q cursor passes ≡ record b { rows = change_row page (stored bytes) p.rows }) where
-    stores : (shared : Bool) → shared_state row.state ≡ shared → MatchBool shared (Resettles (lying p k) (lying q l) row.page row.home bytes) (Performs (lying p k) (lying q l) (rewriting p.frame row.page bytes))
+  module _ (q : PagesView) (state : state_of q cursor passes ≡ record (state_of p cursor passes) { rows = change_row page (stored bytes) p.rows }) where
+    stores : (shared : Bool) → shared_state row.state ≡ shared
+        → MatchBool shared (Resettles (lying p k) (lying q l) row.page row.home bytes) (Performs (lying p k) (lying q l) (rewriting p.frame row.page bytes))
         → Does k l (listed (if shared then Some row.home else None)) → CarriedOut (book p k cursor passes) (book q l cursor passes) (Store page bytes) (Ok Done)
     stores shared is steps does = record {
       own = table;
-      answer = subst (λ o. IsAnswerUnless o b (Store page bytes) (Ok Done)) (sym not_refused) (subst (λ o. IsDoneOr o (Ok Done)) (sym (needs shared is)) (done_or (if shared then Some row.home else None)));
+      answer = rw found tt;
       state = state;
-      steps = subst (λ o. MatchOption o ⊥ (StoresTo (lying p k) (lying q l) bytes)) (sym found)
-          (subst (λ x. MatchBool x (Resettles (lying p k) (lying q l) row.page row.home bytes) (Performs (lying p k) (lying q l) (rewriting p.frame row.page bytes))) (sym is) steps);
-      frames = subst (λ o. Does k l (listed o)) (sym (needs shared is)) does;
+      steps = rw (found, is) steps;
+      frames = rw (found, is) does;
       shown = tt;
     }
-      where
-        done_or : (o : Option ℕ) → IsDoneOr o (Ok Done)
-        done_or None = tt
-        done_or (Some n) = tt
 
   -- `Store` is carried out where the bytes are stored to the page's own frame, and its row tells them
   pub store_written : (q : PagesView) (g : ℕ) → q ≡ record p { rows = change_row page (stored bytes) p.rows; restless = q.restless } → shared_state row.state ≡ false → p.frame page ≡ Some g → l ≡ stepped k (puts g 0 bytes)
@@ -132,41 +121,27 @@ module _ (p : PagesView) (k l : KeeperView) (cursor : Option GuestPage) (passes 
       }) (quiet_does (made_part k l (puts g 0 bytes) wrote) (quiet_puts g 0 bytes))
 
   -- `Store` is carried out, and all lies lawfully, where a shared page is resettled with the bytes, as its row tells
-  pub store_copied : (m q : PagesView) → IsLaid p k → Resettled p m k l page row.home bytes → q ≡ record m { rows = change_row page (stored bytes) m.rows; restless = q.restless } → shared_state row.state ≡ true
-      → CarriedOut (book p k cursor passes) (book q l cursor passes) (Store page bytes) (Ok Done) × IsLaid q l
-  store_copied m q h r goes shared =
-      let rows = change_twice page on_its_own (stored bytes) (stored bytes) p.rows (λ x. refl) (λ i x lt is. refl) in (
-        stores q (ap (λ x. state_of x cursor passes) (settled_pages h table r (stored bytes) (stored bytes) goes rows)) true shared
-            (subst (λ x. Resettles (lying p k) (lying q l) x row.home bytes) (sym (found_page page p.rows row found)) (settled_steps h table r (stored bytes) (stored bytes) goes rows)) r.does,
-        settled_laid h table r (stored bytes) (stored bytes) goes rows (record {
-          pages = λ x. refl;
-          row = subst (λ o. MatchOption o ⊥ (λ x. ((stored bytes x).state ≡ Private) × ((stored bytes x).home ≡ row.home) × ((stored bytes x).bytes ≡ bytes))) (sym found) (refl, refl, refl);
-        }),
-      )
+  pub store_copied : (m q : PagesView) → IsLaid p k → InPageOrder p.rows → Resettled p m k l page row.home bytes
+      → q ≡ record m { rows = change_row page (stored bytes) m.rows; restless = q.restless } → shared_state row.state ≡ true
+      → Carries p k q l cursor passes (Store page bytes) (Ok Done)
+  store_copied m q h rise r goes shared =
+      let s = settled_then h rise found r (stored bytes) (stored bytes) goes (λ x. refl) refl (refl, refl, refl) in
+      (stores q (ap (λ x. state_of x cursor passes) s.0) true shared s.1 r.does, s.2)
 
 -- ---------------------------------------------------------------- a move to another node
 
 -- a change that leaves the rows of a page as they are changes nothing
 pub change_still : (page : GuestPage) (f : Row → Row) (rows : List Row) → All (λ r. same_page r.page page ≡ true → f r ≡ r) rows → change_row page f rows ≡ rows
-change_still page f [] still = refl
-change_still page f (r ∷ rows) still = elim (cases_Bool (same_page r.page page)) [
-  | inl is ↦ let s = still 0 r (omega arith) is in grind (arith, is, s, change_still page f rows (λ i x lt. still (suc i) x (omega (arith, lt))))
-  | inr other ↦ grind (arith, other, change_still page f rows (λ i x lt. still (suc i) x (omega (arith, lt))))
-]
+change_still page f rows still = map_fixed (λ r. if same_page r.page page then f r else r) rows
+    (λ i d lt. let r = get_or rows i d in cond_both (same_page r.page page) (f r) r (λ x. x ≡ r) (still i d lt) (λ _. refl))
 
 -- a node that is there is not told as none
-there_is : (nodes node : ℕ) → node < nodes → nat_le nodes node ≡ false
+pub there_is : (nodes node : ℕ) → node < nodes → nat_le nodes node ≡ false
 there_is nodes node less = grind (arith, nat_tests, less)
 
 module _ (p : PagesView) (k : KeeperView) (cursor : Option GuestPage) (passes : ℕ) (page : GuestPage) (node : ℕ) (row : Row) (rise : InPageOrder p.rows) (found : row_at page p.rows ≡ Some row) (less : node < p.shape.nodes) where
-  abbrev b' : BookState
-  b' = state_of p cursor passes
-
-  move_needs : (home : Bool) → (row.home == node) ≡ home → frame_needed b' (MovePage page node) ≡ (if home then None else Some node)
-  move_needs home is = ap (option_and_then (λ r. if r.home == node then None else Some node)) found ∙ ap (λ (x : Bool). if x then None else Some node) is
-
-  move_allowed : refusal b' (MovePage page node) ≡ None
-  move_allowed = ap (λ x. refused_if x BadNode (refused_if (not (is_some (row_at page p.rows))) UnknownPage None)) (there_is p.shape.nodes node less) ∙ ap (λ o. refused_if (not (is_some o)) UnknownPage None) found
+  there : nat_le p.shape.nodes node ≡ false
+  there = there_is p.shape.nodes node less
 
   -- `MovePage` to the node where the page is at home is carried out with nothing changed
   pub move_home : row.home ≡ node → CarriedOut (book p k cursor passes) (book p k cursor passes) (MovePage page node) (Ok Done)
@@ -176,42 +151,38 @@ module _ (p : PagesView) (k : KeeperView) (cursor : Option GuestPage) (passes : 
       let still : change_row page (moved node) p.rows ≡ p.rows = change_still page (moved node) p.rows (λ i x lt of_page. subst (λ r. moved node r ≡ r) (sym (one i x lt of_page)) (ap (λ (x : Bool). if x then row else record row { home = node; state = Private }) is)) in
       record {
         own = refl;
-        answer = subst (λ o. IsAnswerUnless o b' (MovePage page node) (Ok Done)) (sym move_allowed) (subst (λ o. IsDoneOr o (Ok Done)) (sym (move_needs true is)) tt);
-        state = ap (λ rows. record b' { rows = rows }) (sym still);
-        steps = subst (λ o. MatchOption o ⊥ (MovesTo (lying p k) (lying p k) node)) (sym found)
-            (subst (λ x. MatchBool x (IsIdle (lying p k) (lying p k)) (Resettles (lying p k) (lying p k) row.page node row.bytes)) (sym is) (record { keeper = refl; frame = refl }));
-        frames = subst (λ o. Does k k (listed o)) (sym (move_needs true is)) (quiet_does (made_none refl) tt);
+        answer = rw (there, found) tt;
+        state = ap (λ rows. record (state_of p cursor passes) { rows = rows }) (sym still);
+        steps = rw (found, is) (record { keeper = refl; frame = refl });
+        frames = rw (found, is) (quiet_does (made_none refl) tt);
         shown = tt;
       }
 
   module _ (l : KeeperView) (table : l.table ≡ k.table) (away : (row.home == node) ≡ false) where
     -- `MovePage` is carried out, and all lies lawfully, where the page is resettled on another node and at home there
     pub move_moved : (m q : PagesView) → IsLaid p k → Resettled p m k l page node row.bytes → q ≡ record m { rows = change_row page (λ r. record r { home = node }) m.rows; restless = q.restless }
-        → CarriedOut (book p k cursor passes) (book q l cursor passes) (MovePage page node) (Ok Done) × IsLaid q l
+        → Carries p k q l cursor passes (MovePage page node) (Ok Done)
     move_moved m q h r goes =
-        let one = row_of_page page p.rows row rise found in
-        let to : moved node row ≡ record row { home = node; state = Private } = ap (λ (x : Bool). if x then row else record row { home = node; state = Private }) away in
-        let rows = change_twice page on_its_own (λ r. record r { home = node }) (moved node) p.rows (λ x. refl) (λ i x lt of_page. subst (λ r. record r { home = node; state = Private } ≡ moved node r) (sym (one i x lt of_page)) (sym to)) in (
+        let to : moved node row ≡ record row { home = node; state = Private } =
+        ap (λ (x : Bool). if x then row else record row { home = node; state = Private }) away in
+        let s = settled_then h rise found r (λ r. record r { home = node }) (moved node) goes
+        (λ x. cond_both (x.home == node) x (record x { home = node; state = Private }) (λ y. y.page ≡ x.page) (λ _. refl) (λ _. refl))
+        (sym to) (ap (λ (x : Row). x.state) to, ap (λ (x : Row). x.home) to, ap (λ (x : Row). x.bytes) to) in (
           record {
             own = table;
-            answer = subst (λ o. IsAnswerUnless o b' (MovePage page node) (Ok Done)) (sym move_allowed) (subst (λ o. IsDoneOr o (Ok Done)) (sym (move_needs false away)) tt);
-            state = ap (λ x. state_of x cursor passes) (settled_pages h table r (λ r. record r { home = node }) (moved node) goes rows);
-            steps = subst (λ o. MatchOption o ⊥ (MovesTo (lying p k) (lying q l) node)) (sym found)
-                (subst (λ x. MatchBool x (IsIdle (lying p k) (lying q l)) (Resettles (lying p k) (lying q l) row.page node row.bytes)) (sym away)
-                (subst (λ x. Resettles (lying p k) (lying q l) x node row.bytes) (sym (found_page page p.rows row found)) (settled_steps h table r (λ r. record r { home = node }) (moved node) goes rows)));
-            frames = subst (λ o. Does k l (listed o)) (sym (move_needs false away)) r.does;
+            answer = rw (there, found) tt;
+            state = ap (λ x. state_of x cursor passes) s.0;
+            steps = rw (found, away) s.1;
+            frames = rw (found, away) r.does;
             shown = tt;
           },
-          settled_laid h table r (λ r. record r { home = node }) (moved node) goes rows (record {
-            pages = λ x. cond_both (x.home == node) x (record x { home = node; state = Private }) (λ y. y.page ≡ x.page) (λ _. refl) (λ _. refl);
-            row = subst (λ o. MatchOption o ⊥ (λ x. ((moved node x).state ≡ Private) × ((moved node x).home ≡ node) × ((moved node x).bytes ≡ row.bytes))) (sym found)
-                (ap (λ (x : Row). x.state) to, ap (λ (x : Row). x.home) to, ap (λ (x : Row). x.bytes) to);
-          }),
+          s.2,
         )
 
 -- ---------------------------------------------------------------- a page that goes
 
-module _ (p : PagesView) (k : KeeperView) (cursor : Option GuestPage) (passes : ℕ) (page : GuestPage) (row : Row) (rise : InPageOrder p.rows) (found : row_at page p.rows ≡ Some row) (h : IsLaid p k) (left : Option ℕ) (was : left ≡ p.frame page) where
+module _ {p : PagesView} {k : KeeperView} (h : IsLaid p k) (rise : InPageOrder p.rows) {page : GuestPage} {row : Row}
+    (found : row_at page p.rows ≡ Some row) {left : Option ℕ} (was : left ≡ p.frame page) where
   gone_hand : Placed p.shape p.knobs.merge_across_nodes k.ledger (without_page page p.rows) (lies_on page None p.frame) p.dups (p.frame page)
   gone_hand = removed page row rise found h.placed
 
@@ -220,14 +191,14 @@ module _ (p : PagesView) (k : KeeperView) (cursor : Option GuestPage) (passes : 
   drop_may = subst (λ o. IfSome o (λ f. May k (Sub f))) (sym was) (may_leave k h.same (p.frame page) gone_hand)
 
   -- `Drop` is carried out, and all lies lawfully, where the page has left its frame and its row is gone
-  pub drop_gone : (q : PagesView) (l : KeeperView) → q ≡ record p { rows = without_page page p.rows; frame = lies_on page None p.frame; restless = q.restless } → Made k l (leaving left)
-      → CarriedOut (book p k cursor passes) (book q l cursor passes) (Drop page) (Ok Done) × IsLaid q l
-  drop_gone q l goes made =
+  pub drop_gone : (cursor : Option GuestPage) (passes : ℕ) (q : PagesView) (l : KeeperView) → q ≡ record p { rows = without_page page p.rows; frame = lies_on page None p.frame; restless = q.restless } → Made k l (leaving left)
+      → Carries p k q l cursor passes (Drop page) (Ok Done)
+  drop_gone cursor passes q l goes made =
       let table = ap (λ (z : KeeperView). z.table) made.after in
       let leaves = subst (λ o. Made k l (leaving o)) was made in (
         record {
           own = table;
-          answer = subst (λ o. IsAnswerUnless (refused_if (not (is_some o)) UnknownPage None) (state_of p cursor passes) (Drop page) (Ok Done)) (sym found) tt;
+          answer = rw found tt;
           state = ap (λ x. state_of x cursor passes) goes;
           steps = record { made = leaves; frame = ap (λ (x : PagesView). x.frame) goes };
           frames = quiet_does leaves (quiet_leaving (p.frame page));
@@ -241,38 +212,12 @@ module _ (p : PagesView) (k : KeeperView) (cursor : Option GuestPage) (passes : 
 
 -- a row that came and goes leaves the rows as they were
 without_come : (row : Row) (rows : List Row) → InPageOrder rows → row_at row.page rows ≡ None → without_page row.page (with_row row rows) ≡ rows
-without_come row [] rise absent = grind (arith, same_page_refl row.page)
-without_come row (r ∷ rs) rise absent =
-    let none = find_none (λ s. same_page s.page row.page) (r ∷ rs) absent in
-    let other : same_page r.page row.page ≡ false = none 0 r (omega arith) in
-    let apart : All (λ s. same_page s.page row.page ≡ false) rs = λ i x lt. none (suc i) x (omega (arith, lt)) in
-    elim (cases_Bool (comes_before r.page row.page)) [
-      | inl before ↦
-          let behind : comes_before row.page r.page ≡ false = not_both r.page row.page before in
-          let rest = without_come row rs (pairs_tail (λ (x y : Row). comes_before x.page y.page ≡ true) r rs rise) (find_nothing (λ s. same_page s.page row.page) rs apart) in
-          grind (arith, before, behind, other, rest)
-      | inr not_before ↦
-          let behind : comes_before row.page r.page ≡ true = one_before r.page row.page other not_before in
-          let later : All (λ s. comes_before row.page s.page ≡ true) rs = λ i x lt. before_trans row.page r.page (get_or rs i x).page behind (rise 0 (suc i) x (omega arith) (omega (arith, lt))) in
-          let first : filter (λ s. comes_before s.page row.page) rs ≡ [] = filter_none (λ s. comes_before s.page row.page) rs (λ i x lt. not_both row.page (get_or rs i x).page (later i x lt)) in
-          let last : filter (λ s. comes_before row.page s.page) rs ≡ rs = filter_all (λ s. comes_before row.page s.page) rs later in
-          let stay : without_page row.page rs ≡ rs = filter_all (λ s. not (same_page s.page row.page)) rs (λ i x lt. ap not (apart i x lt)) in
-          grind (arith, not_before, behind, other, first, last, stay, same_page_refl row.page)
-    ]
-
--- the row that came is found
-come_found : (row : Row) (rows : List Row) → row_at row.page rows ≡ None → row_at row.page (with_row row rows) ≡ Some row
-come_found row rows absent =
-    let first : Row → Bool = λ r. comes_before r.page row.page in
-    let none = find_none (λ r. same_page r.page row.page) rows absent in
-    skip (filter first rows) (All-filter first (λ r. same_page r.page row.page ≡ false) rows none)
-  where
-    skip : (xs : List Row) → All (λ r. same_page r.page row.page ≡ false) xs → row_at row.page (xs ++ row ∷ filter (λ r. comes_before row.page r.page) rows) ≡ Some row
-    skip [] apart = grind (arith, same_page_refl row.page)
-    skip (x ∷ xs) apart =
-        let here = apart 0 x (omega arith) in
-        let rest = skip xs (λ i d lt. apart (suc i) d (omega (arith, lt))) in
-        grind (arith, here, rest)
+without_come row rows rise absent =
+    let low = filter (λ r. comes_before r.page row.page) rows in
+    let high = filter (λ r. comes_before row.page r.page) rows in
+    without_between pages_ordered (λ (r : Row). r.page) row.page low (row ∷ []) high (filter_passes _ rows) (filter_passes _ rows)
+    ∙ ap (λ b. low ++ (cond (not b) (row ∷ []) [] ++ high)) (same_page_refl row.page)
+    ∙ sym (absent_parts pages_ordered (λ (r : Row). r.page) row.page rows rise absent)
 
 -- a page comes, at home on a node, with these bytes
 pub record HasCome (p m : PagesView) (page : GuestPage) (node : ℕ) (bytes : List ℕ) : Type 0 where
@@ -289,21 +234,17 @@ module _ {p m : PagesView} {page : GuestPage} {node : ℕ} {bytes : List ℕ} (n
   abbrev fresh : Row
   fresh = fresh_row page node bytes
 
-  come_allowed : (cursor : Option GuestPage) (passes : ℕ) → refusal (state_of p cursor passes) (Register page node bytes) ≡ None
-  come_allowed cursor passes = ap (λ x. refused_if x BadNode (refused_if (is_some (row_at page p.rows)) AlreadyRegistered None)) (there_is p.shape.nodes node new.less) ∙ ap (λ o. refused_if (is_some o) AlreadyRegistered None) new.absent
-
   found_fresh : row_at page (with_row fresh p.rows) ≡ Some fresh
-  found_fresh = come_found fresh p.rows new.absent
+  found_fresh = find_put (λ (r : Row). r.page) page fresh p.rows refl
 
   -- a page that came has a row
   pub come_known : is_some (row_at page m.rows) ≡ true
   come_known = ap (λ (x : PagesView). is_some (row_at page x.rows)) new.comes ∙ ap is_some found_fresh
 
   -- `Register` is carried out, and all lies lawfully, where the page comes on a frame taken with its bytes
-  pub register_come : {k l : KeeperView} (h : IsLaid p k) (cursor : Option GuestPage) (passes : ℕ) (q : PagesView) {g : ℕ} → q ≡ record m { rows = change_row page on_its_own m.rows; frame = lies_on page (Some g) m.frame; restless = q.restless } → length bytes ≡ PAGE_WORDS → Provides k l node bytes g
-      → CarriedOut (book p k cursor passes) (book q l cursor passes) (Register page node bytes) (Ok Done) × IsLaid q l
-  register_come {k = k} {l = l} h cursor passes q {g} goes long provides =
-      let taken = took (subst (λ (x : Shape). node < x.nodes) (sym h.same) new.less) (lawful k h.same h.placed) long provides in
+  pub register_come : {k l : KeeperView} (h : IsLaid p k) (cursor : Option GuestPage) (passes : ℕ) (q : PagesView) {g : ℕ} → q ≡ record m { rows = change_row page on_its_own m.rows; frame = lies_on page (Some g) m.frame; restless = q.restless } → Provides k l node bytes g → Took k l node bytes g
+      → Carries p k q l cursor passes (Register page node bytes) (Ok Done)
+  register_come {k = k} {l = l} h cursor passes q {g} goes provides taken =
       let table = taken.does.1.table in
       let one = row_of_page page (with_row fresh p.rows) fresh (ordered_with fresh p.rows new.rise) found_fresh in
       let rows : change_row page on_its_own (with_row fresh p.rows) ≡ with_row fresh p.rows = change_still page on_its_own (with_row fresh p.rows) (λ i x lt of_page. subst (λ r. on_its_own r ≡ r) (sym (one i x lt of_page)) refl) in
@@ -312,7 +253,7 @@ module _ {p m : PagesView} {page : GuestPage} {node : ℕ} {bytes : List ℕ} (n
       ∙ (λ t. record p { rows = rows t; frame = frame t; restless = q.restless }) in (
         record {
           own = table;
-          answer = subst (λ o. IsAnswerUnless o (state_of p cursor passes) (Register page node bytes) (Ok Done)) (sym (come_allowed cursor passes)) tt;
+          answer = rw (there_is p.shape.nodes node new.less, new.absent) tt;
           state = ap (λ x. state_of x cursor passes) there;
           steps = record { got = g; provides = provides; frame = ap (λ (x : PagesView). x.frame) there };
           frames = taken.does;
@@ -324,7 +265,7 @@ module _ {p m : PagesView} {page : GuestPage} {node : ℕ} {bytes : List ℕ} (n
 
   -- `Register` is refused, and all lies lawfully, where no frame of the node was left and the page went again
   pub register_turned : {k l : KeeperView} (h : IsLaid p k) (cursor : Option GuestPage) (passes : ℕ) (q : PagesView) → p.frame page ≡ None → q ≡ record m { rows = without_page page m.rows; frame = lies_on page None m.frame; restless = q.restless } → FindsNone k l node
-      → CarriedOut (book p k cursor passes) (book q l cursor passes) (Register page node bytes) (Err (NoFrame node)) × IsLaid q l
+      → Carries p k q l cursor passes (Register page node bytes) (Err (NoFrame node))
   register_turned {k = k} {l = l} h cursor passes q nowhere_there goes searched =
       let turns = turned h new.less searched in
       let table = ap (λ (z : KeeperView). z.table) searched.reaped.after in
@@ -333,7 +274,7 @@ module _ {p m : PagesView} {page : GuestPage} {node : ℕ} {bytes : List ℕ} (n
       let back : q ≡ record p { restless = q.restless } = goes ∙ (λ t. record (new.comes t) { rows = without_page page (new.comes t).rows; frame = lies_on page None m.frame; restless = q.restless }) ∙ (λ t. record p { rows = rows t; frame = frame t; restless = q.restless }) in (
         record {
           own = table;
-          answer = subst (λ o. IsAnswerUnless o (state_of p cursor passes) (Register page node bytes) (Err (NoFrame node))) (sym (come_allowed cursor passes)) refl;
+          answer = rw (there_is p.shape.nodes node new.less, new.absent) refl;
           state = ap (λ x. state_of x cursor passes) back;
           steps = record { searched = searched; frame = ap (λ (x : PagesView). x.frame) back };
           frames = (turns.left.part, turns.left.did);

@@ -1,14 +1,10 @@
 -- The dying frames of a range, one after another.
-use Rattle.ksm_book.proofs.Names.{[], ap, append-nil, arith, Bool, cases_Bool, Dying, dying_from, dying_kind, dying_on, false, filter, filter-append, Finds, FindsNone, frame_at, Free, free_kind, if◌then◌else◌, inl, inr, IsFirstOf, KeeperView, Kind, Ledger, Made, map, MatchOption, None, NoneOf, Note, Option, range_with_len, Reap, refl, Some, suc, sym, true, zero, ℕ, ◌*◌, ◌++◌, ◌+◌, ◌-◌, ◌<◌, ◌∙◌, ◌∷◌, ◌≡◌, ◌≤◌}
+use Rattle.ksm_book.proofs.Names.{[], ap, append-nil, arith, Bool, Dying, dying_from, dying_kind, false, filter, filter-append, frame_at, Kind, Ledger, NoneOf, Note, range_with_len, refl, suc, sym, true, zero, ℕ, ◌++◌, ◌+◌, ◌-◌, ◌<◌, ◌∙◌, ◌∷◌, ◌≡◌, ◌≤◌, if◌then◌else◌}
 
 -- a kind that tests as dying is Dying
 pub is_dying_kind : (x : Kind) → dying_kind x ≡ true → x ≡ Dying
 is_dying_kind Dying e = refl
 is_dying_kind _ e = absurd (grind (arith, e))
-
-is_free_kind : (x : Kind) → free_kind x ≡ true → x ≡ Free
-is_free_kind Free e = refl
-is_free_kind _ e = absurd (grind (arith, e))
 
 -- one frame more is looked at
 range_more : (low n : ℕ) → range_with_len low (n + 1) ≡ range_with_len low n ++ (low + n) ∷ []
@@ -22,10 +18,7 @@ module _ (k : Ledger) (low : ℕ) where
 
   dying_more : (n : ℕ) (b : Bool) → dies (low + n) ≡ b → dying_from k low (n + 1) ≡ dying_from k low n ++ (if b then (low + n) ∷ [] else [])
   dying_more n b is = ap (filter dies) (range_more low n) ∙ filter-append dies (range_with_len low n) ((low + n) ∷ [])
-      ∙ ap (λ fs. dying_from k low n ++ fs) (elim (cases_Bool b) [
-        | inl yes' ↦ grind (arith, is, yes')
-        | inr no' ↦ grind (arith, is, no')
-      ])
+      ∙ ap (λ fs. dying_from k low n ++ fs) (grind (arith, is))
 
   dying_past : (n m : ℕ) → ((f : ℕ) → low + n ≤ f → f < low + n + m → dies f ≡ false) → dying_from k low (n + m) ≡ dying_from k low n
   dying_past n zero none = let e : n + 0 ≡ n = omega arith in ap (dying_from k low) e
@@ -53,14 +46,3 @@ module _ (k : Ledger) (low : ℕ) where
         ap (dying_from k low) e
         ∙ dying_more (to - low) true (ap dies at ∙ ap (λ (x : Note). dying_kind x.kind) (sym (later to further)) ∙ there)
         ∙ (λ i. passed to further none i ++ at i ∷ [])
-
--- the first free frame of a node, once its dying ones were reaped, is found; or there is none
-pub found_of : (v w : KeeperView) (node : ℕ) (o : Option ℕ) → Made v w (map Reap (dying_on v.table.shape v.ledger node))
-    → MatchOption o (NoneOf free_kind w.ledger (node * v.table.shape.frames_per_node) (node * v.table.shape.frames_per_node + v.table.shape.frames_per_node))
-    (IsFirstOf free_kind w.ledger (node * v.table.shape.frames_per_node) (node * v.table.shape.frames_per_node + v.table.shape.frames_per_node))
-    → MatchOption o (FindsNone v w node) (Finds v w node)
-found_of v w node None reaped none = record { reaped = reaped; none = none }
-found_of v w node (Some f) reaped first = record {
-  reaped = reaped;
-  lowest = record { low = first.low_is; high = first.high_is; free = is_free_kind _ first.there; least = first.least };
-}

@@ -1,12 +1,12 @@
 -- Pages that leave their dups, or the zero page, one after another.
-use Rattle.ksm_book.proofs.Names.{[], All, All-head, All-tail, and-true, ap, append-nil, arith, change_row, change_rows, cond-false, cond-true, cond_both, Does, false, Fault, filter, filter-append, filter_none, find, get_or, GuestPage, HasLeft, Held, if◌then◌else◌, inl, InPageOrder, inr, is_next, is_of, is_shared_of, is_some, IsAlone, IsHeld, IsKnown, IsLaid, KeeperView, left_by, length, length-append, let_go, List, list_any, list_any-append, lying, map, map-append, Mapped, MatchOption, MayNotLeave, NoFrame, None, NoneLeft, not, not-false, not-true, of_guest, on_its_own, Option, option_map, or_right, PagesView, refl, Resettled, Resettles, ResettlesEach, Row, row_at, same_page, same_Some, shared_of, shared_state, slice_get, Some, subst, sym, take, take-append_seam, true, UnmergesTo, unshared, Unshares, ℕ, ◌&&◌, ◌++◌, ◌+◌, ◌<◌, ◌||◌, ◌∙◌, ◌∷◌, ◌≡◌, ◌≤◌}
+use Rattle.ksm_book.proofs.Names.{[], All, and-true, ap, append-nil, arith, change_row, change_rows, cond-false, cond-true, cond_both, Does, false, Fault, filter, filter-append, filter_none, find, get_or, GuestPage, HasLeft, Held, inl, InPageOrder, inr, is_next, is_of, is_shared_of, is_some, IsAlone, IsHeld, IsKnown, IsLaid, KeeperView, left_by, length, length-append, let_go, List, lying, map, map-append, Mapped, MayNotLeave, NoFrame, None, NoneLeft, not, not-false, not-true, of_guest, on_its_own, Option, option_map, PagesView, refl, Resettled, ResettlesEach, Row, row_at, same_page, same_Some, shared_of, shared_state, slice_get, Some, subst, sym, take, take-append_seam, true, UnmergesTo, unshared, Unshares, ℕ, ◌&&◌, ◌++◌, ◌+◌, ◌<◌, ◌∙◌, ◌∷◌, ◌≡◌, ◌≤◌, if◌then◌else◌, Contains-append_right}
 use Rattle.ksm_base.specs.declared.row.PageState.TheVariants.{Private}
-use Rattle.ksm_book.proofs.Along.{FitsPage, IsAlong, IsCut, along_cut, along_end, along_first, further, position}
-use Rattle.ksm_book.proofs.ByPage.{at_changed, change_twice, found_page, row_of_page}
-use Rattle.ksm_book.proofs.Laying.{LodgesAs, laid_mapped}
+use Rattle.ksm_book.proofs.Along.{FitsPage, IsAlong, IsCut, along_cut, along_end, further, position}
+use Rattle.ksm_book.proofs.ByPage.{row_of_page}
+use Rattle.ksm_book.proofs.Laying.{LodgesAs, laid_changed}
 use Rattle.ksm_book.proofs.Made.{made_none}
 use Rattle.ksm_book.proofs.Shown.{does_then, quiet_does}
-use Rattle.ksm_book.proofs.Singles.{alone_now, change_still, settled_laid, settled_pages, settled_steps}
+use Rattle.ksm_book.proofs.Singles.{alone_now, change_still, found_resettled, settled_then}
 
 -- a row that is left keeps its page
 pub page_left : (guest : Option ℕ) (r : Row) → (left_by guest r).page ≡ r.page
@@ -62,14 +62,8 @@ module _ {p : PagesView} {k : KeeperView} (guest : Option ℕ) {page : GuestPage
           pages = goes ∙ (λ t. record p { rows = change_row page (left_by guest) p.rows; frame = sym frame t; restless = q.restless });
           steps = subst (λ rs. ResettlesEach rs (lying p k) (lying q k)) (sym none) (record { keeper = refl; frame = frame });
           does = subst (λ rs. Does k k (map (λ (x : Row). x.home) rs)) (sym none) (does_nothing k);
-          laid =
-              let there = λ (r : Row). same_page r.page page in
-              let lodged : All (λ r. LodgesAs (if there r then left_by guest r else r) r) p.rows = λ i d lt. let r = get_or p.rows i d in
-              cond_both (there r) (left_by guest r) r (λ x. LodgesAs x r)
-              (λ same. subst (λ (x : Row). LodgesAs (left_by guest x) x) (sym (one i d lt same)) (lodges guest))
-              (λ _. (refl, refl, inl refl)) in
-              subst (λ (x : PagesView). IsLaid x k) (sym goes) (laid_mapped h (λ r. if there r then left_by guest r else r) q.restless
-              (λ r. cond_both (there r) (left_by guest r) r (λ x. x.page ≡ r.page) (λ _. page_left guest r) (λ _. refl)) lodged);
+          laid = subst (λ (x : PagesView). IsLaid x k) (sym goes)
+              (laid_changed h page row (left_by guest) q.restless rise told.found (page_left guest) (lodges guest));
         }
 
     -- a row with a frame of its own is left as it is where all pages are asked for
@@ -93,7 +87,7 @@ module _ {p : PagesView} {k : KeeperView} (guest : Option ℕ) {page : GuestPage
     shared = sym told.shared ∙ not-false held.shared test
 
     now : row_at page m.rows ≡ Some (on_its_own row)
-    now = ap (λ (x : PagesView). row_at page x.rows) r.pages ∙ at_changed page on_its_own p.rows row (λ x. refl) told.found
+    now = found_resettled r told.found
 
     -- a shared page that was resettled has a row
     pub left_known : IsKnown page m.rows
@@ -107,31 +101,20 @@ module _ {p : PagesView} {k : KeeperView} (guest : Option ℕ) {page : GuestPage
         → ((x : Row) → shared_state x.state ≡ true → d (on_its_own x) ≡ left_by guest x) → (d (on_its_own row)).state ≡ Private
         → (d (on_its_own row)).home ≡ row.home → (d (on_its_own row)).bytes ≡ row.bytes → HasLeft p q k l guest page 1
     left_shared q d goes same state home content =
-        let table = r.does.1.table in
-        let rows = change_twice page on_its_own d (left_by guest) p.rows (λ x. refl)
-        (λ i x lt at. same (get_or p.rows i x) (ap (λ (y : Row). shared_state y.state) (one i x lt at) ∙ shared)) in
         let wrote : bytes ≡ row.bytes = same_Some bytes row.bytes (sym are ∙ ap (option_map (λ (x : Row). x.bytes)) told.found) in
         let got = subst (λ (z : ℕ × List ℕ). Resettled p m k l page z.0 z.1) (λ t. (told.home t, wrote t)) r in
         let all : shared_of row ≡ row ∷ [] = cond-true (shared_state row.state) (row ∷ []) [] shared in
+        let to = same row shared in
+        let s = settled_then h rise told.found got d (left_by guest) goes (page_left guest) to
+        (subst (λ (x : Row). (x.state ≡ Private) × (x.home ≡ row.home) × (x.bytes ≡ row.bytes)) to (state, home, content)) in
         record {
           row = row;
           found = told.found;
           given = ap length (sym all);
-          pages = settled_pages h table got d (left_by guest) goes rows;
-          steps = subst (λ rs. ResettlesEach rs (lying p k) (lying q l)) (sym all) (
-            lying q l,
-            subst (λ x. Resettles (lying p k) (lying q l) x row.home row.bytes) (sym (found_page page p.rows row told.found))
-                (settled_steps h table got d (left_by guest) goes rows),
-            record { keeper = refl; frame = refl },
-          );
+          pages = s.0;
+          steps = subst (λ rs. ResettlesEach rs (lying p k) (lying q l)) (sym all) (lying q l, s.1, record { keeper = refl; frame = refl });
           does = subst (λ rs. Does k l (map (λ (x : Row). x.home) rs)) (sym all) got.does;
-          laid = settled_laid h table got d (left_by guest) goes rows (record {
-            pages = page_left guest;
-            row = subst (λ o. MatchOption o ⊥ (λ (x : Row). ((left_by guest x).state ≡ Private) × ((left_by guest x).home ≡ row.home)
-                × ((left_by guest x).bytes ≡ row.bytes))) (sym told.found)
-                (subst (λ (x : Row). (x.state ≡ Private) × (x.home ≡ row.home) × (x.bytes ≡ row.bytes)) (same row shared)
-                (state, home, content));
-          });
+          laid = s.2;
         }
 
     -- a shared row of a guest is left once its page was resettled and it is let go, and one frame is given for it
@@ -177,26 +160,6 @@ pub record IsUnsharing (p q : PagesView) (k l : KeeperView) (guest : Option ℕ)
   -- the numbers of the cursor's page fit
   pub fits : FitsPage last
 
--- before the first page is looked at no page got a frame
-pub unsharing_first : (p : PagesView) (k : KeeperView) (guest : Option ℕ) → IsLaid p k → IsUnsharing p p k k guest 0 None
-unsharing_first p k guest h = record {
-  done = [];
-  left = p.rows;
-  along = along_first (of_guest guest) (left_by guest) p.rows;
-  pages = refl;
-  counted = refl;
-  each = record { keeper = refl; frame = refl };
-  does = does_nothing k;
-  laid = h;
-  few = omega arith;
-  fits = tt;
-}
-
--- what holds of each element holds of one in their midst
-all_seam : (P : Row → Type 0) (xs : List Row) (r : Row) (ys : List Row) → All P (xs ++ r ∷ ys) → P r
-all_seam P [] r ys all = All-head P r ys all
-all_seam P (x ∷ xs) r ys all = all_seam P xs r ys (All-tail P x (xs ++ r ∷ ys) all)
-
 module _ {p q : PagesView} {k l : KeeperView} {guest : Option ℕ} {count : ℕ} {last : Option GuestPage}
     (u : IsUnsharing p q k l guest count last) (rise : InPageOrder p.rows) where
   abbrev met : List Row
@@ -216,7 +179,8 @@ module _ {p q : PagesView} {k l : KeeperView} {guest : Option ℕ} {count : ℕ}
     pub unsharing_home : {held : Held} → IsHeld q page held → All (λ x. x.home < p.shape.nodes) p.rows → held.home < q.shape.nodes
     unsharing_home {held} h homes =
         let fits = λ (x : Row). x.home < p.shape.nodes in
-        let at : r.home < p.shape.nodes = all_seam fits cut.before r cut.rest (subst (All fits) cut.whole homes) in
+        let here = Contains-append_right cut.before (r ∷ cut.rest) r (0, omega arith, refl) in
+        let at : r.home < p.shape.nodes = subst fits here.2 (subst (All fits) cut.whole homes here.0 r here.1) in
         let home : held.home ≡ r.home = h.home ∙ ap (λ (x : Row). x.home) (same_Some h.row r (sym h.found ∙ cut.there)) in
         subst (λ (z : ℕ × ℕ). z.0 < z.1) (λ t. (sym home t, (sym u.pages t).shape.nodes)) at
 
@@ -290,7 +254,7 @@ module _ {p q : PagesView} {k l : KeeperView} {guest : Option ℕ} {count : ℕ}
       let all : filter (is_shared_of guest) p.rows ≡ met =
       ap (filter (is_shared_of guest)) u.along.whole ∙ filter-append (is_shared_of guest) u.done u.left
       ∙ ap (λ l. met ++ l) (filter_none (is_shared_of guest) u.left (λ i d lt. ap (λ b. b && shared_state (get_or u.left i d).state)
-      (done.2 i d lt))) ∙ append-nil met in
+      (done.1 i d lt))) ∙ append-nil met in
       let taken : met ≡ take count (filter (is_shared_of guest) p.rows) =
       sym (ap (take count) (all ∙ sym (append-nil met)) ∙ ap (λ n. take n (met ++ [])) u.counted ∙ take-append_seam met []) in
       record {
@@ -311,7 +275,7 @@ module _ {p q : PagesView} {k l : KeeperView} {guest : Option ℕ} {count : ℕ}
 abbrev pub in_scan : Row → Row
 in_scan r = record r { mergeable = true }
 
--- a guest's pages are mergeable up to the cursor, which is at one of them where there is one
+-- a guest's pages are mergeable up to the cursor
 pub record IsMarking (p q : PagesView) (guest : ℕ) (last : Option GuestPage) : Type 0 where
   -- the rows that were looked at
   pub done : List Row
@@ -321,15 +285,8 @@ pub record IsMarking (p q : PagesView) (guest : ℕ) (last : Option GuestPage) :
   pub along : IsAlong (is_of guest) in_scan p.rows q.rows last done left
   -- nothing changed but the rows and the listing
   pub pages : q ≡ record p { rows = q.rows; restless = q.restless }
-  -- there is a page at the cursor exactly where a row looked at is the guest's
-  pub any : is_some last ≡ list_any (is_of guest) done
   -- the numbers of the cursor's page fit
   pub fits : FitsPage last
-
--- before the first page is looked at no page of the guest is marked
-pub marking_first : (p : PagesView) (guest : ℕ) → IsMarking p p guest None
-marking_first p guest =
-    record { done = []; left = p.rows; along = along_first (is_of guest) in_scan p.rows; pages = refl; any = refl; fits = tt }
 
 module _ {p q : PagesView} {guest : ℕ} {last : Option GuestPage} (u : IsMarking p q guest last) where
   -- the next page is there
@@ -337,10 +294,6 @@ module _ {p q : PagesView} {guest : ℕ} {last : Option GuestPage} (u : IsMarkin
       (told : option_map (λ r. r.page) (find (is_next (Some guest) last) q.rows) ≡ Some page) where
     at : IsCut (is_of guest) in_scan p.rows q.rows u.done page
     at = along_cut in_scan (λ _. refl) u.along rise page told
-
-    -- the next page of the guest has a row
-    pub marking_known : IsKnown page q.rows
-    marking_known = ap is_some at.there
 
     -- once the next page of the guest is mergeable too, the guest's pages are so up to that page
     pub marking_next : {v : PagesView} → v ≡ record q { rows = change_row page in_scan q.rows; restless = v.restless }
@@ -352,14 +305,10 @@ module _ {p q : PagesView} {guest : ℕ} {last : Option GuestPage} (u : IsMarkin
           left = at.rest;
           along = subst (λ x. IsAlong (is_of guest) in_scan p.rows x (Some page) (at.before ++ at.row ∷ []) at.rest) (sym rows) at.next;
           pages = goes ∙ (λ t. record (u.pages t) { rows = sym rows t; restless = v.restless });
-          any = sym (list_any-append (is_of guest) at.before (at.row ∷ [])
-              ∙ or_right (list_any (is_of guest) at.before) _ (ap (λ b. b || false) at.of));
           fits = fits;
         }
 
-  -- where no page of the guest is left, all its rows are mergeable, and there is one exactly if there is a cursor
-  pub marking_end : find (is_next (Some guest) last) q.rows ≡ None → (is_some last ≡ list_any (is_of guest) p.rows)
-      × (q ≡ record p { rows = change_rows (is_of guest) in_scan p.rows; restless = q.restless })
+  -- where no page of the guest is left, all its rows are mergeable
+  pub marking_end : find (is_next (Some guest) last) q.rows ≡ None → q ≡ record p { rows = change_rows (is_of guest) in_scan p.rows; restless = q.restless }
   marking_end ended =
-      let done = along_end in_scan (λ _. refl) u.along ended in
-      (u.any ∙ sym done.1, u.pages ∙ (λ t. record p { rows = done.0 t; restless = q.restless }))
+      let done = along_end in_scan (λ _. refl) u.along ended in u.pages ∙ (λ t. record p { rows = done.0 t; restless = q.restless })

@@ -1,9 +1,10 @@
 -- The commands on all pages of a guest, or on all there are, carried out.
-use Rattle.ksm_book.proofs.Names.{[], All, All-map, and-true, ap, append-nil, arith, BookState, Bool, CarriedOut, change_none, change_rows, Command, cond_both, Does, Done, Err, every_row, false, Fault, find, find_none, Gave, get_or, GuestPage, has_guest, HasShown, Held, if◌then◌else◌, inl, inr, is_before, is_next, is_of, is_some, IsAnswerUnless, IsHeld, IsLaid, IsStop, IsUnmerged, KeeperView, Knobs, left_by, let_go, List, list_any, lying, map, MatchOption, Mergeable, nodes_got, NoFrame, None, not, of_guest, Ok, Option, option_map, PagesView, refl, refused_if, Row, SetRun, shared_rows, shared_state, slice_get, slice_get_past, Some, state_of, subst, sym, take, true, UnknownPage, Unmerge, Unmerged, UnmergesTo, unshare_stopped, unshared, Unshares, ℕ, ◌&&◌, ◌||◌, ◌∙◌, ◌∷◌, ◌≡◌}
+use Rattle.ksm_book.proofs.Names.{All, All-map, and-true, ap, append-nil, arith, BookState, CarriedOut, change_rows, Command, cond_both, Does, Done, Err, every_row, false, Fault, find, Gave, get_or, GuestPage, has_guest, HasShown, Held, inl, inr, is_before, is_next, is_of, is_some, IsHeld, IsLaid, IsStop, IsUnmerged, KeeperView, Knobs, left_by, let_go, List, list_any, lying, map, MatchOption, Mergeable, nodes_got, NoFrame, None, of_guest, Ok, Option, option_map, PagesView, refl, Row, SetRun, shared_rows, shared_state, slice_get, slice_get_past, Some, state_of, subst, sym, take, true, UnknownPage, Unmerge, Unmerged, UnmergesTo, unshare_stopped, unshared, Unshares, ℕ, ◌&&◌, ◌∙◌, ◌≡◌, none_of, any_found, if◌then◌else◌, map_alike, map_mapped}
 use Rattle.ksm_book.proofs.Laying.{LodgesAs, laid_mapped, retuned}
 use Rattle.ksm_book.proofs.Made.{chained}
-use Rattle.ksm_book.proofs.Singles.{absent_so, book}
+use Rattle.ksm_book.proofs.Singles.{book}
 use Rattle.ksm_book.proofs.Unmerged.{does_nothing, in_scan}
+use Rattle.ksm_book.proofs.ByPage.{mapped_from, none_mapped}
 
 -- the row at which there was a stop is the next of the shared ones
 stop_is : (rows : List Row) (k : ℕ) (at : Option Row) → IsStop rows k at → slice_get rows k ≡ at
@@ -29,19 +30,6 @@ gave_shown : (b : BookState) (command : Command) (k l : KeeperView) (nodes : Lis
 gave_shown b command k l nodes count None are h = tt
 gave_shown b command k l nodes count (Some row) are h = (h.0, subst (Does k h.0) (sym (are (Some (NoFrame row.home)))) h.1, h.2)
 
-some_mapped : {X : Type 0} (f : Row → X) (o : Option Row) → is_some o ≡ is_some (option_map f o)
-some_mapped f None = refl
-some_mapped f (Some r) = refl
-
-any_found : (t : Row → Bool) (rows : List Row) → list_any t rows ≡ is_some (find t rows)
-any_found t [] = refl
-any_found t (r ∷ rows) = one (t r) (any_found t rows)
-  where
-    one : (b : Bool) → list_any t rows ≡ is_some (find t rows)
-        → (b || list_any t rows) ≡ is_some (if b then Some r else find t rows)
-    one true rest = refl
-    one false rest = rest
-
 -- the first row of a guest is told, if it has one
 abbrev pub IsTold : PagesView → ℕ → Option Held → Type 0
 IsTold p guest told = MatchOption told (find (is_next (Some guest) None) p.rows ≡ None) (λ held. IsHeld p held.spot.page held
@@ -53,7 +41,7 @@ has_told p guest o told = any_found (is_of guest) p.rows ∙ (λ i. is_some (fin
   where
     by : (o : Option Held) → IsTold p guest o → is_some (find (is_next (Some guest) None) p.rows) ≡ is_some o
     by None none = ap is_some none
-    by (Some held) found = some_mapped (λ r. r.page) _ ∙ ap is_some found.1
+    by (Some held) found = ap is_some (mapped_from (λ (r : Row). r.page) _ held.spot.page found.1).1
 
 -- `Unmerge` of a guest without a row is refused, and nothing changes
 pub unmerge_refused : (p : PagesView) (k : KeeperView) (cursor : Option GuestPage) (passes guest : ℕ)
@@ -61,8 +49,20 @@ pub unmerge_refused : (p : PagesView) (k : KeeperView) (cursor : Option GuestPag
     → CarriedOut (book p k cursor passes) (book p k cursor passes) (Unmerge guest) (Err UnknownPage)
 unmerge_refused p k cursor passes guest has = record {
   own = refl;
-  answer = subst (λ x. IsAnswerUnless (refused_if (not x) UnknownPage None) (state_of p cursor passes) (Unmerge guest) (Err UnknownPage))
-      (sym has) refl;
+  answer = rw has refl;
+  state = refl;
+  steps = record { keeper = refl; frame = refl };
+  frames = does_nothing k;
+  shown = tt;
+}
+
+-- `Mergeable` of a guest without a row is refused, and nothing changes
+pub mergeable_refused : (p : PagesView) (k : KeeperView) (cursor : Option GuestPage) (passes guest : ℕ)
+    → has_guest (state_of p cursor passes) guest ≡ false
+    → CarriedOut (book p k cursor passes) (book p k cursor passes) (Mergeable guest) (Err UnknownPage)
+mergeable_refused p k cursor passes guest has = record {
+  own = refl;
+  answer = rw has refl;
   state = refl;
   steps = record { keeper = refl; frame = refl };
   frames = does_nothing k;
@@ -80,15 +80,13 @@ unmerge_carried {p} {q} {k} {l} cursor passes {guest} {count} {stop} u has =
     let does = gave_does k l homes u.at u.gave in
     record {
       own = does.1.table;
-      answer = subst (λ x. IsAnswerUnless (refused_if (not x) UnknownPage None) b (Unmerge guest) (Ok (Unmerged count stop))) (sym has)
-          (subst (λ s. IsUnmerged rows (Ok (Unmerged count s))) (sym u.fault) (is_unmerged rows count u.at u.stands));
+      answer = rw (has, u.fault) (is_unmerged rows count u.at u.stands);
       state = ap (λ x. state_of x cursor passes) u.pages
           ∙ ap (λ o. record b { rows = change_rows (λ r. is_of guest r && is_before o r) let_go b.rows })
           (sym (stop_is rows count u.at u.stands));
       steps = u.unmerges;
       frames = does;
-      shown = subst (λ s. HasShown b k l (Ok (Unmerged count s)) (Unmerge guest)) (sym u.fault)
-          (gave_shown b (Unmerge guest) k l homes count u.at (λ _. refl) u.gave);
+      shown = rw u.fault (gave_shown b (Unmerge guest) k l homes count u.at (λ _. refl) u.gave);
     }
 
 -- all pages of a guest become mergeable, if it has one
@@ -99,30 +97,12 @@ module _ {p q : PagesView} {k : KeeperView} (cursor : Option GuestPage) (passes 
       → CarriedOut (book p k cursor passes) (book q k cursor passes) (Mergeable guest) (Ok Done)
   mergeable_carried has = record {
     own = refl;
-    answer = subst (λ x. IsAnswerUnless (refused_if (not x) UnknownPage None) (state_of p cursor passes) (Mergeable guest) (Ok Done))
-        (sym has) tt;
+    answer = rw has tt;
     state = ap (λ x. state_of x cursor passes) goes;
     steps = record { keeper = refl; frame = ap (λ (x : PagesView). x.frame) goes };
     frames = does_nothing k;
     shown = tt;
   }
-
-  -- `Mergeable` of a guest without a row is refused, and nothing changes but perhaps the listing
-  pub mergeable_refused : has_guest (state_of p cursor passes) guest ≡ false
-      → CarriedOut (book p k cursor passes) (book q k cursor passes) (Mergeable guest) (Err UnknownPage)
-  mergeable_refused has =
-      let none =
-      change_none (is_of guest) in_scan p.rows
-      (find_none (is_of guest) p.rows (absent_so _ (sym (any_found (is_of guest) p.rows) ∙ has))) in
-      record {
-        own = refl;
-        answer = subst (λ x. IsAnswerUnless (refused_if (not x) UnknownPage None) (state_of p cursor passes) (Mergeable guest)
-            (Err UnknownPage)) (sym has) refl;
-        state = ap (λ x. state_of x cursor passes) goes ∙ (λ t. record (state_of p cursor passes) { rows = none t });
-        steps = record { keeper = refl; frame = ap (λ (x : PagesView). x.frame) goes };
-        frames = does_nothing k;
-        shown = tt;
-      }
 
   -- rows and dups lie lawfully once a guest's rows are in the scan
   pub mergeable_laid : IsLaid q k
@@ -135,18 +115,7 @@ module _ {p q : PagesView} {k : KeeperView} (cursor : Option GuestPage) (passes 
 stopped_rows : (at : Option Row) (rows : List Row)
     → change_rows (λ r. of_guest None r && is_before at r) (left_by None) rows
     ≡ change_rows (λ r. shared_state r.state && is_before at r) unshared rows
-stopped_rows at [] = refl
-stopped_rows at (r ∷ rows) = λ t. one (shared_state r.state) (is_before at r) t ∷ stopped_rows at rows t
-  where
-    one : (s b : Bool) → (if b then (if s then unshared r else r) else r) ≡ (if s && b then unshared r else r)
-    one true b = refl
-    one false true = refl
-    one false false = refl
-
-unshared_again : (rows : List Row) → map unshared (map (left_by None) rows) ≡ map unshared rows
-unshared_again [] = refl
-unshared_again (r ∷ rows) = λ t.
-    cond_both (shared_state r.state) (unshared r) r (λ x. unshared x ≡ unshared r) (λ _. refl) (λ _. refl) t ∷ unshared_again rows t
+stopped_rows at rows = map_alike _ _ rows (λ i d lt. grind arith)
 
 -- a run of 2
 module _ {p m : PagesView} {k l : KeeperView} (cursor : Option GuestPage) (passes : ℕ) {count : ℕ} {stop : Option Fault}
@@ -167,12 +136,11 @@ module _ {p m : PagesView} {k l : KeeperView} (cursor : Option GuestPage) (passe
       let does = gave_does k l homes u.at u.gave in
       record {
         own = does.1.table;
-        answer = subst (λ s. IsUnmerged met (Ok (Unmerged count s))) (sym u.fault) (is_unmerged met count u.at u.stands);
+        answer = rw u.fault (is_unmerged met count u.at u.stands);
         state = state;
         steps = subst (λ f. UnmergesTo (take count met) stop (lying p k) (record { frame = f; keeper = l })) (sym frame) u.unmerges;
         frames = does;
-        shown = subst (λ s. HasShown b k l (Ok (Unmerged count s)) (SetRun 2)) (sym u.fault)
-            (gave_shown b (SetRun 2) k l homes count u.at (λ _. refl) u.gave);
+        shown = rw u.fault (gave_shown b (SetRun 2) k l homes count u.at (λ _. refl) u.gave);
       }
 
   across : knobs.merge_across_nodes ≡ m.knobs.merge_across_nodes
@@ -201,7 +169,7 @@ module _ {p m : PagesView} {k l : KeeperView} (cursor : Option GuestPage) (passe
   module _ (none : is_some stop ≡ false) where
     went : m.rows ≡ map (left_by None) p.rows
     went = ap (λ (x : PagesView). x.rows) u.pages ∙ ap (λ o. change_rows (λ r. of_guest None r && is_before o r) (left_by None) p.rows)
-        (absent_so u.at (some_mapped (λ r. NoFrame r.home) u.at ∙ ap is_some (sym u.fault) ∙ none))
+        (none_mapped (λ (r : Row). NoFrame r.home) u.at (sym u.fault ∙ none_of stop none))
 
     -- where the unsharing of all rows did not stop, no row is merged or Zero
     pub unshare_none : All (λ r. shared_state r.state ≡ false) m.rows
@@ -214,7 +182,8 @@ module _ {p m : PagesView} {k l : KeeperView} (cursor : Option GuestPage) (passe
         → q ≡ record w { knobs = record knobs { run = 2 } }
         → CarriedOut (book p k cursor passes) (book q l None passes) (SetRun 2) (Ok (Unmerged count stop)) × IsLaid q l
     unshare_ends {w} {q} wide goes =
-        let rows = ap (map unshared) went ∙ unshared_again p.rows in (
+        let rows = ap (map unshared) went
+        ∙ map_mapped unshared (left_by None) unshared p.rows (λ i d lt. grind arith) in (
           carried q None (ap (λ (x : PagesView). x.frame) goes ∙ ap (λ (x : PagesView). x.frame) wide)
               (ap (λ x. state_of x None passes) goes
               ∙ (λ t. record (state_of (wide t) None passes) { knobs = record knobs { run = 2 } })

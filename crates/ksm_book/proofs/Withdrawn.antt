@@ -2,12 +2,9 @@
 use Rattle.ksm_book.proofs.Names.{not-true, both_ways, Agrees, All, All-filter, ap, arith, DupFits, DupRow, elsewhere, eq-eqb, filter, filter_passes, frame_at, Frames, frames_of, get_or, get_or-set_other, get_or-set_same, is_some, IsInLife, Ledger, length, length-set, life_or, List, named_at, ne_eqb, None, not, Option, place_frame, Placed, refl, Row, RowFits, set, Shape, subst, sym, true, ℕ, ◌/◌, ◌<◌, ◌==◌, ◌∙◌, ◌≡◌, ◌≢◌, ◌≤◌}
 use mathlib.Core.Logic.{dite}
 use native.Mathlib.Decide.{ℕ_discrete}
-use Rattle.ksm_book.proofs.ByPage.{filter_back}
+use Rattle.ksm_book.proofs.ByPage.{contains_filter}
 use Rattle.ksm_book.proofs.Moves.{served_as}
-
--- a dup that passes the test for dups elsewhere stands at another place
-pub elsewhere_is : (q : ℕ) (d : DupRow) → elsewhere q d ≡ true → d.place ≢ q
-elsewhere_is q d e same = both_ways (d.place == q) (not-true (d.place == q) e) (eq-eqb d.place q same)
+use Rattle.std.proofs.lemmas.List.Elements.{Contains-get_or}
 
 -- a dup at another place passes the test for dups elsewhere
 pub elsewhere_so : (q : ℕ) (d : DupRow) → d.place ≢ q → elsewhere q d ≡ true
@@ -33,7 +30,9 @@ module _ {sh : Shape} {across : ℕ} {k : Ledger} {rows : List Row} {frame : Fra
 
   -- what holds of each dup is said of those that stay
   staying : (P Q : DupRow → Type 0) → ((d : DupRow) → d.place ≢ q → P d → Q d) → All P dups → All Q (filter (elsewhere q) dups)
-  staying P Q f h = λ n x lt. f (get_or (filter (elsewhere q) dups) n x) (elsewhere_is q (get_or (filter (elsewhere q) dups) n x) (filter_passes (elsewhere q) dups n x lt)) (All-filter (elsewhere q) P dups h n x lt)
+  staying P Q f h = λ n x lt. let e = get_or (filter (elsewhere q) dups) n x in
+      f e (λ at. both_ways (e.place == q) (not-true (e.place == q) (filter_passes (elsewhere q) dups n x lt)) (eq-eqb e.place q at))
+      (All-filter (elsewhere q) P dups h n x lt)
 
   -- rows and dups lie lawfully where the place names nothing and the dup that stood there is gone
   pub withdrawn : Placed sh across emptied rows frame (filter (elsewhere q) dups) hand
@@ -65,5 +64,7 @@ module _ {sh : Shape} {across : ℕ} {k : Ledger} {rows : List Row} {frame : Fra
     kinds = p.kinds;
     empty = λ r h. dite (ℕ_discrete r q)
         (λ e. ap (named_at emptied) e ∙ get_or-set_same k.places q None None (let pl : length k.places ≡ frames_of sh = p.places_long in omega (arith, pl, inside)))
-        (λ ne. named_off r ne ∙ p.empty r (λ n x lt same. filter_back (elsewhere q) (λ d. d.place ≢ r) dups h n x lt (elsewhere_so q (get_or dups n x) (λ at. ne (sym same ∙ at))) same));
+        (λ ne. named_off r ne ∙ p.empty r (λ n x lt same.
+        let at = contains_filter (elsewhere q) dups (get_or dups n x) (Contains-get_or dups n x lt) (elsewhere_so q (get_or dups n x) (λ at. ne (sym same ∙ at))) in
+        subst (λ (e : DupRow). e.place ≢ r) at.2 (h at.0 (get_or dups n x) at.1) same));
   }

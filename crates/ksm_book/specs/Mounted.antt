@@ -1,11 +1,13 @@
 -- What the keeper does where a dup moves to another frame (own).
-use Rattle.std.specs.Prelude.{◌≡◌, ◌≢◌, ◌<◌, ◌≤◌, ℕ, [], ◌∷◌, Contains, Result, Ok, Err, length}
+use Rattle.std.specs.Prelude.{◌≡◌, ◌≢◌, ◌<◌, ◌≤◌, ◌+◌, ℕ, [], ◌∷◌, Contains, Result, Ok, Err, Some}
+use Rattle.std.specs.Prelude.{length, slice_set}
 use Rattle.ksm_base.specs.declared.page.TheConstants.{PAGE_WORDS}
 use Rattle.ksm_base.specs.Values.{frames_of}
 use Rattle.ksm_base.specs.declared.fault.Fault.{Fault}
 use Rattle.ksm_base.specs.declared.fault.Fault.TheVariants.{NoFrame, InUse}
 use Rattle.frame_core.specs.declared.event.KeeperStep.TheVariants.{Raise, Publish, Freeze}
-use Rattle.frame_core.specs.declared.frame.Kind.TheVariants.{Free, Dying}
+use Rattle.frame_core.specs.declared.frame.Kind.TheVariants.{Free, Dying, Stable}
+use Rattle.frame_core.specs.declared.ledger.Ledger.{Ledger}
 use Rattle.frame_core.specs.State.{count_in}
 use Rattle.frame_core.specs.Ledger.{frame_at, named_at, IsLoose}
 use Rattle.frame_table.specs.Named.{KeeperView}
@@ -29,6 +31,16 @@ pub record MayMount (v : KeeperView) (left frame place count : ℕ) : Type 0 whe
   -- of references there is one at least, and not too many
   pub some : 1 ≤ count
   pub few : count ≤ 1024
+
+-- a frame, in its next life, has the bytes of another and so many references, and a place names it
+abbrev pub once_mounted : Ledger → ℕ → ℕ → ℕ → ℕ → Ledger
+once_mounted k left frame place count =
+    let generation = (frame_at k frame).generation + 1 in
+    record {
+      frames = slice_set k.frames frame
+          (record { kind = Stable; base = count; generation = generation; content = (frame_at k left).content });
+      places = slice_set k.places place (Some (record { frame = frame; generation = generation }));
+    }
 
 -- the exchange of a frame word was tried, and found another count than the keeper's references
 pub record HasLost (v w : KeeperView) : Type 0 where

@@ -9,7 +9,7 @@ ghost use Rattle.frame_core.specs.Ledger.{frame_at, with_frame, IsReadable, IsWr
 ghost use Rattle.frame_table.specs.Kept.{May};
 ghost use Rattle.ksm_book.specs.Steps.{dying_from, loads, puts, stepped, Made};
 ghost use Rattle.ksm_book.specs.Commands.{Finds, FindsNone, Provides, leaving};
-ghost use Rattle.ksm_book.specs.Keeping.{holding, IsLawful};
+ghost use Rattle.ksm_book.specs.Keeping.{holding, IsLawful, Took};
 
 use crate::frame_keeper::FrameKeeper;
 use frame_table::FrameTable;
@@ -100,7 +100,9 @@ pub fn take_frame(
     requires checked { IsShape shape }
     requires node { node < shape.nodes }
     requires lawful { IsLawful keeper.old None }
-    ensures { MatchOption result (FindsNone keeper.old keeper.new node) (Provides keeper.old keeper.new node bytes) }
+    ensures provides { MatchOption result
+        (FindsNone keeper.old keeper.new node) (Provides keeper.old keeper.new node bytes) }
+    ensures took { IfSome result (Took keeper.old keeper.new node bytes) }
 {
     let frame = find_frame(keeper, table, shape, node)?;
     keeper.raise(table, frame);

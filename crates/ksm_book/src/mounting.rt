@@ -8,7 +8,7 @@ ghost use Rattle.frame_table.specs.Kept.{did};
 ghost use Rattle.frame_table.specs.Named.{KeeperView};
 ghost use Rattle.ksm_book.specs.Commands.{mounting};
 ghost use Rattle.ksm_book.specs.Keeping.{with_more};
-ghost use Rattle.ksm_book.specs.Mounted.{MayMount};
+ghost use Rattle.ksm_book.specs.Mounted.{MayMount, once_mounted};
 ghost use Rattle.ksm_book.specs.Steps.{Made};
 
 use crate::frame_keeper::FrameKeeper;
@@ -43,6 +43,7 @@ pub fn mount(
     requires may { MayMount keeper.old left frame place count }
     ensures made { Made keeper.old keeper.new
         (mounting left frame place count (frame_at keeper.old.ledger left).content) }
+    ensures ledger { keeper.new.ledger ≡ once_mounted keeper.old.ledger left frame place count }
     ensures published { (before : KeeperView) × (keeper.new ≡ did before (Publish place frame) 0) }
 {
     keeper.raise(table, frame);

@@ -2,7 +2,6 @@
 //! frames of their own again, and pages come back into the scan. Each goes along the pages in order.
 
 ghost use Rattle.std.specs.Prelude.{◌≡◌, ◌<◌, All, IfErr, IfOk, true};
-ghost use Rattle.std.specs.List.{list_any};
 ghost use Rattle.ksm_base.specs.Refusals.{is_of};
 ghost use Rattle.ksm_base.specs.Rows.{change_rows};
 ghost use Rattle.ksm_book.specs.Carried.{CarriedOut};
@@ -81,10 +80,9 @@ fn unshare_each(
     (count, None)
 }
 
-// All pages of a guest become mergeable. Says whether it has one.
-fn make_mergeable(pages: &mut Pages, guest: u16) -> bool
-    ensures any { result ≡ list_any (is_of guest) pages.old.rows }
-    ensures pages { seen pages.new ≡ record (seen pages.old) {
+// All pages of a guest become mergeable.
+fn make_mergeable(pages: &mut Pages, guest: u16)
+    ensures { seen pages.new ≡ record (seen pages.old) {
       rows = change_rows (is_of guest) (λ r. record r { mergeable = true }) pages.old.rows;
       restless = pages.new.restless;
     } }
@@ -95,7 +93,6 @@ fn make_mergeable(pages: &mut Pages, guest: u16) -> bool
         pages.make_mergeable(held.spot);
         last = Some(held.spot.page);
     }
-    last.is_some()
 }
 
 impl State {
@@ -116,9 +113,10 @@ impl State {
     pub fn mergeable(&mut self, guest: u16) -> Result<Reply, Fault>
         ensures { CarriedOut (view_of self.old) (view_of self.new) (Command.Mergeable guest) result }
     {
-        if !make_mergeable(&mut self.pages, guest) {
+        if self.pages.next(Some(guest), None).is_none() {
             return Err(Fault::UnknownPage);
         }
+        make_mergeable(&mut self.pages, guest);
         Ok(Reply::Done)
     }
 

@@ -1,5 +1,5 @@
-use Rattle.ksm_book.proofs.Names.{ap, frame_at, frames_of, holding, IsWritable, KeeperView, length, Note, Open, PAGE_WORDS, puts, Raise, raised, Shape, subst, sym, ◌<◌, ◌∙◌, ◌≡◌}
-use Rattle.ksm_book.proofs.Filling.{at_again, found_inside, raised_ready}
+use Rattle.ksm_book.proofs.Names.{ap, frame_at, frames_of, holding, IsWritable, KeeperView, length, Note, Open, PAGE_WORDS, puts, Raise, raised, Shape, subst, sym, ◌<◌, ◌∙◌, ◌≡◌, Provides, opened, rules}
+use Rattle.ksm_book.proofs.Filling.{at_again, found_inside, raised_ready, follow, found_within, took}
 use Rattle.ksm_book.proofs.Made.{made_one, made_part, made_then}
 use Rattle.ksm_book.proofs.frames.take_frame.Goals as goal
 
@@ -30,8 +30,8 @@ open-requires-clause-may c =
       ap (λ k. (frame_at k frame).kind) c.write.ensures.ledger ∙ ap (λ (n : Note). n.kind) (at_again r.ledger frame now.0 (holding (frame_at r.ledger frame) c.args.bytes)) ∙ ap (λ (n : Note). n.kind) now.1,
     )
 
-pub returns : goal.returns
-returns c =
+abbrev provided : (c : goal.After-open) → Provides c.args.keeper.now c.open.new.self c.args.node c.args.bytes c.in_ok-frame.frame
+provided c =
     let w = c.find_frame.new.keeper in
     let frame = c.in_ok-frame.frame in
     record {
@@ -41,3 +41,17 @@ returns c =
           (made_then
           (made_part c.raise.new.self c.write.new.keeper (puts frame 0 c.args.bytes) c.write.ensures.wrote) (made_one c.write.new.keeper c.open.new.self (Open frame) _ c.open.ensures));
     }
+
+pub returns-clause-provides : goal.returns-clause-provides
+returns-clause-provides c = provided c
+
+pub returns-clause-took : goal.returns-clause-took
+returns-clause-took c =
+    let v = c.args.keeper.now in
+    let w = c.find_frame.new.keeper in
+    let frame = c.in_ok-frame.frame in
+    let less = subst (λ (s : Shape). c.args.node < s.nodes) c.requires.shape c.requires.node in
+    let within = found_within v w c.args.node frame less c.requires.lawful c.in_ok-frame.ensures in
+    let fresh = raised (frame_at w.ledger frame) in
+    took less c.requires.lawful (search rules) (provided c) (follow w.ledger frame within (holding fresh c.args.bytes) opened (ap (λ (z : KeeperView). z.ledger) c.open.ensures)
+    (follow w.ledger frame within fresh (λ x. holding x c.args.bytes) c.write.ensures.ledger (ap (λ (z : KeeperView). z.ledger) c.raise.ensures.1)))

@@ -1,5 +1,5 @@
 use Rattle.ksm_book.proofs.Names.{arith, find_all, has_items, items_on, refl, seen, ◌&&◌, ◌==◌, ◌≡◌}
-use Rattle.ksm_book.proofs.Remounts.{has_remounted, leaves, may_freeze, may_mount, stays, taken_place, turned_away}
+use Rattle.ksm_book.proofs.Remounts.{has_remounted, may_freeze, may_mount, stays, taken_place, turned_away}
 use Rattle.ksm_book.proofs.moving.remount.Goals as goal
 
 pub returns-in_default-clause-remounted : goal.returns-in_default-clause-remounted
@@ -7,29 +7,30 @@ returns-in_default-clause-remounted c = turned_away c.requires.may c.in_default.
 
 pub freeze-requires-clause-may : goal.freeze-requires-clause-may
 freeze-requires-clause-may c =
-    may_freeze (leaves c.requires.may c.dup_frame-left.ensures c.lie_in_order.ensures.absent) c.in-Some.ensures
+    may_freeze c.requires.may c.dup_frame-left.ensures c.lie_in_order.ensures.absent c.in-Some.ensures
 
 pub base-items-requires : goal.base-items-requires
 base-items-requires c =
-    (may_freeze (leaves c.requires.may c.dup_frame-left.ensures c.lie_in_order.ensures.absent) c.in-Some.ensures).0
+    (may_freeze c.requires.may c.dup_frame-left.ensures c.lie_in_order.ensures.absent c.in-Some.ensures).0
 
 pub returns-then-not-freeze-clause-remounted : goal.returns-then-not-freeze-clause-remounted
 returns-then-not-freeze-clause-remounted c =
-    stays (leaves c.requires.may c.dup_frame-left.ensures c.lie_in_order.ensures.absent) c.in-Some.ensures c.freeze.ensures.0
+    stays c.requires.may c.dup_frame-left.ensures c.lie_in_order.ensures.absent c.in-Some.ensures c.freeze.ensures.0
     c.freeze.ensures.1 (λ e. absurd (grind (arith, c.if-not-freeze.true, c.freeze.ensures.2.1 e)))
 
 pub mount-requires-clause-may : goal.mount-requires-clause-may
 mount-requires-clause-may c =
-    may_mount (leaves c.requires.may c.dup_frame-left.ensures c.lie_in_order.ensures.absent) c.in-Some.ensures c.freeze.ensures.0
+    may_mount c.requires.may c.dup_frame-left.ensures c.lie_in_order.ensures.absent c.in-Some.ensures c.freeze.ensures.0
     c.freeze.ensures.1 (c.freeze.ensures.2.0 c.if-not-freeze.false) c.base-items.ensures
 
 pub set_dup_frame-requires : goal.set_dup_frame-requires
-set_dup_frame-requires c = taken_place (leaves c.requires.may c.dup_frame-left.ensures c.lie_in_order.ensures.absent)
+set_dup_frame-requires c = taken_place c.requires.may
 
 pub returns-clause-remounted : goal.returns-clause-remounted
 returns-clause-remounted c =
-    has_remounted (leaves c.requires.may c.dup_frame-left.ensures c.lie_in_order.ensures.absent) c.in-Some.ensures c.freeze.ensures.0
+    has_remounted c.requires.may c.dup_frame-left.ensures c.lie_in_order.ensures.absent c.in-Some.ensures c.freeze.ensures.0
     c.freeze.ensures.1 (c.freeze.ensures.2.0 c.if-not-freeze.false) c.base-items.ensures c.mount.ensures.made
+    c.mount.ensures.ledger
     (seen c.set_dup_frame.new.self)
     (find_all (λ d. d.place == c.args.dup.place && has_items c.args.pages.now.rows d)
     (λ d. d.place ≡ c.args.dup.place → seen c.set_dup_frame.new.self

@@ -1,44 +1,36 @@
 use Rattle.ksm_book.proofs.Names.{ap, arith, count_by, filter, is_stale, PagesView, seen, sym, ◌∙◌}
-use Rattle.ksm_book.proofs.Pruning.{drop_few, drop_fewer, drop_inside, drop_loose, drop_vacant, dropped_count, dropped_pages, dropped_performs, drops_more}
+use Rattle.ksm_book.proofs.Pruning.{drop_few, drop_fewer, drop_vacant, drops_more, drop_may, dropped}
 use Rattle.ksm_book.proofs.Shown.{quiet_does, quiet_withdraws}
 use Rattle.ksm_book.proofs.settling.drop_stale.Goals as goal
 
 pub withdraw-requires-clause-may : goal.withdraw-requires-clause-may
-withdraw-requires-clause-may c =
-    let told = sym c.in-Some.is ∙ c.stale_place.ensures in (
-      drop_inside (seen c.args.pages.now) (seen c.stale.pages) c.args.keeper.now c.stale.keeper c.stale.count c.stale.invariant c.in-Some.place told,
-      drop_loose (seen c.args.pages.now) (seen c.stale.pages) c.args.keeper.now c.stale.keeper c.stale.count c.stale.invariant c.in-Some.place told,
-    )
+withdraw-requires-clause-may c = drop_may c.stale.invariant (sym c.in-Some.is ∙ c.stale_place.ensures)
 
 pub drop_stale-requires : goal.drop_stale-requires
-drop_stale-requires c = drop_vacant (seen c.args.pages.now) (seen c.stale.pages) c.args.keeper.now c.stale.keeper c.stale.count c.stale.invariant c.in-Some.place (sym c.in-Some.is ∙ c.stale_place.ensures)
+drop_stale-requires c = drop_vacant c.stale.invariant (sym c.in-Some.is ∙ c.stale_place.ensures)
 
 pub stale-preserved : goal.stale-preserved
 stale-preserved c =
-    drops_more (seen c.args.pages.now) (seen c.stale.pages) c.args.keeper.now c.stale.keeper c.stale.count c.stale.invariant c.in-Some.place (sym c.in-Some.is ∙ c.stale_place.ensures)
-    (seen c.drop_stale.new.self) c.withdraw.new.self c.withdraw.ensures c.drop_stale.ensures
+    drops_more c.stale.invariant (sym c.in-Some.is ∙ c.stale_place.ensures) (seen c.drop_stale.new.self) c.withdraw.new.self
+    c.withdraw.ensures c.drop_stale.ensures
 
 pub overflow_add-count : goal.overflow_add-count
-overflow_add-count c = let few = drop_few (seen c.args.pages.now) (seen c.stale.pages) c.args.keeper.now c.stale.keeper c.stale.count c.stale.invariant c.in-Some.place (sym c.in-Some.is ∙ c.stale_place.ensures) in omega (arith, few)
+overflow_add-count c = let few = drop_few c.stale.invariant (sym c.in-Some.is ∙ c.stale_place.ensures) in omega (arith, few)
 
 pub stale-smaller : goal.stale-smaller
 stale-smaller c =
-    let fewer = drop_fewer (seen c.args.pages.now) (seen c.stale.pages) c.args.keeper.now c.stale.keeper c.stale.count c.stale.invariant c.in-Some.place (sym c.in-Some.is ∙ c.stale_place.ensures) in
+    let fewer = drop_fewer c.stale.invariant (sym c.in-Some.is ∙ c.stale_place.ensures) in
     let dups = ap (λ (p : PagesView). count_by (is_stale c.args.pages.now.rows) p.dups) c.drop_stale.ensures in
     omega (arith, fewer, dups)
 
 pub returns : goal.returns
 returns c =
     let p = seen c.args.pages.now in
-    let q = seen c.stale.pages in
-    let k = c.args.keeper.now in
-    let l = c.stale.keeper in
-    let told = sym c.in_default.is ∙ c.stale_place.ensures in
-    let performs = dropped_performs p q k l c.stale.count c.stale.invariant told in
+    let done = dropped c.stale.invariant (sym c.in_default.is ∙ c.stale_place.ensures) in
     record {
-      pages = dropped_pages p q k l c.stale.count c.stale.invariant told;
-      count = dropped_count p q k l c.stale.count c.stale.invariant told;
+      pages = done.0;
+      count = done.1;
       laid = c.stale.invariant.laid;
-      does = quiet_does performs.made (quiet_withdraws (filter (is_stale p.rows) p.dups));
-      performs = performs;
+      does = quiet_does done.2.made (quiet_withdraws (filter (is_stale p.rows) p.dups));
+      performs = done.2;
     }

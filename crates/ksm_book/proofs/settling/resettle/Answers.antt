@@ -1,21 +1,15 @@
-use Rattle.ksm_book.proofs.Names.{refl, rules, seen}
-use Rattle.ksm_book.proofs.Laying.{lawful}
+use Rattle.ksm_book.proofs.Names.{refl, seen}
 use Rattle.ksm_book.proofs.Resettled.{may_left, resettled, turned}
 use Rattle.ksm_book.proofs.settling.resettle.Goals as goal
 
-pub take_frame-requires-clause-lawful : goal.take_frame-requires-clause-lawful
-take_frame-requires-clause-lawful c =
-    let p = seen c.args.pages.now in
-    lawful c.args.keeper.now c.requires.laid.same c.requires.laid.placed
-
 pub returns-in_default-clause-turned : goal.returns-in_default-clause-turned
-returns-in_default-clause-turned c = (refl, turned c.requires.laid c.requires.node c.in_default.ensures)
+returns-in_default-clause-turned c = (refl, turned c.requires.laid c.requires.node c.in_default.ensures.provides)
 
 pub release_if-requires-clause-may : goal.release_if-requires-clause-may
 release_if-requires-clause-may c =
-    may_left c.requires.laid c.lie_in_order.ensures.rise c.args.spot.page c.requires.known c.requires.node (search rules) c.in-Some.ensures c.resettle-left.result c.resettle-left.ensures.left
+    may_left c.requires.laid c.lie_in_order.ensures.rise c.args.spot.page c.requires.known c.in-Some.ensures.provides c.in-Some.ensures.took c.resettle-left.result c.resettle-left.ensures.left
 
 pub returns-clause-resettled : goal.returns-clause-resettled
 returns-clause-resettled c =
-    resettled c.requires.laid c.lie_in_order.ensures.rise c.args.spot.page c.requires.known c.requires.node (search rules) c.in-Some.ensures c.resettle-left.result c.resettle-left.ensures.left
+    resettled c.requires.laid c.lie_in_order.ensures.rise c.args.spot.page c.requires.known c.in-Some.ensures.provides c.in-Some.ensures.took c.resettle-left.result c.resettle-left.ensures.left
     (seen c.resettle-left.new.self) c.release_if.new.keeper c.resettle-left.ensures.settled c.release_if.ensures

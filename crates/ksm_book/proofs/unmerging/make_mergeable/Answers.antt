@@ -1,13 +1,7 @@
-use Rattle.ksm_book.proofs.Names.{arith, rules, seen, Some, ◌∙◌}
+use Rattle.ksm_book.proofs.Names.{arith, rules, Some}
 use Rattle.ksm_book.proofs.Along.{further, not_far}
-use Rattle.ksm_book.proofs.Unmerged.{marking_end, marking_first, marking_known, marking_next}
+use Rattle.ksm_book.proofs.Unmerged.{marking_end, marking_next}
 use Rattle.ksm_book.proofs.unmerging.make_mergeable.Goals as goal
-
-pub pages-init : goal.pages-init
-pages-init c = marking_first (seen c.args.pages.now) c.args.guest
-
-pub make_mergeable-requires : goal.make_mergeable-requires
-make_mergeable-requires c = marking_known c.pages.invariant c.lie_in_order.ensures.rise c.in-Some.ensures.1
 
 pub pages-preserved : goal.pages-preserved
 pages-preserved c =
@@ -20,8 +14,5 @@ pages-smaller c =
     let end = not_far (Some page) (search rules, search rules) in
     omega (arith, far, end)
 
-pub returns-clause-any : goal.returns-clause-any
-returns-clause-any c = c.is_some.ensures ∙ (marking_end c.pages.invariant c.in_default.ensures).0
-
-pub returns-clause-pages : goal.returns-clause-pages
-returns-clause-pages c = (marking_end c.pages.invariant c.in_default.ensures).1
+pub returns : goal.returns
+returns c = marking_end c.pages.invariant c.in_default.ensures

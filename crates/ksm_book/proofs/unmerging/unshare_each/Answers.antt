@@ -1,10 +1,7 @@
-use Rattle.ksm_book.proofs.Names.{arith, rules, seen, Some}
+use Rattle.ksm_book.proofs.Names.{arith, rules, Some}
 use Rattle.ksm_book.proofs.Along.{further, not_far}
-use Rattle.ksm_book.proofs.Unmerged.{unsharing_end, unsharing_first, unsharing_home, unsharing_next, unsharing_stop}
+use Rattle.ksm_book.proofs.Unmerged.{unsharing_end, unsharing_home, unsharing_next, unsharing_stop}
 use Rattle.ksm_book.proofs.unmerging.unshare_each.Goals as goal
-
-pub pages-init : goal.pages-init
-pages-init c = unsharing_first (seen c.args.pages.now) c.args.keeper.now c.args.guest c.requires.laid
 
 pub leave-requires-clause-home : goal.leave-requires-clause-home
 leave-requires-clause-home c =

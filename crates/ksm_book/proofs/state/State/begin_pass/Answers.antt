@@ -1,5 +1,4 @@
-use Rattle.ksm_book.proofs.Names.{ap, BookState, if◌then◌else◌, is_none, None, Reached, subst, sym, with_none_waiting, ◌∙◌, ◌≡◌}
-use Rattle.ksm_book.proofs.Going.{none_of}
+use Rattle.ksm_book.proofs.Names.{ap, BookState, is_none, None, Reached, subst, sym, with_none_waiting, ◌∙◌, ◌≡◌, none_of, if◌then◌else◌}
 use Rattle.ksm_book.proofs.state.State.begin_pass.Goals as goal
 
 pub returns-then-is_none-clause-comes : goal.returns-then-is_none-clause-comes

@@ -1,5 +1,4 @@
-use Rattle.ksm_book.proofs.Names.{ap, arith, At, begun, BookState, BookValue, comes_before, Deed, doing, EndsAt, filter, has_item, IsStill, last_visited, length, mergeable_pages, mul_comm, None, pages_ahead, pages_visited, pass_ended, Reached, Some, subst, sym, true, up_to, visit_begun, visits_beside, ◌%◌, ◌*◌, ◌+◌, ◌-◌, ◌/◌, ◌<◌, ◌∙◌, ◌≡◌, ◌≤◌}
-use Rattle.ksm_book.proofs.Going.{none_of}
+use Rattle.ksm_book.proofs.Names.{ap, arith, At, begun, BookState, BookValue, comes_before, Deed, doing, EndsAt, filter, has_item, IsStill, last_visited, length, mergeable_pages, mul_comm, None, pages_ahead, pages_visited, pass_ended, Reached, Some, subst, sym, true, up_to, visit_begun, visits_beside, ◌%◌, ◌*◌, ◌+◌, ◌-◌, ◌/◌, ◌<◌, ◌∙◌, ◌≡◌, ◌≤◌, none_of}
 use Rattle.ksm_book.proofs.Scanned.{page_made, pass_made, passes_made, some_ahead, stopped_ahead, stopped_fewer, stopped_made}
 use Rattle.ksm_book.proofs.Doing.{doing_beside}
 use Rattle.ksm_book.proofs.Reached.{begins, first, in_order}

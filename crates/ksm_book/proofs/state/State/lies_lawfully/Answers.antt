@@ -1,7 +1,6 @@
-use Rattle.ksm_book.proofs.Names.{BookValue, FindsPlace, IsSound, LieOn, NumbersAreSmall, seen, spent, state_of, subst, view_of, ◌≤◌}
-use Rattle.ksm_book.proofs.Promised.{lie_on}
+use Rattle.ksm_book.proofs.Names.{BookValue, FindsPlace, IsSound, LieOn, NumbersAreSmall, seen, spent, state_of, subst, view_of, ◌≤◌, arith}
+use Rattle.ksm_book.proofs.Promised.{lie_on, finds_place}
 use Rattle.ksm_book.proofs.Sharing.{spent_most}
-use Rattle.ksm_book.proofs.Standing.{finds_places, numbers_small}
 use Rattle.ksm_book.proofs.state.State.lies_lawfully.Goals as goal
 
 pub returns : goal.returns
@@ -15,7 +14,7 @@ returns c =
       sound = subst (λ (x : BookValue). IsSound x.state) c.self.view_is sound;
       placed = subst (λ (x : BookValue). LieOn x.state (view_of x).frame x.keeper.ledger) c.self.view_is
           (lie_on b s.keeper.ledger sound p.frame laid.placed c.lie_in_order.ensures.absent);
-      place = subst (λ (x : BookValue). FindsPlace x.state) c.self.view_is (finds_places sound laid);
+      place = subst (λ (x : BookValue). FindsPlace x.state) c.self.view_is (finds_place b s.keeper.ledger sound p.frame laid.placed);
       lives = subst (λ (x : BookValue). x.state.next ≤ spent x.keeper.ledger) c.self.view_is laid.spent;
-      numbers = subst (λ (x : BookValue). NumbersAreSmall x.state) c.self.view_is (numbers_small b sound (spent_most laid));
+      numbers = subst (λ (x : BookValue). NumbersAreSmall x.state) c.self.view_is (λ k d lt. let below = sound.numbers k d lt in let few = spent_most laid in omega (arith, below, few));
     }

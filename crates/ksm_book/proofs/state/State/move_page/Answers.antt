@@ -1,5 +1,5 @@
-use Rattle.ksm_book.proofs.Names.{ap, CarriedOut, Done, IsLaid, MovePage, ne_eqb, Ok, option_map, PagesView, refl, Resettled, same_Some, seen, Shape, subst, sym, view_of, ◌<◌, ◌∙◌, ◌≡◌}
-use Rattle.ksm_book.proofs.Singles.{book, carried_so, found_spot, move_home, move_moved, private_resettled, sound_carried}
+use Rattle.ksm_book.proofs.Names.{ap, CarriedOut, Done, MovePage, ne_eqb, Ok, option_map, refl, Resettled, same_Some, seen, Shape, subst, sym, view_of, ◌<◌, ◌∙◌, ◌≡◌, MatchOption, private_state, true, false}
+use Rattle.ksm_book.proofs.Singles.{book, carried_so, move_home, move_moved, sound_carried, row_held, Carries, found_resettled}
 use Rattle.ksm_book.proofs.state.State.move_page.Goals as goal
 
 pub returns-then-held-node : goal.returns-then-held-node
@@ -10,14 +10,13 @@ returns-then-held-node c =
     (subst (λ (s : Shape). c.args.node < s.nodes) c.shape.ensures c.if-node-shape.false) (sym c.in-Some.ensures.home ∙ c.if-held-node.true)))
 
 pub set_home-requires : goal.set_home-requires
-set_home-requires c = private_resettled c.self.inside.pages.rows c.in-Some.held.spot.page c.in-Some.ensures.row
-    (found_spot c.self.inside.pages.rows c.args.page c.in-Some.held.spot.page c.in-Some.ensures.row c.in-Some.ensures.spot c.in-Some.ensures.found)
-    c.resettle.new.pages.rows (ap (λ (p : PagesView). p.rows) c.in_default-resettle.ensures.resettled.pages)
+set_home-requires c = subst (λ o. MatchOption o (true ≡ false) (λ r. private_state r.state ≡ true))
+    (sym (found_resettled c.in_default-resettle.ensures.resettled (row_held c.in-Some.ensures))) refl
 
-moved_there : (c : goal.After-set_home) → CarriedOut (book (seen c.self.inside.pages) c.self.inside.keeper c.self.inside.cursor c.self.inside.passes) (book (seen c.set_home.new.self) c.resettle.new.keeper c.self.inside.cursor c.self.inside.passes) (MovePage c.in-Some.held.spot.page c.args.node) (Ok Done)
-    × IsLaid (seen c.set_home.new.self) c.resettle.new.keeper
+moved_there : (c : goal.After-set_home) → Carries (seen c.self.inside.pages) c.self.inside.keeper (seen c.set_home.new.self)
+    c.resettle.new.keeper c.self.inside.cursor c.self.inside.passes (MovePage c.in-Some.held.spot.page c.args.node) (Ok Done)
 moved_there c =
-    let found = found_spot c.self.inside.pages.rows c.args.page c.in-Some.held.spot.page c.in-Some.ensures.row c.in-Some.ensures.spot c.in-Some.ensures.found in
+    let found = row_held c.in-Some.ensures in
     let bytes : c.bytes-bytes.result ≡ c.in-Some.ensures.row.bytes = same_Some _ _ (sym c.bytes-bytes.ensures ∙ ap (option_map (λ r. r.bytes)) found) in
     move_moved (seen c.self.inside.pages) c.self.inside.keeper c.self.inside.cursor c.self.inside.passes c.in-Some.held.spot.page c.args.node c.in-Some.ensures.row c.self.invariant.0.rows_rise found
     (subst (λ (s : Shape). c.args.node < s.nodes) c.shape.ensures c.if-node-shape.false) c.resettle.new.keeper c.in_default-resettle.ensures.resettled.does.1.table

@@ -1,5 +1,5 @@
-use Rattle.ksm_book.proofs.Names.{ap, CarriedOut, Ok, PagesView, Prune, Pruned, refl, seen, state_of}
-use Rattle.ksm_book.proofs.Singles.{book, carried_so, sound_carried}
+use Rattle.ksm_book.proofs.Names.{ap, CarriedOut, Ok, PagesView, Prune, Pruned, seen, state_of}
+use Rattle.ksm_book.proofs.Singles.{book, sound_carried}
 use Rattle.ksm_book.proofs.state.State.prune.Goals as goal
 
 pruned : (c : goal.After-drop_stale-count) → CarriedOut (book (seen c.self.inside.pages) c.self.inside.keeper c.self.inside.cursor c.self.inside.passes) (book (seen c.drop_stale-count.new.pages) c.drop_stale-count.new.keeper c.self.inside.cursor c.self.inside.passes) Prune (Ok (Pruned c.drop_stale-count.result))
@@ -11,9 +11,6 @@ pruned c = record {
   frames = c.drop_stale-count.ensures.does;
   shown = tt;
 }
-
-pub returns : goal.returns
-returns c = carried_so c.self.view_is refl (pruned c)
 
 pub invariant_of-self : goal.invariant_of-self
 invariant_of-self c = (sound_carried c.self.invariant.0 (pruned c), c.drop_stale-count.ensures.laid)

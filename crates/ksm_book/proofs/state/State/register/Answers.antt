@@ -1,5 +1,5 @@
-use Rattle.ksm_book.proofs.Names.{CarriedOut, change_row, Done, Err, is_some, IsLaid, lies_on, NoFrame, None, Ok, on_its_own, refl, Register, row_at, rules, seen, Shape, Some, subst, sym, true, without_page, ◌<◌, ◌∙◌, ◌≡◌}
-use Rattle.ksm_book.proofs.Singles.{HasCome, absent_so, book, carried_so, come_known, register_come, register_turned, sound_carried}
+use Rattle.ksm_book.proofs.Names.{change_row, Done, Err, is_some, lies_on, NoFrame, None, Ok, on_its_own, refl, Register, row_at, seen, Shape, Some, subst, sym, true, without_page, ◌<◌, ◌∙◌, ◌≡◌, none_of}
+use Rattle.ksm_book.proofs.Singles.{HasCome, carried_so, come_known, register_come, register_turned, sound_carried, Carries}
 use Rattle.ksm_book.proofs.state.State.register.Goals as goal
 use Rattle.ksm_book.proofs.state.State.register.Goals.{In_ok-spot}
 
@@ -7,7 +7,7 @@ use Rattle.ksm_book.proofs.state.State.register.Goals.{In_ok-spot}
 new : (c : In_ok-spot) → HasCome (seen c.self.inside.pages) (seen c.insert.new.self) c.args.page c.args.node c.args.bytes
 new c = record {
   rise = c.self.invariant.0.rows_rise;
-  absent = absent_so (row_at c.args.page c.self.inside.pages.rows) (sym c.has.ensures ∙ c.if-has.false);
+  absent = none_of (row_at c.args.page c.self.inside.pages.rows) (sym c.has.ensures ∙ c.if-has.false);
   comes = c.in_ok-spot.ensures.added;
   others = c.in_ok-spot.ensures.others;
   less = subst (λ (s : Shape). c.args.node < s.nodes) c.shape-shape.ensures c.if-node-shape.false;
@@ -19,12 +19,12 @@ remove-requires c =
     (come_known (new ((goal.at.remove-requires c).In_ok-spot)))
 
 module _ (c : goal.After-remove) (came : HasCome (seen c.self.inside.pages) (seen c.insert.new.self) c.args.page c.args.node c.args.bytes) where
-  turned : CarriedOut (book (seen c.self.inside.pages) c.self.inside.keeper c.self.inside.cursor c.self.inside.passes) (book (seen c.remove.new.self) c.take_frame.new.keeper c.self.inside.cursor c.self.inside.passes) (Register c.args.page c.args.node c.args.bytes) (Err (NoFrame c.args.node))
-      × IsLaid (seen c.remove.new.self) c.take_frame.new.keeper
+  turned : Carries (seen c.self.inside.pages) c.self.inside.keeper (seen c.remove.new.self)
+      c.take_frame.new.keeper c.self.inside.cursor c.self.inside.passes (Register c.args.page c.args.node c.args.bytes) (Err (NoFrame c.args.node))
   turned =
       register_turned came c.self.invariant.1 c.self.inside.cursor c.self.inside.passes (seen c.remove.new.self) c.in_ok-spot.ensures.nowhere
       (subst (λ q. seen c.remove.new.self ≡ record (seen c.insert.new.self) { rows = without_page q c.insert.new.self.rows; frame = lies_on q None (seen c.insert.new.self).frame; restless = c.remove.new.self.restless }) c.in_ok-spot.ensures.spot c.remove.ensures.gone)
-      c.in_default.ensures
+      c.in_default.ensures.provides
 
 pub returns-in_default : goal.returns-in_default
 returns-in_default c = carried_so c.self.view_is refl (turned c (new ((goal.at.returns-in_default c).In_ok-spot))).0
@@ -40,12 +40,12 @@ resettle-requires c =
     (come_known (new ((goal.at.resettle-requires c).In_ok-spot)))
 
 module _ (c : goal.After-resettle) (came : HasCome (seen c.self.inside.pages) (seen c.insert.new.self) c.args.page c.args.node c.args.bytes) where
-  come : CarriedOut (book (seen c.self.inside.pages) c.self.inside.keeper c.self.inside.cursor c.self.inside.passes) (book (seen c.resettle.new.self) c.take_frame.new.keeper c.self.inside.cursor c.self.inside.passes) (Register c.args.page c.args.node c.args.bytes) (Ok Done)
-      × IsLaid (seen c.resettle.new.self) c.take_frame.new.keeper
+  come : Carries (seen c.self.inside.pages) c.self.inside.keeper (seen c.resettle.new.self)
+      c.take_frame.new.keeper c.self.inside.cursor c.self.inside.passes (Register c.args.page c.args.node c.args.bytes) (Ok Done)
   come =
       register_come came c.self.invariant.1 c.self.inside.cursor c.self.inside.passes (seen c.resettle.new.self)
       (subst (λ q. seen c.resettle.new.self ≡ record (seen c.insert.new.self) { rows = change_row q on_its_own c.insert.new.self.rows; frame = lies_on q (Some c.in-Some.frame) (seen c.insert.new.self).frame; restless = c.resettle.new.self.restless }) c.in_ok-spot.ensures.spot c.resettle.ensures.settled)
-      (search rules) c.in-Some.ensures
+      c.in-Some.ensures.provides c.in-Some.ensures.took
 
 pub returns : goal.returns
 returns c = carried_so c.self.view_is refl (come c (new ((goal.at.returns c).In_ok-spot))).0

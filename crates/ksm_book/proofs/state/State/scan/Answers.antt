@@ -1,4 +1,4 @@
-use Rattle.ksm_book.proofs.Names.{ap, arith, BookValue, BookView, CarriedOut, if◌then◌else◌, Knobs, length, mergeable_pages, None, Ok, refl, Scan, subst, sym, view_of, ◌∙◌, ◌≡◌, ◌≤◌}
+use Rattle.ksm_book.proofs.Names.{ap, arith, BookValue, BookView, CarriedOut, Knobs, length, mergeable_pages, None, Ok, refl, Scan, subst, sym, view_of, ◌∙◌, ◌≡◌, ◌≤◌, if◌then◌else◌}
 use Rattle.ksm_book.proofs.ScanCarried.{any_none, scanned, visits_carried}
 use Rattle.ksm_book.proofs.state.State.scan.Goals as goal
 use Rattle.ksm_book.proofs.state.State.scan.Goals.{After-count_mergeable}

@@ -1,4 +1,4 @@
-use Rattle.ksm_book.proofs.Names.{[], All, ap, arith, BookValue, changes_while_shared, Done, effect, false, get_or, inr, IsLaid, IsSound, Knobs, List, map, nat_tests, ne_eqb, no_dup_lives, None, none_shared, PageState, PagesView, refl, refusal, Row, rules, seen, SetAcross, settled, settled_state, sound_set_across, state_of, subst, suc, sym, waiting_state, zero, ◌==◌, ◌∙◌, ◌∷◌, ◌≡◌, ◌≤◌}
+use Rattle.ksm_book.proofs.Names.{[], All, ap, arith, BookValue, changes_while_shared, Done, effect, false, get_or, inr, IsLaid, IsSound, Knobs, nat_tests, ne_eqb, no_dup_lives, None, none_shared, PageState, PagesView, refl, refusal, rules, seen, SetAcross, settled, settled_state, sound_set_across, state_of, subst, sym, waiting_state, ◌==◌, ◌∙◌, ◌≡◌, ◌≤◌, All-map}
 use Rattle.ksm_base.specs.declared.row.PageState.TheVariants.{Private}
 use Rattle.ksm_book.proofs.Laying.{laid_mapped, retuned}
 use Rattle.ksm_book.proofs.Sharing.{settled_lodges}
@@ -20,16 +20,12 @@ none_left c =
     ∙ no_dup_lives b (none_shared b (c.args.across == b.knobs.merge_across_nodes) (calm c) other)
 
 pub set_knobs-requires : goal.set_knobs-requires
-set_knobs-requires c = inr (subst (λ (p : PagesView). All (λ r. waiting_state r.state ≡ false) p.rows) (sym c.settle_all.ensures) (none_waits c.drop_stale.new.pages.rows))
+set_knobs-requires c = inr (subst (λ (p : PagesView). All (λ r. waiting_state r.state ≡ false) p.rows) (sym c.settle_all.ensures)
+    (All-map (λ r. waiting_state r.state ≡ false) settled c.drop_stale.new.pages.rows (λ i d lt. still (get_or c.drop_stale.new.pages.rows i d).state)))
   where
-    none_waits : (rows : List Row) → All (λ r. waiting_state r.state ≡ false) (map settled rows)
-    none_waits [] i d lt = absurd (omega (arith, lt))
-    none_waits (r ∷ rows) zero d lt = still r.state
-      where
-        still : (s : PageState) → waiting_state (settled_state s) ≡ false
-        still Private = refl
-        still _ = refl
-    none_waits (r ∷ rows) (suc i) d lt = none_waits rows i d (omega (arith, lt))
+    still : (s : PageState) → waiting_state (settled_state s) ≡ false
+    still Private = refl
+    still _ = refl
 
 laid : (c : goal.After-set_knobs) → IsLaid (seen c.set_knobs.new.self) c.drop_stale.new.keeper
 laid c =

@@ -1,6 +1,6 @@
 use Rattle.ksm_book.proofs.Names.{ap, CarriedOut, Done, find_all, is_some, IsLaid, KeeperView, length, Ok, PAGE_WORDS, PagesView, refl, Resettled, rules, same_page, seen, Store, stored, subst, sym, ◌<◌, ◌∙◌, ◌≡◌}
 use Rattle.ksm_book.proofs.Laying.{has_frame, laid_written, own_framed}
-use Rattle.ksm_book.proofs.Singles.{alone_now, alone_resettled, book, carried_so, found_spot, own_ready, sound_carried, store_copied, store_written}
+use Rattle.ksm_book.proofs.Singles.{alone_now, book, carried_so, own_ready, sound_carried, store_copied, store_written, row_held, Carries, found_resettled}
 use Rattle.ksm_book.proofs.state.State.store.Goals as goal
 
 pub known_frame-frame-requires : goal.known_frame-frame-requires
@@ -16,14 +16,14 @@ write-requires c =
     record { own = search rules; inside = ready.0; within = ready.1; writable = ready.2; wide = ready.3 }
 
 pub store-requires-2 : goal.store-requires-2
-store-requires-2 c = alone_now c.self.inside.pages.rows c.in-Some.held.spot.page c.in-Some.ensures.row (found_spot c.self.inside.pages.rows c.args.page c.in-Some.held.spot.page c.in-Some.ensures.row c.in-Some.ensures.spot c.in-Some.ensures.found)
+store-requires-2 c = alone_now c.self.inside.pages.rows c.in-Some.held.spot.page c.in-Some.ensures.row (row_held c.in-Some.ensures)
     (sym c.in-Some.ensures.shared ∙ c.if-held.false)
 
 module _ (c : goal.After-store-2) where
   written : CarriedOut (book (seen c.self.inside.pages) c.self.inside.keeper c.self.inside.cursor c.self.inside.passes) (book (seen c.store-2.new.self) c.write.new.keeper c.self.inside.cursor c.self.inside.passes) (Store c.in-Some.held.spot.page c.args.bytes) (Ok Done)
   written =
       store_written (seen c.self.inside.pages) c.self.inside.keeper c.write.new.keeper c.self.inside.cursor c.self.inside.passes c.in-Some.held.spot.page c.args.bytes c.in-Some.ensures.row
-      (found_spot c.self.inside.pages.rows c.args.page c.in-Some.held.spot.page c.in-Some.ensures.row c.in-Some.ensures.spot c.in-Some.ensures.found) (ap (λ (z : KeeperView). z.table) c.write.ensures.wrote)
+      (row_held c.in-Some.ensures) (ap (λ (z : KeeperView). z.table) c.write.ensures.wrote)
       (seen c.store-2.new.self) c.known_frame-frame.result c.store-2.ensures (sym c.in-Some.ensures.shared ∙ c.if-held.false)
       (ap (seen c.self.inside.pages).frame c.in-Some.ensures.spot ∙ sym c.in-Some.ensures.frame ∙ c.known_frame-frame.ensures) c.write.ensures.wrote
 
@@ -37,7 +37,7 @@ invariant_of-self-2 c =
       sound_carried c.self.invariant.0 (written c),
       subst (λ (x : PagesView). IsLaid x c.write.new.keeper) (sym c.store-2.ensures)
           (laid_written c.self.invariant.1 c.in-Some.held.spot.page c.in-Some.ensures.row (stored c.args.bytes) c.store-2.new.self.restless c.write.new.keeper c.known_frame-frame.result c.self.invariant.0.rows_rise
-          (found_spot c.self.inside.pages.rows c.args.page c.in-Some.held.spot.page c.in-Some.ensures.row c.in-Some.ensures.spot c.in-Some.ensures.found) (λ r. refl)
+          (row_held c.in-Some.ensures) (λ r. refl)
           (ap p.frame c.in-Some.ensures.spot ∙ sym c.in-Some.ensures.frame ∙ c.known_frame-frame.ensures) (ap (λ (z : KeeperView). z.table) c.write.ensures.wrote) c.write.ensures.ledger wide (sym c.in-Some.ensures.shared ∙ c.if-held.false) refl refl),
     )
 
@@ -46,16 +46,15 @@ resettle-requires-clause-node c = subst (λ n. n < c.self.inside.pages.shape.nod
     (find_all (λ r. same_page r.page c.args.page) (λ r. r.home < c.self.inside.pages.shape.nodes) c.self.inside.pages.rows c.in-Some.ensures.row c.in-Some.ensures.found c.self.invariant.0.homes)
 
 pub store-requires : goal.store-requires
-store-requires c = alone_resettled c.self.inside.pages.rows c.in-Some.held.spot.page c.in-Some.ensures.row
-    (found_spot c.self.inside.pages.rows c.args.page c.in-Some.held.spot.page c.in-Some.ensures.row c.in-Some.ensures.spot c.in-Some.ensures.found)
-    c.resettle.new.pages.rows (ap (λ (p : PagesView). p.rows) c.in_default-resettle.ensures.resettled.pages)
+store-requires c = alone_now c.resettle.new.pages.rows c.in-Some.held.spot.page _
+    (found_resettled c.in_default-resettle.ensures.resettled (row_held c.in-Some.ensures)) refl
 
-copied : (c : goal.After-store) → CarriedOut (book (seen c.self.inside.pages) c.self.inside.keeper c.self.inside.cursor c.self.inside.passes) (book (seen c.store.new.self) c.resettle.new.keeper c.self.inside.cursor c.self.inside.passes) (Store c.in-Some.held.spot.page c.args.bytes) (Ok Done)
-    × IsLaid (seen c.store.new.self) c.resettle.new.keeper
+copied : (c : goal.After-store) → Carries (seen c.self.inside.pages) c.self.inside.keeper (seen c.store.new.self)
+    c.resettle.new.keeper c.self.inside.cursor c.self.inside.passes (Store c.in-Some.held.spot.page c.args.bytes) (Ok Done)
 copied c =
     store_copied (seen c.self.inside.pages) c.self.inside.keeper c.resettle.new.keeper c.self.inside.cursor c.self.inside.passes c.in-Some.held.spot.page c.args.bytes c.in-Some.ensures.row
-    (found_spot c.self.inside.pages.rows c.args.page c.in-Some.held.spot.page c.in-Some.ensures.row c.in-Some.ensures.spot c.in-Some.ensures.found) c.in_default-resettle.ensures.resettled.does.1.table
-    (seen c.resettle.new.pages) (seen c.store.new.self) c.self.invariant.1
+    (row_held c.in-Some.ensures) c.in_default-resettle.ensures.resettled.does.1.table
+    (seen c.resettle.new.pages) (seen c.store.new.self) c.self.invariant.1 c.self.invariant.0.rows_rise
     (subst (λ n. Resettled (seen c.self.inside.pages) (seen c.resettle.new.pages) c.self.inside.keeper c.resettle.new.keeper c.in-Some.held.spot.page n c.args.bytes) c.in-Some.ensures.home c.in_default-resettle.ensures.resettled)
     c.store.ensures (sym c.in-Some.ensures.shared ∙ c.if-held.true)
 

@@ -24,12 +24,6 @@ invariant_of-self-in-Dup c =
     let met = met_by ((goal.at.invariant_of-self-in-Dup c).In_ok-found) (Dup c.in-Dup.best) (λ e. cc) c.in-Dup.is in
     subst (λ (x : PagesView). IsSound (state_of x s.cursor s.passes) × IsLaid x s.keeper) (sym met.so.2) c.self.invariant
 
-pub invariant_of-self-in-Zero : goal.invariant_of-self-in-Zero
-invariant_of-self-in-Zero c =
-    let s = c.self.inside in
-    let met = met_by ((goal.at.invariant_of-self-in-Zero c).In_ok-found) finds.Zero (λ e. cc) c.in-Zero.is in
-    subst (λ (x : PagesView). IsSound (state_of x s.cursor s.passes) × IsLaid x s.keeper) (sym met.so.4) c.self.invariant
-
 pub invariant_of-self-in-Partner : goal.invariant_of-self-in-Partner
 invariant_of-self-in-Partner c =
     let s = c.self.inside in
