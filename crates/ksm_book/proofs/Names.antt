@@ -1,4 +1,5 @@
 -- The definitions, and the laws of the libraries and crates below, by their names, for proofs.
+pub use Rattle.frame_core.proofs.Above.{frames_at_most}
 pub use Rattle.frame_core.specs.Ledger.{added, blank, filled, first_ledger, frame_at, frozen, IsLoose, IsReadable, IsWritable, ledger_after, lowered, named_at, opened, raised, reaped, shown, with_frame}
 pub use Rattle.frame_core.specs.Rule.{GenerationFits}
 pub use Rattle.frame_core.specs.State.{count_in}
@@ -16,29 +17,28 @@ pub use Rattle.ksm_base.proofs.Orders.{all_with_dup, all_with_row, each_has_numb
 pub use Rattle.ksm_base.proofs.Pages.{after_differs, before_differs, before_irrefl, before_trans, not_both, one_before, same_page_eq, same_page_refl}
 pub use Rattle.ksm_base.proofs.RowCounts.{change_none, count_with_row, count_without_page, each_at_page, filter_all}
 pub use Rattle.ksm_base.proofs.SoundCounts.{joined_count}
-pub use Rattle.ksm_base.proofs.SoundEdits.{no_dup_lives, sound_settings}
+pub use Rattle.ksm_base.proofs.SoundEdits.{no_dup_lives}
 pub use Rattle.ksm_base.proofs.SoundItems.{dup_of_item, home_of_item}
 pub use Rattle.ksm_base.proofs.SoundKnobs.{none_shared, sound_set_across, sound_set_limit}
 pub use Rattle.ksm_base.proofs.SoundPair.{IsFree, new_place_free, next_is_new, waits_tells, WaitsFor}
-pub use Rattle.ksm_base.proofs.SoundScan.{sound_cursor, sound_none_waiting, sound_row_visited}
+pub use Rattle.ksm_base.proofs.SoundScan.{sound_none_waiting, sound_row_visited}
 pub use Rattle.ksm_base.proofs.SoundSteps.{sound_after, sound_opening}
 pub use Rattle.ksm_base.proofs.SoundVisit.{best_dup_has_room, IsJoined}
 pub use Rattle.ksm_base.proofs.Visits.{rowwise_visits}
-pub use Rattle.ksm_base.specs.Answers.{Answer, every_row, frame_needed, IsAnswerOrMemory, IsAnswerUnless, IsDoneOr, IsScanned, IsUnmerged, shared_rows}
-pub use Rattle.ksm_base.specs.Apply.{after, effect, fresh_row, is_before, let_go, moved, scan_stopped, stored, unshare_stopped, unshared}
+pub use Rattle.ksm_base.specs.Answers.{Answer, every_row, IsAnswerUnless, IsScanned, IsUnmerged, shared_rows}
+pub use Rattle.ksm_base.specs.Apply.{effect, fresh_row, is_before, let_go, moved, scan_stopped, stored, unshare_stopped, unshared}
 pub use Rattle.ksm_base.specs.Counting.{counters_of, mergeable_count}
-pub use Rattle.ksm_base.specs.Journal.{Entry, IsLegal, last_stored, ReadsLastStored, replay}
-pub use Rattle.ksm_base.specs.Reading.{bytes_of, items_of, mappers_of, ticket_of}
-pub use Rattle.ksm_base.specs.Refusals.{changes_while_shared, crosses, has_guest, is_no_node, is_of, live_dup_at, refusal, refused_if}
+pub use Rattle.ksm_base.specs.Reading.{bytes_of, mappers_of}
+pub use Rattle.ksm_base.specs.Refusals.{changes_while_shared, crosses, has_guest, is_of, live_dup_at, refusal}
 pub use Rattle.ksm_base.specs.Rows.{change_row, change_rows, comes_before, dup_numbered, has_items, InPageOrder, InPlaceOrder, is_stale, item_count, merged_into, merged_state, private_state, row_at, same_page, settled, settled_state, shared_state, waiting_state, with_dup, with_row, without_page, zero_state}
 pub use Rattle.ksm_base.specs.Sound.{IsDupOf, IsSound}
-pub use Rattle.ksm_base.specs.State.{BookState, default_knobs, opening, pass_ended, place_count, tree_of, with_none_waiting}
+pub use Rattle.ksm_base.specs.State.{BookState, default_knobs, pass_ended, place_count, tree_of, with_none_waiting}
 pub use Rattle.ksm_base.specs.Values.{frames_of, IsShape}
-pub use Rattle.ksm_base.specs.Visit.{after_cursor, best_dup, empty_from, handled, is_best, is_for_zero, may_join, new_place, next_row, paired, partner, pass_begun, pass_ended_at_last, place_or, row_visited, stayed, visit, visit_begun, visit_of, visits, waits_for}
+pub use Rattle.ksm_base.specs.Visit.{after_cursor, best_dup, empty_from, handled, is_best, is_for_zero, new_place, next_row, paired, partner, pass_begun, pass_ended_at_last, place_or, row_visited, stayed, visit, visit_begun, visit_of, visits, waits_for}
 pub use Rattle.ksm_base.specs.declared.command.Command.{Command}
 pub use Rattle.ksm_base.specs.declared.command.Command.TheVariants.{Drop, Mergeable, MoveDup, MovePage, Prune, Register, Scan, SetAcross, SetLimit, SetPagesToScan, SetRun, SetZeroPages, Store, Unmerge}
 pub use Rattle.ksm_base.specs.declared.fault.Fault.{Fault}
-pub use Rattle.ksm_base.specs.declared.fault.Fault.TheVariants.{AlreadyRegistered, BadNode, BadValue, CrossesNodes, InUse, Memory, NoFrame, NotRunning, SharedPages, UnknownPage, UnknownPlace}
+pub use Rattle.ksm_base.specs.declared.fault.Fault.TheVariants.{InUse, Memory, NoFrame, UnknownPage}
 pub use Rattle.ksm_base.specs.declared.knobs.Knobs.{Knobs}
 pub use Rattle.ksm_base.specs.declared.page.GuestPage.{GuestPage}
 pub use Rattle.ksm_base.specs.declared.page.TheConstants.{PAGE_WORDS}
@@ -49,17 +49,17 @@ pub use Rattle.ksm_base.specs.declared.row.PageState.{PageState}
 pub use Rattle.ksm_base.specs.declared.row.PageState.TheVariants.{Merged, Waiting, Zero}
 pub use Rattle.ksm_base.specs.declared.row.Row.{Row}
 pub use Rattle.ksm_base.specs.declared.shape.Shape.{Shape}
-pub use Rattle.ksm_book.specs.Carried.{CarriedOut, JournaledBook, MovesTo, StoresTo, TakesSteps, unjournaled, UnmergesTo}
-pub use Rattle.ksm_book.specs.Commands.{Deed, dup_frame, emptying, Finds, FindsHeld, FindsNone, frame_found, frame_number, frame_on, handling, idle, instead, IsIdle, joining, leaving, Mapped, mounting, Moves, pairing, Performs, Provides, pruning, Resettles, ResettlesEach, rewriting, row_visiting, scanning, staying, then_doing, TurnsAway, visiting, visiting_of, withdrawing}
+pub use Rattle.ksm_book.specs.Carried.{CarriedOut, JournaledBook, UnmergesTo}
+pub use Rattle.ksm_book.specs.Commands.{Deed, dup_frame, emptying, Finds, FindsHeld, FindsNone, frame_found, frame_number, frame_on, handling, idle, instead, joining, leaving, Mapped, mounting, Moves, pairing, Performs, Provides, pruning, Resettles, ResettlesEach, rewriting, row_visiting, scanning, staying, then_doing, visiting, visiting_of, withdrawing}
 pub use Rattle.ksm_book.specs.Folded.{begun, IsBeside, IsStill, last_of, mergeable_pages, next_visited, page_visited, pages_ahead, pages_visited, pass_at, restless_at, restless_row, visited, visits_beside}
-pub use Rattle.ksm_tree.specs.NumberSets.{has, HasNone, IsLeast, Marks}
-pub use Rattle.ksm_book.specs.FrameSets.{AreSets, IsFirstOf, IsSetOf, NoneOf}
+pub use Rattle.ksm_tree.specs.NumberSets.{has, Marks}
+pub use Rattle.ksm_book.specs.FrameSets.{AreSets, IsSetOf, NoneOf}
 pub use Rattle.ksm_book.specs.Keeping.{holding, IsLawful, Keeps, NoneLeft, past_lives, spent, spent_on, Took, with_more}
-pub use Rattle.ksm_book.specs.Laid.{HasRemounted, Houses, IsLaid, LoadsIf, lying, MayMove, MovesOr, Resettled, state_of, TurnedAway}
-pub use Rattle.ksm_book.specs.Mounted.{HasLost, HasMoved, IsMoved, MayMount, once_mounted}
+pub use Rattle.ksm_book.specs.Laid.{HasRemounted, Houses, IsLaid, LoadsIf, lying, MayMove, Resettled, state_of, TurnedAway}
+pub use Rattle.ksm_book.specs.Mounted.{HasLost, HasMoved, MayMount, once_mounted}
 pub use Rattle.ksm_book.specs.Placement.{Agrees, DupFits, FitsBase, in_hand, is_frame, IsInLife, IsServed, kind_for, life_or, node_of, place_frame, place_life, Placed, RowFits, uses}
 pub use Rattle.ksm_book.specs.Promised.{dup_frames, FindsPlace, HasItsOwn, is_in_use, IsOutlived, LieOn, NumbersAreSmall, own_frames, StandsOn}
-pub use Rattle.ksm_book.specs.Scanned.{ahead_before, ahead_up_to, AreListed, Comes, doing, EndsAt, from_to, GoesOn, HasScanned, HasStayed, HasVisited, is_nowhere, IsForZero, last_visited, ListsAll, MayJoin, MeetsPage, Reached, StopsAt, StopsBefore, StopsShort, up_to, VisitsPage}
+pub use Rattle.ksm_book.specs.Scanned.{AreListed, Comes, doing, EndsAt, from_to, HasScanned, HasStayed, is_nowhere, IsForZero, last_visited, ListsAll, MayJoin, MeetsPage, Reached, up_to, VisitsPage}
 pub use Rattle.ksm_book.specs.Steps.{along, Did, Does, dying_from, dying_kind, dying_on, free_kind, given_by, Gives, IsLowestFree, IsNeeded, loads, Log, Made, needed_after, puts, replayed, stepped, steps_of}
 pub use Rattle.ksm_book.specs.Unmerged.{Gave, HasLeft, is_shared_of, IsStop, left_by, MayNotLeave, shared_of, Unshares}
 pub use Rattle.ksm_book.specs.Whole.{BookValue, BookView, HasShown, listed, mapped, nodes_got, view_of}
@@ -77,17 +77,17 @@ pub use Rattle.ksm_rmap.proofs.Pages.{pages_ordered}
 pub use Rattle.ksm_rmap.specs.Items.{AreAscending, has_item}
 pub use Rattle.ksm_tree.proofs.Alike.{count_alike, count_mapped, filter_mapped, find_mapped, map_alike, map_mapped, pairs_mapped}
 pub use Rattle.ksm_tree.specs.declared.dup.Best.{Best}
-pub use Rattle.std.proofs.Common.{[], ap, append-nil, append_assoc, arith, Bool, cond, drop, eq-eqb, Err, false, get_or, get_or-set_other, get_or-set_same, inl, inr, IsSome, length, length-set, List, map, None, Ok, Option, refl, replicate, rules, set, shr-shr, slice_index_or, Some, subst, suc, suc-mul, sym, take, take_all, true, true≢false, w64, zero, zero-mul, ℕ, ◌%◌, ◌*◌, ◌++◌, ◌+◌, ◌-◌, ◌/◌, ◌<◌, ◌^◌, ◌∙◌, ◌∷◌, ◌≡◌, ◌≢◌, ◌≤◌, ◌⊎◌}
-pub use Rattle.std.proofs.Math.Bool.{and-true, or-false}
+pub use Rattle.std.proofs.Common.{[], ap, append-nil, append_assoc, arith, Bool, cond, drop, eq-eqb, Err, false, get_or, get_or-set_other, get_or-set_same, inl, inr, IsSome, length, length-set, List, map, None, Ok, Option, refl, replicate, rules, set, slice_index_or, Some, subst, suc, suc-mul, sym, take, true, true≢false, zero, zero-mul, ℕ, ◌%◌, ◌*◌, ◌++◌, ◌+◌, ◌-◌, ◌/◌, ◌<◌, ◌^◌, ◌∙◌, ◌∷◌, ◌≡◌, ◌≢◌, ◌≤◌, ◌⊎◌}
+pub use Rattle.std.proofs.Math.Bool.{and-true}
 pub use Rattle.std.proofs.Math.Dec.{eqb}
 pub use Rattle.std.proofs.Math.ListN.{drop_of_length-le}
-pub use Rattle.std.proofs.Math.Nat.{div-le_self, mul_comm}
+pub use Rattle.std.proofs.Math.Nat.{mul_comm}
 pub use Rattle.std.proofs.Math.Seq.{take-append_seam}
-pub use Rattle.std.proofs.lemmas.Bool.{and_parts, and_right, both_ways, cases_Bool, cases_eq, cases_lt, cases_order, cond-false, cond-true, cond_both, eqb-true, false≢true, leb-true, lt-ltb, ltb-true, ne_eqb, not-false, not-true, or_right}
+pub use Rattle.std.proofs.lemmas.Bool.{and_parts, and_right, both_ways, cases_Bool, cases_eq, cases_lt, cond-false, cond-true, cond_both, eqb-true, lt-ltb, ltb-true, ne_eqb, not-false, not-true}
 pub use Rattle.std.proofs.lemmas.Bool.Decides.{nat_tests}
-pub use Rattle.std.proofs.lemmas.List.{append_cancel_left, drop-append-le, drop_more, get_or-drop, get_or-map, get_or-take, get_or_default, get_or_past, length-append, length-drop, length-map, length-replicate, length-take, length-take-le, map-append, replicate-append-replicate, set-get_or, set-set, set_at, take-append-drop, take_more}
+pub use Rattle.std.proofs.lemmas.List.{append_cancel_left, drop-append-le, drop_more, get_or-drop, get_or-map, get_or-take, get_or_default, get_or_past, length-append, length-drop, length-map, length-replicate, length-take, length-take-le, map-append, replicate-append-replicate, set-get_or, set-set, take-append-drop, take_more}
 pub use Rattle.std.proofs.lemmas.List.Elements.{All-append, All-cons, All-contains_itself, All-filter, All-head, All-map, All-tail, All-weaker, Contains-append_left, Contains-append_right, Contains-push, filter-append, filter_passes}
-pub use Rattle.std.proofs.lemmas.List.Folds.{find-append, list_any-append, list_any_at, list_any_none, map_fixed}
+pub use Rattle.std.proofs.lemmas.List.Folds.{find-append, list_any_at, list_any_none, map_fixed}
 pub use Rattle.std.proofs.lemmas.List.FromFn.{get_or-range_with_len, length-range_with_len}
 pub use Rattle.std.proofs.lemmas.List.Kept.{AllPairs-cons, AllPairs-filter}
 pub use Rattle.std.proofs.lemmas.List.Sums.{count_by-le-length, length-filter, sum_by-cons, sum_by-le, sum_by-set}
@@ -95,9 +95,7 @@ pub use Rattle.std.proofs.lemmas.Map.Keys.{IsDistinct-from_apart}
 pub use Rattle.std.proofs.lemmas.Map.Steps.{length-le_from_distinct_below}
 pub use Rattle.std.proofs.lemmas.Map.Views.{any-filter_same, Contains-from_any}
 pub use Rattle.std.proofs.lemmas.Nat.{div-mul-add}
-pub use Rattle.std.proofs.lemmas.Nat.Bits.{bit_at-trailing_zeros, bit_at-zero, bit_at_above, bit_at_clear_other, bit_at_clear_same, bit_at_ones, bit_at_set_other, bit_at_set_same}
 pub use Rattle.std.proofs.lemmas.Option.{get_or_from_slice_get, same_Some, slice_get-get_or, slice_get-map, slice_get_past, slice_get_within}
-pub use Rattle.std.specs.Int.{bit_at, trailing_zeros}
 pub use Rattle.std.specs.List.{list_any, range_with_len, sum_by}
 pub use Rattle.std.specs.Option.{option_or}
-pub use Rattle.std.specs.Prelude.{All, AllPairs, Contains, count_by, filter, find, IfErr, IfSome, if◌then◌else◌, is_none, is_some, MatchBool, MatchOption, max, min, nat_le, nat_lt, not, option_and_then, option_map, Result, slice_get, slice_index, slice_set, ⊤, ◌&&◌, ◌==◌, ◌||◌}
+pub use Rattle.std.specs.Prelude.{All, AllPairs, Contains, count_by, filter, find, IfErr, IfSome, if◌then◌else◌, is_none, is_some, MatchBool, MatchOption, max, min, nat_le, nat_lt, not, option_map, Result, slice_get, slice_index, ⊤, ◌&&◌, ◌==◌, ◌||◌}

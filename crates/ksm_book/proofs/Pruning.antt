@@ -1,7 +1,7 @@
 -- Stale dups go one by one.
-use Rattle.ksm_book.proofs.Names.{[], All, All-head, All-tail, ap, append-nil, append_assoc, arith, cases_Bool, count_by, count_by-le-length, did, DupRow, elsewhere, eqb-true, false, filter, filter_all, filter_none, find, find_all, find_none, find_passes, frames_of, get_or, has_items, inl, InPlaceOrder, inr, is_stale, IsLaid, IsVacant, item_count, KeeperView, length, length-filter, List, lying, Made, map, nat_tests, None, not, one_of_each_place, option_map, ordered_filter, PagesView, pairs_tail, Performs, pruning, refl, Row, Shape, Some, subst, suc, sym, true, Withdraw, ℕ, ◌++◌, ◌+◌, ◌<◌, ◌==◌, ◌^◌, ◌∙◌, ◌∷◌, ◌≡◌, ◌≤◌, May, length-append, map-append}
+use Rattle.ksm_book.proofs.Names.{[], All, All-head, All-tail, ap, append-nil, append_assoc, arith, cases_Bool, count_by, count_by-le-length, did, DupRow, elsewhere, eqb-true, false, filter, filter_all, filter_none, find, find_all, find_none, find_passes, frames_at_most, frames_of, get_or, has_items, inl, InPlaceOrder, inr, is_stale, IsLaid, IsVacant, item_count, KeeperView, length, length-append, length-filter, List, lying, Made, map, map-append, May, nat_tests, None, not, one_of_each_place, option_map, ordered_filter, PagesView, pairs_tail, Performs, pruning, refl, Row, Shape, Some, subst, suc, sym, true, Withdraw, ℕ, ◌++◌, ◌+◌, ◌<◌, ◌==◌, ◌^◌, ◌∙◌, ◌∷◌, ◌≡◌, ◌≤◌}
 use Rattle.std.proofs.lemmas.Bool.{eq-eqb}
-use Rattle.ksm_book.proofs.Sharing.{frames_few, laid_cleared, vacant_loose}
+use Rattle.ksm_book.proofs.Sharing.{laid_cleared, vacant_loose}
 use Rattle.ksm_book.proofs.Made.{made_one, made_then}
 use Rattle.ksm_book.proofs.Withdrawn.{elsewhere_so}
 use Rattle.ksm_book.proofs.ByPage.{mapped_from, none_mapped}
@@ -125,7 +125,7 @@ module _ {p q : PagesView} {k l : KeeperView} {count : ℕ} (h : Drops p q k l c
         length-filter (is_stale p.rows) p.dups,
         count_by-le-length (is_stale p.rows) p.dups,
         frames,
-        frames_few p.shape h.before.small,
+        frames_at_most p.shape h.before.small,
       )
 
   -- where the place of the first stale dup is withdrawn and that dup goes, one stale dup more went

@@ -1,5 +1,5 @@
 -- What becomes of the layout where rows change together, join a dup, or make or lose one.
-use Rattle.ksm_book.proofs.Names.{count_by, [], Add, All, All-filter, ap, arith, blank, Bool, cases_Bool, change_row, Contains, count_none, did, DupRow, elsewhere, eqb-true, false, filter, find, find_none, FitsBase, frame_at, Frames, frames_of, get_or, get_or-set_same, get_or_default, GuestPage, IfSome, inl, InPageOrder, inr, IsInLife, IsLaid, IsLoose, IsServed, IsShape, IsVacant, item_count, KeeperView, Kind, kind_for, Knobs, leaving, Ledger, ledger_after, length, lies_on, Life, life_or, List, list_any, Listing, Made, May, Merged, merged_into, merged_state, named_at, nat_lt, nat_tests, None, Note, Option, PageState, PagesView, past_lives, place_frame, Placed, Private, Publish, refl, Row, row_at, RowFits, set, set-get_or, settled, settled_state, Shape, shared_state, Some, spent, spent_on, Stable, Sub, subst, sum_by-le, sym, tree_of, true, Waiting, with_dup, with_frame, Withdraw, withdrawing, ℕ, ◌*◌, ◌++◌, ◌+◌, ◌-◌, ◌<◌, ◌==◌, ◌^◌, ◌∙◌, ◌∷◌, ◌≡◌, ◌≢◌, ◌≤◌, ◌⊎◌, if◌then◌else◌, both_ways, not-true, filter_passes, eq-eqb, none_found, find_all, find_passes}
+use Rattle.ksm_book.proofs.Names.{[], Add, All, All-filter, ap, arith, blank, Bool, both_ways, cases_Bool, change_row, Contains, count_by, count_none, did, DupRow, elsewhere, eq-eqb, eqb-true, false, filter, filter_passes, find, find_all, find_none, find_passes, FitsBase, frame_at, Frames, frames_at_most, frames_of, get_or, get_or-set_same, get_or_default, GuestPage, IfSome, if◌then◌else◌, inl, InPageOrder, inr, IsInLife, IsLaid, IsLoose, IsServed, IsShape, IsVacant, item_count, KeeperView, Kind, kind_for, Knobs, leaving, Ledger, ledger_after, length, lies_on, Life, life_or, List, list_any, Listing, Made, May, Merged, merged_into, merged_state, named_at, nat_lt, nat_tests, None, none_found, not-true, Note, Option, PageState, PagesView, past_lives, place_frame, Placed, Private, Publish, refl, Row, row_at, RowFits, set, set-get_or, settled, settled_state, Shape, shared_state, Some, spent, spent_on, Stable, Sub, subst, sum_by-le, sym, tree_of, true, Waiting, with_dup, with_frame, Withdraw, withdrawing, ℕ, ◌*◌, ◌++◌, ◌+◌, ◌-◌, ◌<◌, ◌==◌, ◌^◌, ◌∙◌, ◌∷◌, ◌≡◌, ◌≢◌, ◌≤◌, ◌⊎◌}
 use Rattle.ksm_book.proofs.Moves.{Serves, joined, published, base_is_items, stale_is_loose}
 use Rattle.ksm_book.proofs.Laying.{LodgesAs, laid_rows, own_kind, served_at, shape_same}
 use Rattle.ksm_book.proofs.Keeping.{added_placed, added_spends, left_placed, left_spends, lives_most, may_leave, past_le, spent_set}
@@ -152,10 +152,6 @@ above_elsewhere place (d ∷ ds) = grind (arith, nat_tests, above_elsewhere plac
 product_most : (a b m n : ℕ) → a ≤ m → b ≤ n → a * b ≤ m * n
 product_most a b m n le le' = grind (arith, le, le')
 
--- there are 1,024 frames at most
-pub frames_few : (sh : Shape) → IsShape sh → frames_of sh ≤ 1024
-frames_few sh small = (let a = small.nodes_high in let b = small.frames_high in product_most sh.nodes sh.frames_per_node 4 256 a b)
-
 -- fewer than 2^50 dups were ever made, since each spent a life of a frame
 pub spent_most : {v : PagesView} {k : KeeperView} → IsLaid v k → v.next ≤ 2 ^ 50
 spent_most {v} {k} h =
@@ -167,7 +163,7 @@ spent_most {v} {k} h =
     let lived = lives_most last (frame_at k.ledger i).generation (frame_at k.ledger i).kind (p.lives i) in
     subst (λ (x : Note). spent_on x ≤ last) (sym (get_or_default k.ledger.frames i d blank lt)) (omega (arith, past, lived))) in
     let long : length k.ledger.frames ≡ frames_of sh = p.frames_long in
-    let few : frames_of sh ≤ 1024 = frames_few sh h.small in
+    let few : frames_of sh ≤ 1024 = frames_at_most sh h.small in
     let short : length k.ledger.frames * last ≤ 1024 * 1099511627776 = product_most (length k.ledger.frames) last 1024 1099511627776
     (omega (arith, long, few)) h.small.generation_high in
     let s = h.spent in

@@ -1,11 +1,11 @@
 -- The definitions, and the laws of the libraries and crates below, by their names, for proofs.
-pub use Rattle.ksm_base.proofs.Edits.{count-append, count_more, count_none, find_all, find_filter, find_none, find_nothing, find_over, find_passes, none_counted}
-pub use Rattle.ksm_base.proofs.Orders.{each_has_number, filter_none, one_of_each_page, one_of_each_place, ordered_change, ordered_map, ordered_with, ordered_without, pairs_append, pairs_head, pairs_tail}
+pub use Rattle.ksm_base.proofs.Edits.{count-append, count_none, find_all, find_filter, find_none, find_nothing, find_over, find_passes, none_counted}
+pub use Rattle.ksm_base.proofs.Orders.{each_has_number, filter_none, one_of_each_page, one_of_each_place, ordered_change, ordered_map, ordered_with, ordered_without, pairs_head, pairs_tail}
 pub use Rattle.ksm_base.proofs.Pages.{before_irrefl, before_trans, one_before, same_page_eq, same_page_refl, same_page_sym}
 pub use Rattle.ksm_base.proofs.RowCounts.{each_at_page, filter_all}
 pub use Rattle.ksm_base.proofs.Sums.{states-add}
 pub use Rattle.ksm_base.specs.Apply.{fresh_row, let_go, stored, unshared}
-pub use Rattle.ksm_base.specs.Counting.{counters_from, mergeable_count, shared_count}
+pub use Rattle.ksm_base.specs.Counting.{counters_from, shared_count}
 pub use Rattle.ksm_base.specs.Reading.{items_of, place_of}
 pub use Rattle.ksm_base.specs.Rows.{all_zero, change_row, change_rows, comes_before, dup_numbered, has_items, InPageOrder, InPlaceOrder, item_count, merged_into, merged_state, private_state, row_at, same_page, settled, settled_state, shared_state, waiting_state, with_dup, with_row, without_page, zero_state}
 pub use Rattle.ksm_base.specs.State.{default_knobs, place_count, tree_of}
@@ -46,7 +46,7 @@ pub use Rattle.ksm_tree.specs.Choosing.{best_of, found_at}
 pub use Rattle.ksm_tree.specs.Dups.{AreDups, change_items, dup_at, dup_of, DupsState, has_number, is_live, is_stale, items_in, stands_at, with_new}
 pub use Rattle.ksm_tree.specs.Numbered.{number_of}
 pub use Rattle.ksm_tree.specs.Waits.{AreWaiting, IsAdded, IsStopped, names, waiting_page, WaitingPage, waits_there}
-pub use Rattle.ksm_tree.specs.declared.choice.Choice.TheVariants.{Empty, Stale}
+pub use Rattle.ksm_tree.specs.declared.choice.Choice.TheVariants.{Stale}
 pub use Rattle.ksm_tree.specs.declared.dup.Best.{Best}
 pub use Rattle.ksm_tree.specs.declared.dup.Dup.{Dup}
 pub use Rattle.slab.proofs.SlabLemmas.{Updates-with_value}
@@ -59,13 +59,13 @@ pub use Rattle.std.proofs.lemmas.Bool.Decides.{Decides-eqb, nat_tests}
 pub use Rattle.std.proofs.lemmas.Fn.{filter_same}
 pub use Rattle.std.proofs.lemmas.Iterator.{YieldsList-from_slice}
 pub use Rattle.std.proofs.lemmas.Iterator.Consumers.{nth_from_yields_List, YieldsList-from_filter}
-pub use Rattle.std.proofs.lemmas.List.{append-nil, append_assoc, drop-set-lt, drop_all, drop_at, drop_more, get_or-append_right, get_or-map, get_or-set_same, get_or_append_left, get_or_at, get_or_default, length-append, length-drop, length-map, length-replicate, length-take-le, map-append, nil_from_length, set-get_or, set_split, take-append-drop, take-set, take_all, take_at, take_rest}
+pub use Rattle.std.proofs.lemmas.List.{append-nil, append_assoc, drop-set-lt, drop_all, drop_at, drop_more, get_or-set_same, get_or_append_left, get_or_at, get_or_default, length-append, length-drop, length-map, length-take-le, map-append, nil_from_length, set_split, take-append-drop, take-set, take_all, take_at, take_rest}
 pub use Rattle.std.proofs.lemmas.List.Concat.{flat_map-append}
-pub use Rattle.std.proofs.lemmas.List.Edits.{insert-append_right, length-insert, length-remove, remove-append_right}
-pub use Rattle.std.proofs.lemmas.List.Elements.{All-append, All-cons, All-drop, All-filter, All-head, All-map, All-nil, All-set, All-tail, All-take, All-weaker, filter-append, filter_passes}
+pub use Rattle.std.proofs.lemmas.List.Edits.{length-insert, length-remove}
+pub use Rattle.std.proofs.lemmas.List.Elements.{All-append, All-cons, All-drop, All-filter, All-head, All-map, All-nil, All-set, All-tail, All-take, filter-append, filter_passes}
 pub use Rattle.std.proofs.lemmas.List.Filters.{length-filter_both}
 pub use Rattle.std.proofs.lemmas.List.Folds.{find-append, list_any-append}
-pub use Rattle.std.proofs.lemmas.List.Kept.{AllPairs-cons, AllPairs-filter}
+pub use Rattle.std.proofs.lemmas.List.Kept.{AllPairs-filter}
 pub use Rattle.std.proofs.lemmas.List.Sorted.{IsPartitionPoint-from_clause}
 pub use Rattle.std.proofs.lemmas.List.Sums.{count_by-le-length, length-filter, sum_by-insert, sum_by-remove, sum_by-set}
 pub use Rattle.std.proofs.lemmas.Map.Views.{any-filter_same, Contains-from_any}
