@@ -436,8 +436,7 @@ impl<N: Naming> Session<N> {
         tell_other::<P, S>(to, answer)
     }
 
-    // Makes a command. It is inlined, so that the command is laid once where the book takes it.
-    #[inline(always)]
+    // Makes a command.
     fn apply<R: Wait>(&mut self, rt: &R, command: Command) -> Result<Reply, Fault>
         ensures answers { Commands command self.old.state (Some (reply_to result)) self.new.state }
     {
