@@ -157,7 +157,7 @@ impl Rows {
         }
     }
 
-    /// The same, with the key of the row.
+    /// The same, with a guess of the row's key.
     #[inline(always)]
     pub fn look_up(&self, spot: Spot) -> Option<(Spot, &Entry)>
         ensures { MatchOption result (held_at spot.page self.now.held ≡ None) (λ found.

@@ -262,7 +262,7 @@ pub(crate) trait TakesLines<R, W: Write> {
     /// The bytes that the reader still gives, where they are known.
     ghost remaining: { R → Option (List ℕ) };
 
-    /// From the one reader to the other nothing was read that might have to be waited for.
+    /// Between the two readers no input was waited for. Where nothing is kept unsent, it says nothing.
     ghost waits_not: { R → R → Type 0 };
 
     /// All that the writer was given is sent.
@@ -292,7 +292,7 @@ pub(crate) trait TakesLines<R, W: Write> {
         ensures none { IfNone result (reader.new ≡ reader.old) };
 
     /// Reads a line up to its newline, to the end of the input, or until it is too long. At a fault the line has what
-    /// was read of it. Where it may have waited, all replies were sent before.
+    /// was read of it. Where it may have waited, all replies are sent when it ends.
     fn next_line(reader: &mut R, writer: &mut W, line: &mut LineBuffer) -> Result<LineEnd, RunFault>
         ensures read { IfOk result (λ end. (bytes : List ℕ) × EndsAs end line.new bytes
             × Consumes (remaining reader.old) (remaining reader.new) bytes) }

@@ -1,10 +1,10 @@
-//! A set of places with how many they are.
+//! A set of numbers below 1,024, with how many of the places that there are it has.
 ghost use Rattle.std.specs.Prelude.{true, false};
 ghost use Rattle.ksm_tree.specs.CountedSets.{IsMarked, MayBeMarked};
 
 use crate::number_set::NumberSet;
 
-/// A set of places, and how many are in it.
+/// A set of numbers, and how many of the places are in it.
 #[derive(Drop)]
 pub struct CountedSet {
     pub set: NumberSet,
