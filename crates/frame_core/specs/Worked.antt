@@ -1,6 +1,7 @@
 -- Worked runs of the least table, one frame, one place and one seat: what is told from their traces. Own.
-use Rattle.std.specs.Prelude.{ℕ, List, [], ◌∷◌, ◌++◌, Some}
+use Rattle.std.specs.Prelude.{◌≡◌, ℕ, List, [], ◌∷◌, ◌++◌, Some, None}
 use Rattle.frame_core.specs.Terms.{Shape, Event, Reader, Keeper, LoadPlace, LoadFrame, Exchange, LoadWord, Put, Raise, Open, Add, Sub, Reap, Publish, Private, Ledger}
+use Rattle.frame_core.specs.Steps.{step}
 use Rattle.frame_core.specs.Trace.{Entry, History, run_of}
 
 abbrev pub least : Shape
@@ -32,6 +33,17 @@ held = published ++ begins ++ Reader 0 Exchange ∷ Reader 0 (LoadWord 1) ∷ gi
 abbrev pub taken : List Event
 taken = published ++ begins ++ Reader 0 Exchange ∷ []
 
+-- after these events this one is not allowed
+abbrev pub IsRefused : List Event → Event → Type 0
+IsRefused events e = step least (run_of least events).state e ≡ None
+
+-- the frame is opened, and given back again
+abbrev pub opened : List Event
+opened = Keeper (Raise 0) ∷ Keeper (Open 0) ∷ []
+
+abbrev pub dying : List Event
+dying = opened ++ Keeper (Sub 0) ∷ []
+
 -- then this step was made, and found this word
 abbrev pub and_then : Event → ℕ → List Entry
 and_then e word = record { event = e; word = word } ∷ trace_of taken
@@ -46,3 +58,10 @@ writable = record {
 abbrev pub taken_and_writable : History
 taken_and_writable =
     let past = run_of least taken in record { state = record past.state { ledger = writable }; trace = past.trace }
+
+-- two frames and two places: the place 0 names the frame 0, which is stable, and the frame 1 is private
+abbrev pub two_frames : Shape
+two_frames = record least { frames_per_node = 2 }
+
+abbrev pub named_and_private : List Event
+named_and_private = published ++ Keeper (Raise 1) ∷ Keeper (Open 1) ∷ []

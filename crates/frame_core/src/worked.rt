@@ -1,13 +1,15 @@
 //! Worked runs: what the trace of a run tells of holders, named words and words read.
 ghost use Rattle.std.specs.Prelude.{◌≡◌, true, false, [], ◌∷◌, ◌++◌, Some, None};
 ghost use Rattle.ksm_base.specs.declared.limits.TheConstants.{PLACE_SPAN};
+ghost use Rattle.ksm_base.specs.declared.page.TheConstants.{PAGE_WORDS};
 ghost use Rattle.frame_core.specs.declared.event.Event.TheVariants.{Reader, Keeper};
-ghost use Rattle.frame_core.specs.declared.event.KeeperStep.TheVariants.{Raise, Open};
-ghost use Rattle.frame_core.specs.declared.event.ReaderStep.TheVariants.{Leave, LoadWord};
+ghost use Rattle.frame_core.specs.declared.event.KeeperStep.TheVariants.{Reap, Put, Raise, Open, Add, Sub, Publish, Withdraw, Freeze, Word};
+ghost use Rattle.frame_core.specs.declared.event.ReaderStep.TheVariants.{LoadPlace, LoadFrame, Exchange, Leave, LoadWord};
 ghost use Rattle.frame_core.specs.Safe.{IsSafe, GivenUnheld};
 ghost use Rattle.frame_core.specs.Seat.{aim_at};
-ghost use Rattle.frame_core.specs.Trace.{life_of, holders, named_word, words_read, given_since, HoldsRightly};
-ghost use Rattle.frame_core.specs.Worked.{least, trace_of, published, two_lives, held, taken, and_then, taken_and_writable};
+ghost use Rattle.frame_core.specs.Steps.{step};
+ghost use Rattle.frame_core.specs.Trace.{run_of, life_of, holders, named_word, words_read, given_since, HoldsRightly};
+ghost use Rattle.frame_core.specs.Worked.{least, trace_of, IsRefused, opened, dying, published, begins, two_lives, held, taken, and_then, taken_and_writable, two_frames, named_and_private};
 
 /// Two lives in one word: the exchange fails though the count is the one that was loaded, so nobody holds the frame in its second life,
 /// which was named nowhere.
@@ -47,4 +49,45 @@ pub fn a_held_frame_that_is_given_or_written()
     ensures raised { ¬ GivenUnheld 1 (and_then (Keeper (Raise 0)) 0) }
     ensures opened { ¬ GivenUnheld 1 (and_then (Keeper (Open 0)) 0) }
     ensures written { ¬ IsSafe least taken_and_writable }
+{}
+
+/// What the keeper may not do with a frame: each step where the frame is used for something else.
+pub fn frames_that_refuse_the_keeper()
+    ensures reap { IsRefused opened (Keeper (Reap 0)) }
+    ensures put { IsRefused [] (Keeper (Put 0 0 7)) × IsRefused published (Keeper (Put 0 0 7)) }
+    ensures raise { IsRefused opened (Keeper (Raise 0)) × IsRefused dying (Keeper (Raise 0)) }
+    ensures open { IsRefused [] (Keeper (Open 0)) × IsRefused opened (Keeper (Open 0)) }
+    ensures add { IsRefused [] (Keeper (Add 0)) × IsRefused dying (Keeper (Add 0)) }
+    ensures sub { IsRefused [] (Keeper (Sub 0)) × IsRefused dying (Keeper (Sub 0)) }
+    ensures freeze { IsRefused opened (Keeper (Freeze 0)) × IsRefused dying (Keeper (Freeze 0)) }
+    ensures word { IsRefused [] (Keeper (Word 0 0)) × IsRefused (Keeper (Raise 0) ∷ []) (Keeper (Word 0 0)) }
+{}
+
+/// What the keeper may not do at a place: name a frame that is not private, or change one that names a stable frame in its present life.
+pub fn places_that_refuse_the_keeper()
+    ensures unopened { IsRefused [] (Keeper (Publish 0 0)) × IsRefused (Keeper (Raise 0) ∷ []) (Keeper (Publish 0 0)) }
+    ensures dying { IsRefused dying (Keeper (Publish 0 0)) }
+    ensures live { IsRefused published (Keeper (Publish 0 0)) × IsRefused published (Keeper (Withdraw 0)) }
+    ensures live_beside { step two_frames (run_of two_frames named_and_private).state (Keeper (Publish 0 1)) ≡ None }
+    ensures empty_beside { ¬ (step two_frames (run_of two_frames named_and_private).state (Keeper (Publish 1 1)) ≡ None) }
+{}
+
+/// What lies outside the table: a frame, a place, a word or a seat that it does not have.
+pub fn steps_outside_the_table()
+    ensures frames { IsRefused [] (Keeper (Raise 1)) × IsRefused [] (Keeper (Reap 1)) × IsRefused [] (Keeper (Open 1)) × IsRefused [] (Keeper (Freeze 1)) }
+    ensures references { IsRefused opened (Keeper (Add 1)) × IsRefused opened (Keeper (Sub 1)) }
+    ensures words { IsRefused opened (Keeper (Put 0 PAGE_WORDS 7)) × IsRefused opened (Keeper (Word 0 PAGE_WORDS)) × IsRefused opened (Keeper (Put 1 0 7)) }
+    ensures places { IsRefused opened (Keeper (Publish 1 0)) × IsRefused opened (Keeper (Publish 0 1)) × IsRefused [] (Keeper (Withdraw 1)) }
+    ensures lookups { IsRefused [] (Reader 0 (LoadPlace 1)) × IsRefused [] (Reader 1 (LoadPlace 0)) }
+    ensures loads { IsRefused taken (Reader 0 (LoadWord PAGE_WORDS)) }
+{}
+
+/// What a reader may not do, as far as its lookup has come.
+pub fn readers_that_are_refused()
+    ensures idle { IsRefused published (Reader 0 LoadFrame) × IsRefused published (Reader 0 Exchange) × IsRefused published (Reader 0 Leave) × IsRefused published (Reader 0 (LoadWord 0)) }
+    ensures placed { IsRefused (published ++ Reader 0 (LoadPlace 0) ∷ []) (Reader 0 (LoadPlace 0)) × IsRefused (published ++ Reader 0 (LoadPlace 0) ∷ []) (Reader 0 Exchange) }
+    ensures placed_not_held { IsRefused (published ++ Reader 0 (LoadPlace 0) ∷ []) (Reader 0 Leave) × IsRefused (published ++ Reader 0 (LoadPlace 0) ∷ []) (Reader 0 (LoadWord 0)) }
+    ensures counted { IsRefused (published ++ begins) (Reader 0 (LoadPlace 0)) × IsRefused (published ++ begins) (Reader 0 LoadFrame) × IsRefused (published ++ begins) (Reader 0 Leave) }
+    ensures counted_not_held { IsRefused (published ++ begins) (Reader 0 (LoadWord 0)) }
+    ensures held { IsRefused taken (Reader 0 (LoadPlace 0)) × IsRefused taken (Reader 0 LoadFrame) × IsRefused taken (Reader 0 Exchange) }
 {}
