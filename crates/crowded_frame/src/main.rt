@@ -7,6 +7,7 @@
 #![tactic(auto)]
 
 mod keeper;
+mod moments;
 mod reader;
 mod table;
 

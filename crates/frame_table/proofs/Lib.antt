@@ -22,3 +22,5 @@ pub mod NoLookups
 pub mod Running
 pub mod Seatings
 pub mod TrueEntries
+pub mod Moment
+pub mod Unsafe

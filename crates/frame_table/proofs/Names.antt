@@ -7,7 +7,7 @@ pub use Rattle.frame_table.specs.Orders.{Begins, IsPresent, later}
 pub use Rattle.frame_table.specs.Reading.{NamesFrame, Steps, StepsAt, StepsNow, loads_place, loads_word, reader_after, tells, word_at}
 pub use Rattle.frame_table.specs.Rounds.{GoesRound}
 pub use Rattle.frame_table.specs.Rule.{Holds, IsAfter, IsInOrder, Tied, all_views, first_view, is_out}
-pub use Rattle.frame_table.specs.Running.{HoldIs, LedgerIs, TheTableRunsSafely}
+pub use Rattle.frame_table.specs.Running.{HoldIs, IsKeepers, LedgerIs, TheTableRunsSafely}
 pub use Rattle.frame_table.specs.Seat.{reader_word, written}
 pub use Rattle.frame_table.specs.Seats.{Ends, new_pass, newcomer, one_less, one_more}
 pub use Rattle.frame_table.specs.Steps.{IsKeeperStep, IsReaderStep}

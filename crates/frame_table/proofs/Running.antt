@@ -1,11 +1,11 @@
 -- The rule of the table says that it runs safely.
-use Rattle.std.proofs.Common.{◌≡◌, ℕ, suc, ◌<◌, ◌≤◌, List, take, get_or, Option, ap, sym, ◌∙◌, refl, subst, arith, eq-eqb}
+use Rattle.std.proofs.Common.{◌≡◌, ◌↔◌, ℕ, zero, suc, ◌<◌, ◌≤◌, List, take, get_or, Option, ap, sym, ◌∙◌, refl, subst, arith, eq-eqb}
 use Rattle.std.proofs.lemmas.Option.{slice_get_within, get_or_from_slice_get}
 use mathlib.Core.Option.{some}
 use lib.ListN.{get_elem?}
 use Rattle.frame_table.proofs.CoreNames.{PAGE_WORDS, Shape, frames_of, Event, Ledger, Aim, Held, State, count_in, life_in, words_of, frame_word_at, frame_at, IsWritable, Rule, SeatRule, is_on, phase_at, History, run_of, keeper_log_of, IsSafe}
 use Rattle.frame_core.proofs.Above.{not_held, referenced, count_found, life_found, word_get, content_get, place_get, run_safe, run_given}
-use Rattle.frame_table.proofs.Names.{Tally, Keeper, Spent, Moment, Holds, KeeperLog, TheTableRunsSafely, LedgerIs, HoldIs}
+use Rattle.frame_table.proofs.Names.{Tally, View, Keeper, Reader, Spent, Moment, Holds, Tied, IsKeepers, KeeperLog, TheTableRunsSafely, LedgerIs, HoldIs}
 use Rattle.frame_table.proofs.Making.{kept, seen, seated, phase_is}
 
 -- what is known of the words, in a state of the core
@@ -60,6 +60,15 @@ module _ (sh : Shape) (t : Moment) (h : Holds sh t) where
             (λ i. (sym h.after.words_are i, sym tied.1 i, sym tied.3 i)) (ledger_is sh past (kept sh t h) (run_safe sh h.shape h.events)),
       )
 
+-- the rule ties the keeper's view to the seat 0 alone
+keepers_are : (sh : Shape) (h : History) (tally : Tally) (j : ℕ) (v : View) → Tied sh h tally j v → IsKeepers v ↔ j ≡ 0
+keepers_are sh h tally zero (Keeper sh' ledger tally' log order) tied = ((λ k. refl), (λ e. tt))
+keepers_are sh h tally (suc q) (Reader sh' phase log order) tied = ((λ k. absurd k), (λ e. absurd (omega (arith, e))))
+keepers_are sh h tally (suc q) Spent tied = ((λ k. absurd k), (λ e. absurd (omega (arith, e))))
+keepers_are sh h tally zero (Reader sh' phase log order) tied = absurd tied
+keepers_are sh h tally zero Spent tied = absurd tied
+keepers_are sh h tally (suc q) (Keeper sh' ledger tally' log order) tied = absurd tied
+
 -- a table that keeps its rule runs safely
 pub runs_safely : TheTableRunsSafely
 runs_safely sh t h =
@@ -69,6 +78,7 @@ runs_safely sh t h =
       events = h.events;
       words = h.after.words_are;
       rule = rule;
+      keepers = λ j v at. keepers_are sh (past sh t h) h.tally j v (seen sh t h j v at);
       keeper = keeper_is sh t h;
       reader = λ q sh' phase log order at. let tied = seen sh t h (suc q) _ at in (tied.0, seated sh t h q _ at, tied.1);
       given_back = λ q at. seated sh t h q Spent at;

@@ -16,4 +16,5 @@ pub mod Gone
 pub mod Seats
 pub mod Running
 pub mod Truth
+pub mod Moments
 pub mod Worked

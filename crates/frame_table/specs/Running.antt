@@ -1,5 +1,5 @@
 -- What is true of the running table between any two steps of any threads, in its own words and views (own).
-use Rattle.std.specs.Prelude.{◌≡◌, ℕ, suc, ◌+◌, ◌<◌, ◌≤◌, List, length, take, slice_get, slice_index, Option, Some}
+use Rattle.std.specs.Prelude.{◌≡◌, ◌↔◌, ℕ, suc, ◌+◌, ◌<◌, ◌≤◌, List, length, take, slice_get, slice_index, Option, Some}
 use mathlib.Core.Option.{some}
 use lib.ListN.{get_elem?}
 use Rattle.atomic_table.specs.Table as table
@@ -32,12 +32,19 @@ pub record HoldIs (sh : Shape) (words : List ℕ) (aim : Aim) (known : List (Opt
   pub referenced : 1 ≤ count_in (slice_index words (frame_word_at (frames_of sh) aim.life.frame))
   pub read : (i word : ℕ) → slice_get known i ≡ Some (Some word) → slice_index words (content_at (frames_of sh) aim.life.frame i) ≡ word
 
+-- the view is the keeper's
+abbrev pub IsKeepers : View → Type 0
+IsKeepers (Keeper sh ledger tally log order) = Unit {0}
+IsKeepers _ = ⊥
+
 -- there are steps, in one order, such that
 pub record RunsSafely (sh : Shape) (t : table.State (Unit {0}) View) : Type 0 where
   pub events : List Event
   -- the words are those of the core after them, which keeps its rule
   pub words : t.words ≡ words_of (run_of sh events).state
   pub rule : core.Rule sh (run_of sh events).state
+  -- the seat 0 is the keeper's, and no other
+  pub keepers : (j : ℕ) (v : View) → get_elem? t.views j ≡ some v → IsKeepers v ↔ j ≡ 0
   -- the keeper's view is the core's ledger; a pass has come as far as its seat of the core has, and logs its part; one that was given back is idle
   pub keeper : (sh' : Shape) (ledger : Ledger) (tally : Tally) (log : KeeperLog) (order : List Event)
       → get_elem? t.views 0 ≡ some (Keeper sh' ledger tally log order) → (sh' ≡ sh) × LedgerIs sh (run_of sh events) t.words ledger log
@@ -58,6 +65,14 @@ pub record RunsSafely (sh : Shape) (t : table.State (Unit {0}) View) : Type 0 wh
   pub unwritten : (ledger : Ledger) (tally : Tally) (kept : KeeperLog) (seen : List Event) (q : ℕ) (aim : Aim) (known : List (Option ℕ)) (log : ReaderLog)
       (order : List Event) → get_elem? t.views 0 ≡ some (Keeper sh ledger tally kept seen)
       → get_elem? t.views (suc q) ≡ some (Reader sh (Held aim known) log order) → ¬ IsWritable (frame_at ledger aim.life.frame).kind
+
+-- at this moment the table runs safely, and the log is the part that the pass with this seat has in the steps made so far
+abbrev pub TellsItsPart : Shape → table.State (Unit {0}) View → ℕ → ReaderLog → Type 0
+TellsItsPart sh t id log = (safe : RunsSafely sh t) × (q : ℕ) × (id ≡ suc q) × (log ≡ log_of q (run_of sh safe.events).trace)
+
+-- the same of the keeper's log and ledger
+abbrev pub TellsTheKeepers : Shape → table.State (Unit {0}) View → KeeperLog → Ledger → Type 0
+TellsTheKeepers sh t log ledger = (safe : RunsSafely sh t) × (log ≡ keeper_log_of (run_of sh safe.events).trace) × (ledger ≡ (run_of sh safe.events).state.ledger)
 
 abbrev pub TheTableRunsSafely : Type 0
 TheTableRunsSafely = (sh : Shape) (t : table.State (Unit {0}) View) → Holds sh t → RunsSafely sh t

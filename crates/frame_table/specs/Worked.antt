@@ -3,6 +3,8 @@ use Rattle.std.specs.Prelude.{ℕ, [], ◌∷◌, replicate, Some}
 use Rattle.frame_table.specs.Terms.{PAGE_WORDS, Shape, ReaderStep, LoadPlace, LoadFrame, Exchange, Stable, Ledger}
 use Rattle.frame_core.specs.State.{place_word, frame_word}
 use Rattle.frame_table.specs.Named.{TableName, PassView, ClosedView}
+use Rattle.frame_table.specs.declared.pass.Found.{Found}
+use Rattle.frame_table.specs.declared.pass.Found.TheVariants.{Held, Gone, Busy}
 use Rattle.frame_table.specs.Views.{ReaderLog}
 
 -- two frames, and two tries
@@ -27,6 +29,12 @@ finds life count = (Exchange, frame_word life count)
 -- a pass of the table, which has done this
 abbrev pub pass_of : TableName → ReaderLog → PassView
 pass_of t log = record { table = t; log = log }
+
+-- the table of what a lookup answers
+abbrev pub table_of : Found → TableName
+table_of (Held h) = h.table
+table_of (Gone p why) = p.table
+table_of (Busy p) = p.table
 
 -- one frame, which the keeper has opened in its life 1, with one reference, and named at its one place
 abbrev pub ended : Ledger

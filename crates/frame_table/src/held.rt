@@ -2,7 +2,10 @@
 //! the leave looks for them again. It must be spent, so no reference is lost.
 ghost use Rattle.std.specs.Prelude.{◌≡◌, ◌<◌};
 ghost use Rattle.ksm_base.specs.declared.page.TheConstants.{PAGE_WORDS as words_of_page};
+ghost use Rattle.frame_core.specs.declared.seat.Phase.TheVariants.{Held as held};
+ghost use Rattle.frame_core.specs.Seat.{aim_at};
 ghost use Rattle.frame_table.specs.Lookup.{ReadsWord, Leaves};
+ghost use Rattle.frame_table.specs.Views.{IsIn, log_in};
 
 use crate::pass::Pass;
 use crate::table::FrameTable;
@@ -68,6 +71,15 @@ impl Held {
         ensures { result ≡ self.now.generation }
     {
         self.generation
+    }
+
+    /// The seat of the pass that holds. It is of the hold's table, and its view, which is among the views of that table's
+    /// rule, has this hold and its log.
+    pub fn seat(&self) -> &Seat<(), View>
+        ensures own { result.now.table_id ≡ self.now.table.id }
+        ensures view { IsIn self.now.table.shape (held (aim_at self.now.place self.now.frame self.now.generation) self.now.known) result.now.me × (log_in result.now.me ≡ self.now.log) }
+    {
+        &self.seat
     }
 
     /// Loads the word `i` of the page. For one `i` it answers one value for the whole hold.

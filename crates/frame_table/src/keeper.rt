@@ -7,6 +7,7 @@ ghost use Rattle.ksm_base.specs.Values.{frames_of};
 ghost use Rattle.frame_core.specs.declared.ledger.Note.{Note};
 ghost use Rattle.frame_table.specs.Kept.{May, did, Did};
 ghost use Rattle.frame_table.specs.Notes.{kept_of};
+ghost use Rattle.frame_table.specs.Views.{IsKeeper, ledger_in, keeper_log};
 
 use crate::table::FrameTable;
 use crate::view::View;
@@ -62,6 +63,15 @@ fn write_down(frames: &mut Vec<Kept>, frame: u32, note: Kept)
 }
 
 impl Keeper {
+    /// The keeper's seat. It is of the keeper's table, and its view, which is among the views of that table's rule, has
+    /// the ledger and the log.
+    pub fn seat(&self) -> &Seat<(), View>
+        ensures own { result.now.table_id ≡ self.now.table.id }
+        ensures view { IsKeeper self.now.table.shape result.now.me × (ledger_in result.now.me ≡ self.now.ledger) × (keeper_log result.now.me ≡ self.now.log) }
+    {
+        &self.seat
+    }
+
     /// What the keeper uses a frame for.
     pub fn kind(&self, frame: u32) -> Kind
         requires { frame < frames_of self.now.table.shape }

@@ -3,14 +3,15 @@
 ghost use Rattle.std.specs.Prelude.{◌≡◌, ℕ, ◌<◌};
 ghost use Rattle.ksm_base.specs.Values.{frames_of};
 ghost use Rattle.frame_core.specs.declared.seat.Aim.{Aim};
-ghost use Rattle.frame_core.specs.declared.seat.Phase.TheVariants.{Placed};
+ghost use Rattle.frame_core.specs.declared.seat.Phase.TheVariants.{Idle, Placed};
 ghost use Rattle.frame_core.specs.Words.{frame_word_at};
-ghost use Rattle.frame_table.specs.Views.{IsIn};
+ghost use Rattle.frame_table.specs.Views.{IsIn, log_in};
 ghost use Rattle.frame_table.specs.Rounds.{GoesRound};
 ghost use Rattle.frame_table.specs.Lookup.{LooksUp};
 ghost use Rattle.frame_table.specs.Gone.{why_number};
 
 use crate::held::Held;
+use crate::permit::Permit;
 use crate::table::FrameTable;
 use crate::view::View;
 use atomic_table::Seat;
@@ -78,7 +79,13 @@ enum Round {
     Won(u64),
 }
 
-fn try_round(table: &FrameTable, seat: &mut Seat<(), View>, life: Life, word: usize) -> Round
+fn try_round(
+    table: &FrameTable,
+    seat: &mut Seat<(), View>,
+    life: Life,
+    word: usize,
+    permit: Permit,
+) -> Round
     requires own { seat.old.table_id ≡ table.now.id }
     requires inside { word < table.now.id.words }
     requires at { word ≡ frame_word_at (frames_of table.now.shape) life.frame }
@@ -94,7 +101,7 @@ fn try_round(table: &FrameTable, seat: &mut Seat<(), View>, life: Life, word: us
     if said.generation != life.generation {
         return Round::Old(loaded);
     }
-    let found = table.exchange(seat, word, loaded);
+    let found = table.exchange(seat, word, loaded, permit);
     if found == loaded {
         Round::Won(loaded)
     } else {
@@ -103,6 +110,15 @@ fn try_round(table: &FrameTable, seat: &mut Seat<(), View>, life: Life, word: us
 }
 
 impl Pass {
+    /// The seat of the pass. It is of the pass's table, and its view, which is among the views of that table's rule,
+    /// has the pass's log.
+    pub fn seat(&self) -> &Seat<(), View>
+        ensures own { result.now.table_id ≡ self.now.table.id }
+        ensures view { IsIn self.now.table.shape Idle result.now.me × (log_in result.now.me ≡ self.now.log) }
+    {
+        &self.seat
+    }
+
     /// Looks a place up, and takes a reference on the frame that it names, by at most `tries` exchanges.
     pub fn find(self, table: &FrameTable, place: u32) -> Found
         requires own { self.table ≡ table.now }
@@ -116,8 +132,9 @@ impl Pass {
         };
         let word = table.frame_word(life.frame);
         let page = table.page(life.frame);
+        let mut permits = table.permits();
         'rounds: for i in 0..table.tries() {
-            match try_round(table, &mut seat, life, word) {
+            match try_round(table, &mut seat, life, word, permits.take()) {
                 Round::Zero(_) => return Found::Gone(Pass { seat }, Why::Zero),
                 Round::Old(_) => return Found::Gone(Pass { seat }, Why::Generation),
                 Round::Lost(_, _) => {}

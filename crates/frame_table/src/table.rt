@@ -1,5 +1,5 @@
 //! The table and its words. Nothing else of the crate reaches the words: each step of a seat is one function here, of one operation on a word.
-ghost use Rattle.std.specs.Prelude.{◌≡◌, ℕ, ◌+◌, ◌-◌, ◌%◌, ◌^◌, ◌<◌, ◌≤◌, List, Option, Some, IfOk, IfErr, vec_len, All};
+ghost use Rattle.std.specs.Prelude.{◌≡◌, ℕ, ◌+◌, ◌-◌, ◌%◌, ◌^◌, ◌<◌, ◌≤◌, List, Option, Some, IfOk, IfErr, vec_len, All, ◌↔◌};
 ghost use Rattle.ksm_base.specs.declared.fault.Fault.TheVariants as fault_of;
 ghost use Rattle.ksm_base.specs.declared.limits.TheConstants.{FRAME_WORDS as frame_words, MOST_FRAMES as most_frames};
 ghost use Rattle.ksm_base.specs.declared.page.TheConstants.{PAGE_WORDS as words_of_page};
@@ -13,17 +13,20 @@ ghost use Rattle.frame_core.specs.State.{place_word, frame_word};
 ghost use Rattle.frame_core.specs.Words.{frame_word_at, page_at, content_at, words_for};
 ghost use Rattle.frame_table.specs.Keeping.{Keeps, MayKeep};
 ghost use Rattle.frame_table.specs.Reading.{IsHolder, StepsNow};
+ghost use Rattle.frame_table.specs.Rule.{Holds};
 ghost use Rattle.frame_table.specs.Seats.{Opened, Ends, new_pass};
+ghost use Rattle.frame_table.specs.Truth.{Moment};
 ghost use Rattle.frame_table.specs.Views.{IsIn, IsKeeper, keeps_ledger, ledger_in, keeper_log, order_in, tally_in, tally_of};
 
 use crate::closed::ClosedTable;
 use crate::keeper::{Keeper, Kept};
 use crate::keeper_steps::{Add, Freeze, Open, Publish, Put, Raise, Reap, Sub, Withdraw, Word};
 use crate::pass::Pass;
+use crate::permit::{Permit, Permits};
 use crate::reader_steps::{Exchange, Leave, LoadFrame, LoadPlace, LoadWord};
 use crate::seats::{GiveBack, NewPass};
 use crate::view::{FrameRule, View};
-use atomic_table::{Seat, Table};
+use atomic_table::{Seat, Shared, Table, TableRule};
 use frame_core::{Kind, LINE_WORDS};
 use ksm_base::{COUNT_SPAN, Fault, PAGE_WORDS, Shape};
 use std::alloc::Global;
@@ -78,10 +81,27 @@ impl FrameTable {
         self.places
     }
 
+    /// The words that threads share, under the rule that their type names: it holds of them and of the views of all
+    /// seats between any two steps. Nobody can step on them without a seat.
+    pub fn ruled(&self) -> &Shared<(), View, Shape, FrameRule>
+        ensures own { (result.now.table_id ≡ self.now.id) × (result.now.key ≡ self.now.shape) }
+        // the rule that the type names is the one that the laws speak of
+        ensures rule { (sh : Shape) (t : Moment) → ⟦<FrameRule as TableRule<(), View, Shape>>⟧.holds sh t ↔ Holds sh t }
+    {
+        &self.table.shared
+    }
+
     pub(crate) fn tries(&self) -> u32
         ensures { (result ≡ self.now.shape.tries) × (1 ≤ result) }
     {
         self.shape.tries
+    }
+
+    // As many permits for exchanges as a lookup has.
+    pub(crate) fn permits(&self) -> Permits
+        ensures { result ≡ self.now.shape.tries }
+    {
+        Permits::new(self.shape.tries)
     }
 
     // Where the word of a frame stands: the words of the places come before the lines of the frames.
@@ -228,8 +248,14 @@ impl FrameTable {
         self.table.shared.load::<LoadFrame>(seat, word)
     }
 
-    // Raises the frame word by one, if it is still the one that was loaded. Answers the word found.
-    pub(crate) fn exchange(&self, seat: &mut Seat<(), View>, word: usize, loaded: u64) -> u64
+    // Raises the frame word by one, if it is still the one that was loaded. Answers the word found. It spends the permit.
+    pub(crate) fn exchange(
+        &self,
+        seat: &mut Seat<(), View>,
+        word: usize,
+        loaded: u64,
+        _permit: Permit,
+    ) -> u64
         requires own { seat.old.table_id ≡ self.now.id }
         requires inside { (word < self.now.id.words) × (loaded < frame_words) }
         requires phase { (aim : Aim) × (failures count : ℕ) × (frame_word_at (frames_of self.now.shape) aim.life.frame ≡ word) × (loaded ≡ frame_word aim.life.generation count) × IsIn self.now.shape (Counted aim failures count) seat.old.me }

@@ -1,15 +1,16 @@
 //! Worked lookups: logs that are a lookup of the place 1, which names the frame 0 in its life 3, and logs that are none.
-ghost use Rattle.std.specs.Prelude.{◌≡◌, true, false, List, [], ◌∷◌, replicate, None, Some};
+ghost use Rattle.std.specs.Prelude.{◌≡◌, ℕ, true, false, List, [], ◌∷◌, replicate, None, Some};
 ghost use Rattle.ksm_base.specs.declared.page.TheConstants.{PAGE_WORDS};
 ghost use Rattle.frame_core.specs.declared.event.KeeperStep.TheVariants.{Raise};
 ghost use Rattle.frame_core.specs.declared.event.ReaderStep.TheVariants.{LoadPlace};
+ghost use Rattle.frame_table.specs.declared.pass.Found.{Found};
 ghost use Rattle.frame_table.specs.declared.pass.Found.TheVariants.{Held, Gone};
 ghost use Rattle.frame_table.specs.declared.pass.Why.TheVariants.{Vacant, Zero, Generation};
 ghost use Rattle.frame_table.specs.Named.{TableName, KeeperView, PassView, HeldView};
 ghost use Rattle.frame_table.specs.Equal.{Compares};
 ghost use Rattle.frame_table.specs.Lookup.{IsVacant, IsZero, IsOld, IsBusy, IsFound, LooksUp, ReadsWord, Leaves};
 ghost use Rattle.frame_table.specs.Seats.{Opened, Ends, new_keeper};
-ghost use Rattle.frame_table.specs.Worked.{two_tries, life_word, named, loads, finds, pass_of, ended, closed};
+ghost use Rattle.frame_table.specs.Worked.{two_tries, table_of, life_word, named, loads, finds, pass_of, ended, closed};
 ghost use Rattle.frame_core.specs.State.{frame_word};
 
 /// An empty place.
@@ -69,6 +70,7 @@ pub fn lookups_that_hold()
 pub fn lookups_told_why()
     ensures zero { (t : TableName) → t.shape ≡ two_tries → LooksUp (pass_of t []) 1 (Gone (pass_of t (named ∷ loads 3 0 ∷ [])) Zero) }
     ensures old { (t : TableName) → t.shape ≡ two_tries → LooksUp (pass_of t []) 1 (Gone (pass_of t (named ∷ loads 4 2 ∷ [])) Generation) }
+    ensures own { (v : PassView) (place : ℕ) (found : Found) → LooksUp v place found → table_of found ≡ v.table }
     ensures vacant { (t : TableName) → LooksUp (pass_of t []) 1 (Gone (pass_of t ((LoadPlace 1, 0) ∷ [])) Vacant) }
 {}
 
@@ -76,6 +78,7 @@ pub fn lookups_told_why()
 pub fn words_of_a_hold()
     ensures known { (v : PassView) (h : HeldView) → h.known ≡ replicate PAGE_WORDS (Some 8) → ¬ LooksUp v 1 (Held h) }
     ensures another_word { (v w : HeldView) → v.known ≡ None ∷ Some 8 ∷ [] → ¬ ReadsWord v 1 9 w }
+    ensures left_here { (v : HeldView) (p : PassView) → Leaves v p → p.table ≡ v.table }
     ensures left_without_a_step { (v : HeldView) (p : PassView) → p.log ≡ v.log → ¬ Leaves v p }
 {}
 

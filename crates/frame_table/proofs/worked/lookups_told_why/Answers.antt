@@ -1,6 +1,8 @@
 use Rattle.std.proofs.Common.{[], ◌∷◌, refl, sym, subst, arith}
 use Rattle.frame_table.proofs.CoreNames.{LoadPlace, Shape, frame_word}
 use Rattle.frame_table.proofs.Names.{IsZero, IsOld, life_word, named, loads}
+use Rattle.frame_table.specs.declared.pass.Found.TheVariants.{Held, Gone, Busy}
+use Rattle.frame_table.specs.declared.pass.Why.TheVariants.{Vacant, Zero, Generation}
 use Rattle.frame_table.proofs.worked.lookups_told_why.Goals as goal
 
 pub returns-clause-zero : goal.returns-clause-zero
@@ -19,3 +21,10 @@ returns-clause-old c = λ t e. (
 
 pub returns-clause-vacant : goal.returns-clause-vacant
 returns-clause-vacant c = λ t. (refl, ((LoadPlace 1, 0) ∷ [], refl, refl))
+
+pub returns-clause-own : goal.returns-clause-own
+returns-clause-own c v place (Held h) told = told.0
+returns-clause-own c v place (Gone p Vacant) told = told.0
+returns-clause-own c v place (Gone p Zero) told = told.0
+returns-clause-own c v place (Gone p Generation) told = told.0
+returns-clause-own c v place (Busy p) told = told.0

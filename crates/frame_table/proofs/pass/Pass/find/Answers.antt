@@ -20,6 +20,7 @@ rounds-preserved c =
     let more : c.rounds.i < c.args.table.now.shape.tries = omega (arith, c.tries-i-end.ensures.0) in (
       c.in-Lost.ensures.seat.0 ∙ c.rounds.invariant.0,
       goes_on c.args.table.now.shape c.args.place c.load_place-named.result c.args.self.log c.rounds.i c.rounds.seat.me c.rounds.invariant.1 c.try_round.new.seat.me c.in-Lost.field-0 c.in-Lost.field-1 more c.in-Lost.ensures.round,
+      omega (arith, c.take.ensures, c.rounds.invariant.2),
     )
 
 pub rounds-init : goal.rounds-init
@@ -34,6 +35,7 @@ rounds-init c =
       search rules,
       subst (λ (l : ReaderLog). Tries sh l c.args.place w 0 m) (ap (λ v. v.log) c.self.view_is)
           (begins sh c.args.place w me m idle c.load_place-named.ensures.step.0 some (omega (arith, c.tries-i-end.ensures))),
+      omega (arith, c.permits-permits.ensures),
     )
 
 pub returns-in-Zero : goal.returns-in-Zero
