@@ -3,6 +3,7 @@
 import functools
 import os
 import shutil
+import subprocess
 import sys
 
 TOP = os.path.dirname(os.path.dirname(os.path.abspath(__file__)))
@@ -73,3 +74,18 @@ def over_libraries(name):
     for it in libraries:
         it.rlib = kept_place(it)
     return found
+
+
+def checked_copy(top, name, *flags):
+    """What the prover says of a crate of a copy of this checkout, over the libraries as they lie proved here; None if some is
+    not. The copy may differ in that crate alone."""
+    here = over_libraries(name)
+    if here is None:
+        return None
+    places = {it.name: it.rlib for it in here.below()}
+    copy = rtlib().Crate(os.path.join(top, "crates", name), top, {})
+    for it in copy.below():
+        it.rlib = places[it.name]
+    words = [rtlib().RATTLE, "check", *copy.words(["--jobs", "1"], keeps=False), *flags]
+    run = subprocess.run(words, cwd=copy.folder, stdout=subprocess.PIPE, stderr=subprocess.STDOUT, text=True, errors="replace", check=False)
+    return run.stdout
