@@ -1,4 +1,6 @@
 pub mod Pages
+pub mod Reasons
+pub mod Changes
 pub mod Edits
 pub mod Orders
 pub mod SoundEdits

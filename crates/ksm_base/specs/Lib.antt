@@ -5,7 +5,9 @@ pub mod Visit
 pub mod Counting
 pub mod Refusals
 pub mod Answers
+pub mod Reasons
 pub mod Apply
+pub mod Changes
 pub mod Journal
 pub mod Sound
 pub mod Reading

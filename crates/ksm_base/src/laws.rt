@@ -3,6 +3,7 @@
 ghost use Rattle.std.specs.Prelude.{◌≡◌, ◌↔◌, ℕ, List, ◌++◌, map, take};
 ghost use Rattle.ksm_base.specs.declared.command.Command.{Command};
 ghost use Rattle.ksm_base.specs.declared.fault.Fault.{Fault};
+ghost use Rattle.ksm_base.specs.declared.reply.Reply.{Reply};
 ghost use Rattle.ksm_base.specs.declared.shape.Shape.{Shape};
 ghost use Rattle.ksm_base.specs.Values.{IsShape};
 ghost use Rattle.ksm_base.specs.Counting.{counters_of, mergeable_count, pages_told};
@@ -10,6 +11,8 @@ ghost use Rattle.ksm_base.specs.Journal.{Entry, replay, AreAnswers, IsLegal, pub
 ghost use Rattle.ksm_base.specs.State.{BookState, opening};
 ghost use Rattle.ksm_base.specs.Answers.{Answer, IsAnswer};
 ghost use Rattle.ksm_base.specs.Apply.{after};
+ghost use Rattle.ksm_base.specs.Changes.{Changes};
+ghost use Rattle.ksm_base.specs.Reasons.{HasReason};
 ghost use Rattle.ksm_base.specs.Visit.{visits};
 
 use crate::knobs::Knobs;
@@ -47,4 +50,20 @@ pub fn the_counters_of_pages_add_up()
 /// A book opens with the settings of `Knobs::DEFAULT`.
 pub fn a_book_opens_with_the_default_knobs()
     ensures { (shape : Shape) → (opening shape).knobs ≡ Knobs.DEFAULT }
+{}
+
+/// Each answer that a command may have has its reason, and what has a reason may be answered: a refusal of the state, a
+/// frame that is missing on the node of which the command needs one, a dup to move whose frame is in use, or the
+/// command's own reply; and nothing else.
+pub fn each_answer_has_its_reason()
+    ensures { (b : BookState) (command : Command) (answer : Answer)
+        → IsAnswer b command answer ↔ HasReason b command answer }
+{}
+
+/// A command that is answered with a reply changes what `Changes` says of it, row by row and field by field, and nothing
+/// else. Not told: what a scan makes of a row's state and flag, of the dups, the cursor and the counts; and of an
+/// unmerging that stops, which of the rows that it may let go it has let go.
+pub fn each_command_changes_this_alone()
+    ensures { (b : BookState) (command : Command) (reply : Reply) → IsAnswer b command (Ok reply)
+        → Changes command reply b (after b command (Ok reply)) }
 {}
