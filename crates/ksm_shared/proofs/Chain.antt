@@ -1,13 +1,13 @@
 -- The steps that cut a pen, and that add a link by one, keep the rule of the logbook.
-use Rattle.std.proofs.Common.{◌≡◌, ◌≢◌, ℕ, zero, suc, ◌<◌, ◌==◌, Bool, true, false, List, [], ◌∷◌, ◌++◌, length, slice_set, map, refl, ap, sym, subst, ◌∙◌, arith, inl, length-append, None}
+use Rattle.std.proofs.Common.{◌≡◌, ◌≢◌, ℕ, zero, suc, ◌<◌, ◌==◌, Bool, true, false, List, [], ◌∷◌, ◌++◌, length, slice_set, refl, ap, sym, subst, ◌∙◌, arith, inl, length-append, None}
 use Rattle.std.proofs.lemmas.List.{append-nil}
 use Rattle.std.proofs.lemmas.Bool.Decides.{nat_tests}
 use mathlib.Core.List.{IsPrefix}
 use prog.Atomic.{either}
-use Rattle.logbook.specs.Pages.{Cell, Nib, cell, nib, keeps, gives, adds, no_nib, may_make, may_write, step, Moves}
+use Rattle.logbook.specs.Pages.{Cell, Nib, cell, gives, adds, no_nib, may_write, step, Moves}
 use Rattle.ksm_base.specs.Journal.{Entry}
 use Rattle.ksm_shared.specs.declared.beginning.Link.{Link}
-use Rattle.ksm_shared.specs.Chained.{Adds, AreSpent, Cuts, IsChained, MayAdd, first_key, linked, next_key, no_link}
+use Rattle.ksm_shared.specs.Chained.{Adds, AreSpent, Cuts, IsChained, first_key, linked, next_key, no_link}
 
 -- the entries that a log shows: none
 abbrev pub shown : List Link → List Link

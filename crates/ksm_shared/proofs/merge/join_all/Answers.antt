@@ -1,4 +1,4 @@
-use Rattle.std.proofs.Common.{◌≡◌, ◌∙◌, sym, ap, subst, List, Option, ◌≤◌}
+use Rattle.std.proofs.Common.{◌∙◌, sym, ap, subst, List, Option, ◌≤◌}
 use Rattle.atomic_table.specs.Table.{Me}
 use Rattle.ksm_base.specs.Journal.{Entry}
 use Rattle.ksm_shared.specs.declared.seen.Caller.{Caller}

@@ -1,8 +1,4 @@
-use Rattle.std.proofs.Common.{◌≡◌, ◌∙◌, ◌++◌, [], List, Option, ap, sym, true}
-use Rattle.atomic_table.specs.Table.{Me}
-use Rattle.ksm_base.specs.Journal.{Entry}
-use Rattle.ksm_shared.specs.declared.seen.View.{View}
-use Rattle.ksm_shared.specs.Seen.{IsBookSeat, view_of}
+use Rattle.std.proofs.Common.{◌∙◌, ap}
 use Rattle.ksm_shared.proofs.Rule.{takes_in, looks, cuts}
 use Rattle.ksm_shared.proofs.Wrote.{let_go, looked, rejoined}
 use Rattle.ksm_shared.proofs.merge.rejoin.Goals as goal

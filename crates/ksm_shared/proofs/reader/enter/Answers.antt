@@ -1,5 +1,3 @@
-use Rattle.std.proofs.Common.{◌∙◌, subst, sym}
-use Rattle.ksm_shared.specs.Published.{IsRowOf, ShownRow}
 use Rattle.ksm_shared.proofs.Showing.{looks}
 use Rattle.ksm_shared.proofs.reader.enter.Goals as goal
 

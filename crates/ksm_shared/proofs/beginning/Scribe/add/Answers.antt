@@ -1,7 +1,7 @@
-use Rattle.std.proofs.Common.{◌∙◌, ap, refl, sym}
+use Rattle.std.proofs.Common.{◌∙◌, ap, sym}
 use Rattle.ksm_shared.specs.declared.beginning.Link.{Link}
-use Rattle.ksm_shared.specs.Chained.{first_key, first_word, linked, next_key}
-use Rattle.ksm_shared.proofs.Chain.{adds_moves, last_key, linked_more}
+use Rattle.ksm_shared.specs.Chained.{first_key, first_word, next_key}
+use Rattle.ksm_shared.proofs.Chain.{adds_moves, last_key}
 use Rattle.ksm_shared.proofs.beginning.Scribe.add.Goals as goal
 
 pub compare_exchange-requires : goal.compare_exchange-requires

@@ -1,7 +1,6 @@
 use Rattle.std.proofs.Common.{◌∙◌, ℕ, ap, subst, sym}
-use Rattle.ksm_shared.specs.declared.seen.Caller.{Caller}
 use Rattle.ksm_shared.specs.Locked.{Locked}
-use Rattle.ksm_shared.specs.Seen.{CallersFit, OwnersBelow}
+use Rattle.ksm_shared.specs.Seen.{CallersFit}
 use Rattle.ksm_shared.proofs.Gathering.{still_gathered}
 use Rattle.ksm_shared.proofs.merge.Merge.is_gathered.Goals as goal
 

@@ -1,6 +1,5 @@
-use Rattle.std.proofs.Common.{rules, ◌∙◌, List, ap, length, subst}
+use Rattle.std.proofs.Common.{rules, ◌∙◌, ap, length, subst}
 use mathlib.Core.List.{IsPrefix}
-use Rattle.ksm_base.specs.Journal.{Entry}
 use Rattle.ksm_shared.specs.Chained.{Reached}
 use Rattle.ksm_shared.specs.Published.{ReaderView}
 use Rattle.ksm_shared.proofs.Showing.{either_row}
