@@ -1,8 +1,8 @@
 //! The audit: every place of a shared book is looked up once, by one worker for each pass (own).
 //!
-//! A worker claims the next place by one atomic step on a word of the audit's own, asks the gate, looks the place up,
-//! reads the words of the page in one hold, leaves, and tells the gate. No lock is taken: meanwhile frames may be
-//! shared, released and given again.
+//! A worker claims the next place by one atomic step on a word of the audit's own, asks the gate for a permit, looks
+//! the place up, reads the words of the page in one hold, leaves, and hands the permit back. No lock is taken: meanwhile
+//! frames may be shared, released and given again.
 #![tactic(auto)]
 
 mod auditing;
@@ -16,6 +16,6 @@ mod visit;
 mod work;
 
 pub use auditing::{AuditFault, audit};
-pub use gate::{Gate, OpenGate};
+pub use gate::{Gate, OpenGate, PlacePermit};
 pub use report::{Report, Row};
 pub use visit::read_page;

@@ -47,22 +47,27 @@ fn answer<G: Gate>(
     if refused.is_some() {
         return pass;
     }
-    if !gate.before(worker, place) {
-        *refused = Some(place);
-        return pass;
+    match gate.before(worker, place) {
+        Some(permit) => {
+            let (row, pass) = visit::<G>(table, &permit, pass, place);
+            lines.push_reserved(Line { place, row });
+            tell(gate, worker, place, permit, &pass);
+            pass
+        }
+        None => {
+            *refused = Some(place);
+            pass
+        }
     }
-    let (row, pass) = visit(table, pass, place);
-    lines.push_reserved(Line { place, row });
-    tell(gate, worker, place, &pass);
-    pass
 }
 
-// Tells the gate of a place. The pass that looked it up is back, so nothing is held, and this lookup is the last that
-// it made.
-fn tell<G: Gate>(gate: &G, worker: u32, place: u32, pass: &Pass)
+// Spends the permit for a place. The pass that looked it up is back, so nothing is held, and this lookup is the last
+// that it made.
+fn tell<G: Gate>(gate: &G, worker: u32, place: u32, permit: G::Permit, pass: &Pass)
+    requires permit { G.place_of permit ≡ place }
     requires looked_up { (before : PassView) × (row : Row) × Visits before place row pass.now }
 {
-    gate.after(worker, place);
+    gate.after(worker, place, permit);
 }
 
 /// Claims places and looks them up, until none is left.

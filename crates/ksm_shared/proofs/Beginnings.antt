@@ -34,6 +34,6 @@ prefix_whole (x ∷ xs) (y ∷ ys) p le =
 
 -- of two beginnings of one list, their lengths tell which begins the other
 pub compared : {A : Type 0} (xs ys both : List A) (a b : ℕ) → a ≡ length xs → b ≡ length ys → IsPrefix xs both → IsPrefix ys both
-    → (t : Bool) → leb a b ≡ t → MatchBool t (IsPrefix xs ys) (IsPrefix ys xs)
+    → (t : Bool) → leb a b ≡ t → MatchBool t (IsPrefix xs ys) (IsPrefix ys xs × (length ys < length xs))
 compared xs ys both a b p q x y true is = prefix_shorter xs ys both x y (let le : a ≤ b = grind (arith, nat_tests) in omega arith)
-compared xs ys both a b p q x y false is = prefix_shorter ys xs both y x (let lt : b < a = grind (arith, nat_tests) in omega arith)
+compared xs ys both a b p q x y false is = let lt : b < a = grind (arith, nat_tests) in (prefix_shorter ys xs both y x (omega arith), omega arith)

@@ -1,12 +1,12 @@
 -- All shares, each once, own all entries.
-use Rattle.std.proofs.Common.{◌≡◌, ◌≢◌, ◌<◌, ◌≤◌, ℕ, zero, suc, ◌+◌, Bool, if◌then◌else◌, List, [], ◌∷◌, ◌++◌, refl, sym, ap, ◌∙◌, subst, arith, eq-eqb, ne_eqb, length}
+use Rattle.std.proofs.Common.{◌≡◌, ◌≢◌, ◌<◌, ◌≤◌, ℕ, zero, suc, ◌+◌, Bool, if◌then◌else◌, List, [], ◌∷◌, ◌++◌, refl, sym, ap, ◌∙◌, subst, arith, eq-eqb, ne_eqb, length, length-append, map, ◌==◌}
 use Rattle.std.proofs.lemmas.List.{append-nil}
 use mathlib.Core.Logic.{dite}
 use native.Mathlib.Decide.{ℕ_discrete}
 use Rattle.ksm_base.specs.Journal.{Entry}
 use Rattle.ksm_shared.specs.declared.seen.Owned.{Owned}
 use Rattle.ksm_shared.specs.declared.seen.Caller.{Caller}
-use Rattle.ksm_shared.specs.Seen.{entries, entries_by, Begins, CallersFit, times, OwnersBelow}
+use Rattle.ksm_shared.specs.Seen.{entries, entries_by, Begins, CallersFit, caller, first, times, OwnersBelow}
 use Rattle.ksm_shared.specs.Locked.{owned_total, Gathered, LacksOne}
 use Rattle.ksm_shared.proofs.Lists.{entries_by_append, times_head, times_other, times_le}
 
@@ -106,6 +106,52 @@ gathered callers log cs fits once owners enough =
       owners = owners;
       sum = shared_total callers log cs fits ∙ shared_all callers log cs owners all;
     }
+
+-- shares that have all seen the journal
+abbrev pub all_seen : List Owned → List Caller → List Caller
+all_seen log cs = map (λ (g : Caller). caller g.number log) cs
+
+all_fit : (log : List Owned) (callers : ℕ) (cs : List Caller) → CallersFit log callers cs → CallersFit log callers (all_seen log cs)
+all_fit log callers [] fits = tt
+all_fit log callers (g ∷ cs) fits = ((fits.0.0, ([], sym (append-nil log), refl)), all_fit log callers cs fits.1)
+
+same_times : (log : List Owned) (number : ℕ) (cs : List Caller) → times number (all_seen log cs) ≡ times number cs
+same_times log number [] = refl
+same_times log number (g ∷ cs) = ap (λ (k : ℕ). (if g.number == number then 1 else 0) + k) (same_times log number cs)
+
+same_length : (log : List Owned) (cs : List Caller) → length (all_seen log cs) ≡ length cs
+same_length log [] = refl
+same_length log (g ∷ cs) = ap suc (same_length log cs)
+
+seen_first : (callers : ℕ) (log : List Owned) (cs : List Caller) → OwnersBelow callers log → callers ≤ length cs → (first (all_seen log cs)).seen ≡ log
+seen_first callers [] [] owners enough = refl
+seen_first callers (o ∷ os) [] owners enough = absurd (omega (arith, owners.0, enough))
+seen_first callers log (g ∷ cs) owners enough = refl
+
+-- all shares, which have then seen the journal, gather it
+pub gathered_all : (callers : ℕ) (log : List Owned) (cs : List Caller) → CallersFit log callers cs → ((number : ℕ) → times number cs ≤ 1) → OwnersBelow callers log → callers ≤ length cs
+    → ((first (all_seen log cs)).seen ≡ log) × (callers ≤ length (all_seen log cs)) × Gathered callers (first (all_seen log cs)).seen (all_seen log cs)
+gathered_all callers log cs fits once owners enough =
+    let is = seen_first callers log cs owners enough in
+    let many : callers ≤ length (all_seen log cs) = omega (arith, enough, same_length log cs) in
+    let few : (number : ℕ) → times number (all_seen log cs) ≤ 1 = λ number. omega (arith, once number, same_times log number cs) in
+    (is, many, subst (λ (l : List Owned). Gathered callers l (all_seen log cs)) (sym is) (gathered callers log (all_seen log cs) (all_fit log callers cs fits) few owners many))
+
+no_rest : (log rest whole : List Owned) → whole ≡ log ++ rest → length whole ≡ length log → whole ≡ log
+no_rest log [] whole is long = is ∙ append-nil log
+no_rest log (o ∷ rest) whole is long = absurd (omega (arith, long, ap length is, length-append log (o ∷ rest)))
+
+-- a journal that fits all shares is the one that they gathered
+pub still_gathered : (callers : ℕ) (log : List Owned) (cs : List Caller) → CallersFit log callers cs → ((number : ℕ) → times number cs ≤ 1) → OwnersBelow callers log → callers ≤ length cs
+    → Gathered callers (first cs).seen cs → (first cs).seen ≡ log
+still_gathered callers log [] fits once owners enough all = empty log (gathered callers log [] fits once owners enough).sum
+  where
+    empty : (l : List Owned) → 0 ≡ length l → [] ≡ l
+    empty [] is = refl
+    empty (o ∷ os) is = absurd (omega (arith, is))
+still_gathered callers log (g ∷ cs) fits once owners enough all =
+    let now = gathered callers log (g ∷ cs) fits once owners enough in
+    sym (no_rest g.seen fits.0.1.0 log fits.0.1.1 (sym now.sum ∙ all.sum))
 
 -- a log has as many entries as owners
 pub length-entries : (log : List Owned) → length (entries log) ≡ length log

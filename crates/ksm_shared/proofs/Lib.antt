@@ -4,6 +4,6 @@ pub mod Wrote
 pub mod Extended
 pub mod Gathering
 pub mod Beginnings
-pub mod Adding
+pub mod Chain
 pub mod Showing
 pub mod Empty

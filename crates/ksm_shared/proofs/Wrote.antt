@@ -7,7 +7,7 @@ use Rattle.ksm_base.specs.Journal.{Entry}
 use Rattle.ksm_shared.specs.declared.seen.Owned.{Owned}
 use Rattle.ksm_shared.specs.declared.seen.Caller.{Caller}
 use Rattle.ksm_shared.specs.declared.seen.View.{View}
-use Rattle.ksm_shared.specs.Seen.{view_of, book_view, share_view, joined_view, caller, first, added, after, Knows, Looks, Writes, IsBookSeat, IsShareSeat, Wrote}
+use Rattle.ksm_shared.specs.Seen.{all_at, view_of, book_view, share_view, joined_view, caller, first, added, after, Knows, Looks, Writes, IsBookSeat, IsShareSeat, Wrote}
 
 abbrev Me' : Type 0
 Me' = Me (Option Entry) View
@@ -59,21 +59,34 @@ wrote bm sm jm xm b2 s2 e slots found s j w cut given =
 pub looked : (jm xm : Me') (slots found : ℕ) → Looks (step slots 0 0 0 none) jm found xm → Writes (step slots 0 0 0 (some None)) jm found xm
 looked jm xm slots found l e is = (l.0 ∙ ap (λ (x : Option Entry). after jm.0 x) (some-injective None e is), l.1, l.2)
 
+nothing_added : (log : List Owned) (cs : List Caller) → log ++ added cs None ≡ log
+nothing_added log [] = append-nil log
+nothing_added log (g ∷ cs) = append-nil log
+
 -- shares that the book's seat took in fit its journal, and the seat is as before once the shares are let go
 pub let_go : (bm jm xm b2 : Me') (cs : List Caller) (slots found : ℕ) → IsBookSeat bm → jm ≡ (view_of true bm.0.log bm.0.shares cs, []) → Writes (step slots 0 0 0 (some None)) jm found xm
     → b2 ≡ (view_of xm.0.is_book xm.0.log xm.0.shares [], xm.1) → (b2 ≡ bm) × Knows (view_of true bm.0.log bm.0.shares cs)
 let_go bm jm xm b2 cs slots found b j w cut =
     let told = w None refl in
     let log = bm.0.log in
-    let none : log ++ added cs None ≡ log = nothing log cs in
+    let none : log ++ added cs None ≡ log = nothing_added log cs in
     let x : xm.0 ≡ view_of true (log ++ added cs None) bm.0.shares (map (λ g. caller g.number (log ++ added cs None)) cs) = told.0 ∙ ap (λ (m : Me'). after m.0 None) j in
     let held : xm.1 ≡ [] = told.1 ∙ ap (λ (m : Me'). m.1) j in
     let is : b2 ≡ (book_view (log ++ added cs None) bm.0.shares, []) = cut ∙ (λ i. (view_of (x i).is_book (x i).log (x i).shares [], held i)) in
     (is ∙ ap (λ (l : List Owned). let m : Me' = (book_view l bm.0.shares, []) in m) none ∙ sym b, subst (λ (m : Me'). Knows m.0) j told.2)
-  where
-    nothing : (log : List Owned) (cs : List Caller) → log ++ added cs None ≡ log
-    nothing log [] = append-nil log
-    nothing log (g ∷ cs) = append-nil log
+
+-- shares that were let go together have all seen the journal
+pub cut_off : (bm jm xm s2 : Me') (cs : List Caller) (slots found : ℕ) → jm ≡ (view_of true bm.0.log bm.0.shares cs, []) → Writes (step slots 0 0 0 (some None)) jm found xm
+    → s2 ≡ (view_of false [] 0 xm.0.callers, []) → s2 ≡ all_at cs bm.0.log
+cut_off bm jm xm s2 cs slots found j w given =
+    let log = bm.0.log in
+    let told = w None refl in
+    let x : xm.0.callers ≡ map (λ (g : Caller). caller g.number (log ++ added cs None)) cs = ap (λ (v : View). v.callers) (told.0 ∙ ap (λ (m : Me'). after m.0 None) j) in
+    given ∙ ap (λ (gs : List Caller). let m : Me' = (view_of false [] 0 gs, []) in m) (x ∙ ap (λ (l : List Owned). map (λ (g : Caller). caller g.number l) cs) (nothing_added log cs))
+
+-- the book's seat, put together with shares that were let go together
+pub rejoined : (bm am jm : Me') → IsBookSeat bm → jm ≡ (view_of bm.0.is_book bm.0.log bm.0.shares (bm.0.callers ++ am.0.callers), bm.1) → jm ≡ (view_of true bm.0.log bm.0.shares am.0.callers, [])
+rejoined bm am jm b j = j ∙ (λ i. (view_of (b i).0.is_book bm.0.log bm.0.shares ((b i).0.callers ++ am.0.callers), (b i).1))
 
 -- all callers were taken where none is left
 pub all_taken : (xs ys rest : List Caller) (n : ℕ) → xs ≡ ys ++ rest → n ≡ length rest → n ≡ 0 → xs ≡ ys

@@ -1,6 +1,8 @@
 -- The locked book, and what a call under the lock tells its share (own).
-use Rattle.std.specs.Prelude.{◌≡◌, ℕ, zero, suc, ◌+◌, ◌<◌, if◌then◌else◌, List, [], ◌∷◌, ◌++◌, length, Option, Some}
+use Rattle.std.specs.Prelude.{◌≡◌, ℕ, zero, suc, ◌+◌, ◌<◌, ◌≤◌, false, if◌then◌else◌, List, [], ◌∷◌, ◌++◌, length}
+use Rattle.std.specs.Prelude.{Option, Some}
 use Rattle.std.specs.Prelude.{None}
+use Rattle.atomic_table.specs.Table.{Me}
 use Rattle.ksm_base.specs.declared.command.Command.{Command}
 use Rattle.ksm_base.specs.Answers.{Answer}
 use Rattle.ksm_base.specs.Apply.{IsAnswerOrMemory, after}
@@ -12,8 +14,9 @@ use Rattle.ksm_book.specs.Carried.{JournaledBook, unjournaled}
 use Rattle.ksm_book.specs.Promised.{LieOn}
 use Rattle.ksm_shared.specs.declared.seen.Owned.{Owned}
 use Rattle.ksm_shared.specs.declared.seen.Caller.{Caller}
+use Rattle.ksm_shared.specs.declared.seen.View.{View}
 use Rattle.ksm_shared.specs.Named.{PartsId}
-use Rattle.ksm_shared.specs.Seen.{entries, entries_by, CallersFit, times, caller, owned, OwnersBelow}
+use Rattle.ksm_shared.specs.Seen.{entries, entries_by, CallersFit, times, caller, first, owned, view_of, OwnersBelow}
 
 -- the book, the entries of its journal with their owners, and the entries after which the counters stand that readers
 -- are shown
@@ -83,14 +86,25 @@ pub record Gathered (callers : ℕ) (log : List Owned) (cs : List Caller) : Type
   pub owners : OwnersBelow callers log
   pub sum : owned_total cs ≡ length log
 
+-- so many shares sit at the seat, all that there are, and own all that the first of them has seen
+pub record IsAll {S : Type 0} (callers : ℕ) (m : Me S View) : Type 0 where
+  pub seat : m ≡ (view_of false [] 0 m.0.callers, [])
+  pub enough : callers ≤ length m.0.callers
+  pub gathered : Gathered callers (first m.0.callers).seen m.0.callers
+
 -- one of so many shares is not among these
 abbrev pub LacksOne : ℕ → List Caller → Type 0
 LacksOne callers cs = (number : ℕ) × (number < callers) × (times number cs ≡ 0)
 
--- the table was closed with the keeper of a book that lay lawfully in its frames, with a legal journal
-pub record EndsLawfully (parts : PartsId) (closed : ClosedView) : Type 0 where
+-- the table was closed with the keeper of a book that lay lawfully in its frames, with this journal, which is legal
+pub record EndsAfter (parts : PartsId) (journal : List Entry) (closed : ClosedView) : Type 0 where
   pub book : JournaledBook
   pub own : book.keeper.table ≡ parts.frames
-  pub legal : IsLegal parts.frames.shape book.journal book.state
+  pub journal_is : book.journal ≡ journal
+  pub legal : IsLegal parts.frames.shape journal book.state
   pub placed : LieOn book.state (unjournaled book).frame book.keeper.ledger
   pub ends : Ends book.keeper.ledger closed
+
+-- the same with some journal
+abbrev pub EndsLawfully : PartsId → ClosedView → Type 0
+EndsLawfully parts closed = (journal : List Entry) × EndsAfter parts journal closed

@@ -10,7 +10,6 @@ use Rattle.ksm_book.specs.Whole.{BookView}
 use Rattle.ksm_shared.specs.declared.opening.Inner.{Inner}
 use Rattle.ksm_shared.specs.Named.{PartsId}
 use Rattle.ksm_shared.specs.Locked.{Locked}
-use Rattle.ksm_shared.specs.Published.{length_word}
 use Rattle.ksm_shared.specs.Seen.{book_view}
 
 -- the parts that are made of a table of frames and of what is to lie under the lock
@@ -18,7 +17,7 @@ abbrev pub parts_of : TableName → Inner → PartsId
 parts_of frames p = record {
   frames = frames;
   seen = p.seen.shared.table_id;
-  logbook = p.journal.book;
+  logbook = p.scribe.logbook;
   callers = p.callers;
   readers = p.readers;
 }
@@ -37,9 +36,8 @@ pub record IsNew (parts : PartsId) (p : Inner) : Type 0 where
   pub callers : p.callers ≡ parts.callers
   pub few_readers : p.readers ≤ 16
   pub readers : p.readers ≡ parts.readers
-  pub word : p.word ≡ length_word parts.logbook
-  pub logbook : p.journal.book ≡ parts.logbook
-  pub journal : p.journal.log ≡ []
+  pub logbook : p.scribe.logbook ≡ parts.logbook
+  pub journal : p.scribe.journal ≡ []
 
 -- the opening book of these parts: no page and no dup, and the keeper has made no step
 abbrev pub opening_book : PartsId → BookView

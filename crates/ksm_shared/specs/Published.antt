@@ -1,32 +1,16 @@
--- What readers are shown of the journal with no lock: beginnings of it, and rows of counters (own).
-use Rattle.std.specs.Prelude.{◌≡◌, ◌==◌, ◌<◌, ℕ, true, List, [], ◌∷◌, ◌++◌, length, MatchBool, Option, Some, None}
+-- Rows of counters, which readers are shown with no lock (own).
+use Rattle.std.specs.Prelude.{◌≡◌, ◌⊎◌, ◌<◌, ℕ, List, [], ◌∷◌, ◌++◌, length, Option, Some, None}
 use mathlib.Core.List.{IsPrefix}
 use mathlib.Core.Option.{some}
 use lib.ListN.{get_elem?}
-use Rattle.logbook.specs.Pages.{Book, Cell, Named, Step, View}
 use Rattle.ksm_base.specs.declared.counters.Counters.{Counters}
 use Rattle.ksm_base.specs.Counting.{counters_of}
 use Rattle.ksm_base.specs.Journal.{Entry, AreAnswers, replay}
 use Rattle.ksm_base.specs.State.{BookState, opening}
-use Rattle.ksm_shared.specs.declared.reader.Row.{Row}
+use Rattle.ksm_shared.specs.declared.row.Row.{Row}
+use Rattle.ksm_shared.specs.declared.row.Sight.{Sight}
+use Rattle.ksm_shared.specs.Chained.{Reached}
 use Rattle.ksm_shared.specs.Named.{PartsId}
-
--- the first word of the logbook is the length of the journal; the second, which no one uses, stays 0
-pub record HasLength (cells : List Cell) (journal : List Entry) : Type 0 where
-  pub words : cells ≡ (length journal, true) ∷ (0, true) ∷ []
-
--- the first word of a logbook
-abbrev pub length_word : Book → Named
-length_word b = record { tracked = true; key = 0; book = b }
-
--- the entry was added to all that had been seen; or the journal was longer, and is seen now
-abbrev pub Adds : Step Entry → View Entry ℕ → ℕ → View Entry ℕ → Type 0
-Adds s v found w = MatchBool (found == s.old) (w.0 ≡ v.0 ++ s.ask ∷ []) (length w.0 ≡ found)
-
--- a beginning of the journal in a logbook
-pub record Reached : Type 0 where
-  pub logbook : Book
-  pub journal : List Entry
 
 -- counters, and the beginning of the journal after which they stand
 pub record ShownRow : Type 0 where
@@ -48,15 +32,45 @@ pub record IsRowOf (parts : PartsId) (x : ShownRow) : Type 0 where
 abbrev pub nothing_seen : PartsId → Reached
 nothing_seen parts = record { logbook = parts.logbook; journal = [] }
 
+-- what a seat has seen before its first step
+abbrev pub no_sight : PartsId → Sight
+no_sight parts = record { reached = nothing_seen parts; looks = [] }
+
 -- the rule of the rows: what was seen begins the journal of the row shown
-abbrev pub RowsGoOn : PartsId → ShownRow → List Reached → Type 0
-RowsGoOn parts x views = IsRowOf parts x
-    × ((seat : ℕ) (v : Reached) → get_elem? views seat ≡ some v → IsPrefix v.journal x.reached.journal
-    × (v.logbook ≡ parts.logbook))
+abbrev pub RowsGoOn : PartsId → ShownRow → List Sight → Type 0
+RowsGoOn parts x sights = IsRowOf parts x
+    × ((seat : ℕ) (v : Sight) → get_elem? sights seat ≡ some v → IsPrefix v.reached.journal x.reached.journal
+    × (v.reached.logbook ≡ parts.logbook))
 
 -- the row y is shown: its journal begins with what was seen, and is seen now
-abbrev pub Shows : PartsId → Reached → ShownRow → ShownRow → Reached → Type 0
-Shows parts v x y w = IsRowOf parts y × IsPrefix v.journal y.reached.journal × (w ≡ y.reached)
+abbrev pub Shows : PartsId → Sight → ShownRow → ShownRow → Sight → Type 0
+Shows parts v x y w = IsRowOf parts y × IsPrefix v.reached.journal y.reached.journal
+    × (w ≡ record { reached = y.reached; looks = v.looks })
+
+-- the number and the counters of a row that is shown
+abbrev pub row_of : ShownRow → Row
+row_of y = record { number = length y.reached.journal; counters = y.counters }
+
+-- A look at the row that is shown at this step, the newest one published before it: the log has one entry more
+abbrev pub Looks : PartsId → Sight → ShownRow → ShownRow → Sight → Type 0
+Looks parts v x y w = IsRowOf parts y × IsPrefix v.reached.journal y.reached.journal
+    × (w ≡ record { reached = y.reached; looks = v.looks ++ row_of y ∷ [] })
+
+-- what contracts see of a reader: the longest beginning of the journal that it was shown or has learnt of, and for each
+-- of its looks the row that was then the newest one published
+pub record ReaderView : Type 0 where
+  pub journal : List Entry
+  pub looks : List Row
+
+-- a reader that has not looked
+abbrev pub new_reader : ReaderView
+new_reader = record { journal = []; looks = [] }
+
+-- The reader looked once. The row that it shows is the one it then found, or the reader knew of a later one.
+pub record Looked (old : ReaderView) (row : Row) (new : ReaderView) : Type 0 where
+  pub found : Row
+  pub log : new.looks ≡ old.looks ++ found ∷ []
+  pub newest : (row ≡ found) ⊎ ((found.number < length old.journal) × (new.journal ≡ old.journal))
 
 -- the entries of an optional one
 abbrev pub list_of : Option Entry → List Entry

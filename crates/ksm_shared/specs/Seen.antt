@@ -101,6 +101,10 @@ after v e =
     let log = v.log ++ added v.callers e in
     view_of v.is_book log v.shares (map (λ c. caller c.number log) v.callers)
 
+-- the seat of all these shares, which have seen this journal
+abbrev pub all_at : {S : Type 0} → List Caller → List Owned → Me S View
+all_at cs log = (view_of false [] 0 (map (λ c. caller c.number log) cs), [])
+
 -- what the rule tells of the book's seat: the shares joined to it fit the journal that it knows
 pub record Knows (v : View) : Type 0 where
   pub callers : CallersFit v.log v.shares v.callers

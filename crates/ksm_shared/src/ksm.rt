@@ -11,8 +11,9 @@ ghost use Rattle.frame_table.specs.Equal.{LooksUpEqual};
 ghost use Rattle.frame_table.specs.Lookup.{LooksUp};
 ghost use Rattle.frame_table.specs.Seats.{new_pass};
 ghost use Rattle.ksm_shared.specs.declared.seen.Owned.{Owned};
-ghost use Rattle.ksm_shared.specs.Locked.{EndsLawfully, SeesOn, StepsAlone, fresh, made, made_by, part_of, state_seen};
-ghost use Rattle.ksm_shared.specs.Published.{Tells};
+ghost use Rattle.ksm_shared.specs.Locked.{EndsAfter, EndsLawfully, SeesOn, StepsAlone, fresh, made, made_by};
+ghost use Rattle.ksm_shared.specs.Locked.{part_of, state_seen};
+ghost use Rattle.ksm_shared.specs.Published.{Looked, Tells, new_reader};
 ghost use Rattle.ksm_shared.specs.Seen.{CallersFit, OwnersBelow, entries};
 
 use crate::answer::Answer;
@@ -20,8 +21,10 @@ use crate::merge::Merge;
 use crate::naming::Naming;
 use crate::opening::open_lock;
 use crate::parts::Parts;
-use crate::reader::{CounterReader, Row};
+use crate::reader::CounterReader;
+use crate::row::Row;
 use crate::share::Share;
+use crate::tally::Tally;
 use frame_table::{ClosedTable, Found, FoundEqual, FrameTable, Pass};
 use ksm_base::laws::a_journal_goes_on;
 use ksm_base::{Command, Counters, Fault, GuestPage, Knobs, PageBytes, Reply};
@@ -59,7 +62,7 @@ impl<N: Naming> Ksm<N> {
         ensures passes { IfOk result
             (λ opened. opened.1.items ≡ replicate N.parts.frames.shape.passes (new_pass N.parts.frames)) }
         ensures shares { IfOk result (λ opened. opened.2.items ≡ fresh N.parts.callers) }
-        ensures readers { IfOk result (λ opened. opened.3.items ≡ replicate N.parts.readers []) }
+        ensures readers { IfOk result (λ opened. opened.3.items ≡ replicate N.parts.readers new_reader) }
         ensures empty { IfOk result (λ opened. (log : List Owned) → OwnersBelow N.parts.callers log
             → CallersFit log N.parts.callers opened.2.items → log ≡ []) }
         ensures memory { IfErr result (λ fault. fault ≡ Fault.Memory) }
@@ -243,10 +246,13 @@ impl<N: Naming> Ksm<N> {
     }
 
     /// The counters after the first `number` entries of the journal. It takes no lock. The journal goes on where the
-    /// reader's last row ended, and begins with what each answer told of that the reader has learnt. None where the
-    /// reader's entry into its place was refused.
+    /// reader's last row ended, and begins with what each answer told of that the reader has learnt. The reader looks
+    /// once, and the row is the newest one published before the look, but where the reader has learnt of a later one.
+    /// None where the reader's entry into its place was refused.
     pub fn counters_now(&self, reader: &mut CounterReader<N>) -> Option<Row>
-        ensures shown { IfSome result (λ row. IsPrefix reader.old reader.new × Tells N.parts row reader.new) }
+        ensures shown { IfSome result
+            (λ row. IsPrefix reader.old.journal reader.new.journal × Tells N.parts row reader.new.journal) }
+        ensures looked { IfSome result (λ row. Looked reader.old row reader.new) }
         ensures none { IfNone result (reader.new ≡ reader.old) }
     {
         reader.look()
@@ -277,7 +283,8 @@ impl<N: Naming> Ksm<N> {
         pass.find_equal(&self.frames, place, page)
     }
 
-    /// Ends the book, with all its passes. Nobody holds a frame then: each count is the keeper's own references.
+    /// Ends the book, with all its passes. Nobody holds a frame then: each count is the keeper's own references. Of the
+    /// journal with which it ends, nothing is known but that it is legal: for whoever has no share any more.
     pub fn close<R: Wait>(self, rt: &R, passes: Vec<Pass>) -> ClosedTable
         requires all { vec_len passes ≡ N.parts.frames.shape.passes }
         requires passes { All (λ p. p.table ≡ N.parts.frames) passes.items }
@@ -286,6 +293,37 @@ impl<N: Naming> Ksm<N> {
     {
         let Ksm { frames, merge } = self;
         let merge = merge.into_inner();
+        merge.lies_lawfully();
+        frames.close(merge.close(rt), passes)
+    }
+
+    /// Ends the book as `close` does, once all shares are gathered: with the journal that they own together, since no
+    /// command was made any more.
+    pub fn close_gathered<R: Wait>(self, rt: &R, passes: Vec<Pass>, tally: Tally<N>) -> ClosedTable
+        requires all { vec_len passes ≡ N.parts.frames.shape.passes }
+        requires passes { All (λ p. p.table ≡ N.parts.frames) passes.items }
+        ensures shape { result.shape ≡ N.parts.frames.shape }
+        ensures ends { EndsAfter N.parts (entries tally) result }
+    {
+        let Ksm { frames, merge } = self;
+        let mut merge = merge.into_inner();
+        merge.is_gathered(tally);
+        merge.lies_lawfully();
+        frames.close(merge.close(rt), passes)
+    }
+
+    /// Ends the book as `close` does. The share has then seen the journal with which it ends.
+    pub fn close_seen<R: Wait>(self, rt: &R, passes: Vec<Pass>, share: &mut Share<N>) -> ClosedTable
+        requires all { vec_len passes ≡ N.parts.frames.shape.passes }
+        requires passes { All (λ p. p.table ≡ N.parts.frames) passes.items }
+        ensures shape { result.shape ≡ N.parts.frames.shape }
+        ensures seen { SeesOn N.parts share.old share.new [] }
+        ensures alone { N.parts.callers ≡ 1 → share.new ≡ share.old }
+        ensures ends { EndsAfter N.parts (entries share.new.seen) result }
+    {
+        let Ksm { frames, merge } = self;
+        let mut merge = merge.into_inner();
+        merge.show(share);
         merge.lies_lawfully();
         frames.close(merge.close(rt), passes)
     }

@@ -1,5 +1,5 @@
 //! What lies under the merge lock.
-ghost use Rattle.std.specs.Prelude.{◌≡◌, ◌++◌, ◌<◌, ◌≤◌, ℕ, [], Some, length, IfOk, IfErr, IfSome};
+ghost use Rattle.std.specs.Prelude.{◌≡◌, ◌++◌, ◌<◌, ◌≤◌, ℕ, [], Some, true, false, IfOk, IfErr, IfSome};
 ghost use Rattle.ksm_base.specs.Journal.{IsLegal, ReadsLastStored, journal_after, last_stored};
 ghost use Rattle.ksm_base.specs.Reading.{bytes_of};
 ghost use Rattle.ksm_base.specs.Sound.{IsSound};
@@ -8,7 +8,8 @@ ghost use Rattle.ksm_book.specs.Laid.{LoadsIf};
 ghost use Rattle.ksm_book.specs.Promised.{LieOn};
 ghost use Rattle.ksm_shared.specs.Handed.{missing_of};
 ghost use Rattle.ksm_shared.specs.Locked.{Gathered, LacksOne, SeesOn, made, made_by, part_of, said_of, state_seen};
-ghost use Rattle.ksm_shared.specs.Seen.{CallersFit, IsBookSeat, OwnersBelow, caller, entries, times};
+ghost use Rattle.ksm_shared.specs.Seen.{CallersFit, IsBookSeat, Knows, OwnersBelow, all_at, caller, entries, times};
+ghost use Rattle.ksm_shared.specs.Seen.{view_of};
 
 use crate::answer::Answer;
 use crate::naming::Naming;
@@ -156,11 +157,11 @@ impl<N: Naming> Merge<N> {
         self.book.lies_lawfully();
     }
 
-    /// How many entries all shares own together, where all shares are here; they are spent. Else they come back.
-    pub fn gather(&mut self, shares: Vec<Share<N>>) -> Result<Tally, GatherFault<N>>
+    /// What all shares own together, where all shares are here; they are spent. Else they come back.
+    pub fn gather(&mut self, shares: Vec<Share<N>>) -> Result<Tally<N>, GatherFault<N>>
         ensures kept { self.new ≡ self.old }
         ensures all { IfOk result
-            (λ tally. Gathered N.parts.callers self.old.log shares.items × (tally.entries ≡ length self.old.log)) }
+            (λ tally. (tally ≡ self.old.log) × Gathered N.parts.callers self.old.log shares.items) }
         ensures missing { IfErr result
             (λ fault. (missing_of fault ≡ shares.items) × LacksOne N.parts.callers shares.items) }
     {
@@ -168,9 +169,27 @@ impl<N: Naming> Merge<N> {
             return Err(GatherFault::Missing(shares));
         }
         let table = &self.seen;
-        join_all(&table.shared, &mut self.seat, shares);
+        let seat = join_all(&table.shared, &mut self.seat, shares);
         let entries = self.book.journal().len() as u64;
-        Ok(Tally { entries })
+        Ok(Tally {
+            entries,
+            seat,
+            of: PhantomData,
+        })
+    }
+
+    /// A law, which costs nothing to call: since all shares are gathered, no command was made.
+    pub fn is_gathered(&mut self, tally: Tally<N>)
+        ensures kept { self.new ≡ self.old }
+        ensures log { tally ≡ self.old.log }
+    {
+        let Tally {
+            entries: _,
+            seat,
+            of: _,
+        } = tally;
+        let table = &self.seen;
+        rejoin(&table.shared, &mut self.seat, seat);
     }
 
     /// The keeper, as it is. Readers are shown nothing from then on.
@@ -206,8 +225,8 @@ impl<N: Naming> Merge<N> {
     }
 }
 
-// Joins the shares to the book's seat, looks, and lets them go.
-fn join_all<N: Naming>(table: &SeenWords, book: &mut SeenSeat, shares: Vec<Share<N>>)
+// Joins the shares to the book's seat, looks, and cuts them off, all together.
+fn join_all<N: Naming>(table: &SeenWords, book: &mut SeenSeat, shares: Vec<Share<N>>) -> SeenSeat
     requires table { (book.old.table_id ≡ table.now.table_id) × (N.parts.seen ≡ table.now.table_id)
         × (0 < table.now.table_id.words) }
     requires book { IsBookSeat book.old.me }
@@ -215,11 +234,27 @@ fn join_all<N: Naming>(table: &SeenWords, book: &mut SeenSeat, shares: Vec<Share
     ensures book { book.new.me ≡ book.old.me }
     ensures fits { CallersFit book.old.me.0.log book.old.me.0.shares shares.items }
     ensures once { (number : ℕ) → times number shares.items ≤ 1 }
+    ensures seat { (result.table_id ≡ table.now.table_id) × (result.me ≡ all_at shares.items book.old.me.0.log) }
 {
     for share in shares {
         let Share { seat, of: _ } = share;
         table.join_seat::<Shares>(book, seat);
     }
+    table.load::<Looking>(book, 0);
+    table.split_seat::<Shares>(book)
+}
+
+// Joins shares that were cut off together to the book's seat, looks, and lets them go.
+fn rejoin(table: &SeenWords, book: &mut SeenSeat, all: SeenSeat)
+    requires table { (book.old.table_id ≡ table.now.table_id) × (all.table_id ≡ table.now.table_id)
+        × (0 < table.now.table_id.words) }
+    requires book { IsBookSeat book.old.me }
+    requires all { all.me ≡ (view_of false [] 0 all.me.0.callers, []) }
+    ensures table { book.new.table_id ≡ book.old.table_id }
+    ensures book { book.new.me ≡ book.old.me }
+    ensures knows { Knows (view_of true book.old.me.0.log book.old.me.0.shares all.me.0.callers) }
+{
+    table.join_seat::<Shares>(book, all);
     table.load::<Looking>(book, 0);
     let _gone = table.split_seat::<Shares>(book);
 }

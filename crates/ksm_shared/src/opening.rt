@@ -3,9 +3,10 @@ ghost use Rattle.std.specs.Prelude.{◌≡◌, ◌<◌, ◌≤◌, [], IfOk, IfE
 ghost use Rattle.frame_table.specs.Seats.{new_keeper};
 ghost use Rattle.ksm_shared.specs.Locked.{fresh};
 ghost use Rattle.ksm_shared.specs.Opening.{IsNew, IsOpeningLock};
+ghost use Rattle.ksm_shared.specs.Published.{new_reader};
 ghost use Rattle.ksm_shared.specs.Seen.{book_view};
 
-use crate::beginning::{LengthWord, SeenJournal};
+use crate::beginning::Scribe;
 use crate::merge::Merge;
 use crate::naming::Naming;
 use crate::publisher::Publisher;
@@ -20,14 +21,13 @@ use std::alloc::Global;
 use std::marker::PhantomData;
 
 /// What is to lie under the merge lock: the keeper, the table of what shares have seen with the book's seat there, and
-/// the logbook by which beginnings of the journal are compared, with the word that has its length.
+/// the scribe of the logbook by which beginnings of the journal are compared.
 pub(crate) struct Inner {
     pub shape: Shape,
     pub keeper: Keeper,
     pub seen: SeenTable,
     pub seat: SeenSeat,
-    pub word: LengthWord,
-    pub journal: SeenJournal,
+    pub scribe: Scribe,
     pub callers: u32,
     pub readers: u32,
 }
@@ -42,8 +42,7 @@ impl Inner {
             keeper,
             seen: _,
             seat: _,
-            word: _,
-            journal: _,
+            scribe: _,
             callers: _,
             readers: _,
         } = self;
@@ -60,7 +59,7 @@ pub(crate) fn open_lock<N: Naming>(
     requires { IsNew N.parts inner }
     ensures book { IfOk result (λ opened. IsOpeningLock N.parts opened.0) }
     ensures shares { IfOk result (λ opened. opened.1.items ≡ fresh N.parts.callers) }
-    ensures readers { IfOk result (λ opened. opened.2.items ≡ replicate N.parts.readers []) }
+    ensures readers { IfOk result (λ opened. opened.2.items ≡ replicate N.parts.readers new_reader) }
     ensures refused { IfErr result (λ e. (e.0 ≡ new_keeper N.parts.frames) × (e.1 ≡ Fault.Memory)) }
 {
     let count = inner.readers;
@@ -107,14 +106,13 @@ fn open_merge<N: Naming>(
         keeper,
         seen,
         mut seat,
-        word,
-        journal,
+        scribe,
         callers,
         readers,
     } = inner;
     let book = Book::open(alloc, keeper, shape)?;
     let counters = book.counters();
-    let publisher = match Publisher::open(alloc, word, journal, counters, readers) {
+    let publisher = match Publisher::open(alloc, scribe, counters, readers) {
         Ok(publisher) => publisher,
         Err(fault) => return Err((book.close(), fault)),
     };
@@ -138,7 +136,7 @@ fn take_readers<N: Naming>(
     requires publisher { publisher.now ≡ [] }
     requires count { count ≡ N.parts.readers }
     requires room { (readers.old.items ≡ []) × (vec_len readers.old ≡ 0) × (count ≤ vec_capacity readers.old) }
-    ensures readers { IfOk result (λ _. readers.new.items ≡ replicate count []) }
+    ensures readers { IfOk result (λ _. readers.new.items ≡ replicate count new_reader) }
     ensures memory { IfErr result (λ fault. fault ≡ Fault.Memory) }
 {
     for _ in 0..count {

@@ -3,12 +3,11 @@ ghost use Rattle.std.specs.Prelude.{◌≡◌, ◌≤◌, IfOk, IfErr};
 ghost use Rattle.ksm_base.specs.Values.{IsShape};
 ghost use Rattle.frame_table.specs.Seats.{Ends, new_keeper};
 
-use crate::beginning::SeenJournal;
+use crate::beginning::Scribe;
 use crate::opening::Inner;
 use crate::seen::SeenTable;
 use frame_table::{ClosedTable, FrameTable, Pass};
 use ksm_base::{Fault, Shape};
-use logbook::{Start, Word};
 use std::alloc::Global;
 use std::marker::Model;
 
@@ -47,8 +46,7 @@ impl Parts {
         ensures memory { IfErr result (λ fault. fault ≡ Fault.Memory) }
     {
         let (seen, seat) = SeenTable::of_words(alloc, &[0], &())?;
-        let (journal, mut first, _second) = SeenJournal::open(Start::alone(), 0, 0);
-        let word = Word::tracked(0, &mut first);
+        let scribe = Scribe::open().ok_or(Fault::Memory)?;
         let (frames, keeper, passes) = FrameTable::open(alloc, shape)?;
         Ok(Parts {
             alloc,
@@ -59,8 +57,7 @@ impl Parts {
                 keeper,
                 seen,
                 seat,
-                word,
-                journal,
+                scribe,
                 callers,
                 readers: callers,
             },

@@ -3,9 +3,10 @@ ghost use Rattle.std.specs.Prelude.{◌≡◌, ◌<◌, ◌≤◌, ◌++◌, [],
 ghost use Rattle.ksm_base.specs.Counting.{counters_of};
 ghost use Rattle.ksm_base.specs.Journal.{AreAnswers, replay};
 ghost use Rattle.ksm_base.specs.State.{opening};
-ghost use Rattle.ksm_shared.specs.Published.{IsRowOf, length_word, list_of};
+ghost use Rattle.left_right.specs.Sides.{view as sight};
+ghost use Rattle.ksm_shared.specs.Published.{IsRowOf, list_of, no_sight};
 
-use crate::beginning::{Beginning, LengthWord, SeenJournal};
+use crate::beginning::Scribe;
 use crate::naming::Naming;
 use crate::rows::{CountedRow, RowReader, Rows};
 use crate::seen::Entry;
@@ -15,51 +16,49 @@ use std::alloc::Global;
 use std::marker::Model;
 use std::sync::Wait;
 
-/// The rows that readers take, and the word of the logbook by which they follow the journal. Contracts see the journal
-/// after which the counters stand that readers are shown.
+/// The rows that readers take, and the scribe who follows the journal for them. Contracts see the journal after which
+/// the counters stand that readers are shown.
 ///
 /// It must be closed.
 pub struct Publisher<N: Naming> {
-    word: LengthWord,
+    scribe: Scribe,
     rows: Rows<N>,
 }
 
 impl<N: Naming> Model for Publisher<N> {
     ghost use Rattle.std.specs.Prelude.{◌≡◌, List};
     ghost use Rattle.ksm_base.specs.Journal.{Entry};
-    ghost use Rattle.ksm_shared.specs.Published.{length_word};
 
     ghost Value = { List Entry };
 
     ghost view = { λ p. p.rows.reached.journal };
 
-    ghost invariant = { λ p. p.word ≡ length_word N.parts.logbook };
+    ghost invariant = { λ p. (p.scribe ≡ p.rows.reached) × (p.scribe.logbook ≡ N.parts.logbook) };
 }
 
 impl<N: Naming> Publisher<N> {
     /// Shows the counters of an empty journal to so many readers. Refused for memory alone.
     pub fn open(
         alloc: Global,
-        word: LengthWord,
-        seen: SeenJournal,
+        scribe: Scribe,
         counters: Counters,
         readers: u32,
     ) -> Result<Publisher<N>, Fault>
-        requires word { word ≡ length_word N.parts.logbook }
-        requires seen { (seen.book ≡ N.parts.logbook) × (seen.log ≡ []) }
+        requires scribe { (scribe.logbook ≡ N.parts.logbook) × (scribe.journal ≡ []) }
         requires counters { counters ≡ counters_of (opening N.parts.frames.shape) }
         requires readers { (readers ≡ N.parts.readers) × (readers ≤ 16) }
         ensures opened { IfOk result (λ p. p ≡ []) }
         ensures memory { IfErr result (λ fault. fault ≡ Fault.Memory) }
     {
-        let row = CountedRow::new(counters, Beginning { count: 0, seen });
+        let row = CountedRow::new(counters, scribe.reached(0));
         let rows = Rows::open(alloc, row, readers as usize)?;
-        Ok(Publisher { word, rows })
+        Ok(Publisher { scribe, rows })
     }
 
-    /// A new reader, of a book that has some. Refused for memory alone.
+    /// A new reader, of a book that has some: it has not looked. Refused for memory alone.
     pub fn reader(&self) -> Result<RowReader<N>, Fault>
         requires { 0 < N.parts.readers }
+        ensures place { IfOk result (λ reader. sight reader.place ≡ no_sight N.parts) }
         ensures memory { IfErr result (λ fault. fault ≡ Fault.Memory) }
     {
         Ok(self.rows.reader()?)
@@ -78,33 +77,33 @@ impl<N: Naming> Publisher<N> {
     pub fn follow<R: Wait>(&mut self, rt: &R, next: &Option<Entry>, book: &Book)
         requires legal { AreAnswers (opening N.parts.frames.shape) (self.old ++ list_of next.now) }
         requires leads { book.now.state ≡ replay (opening N.parts.frames.shape) (self.old ++ list_of next.now) }
+        requires whole { book.now.journal ≡ self.old ++ list_of next.now }
         ensures { self.new ≡ self.old ++ list_of next.now }
     {
-        let mut reached = self.rows.newest().beginning().again();
-        go_on(rt, &self.word, &mut reached, next);
+        write(&mut self.scribe, next);
+        let reached = self.scribe.reached(book.journal().len() as u64);
         self.rows.show(rt, reached, book);
     }
 
     /// Ends the copies of the newest row, once no reader is in them.
     pub fn close<R: Wait>(self, rt: &R) {
-        let Publisher { word: _, rows } = self;
+        let Publisher { scribe: _, rows } = self;
         rows.close(rt);
     }
 
     /// Leaves the copies where they lie, where a reader was refused.
     pub fn leave(self) {
-        let Publisher { word: _, rows } = self;
+        let Publisher { scribe: _, rows } = self;
         rows.leave();
     }
 }
 
-// Adds the entry to what was reached, if there is one.
-fn go_on<R: Wait>(rt: &R, word: &LengthWord, reached: &mut Beginning, next: &Option<Entry>)
-    requires { word.now ≡ length_word reached.old.logbook }
-    ensures logbook { reached.new.logbook ≡ reached.old.logbook }
-    ensures journal { reached.new.journal ≡ reached.old.journal ++ list_of next.now }
+// Adds the entry to the journal, if there is one.
+fn write(scribe: &mut Scribe, next: &Option<Entry>)
+    ensures logbook { scribe.new.logbook ≡ scribe.old.logbook }
+    ensures journal { scribe.new.journal ≡ scribe.old.journal ++ list_of next.now }
 {
     if let Some(entry) = next {
-        reached.add(rt, word, entry);
+        scribe.add(entry);
     }
 }

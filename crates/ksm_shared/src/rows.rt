@@ -1,11 +1,13 @@
 //! Rows of counters, and the two copies of the newest one that readers take with no lock. A row is written whole to the
 //! copy that no reader has, and readers take that one from then on; so to show a row takes no memory.
-ghost use Rattle.std.specs.Prelude.{◌≡◌, ◌<◌, ◌^◌, ◌⊎◌, IfOk};
+ghost use Rattle.std.specs.Prelude.{◌≡◌, ◌<◌, ◌^◌, ◌⊎◌, IfOk, length};
 ghost use mathlib.Core.List.{IsPrefix};
-ghost use Rattle.ksm_shared.specs.Published.{IsRowOf, row_at};
+ghost use Rattle.left_right.specs.Sides.{view as sight};
+ghost use Rattle.ksm_shared.specs.Published.{IsRowOf, no_sight, row_at};
 
 use crate::beginning::Beginning;
 use crate::naming::Naming;
+use crate::row::Sight;
 use core::mem::replace_with;
 use crossbeam_utils::rule::{Outcome, Protocol};
 use ksm_base::Counters;
@@ -70,7 +72,8 @@ impl CountedRow {
     /// Takes the other row, where that goes on where this one ends.
     pub fn rise(&mut self, other: &CountedRow)
         requires { other.now.reached.logbook ≡ self.old.reached.logbook }
-        ensures one { (self.new ≡ self.old) ⊎ (self.new ≡ other.now) }
+        ensures one { (self.new ≡ other.now)
+            ⊎ ((length other.now.reached.journal < length self.old.reached.journal) × (self.new ≡ self.old)) }
         ensures rises { IsPrefix self.old.reached.journal self.new.reached.journal
             × IsPrefix other.now.reached.journal self.new.reached.journal }
     {
@@ -98,25 +101,37 @@ pub struct RowsGoOn<N> {
     of: PhantomData<N>,
 }
 
-impl<N: Naming> Protocol<CountedRow, Beginning> for RowsGoOn<N> {
-    ghost use Rattle.ksm_shared.specs.Published.{RowsGoOn as Kept, nothing_seen};
+impl<N: Naming> Protocol<CountedRow, Sight> for RowsGoOn<N> {
+    ghost use Rattle.ksm_shared.specs.Published.{RowsGoOn as Kept, no_sight};
 
     ghost holds = { Kept N.parts };
 
-    ghost first = { nothing_seen N.parts };
+    ghost first = { no_sight N.parts };
 }
 
-impl<N: Naming> Outcome<CountedRow, Beginning> for RowsGoOn<N> {
+// What is told where a row is shown.
+impl<N: Naming> Outcome<CountedRow, Sight> for RowsGoOn<N> {
     ghost use Rattle.ksm_shared.specs.Published.{Shows};
 
     ghost then = { Shows N.parts };
 }
 
+/// A look at the row that is shown.
+pub struct RowLook<N> {
+    of: PhantomData<N>,
+}
+
+impl<N: Naming> Outcome<CountedRow, Sight> for RowLook<N> {
+    ghost use Rattle.ksm_shared.specs.Published.{Looks};
+
+    ghost then = { Looks N.parts };
+}
+
 /// Enters a copy of the newest row.
-pub type RowReader<N> = Reader<CountedRow, Beginning, RowsGoOn<N>>;
+pub type RowReader<N> = Reader<CountedRow, Sight, RowsGoOn<N>>;
 
 /// Writes both copies.
-pub type RowWriter<N> = Writer<CountedRow, (), Beginning, RowsGoOn<N>>;
+pub type RowWriter<N> = Writer<CountedRow, (), Sight, RowsGoOn<N>>;
 
 /// The newest row, and the two copies that readers take it from. Where the book has no readers there are none, and the
 /// row says only how far the journal has come. Contracts see the newest row.
@@ -159,9 +174,10 @@ impl<N: Naming> Rows<N> {
         })
     }
 
-    /// A new reader, in a place of its own.
+    /// A new reader, in a place of its own, which has not looked.
     pub fn reader(&self) -> Result<RowReader<N>, AllocError>
         requires { 0 < N.parts.readers }
+        ensures { IfOk result (λ reader. sight reader.place ≡ no_sight N.parts) }
     {
         match &self.copies {
             Some(copies) => new_reader(copies),
@@ -225,7 +241,9 @@ fn two_copies<N: Naming>(
     RowWriter::new(alloc, row.again(), row.again(), readers)
 }
 
-fn new_reader<N: Naming>(writer: &RowWriter<N>) -> Result<RowReader<N>, AllocError> {
+fn new_reader<N: Naming>(writer: &RowWriter<N>) -> Result<RowReader<N>, AllocError>
+    ensures { IfOk result (λ reader. sight reader.place ≡ no_sight N.parts) }
+{
     writer.factory().reader()
 }
 

@@ -3,7 +3,7 @@ ghost use Rattle.std.specs.Prelude.{◌≡◌, ◌<◌, All, vec_len};
 ghost use Rattle.ksm_base.specs.Values.{frames_of};
 
 use frame_table::{Pass, Why};
-use ksm_audit::{AuditFault, Gate, OpenGate, Report, Row, audit};
+use ksm_audit::{AuditFault, Gate, OpenGate, PlacePermit, Report, Row, audit};
 use ksm_base::{Command, Fault, GuestPage, PAGE_WORDS, PageBytes, Reply, Shape};
 use ksm_shared::{Ksm, Naming, Parts, Share};
 use std::alloc::Global;
@@ -254,24 +254,29 @@ struct Turns {
 const TURNS: u32 = 10_000_000;
 
 impl Gate for Turns {
+    type Permit = PlacePermit;
+
     ghost use Rattle.std.specs.Prelude.{ℕ};
 
     ghost may_refuse = { λ _ _. Unit {0} };
 
-    fn before(&self, worker: u32, _place: u32) -> bool {
+    ghost place_of = { λ permit. permit.place };
+
+    fn before(&self, worker: u32, place: u32) -> Option<PlacePermit> {
         if worker != self.held {
-            return true;
+            return Some(PlacePermit { place });
         }
         for _ in 0..TURNS {
             if self.answered.load(Ordering::SeqCst) > 0 {
-                return true;
+                return Some(PlacePermit { place });
             }
             yield_now();
         }
-        false
+        None
     }
 
-    fn after(&self, worker: u32, _place: u32) {
+    fn after(&self, worker: u32, _place: u32, permit: PlacePermit) {
+        let PlacePermit { place: _ } = permit;
         if worker != self.held {
             self.answered.fetch_add(1, Ordering::SeqCst);
         }
@@ -341,16 +346,25 @@ struct Refuses {
 }
 
 impl Gate for Refuses {
+    type Permit = PlacePermit;
+
     ghost use Rattle.std.specs.Prelude.{◌≡◌, ℕ};
 
     ghost may_refuse = { λ gate place. place ≡ gate.place };
 
-    fn before(&self, _worker: u32, place: u32) -> bool {
+    ghost place_of = { λ permit. permit.place };
+
+    fn before(&self, _worker: u32, place: u32) -> Option<PlacePermit> {
         self.asked.fetch_add(1, Ordering::SeqCst);
-        place != self.place
+        if place == self.place {
+            None
+        } else {
+            Some(PlacePermit { place })
+        }
     }
 
-    fn after(&self, _worker: u32, _place: u32) {
+    fn after(&self, _worker: u32, _place: u32, permit: PlacePermit) {
+        let PlacePermit { place: _ } = permit;
         self.told.fetch_add(1, Ordering::SeqCst);
     }
 }

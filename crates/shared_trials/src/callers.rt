@@ -6,7 +6,7 @@ use crate::commands::{
     DONE, SHAPE, TWO_MERGED, all_done, filled, merge_two, page, register, store,
 };
 use ksm_base::{Fault, Knobs};
-use ksm_shared::{GatherFault, Ksm, Naming, Parts, Share, gather};
+use ksm_shared::{GatherFault, Ksm, Naming, Parts, Share, Tally, gather};
 use std::alloc::Global;
 use std::marker::Brand;
 use std::process::Abort;
@@ -40,7 +40,7 @@ fn four_work<N: Naming + Send + Sync, R: Threads + Wait + Abort + Sync>(
     rt: &R,
     ksm: &Ksm<N>,
     mut shares: Vec<Share<N>>,
-) -> Result<u64, Fail> {
+) -> Result<Tally<N>, Fail> {
     let three = shares.pop().ok_or("three")?;
     let two = shares.pop().ok_or("two")?;
     let one = shares.pop().ok_or("one")?;
@@ -62,8 +62,7 @@ fn four_work<N: Naming + Send + Sync, R: Threads + Wait + Abort + Sync>(
     let GatherFault::Missing(mut shares) = gather(rt, ksm, shares).err().ok_or("missing")?;
     assert_eq!(rt; shares.len(), 3);
     shares.push(last)?;
-    let tally = gather(rt, ksm, shares).ok().ok_or("all")?;
-    Ok(tally.entries)
+    Ok(gather(rt, ksm, shares).ok().ok_or("all")?)
 }
 
 fn four<N: Naming + Send + Sync, R: Threads + Wait + Abort + Sync>(
@@ -73,9 +72,16 @@ fn four<N: Naming + Send + Sync, R: Threads + Wait + Abort + Sync>(
     requires { parts ≡ N.parts }
 {
     let (ksm, passes, shares, _readers) = Ksm::<N>::open(parts)?;
-    let entries = four_work(rt, &ksm, shares);
-    drop(ksm.close(rt, passes));
-    assert_eq!(rt; entries?, 408);
+    let tally = match four_work(rt, &ksm, shares) {
+        Ok(tally) => tally,
+        Err(fail) => {
+            drop(ksm.close(rt, passes));
+            return Err(fail);
+        }
+    };
+    let entries = tally.entries();
+    drop(ksm.close_gathered(rt, passes, tally));
+    assert_eq!(rt; entries, 408);
     Ok(())
 }
 
@@ -116,7 +122,7 @@ fn reads<N: Naming, R: Wait + Abort>(
     assert_eq!(rt; mappers, 2);
     shares.push(one)?;
     let tally = gather(rt, ksm, shares).ok().ok_or("all")?;
-    Ok(tally.entries)
+    Ok(tally.entries())
 }
 
 fn one<N: Naming, R: Wait + Abort>(rt: &R, alloc: Global, parts: Parts) -> Result<(), Fail>
@@ -145,14 +151,13 @@ fn leave<N: Naming, R: Wait>(rt: &R, parts: Parts) -> Result<(bool, u64), Fault>
     requires places { frames_of parts.frames.shape ≡ 8 }
 {
     let (ksm, passes, mut shares, _readers) = Ksm::<N>::open(parts)?;
-    let stores = [store(0, 0, 1), store(0, 1, 2)];
-    let done = match shares.pop() {
-        Some(mut share) => {
-            merge_two(rt, &ksm, &mut share) && all_done(rt, &ksm, &mut share, &stores)
-        }
-        None => false,
+    let Some(mut share) = shares.pop() else {
+        drop(ksm.close(rt, passes));
+        return Err(Fault::Memory);
     };
-    let closed = ksm.close(rt, passes);
+    let stores = [store(0, 0, 1), store(0, 1, 2)];
+    let done = merge_two(rt, &ksm, &mut share) && all_done(rt, &ksm, &mut share, &stores);
+    let closed = ksm.close_seen(rt, passes, &mut share);
     Ok((done, closed.place(0)))
 }
 

@@ -5,7 +5,7 @@ ghost use Rattle.std.specs.Prelude.{◌≡◌};
 use crate::audits::audit_once;
 use crate::commands::{DONE, all_done, filled, merge_two, page, register};
 use frame_table::Why;
-use ksm_audit::{Gate, Row};
+use ksm_audit::{Gate, PlacePermit, Row};
 use ksm_base::{Command, Fault, Shape};
 use ksm_shared::{Ksm, Naming, Parts, Share};
 use std::alloc::Global;
@@ -48,16 +48,21 @@ impl<'a, N: Naming, R: Wait> Mover<'a, N, R> {
 }
 
 impl<'a, N: Naming, R: Wait> Gate for Mover<'a, N, R> {
+    type Permit = PlacePermit;
+
     ghost use Rattle.std.specs.Prelude.{ℕ};
 
     ghost may_refuse = { λ _ _. ⊥ };
 
-    fn before(&self, _worker: u32, place: u32) -> bool {
+    ghost place_of = { λ permit. permit.place };
+
+    fn before(&self, _worker: u32, place: u32) -> Option<PlacePermit> {
         self.move_first(place, 1);
-        true
+        Some(PlacePermit { place })
     }
 
-    fn after(&self, _worker: u32, place: u32) {
+    fn after(&self, _worker: u32, _place: u32, permit: PlacePermit) {
+        let PlacePermit { place } = permit;
         self.move_first(place, 0);
     }
 }

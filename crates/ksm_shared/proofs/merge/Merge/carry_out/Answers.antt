@@ -36,6 +36,11 @@ follow-requires-clause-leads g c =
     let next = follows_book _ _ _ _ _ _ (i.shown ∙ sym i.journal) a.ensures.journal c.said-said.ensures in
     leads_seen g.N.Naming.parts a.new.self _ (a.ensures.carried.own ∙ i.own) next c.lies_lawfully.ensures.legal
 
+pub follow-requires-clause-whole : goal.follow-requires-clause-whole
+follow-requires-clause-whole g c =
+    let i = c.self.invariant in
+    follows_book _ _ _ _ _ _ (i.shown ∙ sym i.journal) c.apply-result.ensures.journal c.said-said.ensures
+
 pub returns-clause-published : goal.returns-clause-published
 returns-clause-published g c = follows g c
 

@@ -1,7 +1,7 @@
-use Rattle.std.proofs.Common.{rules, ◌∙◌, List, ap, length, subst}
+use Rattle.std.proofs.Common.{rules, ◌∙◌, ap, length, subst}
 use mathlib.Core.List.{IsPrefix}
-use Rattle.ksm_base.specs.Journal.{Entry}
-use Rattle.ksm_shared.specs.Published.{Reached}
+use Rattle.ksm_shared.specs.Chained.{Reached}
+use Rattle.ksm_shared.specs.Published.{ReaderView}
 use Rattle.ksm_shared.proofs.Showing.{either_row}
 use Rattle.ksm_shared.proofs.reader.CounterReader.look.Goals as goal
 
@@ -12,7 +12,7 @@ pub returns-clause-shown : goal.returns-clause-shown
 returns-clause-shown g c =
     let row = (invariant_of-self-2 g c).1 in
     let now = c.rise.new.self.reached.journal in (
-      subst (λ (old : List Entry). IsPrefix old now) c.self.view_is c.rise.ensures.rises.0,
+      subst (λ (old : ReaderView). IsPrefix old.journal now) c.self.view_is c.rise.ensures.rises.0,
       record {
         legal = row.legal;
         number = c.len.ensures ∙ ap (λ (r : Reached). length r.journal) c.beginning.ensures;
