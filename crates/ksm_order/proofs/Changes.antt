@@ -140,7 +140,7 @@ many_kept p (x ∷ xs) =
 abbrev pub mark_of : ℕ → Bool → Item → Item
 mark_of key mark y = if is_at key y then record y { marked = mark } else y
 
-same_key : (key : ℕ) (mark : Bool) (y : Item) → (mark_of key mark y).key ≡ y.key
+pub same_key : (key : ℕ) (mark : Bool) (y : Item) → (mark_of key mark y).key ≡ y.key
 same_key key mark y = elim (is_at key y) as (λ b. (if b then record y { marked = mark } else y).key ≡ y.key) [ true ↦ refl | false ↦ refl ]
 
 marked_at : (key : ℕ) (mark : Bool) (xs : List Item) (i : ℕ) (d : Item) → i < length xs
