@@ -1,11 +1,7 @@
 pub mod Names
 pub mod Options
-pub mod Between
-pub mod Coming
-pub mod Counts
-pub mod Cuts
 pub mod Keyed
-pub mod Placed
+pub mod Ranked
 pub mod Found
 pub mod Tallying
 pub mod Filing

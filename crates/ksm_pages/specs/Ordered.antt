@@ -1,11 +1,12 @@
--- Pages in order, each with the key of its row, and whether a scan visits it. (own)
-use Rattle.std.specs.Prelude.{◌≡◌, ◌≢◌, ℕ, ◌+◌, ◌-◌, ◌<◌, ◌≤◌, Bool, true, false, not, ◌&&◌, ◌==◌, List, [], ◌∷◌, ◌++◌}
-use Rattle.std.specs.Prelude.{All, AllPairs, count_by, drop, filter, flat_map, length, map, slice_get, slice_index_or}
-use Rattle.std.specs.Prelude.{take, Option, Some, option_map, if◌then◌else◌}
+-- Pages in order, each with the key of its row, and whether a scan visits it; and the items that are kept for it. (own)
+use Rattle.std.specs.Prelude.{◌≡◌, ℕ, ◌+◌, ◌-◌, ◌*◌, ◌/◌, ◌%◌, ◌^◌, ◌<◌, ◌≤◌, Bool, true, not, ◌&&◌, List, ◌∷◌, ◌++◌}
+use Rattle.std.specs.Prelude.{All, AllPairs, filter, length, map, slice_get, Option, Some, option_map, if◌then◌else◌}
 use Rattle.std.specs.Option.{option_or}
 use Rattle.ksm_base.specs.declared.page.GuestPage.{GuestPage}
 use Rattle.ksm_base.specs.Rows.{comes_before, same_page}
 use Rattle.ksm_base.specs.Visit.{after_cursor}
+use Rattle.ksm_order.specs.declared.item.Item.{Item}
+use Rattle.ksm_order.specs.Listed.{AreAscending as AreItemsAscending}
 use Rattle.ksm_pages.specs.declared.named.Named.{Named}
 use Rattle.ksm_pages.specs.declared.ahead.Ahead.{Ahead}
 use Rattle.ksm_pages.specs.declared.ahead.Ahead.TheVariants.{At, End}
@@ -56,44 +57,20 @@ abbrev pub ComesTo : List Named → ℕ → Ahead → Type 0
 ComesTo ahead visits (At page) = (visits < length ahead) × (page_at ahead (visits - 1) ≡ Some page)
 ComesTo ahead visits (End made) = (made ≡ length ahead) × (made ≤ visits)
 
--- the pages ascend, and so many of them are visited by a scan
-pub record IsRun (named : List Named) (mergeable : ℕ) : Type 0 where
-  pub ascending : AreAscending named
-  pub counted : mergeable ≡ count_by (λ n. n.mergeable) named
+-- the key of a page: its guest, then its number
+abbrev pub key_of : GuestPage → ℕ
+key_of page = page.guest * 2 ^ 32 + page.page
 
--- a run begins behind a page
-abbrev pub begins_behind : GuestPage → List Named → Bool
-begins_behind page [] = false
-begins_behind page (n ∷ ns) = comes_before page n.page
+-- the page of a key
+abbrev pub page_of : ℕ → GuestPage
+page_of key = record { guest = key / 2 ^ 32; page = key % 2 ^ 32 }
 
--- a run begins with a page of a guest
-abbrev pub begins_with : ℕ → List Named → Bool
-begins_with guest [] = false
-begins_with guest (n ∷ ns) = n.page.guest == guest
+-- what stands for a page, as an item of the order that is kept
+abbrev pub named_by : Item → Named
+named_by x = record { page = page_of x.key; key = x.value; mergeable = x.marked }
 
--- the pages of runs beside each other, as one list
-abbrev pub pages_in : List (List Named) → List Named
-pages_in runs = flat_map (λ run. run) runs
-
--- each run has a page and 256 at most, and the pages ascend from run to run
-pub record AreRuns (runs : List (List Named)) : Type 0 where
-  pub filled : All (λ run. run ≢ []) runs
-  pub short : All (λ run. length run ≤ 256) runs
-  pub ascending : AreAscending (pages_in runs)
-
--- the runs, with how many pages there are, and how many of them a scan visits
-pub record IsOrder (runs : List (List Named)) (len : ℕ) (mergeable : ℕ) : Type 0 where
-  pub parts : AreRuns runs
-  pub long : len ≡ length (pages_in runs)
-  pub counted : mergeable ≡ count_by (λ n. n.mergeable) (pages_in runs)
-
--- the run in which a page is or would be: the runs before it have pages before that page, those behind it pages behind
-pub record IsRunOf (page : GuestPage) (runs : List (List Named)) (at : ℕ) : Type 0 where
-  pub ahead : All (λ n. comes_before n.page page ≡ true) (pages_in (take at runs))
-  pub behind : All (λ n. comes_before page n.page ≡ true) (pages_in (drop (at + 1) runs))
-
--- one of the runs is the page's, and has room for one page more
-pub record HasRoomFor (page : GuestPage) (runs : List (List Named)) (at : ℕ) : Type 0 where
-  pub place : IsRunOf page runs at
-  pub within : at < length runs
-  pub room : length (slice_index_or runs at []) < 256
+-- items in order, of which there are so many, each with the key of a page
+pub record IsOrder (items : List Item) (len : ℕ) : Type 0 where
+  pub ascending : AreItemsAscending items
+  pub long : len ≡ length items
+  pub small : All (λ x. x.key < 2 ^ 48) items

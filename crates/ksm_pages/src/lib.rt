@@ -1,4 +1,4 @@
-//! The pages of the book: their order, in runs that know how many of their pages a scan visits, and the rows.
+//! The pages of the book: their order, with rank, and the rows.
 #![tactic(auto)]
 
 mod ahead;
@@ -13,14 +13,11 @@ mod reads;
 mod restless;
 pub mod row;
 mod rows;
-mod run;
-mod runs;
 mod scanning;
 mod slot;
 mod tally;
 mod tree;
 mod visited;
-mod visits;
 
 pub use ahead::Ahead;
 pub use named::Named;
@@ -29,5 +26,4 @@ pub use pages::{Find, Glance, Held, Pages};
 pub use restless::Restless;
 pub use row::Spot;
 pub use rows::Rows;
-pub use run::Run;
 pub use tally::Tally;

@@ -1,38 +1,81 @@
-//! All pages in order, in runs that know how many of their pages a scan visits: a page is found by two binary searches,
-//! and the visits between two pages are counted run by run.
-ghost use Rattle.std.specs.Prelude.{◌≡◌, ◌≤◌, ◌<◌, ◌-◌, [], true, None, IfErr, OnErr, OnOk};
-ghost use Rattle.std.specs.Prelude.{◌&&◌, count_by, filter, find, length};
+//! All pages in order, with rank: a page is found by a search, and the visits of a scan are counted, not walked.
+ghost use Rattle.std.specs.Prelude.{◌≡◌, ℕ, ◌≤◌, ◌<◌, ◌^◌, [], true, None, IfErr, OnErr, OnOk};
+ghost use Rattle.std.specs.Prelude.{count_by, drop, find, is_some, length, nat_lt, not};
+ghost use Rattle.ksm_base.specs.declared.page.GuestPage.{GuestPage};
 ghost use Rattle.ksm_base.specs.Visit.{after_cursor};
-ghost use Rattle.ksm_pages.specs.Ordered.{ComesTo, ahead_of, is_of, last_or};
-ghost use Rattle.ksm_pages.specs.Ordered.{marked, passed_to, with_named, without_named};
+ghost use Rattle.ksm_pages.specs.Ordered.{ComesTo, ahead_of, is_of, key_of, last_or, marked, named_by, page_of};
+ghost use Rattle.ksm_pages.specs.Ordered.{passed_to, visited, with_named, without_named};
 
 use crate::ahead::Ahead;
 use crate::named::Named;
-use crate::run::Run;
-use crate::{runs, visits};
 use ksm_base::{Fault, GuestPage};
+use ksm_order::{Item, Leaf, Node, Part};
 use std::alloc::Global;
 use std::marker::Model;
 
 /// Pages in order, each with the key of its row, and whether a scan visits it.
+///
+/// No call costs more than the logarithm of the number of pages, in whatever order they came, and of however many
+/// guests they are.
 #[derive(Drop)]
 pub struct Order {
-    alloc: Global,
-    runs: Vec<Run>,
+    pages: Node<Node<Node<Leaf>>>,
     len: usize,
-    mergeable: usize,
 }
 
 impl Model for Order {
-    ghost use Rattle.std.specs.Prelude.{List};
+    ghost use Rattle.std.specs.Prelude.{List, map};
     ghost use Rattle.ksm_pages.specs.declared.named.Named.{Named};
-    ghost use Rattle.ksm_pages.specs.Ordered.{IsOrder, pages_in};
+    ghost use Rattle.ksm_pages.specs.Ordered.{IsOrder, named_by};
 
     ghost Value = { List Named };
 
-    ghost view = { λ o. pages_in o.runs.items };
+    ghost view = { λ o. map named_by o.pages };
 
-    ghost invariant = { λ o. IsOrder o.runs.items o.len o.mergeable };
+    ghost invariant = { λ o. IsOrder o.pages o.len };
+}
+
+/// The key of a page: its guest, then its number.
+#[inline(always)]
+fn key_of(page: GuestPage) -> u64
+    ensures key { result ≡ key_of page }
+    ensures small { result < 2 ^ 48 }
+    ensures few { page.page < 2 ^ 32 }
+{
+    (u64::from(page.guest) << 32) + u64::from(page.page)
+}
+
+/// The page of a key.
+fn page_of(key: u64) -> GuestPage
+    requires { key < 2 ^ 48 }
+    ensures { result ≡ page_of key }
+{
+    GuestPage {
+        guest: (key >> 32) as u16,
+        page: (key % (1 << 32)) as u32,
+    }
+}
+
+/// The least key behind a cursor.
+fn from_of(cursor: Option<GuestPage>) -> u64
+    ensures { (key : ℕ) → after_cursor cursor (page_of key) ≡ not (nat_lt key result) }
+{
+    match cursor {
+        Some(page) => key_of(page) + 1,
+        None => 0,
+    }
+}
+
+/// An item as it is seen.
+fn named_by(item: Item) -> Named
+    requires { item.key < 2 ^ 48 }
+    ensures { result ≡ named_by item }
+{
+    Named {
+        page: page_of(item.key),
+        key: item.value,
+        mergeable: item.marked,
+    }
 }
 
 impl Order {
@@ -41,10 +84,8 @@ impl Order {
         ensures { result ≡ [] }
     {
         Order {
-            alloc,
-            runs: Vec::new(alloc),
+            pages: Node::new(alloc),
             len: 0,
-            mergeable: 0,
         }
     }
 
@@ -59,25 +100,26 @@ impl Order {
     pub fn mergeable(&self) -> usize
         ensures { result ≡ count_by (λ n. n.mergeable) self.now }
     {
-        self.mergeable
+        self.pages.count()
     }
 
     /// What stands in the order for a page.
-    #[inline(always)]
     pub fn find(&self, page: GuestPage) -> Option<Named>
         ensures { result ≡ find (is_of page) self.now }
     {
-        runs::find(self.runs.as_slice(), page)
+        match self.pages.find(key_of(page)) {
+            Some(item) => Some(named_by(item)),
+            None => None,
+        }
     }
 
     /// The first page behind a cursor.
     pub fn after(&self, cursor: Option<GuestPage>) -> Option<Named>
         ensures { result ≡ find (λ n. after_cursor cursor n.page) self.now }
     {
-        let runs = self.runs.as_slice();
-        match cursor {
-            Some(page) => runs::after(runs, page),
-            None => runs::first_from(runs, 0),
+        match self.pages.first_from(from_of(cursor)) {
+            Some(item) => Some(named_by(item)),
+            None => None,
         }
     }
 
@@ -93,34 +135,37 @@ impl Order {
         let Some(len) = self.len.checked_add(1) else {
             return Err(Fault::Memory);
         };
-        let named = Named {
-            page,
-            key,
-            mergeable: true,
-        };
-        runs::put(&mut self.runs, self.alloc, named)?;
+        self.pages.insert(Item {
+            key: key_of(page),
+            value: key,
+            marked: true,
+        })?;
         self.len = len;
-        self.mergeable += 1;
         Ok(())
     }
 
-    /// Takes a page away, if it is there.
+    /// Takes away a page that is there.
     pub fn remove(&mut self, page: GuestPage)
+        requires there { is_some (find (is_of page) self.old) ≡ true }
         ensures { self.new ≡ without_named page self.old }
     {
-        if let Some(gone) = runs::remove(&mut self.runs, page) {
-            self.len -= 1;
-            self.mergeable -= usize::from(gone.mergeable);
-        }
+        self.pages.remove(key_of(page));
+        self.len -= 1;
     }
 
     /// A scan visits the page from now on, or does not, if it is there.
     pub fn mark(&mut self, page: GuestPage, mergeable: bool)
         ensures { self.new ≡ marked page mergeable self.old }
     {
-        if let Some(was) = runs::mark(&mut self.runs, page, mergeable) {
-            self.mergeable = self.mergeable - usize::from(was.mergeable) + usize::from(mergeable);
-        }
+        self.pages.set_mark(key_of(page), mergeable);
+    }
+
+    /// How many of the pages that a scan visits do not come behind a cursor.
+    fn passed(&self, cursor: Option<GuestPage>) -> usize
+        ensures ahead { ahead_of cursor self.now ≡ drop result (visited self.now) }
+        ensures within { result ≤ length (visited self.now) }
+    {
+        self.pages.up_to(from_of(cursor))
     }
 
     /// What so many visits behind the cursor come to, one at least.
@@ -128,11 +173,14 @@ impl Order {
         requires { 1 ≤ visits }
         ensures { ComesTo (ahead_of cursor self.now) visits result }
     {
-        let all = self.mergeable as u64;
-        match cursor {
-            Some(page) => visits::ahead(self.runs.as_slice(), page, visits),
-            None if all <= visits => Ahead::End(all),
-            None => visits::ahead_from(self.runs.as_slice(), visits),
+        let passed = self.passed(cursor);
+        let left = (self.pages.count() - passed) as u64;
+        if left <= visits {
+            return Ahead::End(left);
+        }
+        match self.pages.nth(passed + (visits - 1) as usize) {
+            Some(key) => Ahead::At(page_of(key)),
+            None => Ahead::End(left),
         }
     }
 
@@ -141,9 +189,14 @@ impl Order {
         ensures count { result.0 ≡ length (passed_to cursor page self.now) }
         ensures last { result.1 ≡ last_or cursor (passed_to cursor page self.now) }
     {
-        if self.mergeable == 0 {
+        let passed = self.passed(cursor);
+        let before = self.pages.up_to(key_of(page));
+        if before <= passed {
             return (0, cursor);
         }
-        visits::between(self.runs.as_slice(), cursor, page)
+        match self.pages.nth(before - 1) {
+            Some(key) => ((before - passed) as u64, Some(page_of(key))),
+            None => (0, cursor),
+        }
     }
 }

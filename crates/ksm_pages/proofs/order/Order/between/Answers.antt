@@ -1,14 +1,55 @@
-use Rattle.ksm_pages.proofs.Names.{ap, count_by, length, Named, sym, ◌∙◌}
-use Rattle.ksm_pages.specs.Ordered.{last_or}
-use Rattle.ksm_pages.proofs.Coming.{none_passed}
+use Rattle.ksm_pages.proofs.Names.{All, All-filter, ap, arith, length, length-filter, option_or, passed_to, Some, sym, ◌-◌, ◌<◌, ◌^◌, ◌∙◌, ◌≡◌}
+use Rattle.ksm_pages.specs.Ordered.{key_of, last_or}
+use Rattle.ksm_order.specs.declared.item.Item.{Item}
+use Rattle.ksm_order.specs.Listed.{marked, up_to}
+use Rattle.ksm_order.proofs.Parts.{up_to_few}
+use Rattle.ksm_pages.proofs.Ranked.{passed_last, passed_many, passed_none, small_at, some_at}
 use Rattle.ksm_pages.proofs.order.Order.between.Goals as goal
+use Rattle.ksm_pages.proofs.order.Order.between.Goals.{After-up_to-before}
 
-pub returns-then-self-eq0-clause-count : goal.returns-then-self-eq0-clause-count
-returns-then-self-eq0-clause-count c =
-    let none = ap (count_by (λ (n : Named). n.mergeable)) (sym c.self.view_is) ∙ sym c.self.invariant.counted ∙ c.if-self-eq0.true in
-    ap length (sym (none_passed c.args.cursor c.args.page c.args.self.now none))
+before : (c : After-up_to-before) → c.up_to-before.result ≡ up_to (key_of c.args.page) c.self.inside.pages
+before c = c.up_to-before.ensures ∙ ap (λ n. up_to n c.self.inside.pages) c.key_of.ensures.key
 
-pub returns-then-self-eq0-clause-last : goal.returns-then-self-eq0-clause-last
-returns-then-self-eq0-clause-last c =
-    let none = ap (count_by (λ (n : Named). n.mergeable)) (sym c.self.view_is) ∙ sym c.self.invariant.counted ∙ c.if-self-eq0.true in
-    ap (last_or c.args.cursor) (sym (none_passed c.args.cursor c.args.page c.args.self.now none))
+-- so many come in between
+many : (c : After-up_to-before) → length (passed_to c.args.cursor c.args.page c.args.self.now) ≡ c.up_to-before.result - c.passed-passed.result
+many c =
+    passed_many c.self.inside.pages c.args.self.now c.self.view_is c.args.cursor c.args.page c.key_of.ensures.few c.self.invariant.ascending
+    c.passed-passed.result c.up_to-before.result c.passed-passed.ensures.ahead (before c)
+
+pub returns-then-before-passed-clause-count : goal.returns-then-before-passed-clause-count
+returns-then-before-passed-clause-count c =
+    let a = (goal.at.returns-then-before-passed-clause-count c).After-up_to-before in
+    omega (arith, many a, c.if-before-passed.true)
+
+pub returns-then-before-passed-clause-last : goal.returns-then-before-passed-clause-last
+returns-then-before-passed-clause-last c =
+    let a = (goal.at.returns-then-before-passed-clause-last c).After-up_to-before in
+    sym (ap (last_or c.args.cursor)
+    (passed_none c.self.inside.pages c.args.self.now c.self.view_is c.args.cursor c.args.page c.key_of.ensures.few c.self.invariant.ascending
+    c.passed-passed.result c.up_to-before.result c.passed-passed.ensures.ahead (before a) c.if-before-passed.true))
+
+pub page_of-requires : goal.page_of-requires
+page_of-requires c = small_at (λ n. n < 2 ^ 48) (marked c.self.inside.pages) _ c.in-Some.key
+    (All-filter (λ x. x.marked) (λ (x : Item). x.key < 2 ^ 48) c.self.inside.pages c.self.invariant.small) (sym c.nth.ensures ∙ c.in-Some.is)
+
+pub returns-in-Some-clause-count : goal.returns-in-Some-clause-count
+returns-in-Some-clause-count c = sym (many (goal.at.returns-in-Some-clause-count c).After-up_to-before)
+
+pub returns-in-Some-clause-last : goal.returns-in-Some-clause-last
+returns-in-Some-clause-last c =
+    let a = (goal.at.returns-in-Some-clause-last c).After-up_to-before in
+    ap Some c.page_of.ensures
+    ∙ sym (ap (λ o. option_or o c.args.cursor)
+    (passed_last c.self.inside.pages c.args.self.now c.self.view_is c.args.cursor c.args.page c.key_of.ensures.few c.self.invariant.ascending
+    c.passed-passed.result c.up_to-before.result c.passed-passed.ensures.ahead (before a) (omega (arith, c.if-before-passed.false)) c.in-Some.key (sym c.nth.ensures ∙ c.in-Some.is)))
+
+no_such : (c : goal.In-None) → ⊥
+no_such c =
+    let items = c.self.inside.pages in
+    some_at (marked items) _ (omega (arith, c.if-before-passed.false, c.up_to-before.ensures, up_to_few c.key_of.result items, length-filter (λ (x : Item). x.marked) items)) (sym c.nth.ensures ∙ c.in-None.is)
+
+pub returns-in-None-clause-count : goal.returns-in-None-clause-count
+returns-in-None-clause-count c = absurd (no_such c)
+
+pub returns-in-None-clause-last : goal.returns-in-None-clause-last
+returns-in-None-clause-last c = absurd (no_such c)

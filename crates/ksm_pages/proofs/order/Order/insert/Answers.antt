@@ -1,18 +1,50 @@
-use Rattle.ksm_pages.proofs.Names.{ap, arith, count_by, find, is_of, length, Named, None, pages_in, true, ◌+◌, ◌∙◌, ◌≡◌}
-use Rattle.ksm_pages.proofs.Keyed.{count_with, length_with}
+use Rattle.ksm_pages.proofs.Names.{All, All-append, All-cons, All-filter, ap, arith, filter, find, GuestPage, is_of, key_of, length, List, map, Named, named_by, nat_lt, None, page_of, subst, sym, true, with_named, ◌+◌, ◌<◌, ◌^◌, ◌∙◌, ◌∷◌, ◌≡◌}
+use Rattle.ksm_order.specs.declared.item.Item.{Item}
+use Rattle.ksm_order.specs.Listed.{AreAscending, is_at, with_item}
+use Rattle.ksm_order.proofs.Changes.{with_rises}
+use Rattle.ksm_pages.proofs.Ranked.{absent_by, longer_by, page_is, with_by}
 use Rattle.ksm_pages.proofs.order.Order.insert.Goals as goal
+use Rattle.ksm_pages.proofs.order.Order.insert.Goals.{After-key_of}
+
+abbrev item : After-key_of → Item
+item c = record { key = c.key_of.result; value = c.args.key; marked = true }
+
+abbrev named : After-key_of → Named
+named c = record { page = c.args.page; key = c.args.key; mergeable = true }
+
+absent : (c : After-key_of) → find (is_of c.args.page) (map named_by c.self.inside.pages) ≡ None
+absent c = ap (find (is_of c.args.page)) c.self.view_is ∙ c.requires.absent
+
+put : (c : After-key_of) → with_named (named c) (map named_by c.self.inside.pages) ≡ map named_by (with_item (item c) c.self.inside.pages)
+put c =
+    let at : GuestPage → Named = λ p. record { page = p; key = c.args.key; mergeable = true } in
+    let is = ap at (ap page_of c.key_of.ensures.key ∙ page_is c.args.page c.key_of.ensures.few) in
+    with_by c.args.page c.key_of.ensures.few (item c) c.key_of.ensures.key (named c) is (λ i. c.args.page) c.self.inside.pages
+
+pub insert-requires : goal.insert-requires
+insert-requires c = record {
+  absent = ap (λ key. find (is_at key) c.self.inside.pages) c.key_of.ensures.key
+      ∙ absent_by c.args.page c.key_of.ensures.few c.self.inside.pages (absent (goal.at.insert-requires c).After-key_of);
+}
 
 pub invariant_of-self-2 : goal.invariant_of-self-2
 invariant_of-self-2 c =
-    let all = pages_in c.self.inside.runs.items in
-    let rise = c.self.invariant.parts.ascending in
-    let named : Named = record { page = c.args.page; key = c.args.key; mergeable = true } in
-    let absent : find (is_of c.args.page) all ≡ None = ap (find (is_of c.args.page)) c.self.view_is ∙ c.requires.absent in
+    let k = (goal.at.invariant_of-self-2 c).After-key_of in
+    let items = c.self.inside.pages in
+    let x = item k in
+    let come = c.in_ok-insert.ensures.added in
+    let rise = c.self.invariant.ascending in
     let one_more : c.in-Some.len ≡ c.self.inside.len + 1 = grind (arith, c.checked_add.ensures, c.in-Some.is) in
-    let longer = length_with (λ n. n.page) c.args.page named all rise absent in
-    let more = count_with (λ n. n.page) c.args.page (λ (n : Named). n.mergeable) named all rise absent in
+    let Small : Item → Type 0 = λ y. y.key < 2 ^ 48 in
     record {
-      parts = c.put.ensures.runs;
-      long = let new = ap length c.in_ok-put.ensures.added in omega (arith, one_more, longer, new, c.self.invariant.long);
-      counted = let new = ap (count_by (λ (n : Named). n.mergeable)) c.in_ok-put.ensures.added in omega (arith, more, new, c.self.invariant.counted);
+      ascending = subst AreAscending (sym come) (with_rises x items rise);
+      long = omega (arith, one_more, c.self.invariant.long, ap length come, longer_by (named k) x items rise (absent k) (put k));
+      small = subst (All Small) (sym come) (All-append Small (filter (λ y. nat_lt y.key x.key) items) (x ∷ filter (λ y. nat_lt x.key y.key) items)
+          (All-filter (λ y. nat_lt y.key x.key) Small items c.self.invariant.small)
+          (All-cons Small x (filter (λ y. nat_lt x.key y.key) items) c.key_of.ensures.small (All-filter (λ y. nat_lt x.key y.key) Small items c.self.invariant.small)));
     }
+
+pub returns-clause-added : goal.returns-clause-added
+returns-clause-added c =
+    let k = (goal.at.returns-clause-added c).After-key_of in
+    ap (map named_by) c.in_ok-insert.ensures.added ∙ sym (put k) ∙ ap (with_named (named k)) c.self.view_is

@@ -1,35 +1,28 @@
-use Rattle.ksm_pages.proofs.Names.{ap, arith, count_by, find, from_bool, is_of, length, Named, None, pages_in, pages_ordered, Some, sym, ◌∙◌, ◌≡◌}
-use Rattle.ksm_pages.proofs.Keyed.{found_counted, removed_count, removed_length}
-use Rattle.ksm_rmap.proofs.Ordered.{absent_kept}
+use Rattle.ksm_pages.proofs.Names.{All, All-filter, ap, arith, find, is_of, is_some, key_of, length, List, map, named_by, not, subst, sym, true, without_named, ◌<◌, ◌^◌, ◌∙◌, ◌≡◌}
+use Rattle.std.proofs.lemmas.List.Kept.{AllPairs-filter}
+use Rattle.ksm_order.specs.declared.item.Item.{Item}
+use Rattle.ksm_order.specs.Listed.{AreAscending, is_at, without}
+use Rattle.ksm_pages.proofs.Options.{some_mapped}
+use Rattle.ksm_pages.proofs.Ranked.{found_by, gone_one, without_by}
 use Rattle.ksm_pages.proofs.order.Order.remove.Goals as goal
-
-pub overflow_sub-self-in-Some : goal.overflow_sub-self-in-Some
-overflow_sub-self-in-Some c =
-    let all = pages_in c.self.inside.runs.items in
-    let found : find (is_of c.args.page) all ≡ Some c.in-Some.gone = sym c.remove.ensures.was ∙ c.in-Some.is in
-    let gone : c.from.result ≡ from_bool c.in-Some.gone.mergeable = c.from.ensures in
-    omega (arith, gone, c.self.invariant.counted, found_counted (λ n. n.page) c.args.page (λ (n : Named). n.mergeable) c.in-Some.gone all c.self.invariant.parts.ascending found)
 
 pub invariant_of-self : goal.invariant_of-self
 invariant_of-self c =
-    let all = pages_in c.self.inside.runs.items in
-    let found : find (is_of c.args.page) all ≡ Some c.in-Some.gone = sym c.remove.ensures.was ∙ c.in-Some.is in
-    let gone : c.from.result ≡ from_bool c.in-Some.gone.mergeable = c.from.ensures in
-    let exact = removed_count (λ n. n.page) c.args.page (λ (n : Named). n.mergeable) c.in-Some.gone all c.self.invariant.parts.ascending found in
-    let shorter = removed_length (λ n. n.page) c.args.page (λ (n : Named). n.mergeable) c.in-Some.gone all c.self.invariant.parts.ascending found in
+    let items = c.self.inside.pages in
+    let key = c.key_of.result in
+    let there : is_some (find (is_at key) items) ≡ true =
+    ap (λ n. is_some (find (is_at n) items)) c.key_of.ensures.key
+    ∙ sym (some_mapped named_by (find (is_at (key_of c.args.page)) items))
+    ∙ ap is_some (sym (found_by c.args.page c.key_of.ensures.few items) ∙ ap (find (is_of c.args.page)) c.self.view_is)
+    ∙ c.requires.there in
     record {
-      parts = c.remove.ensures.runs;
-      long = let new = ap length c.remove.ensures.removed in omega (arith, new, shorter, c.self.invariant.long);
-      counted = let new = ap (count_by (λ (n : Named). n.mergeable)) c.remove.ensures.removed in omega (arith, gone, exact, new, c.self.invariant.counted);
+      ascending = subst AreAscending (sym c.remove.ensures) (AllPairs-filter (λ (x y : Item). x.key < y.key) (λ y. not (is_at key y)) items c.self.invariant.ascending);
+      long = omega (arith, c.self.invariant.long, ap length c.remove.ensures, gone_one key items c.self.invariant.ascending there);
+      small = subst (All (λ (y : Item). y.key < 2 ^ 48)) (sym c.remove.ensures) (All-filter (λ y. not (is_at key y)) (λ (y : Item). y.key < 2 ^ 48) items c.self.invariant.small);
     }
 
-pub invariant_of-self-in_default : goal.invariant_of-self-in_default
-invariant_of-self-in_default c =
-    let all = pages_in c.self.inside.runs.items in
-    let absent : find (is_of c.args.page) all ≡ None = sym c.remove.ensures.was ∙ c.in_default.is in
-    let same : all ≡ pages_in c.remove.new.runs.items = absent_kept pages_ordered (λ n. n.page) c.args.page all absent ∙ sym c.remove.ensures.removed in
-    record {
-      parts = c.remove.ensures.runs;
-      long = c.self.invariant.long ∙ ap length same;
-      counted = c.self.invariant.counted ∙ ap (count_by (λ (n : Named). n.mergeable)) same;
-    }
+pub returns : goal.returns
+returns c =
+    let items = c.self.inside.pages in
+    ap (map named_by) (c.remove.ensures ∙ ap (λ key. without key items) c.key_of.ensures.key)
+    ∙ sym (without_by c.args.page c.key_of.ensures.few items) ∙ ap (without_named c.args.page) c.self.view_is

@@ -1,5 +1,6 @@
-use Rattle.ksm_pages.proofs.Names.{ap, held_in, IsRows, Private, subst, sym, ◌∙◌}
+use Rattle.ksm_pages.proofs.Names.{ap, find, held_in, is_of, is_some, IsRows, Named, Private, subst, sym, ◌∙◌}
 use Rattle.ksm_pages.proofs.Writing.{can_be, nothing_gone, still_gone, viewed_gone}
+use Rattle.ksm_pages.proofs.Options.{some_mapped}
 use Rattle.ksm_pages.proofs.rows.Rows.remove.Goals as goal
 
 pub returns-in_default : goal.returns-in_default
@@ -8,6 +9,11 @@ returns-in_default c = nothing_gone c.self.inside c.self.invariant c.args.spot.p
 pub change-requires : goal.change-requires
 change-requires c =
     can_be c.self.inside c.self.invariant c.in-Some.ensures.there c.remove-gone.ensures.value c.state.ensures Private c.in-Some.ensures.few
+
+pub remove-requires : goal.remove-requires
+remove-requires c = record {
+  there = sym (some_mapped (λ (n : Named). n.key) (find (is_of c.args.spot.page) c.self.inside.order)) ∙ ap is_some (sym c.in-Some.ensures.told);
+}
 
 pub invariant_of-self : goal.invariant_of-self
 invariant_of-self c =

@@ -1,0 +1,3 @@
+pub mod Between
+pub mod Parts
+pub mod Changes

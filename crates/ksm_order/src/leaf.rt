@@ -1,0 +1,196 @@
+//! The lowest height: items side by side.
+ghost use Rattle.std.specs.Prelude.{◌≡◌, ◌≤◌, ◌<◌, None, IfNone, IfSome, All, drop, find, length, take};
+ghost use Rattle.ksm_order.specs.Listed.{AreAscending, AreBefore, IsHere, begins_behind, is_at, is_from, key_at, many};
+ghost use Rattle.ksm_order.specs.Listed.{marked, up_to};
+
+use crate::item::Item;
+use crate::part::Part;
+use std::alloc::{AllocError, Global};
+use std::marker::Model;
+
+/// Items in order, with how many of them are marked.
+#[derive(Drop)]
+pub struct Leaf {
+    items: Vec<Item>,
+    count: usize,
+}
+
+impl Model for Leaf {
+    ghost use Rattle.std.specs.Prelude.{List};
+    ghost use Rattle.ksm_order.specs.declared.item.Item.{Item};
+    ghost use Rattle.ksm_order.specs.Listed.{IsCounted};
+
+    ghost Value = { List Item };
+
+    ghost view = { λ l. l.items.items };
+
+    ghost invariant = { λ l. IsCounted l.items.items l.count };
+}
+
+/// How many items come before a key.
+fn place_of(items: &[Item], key: u64) -> usize
+    requires { AreAscending items.now }
+    ensures within { result ≤ length items.now }
+    ensures ahead { AreBefore key (take result items.now) }
+    ensures behind { All (λ x. key ≤ x.key) (drop result items.now) }
+{
+    let mut low = 0;
+    let mut high = items.len();
+    while low < high {
+        let mid = low + (high - low) / 2;
+        if items[mid].key < key {
+            low = mid + 1;
+        } else {
+            high = mid;
+        }
+    }
+    low
+}
+
+/// Where the item of a key stands.
+fn position(items: &[Item], key: u64) -> Option<usize>
+    requires { AreAscending items.now }
+    ensures here { IfSome result (IsHere key items.now) }
+    ensures missing { IfNone result (find (is_at key) items.now ≡ None) }
+{
+    let at = place_of(items, key);
+    if at == items.len() {
+        return None;
+    }
+    if items[at].key == key { Some(at) } else { None }
+}
+
+/// The item of a key.
+fn find_in(items: &[Item], key: u64) -> Option<Item>
+    requires { AreAscending items.now }
+    ensures { result ≡ find (is_at key) items.now }
+{
+    match position(items, key) {
+        Some(at) => Some(items[at]),
+        None => None,
+    }
+}
+
+/// The first item whose key is not below a key.
+fn first_from(items: &[Item], key: u64) -> Option<Item>
+    requires { AreAscending items.now }
+    ensures { result ≡ find (is_from key) items.now }
+{
+    let at = place_of(items, key);
+    if at < items.len() {
+        Some(items[at])
+    } else {
+        None
+    }
+}
+
+/// How many items are marked.
+fn count_marked(items: &[Item]) -> usize
+    ensures { result ≡ many items.now }
+{
+    items.iter().filter(|item| item.marked).count()
+}
+
+/// The key of the marked item at a place among the marked.
+fn nth(items: &[Item], place: usize) -> Option<u64>
+    ensures { result ≡ key_at (marked items.now) place }
+{
+    match items.iter().filter(|item| item.marked).nth(place) {
+        Some(item) => Some(item.key),
+        None => None,
+    }
+}
+
+// A leaf of so many items is cut in two before one more comes in.
+const LONGEST: usize = 64;
+
+/// Where a full leaf is cut for an item of a key.
+fn cut_for(items: &[Item], key: u64) -> usize
+    requires { 64 ≤ length items.now }
+    ensures some { 0 < result }
+    ensures within { result < length items.now }
+{
+    let len = items.len();
+    if items[len - 1].key < key {
+        len - 1
+    } else {
+        len / 2
+    }
+}
+
+impl Part for Leaf {
+    ghost items = { λ l. l };
+
+    fn single(alloc: Global, item: Item) -> Result<Leaf, AllocError> {
+        let mut items = Vec::new(alloc);
+        items.push(item)?;
+        Ok(Leaf {
+            items,
+            count: usize::from(item.marked),
+        })
+    }
+
+    fn insert(&mut self, item: Item) -> Result<(), AllocError> {
+        let at = place_of(self.items.as_slice(), item.key);
+        self.items.insert(at, item)?;
+        self.count += usize::from(item.marked);
+        Ok(())
+    }
+
+    fn remove(&mut self, key: u64) {
+        if let Some(at) = position(self.items.as_slice(), key) {
+            let gone = self.items.remove(at);
+            self.count -= usize::from(gone.marked);
+        }
+    }
+
+    fn set_mark(&mut self, key: u64, mark: bool) {
+        if let Some(at) = position(self.items.as_slice(), key) {
+            let was = self.items[at].marked;
+            self.items[at].marked = mark;
+            self.count = self.count - usize::from(was) + usize::from(mark);
+        }
+    }
+
+    fn is_empty(&self) -> bool {
+        self.items.is_empty()
+    }
+
+    fn spill(&mut self, key: u64) -> Result<Option<Leaf>, AllocError> {
+        if self.items.len() < LONGEST {
+            return Ok(None);
+        }
+        let at = cut_for(self.items.as_slice(), key);
+        let items = self.items.split_off(at)?;
+        let count = count_marked(items.as_slice());
+        self.count -= count;
+        Ok(Some(Leaf { items, count }))
+    }
+
+    fn count(&self) -> usize {
+        self.count
+    }
+
+    fn begins_behind(&self, key: u64) -> bool {
+        let items = self.items.as_slice();
+        !items.is_empty() && key < items[0].key
+    }
+
+    fn find(&self, key: u64) -> Option<Item> {
+        find_in(self.items.as_slice(), key)
+    }
+
+    fn first_from(&self, key: u64) -> Option<Item> {
+        first_from(self.items.as_slice(), key)
+    }
+
+    fn up_to(&self, key: u64) -> usize {
+        let items = self.items.as_slice();
+        let at = place_of(items, key);
+        count_marked(&items[..at])
+    }
+
+    fn nth(&self, place: usize) -> Option<u64> {
+        nth(self.items.as_slice(), place)
+    }
+}

@@ -1,0 +1,13 @@
+//! Items in the order of their keys, each marked or not, with rank: how many marked items stand before a key, and which
+//! is the one at a place. A tree of fixed height, of which the height is its type.
+#![tactic(auto)]
+
+mod item;
+mod leaf;
+mod node;
+mod part;
+
+pub use item::Item;
+pub use leaf::Leaf;
+pub use node::Node;
+pub use part::Part;

@@ -1,0 +1,322 @@
+//! The heights above: parts side by side, each a tree of the height below.
+ghost use Rattle.std.specs.Prelude.{◌≡◌, ◌+◌, ◌^◌, ◌<◌, ◌≤◌, [], None, IfOk, OnErr, OnOk, find, flat_map, length};
+ghost use Rattle.ksm_order.specs.Listed.{AreParts, IsPartOf, begins_behind, is_at, is_from, key_at, many, marked, up_to};
+ghost use Rattle.ksm_order.specs.Listed.{with_item, with_mark, without};
+
+use crate::item::Item;
+use crate::part::Part;
+use std::alloc::{AllocError, Global};
+use std::marker::Model;
+
+/// Parts in order, none empty, with how many items of them are marked.
+#[derive(Drop)]
+pub struct Node<P: Part> {
+    alloc: Global,
+    parts: Vec<P>,
+    count: usize,
+}
+
+impl<P: Part> Model for Node<P> {
+    ghost use Rattle.std.specs.Prelude.{List, flat_map};
+    ghost use Rattle.ksm_order.specs.declared.item.Item.{Item};
+    ghost use Rattle.ksm_order.specs.Listed.{AreParts, IsCounted};
+
+    ghost Value = { List Item };
+
+    ghost view = { λ n. flat_map P.items n.parts.items };
+
+    ghost invariant = { λ n. AreParts P.items n.parts.items × IsCounted (flat_map P.items n.parts.items) n.count };
+}
+
+impl<P: Part> Node<P> {
+    /// No items.
+    pub fn new(alloc: Global) -> Node<P>
+        ensures { result ≡ [] }
+    {
+        Node {
+            alloc,
+            parts: Vec::new(alloc),
+            count: 0,
+        }
+    }
+}
+
+/// The part in which a key is, or would be.
+fn part_of<P: Part>(parts: &[P], key: u64) -> usize
+    requires parts { AreParts P.items parts.now }
+    requires some { 0 < length parts.now }
+    ensures { IsPartOf P.items key parts.now result }
+{
+    // Keys mostly come behind all others.
+    let last = parts.len() - 1;
+    if !parts[last].begins_behind(key) {
+        return last;
+    }
+    let mut low = 0;
+    let mut high = parts.len();
+    while low < high {
+        let mid = low + (high - low) / 2;
+        if parts[mid].begins_behind(key) {
+            high = mid;
+        } else {
+            low = mid + 1;
+        }
+    }
+    low.saturating_sub(1)
+}
+
+/// How many items of the parts are marked.
+fn count_marked<P: Part>(parts: &[P]) -> usize
+    requires { many (flat_map P.items parts.now) < 2 ^ 64 }
+    ensures { result ≡ many (flat_map P.items parts.now) }
+{
+    let mut count = 0;
+    for part in parts {
+        count += part.count();
+    }
+    count
+}
+
+/// The key of the marked item at a place among the marked.
+fn nth<P: Part>(parts: &[P], place: usize) -> Option<u64>
+    ensures { result ≡ key_at (marked (flat_map P.items parts.now)) place }
+{
+    let mut left = place;
+    for part in parts {
+        let here = part.count();
+        if left < here {
+            return part.nth(left);
+        }
+        left -= here;
+    }
+    None
+}
+
+/// How many marked items come before a key, of parts with so many marked items.
+fn up_to_in<P: Part>(parts: &[P], count: usize, key: u64) -> usize
+    requires parts { AreParts P.items parts.now }
+    requires counted { count ≡ many (flat_map P.items parts.now) }
+    ensures { result ≡ up_to key (flat_map P.items parts.now) }
+{
+    if parts.is_empty() {
+        return 0;
+    }
+    let at = part_of(parts, key);
+    count_marked(&parts[..at]) + parts[at].up_to(key)
+}
+
+/// The item of a key.
+fn find_in<P: Part>(parts: &[P], key: u64) -> Option<Item>
+    requires { AreParts P.items parts.now }
+    ensures { result ≡ find (is_at key) (flat_map P.items parts.now) }
+{
+    if parts.is_empty() {
+        return None;
+    }
+    let at = part_of(parts, key);
+    parts[at].find(key)
+}
+
+/// The first item whose key is not below a key.
+fn first_from_in<P: Part>(parts: &[P], key: u64) -> Option<Item>
+    requires { AreParts P.items parts.now }
+    ensures { result ≡ find (is_from key) (flat_map P.items parts.now) }
+{
+    if parts.is_empty() {
+        return None;
+    }
+    let at = part_of(parts, key);
+    match parts[at].first_from(key) {
+        Some(item) => Some(item),
+        None if at + 1 < parts.len() => parts[at + 1].first_from(key),
+        None => None,
+    }
+}
+
+/// Cuts the part of a key in two where it is full, and answers which part is the key's then.
+fn make_room<P: Part>(parts: &mut Vec<P>, at: usize, key: u64) -> Result<usize, AllocError>
+    requires parts { AreParts P.items parts.old.items }
+    requires place { IsPartOf P.items key parts.old.items at }
+    ensures parts { AreParts P.items parts.new.items }
+    ensures items { flat_map P.items parts.new.items ≡ flat_map P.items parts.old.items }
+    ensures place { IfOk result (λ into. IsPartOf P.items key parts.new.items into) }
+{
+    parts.reserve(1)?;
+    let more = match parts[at].spill(key)? {
+        Some(more) => more,
+        None => return Ok(at),
+    };
+    let behind = more.begins_behind(key);
+    parts.insert(at + 1, more)?;
+    Ok(if behind { at } else { at + 1 })
+}
+
+/// Puts an item whose key is not there into the part of its key.
+fn put_in<P: Part>(parts: &mut Vec<P>, at: usize, item: Item) -> Result<(), AllocError>
+    requires parts { AreParts P.items parts.old.items }
+    requires place { IsPartOf P.items item.key parts.old.items at }
+    requires absent { find (is_at item.key) (flat_map P.items parts.old.items) ≡ None }
+    ensures parts { AreParts P.items parts.new.items }
+    ensures added { OnOk result (flat_map P.items parts.new.items ≡ with_item item (flat_map P.items parts.old.items)) }
+    ensures kept { OnErr result (flat_map P.items parts.new.items ≡ flat_map P.items parts.old.items) }
+{
+    parts[at].insert(item)?;
+    Ok(())
+}
+
+/// Puts an item whose key is not there at its place.
+fn put<P: Part>(parts: &mut Vec<P>, alloc: Global, item: Item) -> Result<(), AllocError>
+    requires parts { AreParts P.items parts.old.items }
+    requires absent { find (is_at item.key) (flat_map P.items parts.old.items) ≡ None }
+    ensures parts { AreParts P.items parts.new.items }
+    ensures added { OnOk result (flat_map P.items parts.new.items ≡ with_item item (flat_map P.items parts.old.items)) }
+    ensures kept { OnErr result (flat_map P.items parts.new.items ≡ flat_map P.items parts.old.items) }
+{
+    if parts.is_empty() {
+        parts.push(P::single(alloc, item)?)?;
+        return Ok(());
+    }
+    let at = part_of(parts.as_slice(), item.key);
+    let into = make_room(parts, at, item.key)?;
+    put_in(parts, into, item)
+}
+
+/// Takes the item of a key out of a part, and answers how many items fewer are marked.
+fn remove_from<P: Part>(part: &mut P, key: u64) -> usize
+    ensures removed { P.items part.new ≡ without key (P.items part.old) }
+    ensures fewer { result + many (P.items part.new) ≡ many (P.items part.old) }
+{
+    let before = part.count();
+    part.remove(key);
+    before - part.count()
+}
+
+/// Takes the item of a key out of the part of its key, and the part where it has no other. Answers how many items fewer
+/// are marked.
+fn take_out<P: Part>(parts: &mut Vec<P>, key: u64) -> usize
+    requires { AreParts P.items parts.old.items }
+    ensures parts { AreParts P.items parts.new.items }
+    ensures removed { flat_map P.items parts.new.items ≡ without key (flat_map P.items parts.old.items) }
+    ensures fewer { result + many (flat_map P.items parts.new.items) ≡ many (flat_map P.items parts.old.items) }
+{
+    if parts.is_empty() {
+        return 0;
+    }
+    let at = part_of(parts.as_slice(), key);
+    let fewer = remove_from(&mut parts[at], key);
+    if !parts[at].is_empty() {
+        return fewer;
+    }
+    parts.remove(at);
+    fewer
+}
+
+/// Marks the item of a key in its part, or takes its mark away. Answers how many of that part were marked, and are.
+fn mark_in<P: Part>(parts: &mut Vec<P>, key: u64, mark: bool) -> (usize, usize)
+    requires parts { AreParts P.items parts.old.items }
+    requires few { length (flat_map P.items parts.old.items) < 2 ^ 64 }
+    ensures parts { AreParts P.items parts.new.items }
+    ensures marked { flat_map P.items parts.new.items ≡ with_mark key mark (flat_map P.items parts.old.items) }
+    ensures changed { many (flat_map P.items parts.new.items) + result.0
+        ≡ many (flat_map P.items parts.old.items) + result.1 }
+    ensures some { result.0 ≤ many (flat_map P.items parts.old.items) }
+{
+    if parts.is_empty() {
+        return (0, 0);
+    }
+    let at = part_of(parts.as_slice(), key);
+    let was = parts[at].count();
+    parts[at].set_mark(key, mark);
+    (was, parts[at].count())
+}
+
+// A node of so many parts is cut in two before one more comes in.
+const WIDEST: usize = 32;
+
+/// Where a full node is cut for an item of a key.
+fn cut_for<P: Part>(parts: &[P], key: u64) -> usize
+    requires { 32 ≤ length parts.now }
+    ensures some { 0 < result }
+    ensures within { result < length parts.now }
+{
+    let len = parts.len();
+    if parts[len - 1].begins_behind(key) {
+        len / 2
+    } else {
+        len - 1
+    }
+}
+
+impl<P: Part> Part for Node<P> {
+    ghost items = { λ n. n };
+
+    fn single(alloc: Global, item: Item) -> Result<Node<P>, AllocError> {
+        let mut node = Node::new(alloc);
+        node.insert(item)?;
+        Ok(node)
+    }
+
+    fn insert(&mut self, item: Item) -> Result<(), AllocError> {
+        // No memory holds more items than can be counted.
+        let Some(count) = self.count.checked_add(usize::from(item.marked)) else {
+            return Err(AllocError);
+        };
+        put(&mut self.parts, self.alloc, item)?;
+        self.count = count;
+        Ok(())
+    }
+
+    fn remove(&mut self, key: u64) {
+        let fewer = take_out(&mut self.parts, key);
+        self.count -= fewer;
+    }
+
+    fn set_mark(&mut self, key: u64, mark: bool) {
+        let (was, is) = mark_in(&mut self.parts, key, mark);
+        self.count = self.count - was + is;
+    }
+
+    fn is_empty(&self) -> bool {
+        self.parts.is_empty()
+    }
+
+    fn spill(&mut self, key: u64) -> Result<Option<Node<P>>, AllocError> {
+        if self.parts.len() < WIDEST {
+            return Ok(None);
+        }
+        let at = cut_for(self.parts.as_slice(), key);
+        let parts = self.parts.split_off(at)?;
+        let count = count_marked(parts.as_slice());
+        self.count -= count;
+        Ok(Some(Node {
+            alloc: self.alloc,
+            parts,
+            count,
+        }))
+    }
+
+    fn count(&self) -> usize {
+        self.count
+    }
+
+    fn begins_behind(&self, key: u64) -> bool {
+        let parts = self.parts.as_slice();
+        !parts.is_empty() && parts[0].begins_behind(key)
+    }
+
+    fn find(&self, key: u64) -> Option<Item> {
+        find_in(self.parts.as_slice(), key)
+    }
+
+    fn first_from(&self, key: u64) -> Option<Item> {
+        first_from_in(self.parts.as_slice(), key)
+    }
+
+    fn up_to(&self, key: u64) -> usize {
+        up_to_in(self.parts.as_slice(), self.count, key)
+    }
+
+    fn nth(&self, place: usize) -> Option<u64> {
+        nth(self.parts.as_slice(), place)
+    }
+}

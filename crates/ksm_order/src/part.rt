@@ -1,0 +1,68 @@
+//! What each height of the tree promises.
+ghost use Rattle.std.specs.Prelude.{◌≡◌, ◌<◌, ◌^◌, List, [], ◌∷◌, None, IfNone, IfOk, IfSome, OnErr, OnOk, find};
+ghost use Rattle.std.specs.Prelude.{length};
+ghost use Rattle.ksm_order.specs.Listed.{IsCut, begins_behind, is_at, is_from, is_nothing, key_at};
+ghost use Rattle.ksm_order.specs.Listed.{many, marked, up_to, with_item, with_mark, without};
+ghost use Rattle.ksm_order.specs.declared.item.Item.{Item as TheItem};
+
+use crate::item::Item;
+use std::alloc::{AllocError, Global};
+
+/// Items in the order of their keys.
+pub trait Part: Drop {
+    ghost items: { Self → List TheItem };
+
+    /// One item alone.
+    fn single(alloc: Global, item: Item) -> Result<Self, AllocError>
+        ensures { IfOk result (λ part. items part ≡ item ∷ []) };
+
+    /// Puts in an item whose key is not there.
+    fn insert(&mut self, item: Item) -> Result<(), AllocError>
+        requires absent { find (is_at item.key) (items self.old) ≡ None }
+        ensures added { OnOk result (items self.new ≡ with_item item (items self.old)) }
+        ensures kept { OnErr result (items self.new ≡ items self.old) };
+
+    /// Takes the item of a key away, if it is there.
+    fn remove(&mut self, key: u64)
+        ensures { items self.new ≡ without key (items self.old) };
+
+    /// Marks the item of a key, or takes its mark away, if it is there.
+    fn set_mark(&mut self, key: u64, mark: bool)
+        requires few { length (items self.old) < 2 ^ 64 }
+        ensures { items self.new ≡ with_mark key mark (items self.old) };
+
+    /// Whether there is no item.
+    fn is_empty(&self) -> bool
+        ensures { result ≡ is_nothing (items self.now) };
+
+    /// Hands out its second half, where it is full: only what is last, where a key comes behind all, so that keys that
+    /// ascend leave full parts behind.
+    fn spill(&mut self, key: u64) -> Result<Option<Self>, AllocError>
+        ensures cut { IfOk result (λ half. IfSome half (λ more. IsCut (items self.old) (items self.new) (items more))) }
+        ensures kept { IfOk result (λ half. IfNone half (items self.new ≡ items self.old)) }
+        ensures failed { OnErr result (items self.new ≡ items self.old) };
+
+    /// How many items are marked.
+    fn count(&self) -> usize
+        ensures { result ≡ many (items self.now) };
+
+    /// Whether the first item comes behind a key.
+    fn begins_behind(&self, key: u64) -> bool
+        ensures { result ≡ begins_behind key (items self.now) };
+
+    /// The item of a key.
+    fn find(&self, key: u64) -> Option<Item>
+        ensures { result ≡ find (is_at key) (items self.now) };
+
+    /// The first item whose key is not below a key.
+    fn first_from(&self, key: u64) -> Option<Item>
+        ensures { result ≡ find (is_from key) (items self.now) };
+
+    /// How many marked items come before a key.
+    fn up_to(&self, key: u64) -> usize
+        ensures { result ≡ up_to key (items self.now) };
+
+    /// The key of the marked item at a place among the marked.
+    fn nth(&self, place: usize) -> Option<u64>
+        ensures { result ≡ key_at (marked (items self.now)) place };
+}
