@@ -178,7 +178,7 @@ class Ksmd:
             self.migrating.remove(dup)
         elif dup.chain:
             dup.chain.dups.remove(dup)
-            if not self.linux("chain-collapses"):
+            if not self.linux("stale-dropped"):
                 self.collapse(dup.chain, dup.tree)
         else:
             self.stable[dup.tree].erase(dup.node)
@@ -340,7 +340,7 @@ class Ksmd:
         place where the search ends at a page that is not there, has the same frame, or is equal and on another node.
         The tree is not in order where pages were written since they came to it."""
         content, parent, side, node = item.page.content, None, 0, self.unstable[tree].root
-        if node and self.emptied[tree] != self.passes and self.linux("emptied-partly"):
+        if node and self.emptied[tree] != self.passes and self.linux("use-after-free"):
             raise Freed("an unstable tree that was not emptied")
         while node:
             other = node.value
@@ -410,7 +410,7 @@ class Ksmd:
             self.take_off(item)
             return
         dup = own if own and not own.migrates else self.search(item.page)
-        if own and item.dup is own and (dup is own or not dup and not self.linux("item-leaves")):
+        if own and item.dup is own and (dup is own or not dup and not self.linux("dup-crosses")):
             return
         self.take_off(item)
         if dup:
@@ -451,7 +451,7 @@ class Ksmd:
 
     def begin_pass(self):
         """The beginning of scan_get_next_rmap_item. The kernel empties as many trees as are in use now."""
-        are_all = not self.linux("emptied-partly") or not self.knobs["merge_across_nodes"]
+        are_all = not self.linux("use-after-free") or not self.knobs["merge_across_nodes"]
         for tree in range(NODES if are_all else 1):
             self.unstable[tree], self.emptied[tree] = Tree(), self.passes
         for item in self.items() if not self.linux("waits-longer") else []:

@@ -19,6 +19,7 @@ from linux import Linux
 from switches import SWITCHES, switches_of, version_of
 
 DIFFERENCES = os.path.join(machine.HERE, "differences")
+REPORTED = "use-after-free"  # docs/reports
 PAGE = os.path.join(talk.TOP, "docs", "KERNEL.md")
 FORMS = {
     "find": r"held \d+ \d+|gone [123]|busy|refused (?:10|12|13)",
@@ -29,7 +30,15 @@ FORMS = {
 }
 
 
-def entries(kernel_line):
+def is_for(kernels, version):
+    """Tells whether an entry is for a kernel: `all`, a line of kernels as 6.1, or all lines from one on as 6.12-."""
+    if kernels == "all":
+        return True
+    first = version_of(kernels.removesuffix("-") + ".0")
+    return version == first or kernels.endswith("-") and version > first
+
+
+def entries(version):
     """The entries of `differences` that are for a kernel, as words and the text behind them."""
     with open(PAGE, encoding="utf-8") as file:
         page = file.read()
@@ -38,19 +47,14 @@ def entries(kernel_line):
     for kind, kernels, name, text in found:
         if f"`{name}`" not in page:
             raise machine.Trouble(f"{PAGE} has no {name}")
-        if kernels == "all" or kernel_line in kernels.split(","):
+        if is_for(kernels, version):
             yield kind, name, text
-
-
-def line_of(version):
-    """A kernel's line by its version, as `differences` has it."""
-    return "{}.{}".format(*version)
 
 
 def known_replies(version):
     """Both replies to lines outside the model, by script and line, each with the name of the difference."""
     known = collections.defaultdict(dict)
-    for kind, name, text in entries(line_of(version)):
+    for kind, name, text in entries(version):
         if kind == "replies":
             script, number, replies = text.split(None, 2)
             known[script][int(number)] = name, *replies.split(" | ")
@@ -60,7 +64,7 @@ def known_replies(version):
 def needs(version):
     """The switches that kept scripts are to need, by script."""
     found = collections.defaultdict(set)
-    for kind, name, script in entries(line_of(version)):
+    for kind, name, script in entries(version):
         if kind == "needs":
             found[script].add(name)
     return found
@@ -78,10 +82,18 @@ class Script:
     def told(self, switches=frozenset(), of_linux=False):
         """The model's replies with some switches on, None where it tells none; and the line, counted from 0, at which
         the kernel would read freed memory."""
-        texts = [answer.line if of_linux else answer.asked for answer in self.answers.values()]
-        more = {"emptied-partly"} if self.is_patched else set()
-        kernel = Linux(texts, self.knobs, self.version, switches | more)
+        kernel, texts = self.model(switches, of_linux)
         return [kernel.reply(text) for text in texts], kernel.freed_at
+
+    def model(self, switches, of_linux):
+        """A model of the kernel with some switches on, and the lines for it."""
+        texts = [answer.line if of_linux else answer.asked for answer in self.answers.values()]
+        return Linux(texts, self.knobs, self.version, switches | ({REPORTED} if self.is_patched else set())), texts
+
+    def has(self, switches, replies):
+        """Tells whether these are the model's replies with some switches on, and use-after-free."""
+        kernel, texts = self.model(switches | {REPORTED}, of_linux=False)
+        return all(kernel.reply(text) == reply for text, reply in zip(texts, replies))
 
     def cut(self):
         """The same without the lines from which on the kernel would read freed memory, and the first of these."""
@@ -95,13 +107,13 @@ class Script:
     def smallest(self, ours):
         """A set of switches that makes the kernel's replies ksmbook's, of which none can be left out; one of at most one
         where there is any."""
-        has = sorted(switches_of(self.version), key=list(SWITCHES).index)
+        has = sorted(switches_of(self.version) - {REPORTED}, key=list(SWITCHES).index)
         for few in [frozenset(), *(frozenset([name]) for name in has)]:
-            if self.told(few)[0] == ours:
+            if self.has(few, ours):
                 return few
         kept = frozenset(has)
         for name in reversed(has):
-            if self.told(kept - {name})[0] == ours:
+            if self.has(kept - {name}, ours):
                 kept -= {name}
         return kept
 
@@ -121,7 +133,7 @@ class Verdict:
         return "unexplained" if self.unexplained else "explained" if self.names or self.differing else "equal"
 
     def __str__(self):
-        cut = f"; cut at line {self.cut_at}: `use-after-free`" if self.cut_at else ""
+        cut = f"; cut at line {self.cut_at}: {REPORTED}" if self.cut_at else ""
         if self.unexplained:
             return f"UNEXPLAINED: {self.unexplained}{cut}"
         if not self.names and not self.differing:
@@ -146,9 +158,10 @@ def why_unexplained(answer, theirs, linux, ours, known):
     return None if answer.reply == ours else f"ksmbook is to reply `{ours}`"
 
 
-def verdict(script, replies, known, cut_at=None, models=None):
+def verdict(script, replies, known, cut_at=None, models=None, has_names=True):
     """Judges a script by Linux's replies. `known` is what lines outside the model are to be replied, `models` the
-    model's replies with no switch on and with all, where they are there already."""
+    model's replies with no switch on and with all, where they are there already. `has_names` says that the smallest set
+    of switches is looked for."""
     found = Verdict(cut_at=cut_at)
     if len(replies) != len(script.answers):
         found.unexplained = f"ksmbook has {len(script.answers)} replies, Linux {len(replies)}"
@@ -162,8 +175,9 @@ def verdict(script, replies, known, cut_at=None, models=None):
         if why:
             found.unexplained = f"{both}; {why}"
             return found
-        if not answer.is_same(theirs) or answer.is_alone() and theirs != other:
+        if theirs != other if answer.is_alone() else not answer.is_same(theirs):
             found.differing.append(both)
         names |= {known[number][0]} if number in known else set()
-    found.names = frozenset(names) if known else script.smallest(ours)
+    if has_names:
+        found.names = frozenset(names) if known else script.smallest(ours)
     return found
