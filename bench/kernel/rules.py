@@ -111,10 +111,12 @@ class Script:
         for few in [frozenset(), *(frozenset([name]) for name in has)]:
             if self.has(few, ours):
                 return few
-        kept = frozenset(has)
-        for name in reversed(has):
-            if self.has(kept - {name}, ours):
-                kept -= {name}
+        kept, before = frozenset(has), None
+        while kept != before:
+            before = kept
+            for name in reversed(has):
+                if name in kept and self.has(kept - {name}, ours):
+                    kept -= {name}
         return kept
 
 

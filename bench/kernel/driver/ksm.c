@@ -96,6 +96,21 @@ void ksm_process(pid_t pid, FILE *out)
 		fprintf(out, " %s=%ld", name, value);
 }
 
+long ksm_zero_pages_of_all(void)
+{
+	char path[64], text[256];
+	struct dirent *entry;
+	long all = 0;
+	DIR *processes = opendir("/proc");
+	while (processes && (entry = readdir(processes))) {
+		snprintf(path, sizeof path, "/proc/%.16s/ksm_stat", entry->d_name);
+		const char *found = read_text(path, text, sizeof text) > 0 ? strstr(text, "ksm_zero_pages ") : NULL;
+		all += found ? atol(found + strlen("ksm_zero_pages ")) : 0;
+	}
+	closedir(processes);
+	return all;
+}
+
 static void find_ksmd(void)
 {
 	char path[64], text[64];
