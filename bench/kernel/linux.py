@@ -237,7 +237,8 @@ class Linux:
         """Where the pages lie."""
         pages = [page for page in self.pages.values() if page.is_registered]
         first = {id(page.first_frame): f"{page.guest}:{page.number}" for page in reversed(self.pages.values())}
-        return " ".join(["frames", *(f"{page.guest}:{page.number}={first.get(id(page.frame), 'new')}" for page in pages)])
+        where = [f"{page.guest}:{page.number}={first.get(id(page.frame), 'new')}" for page in pages]
+        return " ".join(["frames", *where])
 
     def do_fork(self, guest):
         """Copies a guest's process."""

@@ -2,7 +2,7 @@
 
 The kernels are kept in a folder outside the repository: $KSMBOOK_CACHE, or else ksmbook/kernel in $XDG_CACHE_HOME
 or ~/.cache. They are fetched with a configuration of apt that lies there too, and names Debian's suites: the apt of
-who runs it stays as it is. A boot may take 600 seconds, or $KSMBOOK_BOOT_SECONDS.
+who runs it stays as it is. A machine that writes nothing for 300 seconds, or $KSMBOOK_BOOT_SECONDS, is ended.
 
 The console of each boot is read, while the machine runs and at its end. A line there in which the kernel reports a
 fault of its own ends the boot, however it would have ended.
@@ -24,7 +24,7 @@ import talk  # pylint: disable=wrong-import-position
 CACHE = os.environ.get("KSMBOOK_CACHE") or os.path.join(
     os.environ.get("XDG_CACHE_HOME") or os.path.expanduser("~/.cache"), "ksmbook", "kernel")
 DRIVER = os.path.join(HERE, "driver")
-BOOT_SECONDS = int(os.environ.get("KSMBOOK_BOOT_SECONDS", "600"))
+BOOT_SECONDS = int(os.environ.get("KSMBOOK_BOOT_SECONDS", "300"))
 C_FLAGS = ["-std=c11", "-D_GNU_SOURCE", "-O2", "-Wall", "-Wextra", "-static"]
 # Two nodes of 256 MB, the processor on the first of them.
 MACHINE = ["-accel", "tcg", "-m", "512", "-smp", "1", "-display", "none", "-no-reboot", "-nodefaults",
@@ -237,14 +237,19 @@ def crash_of(console):
     return Crash(scripts[-1] if scripts else None, lines[at].strip(), "\n".join(lines[at:at + REPORT_LINES]))
 
 
-def run_until_fault(words, log):
-    """Runs a machine until it ends, or a while behind the first fault on its console. Its status, or none."""
+def run_until_fault(words, *written):
+    """Runs a machine until it ends, or a while behind the first fault on its console, the first of the files that it
+    writes; or until it writes nothing for long. Its status, or none where it was ended."""
     with subprocess.Popen(words, stdin=subprocess.DEVNULL) as process:
-        fault_at = None
+        fault_at, sizes, grew_at = None, [], time.monotonic()
         while process.poll() is None:
             time.sleep(0.2)
-            fault_at = fault_at or (time.monotonic() if crash_of(text_of(log)) else None)
-            if fault_at and time.monotonic() - fault_at > REPORT_SECONDS:
+            now = time.monotonic()
+            before, sizes = sizes, [os.path.getsize(path) for path in written if os.path.exists(path)]
+            grew_at = now if sizes != before else grew_at
+            if sizes != before and not fault_at and crash_of(text_of(written[0])):
+                fault_at = now
+            if now - grew_at > BOOT_SECONDS or fault_at and now - fault_at > REPORT_SECONDS:
                 process.terminate()
                 return None
         return process.returncode
@@ -254,16 +259,16 @@ def run_driver(kernel, root, folder, more):
     """Boots the kernel with a root folder. What the driver wrote and the kernel reported."""
     image, log, replies = (os.path.join(folder, name) for name in ("initrd", "log", "replies"))
     pack(root, image)
-    words = ["timeout", "--foreground", str(BOOT_SECONDS), "qemu-system-x86_64", *MACHINE, "-serial", f"file:{log}",
-             "-serial", f"file:{replies}", "-kernel", kernel, "-initrd", image, "-append", f"{WORDS} {more}"]
-    status = run_until_fault(words, log)
+    words = ["qemu-system-x86_64", *MACHINE, "-serial", f"file:{log}", "-serial", f"file:{replies}",
+             "-kernel", kernel, "-initrd", image, "-append", f"{WORDS} {more}"]
+    status = run_until_fault(words, log, replies)
     lines, crash = text_of(replies).splitlines(), crash_of(text_of(log))
     if not crash and (status or not lines or lines[-1] != "end"):
         tail = f"status {status}, last reply {lines[-1:]}\n{text_of(log)[-2000:]}"
         if not lines:
             raise Unfinished(f"the machine never reached the driver: {tail}")
         scripts = RUNNING.findall(text_of(log))
-        crash = Crash(scripts[-1] if scripts else None, f"no end: {lines[-1]}", tail)
+        crash = Crash(scripts[-1] if scripts else None, f"no end, and no fault on the console: {lines[-1]}", tail)
     return Boot(lines, crash)
 
 

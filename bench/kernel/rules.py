@@ -105,8 +105,8 @@ class Script:
         return dataclasses.replace(self, answers=kept), numbers[freed_at]
 
     def smallest(self, ours):
-        """A set of switches that makes the kernel's replies ksmbook's, of which none can be left out; one of at most one
-        where there is any."""
+        """A set of switches that makes the kernel's replies ksmbook's, of which none can be left out. It has at
+        most one where such a set is enough."""
         has = sorted(switches_of(self.version) - {REPORTED}, key=list(SWITCHES).index)
         for few in [frozenset(), *(frozenset([name]) for name in has)]:
             if self.has(few, ours):
@@ -156,7 +156,7 @@ def why_unexplained(answer, theirs, linux, ours, known):
         return f"Linux is to reply `{linux}`"
     if answer.has_no_reply():
         form = FORMS.get(answer.typed.split()[0])
-        return None if not form or re.fullmatch(form, answer.reply) else "ksmbook's reply has not the form of a lookup's"
+        return None if not form or re.fullmatch(form, answer.reply) else "ksmbook's reply is none to a lookup"
     return None if answer.reply == ours else f"ksmbook is to reply `{ours}`"
 
 

@@ -145,8 +145,8 @@ void wait_for_ksmd(void)
 	fail("ksmd does not come to rest");
 }
 
-/* A new page may lie in a list of the processor, whose reference keeps ksmd from merging it until the next pass. To move
- * a page empties these lists. */
+/* A new page may lie in a list of the processor, whose reference keeps ksmd from merging it until the next pass. To
+ * move a page empties these lists. */
 static void drain_lists(void)
 {
 	static unsigned char page[2 * PAGE];
@@ -179,8 +179,8 @@ unsigned long ksm_start(void)
 }
 
 /* A pass with merge_across_nodes 0, over a process that has an area and no page in it: as it begins all unstable trees
- * are emptied. Else that of the second node keeps what earlier scripts left in it, and the kernel may read it long after
- * it was freed. */
+ * are emptied. Else that of the second node keeps what earlier scripts left in it, and the kernel may read it long
+ * after it was freed. */
 static void empty_trees(void)
 {
 	pid_t child = fork();
