@@ -1,29 +1,36 @@
-"""What ksmd does, as mm/ksm.c of Linux 6.1 and 6.12 has it: each visit to a page, in order.
+"""What ksmd does, as mm/ksm.c of Linux 6.1 to 7.3 has it, with a switch for each difference from ksmbook (switches.py).
 
-Each method names the function of mm/ksm.c that it follows. Not here: swap, huge pages, forks and pages that are held
-from outside. Where a script would merge a page whose frame came since the pass began (it may still lie in a CPU's list,
-and then can't be merged), Unknown is raised; also where one of two pages that make a dup is merged already.
+Each method names the function of mm/ksm.c that it follows. `self.linux(NAME)` asks whether the model does there what
+the kernel does; else it does what ksmbook does. Not here: swap and huge pages. Where a merged page makes a dup with
+another, or a page that is held from outside would be merged, Unknown is raised. Freed is raised where the kernel would
+read memory that it freed: it searches an unstable tree that was not emptied when the pass began.
 """
 
 import dataclasses
 
+from switches import switches_of
 from tree import Node, Tree
 
 NODES = 2
+PLACES = 512  # of ksmbook, as compare starts it
 
 
 class Unknown(Exception):
     """What the model does not have."""
 
 
+class Freed(Unknown):
+    """The kernel would read memory that it freed."""
+
+
 @dataclasses.dataclass(eq=False)
 class Frame:
-    """A frame of memory: how many pages are mapped from it, its stable node once it is merged, and whether a pass began
-    since it came."""
+    """A frame of memory: how many pages are mapped from it, how often it is held from outside, and its stable node once
+    it is merged."""
     node: int
     mapped: int = 0
+    holds: int = 0
     dup: "Dup | None" = None
-    is_drained: bool = False
 
 
 ZERO_PAGE = Frame(-1)
@@ -31,15 +38,18 @@ ZERO_PAGE = Frame(-1)
 
 @dataclasses.dataclass(eq=False)
 class Page:
-    """A place of a guest's memory, which may have no frame."""
+    """A place of a guest's memory, which may have no frame. `checksum` is kept where its item is not, `first_frame` is
+    the frame that it was registered on."""
     guest: int
     number: int
     home: int = 0
     content: str = ""
     frame: Frame | None = None
+    first_frame: Frame | None = None
     is_registered: bool = False
     is_mergeable: bool = False
     item: "Item | None" = None
+    checksum: str | None = None
 
     def is_there(self):
         """Tells whether the scan meets it."""
@@ -61,32 +71,35 @@ class Page:
             frame.mapped += 1
         self.frame = frame
 
-    def store(self, content):
-        """Writes the page. What is shared gets a frame of its own, on the page's home."""
-        self.content = content
-        if not self.frame or self.is_merged() or self.is_zeroed():
-            self.set_frame(Frame(self.home))
+    def copy(self):
+        """The page of a copy of its process."""
+        copy = dataclasses.replace(self, frame=None, item=None, checksum=None)
+        copy.set_frame(self.frame)
+        return copy
 
 
 @dataclasses.dataclass(eq=False)
 class Item:
-    """struct ksm_rmap_item. `age` counts its visits and is never set back. `waits` is the item's place in an unstable
-    tree: its node, the tree's node and the pass."""
+    """struct ksm_rmap_item. `waits` is the item's place in an unstable tree: its node, the tree's node and the pass.
+    `is_touched` says that the page was written, dropped or moved since the item came to its dup or to wait."""
     page: Page
     checksum: str | None = None
     age: int = 0
     skips: int = 0
     dup: "Dup | None" = None
     waits: tuple | None = None
+    is_touched: bool = False
 
 
 @dataclasses.dataclass(eq=False)
 class Dup:
     """struct ksm_stable_node: a frame and its items. It is linked in a chain, or else in the tree of a memory node, or
-    else listed as one that migrates from tree to tree."""
+    else listed as one that migrates from tree to tree. `number` and `place` are ksmbook's."""
     frame: Frame
     content: str
     tree: int
+    number: int
+    place: int
     items: list = dataclasses.field(default_factory=list)
     chain: "Chain | None" = None
     node: Node | None = None
@@ -106,16 +119,20 @@ class Chain:
 
 
 class Ksmd:
-    """The kernel's KSM over the pages of some guests, a list each in order. What differs between the two kernels asks
-    for `is_61`."""
+    """The kernel's KSM over the pages of some guests, a list each in order. `switches` are those that are on."""
 
-    def __init__(self, guests, zeroes, is_61):
-        self.guests, self.zeroes, self.is_61 = guests, zeroes, is_61
+    def __init__(self, guests, zeroes, version, switches=frozenset()):
+        self.guests, self.zeroes, self.is_61 = guests, zeroes, version < (6, 4)
+        self.off = switches_of(version) - frozenset(switches)
         self.knobs = {"run": 0, "merge_across_nodes": 1, "max_page_sharing": 256, "use_zero_pages": 0,
                       "smart_scan": 0, "stable_node_chains_prune_millisecs": 0}
-        self.stable, self.unstable = [Tree(), Tree()], [Tree(), Tree()]
-        self.passes, self.chains, self.migrating = 0, [], []
-        self.steps = None
+        self.stable, self.unstable, self.emptied = [Tree(), Tree()], [Tree(), Tree()], [None, None]
+        self.passes, self.chains, self.migrating, self.dups, self.made = 0, [], [], [], 0
+        self.steps, self.visited = None, None
+
+    def linux(self, name):
+        """Tells whether a difference is as in Linux."""
+        return name in self.off
 
     # The stable tree.
 
@@ -123,19 +140,37 @@ class Ksmd:
         """get_kpfn_nid"""
         return 0 if self.knobs["merge_across_nodes"] else frame.node
 
+    def item_count(self, dup):
+        """The items of a dup; in ksmbook without those whose page has left it."""
+        if self.linux("late-room"):
+            return len(dup.items)
+        return sum(item.page.frame is dup.frame for item in dup.items)
+
     def has_room(self, dup, offset=0):
         """__is_page_sharing_candidate"""
-        return 0 < len(dup.items) and len(dup.items) + offset < self.knobs["max_page_sharing"]
+        return 0 < self.item_count(dup) and self.item_count(dup) + offset < self.knobs["max_page_sharing"]
 
     def is_there(self, dup):
-        """ksm_get_folio: a dup whose frame went is taken down (remove_node_from_stable_tree)."""
-        if dup.frame.mapped:
+        """ksm_get_folio: a dup whose frame went is taken down. In ksmbook it stays."""
+        if dup.frame.mapped or not self.linux("stale-dropped"):
             return True
-        for item in dup.items:
-            item.dup = None
-        dup.items.clear()
-        self.unlink(dup)
+        self.take_down(dup)
         return False
+
+    def take_down(self, dup):
+        """remove_node_from_stable_tree"""
+        for item in list(dup.items):
+            self.leave(item)
+        self.unlink(dup)
+        self.dups.remove(dup)
+
+    def leave(self, item):
+        """An item is listed from its dup no longer. From 7.0 on what is known of its page is lost: these fields have
+        another number meanwhile."""
+        item.dup.items.remove(item)
+        item.dup = None
+        if self.linux("merge-forgets"):
+            item.checksum, item.age, item.skips = None, 0, 0
 
     def unlink(self, dup):
         """stable_node_dup_del, and list_del of one that migrates"""
@@ -143,9 +178,21 @@ class Ksmd:
             self.migrating.remove(dup)
         elif dup.chain:
             dup.chain.dups.remove(dup)
+            if not self.linux("stale-dropped"):
+                self.collapse(dup.chain, dup.tree)
         else:
             self.stable[dup.tree].erase(dup.node)
         dup.migrates, dup.chain, dup.node = False, None, None
+
+    def collapse(self, chain, tree):
+        """A chain of one dup becomes a plain node, and one of none goes."""
+        if len(chain.dups) > 1:
+            return
+        self.chains.remove(chain)
+        if not chain.dups:
+            self.stable[tree].erase(chain.node)
+        for dup in chain.dups:
+            dup.chain, dup.node, chain.node.value = None, chain.node, dup
 
     def migrate(self, dup):
         """A dup that lies on another node than its tree's goes to the list `migrate_nodes`."""
@@ -156,29 +203,39 @@ class Ksmd:
     def take_off(self, item):
         """remove_rmap_item_from_tree"""
         if item.dup and self.is_there(item.dup):
-            item.dup.items.remove(item)
+            self.leave(item)
         elif item.waits and item.waits[2] == self.passes:
             self.unstable[item.waits[1]].erase(item.waits[0])
-        item.dup, item.waits = None, None
+        item.waits = None
+
+    def comes_before(self, dup, found):
+        """Tells whether a dup is to be joined rather than the one that was found before it in a chain."""
+        if not self.has_room(dup) or not found or not self.has_room(found):
+            return not found or self.has_room(dup)
+        ours, theirs = (self.item_count(dup), -dup.number), (self.item_count(found), -found.number)
+        return ours[0] > theirs[0] if self.linux("tie-to-newest") else ours > theirs
+
+    def fullest(self, chain, prunes):
+        """stable_node_dup: of the dups with room the one with the most items, or any; none where all went."""
+        found = None
+        for dup in list(chain.dups):
+            if not self.is_there(dup) or not self.comes_before(dup, found):
+                continue
+            found = dup
+            if not prunes and self.has_room(found) and self.linux("first-with-room"):
+                break
+        return found
 
     def pick(self, tree, node, prunes):
-        """__stable_node_chain: of the dups with room the one with the most items, or any; None where all went."""
+        """__stable_node_chain: a dup of a node's, none where all went."""
         if isinstance(node.value, Dup):
             return node.value if self.is_there(node.value) else None
-        found, chain = None, node.value
-        for dup in list(chain.dups):
-            if not self.is_there(dup):
-                continue
-            if not found or self.has_room(dup) and (not self.has_room(found) or len(dup.items) > len(found.items)):
-                found = dup
-                if not prunes and self.has_room(found):
-                    break
-        if not found:
-            self.stable[tree].erase(node)
-            self.chains.remove(chain)
-        elif len(chain.dups) == 1 and (not self.is_61 or prunes and self.has_room(found)):
-            self.chains.remove(chain)
-            found.chain, found.node, node.value = None, node, found
+        chain = node.value
+        found = self.fullest(chain, prunes)
+        if chain not in self.chains:
+            return found
+        if len(chain.dups) == 0 or len(chain.dups) == 1 and (not self.is_61 or prunes and self.has_room(found)):
+            self.collapse(chain, tree)
         elif chain.dups[0] is not found and self.has_room(found, 1):
             chain.dups.remove(found)
             chain.dups.insert(0, found)
@@ -231,25 +288,40 @@ class Ksmd:
 
     def insert(self, page):
         """stable_tree_insert: a new dup, on the page's frame."""
+        free = set(range(PLACES)) - {dup.place for dup in self.dups}
+        if not free:
+            self.take_down(min((dup for dup in self.dups if not dup.frame.mapped), key=lambda dup: dup.place))
+            return self.insert(page)
         tree = self.tree_of(page.frame)
         node, place = self.find(tree, page.content, False)
-        page.frame.dup = Dup(page.frame, page.content, tree)
+        page.frame.dup = Dup(page.frame, page.content, tree, self.made, min(free))
+        self.made += 1
+        self.dups.append(page.frame.dup)
         self.link(page.frame.dup, tree, node, place)
         return page.frame.dup
+
+    def prune(self):
+        """Drops each stale dup, as ksmbook does. How many there were."""
+        if self.linux("stale-dropped"):
+            return 0
+        stale = [dup for dup in self.dups if not dup.frame.mapped]
+        for dup in stale:
+            self.take_down(dup)
+        return len(stale)
 
     # A visit.
 
     def join(self, item, dup):
         """try_to_merge_with_ksm_page and stable_tree_append"""
-        self.write_protect(item.page)
-        item.page.set_frame(dup.frame)
-        item.dup = dup
+        self.map(item.page, dup.frame)
+        item.dup, item.is_touched = dup, False
         dup.items.insert(0, item)
 
-    def write_protect(self, page):
-        """write_protect_page: nobody but those that map the page may hold it."""
-        if not page.frame.is_drained:
-            raise Unknown("a page that came since the pass began")
+    def map(self, page, frame):
+        """try_to_merge_one_page: nobody but those that map the page may hold it."""
+        if page.frame.holds and page.frame is not frame:
+            raise Unknown("a page that is held from outside")
+        page.set_frame(frame)
 
     def has_changed(self, item):
         """Compares the checksum, and keeps it."""
@@ -260,57 +332,98 @@ class Ksmd:
         """try_to_merge_with_zero_page. The item stays: it goes when the scan next comes past the page (`walk`)."""
         if not self.knobs["use_zero_pages"] or item.page.content != self.zeroes:
             return False
-        self.write_protect(item.page)
-        item.page.set_frame(ZERO_PAGE)
+        self.map(item.page, ZERO_PAGE)
         return True
 
-    def meet(self, item):
-        """unstable_tree_search_insert: the page waits, or makes a dup with one that waits. The tree is not in order
-        where pages were written since they came to it. The search ends at a page that is not there, that has the same
-        frame, or that is equal and on another node."""
-        tree, content = self.tree_of(item.page.frame), item.page.content
-        parent, side, node = None, 0, self.unstable[tree].root
+    def waiting(self, item, tree):
+        """unstable_tree_search_insert: the item that waits and has the same bytes, or none; or a place to wait at. No
+        place where the search ends at a page that is not there, has the same frame, or is equal and on another node.
+        The tree is not in order where pages were written since they came to it."""
+        content, parent, side, node = item.page.content, None, 0, self.unstable[tree].root
+        if node and self.emptied[tree] != self.passes and self.linux("use-after-free"):
+            raise Freed("an unstable tree that was not emptied")
         while node:
             other = node.value
             if not other.page.is_there() or other.page.frame is item.page.frame:
-                return
+                return None, None
             if other.page.content == content:
-                if self.tree_of(other.page.frame) != tree:
-                    return
-                if other.page.is_merged() or item.page.is_merged():
-                    raise Unknown("a merged page makes a dup")
-                self.take_off(other)
-                dup = self.insert(item.page)
-                self.join(other, dup)
-                self.join(item, dup)
-                return
+                return (other, None) if self.tree_of(other.page.frame) == tree else (None, None)
             parent, side = node, int(content > other.page.content)
             node = node.kids[side]
-        item.waits = Node(item), tree, self.passes
-        self.unstable[tree].link(item.waits[0], parent, side)
+        return None, (parent, side)
+
+    def waiting_here(self, item, tree):
+        """The same in ksmbook: a page waits as it was when it came, until it is written, dropped or moved."""
+        for page in self.all_pages():
+            other = page.item
+            if other and other.waits and other.waits[1:] == (tree, self.passes) and not other.is_touched:
+                if page.is_there() and page.content == item.page.content and page.frame is not item.page.frame:
+                    return other, None
+        return None, (None, 0)
+
+    def meet(self, item):
+        """A page waits, or makes a dup with one that waits."""
+        tree = self.tree_of(item.page.frame)
+        search = self.waiting if self.linux("waits-written") else self.waiting_here
+        other, place = search(item, tree)
+        if other:
+            if other.page.is_merged() or item.page.is_merged():
+                raise Unknown("a merged page makes a dup")
+            self.take_off(other)
+            dup = self.insert(item.page if self.linux("frame-kept") else other.page)
+            self.join(other, dup)
+            self.join(item, dup)
+        elif place:
+            self.wait(item, tree, place)
+
+    def wait(self, item, tree, place):
+        """An item comes to an unstable tree."""
+        if not self.unstable[tree].root:
+            self.emptied[tree] = self.passes
+        if not self.linux("waits-written"):
+            self.unstable[tree], place = Tree(), (None, 0)
+        item.waits, item.is_touched = (Node(item), tree, self.passes), False
+        self.unstable[tree].link(item.waits[0], *place)
+
+    def is_done_early(self, item):
+        """What comes before the search of the stable tree since 6.4, for a page that is not merged."""
+        if self.linux("changed-first"):
+            self.take_off(item)
+            if self.has_changed(item):
+                return True
+        is_unchanged = item.checksum == item.page.content
+        return self.linux("zero-first") and is_unchanged and self.becomes_zero(item)
+
+    def is_done_late(self, item, own):
+        """What comes behind it, before 6.4 and in ksmbook."""
+        is_late = self.is_61 or not own
+        if is_late and not self.linux("changed-first") and self.has_changed(item):
+            return True
+        return is_late and not self.linux("zero-first") and self.becomes_zero(item)
 
     def visit(self, item):
         """cmp_and_merge_page"""
         own = item.page.frame.dup
         if own and not own.migrates and self.tree_of(own.frame) != own.tree:
             self.migrate(own)
-        elif not own and not self.is_61:
+        elif not own and self.is_done_early(item):
             self.take_off(item)
-            if self.has_changed(item) or self.becomes_zero(item):
-                return
+            return
         dup = own if own and not own.migrates else self.search(item.page)
-        if own and dup is own and item.dup is own:
+        if own and item.dup is own and (dup is own or not dup and not self.linux("dup-crosses")):
             return
         self.take_off(item)
         if dup:
             self.join(item, dup)
-        elif not self.is_61 or not (self.has_changed(item) or self.becomes_zero(item)):
+        elif not self.is_done_late(item, own):
             self.meet(item)
 
     def is_skipped(self, item):
         """should_skip_rmap_item and skip_age: of visits 0, 1, 2, .. to an item 0, 1, 2, 3, 5, 8, 13, 22, 31 and so on
         are made. Nothing but a new item begins anew: no write does."""
-        if self.is_61 or not self.knobs["smart_scan"] or item.page.is_merged():
+        if not self.linux("skipped") or not self.knobs["smart_scan"] or item.page.is_merged():
+            return False
+        if item.dup and self.linux("merge-forgets"):
             return False
         age = item.age
         item.age = min(age + 1, 255)
@@ -325,89 +438,217 @@ class Ksmd:
 
     # The scan.
 
+    def all_pages(self):
+        """The pages of all guests, and of their copies."""
+        return [page for pages in self.guests for page in pages]
+
     def forget(self, page):
-        """Frees an item."""
+        """Frees an item. ksmbook still knows of a page that is mapped from the zero page that it did not change."""
+        if page.is_zeroed() and not self.linux("zero-forgets"):
+            page.checksum = page.item.checksum
         self.take_off(page.item)
         page.item = None
+
+    def begin_pass(self):
+        """The beginning of scan_get_next_rmap_item. The kernel empties as many trees as are in use now."""
+        are_all = not self.linux("use-after-free") or not self.knobs["merge_across_nodes"]
+        for tree in range(NODES if are_all else 1):
+            self.unstable[tree], self.emptied[tree] = Tree(), self.passes
+        for item in self.items() if not self.linux("waits-longer") else []:
+            item.waits = None
+        for dup in list(self.migrating) if not self.knobs["merge_across_nodes"] else []:
+            self.is_there(dup)
+
+    def is_visited(self, page):
+        """Tells whether a step of the scan is for the page."""
+        return page.is_there() or page.is_mergeable and page.is_zeroed() and not self.linux("zero-visited")
 
     def walk(self):
         """scan_get_next_rmap_item: a pass, a step a visit. Items of pages that are not there, or are mapped from the
         zero page, go where the scan comes to the next page, or to the guest's end."""
-        for tree in range(1 if self.knobs["merge_across_nodes"] else NODES):
-            self.unstable[tree] = Tree()
-        for page in (page for pages in self.guests for page in pages if page.frame):
-            page.frame.is_drained = True
-        for dup in list(self.migrating) if not self.knobs["merge_across_nodes"] else []:
-            self.is_there(dup)
+        self.begin_pass()
         for pages in self.guests:
             left_behind = []
             for page in pages:
+                self.visited = page
                 if not page.is_there():
                     left_behind += [page] if page.item else []
+                    if self.is_visited(page):
+                        yield
                     continue
                 while left_behind:
                     self.forget(left_behind.pop(0))
-                page.item = page.item or Item(page)
+                page.item = page.item or Item(page, page.checksum)
+                page.checksum = None
                 if not self.is_skipped(page.item):
                     self.visit(page.item)
                     yield
             while left_behind:
                 self.forget(left_behind.pop(0))
 
+    def step(self):
+        """A step of the scan. False where the pass ends without one."""
+        if not self.steps:
+            self.steps = self.walk()
+        if next(self.steps, self) is not self:
+            return True
+        self.passes, self.steps = self.passes + 1, None
+        return False
+
     def scan(self, steps):
         """ksm_do_scan: so many steps at most. It stops where the pass ends."""
         for _ in range(steps):
-            if not self.steps:
-                self.steps = self.walk()
-            if next(self.steps, self) is self:
-                self.passes, self.steps = self.passes + 1, None
+            if not self.step():
                 return
+
+    def scan_on(self, visits, in_a_pass):
+        """A scan of ksmbook's: a pass ends with the visit of its last page, and the scan goes on into the next."""
+        while visits > 0:
+            was_at_start = not self.steps
+            if not self.step():
+                visits -= in_a_pass if was_at_start else 0
+                continue
+            visits -= 1
+            pages = self.all_pages()
+            if not any(map(self.is_visited, pages[pages.index(self.visited) + 1:])):
+                self.step()
+
+    # What guests do with their pages.
+
+    def store(self, page, content):
+        """Writes a page. What is shared gets a frame of its own, on the page's home."""
+        if content != page.content and not self.linux("checksum-kept"):
+            self.forget_checksum(page)
+        page.content = content
+        self.touch(page)
+        if not page.frame or page.is_merged() or page.is_zeroed() or page.frame.mapped > 1:
+            page.set_frame(Frame(page.home))
+
+    def drop(self, page):
+        """Drops a page."""
+        if not self.linux("checksum-kept"):
+            self.forget_checksum(page)
+        self.touch(page)
+        page.set_frame(None)
+        page.checksum, page.is_registered = None, False
+
+    def move(self, page, node):
+        """Moves a page to a node."""
+        if page.home != node:
+            self.touch(page)
+            page.home = node
+            page.set_frame(Frame(node))
+
+    def touch(self, page):
+        """Notes that a page was written, dropped or moved."""
+        if page.item:
+            page.item.is_touched = True
+
+    def forget_checksum(self, page):
+        """Forgets what the page had when it was visited."""
+        page.checksum = None
+        if page.item:
+            page.item.checksum = None
+
+    def unmerge(self, page):
+        """unmerge_ksm_pages for a page, which is mergeable no longer."""
+        self.break_ksm(page)
+        page.checksum, page.is_mergeable = None, False
+        if page.item and not self.linux("unmerged-late"):
+            self.forget(page)
+            page.checksum = None
 
     def break_ksm(self, page):
         """A page that is shared gets a frame of its own. In 6.1 the zero page stays."""
-        if page.is_merged() or page.is_zeroed() and not self.is_61:
+        if page.is_merged() or page.is_zeroed() and not self.linux("zero-kept"):
             page.set_frame(Frame(page.home))
 
     def unmerge_all(self):
         """unmerge_and_remove_all_rmap_items"""
-        for page in (page for pages in self.guests for page in pages):
+        for page in self.all_pages():
             if page.is_mergeable:
                 self.break_ksm(page)
-            page.item = None
-        self.forget_dups()
-        self.passes, self.steps = 0, None
+            page.checksum = None
+            if page.item and self.linux("run-two-forgets"):
+                self.forget(page)
+            elif page.item:
+                self.take_off(page.item)
+                page.item.checksum = None
+        self.emptied = [None, None]
+        self.steps = None
+        if self.linux("run-two-forgets"):
+            self.passes = 0
+        if self.linux("stale-dropped"):
+            self.forget_dups()
 
     def forget_dups(self):
-        """remove_all_stable_nodes, where none has an item."""
-        self.stable, self.chains, self.migrating = [Tree(), Tree()], [], []
+        """remove_all_stable_nodes, where none has an item of a page that is still there."""
+        for item in self.items():
+            item.dup = None
+        self.stable, self.chains, self.migrating, self.dups = [Tree(), Tree()], [], [], []
+
+    def fork(self, guest):
+        """Copies a guest, at whose place the scan is not. ksmbook has no copies."""
+        if self.steps:
+            raise Unknown("a fork in a pass")
+        if self.linux("forked-over"):
+            self.guests.append([page.copy() for pages in self.guests for page in pages if page.guest == guest])
 
     # The files of sysfs.
 
     def items(self):
         """All items, of pages that are not there too."""
-        return [page.item for pages in self.guests for page in pages if page.item]
+        return [page.item for page in self.all_pages() if page.item]
+
+    def is_refused(self, name, value):
+        """Tells whether a knob has no such value."""
+        is_open = self.linux("knob-ranges")
+        ranges = {"run": (0, 2), "merge_across_nodes": (0, 1), "use_zero_pages": (0, 1),
+                  "max_page_sharing": (2, value if is_open else 1024),
+                  "pages_to_scan": (0, value) if is_open else (1, 1000000)}
+        least, most = ranges.get(name, (0, value))
+        return not least <= value <= most
 
     def write(self, name, value):
-        """Writes a knob. False where it is busy, None where the kernel has no such value."""
-        is_invalid = {"run": value > 2, "merge_across_nodes": value > 1, "use_zero_pages": value > 1,
-                      "max_page_sharing": value < 2}
-        if is_invalid.get(name):
+        """Writes a knob. False where it is busy, None where there is no such value."""
+        if self.is_refused(name, value):
             return None
         if name in ("merge_across_nodes", "max_page_sharing") and value != self.knobs[name]:
-            if any(item.dup for item in self.items()):
+            if self.counters()["shared"]:
                 return False
             self.forget_dups()
+            if name == "merge_across_nodes" and not self.linux("waits-across"):
+                self.empty_trees()
         if name == "run" and value == 2 and self.knobs["run"] != 2:
             self.unmerge_all()
         self.knobs[name] = value
         return True
 
+    def empty_trees(self):
+        """No page waits any longer."""
+        self.unstable = [Tree(), Tree()]
+        for item in self.items():
+            item.waits = None
+
+    def place_of(self, page):
+        """What a page counts as: none where it counts nowhere."""
+        item = page.item
+        is_gone = not page.is_registered and not self.linux("counted-late")
+        if not item or is_gone:
+            is_met = page.is_registered and page.is_mergeable and not page.is_zeroed()
+            return "volatile" if is_met and not self.linux("met-late") else None
+        is_as_it_was = self.linux("counted-late") or not item.is_touched
+        if item.dup and is_as_it_was:
+            return item.dup
+        if item.waits and is_as_it_was:
+            return "unshared"
+        return None if page.is_zeroed() and not self.linux("zero-volatile") else "volatile"
+
     def counters(self):
         """The counters, by their names in a reply to `stat`."""
-        items = self.items()
-        shared = len({id(item.dup) for item in items if item.dup})
-        sharing = sum(item.dup is not None for item in items) - shared
-        unshared = sum(bool(item.waits) for item in items)
-        return {"shared": shared, "sharing": sharing, "unshared": unshared,
-                "volatile": len(items) - shared - sharing - unshared, "chains": len(self.chains),
+        places = [self.place_of(page) for page in self.all_pages()]
+        dups = [place for place in places if isinstance(place, Dup)]
+        shared = len(set(map(id, dups)))
+        return {"shared": shared, "sharing": len(dups) - shared, "unshared": places.count("unshared"),
+                "volatile": places.count("volatile"), "chains": len(self.chains),
                 "dups": sum(len(chain.dups) for chain in self.chains), "full_scans": self.passes}

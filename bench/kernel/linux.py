@@ -1,9 +1,10 @@
-"""What Linux is to reply to a script: the lines of the driver (bench/kernel/driver) over the model of ksmd."""
+"""What is to be replied to a script: the lines of the driver (bench/kernel/driver) over the model of ksmd.
 
-import dataclasses
+With no switch on these are Linux's replies, with all of them on ksmbook's.
+"""
 
 import talk
-from ksmd import NODES, Frame, Ksmd, Page, Unknown
+from ksmd import NODES, Freed, Ksmd, Page, Unknown
 
 PAGE_DIGITS = 16 * talk.page_words()
 
@@ -13,43 +14,39 @@ def whole(digits):
     return digits if len(digits) == PAGE_DIGITS else digits * (PAGE_DIGITS // 2)
 
 
-@dataclasses.dataclass
-class Reply:
-    """A reply, or None where the model does not tell it; and what ksmbook is to reply there."""
-    text: str | None
-    ours: str | None = None
-
-
 class Linux:
-    """A kernel that runs one script. `lines` are all its lines, as Linux gets them; `knobs` is what is set up."""
+    """A kernel of a version that runs one script, with some switches on. `lines` are all its lines, as Linux gets them;
+    `knobs` is what is set up. `freed_at` is the line at which the kernel would read memory that it freed, counted from
+    0."""
 
-    def __init__(self, lines, knobs, is_61):
+    def __init__(self, lines, knobs, version, switches=frozenset()):
         names = {(int(words[1]), int(words[2])) for words in map(str.split, lines) if words[0] == "reg"}
         self.pages = {name: Page(*name) for name in sorted(names)}
         guests = {guest: [page for page in self.pages.values() if page.guest == guest] for guest, _ in self.pages}
-        self.ksmd = Ksmd(list(guests.values()), whole("00"), is_61)
+        self.ksmd = Ksmd(list(guests.values()), whole("00"), version, switches)
         for name, value in knobs:
             self.ksmd.write(name, value)
-        self.is_61, self.visits, self.at_pass_start, self.is_unknown = is_61, 100, True, False
+        self.visits, self.at_pass_start, self.held = 100, True, None
+        self.is_unknown, self.count, self.freed_at = False, 0, None
 
     def reply(self, line):
-        """What is replied to a line. Behind the first that the model does not have none is told."""
+        """What is replied to a line, or None from the first line on that the model does not have."""
         word, *words = line.split(" ")
         try:
             if self.is_unknown or not hasattr(self, f"do_{word}"):
                 raise Unknown(word)
-            text = getattr(self, f"do_{word}")(*words)
-        except Unknown:
+            return getattr(self, f"do_{word}")(*words)
+        except Unknown as unknown:
+            if isinstance(unknown, Freed) and not self.is_unknown:
+                self.freed_at = self.count
             self.is_unknown = True
-            return Reply(None)
-        return Reply(text, self.without_zero_page(line) or text)
+            return None
+        finally:
+            self.count += 1
 
-    def without_zero_page(self, line):
-        """A reply that ksmbook is to give otherwise: it counts pages on the zero page in ksm_zero_pages alone."""
-        if line == "show ksm_zero_pages":
-            return str(sum(page.is_zeroed() for page in self.pages.values()))
-        left = sum(page.is_zeroed() and page.item is not None for page in self.pages.values())
-        return self.stat(left) if line == "stat" else None
+    def linux(self, name):
+        """Tells whether a difference is as in Linux."""
+        return self.ksmd.linux(name)
 
     def registered(self, guest, number):
         """A page that is registered, or none."""
@@ -80,7 +77,9 @@ class Linux:
         if page.is_registered:
             return "refused 3"
         page.home, page.is_registered, page.is_mergeable = int(node), True, True
-        page.store(whole(digits))
+        page.content = whole(digits)
+        self.ksmd.store(page, page.content)
+        page.first_frame = page.frame
         return "ok"
 
     def do_put(self, guest, number, digits):
@@ -88,7 +87,7 @@ class Linux:
         page = self.registered(guest, number)
         if not page:
             return "refused 2"
-        page.store(whole(digits))
+        self.ksmd.store(page, whole(digits))
         return "ok"
 
     def do_drop(self, guest, number):
@@ -96,8 +95,7 @@ class Linux:
         page = self.registered(guest, number)
         if not page:
             return "refused 2"
-        page.set_frame(None)
-        page.is_registered = False
+        self.ksmd.drop(page)
         return "ok"
 
     def do_get(self, guest, number):
@@ -112,9 +110,7 @@ class Linux:
             return "refused 11"
         if not page:
             return "refused 2"
-        if page.home != int(node):
-            page.home = int(node)
-            page.set_frame(Frame(page.home))
+        self.ksmd.move(page, int(node))
         return "ok"
 
     def do_unmerge(self, guest):
@@ -123,8 +119,7 @@ class Linux:
         if not own:
             return "refused 2"
         for page in own:
-            self.ksmd.break_ksm(page)
-            page.is_mergeable = False
+            self.ksmd.unmerge(page)
         return f"unmerged {before - len(self.shared())}"
 
     def do_mergeable(self, guest):
@@ -160,6 +155,11 @@ class Linux:
             return "refused 11"
         if not page:
             return "refused 10"
+        if not self.ksmd.knobs["merge_across_nodes"] and page.frame.dup.tree != int(node) \
+                and not self.linux("dup-crosses"):
+            return "refused 9"
+        if page.frame.holds and self.linux("held-page"):
+            return "refused 8"
         page.frame.node = int(node)
         return "ok"
 
@@ -172,8 +172,17 @@ class Linux:
         if self.ksmd.knobs["run"] != 1:
             return "refused 5"
         if not in_a_pass and wanted:
-            self.ksmd.scan(1 << 20)
+            if self.linux("idle-pass"):
+                self.ksmd.scan(1 << 20)
             return "scanned 0"
+        if self.linux("pass-ends-late"):
+            self.scan_in_batches(left, in_a_pass)
+        else:
+            self.ksmd.scan_on(left, in_a_pass)
+        return f"scanned {wanted}"
+
+    def scan_in_batches(self, left, in_a_pass):
+        """A batch does not go on into the next pass."""
         while self.at_pass_start and left and left >= in_a_pass:
             self.ksmd.scan(1 << 20)
             left -= in_a_pass
@@ -181,12 +190,13 @@ class Linux:
             passes = self.ksmd.passes
             self.ksmd.scan(left)
             self.at_pass_start = self.ksmd.passes != passes
-        return f"scanned {wanted}"
 
     def do_set(self, name, value):
         """Writes a knob."""
         before = len(self.shared())
         if name == "pages_to_scan":
+            if self.ksmd.is_refused(name, int(value)):
+                return "refused 7"
             self.visits = int(value)
             return "ok"
         is_written = self.ksmd.write(name, int(value))
@@ -201,22 +211,59 @@ class Linux:
         """Reads a knob."""
         if name == "pages_to_scan":
             return str(self.visits)
+        if name == "ksm_zero_pages" and self.linux("zero-uncounted"):
+            return "-1"
         if name == "ksm_zero_pages":
-            return "-1" if self.is_61 else self.without_zero_page(f"show {name}")
+            return str(sum(page.is_zeroed() for page in self.ksmd.all_pages()))
         if name not in self.ksmd.knobs:
             raise Unknown(name)
         return str(self.ksmd.knobs[name])
 
-    def stat(self, left):
-        """The counters, less so many volatile pages."""
-        told = self.ksmd.counters()
-        told["volatile"] -= left
-        return " ".join(["stat", *(f"{name}={value}" for name, value in told.items())])
-
     def do_stat(self):
         """The counters."""
-        return self.stat(0)
+        return " ".join(["stat", *(f"{name}={value}" for name, value in self.ksmd.counters().items())])
 
     def do_nothing(self):
         """A line that Linux does not have."""
         return "-"
+
+    def do_prune(self):
+        """Drops stale dups, where that is as in ksmbook."""
+        return f"pruned {self.ksmd.prune()}"
+
+    # Lines for Linux alone.
+
+    def do_frames(self):
+        """Where the pages lie."""
+        pages = [page for page in self.pages.values() if page.is_registered]
+        first = {id(page.first_frame): f"{page.guest}:{page.number}" for page in reversed(self.pages.values())}
+        where = [f"{page.guest}:{page.number}={first.get(id(page.frame), 'new')}" for page in pages]
+        return " ".join(["frames", *where])
+
+    def do_fork(self, guest):
+        """Copies a guest's process."""
+        if not self.of_guest(guest):
+            return "refused 2"
+        self.ksmd.fork(int(guest))
+        return "ok"
+
+    def do_hold(self, guest, number):
+        """Takes a reference from outside."""
+        page = self.registered(guest, number)
+        if not page:
+            return "refused 2"
+        if not page.is_merged() or self.held:
+            raise Unknown("hold")
+        self.held, page.frame.holds = (page.frame, page.content), page.frame.holds + 1
+        return "ok"
+
+    def do_look(self):
+        """What the reference reads."""
+        return self.held[1] if self.held else "nothing is held"
+
+    def do_leave(self):
+        """Ends the reference."""
+        if self.held:
+            self.held[0].holds -= 1
+        self.held = None
+        return "ok"

@@ -1,152 +1,185 @@
-"""Names what differs between ksmbook and Linux, by a model of mm/ksm.c that tells each of Linux's replies.
+"""Judges a script by a model of mm/ksm.c that has a switch for each difference (ksmd.py, linux.py, switches.py).
 
-Each reply of Linux is to be the model's. In a kept script that has entries in `differences` each of these lines is to
-have the two replies of its entry, and each other line two that are equal. In any other script each reply of ksmbook is
-to be the one that the model has for it: Linux's without smart scan, and without what the zero page leaves behind. Where
-the two replies then differ, the difference is
+A script is explained where each reply of Linux is the model's with no switch on, and each reply of ksmbook the model's
+with a set of switches on; the smallest such set names what differs. `prune` counts too: Linux has none, so with
+`stale-dropped` off nothing is dropped. Where a line is outside the model, `differences` has to have both replies. Of a
+lookup only its form is tested, and a line for Linux alone has no reply of ksmbook's.
 
-  zero-uncounted    Linux 6.1 has no ksm_zero_pages
-  zero-volatile     pages on the zero page whose items the scan has not come to again count as volatile
-  skipped-volatile  smart scan, where only `unshared` is lower, and `volatile` higher by as much
-  skipped-behind    smart scan, else
-
-Of scripts that do not keep to the profile only Linux's very reply is asked: what else differs there is `modelled`, or
-`not-modelled` behind a line that the model does not have.
+Where the kernel would read memory that it freed, a script is cut: no reply is foretold behind that.
 """
 
 import collections
 import dataclasses
 import os
+import re
 
 import machine
 import talk
-from linux import Linux, Reply
+from linux import Linux
+from switches import SWITCHES, switches_of, version_of
 
 DIFFERENCES = os.path.join(machine.HERE, "differences")
+REPORTED = "use-after-free"  # docs/reports
 PAGE = os.path.join(talk.TOP, "docs", "KERNEL.md")
-SMART = ("smart_scan", 1)
+FORMS = {
+    "find": r"held \d+ \d+|gone [123]|busy|refused (?:10|12|13)",
+    "equal": r"(?:held|differs) \d+ \d+|gone [123]|busy|refused (?:10|12|13)",
+    "look": r"[0-9a-f]+|refused (?:12|14)",
+    "leave": r"ok|refused (?:12|14)",
+    "audit": r"audit(?: (?:found:\d+:[0-9a-f]+|gone:[123]|busy))+|refused 13",
+}
 
 
-def kind_of(release):
-    """The kind of a kernel, as `differences` has it."""
-    return "6.1" if release.startswith("6.1.") else "newer"
+def is_for(kernels, version):
+    """Tells whether an entry is for a kernel: `all`, a line of kernels as 6.1, or all lines from one on as 6.12-."""
+    if kernels == "all":
+        return True
+    first = version_of(kernels.removesuffix("-") + ".0")
+    return version == first or kernels.endswith("-") and version > first
 
 
-def known_differences(kind):
-    """What kept scripts are known to differ in, by script and line: the name, ksmbook's reply and Linux's."""
+def entries(version):
+    """The entries of `differences` that are for a kernel, as words and the text behind them."""
     with open(PAGE, encoding="utf-8") as file:
         page = file.read()
-    known = collections.defaultdict(dict)
     with open(DIFFERENCES, encoding="ascii") as file:
-        entries = [entry.split(None, 4) for entry in file if entry.strip() and not entry.startswith("#")]
-    for name, script, number, kernels, replies in entries:
+        found = [entry.rstrip("\n").split(None, 3) for entry in file if entry.strip() and not entry.startswith("#")]
+    for kind, kernels, name, text in found:
         if f"`{name}`" not in page:
             raise machine.Trouble(f"{PAGE} has no {name}")
-        if kernels in ("all", kind):
-            known[script][int(number)] = name, *replies.rstrip("\n").split(" | ")
+        if is_for(kernels, version):
+            yield kind, name, text
+
+
+def known_replies(version):
+    """Both replies to lines outside the model, by script and line, each with the name of the difference."""
+    known = collections.defaultdict(dict)
+    for kind, name, text in entries(version):
+        if kind == "replies":
+            script, number, replies = text.split(None, 2)
+            known[script][int(number)] = name, *replies.split(" | ")
     return known
 
 
+def needs(version):
+    """The switches that kept scripts are to need, by script."""
+    found = collections.defaultdict(set)
+    for kind, name, script in entries(version):
+        if kind == "needs":
+            found[script].add(name)
+    return found
+
+
 @dataclasses.dataclass
-class Line:
-    """A line of a script as Linux gets it, and the replies: ksmbook's, Linux's, the model's, and the model's without
-    smart scan."""
-    number: int
-    text: str
-    ours: str
-    theirs: str
-    model: Reply
-    unskipped: Reply
+class Script:
+    """A script: its lines with ksmbook's replies by number, what is set up, and the kernel's version. `is_patched` says
+    that the kernel empties all unstable trees as a pass begins."""
+    answers: dict
+    knobs: list
+    version: tuple
+    is_patched: bool = False
 
-    def is_same(self):
-        """Tells whether the two replies are equal, or not to be compared."""
-        return self.theirs == self.ours or (self.text, self.theirs) == ("nothing", "-") \
-            or (self.ours, self.theirs) == ("-", "ok")
+    def told(self, switches=frozenset(), of_linux=False):
+        """The model's replies with some switches on, None where it tells none; and the line, counted from 0, at which
+        the kernel would read freed memory."""
+        kernel, texts = self.model(switches, of_linux)
+        return [kernel.reply(text) for text in texts], kernel.freed_at
 
+    def model(self, switches, of_linux):
+        """A model of the kernel with some switches on, and the lines for it."""
+        texts = [answer.line if of_linux else answer.asked for answer in self.answers.values()]
+        return Linux(texts, self.knobs, self.version, switches | ({REPORTED} if self.is_patched else set())), texts
 
-def modelled(answers, knobs, kind):
-    """The model's replies to the lines of a script, each beside that without smart scan."""
-    def told(knobs):
-        """The replies where this is set up."""
-        texts = [answer.line for answer in answers.values()]
-        kernel = Linux(texts, knobs, kind == "6.1")
-        return [kernel.reply(text) for text in texts]
+    def has(self, switches, replies):
+        """Tells whether these are the model's replies with some switches on, and use-after-free."""
+        kernel, texts = self.model(switches | {REPORTED}, of_linux=False)
+        return all(kernel.reply(text) == reply for text, reply in zip(texts, replies))
 
-    replies = told(knobs)
-    return list(zip(replies, told([knob for knob in knobs if knob != SMART]) if SMART in knobs else replies))
+    def cut(self):
+        """The same without the lines from which on the kernel would read freed memory, and the first of these."""
+        _, freed_at = self.told(of_linux=True)
+        if freed_at is None:
+            return self, None
+        numbers = list(self.answers)
+        kept = {number: self.answers[number] for number in numbers[:freed_at]}
+        return dataclasses.replace(self, answers=kept), numbers[freed_at]
 
-
-def counters(text):
-    """The counters of a reply to `stat`."""
-    return {name: int(value) for name, value in (word.split("=") for word in text.split()[1:] if "=" in word)}
-
-
-def name_of(line):
-    """The name of a difference in a line in which ksmbook replies as the model has it for ksmbook."""
-    if line.theirs == line.unskipped.text:
-        return "zero-volatile" if line.text == "stat" else "zero-uncounted"
-    without, told = counters(line.unskipped.text), counters(line.theirs)
-    more = {name: told.get(name, 0) - count for name, count in without.items() if told.get(name) != count}
-    waiting = more.get("unshared", 0)
-    is_passed_over = waiting < 0 and more == {"unshared": waiting, "volatile": -waiting}
-    return "skipped-volatile" if is_passed_over else "skipped-behind"
-
-
-def judged_by_model(line, is_profiled):
-    """The same of a line of which nothing is known."""
-    if line.model.text is None and is_profiled:
-        return None, None if line.is_same() else "the model does not have this line"
-    if line.model.text is None:
-        return None if line.is_same() else "not-modelled", None
-    if line.ours in ("-", line.unskipped.ours) or line.text == "nothing":
-        return None if line.is_same() else name_of(line), None
-    return (None, f"ksmbook is to reply `{line.unskipped.ours}`") if is_profiled else ("modelled", None)
-
-
-def judged(line, known, is_profiled):
-    """The name of a difference, or nothing where the replies are the same; and why it is unexplained."""
-    if line.model.text not in (None, line.theirs):
-        return None, f"the model has `{line.model.text}`"
-    if line.number in known:
-        name, ours, theirs = known[line.number]
-        return (name, None) if (line.ours, line.theirs) == (ours, theirs) else (None, f"{name} is otherwise")
-    if known:
-        return None, None if line.is_same() else "no rule has it"
-    return judged_by_model(line, is_profiled)
+    def smallest(self, ours):
+        """A set of switches that makes the kernel's replies ksmbook's, of which none can be left out. It has at
+        most one where such a set is enough."""
+        has = sorted(switches_of(self.version) - {REPORTED}, key=list(SWITCHES).index)
+        for few in [frozenset(), *(frozenset([name]) for name in has)]:
+            if self.has(few, ours):
+                return few
+        kept, before = frozenset(has), None
+        while kept != before:
+            before = kept
+            for name in reversed(has):
+                if name in kept and self.has(kept - {name}, ours):
+                    kept -= {name}
+        return kept
 
 
 @dataclasses.dataclass
 class Verdict:
-    """What became of a script: the lines that differ, each with its name; the first that is unexplained, as a text; and
-    how many replies the model told."""
-    named: list
+    """What became of a script: the switches that it needs, the lines that differ as texts, the first reply that is
+    unexplained as a text, how many replies the model told, and the line from which on the script was cut."""
+    names: frozenset = frozenset()
+    differing: list = dataclasses.field(default_factory=list)
     unexplained: str | None = None
     told: int = 0
+    cut_at: int | None = None
+
+    def kind(self):
+        """What the verdict is counted as."""
+        return "unexplained" if self.unexplained else "explained" if self.names or self.differing else "equal"
 
     def __str__(self):
+        cut = f"; cut at line {self.cut_at}: {REPORTED}" if self.cut_at else ""
         if self.unexplained:
-            return f"UNEXPLAINED: {self.unexplained}"
-        if not self.named:
-            return "equal"
-        line, name = self.named[0]
-        more = f", and {len(self.named) - 1} more" if len(self.named) > 1 else ""
-        return f"{name}: line {line.number}: ksmbook `{line.ours}`, Linux `{line.theirs}`{more}"
+            return f"UNEXPLAINED: {self.unexplained}{cut}"
+        if not self.names and not self.differing:
+            return f"equal{cut}"
+        more = f", and {len(self.differing) - 1} more" if len(self.differing) > 1 else ""
+        first = f": {self.differing[0]}{more}" if self.differing else ""
+        return f"explained by {', '.join(sorted(self.names))}{first}{cut}"
 
 
-def verdict(answers, replies, models, known, is_profiled=True):
-    """Compares a script. `answers` are lines and ksmbook's replies by number, `models` the model's; `known` is what
-    must differ."""
-    found = Verdict([])
-    if len(replies) != len(answers):
-        found.unexplained = f"line 0: ksmbook `{len(answers)} replies`, Linux `{len(replies)} replies`"
+def why_unexplained(answer, theirs, linux, ours, known):
+    """Why the two replies to a line are unexplained, or nothing."""
+    if known:
+        _, *replies = known
+        return None if [answer.reply, theirs] == replies else "otherwise in `differences`"
+    if linux is None or ours is None:
+        return None if answer.is_same(theirs) else "the model does not have this line"
+    if theirs != linux:
+        return f"Linux is to reply `{linux}`"
+    if answer.has_no_reply():
+        form = FORMS.get(answer.typed.split()[0])
+        return None if not form or re.fullmatch(form, answer.reply) else "ksmbook's reply is none to a lookup"
+    return None if answer.reply == ours else f"ksmbook is to reply `{ours}`"
+
+
+def verdict(script, replies, known, cut_at=None, models=None, has_names=True):
+    """Judges a script by Linux's replies. `known` is what lines outside the model are to be replied, `models` the
+    model's replies with no switch on and with all, where they are there already. `has_names` says that the smallest set
+    of switches is looked for."""
+    found = Verdict(cut_at=cut_at)
+    if len(replies) != len(script.answers):
+        found.unexplained = f"ksmbook has {len(script.answers)} replies, Linux {len(replies)}"
         return found
-    for (number, answer), theirs, model in zip(answers.items(), replies, models):
-        line = Line(number, answer.line, answer.reply, theirs, *model)
-        name, why = judged(line, known, is_profiled)
-        found.told += line.model.text is not None
+    linux, ours = models or (script.told(of_linux=True)[0], script.told(frozenset(SWITCHES))[0])
+    names = set()
+    for (number, answer), theirs, one, other in zip(script.answers.items(), replies, linux, ours):
+        both = f"line {number}: ksmbook `{answer.reply}`, Linux `{theirs}`"
+        why = why_unexplained(answer, theirs, one, other, known.get(number))
+        found.told += one is not None
         if why:
-            found.unexplained = f"line {number}: ksmbook `{line.ours}`, Linux `{line.theirs}`; {why}"
+            found.unexplained = f"{both}; {why}"
             return found
-        if name:
-            found.named.append((line, name))
+        if theirs != other if answer.is_alone() else not answer.is_same(theirs):
+            found.differing.append(both)
+        names |= {known[number][0]} if number in known else set()
+    if has_names:
+        found.names = frozenset(names) if known else script.smallest(ours)
     return found

@@ -7,6 +7,7 @@
 
 #include <dirent.h>
 #include <errno.h>
+#include <fcntl.h>
 #include <stdio.h>
 #include <stdlib.h>
 #include <string.h>
@@ -97,10 +98,22 @@ static void set_up(const char *script)
 		write_knob(line);
 }
 
+/* The console tells which script runs, among all that the kernel reports there. */
+static void announce(const char *script)
+{
+	char line[512];
+	int length = snprintf(line, sizeof line, "<2>ksmbook: script %s\n", script);
+	int log = open("/dev/kmsg", O_WRONLY | O_CLOEXEC);
+	if (log < 0 || write(log, line, (size_t)length) != length)
+		fail("the kernel's log can't be written");
+	close(log);
+}
+
 static void run(const char *script, unsigned long visits)
 {
 	char path[512];
 	snprintf(path, sizeof path, FOLDER "%s", script);
+	announce(script);
 	ksm_reset();
 	set_up(script);
 	fprintf(replies, "script %s\n", script);

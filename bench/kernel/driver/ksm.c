@@ -3,8 +3,12 @@
 #include <dirent.h>
 #include <errno.h>
 #include <fcntl.h>
+#include <signal.h>
 #include <stdlib.h>
 #include <string.h>
+#include <sys/mman.h>
+#include <sys/syscall.h>
+#include <sys/wait.h>
 #include <time.h>
 #include <unistd.h>
 
@@ -13,7 +17,8 @@
 
 #define FOLDER "/sys/kernel/mm/ksm/"
 
-enum { FIRST_SLEEP = 10000000, LOOKS = 100000, LOOK_NANOSECONDS = 100000, PIDS = 32768 };
+enum { FIRST_SLEEP = 10000000, LOOKS = 100000, LOOK_NANOSECONDS = 100000, PIDS = 32768, PAGE = 4096, MOVE = 2,
+       WHOLE_PASS = 1000000 };
 
 /* ksmd sleeps for so many milliseconds, and wakes up where the number changes. */
 static long sleep_millisecs = FIRST_SLEEP;
@@ -91,6 +96,21 @@ void ksm_process(pid_t pid, FILE *out)
 		fprintf(out, " %s=%ld", name, value);
 }
 
+long ksm_zero_pages_of_all(void)
+{
+	char path[64], text[256];
+	struct dirent *entry;
+	long all = 0;
+	DIR *processes = opendir("/proc");
+	while (processes && (entry = readdir(processes))) {
+		snprintf(path, sizeof path, "/proc/%.16s/ksm_stat", entry->d_name);
+		const char *found = read_text(path, text, sizeof text) > 0 ? strstr(text, "ksm_zero_pages ") : NULL;
+		all += found ? atol(found + strlen("ksm_zero_pages ")) : 0;
+	}
+	closedir(processes);
+	return all;
+}
+
 static void find_ksmd(void)
 {
 	char path[64], text[64];
@@ -125,9 +145,21 @@ void wait_for_ksmd(void)
 	fail("ksmd does not come to rest");
 }
 
+/* A new page may lie in a list of the processor, whose reference keeps ksmd from merging it until the next pass. To
+ * move a page empties these lists. */
+static void drain_lists(void)
+{
+	static unsigned char page[2 * PAGE];
+	void *moved = page + PAGE;
+	int node = 0, status;
+	page[PAGE] = 1;
+	syscall(SYS_move_pages, 0, 1UL, &moved, &node, &status, MOVE);
+}
+
 void ksmd_batch(unsigned long steps)
 {
 	wait_for_ksmd();
+	drain_lists();
 	ksm_write("pages_to_scan", (long)steps);
 	ksm_write("sleep_millisecs", ++sleep_millisecs);
 	wait_for_ksmd();
@@ -146,11 +178,34 @@ unsigned long ksm_start(void)
 	return (unsigned long)visits;
 }
 
+/* A pass with merge_across_nodes 0, over a process that has an area and no page in it: as it begins all unstable trees
+ * are emptied. Else that of the second node keeps what earlier scripts left in it, and the kernel may read it long
+ * after it was freed. */
+static void empty_trees(void)
+{
+	pid_t child = fork();
+	if (child < 0)
+		fail("no process to empty the trees");
+	if (!child) {
+		void *area = mmap(NULL, PAGE, PROT_READ | PROT_WRITE, MAP_PRIVATE | MAP_ANONYMOUS, -1, 0);
+		_exit(madvise(area, PAGE, MADV_MERGEABLE) || raise(SIGSTOP));
+	}
+	waitpid(child, NULL, WUNTRACED);
+	if (ksm_write("merge_across_nodes", 0) || ksm_write("run", 1))
+		fail("a pass between scripts can't be made");
+	ksmd_batch(WHOLE_PASS);
+	kill(child, SIGKILL);
+	waitpid(child, NULL, 0);
+	if (ksm_write("run", 2))
+		fail("not all pages could be unmerged");
+}
+
 void ksm_reset(void)
 {
 	ksm_write("run", 0);
 	if (ksm_write("run", 2))
 		fail("not all pages could be unmerged");
+	empty_trees();
 	for (size_t i = 0; i < KNOBS; i++) {
 		int error = ksm_write(knobs[i].name, knobs[i].value);
 		if (error && error != ENOENT)

@@ -15,6 +15,9 @@ int ksm_write(const char *name, long value);
 void ksm_files(FILE *out);
 void ksm_process(pid_t pid, FILE *out);
 
+/* What all processes have in ksm_zero_pages of their ksm_stat, together. */
+long ksm_zero_pages_of_all(void);
+
 /* Finds ksmd and notes the knobs as the kernel has them. It is called once, before any call below, and tells
  * the kernel's own `pages_to_scan`, which is 0 from here on except in a batch. */
 unsigned long ksm_start(void);

@@ -47,6 +47,7 @@ void trace_start(void)
 			append(line, text);
 	}
 	fclose(orders);
+	append("trace_marker", "ksm: nobody entered\n");
 	is_traced = true;
 }
 
@@ -56,9 +57,10 @@ void trace_counters(void)
 	if (!is_traced)
 		return;
 	append("trace_marker", "ksm: read at rest\n");
-	snprintf(text, sizeof text, "ksm: full_scans=%ld pages_shared=%ld pages_sharing=%ld ksm_zero_pages=%ld\n",
-		ksm_read("full_scans"), ksm_read("pages_shared"), ksm_read("pages_sharing"),
-		ksm_read("ksm_zero_pages"));
+	snprintf(text, sizeof text, "ksm: full_scans=%ld pages_shared=%ld pages_sharing=%ld max_page_sharing=%ld "
+		"stable_node_dups=%ld ksm_zero_pages=%ld zero=%ld\n", ksm_read("full_scans"), ksm_read("pages_shared"),
+		ksm_read("pages_sharing"), ksm_read("max_page_sharing"), ksm_read("stable_node_dups"),
+		ksm_read("ksm_zero_pages"), ksm_read("ksm_zero_pages") < 0 ? -1 : ksm_zero_pages_of_all());
 	append("trace_marker", text);
 }
 
