@@ -24,11 +24,16 @@ PAGE_KB = PAGE // 1024
 
 @dataclasses.dataclass
 class Area:
-    """A private area, by the numbers of its first page and of the page behind it, with its anonymous pages."""
+    """A private area, by the numbers of its first page and of the page behind it: its anonymous pages, those of
+    them that are parts of huge pages, those that several processes map, and those that KSM merged (None where this
+    kernel does not tell)."""
     first: int
     end: int
     pages: int
     is_marked: bool
+    huge: int = 0
+    several: int = 0
+    merged: int | None = None
 
 
 @dataclasses.dataclass
@@ -74,16 +79,17 @@ def entries(smaps: str) -> Iterator[tuple[int, int, dict[str, int], set[str]]]:
             yield first, end, sizes, set(line.split()[1:])
 
 
-def take(space: Space, area: Area, sizes: dict[str, int], only_marked: bool) -> None:
-    """Puts an area that KSM may take among those to be read, unless it is not marked and has to be."""
+def take(space: Space, area: Area, sizes: dict[str, int], only_marked: bool, may_be_zeroed: bool) -> None:
+    """Puts an area that KSM may take among those to be read, unless it is not marked and has to be. One that is
+    marked is looked at even where smaps tells no page of it, if all may be merged with the page of zeroes."""
     space.left_out.of_files += max(sizes.get("Rss", 0) - area.pages, 0)
     space.left_out.swapped += sizes.get("Swap", 0)
     if only_marked and not area.is_marked:
         space.left_out.not_marked += area.pages
-    elif area.pages:
+    elif area.pages or (area.is_marked and may_be_zeroed):
         space.areas.append(area)
         space.marked += area.pages * area.is_marked
-        space.huge += sizes.get("AnonHugePages", 0)
+        space.huge += area.huge
 
 
 def leave(left_out: LeftOut, sizes: dict[str, int], flags: set[str]) -> None:
@@ -96,12 +102,15 @@ def leave(left_out: LeftOut, sizes: dict[str, int], flags: set[str]) -> None:
         left_out.refused += sizes.get("Rss", 0)
 
 
-def space_of(folder: int, only_marked: bool) -> Space:
-    """What is to be read of the process of a folder."""
+def space_of(folder: int, only_marked: bool, may_be_zeroed: bool) -> Space:
+    """What is to be read of the process of a folder, of whose pages KSM may have taken some for zeroes."""
     space = Space()
     for first, end, sizes, flags in entries(text_of(folder, "smaps")):
         if flags & REFUSED:
             leave(space.left_out, sizes, flags)
-        else:
-            take(space, Area(first, end, sizes.get("Anonymous", 0), MARKED in flags), sizes, only_marked)
+            continue
+        several = sizes.get("Shared_Dirty", 0) + sizes.get("Shared_Clean", 0)
+        area = Area(first, end, sizes.get("Anonymous", 0), MARKED in flags, sizes.get("AnonHugePages", 0), several,
+                    sizes.get("KSM"))
+        take(space, area, sizes, only_marked, may_be_zeroed)
     return space

@@ -4,11 +4,13 @@ import datetime
 from html import escape
 from pathlib import Path
 
-from . import words
+from . import advice, words
+from .figures import Figure
 from .heat import heat_map
-from .report import MOST_ROWS, Report
-from .savings import LIMITS, Saving
-from .units import MEGABYTE, as_megabytes, percent
+from .report import Report
+from .savings import LIMITS
+from .series import picture
+from .units import MEGABYTE, as_megabytes, megabytes, one_decimal, percent
 
 KNOBS = ["max_page_sharing", "use_zero_pages", "merge_across_nodes"]
 STYLE = Path(__file__).with_name("page.css")
@@ -52,51 +54,106 @@ def card(number: str, what: str) -> str:
 
 def cards(report: Report) -> str:
     """The answer in three numbers, and as a bar of the whole memory."""
-    told, count = report.answer(), len(report.by_size())
-    saved = percent(told.saved, report.pages)
-    read = f"read, of {count:,} process{'es' * (count > 1)}"
-    left = f"left of it when KSM's own {told.cost / MEGABYTE:,.1f} MB are paid"
-    return ('<div class="cards">' + card(as_megabytes(told.saved), f"saved, {saved:.1f}% of it")
-            + card(as_megabytes(report.pages), read) + card(words.net(told), left) + "</div>"
-            + f'<div class="whole" role="img" aria-label="{saved:.1f}% saved"><i style="width:{saved:.2f}%"></i></div>'
-            + f'<p class="key"><i class="saved"></i>saved {as_megabytes(told.saved)} MB'
-            + f'<i class="stays"></i>stays {as_megabytes(report.pages - told.saved)} MB</p>')
+    of, count = report.answer(), len(report.by_size())
+    told, already = of.told, min(report.already, of.told.saved)
+    saved = f"saved, {percent(told.saved, report.pages):.1f}% of it"
+    if has_already(report):
+        saved += f"; {as_megabytes(already)} MB of it already"
+    if not report.figures.is_exact:
+        saved += f"; {words.between(of)}"
+    read = f"{'read' if report.figures.is_exact else 'in all'}, of {count:,} process{'es' * (count > 1)}"
+    left = f"left of it when KSM's own {one_decimal(told.cost / MEGABYTE)} MB are paid"
+    return ('<div class="cards">' + card(as_megabytes(told.saved), saved)
+            + card(as_megabytes(report.pages), read) + card(words.net(told), left) + "</div>" + whole(report))
 
 
-def setting_row(report: Report, told: Saving, most: int) -> tuple[str, list[str]]:
+def whole(report: Report) -> str:
+    """All of the memory as a bar: what is saved already, what would be, and what stays."""
+    told = report.answer().told
+    already = min(report.already, told.saved) if has_already(report) else 0
+    parts = [("already", "saved already", already), ("saved", "saved in addition" if already else "saved",
+                                                    told.saved - already)]
+    bars = "".join(f'<i class="{kind}" style="width:{percent(pages, report.pages):.2f}%"></i>'
+                   for kind, _, pages in parts if pages)
+    key = "".join(f'<i class="{kind}"></i>{what} {as_megabytes(pages)} MB' for kind, what, pages in
+                  [*parts, ("stays", "stays", report.pages - told.saved)] if pages)
+    return (f'<div class="whole" role="img" aria-label="{percent(told.saved, report.pages):.1f}% saved">{bars}</div>'
+            f'<p class="key">{key}</p>')
+
+
+def has_already(report: Report) -> bool:
+    """Tells whether KSM saves anything among these processes by now."""
+    return megabytes(report.already) >= words.LEAST
+
+
+def columns_of_settings(report: Report) -> list[tuple[str, str]]:
+    """The columns of the table of settings."""
+    known = [] if report.figures.is_exact else [("spare", "from"), ("spare", "to")]
+    more = [("", "in addition")] if has_already(report) and report.figures.is_exact else []
+    return [*[("", knob.replace("_", "_<wbr>")) for knob in KNOBS], ("", "saved MB"), *known, ("", "%"), *more,
+            ("bars", ""), ("", "cost MB"), ("", "net MB")]
+
+
+def setting_row(report: Report, of: Figure, most: float) -> tuple[str, list[str]]:
     """A setting with its bar."""
-    of = told.setting
-    kinds = ["now"] * (told is report.answer()) + ["first"] * (of.max_page_sharing == LIMITS[0])
+    told, knobs = of.told, of.told.setting
+    kinds = ["now"] * (of is report.answer()) + ["first"] * (knobs.max_page_sharing == LIMITS[0])
+    known = [] if report.figures.is_exact else [as_megabytes(of.low), as_megabytes(of.high)]
+    more = [as_megabytes(told.saved - report.already)] if has_already(report) and report.figures.is_exact else []
     return " ".join(kinds), [
-        f"{of.max_page_sharing:,}", str(of.use_zero_pages), str(of.merge_across_nodes), as_megabytes(told.saved),
-        f"{percent(told.saved, report.pages):.1f}%", bar(100 * told.saved / most), f"{told.cost / MEGABYTE:,.1f}",
-        words.net(told)]
+        f"{knobs.max_page_sharing:,}", str(knobs.use_zero_pages), str(knobs.merge_across_nodes),
+        as_megabytes(told.saved), *known, f"{percent(told.saved, report.pages):.1f}%", *more,
+        bar(100 * told.saved / most), one_decimal(told.cost / MEGABYTE), words.net(told)]
 
 
 def settings(report: Report) -> str:
     """The grid of settings."""
-    most = max(told.saved for told in report.savings) or 1
-    knobs = [("", knob.replace("_", "_<wbr>")) for knob in KNOBS]
-    columns = [*knobs, ("", "saved MB"), ("", "%"), ("bars", ""), ("", "cost MB"), ("", "net MB")]
+    most = max(of.told.saved for of in report.figures.settings) or 1
     said = "The row in bold is how this machine is set."
     if len(report.kernel.nodes) == 1:
         said += " It has one node, so merge_across_nodes 0 saves the same."
     said += " The cost is what the kernel keeps for it: 64 bytes for each page visited and each merged one."
-    rows = [setting_row(report, told, most) for told in report.savings]
-    return section("What each setting saves", table("settings", columns, rows), note(said))
+    rows = [setting_row(report, of, most) for of in report.figures.settings]
+    kind = "settings" + " wider" * (has_already(report) and report.figures.is_exact)
+    told = table(kind, columns_of_settings(report), rows)
+    return section("What each setting saves", told, note(said), nodes(report))
+
+
+def nodes(report: Report) -> str:
+    """What each node saves by itself."""
+    told = ", ".join(f"node {node} {as_megabytes(pages)} MB" for node, pages in report.by_node.items())
+    return note(f"With merge_across_nodes 0 each node saves by itself: {told}.") if told else ""
+
+
+def then_what(report: Report) -> str:
+    """The commands that switch the best setting on."""
+    lines = [f"{escape(command)}" + (f'  <span># {escape(why)}</span>' if why else "")
+             for command, why in advice.commands(report)]
+    code = f'<pre>{"&#10;".join(lines)}</pre>' if lines else ""
+    first = "As root, for the best setting:" if lines else "KSM is set to its best already."
+    return section("Then what?", f"<p>{first}</p>", code,
+                   f"<ul>{''.join(f'<li>{escape(said)}</li>' for said in words.then_what(report))}</ul>")
+
+
+def over_time(entries: list[dict[str, object]]) -> str:
+    """The picture of a series."""
+    if len(entries) < 2:
+        return ""
+    return section("Over time", picture(entries), note(f"In megabytes, {len(entries):,} measurements."))
 
 
 def processes(report: Report) -> str:
     """The processes with most memory."""
-    columns = [("", "PID"), ("words", "name"), ("", "MB"), ("spare", "marked MB"), ("", "with a copy MB"), ("", "%"),
-               ("bars spare", "")]
+    merged = [("spare", "merged MB")] if has_already(report) else []
+    columns = [("", "PID"), ("words", "name"), ("", "MB"), ("spare", "marked MB"), *merged, ("", "with a copy MB"),
+               ("", "%"), ("bars spare", "")]
     rows = []
-    for owner, seen in report.by_size()[:MOST_ROWS]:
-        part = percent(report.census.repeated[owner], seen.pages)
+    for owner, seen in report.by_size()[:report.rows]:
+        part = min(percent(report.census.repeated[owner], seen.pages), 100)
         rows.append(("", [str(seen.process.pid), escape(seen.process.name), as_megabytes(seen.pages),
-                          as_megabytes(seen.space.marked), as_megabytes(report.census.repeated[owner]), f"{part:.1f}%",
-                          bar(part)]))
-    rest = len(report.by_size()) - MOST_ROWS
+                          as_megabytes(seen.space.marked), *[as_megabytes(seen.merged)] * len(merged),
+                          as_megabytes(report.census.repeated[owner]), f"{part:.1f}%", bar(part)]))
+    rest = len(report.by_size()) - report.rows
     more = note(f"And {rest:,} more.") if rest > 0 else ""
     return section("Whose memory it is", table("processes", columns, rows), more,
                    note("Marked is what programs marked for KSM already; with a copy, what another page reads the "
@@ -134,8 +191,8 @@ def paragraphs(sentences: list[str], kind: str) -> str:
     return "".join(f'<p class="{kind}">{escape(sentence)}</p>' for sentence in sentences)
 
 
-def as_html(report: Report) -> str:
-    """The whole page."""
+def as_html(report: Report, entries: list[dict[str, object]]) -> str:
+    """The whole page. The entries are those of a series, oldest first."""
     now = datetime.datetime.now().strftime("%Y-%m-%d %H:%M")
     notes = "".join(f"<li>{escape(sentence)}</li>" for sentence in words.notes(report))
     return "\n".join([
@@ -145,5 +202,6 @@ def as_html(report: Report) -> str:
         f"<style>{STYLE.read_text(encoding='utf-8')}</style>", "</head>", "<body>", "<main>",
         f"<header><h1>What merging would save</h1><p>{escape(words.system(report))}, {now}</p></header>",
         cards(report), paragraphs(words.answer(report), ""), paragraphs(words.warnings(report), "warning"),
-        settings(report), matrix(report), processes(report), heaviest(report), left_out(report),
+        settings(report), over_time(entries), matrix(report), processes(report), heaviest(report), left_out(report),
+        then_what(report),
         section("What else to know", f"<ul>{notes}</ul>"), "</main>", "</body>", "</html>", ""])

@@ -1,20 +1,21 @@
-"""Which pages are anonymous and in memory, from /proc/PID/pagemap.
+"""Which pages are anonymous and in memory, from /proc/PID/pagemap and, for root, /proc/kpageflags.
 
 Each page is one letter, so that runs of pages are found by a pattern: `1` where one process alone maps it, `2`
-where several do (after a fork, or where KSM merged it), `.` where it is none to be counted.
+where several do since a fork, `k` where KSM merged it, `z` where it is the kernel's page of zeroes, `.` where it is
+none of these. Only root is told frames, and so sees `k` and `z`; others see `2` in their place.
 """
 
 import ctypes
 import mmap
 import os
 import re
+import struct
 from collections.abc import Iterator
 
 from .trouble import Ended
 from .units import PAGE
 
-ALONE, SEVERAL, NONE = ord("1"), ord("2"), ord(".")
-RUN = re.compile(rb"[12]+")
+ALONE, SEVERAL, MERGED, ZERO, NONE = b"12kz."
 SHARED_PAGE = re.compile(rb"2")
 # how many entries are read at once: 32,768 pages are 128 MB of address space
 SPAN = 1 << 15
@@ -22,6 +23,12 @@ ENTRY = 8
 # bits of the uppermost byte of an entry, and the frame in the others
 PRESENT, SWAPPED, OF_FILE, EXCLUSIVE = 0x80, 0x40, 0x20, 0x01
 FRAME = (1 << 55) - 1
+# bits of an entry of /proc/kpageflags
+IS_KSM, IS_HUGE = 1 << 21, 1 << 22
+# an odd number that mixes a frame's number
+MIXED = 0x9e3779b97f4a7c15
+# so many frames are remembered at most
+MOST_KNOWN = 1 << 20
 
 
 def letter(top: int) -> int:
@@ -42,37 +49,77 @@ def entries_of(pagemap: int, first: int, count: int) -> bytes:
     return entries
 
 
-def zero_frame() -> int | None:
-    """The frame of the kernel's page of zeroes, which serves memory that was read and never written. None where
-    the system does not tell frames (it does to root alone)."""
-    with (mmap.mmap(-1, PAGE, flags=mmap.MAP_PRIVATE | mmap.MAP_ANONYMOUS) as page,
+def frame_at(entries: bytes, at: int) -> int:
+    """The frame of an entry, 0 where it is not told."""
+    return int.from_bytes(entries[at * ENTRY:(at + 1) * ENTRY], "little") & FRAME
+
+
+def own_frames() -> tuple[int, int]:
+    """The frame of the kernel's page of zeroes, and one of this program's own. 0 where the system does not tell
+    frames."""
+    with (mmap.mmap(-1, 2 * PAGE, flags=mmap.MAP_PRIVATE | mmap.MAP_ANONYMOUS) as pages,
           open("/proc/self/pagemap", "rb", 0) as pagemap):
-        page.read(1)
-        held = ctypes.c_char.from_buffer(page)
+        pages.madvise(mmap.MADV_NOHUGEPAGE)
+        pages.read(1)
+        pages[PAGE] = 1
+        held = ctypes.c_char.from_buffer(pages)
         number = ctypes.addressof(held) // PAGE
         del held
-        return int.from_bytes(entries_of(pagemap.fileno(), number, 1), "little") & FRAME or None
+        entries = entries_of(pagemap.fileno(), number, 2)
+        return frame_at(entries, 0), frame_at(entries, 1)
 
 
-def letters(pagemap: int, first: int, count: int, zero: int | None) -> bytes:
-    """A letter for each of so many pages. Those mapped from the frame of zeroes take no memory, and are not
-    counted."""
-    entries = entries_of(pagemap, first, count)
-    told = entries[7::8].translate(LETTERS)
-    if zero is None or SEVERAL not in told:
-        return told
-    changed = bytearray(told)
-    for found in SHARED_PAGE.finditer(told):
-        at = found.start()
-        if int.from_bytes(entries[at * ENTRY:(at + 1) * ENTRY], "little") & FRAME == zero:
-            changed[at] = NONE
-    return bytes(changed)
+class Frames:
+    """What the system tells of frames: the one of zeroes, and the flags of each. To others than root it tells
+    nothing. Some kernels, 6.12 among them, call each anonymous page merged, this program's own too."""
+
+    def __init__(self):
+        zero, own = own_frames()
+        self.zero = zero or None
+        try:
+            self.flags: int | None = os.open("/proc/kpageflags", os.O_RDONLY) if zero else None
+        except OSError:
+            self.flags = None
+        self.known: dict[int, int] = {}
+        self.are_wrong = bool(self.flags_of(own) & IS_KSM)
+
+    @property
+    def are_told(self) -> bool:
+        """Tells whether merged pages are told from those of a fork."""
+        return self.flags is not None and not self.are_wrong
+
+    def flags_of(self, frame: int) -> int:
+        """The flags of a frame, 0 where they are not told."""
+        if self.flags is None:
+            return 0
+        flags = self.known.get(frame)
+        if flags is None:
+            if len(self.known) >= MOST_KNOWN:
+                self.known.clear()
+            told = os.pread(self.flags, ENTRY, frame * ENTRY)
+            flags = self.known[frame] = struct.unpack("Q", told)[0] if len(told) == ENTRY else 0
+        return flags
+
+    def letters(self, entries: bytes, first: int, merged: float) -> bytes:
+        """A letter for each entry from a page on. Where the flags do not tell merged pages, this part of those that
+        several map is taken for merged: the same frames, or else addresses, in each process."""
+        told = entries[7::8].translate(LETTERS)
+        if SEVERAL not in told:
+            return told
+        changed, doubtful = bytearray(told), []
+        for found in SHARED_PAGE.finditer(told):
+            at, frame = found.start(), frame_at(entries, found.start())
+            if frame and frame == self.zero:
+                changed[at] = ZERO
+            elif not self.are_told:
+                doubtful.append((((frame or first + at) * MIXED) % (1 << 64), at))
+            elif self.flags_of(frame) & IS_KSM:
+                changed[at] = MERGED
+        for _, at in sorted(doubtful)[:round(merged * len(doubtful))]:
+            changed[at] = MERGED
+        return bytes(changed)
 
 
-def runs(pagemap: int, first: int, end: int, zero: int | None, longest: int) -> Iterator[tuple[int, bytes]]:
-    """The runs of pages to be counted between two pages: the first of each, and the letters, at most so many."""
-    for start in range(first, end, SPAN):
-        told = letters(pagemap, start, min(SPAN, end - start), zero)
-        for run in RUN.finditer(told):
-            for at in range(run.start(), run.end(), longest):
-                yield start + at, told[at:min(at + longest, run.end())]
+def spans(first: int, end: int) -> Iterator[tuple[int, int]]:
+    """Stretches of pages whose entries are read at once: the first page of each, and how many."""
+    return ((start, min(SPAN, end - start)) for start in range(first, end, SPAN))

@@ -1,98 +1,133 @@
-"""The digests of all pages with their owners, few bytes a page, and the contents that they make.
+"""The digests of all pages, 8 bytes a page, and where they were read.
 
-A record is a digest, the number of the process that has the page, and the page's node: 19 bytes. Records lie in
-256 piles by the first byte of the digest, so that equal pages are in one pile, and one pile at a time is taken
-apart.
-
-A frame that several processes map since a fork, at one address, is one page of memory: its records, which have
-the page's number too, are counted once. Pages that KSM merged already have addresses of their own, so each of them
-counts, as it did before.
+Digests lie in piles by their lowest bits, so that equal pages are in one pile, and one pile at a time is taken
+apart. Pages are added block by block; behind each block every pile that grew notes how far it reaches, with a tag:
+the number of the block and the node of its pages. Pages of a fork and merged ones have a second number each: their
+frame.
 """
 
-import collections
+import array
+import itertools
+import os
+import pickle
 from collections.abc import Iterator
 
-from .pagemap import ALONE
-from .reading import DIGEST
-
-PILES = 256
-OWNER, PAGE_NUMBER = 2, 6
-RECORD = DIGEST + OWNER + 1
-# of a digest and its owners: how many pages of it each process has on each node
+# records of a pile, about, and the most piles
+RECORDS, MOST = 1 << 17, 1 << 10
+NODE_BITS = 8
+# how many pages of each process, on each node, have a content
 Owners = dict[tuple[int, int], int]
 
 
-class Piles:
-    """The records of the pages. Nothing of it is ever written anywhere."""
+def tag_of(block: int, node: int) -> int:
+    """The number of a block and a node as one number."""
+    return block << NODE_BITS | node
+
+
+def block_of(tag: int) -> int:
+    """The block of a tag."""
+    return tag >> NODE_BITS
+
+
+def node_of(tag: int) -> int:
+    """The node of a tag."""
+    return tag & ((1 << NODE_BITS) - 1)
+
+
+def piles_for(pages: int) -> int:
+    """How many piles so many pages want: a power of two."""
+    return min(1 << max(pages // RECORDS, 1).bit_length() - 1, MOST)
+
+
+class Pile:
+    """Digests in the order in which they came, a second number for each where there is one, and the tags, each
+    with the place behind its last digest."""
 
     def __init__(self):
-        self.alone = [bytearray() for _ in range(PILES)]
-        self.several = [bytearray() for _ in range(PILES)]
-        self.without: set[int] = set()
+        self.digests = array.array("q")
+        self.seconds = array.array("Q")
+        self.tags = array.array("Q")
+        self.ends = array.array("Q")
 
-    def add(self, owner: int, first: int, letters: bytes, digests: list[bytes | None], nodes: bytes) -> None:
-        """Adds pages of a process, from a page on. Those without a digest are left out."""
-        name, alone = owner.to_bytes(OWNER, "big"), self.alone
-        for at, digest in enumerate(digests):
-            if digest is None:
-                continue
-            tag = name + nodes[at:at + 1]
-            if letters[at] == ALONE:
-                alone[digest[0]] += digest + tag
-            else:
-                page = first + at
-                self.several[(digest[0] + page) % PILES] += digest + tag + page.to_bytes(PAGE_NUMBER, "big")
+    def stretches(self) -> Iterator[tuple[int, int, int]]:
+        """Each stretch of digests of one tag: the tag, its first place, and the place behind its last."""
+        return zip(self.tags, itertools.chain((0,), self.ends), self.ends)
 
-    def leave_out(self, owner: int) -> None:
-        """Leaves out a process that ended: what was read of it is no whole."""
-        self.without.add(owner)
 
-    def count_frames_once(self) -> "collections.Counter[int]":
-        """Lays each frame that several processes map since a fork to the others, once. Tells how many pages
-        each process has less by that."""
-        fewer: collections.Counter[int] = collections.Counter()
-        for number, pile in enumerate(self.several):
-            self.several[number] = bytearray()
-            frames = set()
-            for at in range(0, len(pile), RECORD + PAGE_NUMBER):
-                record = bytes(pile[at:at + RECORD])
-                frame = record[:DIGEST] + pile[at + RECORD:at + RECORD + PAGE_NUMBER]
-                owner, _ = owner_of(record)
-                if owner in self.without:
-                    continue
-                if frame in frames:
-                    fewer[owner] += 1
-                else:
-                    frames.add(frame)
-                    self.alone[record[0]] += record
-        return fewer
+class Piles:
+    """All piles of one kind of pages, which grow."""
+
+    def __init__(self, count: int):
+        self.mask = count - 1
+        self.piles = [Pile() for _ in range(count)]
+        self.appends = [pile.digests.append for pile in self.piles]
+        self.tag = -1
+        self.has_grown = False
+
+    def begin(self, tag: int) -> None:
+        """What is added from here on has a tag."""
+        if tag != self.tag:
+            self.close()
+            self.tag = tag
+
+    def add(self, digests: "array.array[int] | list[int]") -> None:
+        """Adds pages without a second number."""
+        appends, mask, self.has_grown = self.appends, self.mask, True
+        for digest in digests:
+            appends[digest & mask](digest)
+
+    def add_one(self, digest: int, second: int) -> None:
+        """Adds a page with its second number."""
+        pile, self.has_grown = self.piles[digest & self.mask], True
+        pile.digests.append(digest)
+        pile.seconds.append(second)
+
+    def close(self) -> None:
+        """Each pile that grew notes the tag."""
+        for pile in self.piles if self.has_grown else ():
+            if len(pile.digests) > (pile.ends[-1] if pile.ends else 0):
+                pile.tags.append(self.tag)
+                pile.ends.append(len(pile.digests))
+        self.has_grown = False
 
     def size(self) -> int:
         """The bytes that the records take."""
-        return sum(pile.__sizeof__() for piles in (self.alone, self.several) for pile in piles)
-
-    def records(self, number: int) -> dict[bytes, int]:
-        """The records of a pile, and how often each is there."""
-        pile = self.alone[number]
-        found = collections.Counter(bytes(pile[at:at + RECORD]) for at in range(0, len(pile), RECORD))
-        if self.without:
-            return {record: times for record, times in found.items() if owner_of(record)[0] not in self.without}
-        return found
-
-    def contents(self, number: int) -> Iterator[tuple[bytes, Owners]]:
-        """Each content of a pile, in the order of the digests, with its owners."""
-        for digest, owners in sorted(grouped(self.records(number)).items()):
-            yield digest, owners
+        parts = ((pile.digests, pile.seconds, pile.tags, pile.ends) for pile in self.piles)
+        return sum(len(part) * part.itemsize for pile in parts for part in pile)
 
 
-def owner_of(record: bytes) -> tuple[int, int]:
-    """The process and the node of a record."""
-    return int.from_bytes(record[DIGEST:DIGEST + OWNER], "big"), record[-1]
+class Shelf:
+    """Piles laid down in memory that other processes read, so that they outlast the one who made them."""
 
+    def __init__(self):
+        self.file = os.memfd_create("piles")
+        self.at = 0
 
-def grouped(records: dict[bytes, int]) -> dict[bytes, Owners]:
-    """The owners of each digest."""
-    found: dict[bytes, Owners] = collections.defaultdict(dict)
-    for record, times in records.items():
-        found[record[:DIGEST]][owner_of(record)] = times
-    return found
+    def lay(self, piles: Piles) -> list[tuple[int, int]]:
+        """Lays down all piles, each of which is dropped then. Where each is, and its length."""
+        places = []
+        for number, pile in enumerate(piles.piles):
+            bytes_ = pickle.dumps((pile.digests, pile.seconds, pile.tags, pile.ends), 5)
+            piles.piles[number] = None
+            written = 0
+            while written < len(bytes_):
+                written += os.pwrite(self.file, memoryview(bytes_)[written:], self.at + written)
+            places.append((self.at, len(bytes_)))
+            self.at += len(bytes_)
+        piles.appends.clear()
+        return places
+
+    def take(self, place: tuple[int, int]) -> Pile:
+        """A pile that was laid down."""
+        at, length = place
+        found = bytearray()
+        while len(found) < length:
+            found += os.pread(self.file, length - len(found), at + len(found))
+        pile = Pile()
+        pile.digests, pile.seconds, pile.tags, pile.ends = pickle.loads(found)
+        return pile
+
+    def close(self) -> None:
+        """Gives the memory back."""
+        os.close(self.file)
+

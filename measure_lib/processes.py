@@ -1,28 +1,28 @@
-"""Which processes are meant, and whether their memory may be read."""
+"""A process, its files, its names, and whether its memory may be read."""
 
 import contextlib
 import dataclasses
 import os
 import re
 from collections.abc import Iterator
-from pathlib import Path
 
-from .called import MEASURE
-from .trouble import Ended, Trouble
+from .trouble import Ended
 
-PTRACE_SCOPE = Path("/proc/sys/kernel/yama/ptrace_scope")
-# field 22 of /proc/PID/stat, counted behind the name, which is field 2
-START_FIELD = 19
-# the most that a digest's owner has room for
-MOST_PROCESSES = 1 << 16
+# fields 9 and 22 of /proc/PID/stat, counted behind the name, which is field 2
+FLAGS_FIELD, START_FIELD = 6, 19
+# a thread of the kernel, among the flags
+IS_OF_KERNEL = 0x00200000
 
 
 @dataclasses.dataclass(frozen=True)
 class Process:
-    """A process: its number, the moment it started at (a number is given again), and the name it is shown by."""
+    """A process: its number, the moment it started at (a number is given again), the name it is shown by, and of
+    which unit of systemd or which virtual machine it is, if of any."""
     pid: int
     started: int
     name: str
+    unit: str = ""
+    domain: str = ""
 
     @contextlib.contextmanager
     def opened(self) -> Iterator[int]:
@@ -61,6 +61,11 @@ def start_of(stat: str) -> int:
     return int(stat.rpartition(")")[2].split()[START_FIELD])
 
 
+def is_of_kernel(stat: str) -> bool:
+    """Tells whether a process is a thread of the kernel, from its file `stat`."""
+    return bool(int(stat.rpartition(")")[2].split()[FLAGS_FIELD]) & IS_OF_KERNEL)
+
+
 def printable(name: str) -> str:
     """A name without what would move the cursor of a terminal."""
     return "".join(letter if letter.isprintable() else "?" for letter in name)
@@ -75,24 +80,51 @@ def guest_name(words: list[str]) -> str | None:
     return None
 
 
-def names_of(folder: int) -> tuple[str, str]:
-    """The name that a process is shown by, which is a virtual machine's own, and its names to be searched in."""
+@dataclasses.dataclass(frozen=True)
+class Known:
+    """A process with what it can be chosen by: its names, its virtual machine's name, its user, and its control
+    group; and whether it is a thread of the kernel."""
+    process: Process
+    names: str
+    domain: str | None
+    uid: int
+    cgroup: str
+    is_of_kernel: bool
+
+
+def cgroup_of(folder: int) -> str:
+    """The control group of a process: the one of version 2, or of systemd's own hierarchy."""
+    try:
+        lines = [line.split(":", 2) for line in text_of(folder, "cgroup").splitlines()]
+    except (Ended, OSError):
+        return ""
+    paths = {names: path for _, names, path in (line for line in lines if len(line) == 3)}
+    return paths.get("name=systemd") or paths.get("", "")
+
+
+def known_in(pid: int, folder: int) -> Known:
+    """A process by its folder."""
     short = text_of(folder, "comm").rstrip("\n")
     words = text_of(folder, "cmdline").split("\0")
     program = os.path.basename(words[0])
     guest = guest_name(words[1:]) if "qemu" in program or "kvm" in program else None
-    return printable(f"{guest} (qemu)" if guest else short), f"{short} {program} {guest or ''}"
+    stat = text_of(folder, "stat")
+    cgroup = cgroup_of(folder)
+    units = [part for part in cgroup.split("/") if part.endswith((".service", ".scope"))]
+    process = Process(pid, start_of(stat), printable(f"{guest} (qemu)" if guest else short),
+                      printable(units[-1]) if units else "", printable(guest or ""))
+    return Known(process, f"{short} {program} {guest or ''}", guest, os.fstat(folder).st_uid, cgroup,
+                 is_of_kernel(stat))
 
 
-def found(pid: int) -> tuple[Process, str]:
-    """A process by its number, with its names to be searched in. Raises Ended where there is none."""
+def found(pid: int) -> Known:
+    """A process by its number. Raises Ended where there is none."""
     try:
         folder = os.open(f"/proc/{pid}", os.O_RDONLY | os.O_DIRECTORY)
     except (OSError, OverflowError):
         raise Ended from None
     try:
-        shown, names = names_of(folder)
-        return Process(pid, start_of(text_of(folder, "stat")), shown), names
+        return known_in(pid, folder)
     finally:
         os.close(folder)
 
@@ -109,70 +141,7 @@ def may_be_read(process: Process) -> bool:
 
 
 def has_memory(process: Process) -> bool:
-    """Tells whether a process has memory of its own: threads of the kernel have none."""
+    """Tells whether a process has memory of its own: one that ended and was not waited for has none."""
     with process.opened() as folder:
         with open(open_in(folder, "maps"), "rb") as maps:
             return bool(maps.read(1))
-
-
-def advice(who: str) -> str:
-    """What to do where the memory of processes may not be read."""
-    if os.geteuid() == 0:
-        return (f"{who} may not be read, though this is root: "
-                "it lacks CAP_SYS_PTRACE here (in a container: docker run --cap-add SYS_PTRACE --pid host)")
-    if PTRACE_SCOPE.exists() and PTRACE_SCOPE.read_text().strip() != "0":
-        return (f"{who} may not be read: kernel.yama.ptrace_scope lets only root read other processes. "
-                f"Run it as root: sudo {MEASURE} ..")
-    return f"{who} may not be read by this user. Run it as root: sudo {MEASURE} .."
-
-
-def by_number(pids: list[int]) -> list[Process]:
-    """The processes with these numbers, each of which has to be there, to have memory, and to be readable."""
-    chosen = []
-    for pid in dict.fromkeys(pids):
-        try:
-            process, _ = found(pid)
-            if not may_be_read(process):
-                raise Trouble(advice(f"the memory of process {pid} ({process.name})"))
-            if not has_memory(process):
-                raise Trouble(f"process {pid} ({process.name}) has no memory of its own: "
-                              "it is a thread of the kernel, or has ended")
-        except Ended:
-            raise Trouble(f"there is no process {pid}") from None
-        chosen.append(process)
-    return chosen
-
-
-def by_name(names: list[str]) -> tuple[list[Process], int]:
-    """The readable processes with one of these names in theirs, all where none is given; and how many more may
-    not be read. This program is never one of them."""
-    chosen, refused = [], 0
-    for pid in sorted(int(entry) for entry in os.listdir("/proc") if entry.isdecimal()):
-        try:
-            process, searched = found(pid)
-            if pid == os.getpid() or (names and not any(name in searched for name in names)):
-                continue
-            if not may_be_read(process):
-                refused += 1
-            elif has_memory(process):
-                chosen.append(process)
-        except (Ended, PermissionError):
-            continue
-    return chosen, refused
-
-
-def choose(pids: list[int], names: list[str], everything: bool) -> tuple[list[Process], int]:
-    """The processes that are asked for, and how many more may not be read. Raises Trouble where none is left."""
-    chosen, refused = by_number(pids), 0
-    if names or everything:
-        named, refused = by_name(names)
-        chosen = list(dict.fromkeys([*chosen, *named]))
-    if not chosen and refused:
-        who = f"{refused:,} such processes" if refused > 1 else "the only such process"
-        raise Trouble(advice(f"the memory of {who}"))
-    if not chosen:
-        raise Trouble(f"no process has {' or '.join(names)} in its name" if names else "there is no process to read")
-    if len(chosen) > MOST_PROCESSES:
-        raise Trouble(f"{len(chosen):,} processes are more than the {MOST_PROCESSES:,} that are told apart; "
-                      "choose some by --name")
-    return chosen, refused

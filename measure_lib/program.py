@@ -5,15 +5,18 @@ import os
 import sys
 import time
 
-from . import processes, sample, text
+from . import choosing, excerpt, series, text
 from .called import IS_CHECKOUT, KSMBOOK, NAME
 from .html_page import as_html
+from .json_report import as_json
 from .kernel import kernel_of_machine
-from .look import Look
+from .look import Look, checked
 from .options import parsed
 from .progress import Progress
-from .report import Checked, Effort, Report, as_json, report_of
+from .report import Checked, Effort, Report, report_of
 from .trouble import INTERRUPTED, MEASURED, NOT_WRITTEN, Trouble
+
+LOWEST = 19
 
 
 def say(sentence: str) -> None:
@@ -21,11 +24,25 @@ def say(sentence: str) -> None:
     print(f"{NAME}: {sentence}", file=sys.stderr)
 
 
+def give_way() -> None:
+    """Has this program, and its workers, run only where a processor is idle."""
+    try:
+        os.nice(LOWEST)
+        os.sched_setscheduler(0, os.SCHED_IDLE, os.sched_param(0))
+    except OSError:
+        pass
+
+
+def processor_time() -> float:
+    """The seconds of processors that this program and its ended workers took."""
+    return sum(os.times()[:4])
+
+
 def look_for(options: argparse.Namespace) -> tuple[Report, Look]:
     """Reads the memory, and reckons."""
-    begun, processor = time.monotonic(), time.process_time()
-    chosen, refused = processes.choose(options.pids, options.name, options.all)
-    look = Look(chosen, options.mergeable)
+    begun, processor = time.monotonic(), processor_time()
+    chosen, refused = choosing.choose(options.choice)
+    look = Look(chosen, options.mergeable, (options.sample or 100) / 100, options.workers, options.rate)
     progress = Progress(look.pages() * (2 if options.again else 1))
     try:
         if options.again:
@@ -34,39 +51,27 @@ def look_for(options: argparse.Namespace) -> tuple[Report, Look]:
             look.once(progress)
     finally:
         progress.clear()
-    if not any(seen.pages for seen in look.seen):
-        raise Trouble(nothing(look, options.mergeable))
-    effort = Effort(0, 0, look.bytes_a_page(), options.again)
-    report = report_of(look, kernel_of_machine(look.nodes), refused, effort)
-    effort.seconds, effort.processor = time.monotonic() - begun, time.process_time() - processor
+    checked(look)
+    effort = Effort(0, 0, look.workers, look.bytes_a_page(), options.again)
+    report = report_of(look, kernel_of_machine(look.nodes), refused, effort, options.rows)
+    effort.seconds, effort.processor = time.monotonic() - begun, processor_time() - processor
     return report, look
 
 
-def nothing(look: Look, only_marked: bool) -> str:
-    """Why there is no page to be counted."""
-    if all(seen.has_ended for seen in look.seen):
-        return "each process ended while it was read"
-    if any(seen.changed for seen in look.seen):
-        return "all of their memory changed between the two looks"
-    if only_marked:
-        return "none of their memory is marked for KSM: without --mergeable all that could be marked is counted"
-    return "they have no anonymous memory that KSM could merge"
-
-
 def check(report: Report, look: Look, options: argparse.Namespace) -> Checked:
-    """Takes the sample, writes its script where asked, and has the proved book count it."""
+    """Takes the excerpt, writes its script where asked, and has the proved book count it."""
     if options.no_check and not options.script:
         return Checked(why_not="--no-check was given")
-    taken = sample.sample_of(look.piles, look.reader.zeroes, report.census, look.by_node)
+    taken = excerpt.excerpt_of(look, report.census)
     if options.script:
-        write(options.script, "".join(f"{line}\n" for line in sample.script_of(taken)))
+        write(options.script, "".join(f"{line}\n" for line in excerpt.script_of(taken)))
         say(f"{KSMBOOK} {' '.join(taken.options())} < {options.script}")
     if options.no_check:
         return Checked(why_not="--no-check was given")
-    if not sample.is_built():
+    if not excerpt.is_built():
         return Checked(why_not="ksmbook is not built here (./ksmbook --nodes 1 --frames 1 </dev/null "
                                "proves and builds it)" if IS_CHECKOUT else "there is no ksmbook beside it")
-    return Checked(taken.pages(), taken.apart, sample.check(taken))
+    return excerpt.check(taken)
 
 
 def write(path: str, what: str) -> None:
@@ -86,31 +91,60 @@ def can_be_written(path: str | None) -> None:
                       NOT_WRITTEN)
 
 
-def measure(options: argparse.Namespace) -> None:
+def measure(options: argparse.Namespace) -> Report:
     """Measures, and tells."""
-    for path in options.html, options.script:
-        can_be_written(path)
     report, look = look_for(options)
     report.checked = check(report, look, options)
+    look.close()
+    if options.log:
+        series.add(options.log, report)
     if options.html:
-        write(options.html, as_html(report))
-    print(as_json(report) if options.json else text.as_text(report), end="\n" if options.json else "", flush=True)
+        write(options.html, as_html(report, series.read(options.log) if options.log else []))
+    if options.every and not options.json:
+        print(series.line(report), flush=True)
+    else:
+        print(as_json(report) if options.json else text.as_text(report), end="\n" if options.json else "", flush=True)
+    return report
+
+
+def measure_on(options: argparse.Namespace) -> None:
+    """Measures once, or again and again until it is interrupted. Once the first time went well a process that ended
+    stops nobody."""
+    begun = time.monotonic()
+    measure(options)
+    while options.every:
+        begun += options.every
+        time.sleep(max(begun - time.monotonic(), 0))
+        try:
+            measure(options)
+        except Trouble as trouble:
+            if trouble.status == NOT_WRITTEN:
+                raise
+            say(str(trouble))
 
 
 def run(words: list[str]) -> int:
     """The whole program; the status."""
+    options = None
     try:
-        measure(parsed(words))
+        options = parsed(words)
+        for path in options.html, options.script, options.log:
+            can_be_written(path)
+        if not options.hurry:
+            give_way()
+        measure_on(options)
         return MEASURED
     except Trouble as trouble:
         say(str(trouble))
         return trouble.status
     except KeyboardInterrupt:
+        if options and options.every:
+            return MEASURED
         say("interrupted; nothing was changed")
         return INTERRUPTED
     except BrokenPipeError:
         os.dup2(os.open(os.devnull, os.O_WRONLY), sys.stdout.fileno())
         return NOT_WRITTEN
     except OSError as error:
-        say(f"{error.filename or 'standard output'}: {error.strerror}")
+        say(f"{error.filename or 'standard output'}: {error.strerror or error}")
         return NOT_WRITTEN

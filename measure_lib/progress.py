@@ -4,48 +4,54 @@ import sys
 import time
 
 from .units import MEGABYTE, PAGE, as_time
+from .workers import Shared
 
 BAR = 20
 NAME = 14
 # the least time between two bars, in seconds
-PAUSE = 0.1
+PAUSE = 0.2
 
 
 class Progress:
-    """Counts the pages that were read, and shows it where standard error is a terminal."""
+    """Counts the pages that the workers have read of so many, and shows it where standard error is a terminal. So
+    many times all of them are read, with a pause between."""
 
     def __init__(self, pages: int):
         self.pages = max(pages, 1)
-        self.done = 0
-        self.begun = time.monotonic()
-        self.waited = 0.0
-        self.shown = 0.0
+        self.begun = self.shown = time.monotonic()
         self.is_shown = sys.stderr.isatty()
+        self.shared: Shared | None = None
+        self.names: list[str] = []
 
-    def advance(self, pages: int, name: str) -> None:
+    def follow(self, shared: Shared, names: list[str]) -> None:
+        """What is shown are the counters of these workers, and these names."""
+        self.shared, self.names = shared, names
+
+    def advance(self, _pages: int, _name: str) -> None:
         """So many pages more were read, of the process of a name."""
-        self.done += pages
+
+    def look(self) -> None:
+        """Draws the bar, unless it was drawn just now."""
         now = time.monotonic()
-        if self.is_shown and now - self.shown > PAUSE:
+        if self.is_shown and self.shared and now - self.shown > PAUSE:
             self.shown = now
-            self.draw(self.line(name, now - self.begun - self.waited))
+            name = self.names[self.shared.owner()] if self.names else ""
+            self.draw("ends what it is at .." if self.shared.is_stopped() else
+                      self.line(self.shared.pages(), name, now - self.begun))
 
-    def line(self, name: str, seconds: float) -> str:
+    def line(self, done: int, name: str, seconds: float) -> str:
         """The bar, and beside it the numbers."""
-        part = min(self.done / self.pages, 1)
-        speed = self.done * PAGE / MEGABYTE / max(seconds, 0.001)
-        left = as_time(seconds * (1 - part) / part)
-        return (f"[{'#' * round(BAR * part):.<{BAR}}] {100 * part:3.0f}%  {self.done * PAGE / MEGABYTE:,.0f} MB"
-                f"  {speed:,.0f} MB/s  {left} left  {name[:NAME]}")
+        part = min(done / self.pages, 1)
+        speed = done * PAGE / MEGABYTE / max(seconds, 0.001)
+        left = f"{as_time(seconds * (1 - part) / part)} left" if part else ""
+        return (f"[{'#' * round(BAR * part):.<{BAR}}] {100 * part:3.0f}%  {done * PAGE / MEGABYTE:,.0f} MB"
+                f"  {speed:,.0f} MB/s  {left}  {name[:NAME]}")
 
-    def wait(self, seconds: float) -> None:
-        """Waits between two looks, and shows how long still."""
+    def wait(self, seconds: float, is_stopped=lambda: False) -> None:
+        """Waits between two looks."""
         end = time.monotonic() + seconds
-        while (left := end - time.monotonic()) > 0:
-            if self.is_shown:
-                self.draw(f"the second look begins in {as_time(left)}")
+        while (left := end - time.monotonic()) > 0 and not is_stopped():
             time.sleep(min(left, 0.5))
-        self.waited += seconds
 
     def draw(self, line: str) -> None:
         """Writes a line over the last one."""

@@ -1,16 +1,16 @@
-"""All that is told, as one value; also as JSON."""
+"""All that is told, as one value."""
 
 import dataclasses
-import json
 
 from .areas import LeftOut
 from .census import Census, Heavy, census_of
+from .figures import Figure, Figures, figures_of
 from .kernel import Kernel
 from .look import Look, Seen
-from .savings import Saving, Setting, grid, saving
-from .units import MEGABYTE, PAGE, megabytes, percent
+from .savings import Setting, grid, on_nodes
+from .units import PAGE, megabytes
 
-# how many processes the table tells one by one, and the matrix
+# how many processes the table tells one by one unless more are asked for, and the matrix
 MOST_ROWS, MOST_IN_MATRIX = 12, 8
 # the kernel's own settings where nobody changed them
 DEFAULTS = Setting(256, 0, 1)
@@ -18,20 +18,23 @@ DEFAULTS = Setting(256, 0, 1)
 
 @dataclasses.dataclass
 class Effort:
-    """What it took: seconds of the clock and of a processor, bytes of digests for each page read, and the
-    seconds between two looks."""
+    """What it took: seconds of the clock and of all processors, workers, bytes of digests for each page read, and
+    the seconds between two looks."""
     seconds: float
     processor: float
+    workers: int
     digest_bytes: float
     again: float | None
 
 
 @dataclasses.dataclass
 class Checked:
-    """The sample that the proved book counted: its pages and settings; or why there was none."""
+    """The excerpt that the proved book counted: its pages and settings, those that two further limits were tried
+    with, and the contents told apart; or why there was none."""
     pages: int = 0
     apart: int = 0
     settings: int = 0
+    large: int = 0
     why_not: str = ""
 
 
@@ -43,49 +46,73 @@ class Report:
     seen: list[Seen]
     refused: int
     left_out: LeftOut
-    forked: int
     nodes_from: str
-    census: Census
-    savings: list[Saving]
+    are_frames_told: bool
+    are_zeroes_told: bool
+    figures: Figures
+    by_node: dict[int, int]
+    split: int
     shown: list[int]
     effort: Effort
     checked: Checked
+    rows: int = MOST_ROWS
 
     @property
-    def pages(self) -> int:
-        """All pages that were counted: each frame once."""
-        return self.census.pages()
+    def census(self) -> Census:
+        """The census that the tables are from."""
+        return self.figures.census
+
+    @property
+    def pages(self) -> float:
+        """All pages, as many as there would be without KSM; each frame of a fork once."""
+        return self.figures.pages
 
     @property
     def ended(self) -> list[Seen]:
         """The processes that ended while they were read."""
         return [seen for seen in self.seen if seen.has_ended]
 
-    def by_size(self) -> list[tuple[int, Seen]]:
-        """The processes that were read, those with most memory first, by their numbers."""
-        alive = [(owner, seen) for owner, seen in enumerate(self.seen) if not seen.has_ended]
-        return sorted(alive, key=lambda pair: -pair[1].pages)
+    @property
+    def already(self) -> float:
+        """The pages that KSM saves among these processes by now."""
+        return self.census.merged_pages - self.census.merged_frames + self.census.zeroed
 
-    def answer(self) -> Saving:
+    def alive(self) -> list[tuple[int, Seen]]:
+        """The processes that were read, by their numbers."""
+        return [(owner, seen) for owner, seen in enumerate(self.seen) if not seen.has_ended]
+
+    def by_size(self) -> list[tuple[int, Seen]]:
+        """The processes that were read, those with most memory first."""
+        return sorted(self.alive(), key=lambda pair: -pair[1].pages)
+
+    def answer(self) -> Figure:
         """What the machine's own setting saves."""
         now = setting_of(self.kernel)
-        return next(told for told in self.savings if told.setting == now)
+        return next(figure for figure in self.figures.settings if figure.told.setting == now)
 
-    def best(self) -> Saving:
+    def best(self) -> Figure:
         """What the best setting of the grid saves, after its cost; of equals the first."""
-        return max(self.savings, key=lambda told: told.saved * PAGE - told.cost)
+        return max(self.figures.settings, key=lambda of: of.told.saved * PAGE - of.told.cost)
+
+    def recommended(self) -> Figure:
+        """The setting that is worth to be switched on: the best one, if it saves over 1 MB and 1% more than the
+        machine's own."""
+        now, best = self.answer(), self.best()
+        is_better = best.told.saved > 1.01 * now.told.saved and megabytes(best.told.saved - now.told.saved) > 1
+        return best if is_better else now
 
     def total(self, name: str) -> int:
-        """A number of pages of each process, added up."""
-        return sum(getattr(seen, name) for seen in self.seen if not seen.has_ended)
-
-    def total_marked(self) -> int:
-        """The pages of all processes that are marked for KSM."""
-        return sum(seen.space.marked for _, seen in self.by_size())
+        """A count of each process, added up."""
+        return sum(getattr(seen.counts, name) for _, seen in self.alive())
 
     def total_huge(self) -> int:
         """The pages of all processes that are parts of huge pages."""
-        return sum(seen.space.huge for _, seen in self.by_size())
+        return sum(seen.space.huge for _, seen in self.alive())
+
+    def maybe_pinned(self) -> int:
+        """The pages that are pinned, of which it is not known which they are: those would not merge."""
+        return sum(max(seen.pinned.pages - seen.counts.pinned, 0) for _, seen in self.alive()
+                   if not seen.pinned.is_whole)
 
     def heaviest(self) -> list[Heavy]:
         """The heaviest contents, heaviest first."""
@@ -94,7 +121,7 @@ class Report:
     def seconds_to_settle(self) -> float | None:
         """How long ksmd takes for two passes, as it is set; None where that is not known."""
         visits, pause = self.kernel.ksm.get("pages_to_scan"), self.kernel.ksm.get("sleep_millisecs")
-        return 2 * self.pages * (pause / 1000) / visits if visits and pause else None
+        return 2 * self.answer().told.places * (pause / 1000) / visits if visits and pause else None
 
 
 def setting_of(kernel: Kernel) -> Setting:
@@ -116,58 +143,24 @@ def nodes_from(look: Look) -> str:
     """Where the nodes of the pages are from."""
     if len(look.nodes) == 1:
         return "the machine has one node"
-    if look.are_nodes_told:
+    if look.are_nodes_told():
         return "numa_maps and move_pages"
     return "not told for each page: those are counted on the first node"
 
 
-def report_of(look: Look, kernel: Kernel, refused: int, effort: Effort) -> Report:
-    """What was seen, told; all but the check of the sample."""
-    forked = look.count_frames_once()
+def report_of(look: Look, kernel: Kernel, refused: int, effort: Effort, rows: int = MOST_ROWS) -> Report:
+    """What was seen, told; all but the check by the proved book."""
     alive = [owner for owner, seen in enumerate(look.seen) if not seen.has_ended]
     shown = sorted(alive, key=lambda owner: -look.seen[owner].pages)[:MOST_IN_MATRIX]
-    census = census_of(look.piles, look.reader.zeroes, shown)
+    now = setting_of(kernel)
+    census = census_of(look, shown, now.max_page_sharing)
+    figures = figures_of(look, census, told_settings(kernel), kernel)
     left_out = LeftOut()
     for owner in alive:
         left_out.add(look.seen[owner].space.left_out)
-    savings = [saving(setting, census) for setting in told_settings(kernel)]
-    return Report(kernel, look.only_marked, look.seen, refused, left_out, forked, nodes_from(look), census, savings,
-                  shown, effort, Checked())
-
-
-def setting_as_dict(told: Saving, pages: int) -> dict[str, object]:
-    """A setting, what the kernel's counters come to with it, and what that means."""
-    saved, cost = megabytes(told.saved), told.cost / MEGABYTE
-    return {**dataclasses.asdict(told.setting), "saved_mb": saved, "saved_percent": percent(told.saved, pages),
-            "cost_mb": cost, "net_mb": saved - cost, "pages_shared": told.pages_shared,
-            "pages_sharing": told.pages_sharing, "pages_unshared": told.pages_unshared,
-            "ksm_zero_pages": told.ksm_zero_pages}
-
-
-def process_as_dict(report: Report, owner: int, seen: Seen) -> dict[str, object]:
-    """A process, in pages of its memory."""
-    return {"pid": seen.process.pid, "name": seen.process.name, "pages": seen.pages, "marked_pages": seen.space.marked,
-            "huge_pages": seen.space.huge, "pages_with_copies": report.census.repeated[owner], "grown": seen.grown,
-            "changed": seen.changed, "gone": seen.gone, "unread": seen.unread, "has_ended": seen.has_ended}
-
-
-def heavy_as_dict(report: Report, heavy: Heavy) -> dict[str, object]:
-    """One of the heaviest contents. Of what it is no more is told than whether it is zeroes."""
-    return {"copies": heavy.copies, "mb": megabytes(heavy.copies), "is_zeroes": heavy.is_zero,
-            "pids": sorted({report.seen[owner].process.pid for owner, _ in heavy.owners})}
-
-
-def as_json(report: Report) -> str:
-    """The report as JSON. Sizes are pages, or megabytes where the name says mb."""
-    return json.dumps({
-        "kernel": dataclasses.asdict(report.kernel), "page_bytes": PAGE, "only_mergeable": report.only_marked,
-        "pages": report.pages, "memory_mb": megabytes(report.pages), "nodes_from": report.nodes_from,
-        "settings": [setting_as_dict(told, report.pages) for told in report.savings],
-        "processes": [process_as_dict(report, owner, seen) for owner, seen in enumerate(report.seen)],
-        "not_allowed": report.refused,
-        "in_common": {"pids": [report.seen[owner].process.pid for owner in report.shown],
-                      "mb": [[megabytes(pages) for pages in row] for row in report.census.matrix()]},
-        "heaviest": [heavy_as_dict(report, heavy) for heavy in report.heaviest()],
-        "left_out_pages": {**dataclasses.asdict(report.left_out), "mapped_again_after_fork": report.forked},
-        "effort": dataclasses.asdict(report.effort), "checked": dataclasses.asdict(report.checked),
-    }, indent=2)
+    for owner in alive:
+        look.seen[owner].pages += look.zeroed.get(owner, 0) - round(figures.census.again[owner])
+    by_node = on_nodes(figures.census, now.max_page_sharing) if len(kernel.nodes) > 1 else {}
+    return Report(kernel, look.only_marked, look.seen, refused, left_out, nodes_from(look), look.frames.are_told,
+                  look.are_zeroes_told(), figures, by_node, look.zeroes("split").total(), shown, effort, Checked(),
+                  rows)

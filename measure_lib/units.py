@@ -16,9 +16,14 @@ def percent(part: float, whole: float) -> float:
     return 100 * part / whole if whole else 0.0
 
 
+def one_decimal(number: float) -> str:
+    """A number with one decimal, such as `1,234.5`; never a zero with a sign."""
+    return f"{round(number, 1) + 0.0:,.1f}"
+
+
 def as_megabytes(pages: float) -> str:
-    """Pages as megabytes with one decimal, such as `1,234.5`."""
-    return f"{megabytes(pages):,.1f}"
+    """Pages as megabytes with one decimal."""
+    return one_decimal(megabytes(pages))
 
 
 def as_time(seconds: float) -> str:

@@ -1,6 +1,5 @@
 """What `measure` does where something comes between, each as a function that fails by an assertion."""
 
-import ctypes
 import json
 import mmap
 import os
@@ -11,6 +10,7 @@ import signal
 import subprocess
 import sys
 import tempfile
+import time
 from collections.abc import Callable
 
 import holder
@@ -18,26 +18,25 @@ from mixes import Page
 
 TOP = os.path.dirname(os.path.dirname(os.path.dirname(os.path.abspath(__file__))))
 sys.path.insert(0, TOP)
-from measure_lib import processes, program, sample, savings  # pylint: disable=wrong-import-position
-from measure_lib.census import census_of  # pylint: disable=wrong-import-position
+from measure_lib import choosing, excerpt, processes, program, savings, units  # pylint: disable=wrong-import-position
+from measure_lib.census import Census, Content, census_of  # pylint: disable=wrong-import-position
 from measure_lib.look import Look  # pylint: disable=wrong-import-position
-from measure_lib.piles import Piles  # pylint: disable=wrong-import-position
-from measure_lib.trouble import NOT_AS_PROVED, Trouble  # pylint: disable=wrong-import-position
+from measure_lib.trouble import NOT_AS_PROVED, Ended, Trouble  # pylint: disable=wrong-import-position
 
 MEASURE = os.path.join(TOP, "measure")
 NOBODY = 65534
-ZEROES = bytes(16)
 WIDTH = 80
 PAGE = mmap.PAGESIZE
 
 
 def measure(*words: str, **more) -> subprocess.CompletedProcess[str]:
     """A run of the program."""
-    return subprocess.run([MEASURE, *words], capture_output=True, text=True, check=False, **more)
+    return subprocess.run([MEASURE, "--hurry", *words], capture_output=True, text=True, check=False, **more)
 
 
 class Meanwhile:
     """In the place of the progress bar: does something once the first pages were read."""
+    is_shown = False
 
     def __init__(self, deed: Callable[[], None]):
         self.deeds = [deed]
@@ -82,7 +81,7 @@ def end(child: int) -> None:
 
 def chosen(*children: int) -> list[processes.Process]:
     """The children as processes to be read."""
-    return processes.by_number(list(children))
+    return choosing.by_number(list(children))
 
 
 def one_that_ends() -> str:
@@ -93,7 +92,7 @@ def one_that_ends() -> str:
     end(stays)
     first, second = look.seen
     assert first.has_ended and not first.pages and second.pages == 90 and not second.has_ended, look.seen
-    assert sum(sum(look.piles.records(number).values()) for number in range(256)) == 90
+    assert census_of(look, [], 256).pages() == 90
     return "a process that ends while it is read is left out, and the other's 90 pages are counted"
 
 
@@ -130,7 +129,7 @@ def pages_that_change() -> str:
     look = Look(chosen(child), only_marked=True)
     look.twice(0.1, Waiting(lambda: has_done(child)))
     end(child)
-    assert (look.seen[0].changed, look.seen[0].pages) == (40, 460), look.seen
+    assert (look.seen[0].counts.changed, look.seen[0].pages) == (40, 460), look.seen
     return "40 pages that change between two looks are not counted, 460 are"
 
 
@@ -164,10 +163,10 @@ def frames_of_a_fork() -> str:
     child = int(os.read(ready, 20))
     look = Look(chosen(parent, child), only_marked=True)
     look.once(Meanwhile(lambda: None))
-    fewer = look.count_frames_once()
+    census = census_of(look, [], 256)
     os.kill(child, signal.SIGKILL)
     end(parent)
-    assert fewer == 301 and sum(seen.pages for seen in look.seen) == 301, (fewer, look.seen)
+    assert (census.mapped_again(), census.pages()) == (301, 301), (census.mapped_again(), census.pages())
     return "301 frames of a parent and its child are counted once, 199 pages of the kernel's own zeroes not at all"
 
 
@@ -242,43 +241,136 @@ def nothing_of_contents() -> str:
     return "no output has a content or a digest; text and help fit 80 columns; the page needs nothing else"
 
 
-def piles_on_nodes(nodes: int, seed: int) -> Piles:
-    """Contents of chance on so many nodes, some of them heavy."""
-    chance, piles = random.Random(seed), Piles()
-    for content in range(400):
-        digest = chance.randbytes(16) if content else ZEROES
-        copies = chance.choice([1, 1, 2, 3, 5, 20, 31, 200, 700]) if content else 100
-        for _ in range(copies):
-            piles.add(chance.randrange(5), 0, b"1", [digest], bytes([chance.randrange(nodes)]))
-    return piles
+def census_on_nodes(nodes: int, seed: int) -> tuple[Census, list[excerpt.Owners]]:
+    """Contents of chance on so many nodes, some of them heavy, and the light ones among them."""
+    chance, census, light = random.Random(seed), Census([]), []
+    for number in range(400):
+        content = Content()
+        for _ in range(chance.choice([1, 1, 2, 3, 5, 20, 31, 200, 700]) if number else 100):
+            content.add(chance.randrange(5), chance.randrange(nodes), 1)
+        census.add(content, is_zero=number == 0)
+        if number and sum(content.owners.values()) <= excerpt.HEAVY:
+            light.append(content.owners)
+    return census, light
 
 
 def book_counts(nodes: int) -> int:
-    """Has the book count a sample of contents of chance on so many nodes. How many settings there were."""
-    piles = piles_on_nodes(nodes, nodes)
-    taken = sample.sample_of(piles, ZEROES, census_of(piles, ZEROES, []), dict.fromkeys(range(nodes), 1))
-    assert taken.apart == sample.APART and taken.pages() > 60 * nodes, taken
-    return sample.check(taken)
+    """Has the book count an excerpt of contents of chance on so many nodes. How many settings there were."""
+    census, light = census_on_nodes(nodes, nodes)
+    taken = excerpt.taken_of(census, list(range(nodes)), iter(light))
+    assert taken.apart == excerpt.APART and taken.pages() > 60 * nodes, taken
+    return excerpt.check(taken).settings
 
 
-def samples_on_nodes() -> str:
-    """Samples on one to four nodes are counted by the book as by the formulas, and a formula that is wrong is
-    found."""
-    if not sample.is_built():
-        return "samples on nodes: not tried, since ksmbook is not built"
+def excerpts_on_nodes() -> str:
+    """Excerpts on one to four nodes are counted by the book as by the formulas; a formula that is wrong is found, also
+    one that is wrong for large contents alone."""
+    if not excerpt.is_built():
+        return "excerpts on nodes: not tried, since ksmbook is not built"
     settings = [book_counts(nodes) for nodes in range(1, 5)]
     right = savings.Saving.add
-    savings.Saving.add = lambda told, copies, contents: right(told, copies + (copies == 3), contents)
+    for wrong in (lambda copies: copies == 3), (lambda copies: copies > 1024):
+        savings.Saving.add = lambda told, copies, *more, of=wrong: right(told, copies + of(copies), *more)
+        try:
+            book_counts(2)
+            raise AssertionError("a wrong formula was not found")
+        except Trouble as trouble:
+            assert trouble.status == NOT_AS_PROVED
+        finally:
+            savings.Saving.add = right
+    return (f"excerpts on one to four nodes are as the book counts them, with {settings} settings, "
+            "and two wrong formulas are found, one of them for large contents alone")
+
+
+def is_of_kernel(pid: int) -> bool:
+    """Tells whether a process is there and a thread of the kernel."""
     try:
-        book_counts(2)
-        raise AssertionError("a wrong formula was not found")
-    except Trouble as trouble:
-        assert trouble.status == NOT_AS_PROVED
+        return processes.found(pid).is_of_kernel
+    except Ended:
+        return False
+
+
+def chosen_by_names() -> str:
+    """Processes are chosen by the name of a virtual machine, by user and by control group; no thread of the kernel is
+    ever among them, and none of these choices takes what does not fit."""
+    guest = subprocess.Popen(["qemu-system-x86_64", "-c", "import time; print(1, flush=True); time.sleep(99)", "-name",
+                              "guest=web-1,debug-threads=on"], executable=sys.executable, stdout=subprocess.PIPE)
+    guest.stdout.readline()
+    known = processes.found(guest.pid)
+    by = [choosing.Choice(domains=["web-1"]), choosing.Choice(users=[str(os.getuid())]),
+          choosing.Choice(cgroups=[known.cgroup]), choosing.Choice(names=["web-1"])]
+    found = [[process.pid for process in choosing.choose(choice)[0]] for choice in by]
+    threads = {pid for pid in map(int, filter(str.isdecimal, os.listdir("/proc"))) if is_of_kernel(pid)}
+    try:
+        assert found[0] == [guest.pid] == found[3] and all(guest.pid in pids for pids in found), found
+        assert not threads.intersection(found[1]) and (threads or not os.path.exists("/proc/2")), threads
+        for choice in choosing.Choice(domains=["web"]), choosing.Choice(slices=["no such"]), choosing.Choice(
+                cgroups=[known.cgroup.rstrip("/") + "/no such"]):
+            try:
+                raise AssertionError(choosing.choose(choice))
+            except Trouble:
+                pass
     finally:
-        savings.Saving.add = right
-    return (f"samples on one to four nodes are as the book counts them, with {settings} settings, "
-            "and a wrong formula is found")
+        guest.kill()
+        guest.wait()
+    return "processes are chosen by virtual machine, user and control group, and none is a thread of the kernel"
 
 
-ALL = [samples_on_nodes, one_that_ends, one_that_ended_before, one_that_grows, pages_that_change, frames_of_a_fork,
+def pinned_pages() -> str:
+    """Pages that io_uring registered are not counted, and are told apart."""
+    child = holding([Page(1 + i % 50) for i in range(500)], lambda held: holder.pin(held, 120) and None)
+    has_done(child)
+    told = json.loads(measure("--mergeable", "--no-check", "--json", str(child)).stdout)
+    end(child)
+    assert (told["pages"], told["left_out_pages"]["pinned"]) == (380, 120), told["left_out_pages"]
+    assert told["processes"][0]["pinned_by"] == ["io_uring"] and not told["may_be_pinned_pages"], told["processes"]
+    return "120 pages that io_uring registered are told apart, 380 are counted"
+
+
+def interrupted() -> str:
+    """What was read before an interruption tells bounds, within which the whole lies."""
+    child = holding([Page(1 + i // 2) for i in range(30000)] + [Page(10 ** 6 + i) for i in range(30000)])
+    run = subprocess.Popen([MEASURE, "--hurry", "--mergeable", "--no-check", "--json", "--rate", "60", str(child)],
+                           stdout=subprocess.PIPE, stderr=subprocess.PIPE, text=True)
+    time.sleep(2.5)
+    run.send_signal(signal.SIGINT)
+    told = json.loads(run.communicate()[0])
+    end(child)
+    assert run.returncode == 0 and told["known"]["kind"] == "interrupted", told["known"]
+    assert 5 < told["known"]["read_percent"] < 95, told["known"]
+    whole = 15000 * PAGE / (1 << 20)
+    assert all(row["saved_from_mb"] <= whole <= row["saved_to_mb"] for row in told["settings"]), told["settings"]
+    return f"interrupted when {told['known']['read_percent']:.0f}% was read, the whole lies within the bounds"
+
+
+def over_time() -> str:
+    """A series adds a line each time, draws them, and ends well when it is interrupted."""
+    child = holding([Page(1 + i % 50) for i in range(500)])
+    with tempfile.TemporaryDirectory() as folder:
+        log, page = (os.path.join(folder, name) for name in ("log", "page.html"))
+        words = ["--hurry", "--mergeable", "--no-check", "--every", "0.2", "--log", log, "--html", page, str(child)]
+        run = subprocess.Popen([MEASURE, *words], stdout=subprocess.PIPE, stderr=subprocess.PIPE, text=True)
+        lines = [run.stdout.readline() for _ in range(3)]
+        run.send_signal(signal.SIGINT)
+        run.communicate()
+        with open(log, encoding="utf-8") as file:
+            told = [json.loads(line) for line in file]
+        with open(page, encoding="utf-8") as file:
+            drawn = file.read()
+    end(child)
+    assert run.returncode == 0 and len(told) >= 3 and all("MB" in line for line in lines), (run.returncode, told)
+    assert all(of["saved_mb"] == round(450 * PAGE / (1 << 20), 2) for of in told), told
+    assert drawn.count("<polyline") == 4 and not re.search(r"(src|href)=|url\(|https?:|<script", drawn)
+    return f"a series of {len(told)} measurements has a line each, and a picture"
+
+
+def how_numbers_are_written() -> str:
+    """No number is written as a zero with a sign."""
+    written = [units.one_decimal(number) for number in (-0.04, 0.0, -0.0, 1234.56, -2.04)]
+    assert written == ["0.0", "0.0", "0.0", "1,234.6", "-2.0"], written
+    return "no zero has a sign"
+
+
+ALL = [chosen_by_names, pinned_pages, interrupted, over_time, how_numbers_are_written, excerpts_on_nodes,
+       one_that_ends, one_that_ended_before, one_that_grows, pages_that_change, frames_of_a_fork,
        without_permission, statuses, nothing_of_contents]

@@ -22,7 +22,7 @@ MOST_SECONDS = 3600
 RANDOM = ["-cpu", "qemu64,+rdrand"]
 # prints the file of each module that the programs of the machine load, with some that Python loads when it needs them
 LOADED = ("import sys; sys.path[:0] = [sys.argv[1], sys.argv[2]]; "
-          "import encodings.ascii, gettext, locale, shutil, guest, measure_lib.program; "
+          "import encodings.ascii, gettext, locale, shutil, pickle, guest, measure_lib.program; "
           "print(*(m.__file__ for m in list(sys.modules.values()) if getattr(m, '__file__', None)), sep='\\n')")
 INIT = "#!{python} -S\nimport sys\nsys.path[:0] = ['/mixes', '/']\nimport guest\nguest.main()\n"
 
@@ -52,8 +52,8 @@ def put(root: str, path: str, name: str | None = None) -> None:
     shutil.copy(os.path.realpath(path), place)
 
 
-def fill(root: str) -> None:
-    """Puts all that the machine has into its root folder."""
+def fill(root: str, are_few: bool, only: list[str]) -> None:
+    """Puts all that the machine has into its root folder, and what it is to try."""
     python = os.path.realpath(sys.executable)
     files = modules()
     for path in [python, *files, *libraries([python, *(path for path in files if path.endswith(".so"))])]:
@@ -67,19 +67,21 @@ def fill(root: str) -> None:
     put(root, os.path.join(TOP, "measure"), "/measure")
     for name in "proc", "sys", "dev", "tmp":
         os.makedirs(os.path.join(root, name))
+    with open(os.path.join(root, "only"), "w", encoding="utf-8") as file:
+        file.write("\n".join(["few" if are_few else "all", *only]))
     init = os.path.join(root, "init")
     with open(init, "w", encoding="ascii") as file:
         file.write(INIT.format(python=python))
     os.chmod(init, 0o755)
 
 
-def run(line: str) -> list[str]:
+def run(line: str, are_few: bool, only: list[str]) -> list[str]:
     """Boots a kernel, by the line of Debian's packages or by its path, and tells the lines that the machine wrote."""
     machine.check_tools()
-    kernel = line if os.path.isfile(line) else machine.fetch(line)
+    kernel = machine.kernel(line)
     with tempfile.TemporaryDirectory() as folder:
         root = os.path.join(folder, "root")
-        fill(root)
+        fill(root, are_few, only)
         image, log, replies = (os.path.join(folder, name) for name in ("initrd", "log", "replies"))
         machine.pack(root, image)
         words = ["timeout", "--foreground", str(MOST_SECONDS), "qemu-system-x86_64", *machine.MACHINE, *RANDOM,

@@ -10,8 +10,9 @@ from mixes import READ, Mix, Page
 
 PAGE = mmap.PAGESIZE
 BIND = 2
-# the number of the system call set_mempolicy on x86-64
-SET_MEMPOLICY = 238
+# the numbers of system calls on x86-64
+SET_MEMPOLICY, IO_URING_SETUP, IO_URING_REGISTER = 238, 425, 427
+HUGE = 512
 
 
 def bytes_of(content: int) -> bytes:
@@ -25,18 +26,51 @@ def bind(node: int) -> None:
         raise OSError("no such node")
 
 
-def stretch(pages: list[Page], is_bound: bool) -> mmap.mmap:
-    """Anonymous pages, written."""
-    held = mmap.mmap(-1, len(pages) * PAGE, flags=mmap.MAP_PRIVATE | mmap.MAP_ANONYMOUS)
+def area(pages: int, is_huge: bool = False) -> mmap.mmap:
+    """An area for so many pages, marked for KSM, with or without huge pages."""
+    held = mmap.mmap(-1, pages * PAGE, flags=mmap.MAP_PRIVATE | mmap.MAP_ANONYMOUS)
     held.madvise(mmap.MADV_MERGEABLE)
-    held.madvise(mmap.MADV_NOHUGEPAGE)
+    held.madvise(mmap.MADV_HUGEPAGE if is_huge else mmap.MADV_NOHUGEPAGE)
+    return held
+
+
+def fill(held: mmap.mmap, pages: list[Page], is_bound: bool, first: int = 0) -> None:
+    """Writes pages to an area, from one of its pages on."""
     for node in sorted({page.node for page in pages}):
         if is_bound:
             bind(node)
-        for at, page in enumerate(pages):
+        for at, page in enumerate(pages, first):
             if page.node == node:
                 held[at * PAGE:(at + 1) * PAGE] = bytes_of(page.content)
+
+
+def stretch(pages: list[Page], is_bound: bool) -> mmap.mmap:
+    """Anonymous pages, written."""
+    held = area(len(pages))
+    fill(held, pages, is_bound)
     return held
+
+
+def begin_of(held: mmap.mmap) -> int:
+    """The address of an area."""
+    return ctypes.addressof(ctypes.c_char.from_buffer(held))
+
+
+def huge(pages: list[Page], is_bound: bool) -> mmap.mmap:
+    """Pages in huge ones, written."""
+    held = area(len(pages) + HUGE, is_huge=True)
+    fill(held, pages, is_bound, -(begin_of(held) // PAGE) % HUGE)
+    return held
+
+
+def pin(held: mmap.mmap, pages: int) -> int:
+    """Has io_uring register the first pages of an area. The descriptor that has to stay open."""
+    libc = ctypes.CDLL(None, use_errno=True)
+    ring = libc.syscall(IO_URING_SETUP, 1, ctypes.create_string_buffer(120))
+    buffer = (ctypes.c_uint64 * 2)(begin_of(held), pages * PAGE)
+    if ring < 0 or libc.syscall(IO_URING_REGISTER, ring, 0, buffer, 1) < 0:
+        raise OSError(ctypes.get_errno(), "io_uring registers no buffer")
+    return ring
 
 
 def mapped(pages: list[Page]) -> mmap.mmap:
@@ -53,23 +87,30 @@ def mapped(pages: list[Page]) -> mmap.mmap:
     return held
 
 
-def hold(pages: list[Page], is_bound: bool) -> list[mmap.mmap]:
+def hold(mix: Mix, pages: list[Page], is_bound: bool) -> list[mmap.mmap]:
     """All pages of a process."""
     anonymous, files = [page for page in pages if not page.of_file], [page for page in pages if page.of_file]
-    return [make for make in ([stretch(anonymous, is_bound)] + ([mapped(files)] if files else []))]
+    held = [(huge if mix.is_huge else stretch)(anonymous, is_bound)] + ([mapped(files)] if files else [])
+    if mix.pinned:
+        pin(held[0], mix.pinned)
+    return held
 
 
-def start(pages: list[Page], is_bound: bool) -> tuple[int, list[int]]:
+def wait_for_ever(wire: int, words: list[int]) -> None:
+    """Tells that all is held, and waits until it is killed."""
+    os.write(wire, " ".join(map(str, words)).encode() + b"\n")
+    while True:
+        signal.pause()
+
+
+def start(mix: Mix, pages: list[Page], is_bound: bool) -> tuple[int, list[int]]:
     """A child that holds pages until it is killed: its number, and the addresses that they begin at."""
     ready, wire = os.pipe()
     child = os.fork()
     if not child:
         os.close(ready)
-        held = hold(pages, is_bound)
-        begins = [ctypes.addressof(ctypes.c_char.from_buffer(part)) for part in held]
-        os.write(wire, " ".join(map(str, begins)).encode() + b"\n")
-        while True:
-            signal.pause()
+        held = hold(mix, pages, is_bound)
+        wait_for_ever(wire, [begin_of(part) for part in held])
     os.close(wire)
     with open(ready, encoding="ascii") as said:
         begins = [int(word) for word in said.readline().split()]
@@ -78,9 +119,34 @@ def start(pages: list[Page], is_bound: bool) -> tuple[int, list[int]]:
     return child, begins
 
 
+def start_forked(mix: Mix, is_bound: bool) -> dict[int, list[int]]:
+    """A child that writes the common pages, and forks the others; each writes its own then, at one address."""
+    ready, wire = os.pipe()
+    first = os.fork()
+    if not first:
+        os.close(ready)
+        common = area(len(mix.common))
+        fill(common, list(mix.common), is_bound)
+        own = area(max(map(len, mix.processes)))
+        for pages in mix.processes[1:]:
+            if not os.fork():
+                fill(own, pages, is_bound)
+                wait_for_ever(wire, [os.getpid(), begin_of(common), begin_of(own)])
+        fill(own, mix.processes[0], is_bound)
+        wait_for_ever(wire, [os.getpid(), begin_of(common), begin_of(own)])
+    os.close(wire)
+    with open(ready, encoding="ascii") as said:
+        lines = [[int(word) for word in said.readline().split()] for _ in mix.processes]
+    if not all(lines):
+        raise OSError("a process could not hold its pages")
+    return {pid: begins for pid, *begins in sorted(lines)}
+
+
 def start_all(mix: Mix, is_bound: bool) -> dict[int, list[int]]:
     """A child for each process of a mix."""
-    return dict(start(pages, is_bound) for pages in mix.processes)
+    if mix.common:
+        return start_forked(mix, is_bound)
+    return dict(start(mix, pages, is_bound) for pages in mix.processes)
 
 
 def end_all(children: dict[int, list[int]]) -> None:
@@ -88,7 +154,21 @@ def end_all(children: dict[int, list[int]]) -> None:
     for child in children:
         os.kill(child, signal.SIGKILL)
     for child in children:
-        os.waitpid(child, 0)
+        try:
+            os.waitpid(child, 0)
+        except ChildProcessError:
+            # it is a child's child
+            while os.path.exists(f"/proc/{child}/mem") and is_there(child):
+                signal.sigtimedwait([], 0.01)
+
+
+def is_there(pid: int) -> bool:
+    """Tells whether a process has memory still."""
+    try:
+        with open(f"/proc/{pid}/maps", "rb") as maps:
+            return bool(maps.read(1))
+    except OSError:
+        return False
 
 
 def mark_whole() -> None:

@@ -17,9 +17,14 @@ class Page:
 
 @dataclasses.dataclass(frozen=True)
 class Mix:
-    """A name, and for each process its pages."""
+    """A name, and for each process its pages. With `common` pages the first process is the others' parent, which wrote
+    these before it forked them, and all have their own pages at one address. Pages may be made of huge ones, and so
+    many of each process's first are pinned by io_uring."""
     name: str
     processes: list[list[Page]]
+    common: tuple[Page, ...] = ()
+    is_huge: bool = False
+    pinned: int = 0
 
     def pages(self) -> list[Page]:
         """All pages, process by process."""
@@ -56,6 +61,28 @@ def of_files() -> list[list[Page]]:
     return [dealt([Page(9000 + i % 40) for i in range(900)] + different(300, 20000), 1, 3)[0] + mapped,
             dealt([Page(9000 + i % 60) for i in range(900)], 1, 4)[0] + mapped]
 
+
+def of_workers(workers: int, equal: int, different_: int) -> list[list[Page]]:
+    """Workers that have some contents in common and some alone."""
+    return [[Page(7000 + i) for i in range(equal)] + different(different_, 100000 + 1000 * number)
+            for number in range(workers)]
+
+
+def of_huge_pages(zeroes: int, equal: int) -> list[Page]:
+    """Four huge pages with so many zeroes each, and so many contents that all of them have."""
+    return [page for number in range(4)
+            for page in ([Page(0)] * zeroes + [Page(8000 + i) for i in range(equal)]
+                         + different(512 - zeroes - equal, 100000 + 1000 * number))]
+
+
+# only a kernel tells what becomes of these
+HARD = [
+    Mix("60 workers at one address", of_workers(60, 60, 30), common=tuple(different(50, 90000))),
+    Mix("forks that have copies", of_workers(4, 100, 50), common=tuple(Page(7000 + i) for i in range(100))),
+    Mix("huge pages without zeroes", [of_huge_pages(0, 300), of_huge_pages(0, 200)], is_huge=True),
+    Mix("huge pages with zeroes", [of_huge_pages(100, 200), of_huge_pages(200, 100)], is_huge=True),
+    Mix("pinned pages", [[Page(7000 + i) for i in range(700)], [Page(7000 + i) for i in range(700)]], pinned=300),
+]
 
 MIXES = [
     Mix("none equal", [different(1500, 1000), different(1500, 5000)]),
