@@ -88,8 +88,11 @@ def apt(*words, **more):
     with open(os.path.join(folder, "apt.conf"), "w", encoding="ascii") as file:
         file.write(f'Dir::Etc::sourcelist "{folder}/sources.list";\nDir::Etc::sourceparts "/dev/null";\n'
                    f'Dir::State::lists "{folder}/lists";\nDir::Cache "{folder}";\nAPT::Sandbox::User "root";\n')
-    return subprocess.run(words, env=os.environ | {"APT_CONFIG": os.path.join(folder, "apt.conf")}, check=True,
-                          text=True, **more)
+    try:
+        return subprocess.run(words, env=os.environ | {"APT_CONFIG": os.path.join(folder, "apt.conf")}, check=True,
+                              text=True, **more)
+    except subprocess.CalledProcessError as error:
+        raise Trouble(f"`{' '.join(words)}` ended with status {error.returncode}") from None
 
 
 def update():
@@ -124,7 +127,7 @@ def unpacked(package, folder):
     """Downloads a package and takes it apart. The kernel in it, or nothing; the package may not be there at all."""
     try:
         apt("apt-get", "download", package, cwd=folder, stdout=subprocess.DEVNULL, stderr=subprocess.DEVNULL)
-    except subprocess.CalledProcessError:
+    except Trouble:
         return None
     archive, = (name for name in os.listdir(folder) if name.endswith(".deb"))
     root = os.path.join(folder, package)
