@@ -2,7 +2,7 @@
 use Rattle.std.proofs.Common.{◌≡◌, ℕ, suc, ◌+◌, ◌-◌, ◌<◌, ◌≤◌, Bool, true, false, true≢false, List, [], ◌∷◌, ◌++◌, length, get_or, take, drop, refl, sym, ap, ap₂, subst, ◌∙◌, inl, inr, arith, None, add-one}
 use Rattle.std.specs.Prelude.{◌==◌, cond, All, AllPairs, filter, find, flat_map, insert, nat_lt, not, remove, set, ◌≢◌}
 use Rattle.std.specs.Int.{from_bool}
-use Rattle.std.specs.Prelude.{if◌then◌else◌, map}
+use Rattle.std.specs.Prelude.{if◌then◌else◌}
 use Rattle.std.specs.Prelude.{Result, Ok, Err, OnErr}
 use Rattle.std.proofs.lemmas.Bool.{cases_Bool, cases_lt, eq-eqb, ltb-true}
 use Rattle.std.proofs.lemmas.Bool.Decides.{nat_tests}
@@ -11,7 +11,7 @@ use Rattle.std.proofs.Common.{length-set}
 use Rattle.std.proofs.lemmas.List.Concat.{flat_map-append}
 use Rattle.std.proofs.lemmas.List.Elements.{All-append, All-cons, All-drop, All-head, All-set, All-tail, All-take, filter_passes}
 use Rattle.std.proofs.lemmas.List.Kept.{AllPairs-filter, AllPairs-cons}
-use Rattle.std.proofs.lemmas.List.Sums.{count_by-le-length, sum_by-cons, sum_by-remove, sum_by-set}
+use Rattle.std.proofs.lemmas.List.Sums.{sum_by-cons, sum_by-remove}
 use Rattle.ksm_order.specs.declared.item.Item.{Item}
 use Rattle.ksm_order.specs.Listed.{AreAscending, AreBefore, AreBehind, AreParts, begins_behind, is_at, IsCounted, IsCut, IsPartOf, is_nothing, many, with_item, with_mark, without}
 use Rattle.ksm_order.proofs.Between.{count-append, mark_between, with_between, without_between}
@@ -31,17 +31,6 @@ removed_counted xs at x n one within counted is byte =
     let less : many (remove xs at) + cond (get_or xs at x).marked 1 0 ≡ many xs = sum_by-remove (λ y. cond y.marked 1 0) xs at x within in
     let same : one ≡ cond (get_or xs at x).marked 1 0 = byte ∙ byte_of x.marked ∙ ap (λ (y : Item). cond y.marked 1 0) is in
     (omega (arith, less, same, counted), omega (arith, less, same, counted))
-
--- with an item marked or not, the count changes by what that item counted and counts
-pub marked_counted : (xs : List Item) (at : ℕ) (x y : Item) (n was is : ℕ) → at < length xs → n ≡ many xs → x ≡ get_or xs at x
-    → was ≡ from_bool x.marked → is ≡ from_bool y.marked → (was ≤ n) × (n - was + is ≡ many (set xs at y)) × (many (set xs at y) ≤ length xs)
-marked_counted xs at x y n was is within counted stands byte_was byte_is =
-    let old : was ≡ cond (get_or xs at x).marked 1 0 = byte_was ∙ byte_of x.marked ∙ ap (λ (z : Item). cond z.marked 1 0) stands in
-    let new : is ≡ cond y.marked 1 0 = byte_is ∙ byte_of y.marked in
-    let less = sum_by-remove (λ (z : Item). cond z.marked 1 0) xs at x within in
-    let sum = sum_by-set (λ (z : Item). cond z.marked 1 0) xs at y x within in
-    let few = count_by-le-length (λ (z : Item). z.marked) (set xs at y) in
-    (omega (arith, less, old, counted), omega (arith, less, sum, old, new, counted), omega (arith, few, length-set xs at y))
 
 -- what holds holds on an error
 pub on_err : {T E : Type 0} (r : Result T E) (Q : Type 0) → Q → OnErr r Q

@@ -162,5 +162,5 @@ module _ {P : Type 0} (f : P → List Item) where
           ap (λ xs. slice_get xs 0) whole
           ∙ first_of run later (are.filled (at + 1) e next)
           ∙ sym (from_first key run (λ k c lt.
-              let up : key < (get_or (run ++ later) k c).key = after k c (omega (arith, lt, length-append run later)) in
-              omega (arith, up, ap (λ (x : Item). x.key) (get_or_append_left run later c k lt))))
+          let up : key < (get_or (run ++ later) k c).key = after k c (omega (arith, lt, length-append run later)) in
+          omega (arith, up, ap (λ (x : Item). x.key) (get_or_append_left run later c k lt))))

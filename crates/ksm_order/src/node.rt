@@ -1,6 +1,6 @@
 //! The heights above: parts side by side, each a tree of the height below.
 ghost use Rattle.std.specs.Prelude.{◌≡◌, ◌+◌, ◌^◌, ◌<◌, ◌≤◌, [], None, IfOk, OnErr, OnOk, find, flat_map, length};
-ghost use Rattle.ksm_order.specs.Listed.{AreParts, IsPartOf, begins_behind, is_at, is_from, key_at, many, marked, up_to};
+ghost use Rattle.ksm_order.specs.Listed.{AreParts, IsPartOf, is_at, is_from, key_at, many, marked, up_to};
 ghost use Rattle.ksm_order.specs.Listed.{with_item, with_mark, without};
 
 use crate::item::Item;

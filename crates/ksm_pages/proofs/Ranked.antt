@@ -1,5 +1,5 @@
 -- The pages in order as the items that are kept for them: what stands before a key, what comes behind it, and in between.
-use Rattle.ksm_pages.proofs.Names.{[], after_cursor, ahead_of, All, All-append, All-cons, All-filter, All-head, All-tail, ap, ap₂, arith, Bool, cases_Bool, cases_lt, comes_before, cond, count_by, drop, eq-eqb, eqb-true, false, filter, filter_all, filter_none, find, get_or, GuestPage, if◌then◌else◌, inl, inr, is_of, is_some, key_of, length, length-filter, length-map, List, map, map-append, marked, Named, named_by, nat_lt, nat_tests, None, none-some, not, Option, option_map, page_at, page_of, pairs_head, pairs_tail, passed_to, refl, same_Some, slice_get, slice_get-map, slice_get_past, Some, subst, suc, sym, take, true, true≢false, visited, with_named, without_named, zero, ℕ, ◌&&◌, ◌++◌, ◌+◌, ◌-◌, ◌<◌, ◌^◌, ◌∙◌, ◌∷◌, ◌≡◌, ◌≤◌}
+use Rattle.ksm_pages.proofs.Names.{[], ahead_of, All, All-cons, All-head, All-tail, ap, ap₂, arith, Bool, cases_Bool, cases_lt, comes_before, count_by, drop, eqb-true, false, filter, filter_all, filter_none, find, get_or, GuestPage, if◌then◌else◌, inl, inr, is_of, is_some, key_of, length, length-filter, length-map, List, map, map-append, marked, Named, named_by, nat_lt, nat_tests, None, none-some, not, Option, option_map, page_at, page_of, pairs_head, pairs_tail, passed_to, refl, same_Some, slice_get, slice_get-map, slice_get_past, Some, subst, suc, sym, take, true, true≢false, visited, with_named, without_named, zero, ℕ, ◌&&◌, ◌++◌, ◌+◌, ◌-◌, ◌<◌, ◌^◌, ◌∙◌, ◌∷◌, ◌≡◌, ◌≤◌}
 use Rattle.std.proofs.lemmas.List.{drop-map, length-drop, length-take-le, nil_from_length, take-map}
 use Rattle.std.proofs.lemmas.List.Kept.{AllPairs-filter}
 use Rattle.ksm_base.proofs.Edits.{count_more}

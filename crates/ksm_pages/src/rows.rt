@@ -2,8 +2,8 @@
 //! how many there are of each state.
 //!
 //! A key is told as a guess, or comes from a table of guesses by slots of pages (`slot.rt`). Where it is right no
-//! search is made; where it is wrong there are two binary searches: of the run in which the page is, and of the page in
-//! it. `settle_all` writes no row. `unshare_all` walks over all.
+//! search is made; where it is wrong the page is searched for in the order. `settle_all` writes no row. `unshare_all` walks
+//! over all.
 
 ghost use Rattle.std.specs.Prelude.{◌≡◌, ◌≤◌, ◌<◌, ◌^◌, true, false, [], None, Some, All, IfErr, IfOk, IfSome};
 ghost use Rattle.std.specs.Prelude.{MatchOption, OnErr, OnOk, ◌&&◌, bytes_eq, count_by, filter, find, is_some};

@@ -1,5 +1,4 @@
-use Rattle.std.proofs.Common.{ap, arith, None, Some, sym, ◌∙◌, ◌≡◌}
-use Rattle.std.specs.Prelude.{slice_get}
+use Rattle.std.proofs.Common.{arith, sym, ◌∙◌}
 use Rattle.std.proofs.lemmas.Option.{slice_get-get_or, slice_get_past}
 use Rattle.ksm_order.proofs.Between.{from_cut}
 use Rattle.ksm_order.proofs.leaf.first_from.Goals as goal

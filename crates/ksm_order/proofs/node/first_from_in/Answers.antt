@@ -1,4 +1,4 @@
-use Rattle.std.proofs.Common.{ap, arith, drop, get_or, None, Some, sym, ◌+◌, ◌∙◌, ◌≡◌}
+use Rattle.std.proofs.Common.{ap, arith, drop, sym, ◌+◌, ◌∙◌, ◌≡◌}
 use Rattle.std.specs.Prelude.{find, flat_map, slice_get}
 use Rattle.std.specs.Option.{option_or}
 use Rattle.ksm_order.specs.Listed.{is_from}
@@ -32,7 +32,7 @@ returns-in-None g c =
     c.first_from-in-None.ensures
     ∙ ap (λ p. find (is_from c.args.key) (f p)) c.index-parts-at-in-None.is
     ∙ sym (found g (goal.at.returns-in-None g c).After-first_from ∙ ap (λ o. option_or o behind) c.in-None.is
-        ∙ from_in_next f c.args.key c.args.parts.now c.requires c.part_of-at.result c.index-parts-at.result at.within at.ahead at.behind next c.if-at-parts.true)
+    ∙ from_in_next f c.args.key c.args.parts.now c.requires c.part_of-at.result c.index-parts-at.result at.within at.ahead at.behind next c.if-at-parts.true)
 
 pub returns-in-None-2 : goal.returns-in-None-2
 returns-in-None-2 g c =
@@ -40,4 +40,4 @@ returns-in-None-2 g c =
     let at = c.part_of-at.ensures in
     let behind = slice_get (flat_map f (drop (c.part_of-at.result + 1) c.args.parts.now)) 0 in
     sym (found g (goal.at.returns-in-None-2 g c).After-first_from ∙ ap (λ o. option_or o behind) c.in-None.is
-        ∙ from_in_last f c.args.key c.args.parts.now c.requires c.part_of-at.result c.index-parts-at.result at.within at.ahead at.behind (omega (arith, c.if-at-parts.false)))
+    ∙ from_in_last f c.args.key c.args.parts.now c.requires c.part_of-at.result c.index-parts-at.result at.within at.ahead at.behind (omega (arith, c.if-at-parts.false)))

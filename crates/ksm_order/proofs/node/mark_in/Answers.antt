@@ -1,4 +1,4 @@
-use Rattle.std.proofs.Common.{ap, arith, get_or, subst, sym, ◌∙◌, ◌≡◌, ◌+◌}
+use Rattle.std.proofs.Common.{ap, arith, subst, ◌∙◌}
 use Rattle.std.specs.Prelude.{length}
 use Rattle.std.proofs.lemmas.List.{get_or-set_same, get_or_default}
 use Rattle.ksm_order.specs.Listed.{IsPartOf, many, with_mark}
@@ -14,8 +14,12 @@ set_mark-requires g c = record {
   few =
       let f = g.P.Part.items in
       let at = place g (goal.at.set_mark-requires g c).After-part_of-at in
-      omega (arith, c.requires.few, ap (λ p. length (f p)) c.index_mut.ensures.value,
-      part_few f c.args.parts.now.items c.part_of-at.result c.index_mut.result.now c.requires.parts at.within);
+      omega (
+        arith,
+        c.requires.few,
+        ap (λ p. length (f p)) c.index_mut.ensures.value,
+        part_few f c.args.parts.now.items c.part_of-at.result c.index_mut.result.now c.requires.parts at.within,
+      );
 }
 
 pub returns : goal.returns

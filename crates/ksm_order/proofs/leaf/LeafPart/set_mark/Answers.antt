@@ -1,9 +1,8 @@
-use Rattle.std.proofs.Common.{ap, arith, length, subst, sym, ◌∙◌, ◌≡◌, ◌≤◌, ◌-◌, ◌+◌}
+use Rattle.std.proofs.Common.{ap, subst, ◌∙◌, ◌≡◌}
 use Rattle.std.specs.Prelude.{set}
 use Rattle.ksm_order.specs.declared.item.Item.{Item}
-use Rattle.ksm_order.specs.Listed.{AreAscending, IsHere, many, with_mark}
+use Rattle.ksm_order.specs.Listed.{IsHere, with_mark}
 use Rattle.ksm_order.proofs.Between.{mark_here, mark_none}
-use Rattle.ksm_order.proofs.Changes.{mark_rises, marked_counted}
 use Rattle.ksm_order.proofs.leaf.LeafPart.set_mark.Goals as goal
 
 here : (c : goal.After-self-in-Some-1) → IsHere c.args.key c.self.inside.items.items c.in-Some.at

@@ -1,4 +1,4 @@
-use Rattle.std.proofs.Common.{ap, arith, drop, length, sym, take, ◌/◌, ◌∙◌, ◌≡◌}
+use Rattle.std.proofs.Common.{ap, arith, drop, sym, take, ◌∙◌, ◌≡◌}
 use Rattle.std.proofs.lemmas.List.{take-append-drop}
 use Rattle.ksm_order.specs.Listed.{many}
 use Rattle.ksm_order.proofs.Changes.{back_counted, back_less, front_counted}

@@ -1,4 +1,4 @@
-use Rattle.std.proofs.Common.{ap, arith, drop, length, sym, take, subst, ◌-◌, ◌/◌, ◌∙◌}
+use Rattle.std.proofs.Common.{ap, arith, drop, length, sym, take, subst, ◌-◌, ◌∙◌}
 use Rattle.std.specs.Prelude.{flat_map}
 use Rattle.ksm_order.specs.Listed.{AreParts, IsCounted, many}
 use Rattle.ksm_order.proofs.Changes.{back_counted, back_less, back_parts, front_counted, front_parts, halves_cut, halves_whole}

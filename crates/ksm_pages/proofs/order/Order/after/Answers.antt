@@ -1,4 +1,4 @@
-use Rattle.ksm_pages.proofs.Names.{after_cursor, All, ap, find, find_all, get_or, List, map, Named, named_by, Option, option_map, Some, sym, ◌<◌, ◌^◌, ◌∙◌, ◌≡◌}
+use Rattle.ksm_pages.proofs.Names.{after_cursor, ap, find, find_all, get_or, named_by, option_map, Some, sym, ◌<◌, ◌^◌, ◌∙◌, ◌≡◌}
 use Rattle.ksm_tree.proofs.Alike.{find_mapped}
 use Rattle.ksm_order.specs.declared.item.Item.{Item}
 use Rattle.ksm_order.specs.Listed.{is_from}

@@ -1,8 +1,8 @@
-use Rattle.ksm_pages.proofs.Names.{ahead_of, ap, arith, drop, length, option_map, page_at, page_of, Some, sym, visited, ◌+◌, ◌-◌, ◌<◌, ◌^◌, ◌∙◌, ◌≡◌}
+use Rattle.ksm_pages.proofs.Names.{ahead_of, ap, arith, length, option_map, page_at, Some, sym, visited, ◌-◌, ◌<◌, ◌^◌, ◌∙◌, ◌≡◌}
 use Rattle.std.proofs.lemmas.List.{length-drop}
 use Rattle.ksm_order.specs.declared.item.Item.{Item}
 use Rattle.ksm_order.specs.Listed.{marked}
-use Rattle.ksm_pages.proofs.Names.{All, All-filter, length-filter}
+use Rattle.ksm_pages.proofs.Names.{All-filter, length-filter}
 use Rattle.ksm_pages.proofs.Ranked.{get_dropped, small_at, some_at, visited_at, visited_many}
 use Rattle.ksm_pages.proofs.order.Order.ahead.Goals as goal
 use Rattle.ksm_pages.proofs.order.Order.ahead.Goals.{After-count}

@@ -1,4 +1,4 @@
-use Rattle.ksm_pages.proofs.Names.{All, All-filter, ap, arith, length, length-filter, option_or, passed_to, Some, sym, ◌-◌, ◌<◌, ◌^◌, ◌∙◌, ◌≡◌}
+use Rattle.ksm_pages.proofs.Names.{All-filter, ap, arith, length, length-filter, option_or, passed_to, Some, sym, ◌-◌, ◌<◌, ◌^◌, ◌∙◌, ◌≡◌}
 use Rattle.ksm_pages.specs.Ordered.{key_of, last_or}
 use Rattle.ksm_order.specs.declared.item.Item.{Item}
 use Rattle.ksm_order.specs.Listed.{marked, up_to}

@@ -1,4 +1,4 @@
-use Rattle.ksm_pages.proofs.Names.{All, ap, find, find_all, is_of, key_of, List, map, Named, named_by, Option, option_map, Some, sym, ◌<◌, ◌^◌, ◌∙◌, ◌≡◌}
+use Rattle.ksm_pages.proofs.Names.{ap, find, find_all, is_of, named_by, option_map, Some, sym, ◌<◌, ◌^◌, ◌∙◌, ◌≡◌}
 use Rattle.ksm_order.specs.declared.item.Item.{Item}
 use Rattle.ksm_order.specs.Listed.{is_at}
 use Rattle.ksm_pages.proofs.Ranked.{found_by}

@@ -1,4 +1,4 @@
-use Rattle.ksm_pages.proofs.Names.{All, All-append, All-cons, All-filter, ap, arith, filter, find, GuestPage, is_of, key_of, length, List, map, Named, named_by, nat_lt, None, page_of, subst, sym, true, with_named, ◌+◌, ◌<◌, ◌^◌, ◌∙◌, ◌∷◌, ◌≡◌}
+use Rattle.ksm_pages.proofs.Names.{All, All-append, All-cons, All-filter, ap, arith, filter, find, GuestPage, is_of, length, map, Named, named_by, nat_lt, None, page_of, subst, sym, true, with_named, ◌+◌, ◌<◌, ◌^◌, ◌∙◌, ◌∷◌, ◌≡◌}
 use Rattle.ksm_order.specs.declared.item.Item.{Item}
 use Rattle.ksm_order.specs.Listed.{AreAscending, is_at, with_item}
 use Rattle.ksm_order.proofs.Changes.{with_rises}

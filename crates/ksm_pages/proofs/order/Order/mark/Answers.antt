@@ -1,4 +1,4 @@
-use Rattle.ksm_pages.proofs.Names.{All, All-map, ap, arith, get_or, key_of, length, length-map, List, map, marked, named_by, subst, sym, ◌<◌, ◌^◌, ◌∙◌, ◌≡◌}
+use Rattle.ksm_pages.proofs.Names.{All, All-map, ap, arith, get_or, length, length-map, map, marked, named_by, subst, sym, ◌<◌, ◌^◌, ◌∙◌}
 use Rattle.ksm_order.specs.declared.item.Item.{Item}
 use Rattle.ksm_order.specs.Listed.{AreAscending, with_mark}
 use Rattle.ksm_order.proofs.Changes.{mark_of, mark_rises, same_key}

@@ -1,4 +1,4 @@
-use Rattle.ksm_pages.proofs.Names.{after_cursor, ahead_of, All, ap, ap₂, arith, count_by, drop, filter, get_or, length, length-filter, length-map, List, map, Named, named_by, subst, sym, visited, ◌&&◌, ◌<◌, ◌^◌, ◌∙◌, ◌≡◌, ◌≤◌}
+use Rattle.ksm_pages.proofs.Names.{after_cursor, ap, ap₂, arith, drop, get_or, length, length-filter, length-map, map, named_by, sym, ◌&&◌, ◌∙◌}
 use Rattle.std.proofs.lemmas.List.{drop-map}
 use Rattle.ksm_tree.proofs.Alike.{filter_mapped}
 use Rattle.ksm_order.specs.declared.item.Item.{Item}
