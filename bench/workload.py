@@ -385,6 +385,183 @@ def scarce(script):
         script.one_pass()
 
 
+def many_contents(script):
+    """Each round stores 256 contents that were never there, and two passes let them wait: 20,480 contents in 80 rounds."""
+    words = talk.page_words()
+    lay_unlike(script, random_contents(script))
+    while True:
+        yield
+        for _ in range(256):
+            script.store_words(script.any_page(), words)
+        script.two_passes()
+
+
+def come_and_go(script):
+    """Twenty guests of a hundred pages, 200 contents mixed by Zipf: the oldest goes, a new one comes, and a scan of two passes."""
+    lay_dups(script, 200)
+    pages = 2 * 200 + 1
+    for guest in itertools.count(1_000):
+        yield
+        if guest >= 1_020:
+            for page in range(PER_GUEST):
+                script.add(f"drop {guest - 20} {page}")
+        for page, content in enumerate(mixed_contents(script, 200, PER_GUEST)):
+            script.add(f"reg {guest} {page} {page % NODES} {content:02x}")
+        pages += PER_GUEST if guest < 1_020 else 0
+        script.scan(2 * pages)
+
+
+def one_page_guests(script):
+    """Guests of one page each come from the last number down, as many in a round as there are pages; all merge as they come."""
+    script.begin(limit=1024)
+    for page in range(2):
+        script.add(f"reg {LAST_GUEST} {page} 0 07")
+    script.scan(6)
+    for first in itertools.count(LAST_GUEST - 1, -script.pages):
+        yield
+        for guest in range(first, first - script.pages, -1):
+            script.add(f"reg {guest} 0 {guest % NODES} {guest % 64:02x}")
+            if guest % 64 == 0:
+                script.scan(128)
+        script.scan(2)
+
+
+def lay_one_guest(script):
+    """Merges the pages of guest 0, sixteen of them in each dup."""
+    script.begin(limit=16)
+    for page in range(script.pages):
+        script.add(f"reg 0 {page} {page % NODES} {page % 50:02x}")
+    script.two_passes()
+
+
+def mergeable_again(script):
+    """A guest whose pages are mergeable already is made mergeable."""
+    lay_one_guest(script)
+    while True:
+        yield
+        script.add("mergeable 0")
+
+
+def unmerging(script):
+    """A guest is unmerged and made mergeable, and two passes merge it again."""
+    lay_one_guest(script)
+    while True:
+        yield
+        script.add("unmerge 0")
+        script.add("mergeable 0")
+        script.two_passes()
+
+
+def run_two(script):
+    """`set run 2` unmerges every page; the scan runs again, and two passes merge them."""
+    lay_one_guest(script)
+    while True:
+        yield
+        script.add("set run 2")
+        script.add("set run 1")
+        script.two_passes()
+
+
+def across_nodes(script):
+    """The knob `merge_across_nodes` is set and set back over pages that wait, with a pass after each."""
+    lay_unlike(script, random_contents(script))
+    while True:
+        yield
+        for value in (0, 1):
+            script.add(f"set merge_across_nodes {value}")
+            script.one_pass()
+
+
+def zero_pages(script):
+    """Empty pages become zero pages; a sixteenth of them is stored to, half of that with zeroes, and two passes follow."""
+    script.add("set use_zero_pages 1")
+    script.begin()
+    for number in range(script.pages):
+        script.register(number, 0)
+    script.two_passes()
+    while True:
+        yield
+        for turn in range(script.pages // 16):
+            script.store(script.any_page(), turn % 2)
+        script.two_passes()
+
+
+def shows(script):
+    """The values of the knobs are asked for."""
+    knobs = ("run", "pages_to_scan", "merge_across_nodes", "max_page_sharing", "use_zero_pages", "ksm_zero_pages")
+    for knob in itertools.cycle(knobs):
+        yield
+        script.add(f"show {knob}")
+
+
+def prunes(script):
+    """The two pages of a dup are stored to, which leaves it stale; it is pruned, and two passes merge the pages again."""
+    lay_shared_places(script)
+    while True:
+        yield
+        number = script.any_page() // 4 * 4
+        for other in range(number, number + 4):
+            script.store(other, 255)
+        script.add("prune")
+        for other in range(number, number + 4):
+            script.store(other, number // 4 % 255)
+        script.one_pass()
+
+
+def moves_of_dups(script):
+    """A dup moves to a frame of another node, and back."""
+    lay_shared_places(script)
+    while True:
+        yield
+        place = script.numbers.randrange(script.pages // 4)
+        script.add(f"movedup {place} {script.numbers.randrange(NODES)}")
+
+
+def moves(script):
+    """A merged page moves to another node, and a pass merges it again."""
+    lay_one_guest(script)
+    while True:
+        yield
+        script.add(f"move 0 {script.any_page()} {script.numbers.randrange(NODES)}")
+        script.add("scan 1")
+
+
+def registers(script):
+    """A page is dropped and registered again, merged pages among them."""
+    lay_shared_places(script)
+    while True:
+        yield
+        number = script.any_page()
+        script.drop(number)
+        script.register(number, number // 4)
+
+
+def mixed(script):
+    """Every command, those of single pages most often, over pages that merge."""
+    lay_shared_places(script)
+    names = [script.name(number) for number in range(script.pages)]
+    kinds = [
+        (40, lambda: f"put {pick()} {script.any_content():02x}"), (20, lambda: f"get {pick()}"), (6, lambda: f"ticket {pick()}"),
+        (4, lambda: f"drop {pick()}"), (6, lambda: f"reg {pick()} {node()} {script.any_content():02x}"),
+        (4, lambda: f"move {pick()} {node()}"), (4, lambda: f"movedup {place()} {node()}"), (4, lambda: f"rmap {place()}"),
+        (4, lambda: f"find 0 {place()}"), (4, lambda: "look 0"), (4, lambda: "leave 0"), (10, lambda: "scan 100"),
+        (2, lambda: "prune"), (4, lambda: "stat"), (2, lambda: "show run"), (1, lambda: f"set pages_to_scan {script.any_content()}"),
+    ]
+
+    def pick():
+        return script.numbers.choice(names)
+
+    def node():
+        return script.numbers.randrange(NODES)
+
+    def place():
+        return script.numbers.randrange(script.pages // 2)
+
+    for write_line in script.numbers.choices([kind[1] for kind in kinds], [kind[0] for kind in kinds], k=1 << 20):
+        yield
+        script.add(write_line())
+
+
 def stores_alone(script):
     """Stores of one value, on pages of their own."""
     for number in range(script.pages):

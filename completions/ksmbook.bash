@@ -1,8 +1,14 @@
-# Completions of ksmbook for bash.
+# Completions of ksmbook, its shell and its measurement for bash.
 
 _ksmbook() {
     local word=${COMP_WORDS[COMP_CWORD]} before=${COMP_WORDS[COMP_CWORD-1]} options option given
     COMPREPLY=()
+    # behind a redirection stands a file
+    if [[ $word =~ ^[\<\>]+$ || $before =~ ^[0-9\&]*[\<\>]+$ ]]; then
+        compopt -o filenames 2>/dev/null
+        mapfile -t COMPREPLY < <(compgen -f -- "${word##*[<>]}")
+        return
+    fi
     if [[ $word == "=" || $before == "=" ]]; then
         return
     fi
@@ -20,3 +26,20 @@ _ksmbook() {
 }
 
 complete -F _ksmbook ksmbook
+
+# The shell and the measurement say their own options. What is no option is a file to the shell, and a process to the
+# measurement.
+_ksmbook_client() {
+    local word=${COMP_WORDS[COMP_CWORD]} before=${COMP_WORDS[COMP_CWORD-1]}
+    COMPREPLY=()
+    if [[ $word == -* ]]; then
+        mapfile -t COMPREPLY < <(compgen -W "$("$1" --help 2>/dev/null | grep -oE -- '--[a-z-]+' | sort -u)" -- "$word")
+    elif [[ $1 == *measure && $before != --html && ! $before =~ [\<\>]$ ]]; then
+        mapfile -t COMPREPLY < <(compgen -W "$(ps -eo pid= 2>/dev/null)" -- "$word")
+    else
+        compopt -o filenames 2>/dev/null
+        mapfile -t COMPREPLY < <(compgen -f -- "$word")
+    fi
+}
+
+complete -F _ksmbook_client ksmbook-shell ksmbook-measure

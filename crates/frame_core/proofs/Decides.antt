@@ -1,7 +1,7 @@
 -- The test of where a step of the keeper is allowed is met exactly where the ledger allows it.
-use Rattle.std.proofs.Common.{◌≡◌, ℕ, ◌<◌, ◌≤◌, ◌==◌, ◌&&◌, not, ltb, leb, Bool, true, false, Option, Some, None, ap, refl}
+use Rattle.std.proofs.Common.{◌≡◌, ℕ, ◌-◌, ◌<◌, ◌≤◌, ◌==◌, ◌&&◌, not, ltb, leb, Bool, true, false, Option, Some, None, ap, refl}
 use Rattle.std.proofs.lemmas.Bool.{and_parts, and_from, lt-ltb, ltb-true, le-leb, leb-true, eqb-true, eq-eqb}
-use Rattle.frame_core.proofs.Names.{PAGE_WORDS, Shape, frames_of, KeeperStep, Reap, Put, Raise, Open, Add, Sub, Publish, Withdraw, Freeze, Word, Kind, Free, Filling, Private, Stable, Dying, Retired, Ledger, Life, is_kind, is_writable, is_readable, is_live, may_step, frame_at, named_at, IsWritable, IsReadable, IsLoose, MayStep}
+use Rattle.frame_core.proofs.Names.{MOST_REFERENCES, PAGE_WORDS, Shape, frames_of, KeeperStep, Reap, Put, Raise, Open, Add, Sub, Publish, Withdraw, Freeze, Word, Kind, Free, Filling, Private, Stable, Dying, Retired, Ledger, Life, is_kind, is_writable, is_readable, is_live, may_step, frame_at, named_at, IsWritable, IsReadable, IsLoose, MayStep}
 
 -- a test is met exactly where a statement is true
 abbrev pub Tests : Bool → Type 0 → Type 0
@@ -77,7 +77,7 @@ module _ (sh : Shape) (k : Ledger) where
   decides (Put f i w) = three _ _ _ (here f) (i < PAGE_WORDS) _ (frame f) (below i PAGE_WORDS) (writable (frame_at k f).kind)
   decides (Raise f) = both _ _ (here f) _ (frame f) (kind Free (frame_at k f).kind)
   decides (Open f) = both _ _ (here f) _ (frame f) (kind Filling (frame_at k f).kind)
-  decides (Add f) = let base = (frame_at k f).base in three _ _ _ (here f) (1 ≤ base) (base ≤ 1023) (frame f) (at_most 1 base) (at_most base 1023)
+  decides (Add f) = let base = (frame_at k f).base in three _ _ _ (here f) (1 ≤ base) (base ≤ MOST_REFERENCES - 1) (frame f) (at_most 1 base) (at_most base (MOST_REFERENCES - 1))
   decides (Sub f) = let base = (frame_at k f).base in both _ _ (here f) (1 ≤ base) (frame f) (at_most 1 base)
   decides (Publish p f) = four _ _ _ _ (here p) (here f) _ _ (frame p) (frame f) (kind Private (frame_at k f).kind) (loose k (named_at k p))
   decides (Withdraw p) = both _ _ (here p) _ (frame p) (loose k (named_at k p))

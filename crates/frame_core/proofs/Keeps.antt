@@ -4,7 +4,7 @@ use Rattle.std.proofs.lemmas.Bool.{eqb-true, eqb-false, eq-eqb, ne_eqb, and_part
 use Rattle.std.proofs.lemmas.Option.{same_Some, slice_get-get_or}
 use Rattle.std.proofs.lemmas.List.{length-replicate}
 use Rattle.std.proofs.lemmas.List.Folds.{sum_by-replicate}
-use Rattle.frame_core.proofs.Names.{PAGE_WORDS, Shape, IsShape, frames_of, Event, KeeperStep, Reap, Put, Raise, Open, Add, Sub, Publish, Withdraw, Freeze, Word, ReaderStep, LoadPlace, LoadFrame, Exchange, Leave, LoadWord, Kind, Filling, Private, Stable, Dying, Ledger, Note, Aim, Life, Phase, Idle, Placed, Counted, Held, Spent, State, place_word, life_at, frame_word, count_in, life_in, blank, first_ledger, frame_at, named_at, with_frame, MayStep, reaped, raised, opened, added, lowered, filled, shown, frozen, count_at, frame_word_of, keeper_finds, may_step, counted_up, phase_at, aim_of, nothing_known, is_referenced, may_read, reader_finds, seat_after, reader_counts, first_state, after_keeper, after_reader, only_if, step, after, Rule, FrameRule, LifeRule, IsNamed, SeatRule, MayBeNamed, MayBeHeld, KnownFits, CountFits, GenerationFits, readers_on, is_on}
+use Rattle.frame_core.proofs.Names.{PLACE_SPAN, PAGE_WORDS, Shape, IsShape, frames_of, Event, KeeperStep, Reap, Put, Raise, Open, Add, Sub, Publish, Withdraw, Freeze, Word, ReaderStep, LoadPlace, LoadFrame, Exchange, Leave, LoadWord, Kind, Filling, Private, Stable, Dying, Ledger, Note, Aim, Life, Phase, Idle, Placed, Counted, Held, Spent, State, place_word, life_at, frame_word, count_in, life_in, blank, first_ledger, frame_at, named_at, with_frame, MayStep, reaped, raised, opened, added, lowered, filled, shown, frozen, count_at, frame_word_of, keeper_finds, may_step, counted_up, phase_at, aim_of, nothing_known, is_referenced, may_read, reader_finds, seat_after, reader_counts, first_state, after_keeper, after_reader, only_if, step, after, Rule, FrameRule, LifeRule, IsNamed, SeatRule, MayBeNamed, MayBeHeld, KnownFits, CountFits, GenerationFits, readers_on, is_on}
 use Rattle.frame_core.specs.declared.event.Event.TheVariants as event
 use Rattle.frame_core.proofs.Lists.{get_set, in_replicate, copied, count_set, count_one}
 use Rattle.frame_core.proofs.Packed.{count_packed, life_packed, parts_of_word}
@@ -73,10 +73,10 @@ module _ (sh : Shape) (s : State) (rule : Rule sh s) where
   life_of_word life r =
       let f = life.frame in
       let g = life.generation in
-      let low : f < 1024 = omega (arith, r.inside, frames_at_most sh rule.shape) in
+      let low : f < PLACE_SPAN = omega (arith, r.inside, frames_at_most sh rule.shape) in
       let some = r.first in
-      let a : (g * 1024 + f) % 1024 ≡ f = omega arith in
-      let b : (g * 1024 + f) / 1024 ≡ g = omega arith in
+      let a : (g * PLACE_SPAN + f) % PLACE_SPAN ≡ f = omega arith in
+      let b : (g * PLACE_SPAN + f) / PLACE_SPAN ≡ g = omega arith in
       ((λ e. omega (arith, some, e)), λ i. record { frame = a i; generation = b i })
 
   -- a seat that loaded the word of a place that names a life is Placed, with that life as its aim

@@ -3,7 +3,7 @@ use Rattle.std.proofs.Common.{◌≡◌, ℕ, ◌+◌, ◌-◌, ◌*◌, ◌%◌
 use Rattle.std.proofs.lemmas.Bool.{eq-eqb, eqb-true, ne_eqb, cases_eq, and_parts, ltb-true}
 use Rattle.std.proofs.lemmas.List.Elements.{All-nil, All-cons}
 use Rattle.std.proofs.lemmas.Option.{same_Some, slice_get-get_or}
-use Rattle.frame_core.proofs.Names.{PAGE_WORDS, Shape, frames_of, Event, KeeperStep, Reap, Put, Raise, Open, Add, Sub, Publish, Withdraw, Freeze, Word, ReaderStep, LoadPlace, LoadFrame, Exchange, Leave, LoadWord, Free, Filling, Private, Dying, Retired, Ledger, Note, Life, Aim, Phase, Idle, Placed, Counted, Held, Spent, State, place_word, frame_word, count_in, life_in, blank, frame_at, named_at, with_frame, IsWritable, MayStep, reaped, raised, opened, added, lowered, filled, shown, frozen, frame_word_of, keeper_finds, may_step, phase_at, nothing_known, aim_of, is_referenced, may_read, reader_finds, seat_after, reader_counts, after_keeper, step, Entry, frame_in, Rule, IsNamed, HeldRule, SeatRule, MayBeNamed, MayBeHeld}
+use Rattle.frame_core.proofs.Names.{PLACE_SPAN, PAGE_WORDS, Shape, frames_of, Event, KeeperStep, Reap, Put, Raise, Open, Add, Sub, Publish, Withdraw, Freeze, Word, ReaderStep, LoadPlace, LoadFrame, Exchange, Leave, LoadWord, Free, Filling, Private, Dying, Retired, Ledger, Note, Life, Aim, Phase, Idle, Placed, Counted, Held, Spent, State, place_word, frame_word, count_in, life_in, blank, frame_at, named_at, with_frame, IsWritable, MayStep, reaped, raised, opened, added, lowered, filled, shown, frozen, frame_word_of, keeper_finds, may_step, phase_at, nothing_known, aim_of, is_referenced, may_read, reader_finds, seat_after, reader_counts, after_keeper, step, Entry, frame_in, Rule, IsNamed, HeldRule, SeatRule, MayBeNamed, MayBeHeld}
 use Rattle.frame_core.specs.declared.event.Event.TheVariants as event
 use Rattle.frame_core.proofs.Lists.{each_set, get_set}
 use Rattle.frame_core.proofs.Decides.{decides}
@@ -230,8 +230,8 @@ tell_keeper sh s t (Word f i) rule told may = told
 
 -- ---------------------------------------------------------------- steps of a reader
 
--- a number with the frame in its lowest ten bits
-frame_of_word : (g f : ℕ) → f < 1024 → (g * 1024 + f) % 1024 ≡ f
+-- the frame in the word of a place is the one that was packed
+frame_of_word : (g f : ℕ) → f < PLACE_SPAN → (g * PLACE_SPAN + f) % PLACE_SPAN ≡ f
 frame_of_word g f below = omega arith
 
 module _ (sh : Shape) (s : State) (t : List Entry) (rule : Rule sh s) (told : Told s (tale_of t)) (q : ℕ) (there : q < length s.seats) where

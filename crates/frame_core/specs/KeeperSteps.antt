@@ -1,7 +1,7 @@
 -- The keeper's steps in a state: a test of where each is allowed, the word that it finds, and the references on the frames after it.
 -- What the keeper knows after it is `ledger_after`. Source: own.
 use Rattle.std.specs.Prelude.{ℕ, ◌+◌, ◌-◌, Bool, true, false, ◌&&◌, ◌||◌, not, ◌==◌, nat_lt, nat_le, cond, List, slice_index, slice_set, Option, None, Some}
-use Rattle.frame_core.specs.Terms.{PAGE_WORDS, Shape, frames_of, KeeperStep, Reap, Put, Raise, Open, Add, Sub, Publish, Withdraw, Freeze, Word, Kind, Free, Filling, Private, Stable, Dying, Retired, Ledger, Life}
+use Rattle.frame_core.specs.Terms.{MOST_REFERENCES, PAGE_WORDS, Shape, frames_of, KeeperStep, Reap, Put, Raise, Open, Add, Sub, Publish, Withdraw, Freeze, Word, Kind, Free, Filling, Private, Stable, Dying, Retired, Ledger, Life}
 use Rattle.frame_core.specs.State.{State, frame_word, count_in}
 use Rattle.frame_core.specs.Ledger.{frame_at, named_at}
 
@@ -34,7 +34,7 @@ may_step sh k (Reap f) = nat_lt f (frames_of sh) && is_kind Dying (frame_at k f)
 may_step sh k (Put f i w) = nat_lt f (frames_of sh) && (nat_lt i PAGE_WORDS && is_writable (frame_at k f).kind)
 may_step sh k (Raise f) = nat_lt f (frames_of sh) && is_kind Free (frame_at k f).kind
 may_step sh k (Open f) = nat_lt f (frames_of sh) && is_kind Filling (frame_at k f).kind
-may_step sh k (Add f) = nat_lt f (frames_of sh) && (nat_le 1 (frame_at k f).base && nat_le (frame_at k f).base 1023)
+may_step sh k (Add f) = nat_lt f (frames_of sh) && (nat_le 1 (frame_at k f).base && nat_le (frame_at k f).base (MOST_REFERENCES - 1))
 may_step sh k (Sub f) = nat_lt f (frames_of sh) && nat_le 1 (frame_at k f).base
 may_step sh k (Publish p f) =
     nat_lt p (frames_of sh) && (nat_lt f (frames_of sh) && (is_kind Private (frame_at k f).kind && not (is_live k (named_at k p))))

@@ -1,6 +1,6 @@
 -- What the keeper knows, where each of its steps is allowed, and what it knows after it: a function of what it knew, the step and the word found.
 use Rattle.std.specs.Prelude.{◌≡◌, ℕ, ◌+◌, ◌-◌, ◌<◌, ◌≤◌, ◌==◌, cond, replicate, slice_index_or, slice_set, Option, Some, None}
-use Rattle.frame_core.specs.Terms.{PAGE_WORDS, Shape, frames_of, KeeperStep, Reap, Put, Raise, Open, Add, Sub, Publish, Withdraw, Freeze, Word, Kind, Free, Filling, Private, Stable, Dying, Retired, Ledger, Note, Life}
+use Rattle.frame_core.specs.Terms.{MOST_REFERENCES, PAGE_WORDS, Shape, frames_of, KeeperStep, Reap, Put, Raise, Open, Add, Sub, Publish, Withdraw, Freeze, Word, Kind, Free, Filling, Private, Stable, Dying, Retired, Ledger, Note, Life}
 use Rattle.frame_core.specs.State.{count_in}
 
 -- a frame that was never given
@@ -82,7 +82,7 @@ module _ (sh : Shape) (k : Ledger) where
   MayStep (Put f i w) = (f < frames_of sh) × (i < PAGE_WORDS) × IsWritable (frame_at k f).kind
   MayStep (Raise f) = (f < frames_of sh) × ((frame_at k f).kind ≡ Free)
   MayStep (Open f) = (f < frames_of sh) × ((frame_at k f).kind ≡ Filling)
-  MayStep (Add f) = (f < frames_of sh) × (1 ≤ (frame_at k f).base) × ((frame_at k f).base ≤ 1023)
+  MayStep (Add f) = (f < frames_of sh) × (1 ≤ (frame_at k f).base) × ((frame_at k f).base ≤ MOST_REFERENCES - 1)
   MayStep (Sub f) = (f < frames_of sh) × (1 ≤ (frame_at k f).base)
   MayStep (Publish p f) = (p < frames_of sh) × (f < frames_of sh) × ((frame_at k f).kind ≡ Private) × IsLoose k (named_at k p)
   MayStep (Withdraw p) = (p < frames_of sh) × IsLoose k (named_at k p)

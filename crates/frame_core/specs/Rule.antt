@@ -1,6 +1,6 @@
 -- The rule of the protocol: what is true of words, keeper and seats between any two steps, and is kept by each. Source: own.
 use Rattle.std.specs.Prelude.{ℕ, ◌≡◌, ◌+◌, ◌<◌, ◌≤◌, Bool, false, ◌==◌, List, length, slice_get, count_by, Option, Some}
-use Rattle.frame_core.specs.Terms.{IsShape, frames_of, PAGE_WORDS, Shape, Kind, Free, Filling, Private, Stable, Dying, Retired, Ledger, Note, Life, Phase, Idle, Placed, Counted, Held, Spent}
+use Rattle.frame_core.specs.Terms.{MOST_COUNT, MOST_REFERENCES, IsShape, frames_of, PAGE_WORDS, Shape, Kind, Free, Filling, Private, Stable, Dying, Retired, Ledger, Note, Life, Phase, Idle, Placed, Counted, Held, Spent}
 use Rattle.frame_core.specs.State.{State}
 use Rattle.frame_core.specs.Ledger.{frame_at, named_at}
 use Rattle.frame_core.specs.KeeperSteps.{count_at}
@@ -17,8 +17,8 @@ readers_on f seats = count_by (is_on f) seats
 
 -- the keeper has references on Private and Stable frames alone
 abbrev pub BaseFits : Kind → ℕ → Type 0
-BaseFits Private base = (1 ≤ base) × (base ≤ 1024)
-BaseFits Stable base = (1 ≤ base) × (base ≤ 1024)
+BaseFits Private base = (1 ≤ base) × (base ≤ MOST_REFERENCES)
+BaseFits Stable base = (1 ≤ base) × (base ≤ MOST_REFERENCES)
 BaseFits _ base = base ≡ 0
 
 -- nobody has a reference on a frame that is Free, Filling or Retired
@@ -78,7 +78,7 @@ IsNamed sh k life = LifeRule sh (frame_at k life.frame) life
 abbrev pub SeatRule : Shape → Ledger → Phase → Type 0
 SeatRule sh k Idle = Unit {0}
 SeatRule sh k (Placed aim failures) = IsNamed sh k aim.life × (failures < sh.tries)
-SeatRule sh k (Counted aim failures count) = IsNamed sh k aim.life × (failures < sh.tries) × (1 ≤ count) × (count ≤ 1040)
+SeatRule sh k (Counted aim failures count) = IsNamed sh k aim.life × (failures < sh.tries) × (1 ≤ count) × (count ≤ MOST_COUNT)
 SeatRule sh k (Held aim known) = IsNamed sh k aim.life × HeldRule (frame_at k aim.life.frame) aim.life known
 SeatRule sh k Spent = Unit {0}
 

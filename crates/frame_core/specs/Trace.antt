@@ -1,7 +1,7 @@
 -- What was done, the newest step first, and what can be told from it: lives, holders, words stored and words read. No count and no phase is read here. Source: own.
 use Rattle.std.specs.Prelude.{ℕ, ◌≡◌, ◌+◌, ◌<◌, Bool, true, false, ◌&&◌, ◌==◌, if◌then◌else◌, List, [], ◌∷◌, ◌++◌, filter, All, Option, None, Some, fold}
 use Rattle.std.specs.List.{range_with_len}
-use Rattle.frame_core.specs.Terms.{Shape, Event, Reader, Keeper, ReaderStep, KeeperStep, LoadPlace, LoadFrame, Exchange, Leave, LoadWord, Put, Raise, Open, Publish, Aim}
+use Rattle.frame_core.specs.Terms.{PLACE_SPAN, Shape, Event, Reader, Keeper, ReaderStep, KeeperStep, LoadPlace, LoadFrame, Exchange, Leave, LoadWord, Put, Raise, Open, Publish, Aim}
 use Rattle.frame_core.specs.State.{State, place_word, life_at}
 use Rattle.frame_core.specs.Steps.{first_state, step}
 
@@ -144,7 +144,7 @@ words_read seat (e ∷ t) = read_after seat (words_read seat t) e.word e.event
 -- The seat holds rightly what its aim names: its last load of a place found that frame in that life; this is the frame's life by now; it was not opened since that load; each word read is the one that the life was published with
 pub record HoldsRightly (seat : ℕ) (aim : Aim) (t : List Entry) : Type 0 where
   pub named : place_loaded seat t ≡ Some (aim.place, place_word (Some aim.life))
-  pub frame : aim.life.frame < 1024
+  pub frame : aim.life.frame < PLACE_SPAN
   pub same_life : aim.life.generation ≡ life_of aim.life.frame t
   pub not_given : given_since seat aim.life.frame t ≡ false
   pub words : All (λ r. named_word aim.life.frame aim.life.generation r.0 t ≡ Some r.1) (words_read seat t)

@@ -32,7 +32,7 @@ pub enum KeeperStep {
     Reap(u32),
     /// Stores this value to a content word of a frame that nobody else can see.
     Put { frame: u32, word: usize, value: u64 },
-    /// Adds 65536 to the frame word of this free frame, 1 to its generation: its next life begins.
+    /// Adds `COUNT_SPAN` to the frame word of this free frame, 1 to its generation: its next life begins.
     Raise(u32),
     /// Adds 1 to the frame word of this frame: from now on it has a reference, the keeper's.
     Open(u32),

@@ -9,7 +9,7 @@ use crate::event::{KeeperStep, Step};
 use crate::frame::{FrameWord, Kind};
 use crate::machine::Machine;
 use crate::seat::Life;
-use ksm_base::PAGE_WORDS;
+use ksm_base::{MOST_REFERENCES, PAGE_WORDS};
 
 impl Machine {
     /// Whether the place names a frame that is stable in the life named. Such a place is not overwritten: its dup lives.
@@ -44,7 +44,9 @@ impl Machine {
             KeeperStep::Raise(f) => f < count && matches!(notes[f as usize].kind, Kind::Free),
             KeeperStep::Open(f) => f < count && matches!(notes[f as usize].kind, Kind::Filling),
             KeeperStep::Add(f) => {
-                f < count && notes[f as usize].base >= 1 && notes[f as usize].base <= 1023
+                f < count
+                    && notes[f as usize].base >= 1
+                    && notes[f as usize].base <= MOST_REFERENCES - 1
             }
             KeeperStep::Sub(f) => f < count && notes[f as usize].base >= 1,
             KeeperStep::Publish { place, frame: f } => {

@@ -75,7 +75,7 @@ impl Core {
         self.machine.notes.get(frame as usize).map(|note| note.kind)
     }
 
-    /// The keeper's own references on a frame, 0 to 1,024. `None` where the shape has no such frame.
+    /// The keeper's own references on a frame, 0 to `MOST_REFERENCES`. `None` where the shape has no such frame.
     pub fn base(&self, frame: u32) -> Option<u64>
         ensures { result ≡ option_map (λ note. note.base) (slice_get self.now.state.ledger.frames frame) }
     {

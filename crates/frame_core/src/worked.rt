@@ -1,5 +1,6 @@
 //! Worked runs: what the trace of a run tells of holders, named words and words read.
 ghost use Rattle.std.specs.Prelude.{◌≡◌, true, false, [], ◌∷◌, ◌++◌, Some, None};
+ghost use Rattle.ksm_base.specs.declared.limits.TheConstants.{PLACE_SPAN};
 ghost use Rattle.frame_core.specs.declared.event.Event.TheVariants.{Reader, Keeper};
 ghost use Rattle.frame_core.specs.declared.event.KeeperStep.TheVariants.{Raise, Open};
 ghost use Rattle.frame_core.specs.declared.event.ReaderStep.TheVariants.{Leave, LoadWord};
@@ -34,7 +35,7 @@ pub fn a_held_frame_is_not_given()
 pub fn a_hold_that_is_not_rightful()
     ensures rightful { HoldsRightly 0 (aim_at 0 0 1) (and_then (Reader 0 (LoadWord 1)) 8) }
     ensures another_place { ¬ HoldsRightly 0 (aim_at 1 0 1) (trace_of taken) }
-    ensures frame_of_no_word { ¬ HoldsRightly 0 (aim_at 0 1024 0) (trace_of taken) }
+    ensures frame_of_no_word { ¬ HoldsRightly 0 (aim_at 0 PLACE_SPAN 0) (trace_of taken) }
     ensures another_life { ¬ HoldsRightly 0 (aim_at 0 0 1) (and_then (Keeper (Raise 0)) 0) }
     ensures given_since { ¬ HoldsRightly 0 (aim_at 0 0 1) (and_then (Keeper (Open 0)) 0) }
     ensures another_word { ¬ HoldsRightly 0 (aim_at 0 0 1) (and_then (Reader 0 (LoadWord 1)) 9) }

@@ -3,19 +3,19 @@ use Rattle.std.proofs.Common.{◌≡◌, ℕ, ◌+◌, ◌-◌, ◌*◌, ◌%◌
 use mathlib.Core.Option.{none as unsaid}
 use prog.Atomic.{either}
 use Rattle.atomic_table.specs.Table.{step, Allows}
-use Rattle.frame_table.proofs.CoreNames.{PAGE_WORDS, Shape, frames_of, KeeperStep, Reap, Put, Raise, Open, Add, Sub, Publish, Withdraw, Freeze, Word, Ledger, place_word, frame_word, life_in, frame_word_at, content_at, frame_at, MayStep}
+use Rattle.frame_table.proofs.CoreNames.{COUNT_SPAN, FRAME_WORDS, MOST_LIVES, MOST_REFERENCES, PAGE_WORDS, PLACE_SPAN, Shape, frames_of, KeeperStep, Reap, Put, Raise, Open, Add, Sub, Publish, Withdraw, Freeze, Word, Ledger, place_word, frame_word, life_in, frame_word_at, content_at, frame_at, MayStep}
 use Rattle.frame_table.proofs.Names.{Holds, Sat, IsKeeper, shape_in, ledger_in, tally_in, keeper_log, order_in, Keeps, keeper_word, keeper_written, found_by, knows, on_frame, puts, publishes, withdraws, shows}
 use Rattle.frame_table.proofs.Allowed.{turned, weaker, MayLoad, MayStore, MayExchange, MayAdd, MaySubOne, one_less_word}
 use Rattle.frame_table.proofs.KeeperMay.{keeper_may}
 
-raised : (n d : ℕ) → d ≤ 65536 → n < 18446744073709486080 → (n + d) % 18446744073709551616 ≡ n + d
+raised : (n d : ℕ) → d ≤ COUNT_SPAN → n < FRAME_WORDS → (n + d) % 18446744073709551616 ≡ n + d
 raised n d few small = omega arith
 
-named : (g f w : ℕ) → f < 1024 → g ≤ 1099511627776 → w ≡ (g * 1024 + f) % 18446744073709551616 → w ≡ g * 1024 + f
+named : (g f w : ℕ) → f < PLACE_SPAN → g ≤ MOST_LIVES → w ≡ (g * PLACE_SPAN + f) % 18446744073709551616 → w ≡ g * PLACE_SPAN + f
 named g f w low few is = omega arith
 
 -- of the life of a word that is there, the words with few references fit
-fits : (n g c w : ℕ) → n < 18446744073709551616 → life_in n ≡ g → c ≤ 1024 → w ≡ frame_word g c % 18446744073709551616 → w ≡ frame_word g c
+fits : (n g c w : ℕ) → n < 18446744073709551616 → life_in n ≡ g → c ≤ MOST_REFERENCES → w ≡ frame_word g c % 18446744073709551616 → w ≡ frame_word g c
 fits n g c w small life few is = omega arith
 
 -- as the machine exchanges, and as the step says
@@ -60,9 +60,9 @@ module _ (slots id : ℕ) (key sh : Shape) (me : Sat) (at : ℕ) (keeper : IsKee
   may_reap f is may = at_frame_word Reap f (λ n. n) (λ F g. refl) (λ g n. refl) is may (λ n small told. refl)
 
   -- the keeper may add a life to the word of a free frame
-  pub may_raise : (f : ℕ) → at ≡ frame_word_at (frames_of sh) f → MayStep sh k (Raise f) → MayAdd (on_frame Raise) slots id 65536 key at me
-  may_raise f is may = at_frame_word Raise f (λ n. (n + 65536) % 2 ^ 64) (λ F g. refl) (λ g n. refl) is may
-      (λ n small told. raised n 65536 (omega arith) (omega (arith, told.0, told.1)))
+  pub may_raise : (f : ℕ) → at ≡ frame_word_at (frames_of sh) f → MayStep sh k (Raise f) → MayAdd (on_frame Raise) slots id COUNT_SPAN key at me
+  may_raise f is may = at_frame_word Raise f (λ n. (n + COUNT_SPAN) % 2 ^ 64) (λ F g. refl) (λ g n. refl) is may
+      (λ n small told. raised n COUNT_SPAN (omega arith) (omega (arith, told.0, told.1)))
 
   -- the keeper may add one to the word of a frame that it fills
   pub may_open : (f : ℕ) → at ≡ frame_word_at (frames_of sh) f → MayStep sh k (Open f) → MayAdd (on_frame Open) slots id 1 key at me
@@ -106,10 +106,10 @@ module _ (slots id : ℕ) (key sh : Shape) (me : Sat) (at : ℕ) (keeper : IsKee
       let one = same_word f i g j is may.1 below shape is' in subst (λ (x : ℕ × ℕ). Keeps (Word x.0 x.1) me n m) (λ y. (one.0 y, one.1 y)) keeps)
 
   -- the keeper may store to a place the word that names a frame which it may publish there
-  pub may_publish : (f w : ℕ) → f < 1024 → w ≡ place_word (Some record { frame = f; generation = (frame_at k f).generation }) % 2 ^ 64
+  pub may_publish : (f w : ℕ) → f < PLACE_SPAN → w ≡ place_word (Some record { frame = f; generation = (frame_at k f).generation }) % 2 ^ 64
       → MayStep sh k (Publish at f) → MayStore publishes slots id w key at me
   may_publish f w low is may =
-      let one : f ≡ w % 1024 = omega arith in
+      let one : f ≡ w % PLACE_SPAN = omega arith in
       makes (Publish at f) (λ n. w) (λ n. publishes (step slots at w 0 unsaid) me w) refl may (λ n small told. named (frame_at k f).generation f w low told is)
       (λ n m shape keeps q at_q. subst (λ (x : ℕ × ℕ). Keeps (Publish x.0 x.1) me 0 m) (λ y. (at_q y, one y)) keeps)
 

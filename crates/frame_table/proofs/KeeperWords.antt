@@ -1,7 +1,7 @@
 -- A step of the keeper changes one word of the table, and is told what it found there.
 use Rattle.std.proofs.Common.{◌≡◌, ℕ, ◌+◌, ◌-◌, ◌<◌, ◌≤◌, ◌==◌, Bool, true, false, cond, eqb, set, get_or, Some, None, refl, ap, sym, subst, ◌∙◌, arith}
 use Rattle.std.proofs.lemmas.Bool.{eqb-true, eqb-false, eq-eqb, ne_eqb}
-use Rattle.frame_table.proofs.CoreNames.{Shape, frames_of, KeeperStep, Reap, Put, Raise, Open, Add, Sub, Publish, Withdraw, Freeze, Word, Kind, Free, Filling, Ledger, State, frame_word, count_in, words_of, frame_word_at, content_at, count_at, frame_word_of, keeper_finds, frame_at, with_frame, MayStep, reaped, filled, raised, opened, added, lowered, shown, frozen, after_keeper, Rule, CountFits, GenerationFits}
+use Rattle.frame_table.proofs.CoreNames.{COUNT_SPAN, Shape, frames_of, KeeperStep, Reap, Put, Raise, Open, Add, Sub, Publish, Withdraw, Freeze, Word, Kind, Free, Filling, Ledger, State, frame_word, count_in, words_of, frame_word_at, content_at, count_at, frame_word_of, keeper_finds, frame_at, with_frame, MayStep, reaped, filled, raised, opened, added, lowered, shown, frozen, after_keeper, Rule, CountFits, GenerationFits}
 use Rattle.frame_core.proofs.Above.{as_it_was, base_at_most, count_at_most, life_low, count_found, life_found, word_get, content_get, word_set, note_set, content_set, place_set, words_same}
 use Rattle.frame_table.specs.Keeping.{keeper_word, keeper_written, found_by, knows}
 
@@ -55,7 +55,7 @@ module _ (sh : Shape) (s : State) (rule : Rule sh s) where
       let low : GenerationFits sh.last_generation Free (frame_at k f).generation =
       subst (λ (x : Kind). GenerationFits sh.last_generation x (frame_at k f).generation) may.1 frame.generation in
       on_word (Raise f) (frame_word_of s f) (word_get sh s rule f may.0)
-      (note_set sh s rule f (frame_word_of s f + 65536) (raised (frame_at k f)) may.0 (omega arith) refl) refl
+      (note_set sh s rule f (frame_word_of s f + COUNT_SPAN) (raised (frame_at k f)) may.0 (omega arith) refl) refl
       (empty_word f none, omega (arith, low, rule.shape.generation_high))
   keeper_words (Open f) may =
       let none : CountFits Filling (count_at s f) = subst (λ (x : Kind). CountFits x (count_at s f)) may.1 (rule.frames f may.0).count_fits in

@@ -13,7 +13,7 @@ pub use Rattle.frame_table.specs.Seats.{Ends, new_pass, newcomer, one_less, one_
 pub use Rattle.frame_table.specs.Steps.{IsKeeperStep, IsReaderStep}
 pub use Rattle.frame_table.specs.Truth.{IsOpen, IsTrueEntry, KeepersLogIsTrue, Moment, ReadersLogIsTrue}
 pub use Rattle.frame_table.specs.Views.{IsIn, IsKeeper, KeeperLog, ReaderLog, Sat, keeper_log, keeps_ledger, known_in, ledger_in, log_in, order_in, order_of, phase_of, shape_in, sits, tally_in, tally_of}
-pub use Rattle.frame_table.specs.Worked.{loads, named}
+pub use Rattle.frame_table.specs.Worked.{life_word, loads, named}
 pub use Rattle.frame_table.specs.declared.pass.Round.{Round}
 pub use Rattle.frame_table.specs.declared.pass.Round.TheVariants.{Lost, Old, Won, Zero}
 pub use Rattle.frame_table.specs.declared.view.Tally.{Tally}

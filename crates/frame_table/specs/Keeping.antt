@@ -2,7 +2,7 @@
 use Rattle.std.specs.Prelude.{◌≡◌, ℕ, Some, ◌+◌, ◌-◌, ◌%◌, ◌<◌, ◌≤◌, ◌==◌, cond, List, [], ◌∷◌, ◌++◌, slice_index}
 use Rattle.atomic_table.specs.Seated.{TableId}
 use Rattle.atomic_table.specs.Table.{Step}
-use Rattle.frame_table.specs.Terms.{PAGE_WORDS, frames_of, Event, KeeperStep, Reap, Put, Raise, Open, Add, Sub, Publish, Withdraw, Freeze, Word, Ledger}
+use Rattle.frame_table.specs.Terms.{COUNT_SPAN, FRAME_WORDS, MOST_LIVES, MOST_REFERENCES, PAGE_WORDS, PLACE_SPAN, frames_of, Event, KeeperStep, Reap, Put, Raise, Open, Add, Sub, Publish, Withdraw, Freeze, Word, Ledger}
 use Rattle.frame_core.specs.declared.event.Event.TheVariants as event
 use Rattle.frame_core.specs.State.{place_word, frame_word, count_in, life_in}
 use Rattle.frame_core.specs.Words.{frame_word_at, content_at}
@@ -29,7 +29,7 @@ keeper_word places (Word f i) = content_at places f i
 -- what a step of the keeper leaves there, where it found n
 abbrev pub keeper_written : Ledger → KeeperStep → ℕ → ℕ
 keeper_written k (Put f i w) n = w
-keeper_written k (Raise f) n = n + 65536
+keeper_written k (Raise f) n = n + COUNT_SPAN
 keeper_written k (Open f) n = n + 1
 keeper_written k (Add f) n = n + 1
 keeper_written k (Sub f) n = n - 1
@@ -52,12 +52,12 @@ keeper_after e v n order = v
 
 -- what the rule says of the word that a step found: it is that of the ledger, where the keeper alone writes it
 abbrev pub knows : Ledger → KeeperStep → ℕ → Type 0
-knows ledger (Raise f) n = (n ≡ frame_word (frame_at ledger f).generation 0) × ((frame_at ledger f).generation < 1099511627776)
-knows ledger (Open f) n = (n ≡ frame_word (frame_at ledger f).generation 0) × ((frame_at ledger f).generation ≤ 1099511627776)
-knows ledger (Publish p f) n = (frame_at ledger f).generation ≤ 1099511627776
-knows ledger (Add f) n = n < 144115188075855872
+knows ledger (Raise f) n = (n ≡ frame_word (frame_at ledger f).generation 0) × ((frame_at ledger f).generation < MOST_LIVES)
+knows ledger (Open f) n = (n ≡ frame_word (frame_at ledger f).generation 0) × ((frame_at ledger f).generation ≤ MOST_LIVES)
+knows ledger (Publish p f) n = (frame_at ledger f).generation ≤ MOST_LIVES
+knows ledger (Add f) n = n < FRAME_WORDS
 knows ledger (Sub f) n = 1 ≤ count_in n
-knows ledger (Freeze f) n = (life_in n ≡ (frame_at ledger f).generation) × ((frame_at ledger f).base ≤ 1024)
+knows ledger (Freeze f) n = (life_in n ≡ (frame_at ledger f).generation) × ((frame_at ledger f).base ≤ MOST_REFERENCES)
 knows ledger (Word f i) n = n ≡ slice_index (frame_at ledger f).content i
 knows ledger _ n = Unit {0}
 
@@ -87,7 +87,7 @@ abbrev pub puts : Step (Unit {0}) → Sat → ℕ → Sat → Type 0
 puts st m n m' = (f i : ℕ) → i < PAGE_WORDS → KeepsAt (Put f i st.first) st m 0 m'
 
 abbrev pub publishes : Step (Unit {0}) → Sat → ℕ → Sat → Type 0
-publishes st m n m' = (p : ℕ) → KeepsAt (Publish p (st.first % 1024)) st m 0 m'
+publishes st m n m' = (p : ℕ) → KeepsAt (Publish p (st.first % PLACE_SPAN)) st m 0 m'
 
 abbrev pub withdraws : Step (Unit {0}) → Sat → ℕ → Sat → Type 0
 withdraws st m n m' = (p : ℕ) → KeepsAt (Withdraw p) st m 0 m'

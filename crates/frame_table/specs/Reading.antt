@@ -1,7 +1,7 @@
 -- What each step of a reader tells its seat (own).
 use Rattle.std.specs.Prelude.{◌≡◌, ℕ, ◌<◌, ◌≤◌, List, [], ◌∷◌, ◌++◌, slice_index_or, Option, Some, None}
 use Rattle.atomic_table.specs.Table.{Step}
-use Rattle.frame_table.specs.Terms.{PAGE_WORDS, Shape, frames_of, Event, ReaderStep, LoadPlace, LoadFrame, Leave, LoadWord, Aim, Phase, Held}
+use Rattle.frame_table.specs.Terms.{FRAME_WORDS, MOST_COUNT, PAGE_WORDS, Shape, frames_of, Event, ReaderStep, LoadPlace, LoadFrame, Leave, LoadWord, Aim, Phase, Held}
 use Rattle.frame_core.specs.declared.event.Event.TheVariants as event
 use Rattle.frame_core.specs.State.{life_at, count_in}
 use Rattle.frame_table.specs.declared.view.View.{View}
@@ -36,7 +36,7 @@ agrees_with i n _ = Unit {0}
 -- what the rule says of the word that a step found
 abbrev pub tells : Shape → ReaderStep → Phase → ℕ → Type 0
 tells sh (LoadPlace p) phase n = NamesFrame sh n
-tells sh LoadFrame phase n = (count_in n ≤ 1040) × (n < 144115188075855872)
+tells sh LoadFrame phase n = (count_in n ≤ MOST_COUNT) × (n < FRAME_WORDS)
 tells sh Leave phase n = 1 ≤ count_in n
 tells sh (LoadWord i) phase n = agrees_with i n phase
 tells sh _ phase n = Unit {0}

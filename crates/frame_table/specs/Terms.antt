@@ -1,4 +1,4 @@
--- What the table and its core speak of, by name: shapes, steps, kinds and notes of frames, lives, phases.
+-- What the table and its core speak of, by name: limits, shapes, steps, kinds and notes of frames, lives, phases.
 pub use Rattle.frame_core.specs.declared.event.Event.{Event}
 pub use Rattle.frame_core.specs.declared.event.Event.TheVariants.{Keeper, Reader}
 pub use Rattle.frame_core.specs.declared.event.KeeperStep.{KeeperStep}
@@ -14,5 +14,6 @@ pub use Rattle.frame_core.specs.declared.seat.Life.{Life}
 pub use Rattle.frame_core.specs.declared.seat.Phase.{Phase}
 pub use Rattle.frame_core.specs.declared.seat.Phase.TheVariants.{Counted, Held, Idle, Placed, Spent}
 pub use Rattle.ksm_base.specs.Values.{IsShape, frames_of}
+pub use Rattle.ksm_base.specs.declared.limits.TheConstants.{COUNT_SPAN, FRAME_WORDS, MOST_COUNT, MOST_FRAMES, MOST_LIVES, MOST_REFERENCES, PLACE_SPAN}
 pub use Rattle.ksm_base.specs.declared.page.TheConstants.{PAGE_WORDS}
 pub use Rattle.ksm_base.specs.declared.shape.Shape.{Shape}

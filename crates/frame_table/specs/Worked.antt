@@ -1,7 +1,7 @@
 -- Worked lookups, by which the definitions of a lookup are tried: what its steps found, one after another. Own.
 use Rattle.std.specs.Prelude.{ℕ, [], ◌∷◌, replicate, Some}
 use Rattle.frame_table.specs.Terms.{PAGE_WORDS, Shape, ReaderStep, LoadPlace, LoadFrame, Exchange, Stable, Ledger}
-use Rattle.frame_core.specs.State.{frame_word}
+use Rattle.frame_core.specs.State.{place_word, frame_word}
 use Rattle.frame_table.specs.Named.{TableName, PassView, ClosedView}
 use Rattle.frame_table.specs.Views.{ReaderLog}
 
@@ -9,9 +9,13 @@ use Rattle.frame_table.specs.Views.{ReaderLog}
 abbrev pub two_tries : Shape
 two_tries = record { nodes = 1; frames_per_node = 2; passes = 1; last_generation = 5; tries = 2 }
 
+-- the word of a place that names the frame 0 in this life
+abbrev pub life_word : ℕ → ℕ
+life_word generation = place_word (Some record { frame = 0; generation = generation })
+
 -- the place 1 names the frame 0 in its life 3
 abbrev pub named : ReaderStep × ℕ
-named = (LoadPlace 1, 3072)
+named = (LoadPlace 1, life_word 3)
 
 -- a load found the frame in this life, with so many references, and an exchange did
 abbrev pub loads : ℕ → ℕ → ReaderStep × ℕ

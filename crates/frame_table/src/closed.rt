@@ -63,7 +63,7 @@ impl ClosedTable {
         FrameWord::unpack(self.frame_word(frame)).generation
     }
 
-    /// The word of a place: 0 where it is empty, else `generation * 1024 + frame`.
+    /// The word of a place: 0 where it is empty, else `generation * PLACE_SPAN + frame`.
     pub fn place(&self, place: u32) -> u64
         requires { place < frames_of self.now.shape }
         ensures { result ≡ slice_index self.now.words place }

@@ -70,7 +70,7 @@ impl Keeper {
         self.note(frame).kind
     }
 
-    /// How many references on a frame are the keeper's own: 0 to 1,024.
+    /// How many references on a frame are the keeper's own: 0 to `MOST_REFERENCES`.
     pub fn base(&self, frame: u32) -> u64
         requires { frame < frames_of self.now.table.shape }
         ensures { result ≡ (frame_at self.now.ledger frame).base }
@@ -95,7 +95,7 @@ impl Keeper {
         self.frames[frame as usize]
     }
 
-    /// Takes one reference more on a frame on which the keeper has 1 to 1,023.
+    /// Takes one reference more on a frame on which the keeper has 1 to `MOST_REFERENCES - 1`.
     pub fn add(&mut self, table: &FrameTable, frame: u32)
         requires own { self.old.table ≡ table.now }
         requires may { May self.old (Add frame) }

@@ -1,6 +1,7 @@
 //! The table and its words. Nothing else of the crate reaches the words: each step of a seat is one function here, of one operation on a word.
 ghost use Rattle.std.specs.Prelude.{◌≡◌, ℕ, ◌+◌, ◌-◌, ◌%◌, ◌^◌, ◌<◌, ◌≤◌, List, Option, Some, IfOk, IfErr, vec_len, All};
 ghost use Rattle.ksm_base.specs.declared.fault.Fault.TheVariants as fault_of;
+ghost use Rattle.ksm_base.specs.declared.limits.TheConstants.{FRAME_WORDS as frame_words, MOST_FRAMES as most_frames};
 ghost use Rattle.ksm_base.specs.declared.page.TheConstants.{PAGE_WORDS as words_of_page};
 ghost use Rattle.ksm_base.specs.Values.{IsShape, frames_of};
 ghost use Rattle.frame_core.specs.declared.event.KeeperStep.TheVariants as keeper;
@@ -23,14 +24,14 @@ use crate::reader_steps::{Exchange, Leave, LoadFrame, LoadPlace, LoadWord};
 use crate::seats::{GiveBack, NewPass};
 use crate::view::{FrameRule, View};
 use atomic_table::{Seat, Table};
-use frame_core::{FrameWord, Kind, LINE_WORDS};
-use ksm_base::{Fault, PAGE_WORDS, Shape};
+use frame_core::{Kind, LINE_WORDS};
+use ksm_base::{COUNT_SPAN, Fault, PAGE_WORDS, Shape};
 use std::alloc::Global;
 use std::marker::Model;
 
 // How many words a table of so many places has.
 pub(crate) fn word_count(places: usize) -> usize
-    requires { places ≤ 1024 }
+    requires { places ≤ most_frames }
     ensures { result ≡ words_for places }
 {
     places + (places + 1) * LINE_WORDS + places * PAGE_WORDS
@@ -51,6 +52,7 @@ impl Model for FrameTable {
     ghost use Rattle.std.specs.Prelude.{◌≡◌, ◌≤◌};
     ghost use Rattle.frame_core.specs.Words.{words_for, page_at};
     ghost use Rattle.ksm_base.specs.Values.{IsShape, frames_of};
+    ghost use Rattle.ksm_base.specs.declared.limits.TheConstants.{MOST_FRAMES as most_frames};
     ghost use Rattle.frame_table.specs.Named.{TableName};
 
     ghost Value = { TableName };
@@ -63,7 +65,7 @@ impl Model for FrameTable {
       slots : t.table.shared.table_id.slots ≡ 0;
       shape : IsShape t.shape;
       places : t.places ≡ frames_of t.shape;
-      few : t.places ≤ 1024;
+      few : t.places ≤ most_frames;
       pages : t.pages ≡ page_at (frames_of t.shape) 0;
     } };
 }
@@ -229,7 +231,7 @@ impl FrameTable {
     // Raises the frame word by one, if it is still the one that was loaded. Answers the word found.
     pub(crate) fn exchange(&self, seat: &mut Seat<(), View>, word: usize, loaded: u64) -> u64
         requires own { seat.old.table_id ≡ self.now.id }
-        requires inside { (word < self.now.id.words) × (loaded < 2 ^ 57) }
+        requires inside { (word < self.now.id.words) × (loaded < frame_words) }
         requires phase { (aim : Aim) × (failures count : ℕ) × (frame_word_at (frames_of self.now.shape) aim.life.frame ≡ word) × (loaded ≡ frame_word aim.life.generation count) × IsIn self.now.shape (Counted aim failures count) seat.old.me }
         ensures seat { (seat.new.table_id ≡ seat.old.table_id) × (seat.new.id ≡ seat.old.id) }
         ensures step { StepsNow reader.Exchange seat.old.me result seat.new.me }
@@ -289,7 +291,7 @@ impl FrameTable {
     {
         self.table
             .shared
-            .fetch_add::<Raise>(seat, self.frame_word(frame), FrameWord::ONE_LIFE)
+            .fetch_add::<Raise>(seat, self.frame_word(frame), COUNT_SPAN)
     }
 
     pub(crate) fn open_at(&self, seat: &mut Seat<(), View>, frame: u32) -> u64

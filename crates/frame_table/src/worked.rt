@@ -9,7 +9,8 @@ ghost use Rattle.frame_table.specs.Named.{TableName, KeeperView, PassView, HeldV
 ghost use Rattle.frame_table.specs.Equal.{Compares};
 ghost use Rattle.frame_table.specs.Lookup.{IsVacant, IsZero, IsOld, IsBusy, IsFound, LooksUp, ReadsWord, Leaves};
 ghost use Rattle.frame_table.specs.Seats.{Opened, Ends, new_keeper};
-ghost use Rattle.frame_table.specs.Worked.{two_tries, named, loads, finds, pass_of, ended, closed};
+ghost use Rattle.frame_table.specs.Worked.{two_tries, life_word, named, loads, finds, pass_of, ended, closed};
+ghost use Rattle.frame_core.specs.State.{frame_word};
 
 /// An empty place.
 pub fn lookups_of_an_empty_place()
@@ -97,8 +98,8 @@ pub fn tables_that_were_opened()
 
 /// A table closed with one reference on its frame, the keeper's.
 pub fn tables_that_were_closed()
-    ensures end { Ends ended (closed 1024 65537) }
-    ensures held { ¬ Ends ended (closed 1024 65538) }
-    ensures another_life { ¬ Ends ended (closed 1024 131073) }
-    ensures another_place { ¬ Ends ended (closed 0 65537) }
+    ensures end { Ends ended (closed (life_word 1) (frame_word 1 1)) }
+    ensures held { ¬ Ends ended (closed (life_word 1) (frame_word 1 2)) }
+    ensures another_life { ¬ Ends ended (closed (life_word 1) (frame_word 2 1)) }
+    ensures another_place { ¬ Ends ended (closed 0 (frame_word 1 1)) }
 {}

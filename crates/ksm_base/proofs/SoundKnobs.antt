@@ -9,6 +9,7 @@ use Rattle.ksm_base.specs.declared.row.PageState.TheVariants.{Private, Waiting, 
 use Rattle.ksm_base.specs.declared.row.Row.{Row}
 use Rattle.ksm_base.specs.declared.row.DupRow.{DupRow}
 use Rattle.ksm_base.specs.declared.knobs.Knobs.{Knobs}
+use Rattle.ksm_base.specs.declared.limits.TheConstants.{MOST_REFERENCES}
 use Rattle.ksm_base.specs.declared.command.Command.TheVariants.{SetRun, SetPagesToScan, SetAcross, SetLimit, SetZeroPages}
 use Rattle.ksm_base.specs.declared.reply.Reply.{Reply}
 use Rattle.ksm_base.specs.declared.reply.Reply.TheVariants.{Done, Scanned, Pruned, Unmerged}
@@ -132,7 +133,7 @@ sound_set_across b v reply accepted s =
 -- `set max_page_sharing` keeps the state sound
 pub sound_set_limit : (b : BookState) (v : ℕ) (reply : Reply) → refusal b (SetLimit v) ≡ None → IsSound b → IsSound (effect b (SetLimit v) reply)
 sound_set_limit b v reply accepted s =
-    let first = refused_none (not (is_within 2 1024 v)) BadValue _ accepted in
+    let first = refused_none (not (is_within 2 MOST_REFERENCES v)) BadValue _ accepted in
     let second = refused_none (not (v == b.knobs.max_page_sharing) && nat_lt 0 (shared_count b.rows b.dups)) SharedPages None first.1 in
     let knobs : Knobs = record b.knobs { max_page_sharing = v } in
     cond_both (v == b.knobs.max_page_sharing) b (record (without_stale b) { knobs = knobs }) IsSound (λ _. s)
@@ -142,7 +143,7 @@ sound_set_limit b v reply accepted s =
       run = s.knobs.run;
       pages_to_scan = s.knobs.pages_to_scan;
       merge_across_nodes = s.knobs.merge_across_nodes;
-      max_page_sharing = within 2 1024 v first.0;
+      max_page_sharing = within 2 MOST_REFERENCES v first.0;
       use_zero_pages = s.knobs.use_zero_pages;
     })
     (no_dup_lives b (none_shared b (v == b.knobs.max_page_sharing) second.0 other)) s.waiting (sound_without_stale b s))

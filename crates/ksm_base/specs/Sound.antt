@@ -4,6 +4,7 @@ use Rattle.ksm_base.specs.declared.row.PageState.TheVariants.{Merged}
 use Rattle.ksm_base.specs.declared.row.Row.{Row}
 use Rattle.ksm_base.specs.declared.row.DupRow.{DupRow}
 use Rattle.ksm_base.specs.declared.knobs.Knobs.{Knobs}
+use Rattle.ksm_base.specs.declared.limits.TheConstants.{MOST_REFERENCES}
 use Rattle.ksm_base.specs.Values.{IsShape}
 use Rattle.ksm_base.specs.Rows.{InPageOrder, InPlaceOrder, private_state, waiting_state, zero_state, all_zero, item_count, dup_numbered}
 use Rattle.ksm_base.specs.State.{BookState, tree_of}
@@ -15,7 +16,7 @@ pub record AreKnobs (knobs : Knobs) : Type 0 where
   pub run : knobs.run ≤ 2
   pub pages_to_scan : (1 ≤ knobs.pages_to_scan) × (knobs.pages_to_scan ≤ 1000000)
   pub merge_across_nodes : knobs.merge_across_nodes ≤ 1
-  pub max_page_sharing : (2 ≤ knobs.max_page_sharing) × (knobs.max_page_sharing ≤ 1024)
+  pub max_page_sharing : (2 ≤ knobs.max_page_sharing) × (knobs.max_page_sharing ≤ MOST_REFERENCES)
   pub use_zero_pages : knobs.use_zero_pages ≤ 1
 
 -- the dup of a row that is merged into a number: it stands among the dups, with the row's tree and bytes

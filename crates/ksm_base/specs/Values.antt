@@ -1,7 +1,8 @@
 -- The numbers of the faults and the ranges of a shape. Own.
-use Rattle.std.specs.Prelude.{ℕ, ◌≤◌, ◌*◌, ◌^◌}
+use Rattle.std.specs.Prelude.{ℕ, ◌≤◌, ◌*◌}
 use Rattle.ksm_base.specs.declared.fault.Fault.{Fault}
 use Rattle.ksm_base.specs.declared.fault.Fault.TheVariants.{Memory, UnknownPage, AlreadyRegistered, NoFrame, NotRunning, SharedPages, BadValue, InUse, CrossesNodes, UnknownPlace, BadNode}
+use Rattle.ksm_base.specs.declared.limits.TheConstants.{MOST_NODES, MOST_FRAMES_PER_NODE, MOST_PASSES, MOST_LIVES, MOST_TRIES}
 use Rattle.ksm_base.specs.declared.shape.Shape.{Shape}
 
 -- the number by which a reply tells a fault
@@ -21,15 +22,15 @@ fault_number BadNode = 11
 -- each size is in its range
 pub record IsShape (s : Shape) : Type 0 where
   pub nodes_low : 1 ≤ s.nodes
-  pub nodes_high : s.nodes ≤ 4
+  pub nodes_high : s.nodes ≤ MOST_NODES
   pub frames_low : 1 ≤ s.frames_per_node
-  pub frames_high : s.frames_per_node ≤ 256
+  pub frames_high : s.frames_per_node ≤ MOST_FRAMES_PER_NODE
   pub passes_low : 1 ≤ s.passes
-  pub passes_high : s.passes ≤ 16
+  pub passes_high : s.passes ≤ MOST_PASSES
   pub generation_low : 1 ≤ s.last_generation
-  pub generation_high : s.last_generation ≤ 2 ^ 40
+  pub generation_high : s.last_generation ≤ MOST_LIVES
   pub tries_low : 1 ≤ s.tries
-  pub tries_high : s.tries ≤ 64
+  pub tries_high : s.tries ≤ MOST_TRIES
 
 -- how many frames there are on all nodes together
 abbrev pub frames_of : Shape → ℕ

@@ -61,8 +61,8 @@ pub enum Command {
     /// `merge_across_nodes`, 0 or 1 (admin-guide/mm/ksm); another value drops the stale dups and the waiting pages wait
     /// no more. Answers `Done`; `BadValue`, `SharedPages`.
     SetAcross(u32),
-    /// `max_page_sharing`, 2 to 1,024 (admin-guide/mm/ksm); another value drops the stale dups. Answers `Done`;
-    /// `BadValue`, `SharedPages`.
+    /// `max_page_sharing`, 2 to `MOST_REFERENCES` (admin-guide/mm/ksm); another value drops the stale dups. Answers
+    /// `Done`; `BadValue`, `SharedPages`.
     SetLimit(u32),
     /// `use_zero_pages`, 0 or 1 (admin-guide/mm/ksm), at any time; it changes no row. Answers `Done`; `BadValue`.
     SetZeroPages(u32),

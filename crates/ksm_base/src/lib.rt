@@ -7,6 +7,7 @@ mod counters;
 mod fault;
 mod knobs;
 pub mod laws;
+mod limits;
 mod page;
 mod reply;
 mod row;
@@ -17,6 +18,10 @@ pub use command::Command;
 pub use counters::Counters;
 pub use fault::Fault;
 pub use knobs::Knobs;
+pub use limits::{
+    COUNT_SPAN, FRAME_WORDS, MOST_COUNT, MOST_FRAMES, MOST_FRAMES_PER_NODE, MOST_LIVES, MOST_NODES,
+    MOST_PASSES, MOST_REFERENCES, MOST_TRIES, PLACE_SPAN,
+};
 pub use page::{GuestPage, PAGE_WORDS, PageBytes};
 pub use reply::Reply;
 pub use row::{DupRow, PageState, Row};

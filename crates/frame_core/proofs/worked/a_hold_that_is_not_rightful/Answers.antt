@@ -1,7 +1,7 @@
 use Rattle.std.proofs.Common.{◌≡◌, ℕ, Bool, true, false, [], Option, Some, refl, ap, arith}
 use Rattle.std.proofs.lemmas.Option.{same_Some}
 use Rattle.std.proofs.lemmas.List.Elements.{All-cons, All-nil, All-head}
-use Rattle.frame_core.proofs.Names.{Reader, LoadWord, named_word, and_then}
+use Rattle.frame_core.proofs.Names.{PLACE_SPAN, Reader, LoadWord, named_word, and_then}
 use Rattle.frame_core.proofs.worked.a_hold_that_is_not_rightful.Goals as goal
 
 abbrev Named : ℕ → ℕ × ℕ → Type 0
@@ -11,8 +11,8 @@ pub returns-clause-rightful : goal.returns-clause-rightful
 returns-clause-rightful c = record { named = refl; frame = omega arith; same_life = refl; not_given = refl; words = All-cons (Named 8) (1, 8) [] refl (All-nil (Named 8)) }
 
 pub returns-clause-another_place : goal.returns-clause-another_place
-returns-clause-another_place c = λ h. let place : ◌≡◌ {A = Option (ℕ × ℕ)} (Some (0, 1024)) (Some (1, 1024)) = h.named in
-    let number : ◌≡◌ {A = ℕ} 0 1 = ap (λ (x : ℕ × ℕ). x.0) (same_Some (0, 1024) (1, 1024) place) in omega (arith, number)
+returns-clause-another_place c = λ h. let place : ◌≡◌ {A = Option (ℕ × ℕ)} (Some (0, PLACE_SPAN)) (Some (1, PLACE_SPAN)) = h.named in
+    let number : ◌≡◌ {A = ℕ} 0 1 = ap (λ (x : ℕ × ℕ). x.0) (same_Some (0, PLACE_SPAN) (1, PLACE_SPAN) place) in omega (arith, number)
 
 pub returns-clause-frame_of_no_word : goal.returns-clause-frame_of_no_word
 returns-clause-frame_of_no_word c = λ h. omega (arith, h.frame)

@@ -1,19 +1,20 @@
 use Rattle.std.proofs.Common.{◌≡◌, [], ◌∷◌, ap, ◌∙◌, refl, arith}
-use Rattle.frame_core.specs.State.{count_in}
+use Rattle.frame_core.specs.State.{count_in, frame_word}
+use Rattle.frame_table.proofs.Names.{life_word}
 use Rattle.frame_table.proofs.NoLookups.{words, long, made}
 use Rattle.frame_table.proofs.worked.lookups_of_an_unreferenced_frame.Goals as goal
 
 pub returns-clause-at_once : goal.returns-clause-at_once
-returns-clause-at_once c = (3072, [], 196608, (λ e. omega (arith, e), tt, omega arith), refl, refl)
+returns-clause-at_once c = ((life_word 3), [], (frame_word 3 0), (λ e. omega (arith, e), tt, omega arith), refl, refl)
 
 pub returns-clause-in_any_life : goal.returns-clause-in_any_life
-returns-clause-in_any_life c = (3072, [], 262144, (λ e. omega (arith, e), tt, omega arith), refl, refl)
+returns-clause-in_any_life c = ((life_word 3), [], (frame_word 4 0), (λ e. omega (arith, e), tt, omega arith), refl, refl)
 
 pub returns-clause-after_a_loss : goal.returns-clause-after_a_loss
 returns-clause-after_a_loss c = (
-  3072,
-  (196610, 196609) ∷ [],
-  196608,
+  (life_word 3),
+  ((frame_word 3 2), (frame_word 3 1)) ∷ [],
+  (frame_word 3 0),
   (λ e. omega (arith, e), ((λ e. omega (arith, e), refl), λ e. omega (arith, e), tt), omega arith),
   refl,
   refl,
@@ -28,5 +29,5 @@ returns-clause-after_no_loss c (word, x ∷ xs, last, (named, lost, few), none, 
 
 pub returns-clause-referenced : goal.returns-clause-referenced
 returns-clause-referenced c (word, [], last, goes, none, e) =
-    let w : 196609 ≡ last = cc (words e) in let n : 1 ≡ 0 = ap count_in w ∙ none in omega (arith, n)
+    let w : (frame_word 3 1) ≡ last = cc (words e) in let n : 1 ≡ 0 = ap count_in w ∙ none in omega (arith, n)
 returns-clause-referenced c (word, x ∷ xs, last, goes, none, e) = cc (e)

@@ -1,6 +1,7 @@
 use Rattle.std.proofs.Common.{◌≡◌, ℕ, ◌+◌, ◌*◌, List, [], ◌∷◌, length, ap, sym, refl, ◌∙◌, arith, append-nil}
 use Rattle.frame_table.specs.Lookup.{ReaderLog, lookup_so_far}
-use Rattle.frame_core.specs.State.{count_in}
+use Rattle.frame_core.specs.State.{count_in, frame_word}
+use Rattle.frame_table.proofs.Names.{life_word}
 use Rattle.frame_table.proofs.NoLookups.{words, long, made}
 use Rattle.frame_table.proofs.worked.lookups_that_are_busy.Goals as goal
 
@@ -10,8 +11,8 @@ tried word xs log e = let n = long 1 word xs [] log (e ∙ sym (append-nil (look
 
 pub returns-clause-all_tries : goal.returns-clause-all_tries
 returns-clause-all_tries c = (
-  3072,
-  (196610, 196609) ∷ (196609, 262145) ∷ [],
+  (life_word 3),
+  ((frame_word 3 2), (frame_word 3 1)) ∷ ((frame_word 3 1), (frame_word 4 1)) ∷ [],
   λ e. omega (arith, e),
   ((λ e. omega (arith, e), refl), λ e. omega (arith, e), ((λ e. omega (arith, e), refl), λ e. omega (arith, e), tt)),
   refl,
@@ -31,4 +32,4 @@ returns-clause-no_loss c (word, x ∷ y ∷ xs, some, lost, two, e) = made _ xs 
 
 pub returns-clause-from_zero : goal.returns-clause-from_zero
 returns-clause-from_zero c (word, [], some, lost, two, e) = cc (e)
-returns-clause-from_zero c (word, x ∷ xs, some, lost, two, e) = let w : 196608 ≡ x.0 = cc (words e) in lost.0.0 (sym (ap count_in w))
+returns-clause-from_zero c (word, x ∷ xs, some, lost, two, e) = let w : (frame_word 3 0) ≡ x.0 = cc (words e) in lost.0.0 (sym (ap count_in w))

@@ -1,12 +1,12 @@
 use Rattle.std.proofs.Common.{rules, ◌≡◌, ◌<◌, ◌%◌, ℕ, ap, subst, refl, arith}
-use Rattle.frame_table.proofs.CoreNames.{IsShape, Publish}
+use Rattle.frame_table.proofs.CoreNames.{IsShape, PLACE_SPAN, Publish}
 use Rattle.frame_table.specs.Keeping.{Keeps}
 use Rattle.frame_core.proofs.Above.{frames_at_most}
 use Rattle.frame_table.proofs.KeeperCalls.{may_publish}
 use Rattle.frame_table.proofs.table.FrameTable.publish_at.Goals as goal
 
--- a frame of the table has a number of ten bits
-low : (c : goal.After-store) → c.args.frame < 1024
+-- the number of a frame has room in the word of a place
+low : (c : goal.After-store) → c.args.frame < PLACE_SPAN
 low c = let few = frames_at_most c.args.self.now.shape (subst IsShape (ap (λ n. n.shape) c.self.view_is) c.self.invariant.shape) in omega (arith, few, c.requires.asks.may.1)
 
 pub store-requires : goal.store-requires
@@ -21,6 +21,6 @@ store-requires c =
 -- the name tells the frame in its lowest bits
 pub returns-clause-step : goal.returns-clause-step
 returns-clause-step c =
-    let low : c.args.frame < 1024 = low c in
-    let same : c.args.name % 1024 ≡ c.args.frame = omega (arith, low, c.requires.name) in
+    let low : c.args.frame < PLACE_SPAN = low c in
+    let same : c.args.name % PLACE_SPAN ≡ c.args.frame = omega (arith, low, c.requires.name) in
     subst (λ (f : ℕ). Keeps (Publish c.args.place f) c.args.seat.now.me 0 c.store.new.seat.me) same (c.store.ensures.2 c.args.place refl)
