@@ -1,6 +1,7 @@
 -- What the keeper does where a dup moves to another frame (own).
 use Rattle.std.specs.Prelude.{◌≡◌, ◌≢◌, ◌<◌, ◌≤◌, ◌+◌, ℕ, [], ◌∷◌, Contains, Result, Ok, Err, Some}
 use Rattle.std.specs.Prelude.{length, slice_set}
+use Rattle.ksm_base.specs.declared.limits.TheConstants.{MOST_REFERENCES}
 use Rattle.ksm_base.specs.declared.page.TheConstants.{PAGE_WORDS}
 use Rattle.ksm_base.specs.Values.{frames_of}
 use Rattle.ksm_base.specs.declared.fault.Fault.{Fault}
@@ -30,7 +31,7 @@ pub record MayMount (v : KeeperView) (left frame place count : ℕ) : Type 0 whe
   pub loose : IsLoose v.ledger (named_at v.ledger place)
   -- of references there is one at least, and not too many
   pub some : 1 ≤ count
-  pub few : count ≤ 1024
+  pub few : count ≤ MOST_REFERENCES
 
 -- a frame, in its next life, has the bytes of another and so many references, and a place names it
 abbrev pub once_mounted : Ledger → ℕ → ℕ → ℕ → ℕ → Ledger

@@ -111,7 +111,7 @@ impl FrameKeeper {
         self.free.least(from, end)
     }
 
-    /// How many references on a frame are the keeper's own: 0 to 1,024.
+    /// How many references on a frame are the keeper's own: 0 to `MOST_REFERENCES`.
     pub fn base(&self, frame: u32) -> u64
         requires { frame < frames_of self.now.table.shape }
         ensures { result ≡ (frame_at self.now.ledger frame).base }

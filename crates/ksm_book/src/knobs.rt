@@ -8,7 +8,7 @@ ghost use Rattle.ksm_book.specs.Whole.{view_of};
 use crate::settling::drop_stale;
 use crate::state::State;
 use frame_table::FrameTable;
-use ksm_base::{Command, Fault, Knobs, Reply};
+use ksm_base::{Command, Fault, Knobs, MOST_REFERENCES, Reply};
 
 impl State {
     /// Sets how many pages a scan visits.
@@ -62,7 +62,7 @@ impl State {
         requires own { self.old.keeper.table ≡ table.now }
         ensures { CarriedOut (view_of self.old) (view_of self.new) (Command.SetLimit limit) result }
     {
-        if !(2..=1024).contains(&limit) {
+        if !(2..=MOST_REFERENCES).contains(&u64::from(limit)) {
             return Err(Fault::BadValue);
         }
         let knobs = self.pages.knobs();
