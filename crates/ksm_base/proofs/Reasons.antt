@@ -7,6 +7,7 @@ use Rattle.std.proofs.lemmas.Bool.{cases_Bool, ltb-true, ltb-false, leb-true, le
 use Rattle.std.proofs.lemmas.Bool.Decides.{Decides-eqb, Decides-at, Decides-not, Decides-and, not_from_Decides, nat_tests}
 use Rattle.std.proofs.lemmas.List.Sums.{length-filter}
 use Rattle.std.proofs.lemmas.Option.{none-some, same_Some}
+use Rattle.ksm_base.specs.declared.limits.TheConstants.{MOST_REFERENCES}
 use Rattle.ksm_base.specs.declared.page.GuestPage.{GuestPage}
 use Rattle.ksm_base.specs.declared.row.PageState.{PageState}
 use Rattle.ksm_base.specs.declared.row.PageState.TheVariants.{Private, Waiting, Merged, Zero}
@@ -185,10 +186,10 @@ module _ (b : BookState) where
       (λ u. let both = (Decides-changes b.knobs.merge_across_nodes v).0 u in across_shared (ltb-false 1 v t) both.0 both.1) f)
   reason (SetZeroPages v) = by_one (Refuses b (SetZeroPages v)) (nat_lt 1 v) BadValue (λ t. zero_above (ltb-true 1 v t))
   reason (SetLimit v) =
-      by_first (Refuses b (SetLimit v)) (not (is_within 2 1024 v)) BadValue (refused_if (changes_while_shared b b.knobs.max_page_sharing v) SharedPages None) (λ t. limit_outside ((Decides-outside 2 1024 v).0 t))
+      by_first (Refuses b (SetLimit v)) (not (is_within 2 MOST_REFERENCES v)) BadValue (refused_if (changes_while_shared b b.knobs.max_page_sharing v) SharedPages None) (λ t. limit_outside ((Decides-outside 2 MOST_REFERENCES v).0 t))
       (λ f t. by_one (Refuses b (SetLimit v)) (changes_while_shared b b.knobs.max_page_sharing v) SharedPages
       (λ u. let both = (Decides-changes b.knobs.max_page_sharing v).0 u in
-      limit_shared (not_from_Decides (not (is_within 2 1024 v)) (Decides-outside 2 1024 v) t) both.0 both.1) f)
+      limit_shared (not_from_Decides (not (is_within 2 MOST_REFERENCES v)) (Decides-outside 2 MOST_REFERENCES v) t) both.0 both.1) f)
 
   no_node_fails : (node : ℕ) → node < b.shape.nodes → is_no_node b node ≡ false
   no_node_fails node there = grind (arith, nat_tests, there)
@@ -221,9 +222,9 @@ module _ (b : BookState) where
   refused (across_above {v = v} h) = here (nat_lt 1 v) BadValue _ (grind (arith, nat_tests, h))
   refused (across_shared {v = v} most other shares) =
       behind (nat_lt 1 v) BadValue SharedPages _ (grind (arith, nat_tests, most)) (here _ SharedPages None ((Decides-changes b.knobs.merge_across_nodes v).1 (other, shares)))
-  refused (limit_outside {v = v} h) = here _ BadValue _ ((Decides-outside 2 1024 v).1 h)
+  refused (limit_outside {v = v} h) = here _ BadValue _ ((Decides-outside 2 MOST_REFERENCES v).1 h)
   refused (limit_shared {v = v} inside other shares) =
-      behind _ BadValue SharedPages _ (fails _ (Decides-outside 2 1024 v) inside) (here _ SharedPages None ((Decides-changes b.knobs.max_page_sharing v).1 (other, shares)))
+      behind _ BadValue SharedPages _ (fails _ (Decides-outside 2 MOST_REFERENCES v) inside) (here _ SharedPages None ((Decides-changes b.knobs.max_page_sharing v).1 (other, shares)))
   refused (zero_above {v = v} h) = here (nat_lt 1 v) BadValue None (grind (arith, nat_tests, h))
 
 abbrev StopHome : (Row → Bool) → List Row → ℕ → ℕ → Type 0

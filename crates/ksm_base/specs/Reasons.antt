@@ -4,6 +4,7 @@
 -- `each_answer_has_its_reason`. Own.
 use Rattle.std.specs.Prelude.{◌≡◌, ◌≢◌, ℕ, ◌+◌, ◌<◌, ◌≤◌, Bool, true, ◌&&◌, List, ◌∷◌, ◌++◌, length, count_by, Any}
 use Rattle.std.specs.Prelude.{◌⊎◌, Some, None, Ok, Err}
+use Rattle.ksm_base.specs.declared.limits.TheConstants.{MOST_REFERENCES}
 use Rattle.ksm_base.specs.declared.page.GuestPage.{GuestPage}
 use Rattle.ksm_base.specs.declared.row.PageState.TheVariants.{Merged, Zero}
 use Rattle.ksm_base.specs.declared.row.Row.{Row}
@@ -76,8 +77,8 @@ pub data Refuses (b : BookState) : Command → Fault → Type 0 where
   across_above : {v : ℕ} → 1 < v → Refuses b (SetAcross v) BadValue
   across_shared : {v : ℕ} → v ≤ 1 → v ≢ b.knobs.merge_across_nodes → SharesPages b
       → Refuses b (SetAcross v) SharedPages
-  limit_outside : {v : ℕ} → IsOutside 2 1024 v → Refuses b (SetLimit v) BadValue
-  limit_shared : {v : ℕ} → ¬ (IsOutside 2 1024 v) → v ≢ b.knobs.max_page_sharing → SharesPages b
+  limit_outside : {v : ℕ} → IsOutside 2 MOST_REFERENCES v → Refuses b (SetLimit v) BadValue
+  limit_shared : {v : ℕ} → ¬ (IsOutside 2 MOST_REFERENCES v) → v ≢ b.knobs.max_page_sharing → SharesPages b
       → Refuses b (SetLimit v) SharedPages
   zero_above : {v : ℕ} → 1 < v → Refuses b (SetZeroPages v) BadValue
 

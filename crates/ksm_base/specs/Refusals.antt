@@ -1,6 +1,7 @@
 -- The refusals that the state decides, in the order in which they are tested. Own, where nothing else is said.
 use Rattle.std.specs.Prelude.{ℕ, Bool, false, not, ◌&&◌, ◌==◌, nat_lt, nat_le, find, Option, Some, None, is_some, is_none, if◌then◌else◌}
 use Rattle.std.specs.List.{list_any}
+use Rattle.ksm_base.specs.declared.limits.TheConstants.{MOST_REFERENCES}
 use Rattle.ksm_base.specs.declared.page.GuestPage.{GuestPage}
 use Rattle.ksm_base.specs.declared.row.Row.{Row}
 use Rattle.ksm_base.specs.declared.row.DupRow.{DupRow}
@@ -69,4 +70,4 @@ refusal b (SetAcross v) =
     refused_if (nat_lt 1 v) BadValue (refused_if (changes_while_shared b b.knobs.merge_across_nodes v) SharedPages None)
 refusal b (SetZeroPages v) = refused_if (nat_lt 1 v) BadValue None
 refusal b (SetLimit v) =
-    refused_if (not (is_within 2 1024 v)) BadValue (refused_if (changes_while_shared b b.knobs.max_page_sharing v) SharedPages None)
+    refused_if (not (is_within 2 MOST_REFERENCES v)) BadValue (refused_if (changes_while_shared b b.knobs.max_page_sharing v) SharedPages None)

@@ -60,10 +60,6 @@ pub record IsCut (asked : Row → Bool) (f : Row → Row) (rows now done : List 
   -- while the page's row is not changed, just the rows asked for before it are
   pub stop : now ≡ change_rows (λ x. asked x && is_before (Some row) x) f rows
 
--- before the first page no row is done and no row is changed
-pub along_first : (asked : Row → Bool) (f : Row → Row) (rows : List Row) → IsAlong asked f rows rows None [] rows
-along_first asked f rows = record { whole = refl; are = refl; behind = λ k d lt. absurd (omega (arith, lt)); ahead = λ k d lt. refl }
-
 module _ {asked : Row → Bool} (f : Row → Row) (keeps : (r : Row) → (f r).page ≡ r.page) {rows now : List Row} {last : Option GuestPage}
     {done left : List Row} (a : IsAlong asked f rows now last done left) where
   abbrev next_of : Option GuestPage → Row → Bool

@@ -1,5 +1,5 @@
 -- Rows that change at one page: what becomes of what holds of each row, and of how many lie on a frame.
-use Rattle.ksm_book.proofs.Names.{[], All, All-map, ap, arith, Bool, both_ways, cases_Bool, change_row, cond, cond_both, count_with_row, count_without_page, counts_one, eq-eqb, eqb-true, false, filter, filter_passes, find_all, find_none, find_passes, Frames, get_or, GuestPage, inl, InPageOrder, inr, is_frame, lies_on, List, map, ne_eqb, None, not, not-true, one_of_each_page, Option, refl, Row, row_at, same_page, same_page_eq, same_page_refl, Some, subst, sym, true, uses, with_row, without_page, ℕ, ◌+◌, ◌∙◌, ◌∷◌, ◌≡◌, ◌≢◌, ◌≤◌, ◌⊎◌, count_alike, count_mapped, map_mapped, find_changed, if◌then◌else◌, Contains, zero, suc, option_map, same_Some}
+use Rattle.ksm_book.proofs.Names.{All, All-map, ap, arith, Bool, both_ways, cases_Bool, change_row, cond, cond_both, count_with_row, count_without_page, counts_one, eq-eqb, eqb-true, false, filter_passes, find_all, find_none, find_passes, Frames, get_or, GuestPage, inl, InPageOrder, inr, is_frame, lies_on, List, map, ne_eqb, None, not, not-true, one_of_each_page, Option, refl, Row, row_at, same_page, same_page_eq, same_page_refl, Some, subst, sym, true, uses, with_row, without_page, ℕ, ◌+◌, ◌∙◌, ◌≡◌, ◌≢◌, ◌≤◌, ◌⊎◌, count_alike, count_mapped, map_mapped, find_changed, if◌then◌else◌, option_map, same_Some}
 
 -- frames that are equal at each page are equal
 pub same_frames : (f g : Frames) → ((page : GuestPage) → f page ≡ g page) → f ≡ g
@@ -89,16 +89,6 @@ all_changed_row P Q page c rows row rise found all others here =
     cond_both (same_page r.page page) (c r) r Q
     (λ same. let is = one i d lt same in subst (λ s. P s → Q (c s)) (sym is) here (all i d lt))
     (λ other. others r other (all i d lt)))
-
--- an element of a list that passes a test is among those that pass
-pub contains_filter : {X : Type 0} (t : X → Bool) (xs : List X) (x : X) → Contains xs x → t x ≡ true → Contains (filter t xs) x
-contains_filter t [] x has e = absurd (let lt = has.1 in omega (arith, lt))
-contains_filter t (y ∷ ys) x (zero, lt, is) e =
-    subst (λ b. Contains (if b then y ∷ filter t ys else filter t ys) x) (sym (ap t is ∙ e)) (0, omega arith, is)
-contains_filter t (y ∷ ys) x (suc i, lt, is) e =
-    let rest = contains_filter t ys x (i, omega (arith, lt), is) e in
-    cond_both (t y) (y ∷ filter t ys) (filter t ys) (λ zs. Contains zs x)
-    (λ _. (suc rest.0, (let low = rest.1 in omega (arith, low)), rest.2)) (λ _. rest)
 
 -- ---------------------------------------------------------------- how many lie on a frame
 

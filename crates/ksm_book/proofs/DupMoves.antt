@@ -1,5 +1,5 @@
 -- What is answered where a dup is to move.
-use Rattle.ksm_book.proofs.Names.{and_parts, Answer, ap, arith, BookState, CarriedOut, crosses, Done, DupRow, eqb-true, Err, false, Fault, find, find_passes, FindsHeld, GuestPage, has_items, HasMoved, HasRemounted, InUse, IsAnswerUnless, KeeperView, live_dup_at, lying, MatchOption, MayMove, MoveDup, Moves, NoFrame, None, NoneLeft, Ok, Option, PagesView, refusal, Some, state_of, subst, sym, ℕ, ◌&&◌, ◌==◌, ◌≡◌, nat_tests}
+use Rattle.ksm_book.proofs.Names.{and_parts, Answer, ap, arith, BookState, IsCarried, crosses, Done, DupRow, eqb-true, Err, false, Fault, find, find_passes, FindsHeld, GuestPage, has_items, HasRemounted, InUse, IsAnswerUnless, KeeperView, live_dup_at, lying, MatchOption, MayMove, MoveDup, Moves, NoFrame, None, Ok, Option, PagesView, refusal, Some, state_of, subst, sym, ℕ, ◌&&◌, ◌==◌, ◌≡◌, nat_tests}
 use Rattle.ksm_book.proofs.Singles.{book, there_is}
 
 module _ (b : BookState) (place node : ℕ) (dup : DupRow) (found : Some dup ≡ live_dup_at b place) where
@@ -23,7 +23,7 @@ module _ (p q : PagesView) (k l : KeeperView) (cursor : Option GuestPage) (passe
   b = state_of p cursor passes
 
   abbrev Carries : Answer → Type 0
-  Carries = CarriedOut (book p k cursor passes) (book q l cursor passes) (MoveDup place node)
+  Carries = IsCarried (book p k cursor passes) (book q l cursor passes) (MoveDup place node)
 
   answers : (answer : Answer) → IsAnswerUnless None b (MoveDup place node) answer
       → IsAnswerUnless (refusal b (MoveDup place node)) b (MoveDup place node) answer
@@ -36,26 +36,20 @@ module _ (p q : PagesView) (k l : KeeperView) (cursor : Option GuestPage) (passe
     answer = answers (Ok Done) tt;
     state = ap (λ (x : PagesView). state_of x cursor passes) h.rest;
     steps = subst (λ o. MatchOption o ⊥ (λ d. Moves (lying p k) (lying q l) p.rows d node)) found h.moves;
-    frames = (h.shown.part, h.shown.did);
-    shown = subst (λ x. HasMoved k l x node) (place_is b place node dup found) h.shown;
   }
 
   -- it answers the fault for which the dup stayed
   pub fault_carried : {X : Type 0} (fault : Fault) → HasRemounted {X = X} p q k l dup node (Err fault) → Carries (Err fault)
   fault_carried (NoFrame n) h = record {
     own = own;
-    answer = answers (Err (NoFrame n)) h.shown.0;
+    answer = answers (Err (NoFrame n)) h.moves.0;
     state = ap (λ (x : PagesView). state_of x cursor passes) h.rest;
-    steps = h.moves;
-    frames = (h.shown.1.part, h.shown.1.did);
-    shown = subst (NoneLeft k l) (sym h.shown.0) h.shown.1;
+    steps = h.moves.1;
   }
   fault_carried InUse h = record {
     own = own;
     answer = answers (Err InUse) tt;
     state = ap (λ (x : PagesView). state_of x cursor passes) h.rest;
     steps = subst (λ o. MatchOption o ⊥ (λ d. FindsHeld (lying p k) (lying q l) p.rows d node)) found h.moves;
-    frames = (h.shown.part, h.shown.did);
-    shown = h.shown;
   }
-  fault_carried _ h = absurd h.shown
+  fault_carried _ h = absurd h.moves

@@ -1,7 +1,6 @@
 -- Frames written, read, found and filled, and a dup's place that comes to name another frame.
 use Rattle.ksm_book.proofs.Names.{Add, ap, arith, blank, did, div-mul-add, Dying, Finds, FitsBase, frame_at, frames_of, Free, GenerationFits, get_or-set_other, get_or-set_same, inl, IsLawful, KeeperView, Kind, Ledger, length, length-set, List, loads, Made, mounting, None, Note, Open, PAGE_WORDS, Placed, Private, Provides, Publish, puts, Raise, raised, refl, replicate, replicate-append-replicate, same_Some, set-get_or, Shape, Some, spent, spent_on, stepped, subst, sym, Took, with_frame, ℕ, ◌*◌, ◌+◌, ◌-◌, ◌/◌, ◌<◌, ◌∙◌, ◌≡◌, ◌≢◌, ◌≤◌, set-set}
 use Rattle.ksm_book.proofs.ByPage.{one_same, one_other}
-use Rattle.ksm_book.proofs.Shown.{provides_does}
 use Rattle.ksm_book.proofs.Keeping.{node_end, searched_placed, searched_spends, spent_kept}
 use Rattle.ksm_book.proofs.Made.{made_one, made_part, made_then}
 use Rattle.ksm_book.proofs.Noted.{noted}
@@ -82,7 +81,6 @@ module _ {v w : KeeperView} {node : ℕ} {bytes : List ℕ} {g : ℕ} (less : no
       let before = searched_spends node h.finds.reaped in
       let end : spent w.ledger ≡ spent (with_frame u.ledger g own) = ap spent taken_ledger in
       record {
-        does = provides_does h;
         keeps = λ across rows frame dups p.
             let q = searched_placed node less h.finds.reaped across rows frame dups None p in
             let one = one_same g (Some g) refl in

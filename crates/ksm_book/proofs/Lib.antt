@@ -34,3 +34,4 @@ pub mod PageVisits
 pub mod Listed
 pub mod Pairing
 pub mod ScanCarried
+pub mod Carried

@@ -49,7 +49,7 @@ pub use Rattle.ksm_base.specs.declared.row.PageState.{PageState}
 pub use Rattle.ksm_base.specs.declared.row.PageState.TheVariants.{Merged, Waiting, Zero}
 pub use Rattle.ksm_base.specs.declared.row.Row.{Row}
 pub use Rattle.ksm_base.specs.declared.shape.Shape.{Shape}
-pub use Rattle.ksm_book.specs.Carried.{CarriedOut, JournaledBook, UnmergesTo}
+pub use Rattle.ksm_book.specs.Carried.{CarriedOut, IsCarried, JournaledBook, UnmergesTo}
 pub use Rattle.ksm_book.specs.Commands.{Deed, dup_frame, emptying, Finds, FindsHeld, FindsNone, frame_found, frame_number, frame_on, handling, idle, instead, joining, leaving, Mapped, mounting, Moves, pairing, Performs, Provides, pruning, Resettles, ResettlesEach, rewriting, row_visiting, scanning, staying, then_doing, visiting, visiting_of, withdrawing}
 pub use Rattle.ksm_book.specs.Folded.{begun, IsBeside, IsStill, last_of, mergeable_pages, next_visited, page_visited, pages_ahead, pages_visited, pass_at, restless_at, restless_row, visited, visits_beside}
 pub use Rattle.ksm_tree.specs.NumberSets.{has, Marks}
@@ -61,7 +61,7 @@ pub use Rattle.ksm_book.specs.Placement.{Agrees, DupFits, FitsBase, in_hand, is_
 pub use Rattle.ksm_book.specs.Promised.{dup_frames, FindsPlace, HasItsOwn, is_in_use, IsOutlived, LieOn, NumbersAreSmall, own_frames, StandsOn}
 pub use Rattle.ksm_book.specs.Scanned.{AreListed, Comes, doing, EndsAt, from_to, HasScanned, HasStayed, is_nowhere, IsForZero, last_visited, ListsAll, MayJoin, MeetsPage, Reached, up_to, VisitsPage}
 pub use Rattle.ksm_book.specs.Steps.{along, Did, Does, dying_from, dying_kind, dying_on, free_kind, given_by, Gives, IsLowestFree, IsNeeded, loads, Log, Made, needed_after, puts, replayed, stepped, steps_of}
-pub use Rattle.ksm_book.specs.Unmerged.{Gave, HasLeft, is_shared_of, IsStop, left_by, MayNotLeave, shared_of, Unshares}
+pub use Rattle.ksm_book.specs.Unmerged.{HasLeft, is_shared_of, IsStop, left_by, MayNotLeave, shared_of, Unshares}
 pub use Rattle.ksm_book.specs.Whole.{BookValue, BookView, HasShown, listed, mapped, nodes_got, view_of}
 pub use Rattle.ksm_book.specs.Worked.{apart, page, together}
 pub use Rattle.ksm_pages.proofs.Found.{find_changed, find_changed_other, find_put}

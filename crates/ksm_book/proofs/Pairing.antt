@@ -103,7 +103,8 @@ module _ (other : GuestPage) {p : PagesView} {k : KeeperView} {cursor : Option G
   pub may_withdraw : May k (Withdraw place)
   may_withdraw = may_clear k h place inside vacant
 
-  waits_one : row_at one p.rows ≡ Some w
+  -- and at the page that was told
+  pub waits_one : row_at one p.rows ≡ Some w
   waits_one = ap (λ q. row_at q p.rows) (is ∙ met.2) ∙ waits_at
 
   -- the two pages may become the items of a new dup at the place

@@ -10,7 +10,6 @@ use Rattle.ksm_book.proofs.Made.{made_one}
 use Rattle.ksm_book.proofs.Moves.{base_is_items, lies_as_item}
 use Rattle.ksm_book.proofs.Remounted.{instead_there, remounted}
 use Rattle.ksm_book.proofs.Resettled.{turned}
-use Rattle.ksm_book.proofs.Shown.{lost as so_lost, moved as so_moved}
 use Rattle.ksm_book.proofs.Standing.{Lives, lives}
 
 -- where no frame of the node is left, the dup stays
@@ -18,7 +17,7 @@ pub turned_away : {X : Type 0} {p : PagesView} {k l : KeeperView} {dup : DupRow}
     → HasRemounted {X = X} p p k l dup node (Err (NoFrame node))
 turned_away {p = p} may none =
     let away = turned may.laid may.exists none in
-    record { rest = refl; laid = away.laid; shown = (refl, away.left); moves = away.turns }
+    record { rest = refl; laid = away.laid; moves = (refl, away.turns) }
 
 -- a dup may move to a frame of the node, each item of a dup at its place lies on frame g, and a page without a row on none
 module _ {v : PagesView} {k : KeeperView} {dup : DupRow} {node g : ℕ} (may : MayMove v k dup node)
@@ -181,7 +180,6 @@ module _ {v : PagesView} {k : KeeperView} {dup : DupRow} {node g : ℕ} (may : M
         stays = record {
           rest = refl;
           laid = laid_lost;
-          shown = so_lost (lying v k) (lying v u) v.rows dup node found_held;
           moves = found_held;
         }
 
@@ -241,16 +239,18 @@ module _ {v : PagesView} {k : KeeperView} {dup : DupRow} {node g : ℕ} (may : M
             goes_there : q.frame ≡ instead g f v.frame
             goes_there = ap (λ (y : PagesView). y.frame) goes ∙ items_go f
 
-            moves : Moves (lying v k) (lying q x) v.rows dup node
-            moves = record {
+            moves : (before : KeeperView) × (x ≡ did before (Publish dup.place f) 0) → Moves (lying v k) (lying q x) v.rows dup node
+            moves named = record {
               got = f;
               searched = w;
               finds = to;
               frozen = u;
               freezes = subst (λ y. Made w u (Freeze y ∷ [])) (sym dup_frame_is) by_freeze;
+              stood = ap (λ y. (frame_at w.ledger y).kind) dup_frame_is ∙ stable;
               exchanged = ap (λ y. (frame_at u.ledger y).kind) dup_frame_is ∙ (may_mount refl).dying;
               mounts = subst (λ (z : ℕ × ℕ × List ℕ). Made u x (mounting z.0 f dup.place z.1 z.2))
                   (λ t. (sym dup_frame_is t, base t, (ap (λ (y : Note). y.content) at_g ∙ bytes) t)) mounts;
+              named = named;
               frame = goes_there ∙ ap (λ y. instead y f v.frame) (sym dup_frame_is);
             }
 
@@ -306,9 +306,7 @@ module _ {v : PagesView} {k : KeeperView} {dup : DupRow} {node g : ℕ} (may : M
             has_remounted shows = record {
               rest = goes ∙ (λ t. record v { frame = sym (ap (λ (p : PagesView). p.frame) goes) t });
               laid = laid_moved_dup;
-              shown = so_moved (lying v k) (lying q x) v.rows dup node moves shows
-                  (ap (λ y. (frame_at w.ledger y).kind) dup_frame_is ∙ stable);
-              moves = moves;
+              moves = moves shows;
             }
 
 -- where a dup is to move from a place, a dup stands at that place

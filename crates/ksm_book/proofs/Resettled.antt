@@ -1,7 +1,7 @@
 -- How a page gets another frame.
 use Rattle.ksm_book.proofs.Names.{ap, arith, change_row, FindsNone, Frames, GuestPage, Houses, IfSome, InPageOrder, is_some, IsKnown, IsLaid, KeeperView, leaving, lies_on, List, Made, MatchOption, May, None, on_its_own, Option, PagesView, Placed, Provides, refl, Resettled, Row, row_at, Shape, Some, Sub, subst, sym, Took, true, TurnedAway, ℕ, ◌<◌, ◌∙◌, ◌≡◌}
 use Rattle.ksm_base.specs.declared.row.PageState.TheVariants.{Private}
-use Rattle.ksm_book.proofs.Shown.{does_then, quiet_does, quiet_leaving, none_left}
+use Rattle.ksm_book.proofs.Shown.{provides_does}
 use Rattle.ksm_book.proofs.Keeping.{left_placed, left_spends, may_leave, searched_placed, searched_spends}
 use Rattle.ksm_book.proofs.Laying.{laid_kept, moved_there, shape_same}
 
@@ -22,7 +22,7 @@ module _ {p : PagesView} {k w : KeeperView} (h : IsLaid p k) (rise : InPageOrder
       by (Some row) some = (refl, refl, refl)
 
   same : w.table.shape ≡ p.shape
-  same = shape_same p.shape k w h.same (taken.does.1.table)
+  same = shape_same p.shape k w h.same ((provides_does provides).1.table)
 
   -- once the page lies on the frame taken, the one that it had is in the hand
   in_hand : (change : Row → Row) → Houses change page node bytes p.rows → Placed p.shape across w.ledger (change_row page change p.rows) (lies_on page (Some g) p.frame) p.dups (p.frame page)
@@ -48,7 +48,6 @@ module _ {p : PagesView} {k w : KeeperView} (h : IsLaid p k) (rise : InPageOrder
             leaves = leaves;
             frame = lies;
           };
-          does = does_then taken.does (quiet_does leaves (quiet_leaving (p.frame page)));
           placed = λ change by_this. subst (λ (f : Frames). Placed p.shape across u.ledger (change_row page change p.rows) f p.dups None) (sym lies)
               (left_placed (p.frame page) leaves (in_hand change by_this));
           spent = (let s = h.spent in let m = taken.spent in let more = left_spends (p.frame page) leaves in omega (arith, s, m, more));
@@ -59,7 +58,6 @@ pub turned : {p : PagesView} {k w : KeeperView} {node : ℕ} → IsLaid p k → 
 turned {p} {k} {w} {node} h less none = record {
   pages = refl;
   turns = record { searched = none; frame = refl };
-  left = none_left none;
   laid = laid_kept h w (ap (λ (z : KeeperView). z.table) none.reaped.after)
       (λ across rows frame dups. searched_placed node (subst (λ (s : Shape). node < s.nodes) (sym h.same) less) none.reaped across rows frame dups None) (searched_spends node none.reaped);
 }

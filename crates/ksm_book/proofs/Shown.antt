@@ -1,8 +1,8 @@
 -- The frames that steps give, and what the log shows of a frame that was not found, of one in use, and of a dup that moved.
-use Rattle.ksm_book.proofs.Names.{[], Add, ap, append_cancel_left, arith, blank, Bool, cases_Bool, cond, Contains, Contains-append_right, Contains-push, count_in, Did, did, Does, dup_frame, DupRow, Dying, dying_kind, dying_on, false, FindsHeld, FindsNone, frame_at, Free, free_kind, Freeze, frozen, get_or, get_or-range_with_len, get_or-set_other, given_by, Gives, HasLost, HasMoved, inl, inr, IsLowestFree, IsNeeded, item_count, KeeperStep, KeeperView, leaving, Ledger, ledger_after, length, length-append, length-range_with_len, List, loads, Log, Made, map, Mapped, Moves, nat_tests, needed_after, None, NoneLeft, Note, Open, Option, Provides, Publish, puts, Raise, range_with_len, Reap, reaped, refl, replicate, Retired, Row, set, Shape, Some, Stable, stepped, steps_of, subst, suc, sym, true, with_frame, Withdraw, zero, ℕ, ◌*◌, ◌++◌, ◌+◌, ◌-◌, ◌<◌, ◌==◌, ◌∙◌, ◌∷◌, ◌≡◌, ◌≢◌, ◌≤◌, drop}
+use Rattle.ksm_book.proofs.Names.{[], Add, append-nil, Fault, GuestPage, NoFrame, Resettles, ResettlesEach, UnmergesTo, ap, append_cancel_left, arith, blank, Bool, cases_Bool, cond, Contains, Contains-append_right, Contains-push, count_in, Did, did, Does, dup_frame, DupRow, Dying, dying_kind, dying_on, false, FindsHeld, FindsNone, frame_at, Free, free_kind, Freeze, frozen, get_or, get_or-range_with_len, get_or-set_other, given_by, Gives, HasLost, HasMoved, inl, inr, IsLowestFree, IsNeeded, item_count, KeeperStep, KeeperView, leaving, Ledger, ledger_after, length, length-append, length-range_with_len, List, loads, Log, Made, map, Mapped, Moves, nat_tests, needed_after, None, NoneLeft, Note, Open, Option, Provides, Publish, puts, Raise, range_with_len, Reap, reaped, refl, replicate, Retired, Row, set, Shape, Some, Stable, stepped, steps_of, subst, suc, sym, true, with_frame, Withdraw, zero, ℕ, ◌*◌, ◌++◌, ◌+◌, ◌-◌, ◌<◌, ◌==◌, ◌∙◌, ◌∷◌, ◌≡◌, ◌≢◌, ◌≤◌, drop}
 use Rattle.ksm_book.proofs.Keeping.{set_holds}
-use Rattle.ksm_book.proofs.Made.{chained, stepped_then, first_made, made_then, none_made, step_made}
-use Rattle.ksm_book.proofs.ByPage.{contains_filter}
+use Rattle.ksm_book.proofs.Made.{chained, stepped_then, first_made, made_none, made_then, none_made, step_made}
+use Rattle.ksm_base.proofs.Changes.{contains_filter}
 
 -- none of these steps gives a frame
 abbrev pub GivesNone : List KeeperStep → Type 0
@@ -91,6 +91,19 @@ provides_does {v} {w} {node} {bytes} {g} h =
     let lowest : IsLowestFree u.table.shape u.ledger node g = subst (λ (t : _). IsLowestFree t.shape u.ledger node g) (sym searched.1.table) h.finds.lowest in
     does_then searched
     (raised_does lowest h.fills (quiet_both (steps_of (puts g 0 bytes)) (Open g ∷ []) (quiet_puts g 0 bytes) (refl, tt)))
+
+-- a page that was resettled was given one frame, on the node asked for
+pub resettles_does : {v w : Mapped} {page : GuestPage} {node : ℕ} {bytes : List ℕ} → Resettles v w page node bytes → Does v.keeper w.keeper (node ∷ [])
+resettles_does {v} {page = page} h = does_then (provides_does h.provides) (quiet_does h.leaves (quiet_leaving (v.frame page)))
+
+-- and the keeper is of the same table
+pub resettles_own : {v w : Mapped} {page : GuestPage} {node : ℕ} {bytes : List ℕ} → Resettles v w page node bytes → w.keeper.table ≡ v.keeper.table
+resettles_own h = (resettles_does h).1.table
+
+-- pages that were resettled one after another were given a frame each, on their homes
+pub each_does : (rows : List Row) (v w : Mapped) → ResettlesEach rows v w → Does v.keeper w.keeper (map (λ r. r.home) rows)
+each_does [] v w h = quiet_does (made_none h.keeper) tt
+each_does (r ∷ rows) v w h = does_then (resettles_does h.1) (each_does rows h.0 w h.2)
 
 -- ---------------------------------------------------------------- what the log shows
 
@@ -212,9 +225,9 @@ ends_so (x ∷ xs) part [] e some same =
 ends_so (x ∷ xs) part (y ∷ ys) e some same = ends_so xs part ys e some (ap (drop 1) same)
 
 -- a dup that moved: a frame of the node was raised, and published at the dup's place
-pub moved : (v w : Mapped) (rows : List Row) (dup : DupRow) (node : ℕ) (h : Moves v w rows dup node) → (before : KeeperView) × (w.keeper ≡ did before (Publish dup.place h.got) 0) → (frame_at h.searched.ledger (dup_frame v.frame rows dup.number)).kind ≡ Stable
-    → HasMoved v.keeper w.keeper dup.place node
-moved v w rows dup node h ends stable =
+pub moved : (v w : Mapped) (rows : List Row) (dup : DupRow) (node : ℕ) → Moves v w rows dup node → HasMoved v.keeper w.keeper dup.place node
+moved v w rows dup node h =
+    let ends = h.named in
     let f : ℕ = dup_frame v.frame rows dup.number in
     let g : ℕ = h.got in
     let count : ℕ = item_count rows dup in
@@ -227,7 +240,7 @@ moved v w rows dup node h ends stable =
     let step = step_made h.freezes in
     let lowest : IsLowestFree h.frozen.table.shape h.frozen.ledger node g = subst (λ (z : KeeperView). IsLowestFree z.table.shape z.ledger node g) (sym step.1)
     (lowest_still h.searched.table.shape h.searched.ledger node f g (count_in step.0 == (frame_at h.searched.ledger f).base)
-    (subst (λ (t : _). IsLowestFree t.shape h.searched.ledger node g) (sym searched.1.table) h.finds.lowest) stable) in
+    (subst (λ (t : _). IsLowestFree t.shape h.searched.ledger node g) (sym searched.1.table) h.finds.lowest) h.stood) in
     let mounts = raised_does lowest h.mounts
     (quiet_both (steps_of (loads f 0 dup.bytes)) stores (quiet_loads f 0 dup.bytes) (quiet_both (steps_of (puts g 0 dup.bytes)) (Open g ∷ end) (quiet_puts g 0 dup.bytes)
     (refl, quiet_both (replicate (count - 1) (Add g)) (Publish dup.place g ∷ []) (quiet_adds (count - 1) g) (refl, tt)))) in
@@ -244,3 +257,17 @@ moved v w rows dup node h ends stable =
       raised = raised.1;
       published = ends_so v.keeper.log does.0 ends.0.log (Publish dup.place g, 0) (let inside = raised.1.1 in omega (arith, inside)) (sym does.1.log ∙ ap (λ (z : KeeperView). z.log) ends.1);
     }
+
+-- ---------------------------------------------------------------- pages that are unmerged
+
+-- rows that were unmerged, to the last or up to a stop, were given a frame each, on their homes
+pub unmerges_does : (rows : List Row) (stop : Option Fault) (v w : Mapped) → UnmergesTo rows stop v w → Does v.keeper w.keeper (map (λ r. r.home) rows)
+unmerges_does rows None v w h = each_does rows v w h
+unmerges_does rows (Some (NoFrame node)) v w h =
+    let left = none_left h.2.searched in
+    subst (Does v.keeper w.keeper) (append-nil (map (λ r. r.home) rows)) (does_then (each_does rows v h.0 h.1) (left.part, left.did))
+unmerges_does rows _ v w h = absurd h
+
+-- and the keeper is of the same table
+pub unmerges_own : (rows : List Row) (stop : Option Fault) (v w : Mapped) → UnmergesTo rows stop v w → w.keeper.table ≡ v.keeper.table
+unmerges_own rows stop v w h = (unmerges_does rows stop v w h).1.table

@@ -1,13 +1,13 @@
 -- The commands on single pages, carried out.
-use Rattle.ksm_book.proofs.Names.{[], All, Answer, ap, arith, BookValue, BookView, Bool, CarriedOut, change_row, comes_before, Command, cond_both, Does, Done, Drop, Err, false, filter, FindsNone, frame_at, frame_number, frame_on, Frames, frames_of, fresh_row, get_or, GuestPage, Houses, IfErr, IfSome, InPageOrder, is_some, IsAlone, IsLaid, IsReadable, IsServed, IsSound, IsWritable, KeeperView, leaving, length, lies_on, List, listed, lying, Made, MatchBool, MatchOption, May, moved, MovePage, nat_le, nat_tests, NoFrame, None, not, Ok, on_its_own, Option, ordered_with, PAGE_WORDS, PagesView, Performs, Placed, Provides, puts, refl, Register, Resettled, Resettles, Result, rewriting, Row, row_at, same_page, same_page_refl, Shape, shared_state, Some, sound_after, state_of, stepped, steps_of, Store, stored, Sub, subst, sym, true, view_of, with_row, without_page, ℕ, ◌++◌, ◌<◌, ◌==◌, ◌∙◌, ◌∷◌, ◌≡◌, map_fixed, without_between, pages_ordered, absent_parts, find_put, filter_passes, cond, if◌then◌else◌, Held, IsHeld, Took}
+use Rattle.ksm_book.proofs.Names.{[], All, Answer, ap, arith, BookValue, BookView, Bool, IsCarried, change_row, comes_before, Command, cond_both, Done, Drop, Err, false, filter, FindsNone, frame_at, frame_number, frame_on, Frames, frames_of, fresh_row, get_or, GuestPage, Houses, IfErr, IfSome, InPageOrder, is_some, IsAlone, IsLaid, IsReadable, IsServed, IsSound, IsWritable, KeeperView, leaving, length, lies_on, List, lying, Made, MatchBool, MatchOption, May, moved, MovePage, nat_le, nat_tests, NoFrame, None, not, Ok, on_its_own, Option, ordered_with, PAGE_WORDS, PagesView, Performs, Placed, Provides, puts, refl, Register, Resettled, Resettles, Result, rewriting, Row, row_at, same_page, same_page_refl, Shape, shared_state, Some, sound_after, state_of, stepped, steps_of, Store, stored, Sub, subst, sym, true, view_of, with_row, without_page, ℕ, ◌++◌, ◌<◌, ◌==◌, ◌∙◌, ◌∷◌, ◌≡◌, map_fixed, without_between, pages_ordered, absent_parts, find_put, filter_passes, cond, if◌then◌else◌, Held, IsHeld, Took}
 use Rattle.std.proofs.lemmas.Bool.{eq-eqb}
 use Rattle.ksm_base.specs.declared.row.PageState.TheVariants.{Private}
 use Rattle.ksm_book.proofs.ByPage.{at_changed, change_twice, found_page, lies_again, lies_still, row_of_page}
 use Rattle.ksm_book.proofs.Laying.{come_there, laid_rows, own_kind, readable, served_at, shape_same}
 use Rattle.ksm_book.proofs.Keeping.{left_placed, left_spends, may_leave, searched_spends}
-use Rattle.ksm_book.proofs.Made.{made_none, made_part}
+use Rattle.ksm_book.proofs.Made.{made_part}
 use Rattle.ksm_book.proofs.Resettled.{turned}
-use Rattle.ksm_book.proofs.Shown.{quiet_does, quiet_leaving, quiet_puts}
+use Rattle.ksm_book.proofs.Shown.{provides_does, resettles_own}
 use Rattle.ksm_book.proofs.Moves.{removed}
 
 -- the pages, their keeper, the cursor and the passes as a book
@@ -16,15 +16,15 @@ book p k cursor passes = record { state = state_of p cursor passes; frame = p.fr
 
 -- a command was carried out on the pages and their keeper, with the cursor and the passes as they were, and all lies lawfully
 abbrev pub Carries : PagesView → KeeperView → PagesView → KeeperView → Option GuestPage → ℕ → Command → Answer → Type 0
-Carries p k q l cursor passes command answer = CarriedOut (book p k cursor passes) (book q l cursor passes) command answer × IsLaid q l
+Carries p k q l cursor passes command answer = IsCarried (book p k cursor passes) (book q l cursor passes) command answer × IsLaid q l
 
 -- a command that was carried out leaves a sound state
-pub sound_carried : {v w : BookView} {command : Command} {answer : Answer} → IsSound v.state → CarriedOut v w command answer → IsSound w.state
+pub sound_carried : {v w : BookView} {command : Command} {answer : Answer} → IsSound v.state → IsCarried v w command answer → IsSound w.state
 sound_carried {v} {w} {command} {answer} s h = subst IsSound (sym h.state) (sound_after v.state command answer s h.answer)
 
 -- a command carried out from one book value was carried out from an equal one, and so was an equal command
-pub carried_so : {old now : BookValue} {w : BookView} {by given : Command} {answer : Answer} → old ≡ now → by ≡ given → CarriedOut (view_of old) w by answer → CarriedOut (view_of now) w given answer
-carried_so {old} {now} {w} {by} {given} {answer} same told h = subst (λ (z : BookValue × Command). CarriedOut (view_of z.0) w z.1 answer) (λ t. (same t, told t)) h
+pub carried_so : {old now : BookValue} {w : BookView} {by given : Command} {answer : Answer} → old ≡ now → by ≡ given → IsCarried (view_of old) w by answer → IsCarried (view_of now) w given answer
+carried_so {old} {now} {w} {by} {given} {answer} same told h = subst (λ (z : BookValue × Command). IsCarried (view_of z.0) w z.1 answer) (λ t. (same t, told t)) h
 
 -- the row of a page is found by the page that was told of it
 pub row_held : {p : PagesView} {page : GuestPage} {held : Held} (h : IsHeld p page held) → row_at held.spot.page p.rows ≡ Some h.row
@@ -57,7 +57,7 @@ settled_then {p} {m} {q} {k} {l} {page} {node} {bytes} {row} h rise found r d ch
           (λ t. (sym frame t, sym (found_page page p.rows row found) t)) r.resettles,
       subst (λ (x : PagesView). IsLaid x l) (sym pages) (record {
         small = h.small;
-        same = shape_same p.shape k l h.same r.does.1.table;
+        same = shape_same p.shape k l h.same (resettles_own r.resettles);
         placed = subst (λ (f : Frames). Placed p.shape p.knobs.merge_across_nodes l.ledger (change_row page change p.rows) f p.dups None)
             (sym frame) (r.placed change houses);
         spent = r.spent;
@@ -101,24 +101,22 @@ module _ (p : PagesView) (k l : KeeperView) (cursor : Option GuestPage) (passes 
   module _ (q : PagesView) (state : state_of q cursor passes ≡ record (state_of p cursor passes) { rows = change_row page (stored bytes) p.rows }) where
     stores : (shared : Bool) → shared_state row.state ≡ shared
         → MatchBool shared (Resettles (lying p k) (lying q l) row.page row.home bytes) (Performs (lying p k) (lying q l) (rewriting p.frame row.page bytes))
-        → Does k l (listed (if shared then Some row.home else None)) → CarriedOut (book p k cursor passes) (book q l cursor passes) (Store page bytes) (Ok Done)
-    stores shared is steps does = record {
+        → IsCarried (book p k cursor passes) (book q l cursor passes) (Store page bytes) (Ok Done)
+    stores shared is steps = record {
       own = table;
       answer = rw found tt;
       state = state;
       steps = rw (found, is) steps;
-      frames = rw (found, is) does;
-      shown = tt;
     }
 
   -- `Store` is carried out where the bytes are stored to the page's own frame, and its row tells them
   pub store_written : (q : PagesView) (g : ℕ) → q ≡ record p { rows = change_row page (stored bytes) p.rows; restless = q.restless } → shared_state row.state ≡ false → p.frame page ≡ Some g → l ≡ stepped k (puts g 0 bytes)
-      → CarriedOut (book p k cursor passes) (book q l cursor passes) (Store page bytes) (Ok Done)
+      → IsCarried (book p k cursor passes) (book q l cursor passes) (Store page bytes) (Ok Done)
   store_written q g goes alone lies wrote =
       stores q (ap (λ x. state_of x cursor passes) goes) false alone (record {
         made = subst (λ f. Made k l (steps_of (puts f 0 bytes))) (sym (ap (frame_on p.frame) (found_page page p.rows row found) ∙ ap frame_number lies)) (made_part k l (puts g 0 bytes) wrote);
         frame = ap (λ (x : PagesView). x.frame) goes;
-      }) (quiet_does (made_part k l (puts g 0 bytes) wrote) (quiet_puts g 0 bytes))
+      })
 
   -- `Store` is carried out, and all lies lawfully, where a shared page is resettled with the bytes, as its row tells
   pub store_copied : (m q : PagesView) → IsLaid p k → InPageOrder p.rows → Resettled p m k l page row.home bytes
@@ -126,7 +124,7 @@ module _ (p : PagesView) (k l : KeeperView) (cursor : Option GuestPage) (passes 
       → Carries p k q l cursor passes (Store page bytes) (Ok Done)
   store_copied m q h rise r goes shared =
       let s = settled_then h rise found r (stored bytes) (stored bytes) goes (λ x. refl) refl (refl, refl, refl) in
-      (stores q (ap (λ x. state_of x cursor passes) s.0) true shared s.1 r.does, s.2)
+      (stores q (ap (λ x. state_of x cursor passes) s.0) true shared s.1, s.2)
 
 -- ---------------------------------------------------------------- a move to another node
 
@@ -144,7 +142,7 @@ module _ (p : PagesView) (k : KeeperView) (cursor : Option GuestPage) (passes : 
   there = there_is p.shape.nodes node less
 
   -- `MovePage` to the node where the page is at home is carried out with nothing changed
-  pub move_home : row.home ≡ node → CarriedOut (book p k cursor passes) (book p k cursor passes) (MovePage page node) (Ok Done)
+  pub move_home : row.home ≡ node → IsCarried (book p k cursor passes) (book p k cursor passes) (MovePage page node) (Ok Done)
   move_home same =
       let is : (row.home == node) ≡ true = eq-eqb row.home node same in
       let one = row_of_page page p.rows row rise found in
@@ -154,8 +152,6 @@ module _ (p : PagesView) (k : KeeperView) (cursor : Option GuestPage) (passes : 
         answer = rw (there, found) tt;
         state = ap (λ rows. record (state_of p cursor passes) { rows = rows }) (sym still);
         steps = rw (found, is) (record { keeper = refl; frame = refl });
-        frames = rw (found, is) (quiet_does (made_none refl) tt);
-        shown = tt;
       }
 
   module _ (l : KeeperView) (table : l.table ≡ k.table) (away : (row.home == node) ≡ false) where
@@ -173,8 +169,6 @@ module _ (p : PagesView) (k : KeeperView) (cursor : Option GuestPage) (passes : 
             answer = rw (there, found) tt;
             state = ap (λ x. state_of x cursor passes) s.0;
             steps = rw (found, away) s.1;
-            frames = rw (found, away) r.does;
-            shown = tt;
           },
           s.2,
         )
@@ -201,8 +195,6 @@ module _ {p : PagesView} {k : KeeperView} (h : IsLaid p k) (rise : InPageOrder p
           answer = rw found tt;
           state = ap (λ x. state_of x cursor passes) goes;
           steps = record { made = leaves; frame = ap (λ (x : PagesView). x.frame) goes };
-          frames = quiet_does leaves (quiet_leaving (p.frame page));
-          shown = tt;
         },
         subst (λ (x : PagesView). IsLaid x l) (sym goes) (laid_rows h (without_page page p.rows) (lies_on page None p.frame) q.restless l table (left_spends (p.frame page) leaves)
             (left_placed (p.frame page) leaves gone_hand)),
@@ -245,7 +237,7 @@ module _ {p m : PagesView} {page : GuestPage} {node : ℕ} {bytes : List ℕ} (n
   pub register_come : {k l : KeeperView} (h : IsLaid p k) (cursor : Option GuestPage) (passes : ℕ) (q : PagesView) {g : ℕ} → q ≡ record m { rows = change_row page on_its_own m.rows; frame = lies_on page (Some g) m.frame; restless = q.restless } → Provides k l node bytes g → Took k l node bytes g
       → Carries p k q l cursor passes (Register page node bytes) (Ok Done)
   register_come {k = k} {l = l} h cursor passes q {g} goes provides taken =
-      let table = taken.does.1.table in
+      let table = (provides_does provides).1.table in
       let one = row_of_page page (with_row fresh p.rows) fresh (ordered_with fresh p.rows new.rise) found_fresh in
       let rows : change_row page on_its_own (with_row fresh p.rows) ≡ with_row fresh p.rows = change_still page on_its_own (with_row fresh p.rows) (λ i x lt of_page. subst (λ r. on_its_own r ≡ r) (sym (one i x lt of_page)) refl) in
       let frame : lies_on page (Some g) m.frame ≡ lies_on page (Some g) p.frame = ap (lies_on page (Some g)) new.others ∙ lies_again page (m.frame page) (Some g) p.frame in
@@ -256,8 +248,6 @@ module _ {p m : PagesView} {page : GuestPage} {node : ℕ} {bytes : List ℕ} (n
           answer = rw (there_is p.shape.nodes node new.less, new.absent) tt;
           state = ap (λ x. state_of x cursor passes) there;
           steps = record { got = g; provides = provides; frame = ap (λ (x : PagesView). x.frame) there };
-          frames = taken.does;
-          shown = tt;
         },
         subst (λ (x : PagesView). IsLaid x l) (sym there) (laid_rows h (with_row fresh p.rows) (lies_on page (Some g) p.frame) q.restless l table taken.spent
             (come_there h.same taken h.placed fresh new.absent refl refl refl)),
@@ -277,8 +267,6 @@ module _ {p m : PagesView} {page : GuestPage} {node : ℕ} {bytes : List ℕ} (n
           answer = rw (there_is p.shape.nodes node new.less, new.absent) refl;
           state = ap (λ x. state_of x cursor passes) back;
           steps = record { searched = searched; frame = ap (λ (x : PagesView). x.frame) back };
-          frames = (turns.left.part, turns.left.did);
-          shown = turns.left;
         },
         subst (λ (x : PagesView). IsLaid x l) (sym back) (laid_rows h p.rows p.frame q.restless l table (searched_spends node searched.reaped) turns.laid.placed),
       )

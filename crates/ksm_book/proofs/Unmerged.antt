@@ -1,11 +1,10 @@
 -- Pages that leave their dups, or the zero page, one after another.
-use Rattle.ksm_book.proofs.Names.{[], All, and-true, ap, append-nil, arith, change_row, change_rows, cond-false, cond-true, cond_both, Does, false, Fault, filter, filter-append, filter_none, find, get_or, GuestPage, HasLeft, Held, inl, InPageOrder, inr, is_next, is_of, is_shared_of, is_some, IsAlone, IsHeld, IsKnown, IsLaid, KeeperView, left_by, length, length-append, let_go, List, lying, map, map-append, Mapped, MayNotLeave, NoFrame, None, NoneLeft, not, not-false, not-true, of_guest, on_its_own, Option, option_map, PagesView, refl, Resettled, ResettlesEach, Row, row_at, same_page, same_Some, shared_of, shared_state, slice_get, Some, subst, sym, take, take-append_seam, true, UnmergesTo, unshared, Unshares, ℕ, ◌&&◌, ◌++◌, ◌+◌, ◌<◌, ◌∙◌, ◌∷◌, ◌≡◌, ◌≤◌, if◌then◌else◌, Contains-append_right}
+use Rattle.ksm_book.proofs.Names.{[], All, and-true, ap, append-nil, arith, change_row, change_rows, cond-false, cond-true, cond_both, false, Fault, filter, filter-append, filter_none, find, get_or, GuestPage, HasLeft, Held, inl, InPageOrder, inr, is_next, is_of, is_shared_of, is_some, IsAlone, IsHeld, IsKnown, IsLaid, KeeperView, left_by, length, length-append, let_go, List, lying, Mapped, MayNotLeave, NoFrame, None, not, not-false, not-true, of_guest, on_its_own, Option, option_map, PagesView, refl, Resettled, ResettlesEach, Row, row_at, same_page, same_Some, shared_of, shared_state, slice_get, Some, subst, sym, take, take-append_seam, true, UnmergesTo, unshared, Unshares, ℕ, ◌&&◌, ◌++◌, ◌+◌, ◌<◌, ◌∙◌, ◌∷◌, ◌≡◌, ◌≤◌, if◌then◌else◌, Contains-append_right}
 use Rattle.ksm_base.specs.declared.row.PageState.TheVariants.{Private}
 use Rattle.ksm_book.proofs.Along.{FitsPage, IsAlong, IsCut, along_cut, along_end, further, position}
 use Rattle.ksm_book.proofs.ByPage.{row_of_page}
 use Rattle.ksm_book.proofs.Laying.{LodgesAs, laid_changed}
-use Rattle.ksm_book.proofs.Made.{made_none}
-use Rattle.ksm_book.proofs.Shown.{does_then, quiet_does}
+use Rattle.ksm_book.proofs.Shown.{each_does, unmerges_own}
 use Rattle.ksm_book.proofs.Singles.{alone_now, change_still, found_resettled, settled_then}
 
 -- a row that is left keeps its page
@@ -24,10 +23,6 @@ any_left (Some guest) some = absurd (grind (arith, some))
 any_left None none = refl
 
 -- ---------------------------------------------------------------- one page
-
--- a keeper that makes no step gives no frame
-pub does_nothing : (k : KeeperView) → Does k k []
-does_nothing k = quiet_does (made_none refl) tt
 
 -- the row of a page is left: a guest's, or any
 module _ {p : PagesView} {k : KeeperView} (guest : Option ℕ) {page : GuestPage} {held : Held} (told : IsHeld p page held) (h : IsLaid p k)
@@ -61,7 +56,6 @@ module _ {p : PagesView} {k : KeeperView} (guest : Option ℕ) {page : GuestPage
           given = ap length (sym none);
           pages = goes ∙ (λ t. record p { rows = change_row page (left_by guest) p.rows; frame = sym frame t; restless = q.restless });
           steps = subst (λ rs. ResettlesEach rs (lying p k) (lying q k)) (sym none) (record { keeper = refl; frame = frame });
-          does = subst (λ rs. Does k k (map (λ (x : Row). x.home) rs)) (sym none) (does_nothing k);
           laid = subst (λ (x : PagesView). IsLaid x k) (sym goes)
               (laid_changed h page row (left_by guest) q.restless rise told.found (page_left guest) (lodges guest));
         }
@@ -113,7 +107,6 @@ module _ {p : PagesView} {k : KeeperView} (guest : Option ℕ) {page : GuestPage
           given = ap length (sym all);
           pages = s.0;
           steps = subst (λ rs. ResettlesEach rs (lying p k) (lying q l)) (sym all) (lying q l, s.1, record { keeper = refl; frame = refl });
-          does = subst (λ rs. Does k l (map (λ (x : Row). x.home) rs)) (sym all) got.does;
           laid = s.2;
         }
 
@@ -151,8 +144,6 @@ pub record IsUnsharing (p q : PagesView) (k l : KeeperView) (guest : Option ℕ)
   pub counted : count ≡ length (filter (is_shared_of guest) done)
   -- the shared rows among those looked at were resettled, one after another
   pub each : ResettlesEach (filter (is_shared_of guest) done) (lying p k) (lying q l)
-  -- a frame was given on the home of each shared row among those looked at
-  pub does : Does k l (map (λ r. r.home) (filter (is_shared_of guest) done))
   -- rows and dups lie lawfully
   pub laid : IsLaid q l
   -- the count is at most the cursor's position
@@ -160,10 +151,19 @@ pub record IsUnsharing (p q : PagesView) (k l : KeeperView) (guest : Option ℕ)
   -- the numbers of the cursor's page fit
   pub fits : FitsPage last
 
+-- rows that were unshared, to the last or up to a stop, are in the frames of the same table
+pub unshares_own : {p q : PagesView} {k l : KeeperView} {guest : Option ℕ} {count : ℕ} {stop : Option Fault} → Unshares p q k l guest count stop
+    → l.table ≡ k.table
+unshares_own {p} {q} {k} {l} {guest} {count} {stop} u = unmerges_own (take count (filter (is_shared_of guest) p.rows)) stop (lying p k) (lying q l) u.unmerges
+
 module _ {p q : PagesView} {k l : KeeperView} {guest : Option ℕ} {count : ℕ} {last : Option GuestPage}
     (u : IsUnsharing p q k l guest count last) (rise : InPageOrder p.rows) where
   abbrev met : List Row
   met = filter (is_shared_of guest) u.done
+
+  -- the keeper is of the same table
+  pub unsharing_own : l.table ≡ k.table
+  unsharing_own = (each_does met (lying p k) (lying q l) u.each).1.table
 
   module _ {page : GuestPage} (told : option_map (λ r. r.page) (find (is_next guest last) q.rows) ≡ Some page) where
     cut : IsCut (of_guest guest) (left_by guest) p.rows q.rows u.done page
@@ -202,8 +202,6 @@ module _ {p q : PagesView} {k l : KeeperView} {guest : Option ℕ} {count : ℕ}
           counted = (λ t. u.counted t + h.given t) ∙ sym (length-append met (shared_of h.row)) ∙ ap length (sym more);
           each = subst (λ xs. ResettlesEach xs (lying p k) (lying v w)) (sym more)
               (each_then met (shared_of h.row) (lying p k) (lying q l) (lying v w) u.each h.steps);
-          does = subst (λ xs. Does k w (map (λ (x : Row). x.home) xs)) (sym more)
-              (subst (Does k w) (sym (map-append (λ (x : Row). x.home) met (shared_of h.row))) (does_then u.does h.does));
           laid = h.laid;
           few =
               let far = further guest last q.rows page u.fits told in
@@ -239,7 +237,6 @@ module _ {p q : PagesView} {k l : KeeperView} {guest : Option ℕ} {count : ℕ}
           });
           unmerges = subst (λ f. UnmergesTo (take count (filter (is_shared_of guest) p.rows)) (Some f) (lying p k) (lying v w)) (sym h.says)
               (lying q l, subst (λ xs. ResettlesEach xs (lying p k) (lying q l)) taken u.each, h.turned.turns);
-          gave = (l, subst (λ xs. Does k l (map (λ (x : Row). x.home) xs)) taken u.does, subst (λ n. NoneLeft l w n) home h.turned.left);
           laid = h.turned.laid;
         }
       where
@@ -265,7 +262,6 @@ module _ {p q : PagesView} {k l : KeeperView} {guest : Option ℕ} {count : ℕ}
             let rows = done.0 ∙ (λ i. change_rows (λ r. sym (and-true (of_guest guest r)) i) (left_by guest) p.rows) in
             u.pages ∙ (λ t. record p { rows = rows t; frame = q.frame; restless = q.restless });
         unmerges = subst (λ xs. ResettlesEach xs (lying p k) (lying q l)) taken u.each;
-        gave = subst (λ xs. Does k l (map (λ (x : Row). x.home) xs)) taken u.does;
         laid = u.laid;
       }
 

@@ -1,9 +1,8 @@
 -- The commands on all pages of a guest, or on all there are, carried out.
-use Rattle.ksm_book.proofs.Names.{All, All-map, and-true, ap, append-nil, arith, BookState, CarriedOut, change_rows, Command, cond_both, Does, Done, Err, every_row, false, Fault, find, Gave, get_or, GuestPage, has_guest, HasShown, Held, inl, inr, is_before, is_next, is_of, is_some, IsHeld, IsLaid, IsStop, IsUnmerged, KeeperView, Knobs, left_by, let_go, List, list_any, lying, map, MatchOption, Mergeable, nodes_got, NoFrame, None, of_guest, Ok, Option, option_map, PagesView, refl, Row, SetRun, shared_rows, shared_state, slice_get, slice_get_past, Some, state_of, subst, sym, take, true, UnknownPage, Unmerge, Unmerged, UnmergesTo, unshare_stopped, unshared, Unshares, ℕ, ◌&&◌, ◌∙◌, ◌≡◌, none_of, any_found, if◌then◌else◌, map_alike, map_mapped}
+use Rattle.ksm_book.proofs.Names.{All, All-map, and-true, ap, arith, BookState, IsCarried, change_rows, cond_both, Done, Err, every_row, false, Fault, find, get_or, GuestPage, has_guest, Held, inl, inr, is_before, is_next, is_of, is_some, IsHeld, IsLaid, IsStop, IsUnmerged, KeeperView, Knobs, left_by, let_go, List, list_any, lying, map, MatchOption, Mergeable, NoFrame, None, of_guest, Ok, Option, option_map, PagesView, refl, Row, SetRun, shared_rows, shared_state, slice_get, slice_get_past, Some, state_of, subst, sym, take, true, UnknownPage, Unmerge, Unmerged, UnmergesTo, unshare_stopped, unshared, Unshares, ℕ, ◌&&◌, ◌∙◌, ◌≡◌, none_of, any_found, if◌then◌else◌, map_alike, map_mapped}
 use Rattle.ksm_book.proofs.Laying.{LodgesAs, laid_mapped, retuned}
-use Rattle.ksm_book.proofs.Made.{chained}
 use Rattle.ksm_book.proofs.Singles.{book}
-use Rattle.ksm_book.proofs.Unmerged.{does_nothing, in_scan}
+use Rattle.ksm_book.proofs.Unmerged.{in_scan, unshares_own}
 use Rattle.ksm_book.proofs.ByPage.{mapped_from, none_mapped}
 
 -- the row at which there was a stop is the next of the shared ones
@@ -16,19 +15,6 @@ is_unmerged : (rows : List Row) (k : ℕ) (at : Option Row) → IsStop rows k at
     → IsUnmerged rows (Ok (Unmerged k (option_map (λ r. NoFrame r.home) at)))
 is_unmerged rows k None at = at
 is_unmerged rows k (Some row) at = subst (λ o. MatchOption o ⊥ (λ r. row.home ≡ r.home)) (sym at) refl
-
--- the frames that were given
-gave_does : (v w : KeeperView) (nodes : List ℕ) (at : Option Row) → Gave v w nodes at → Does v w nodes
-gave_does v w nodes None h = h
-gave_does v w nodes (Some row) h = let u = h.0 in let first = h.1 in let left = h.2 in
-    subst (λ ns. Does v w ns) (append-nil nodes) (_, chained first.1 left.did)
-
--- and what the log shows of them
-gave_shown : (b : BookState) (command : Command) (k l : KeeperView) (nodes : List ℕ) (count : ℕ) (at : Option Row)
-    → ((s : Option Fault) → nodes_got b (Ok (Unmerged count s)) command ≡ nodes) → Gave k l nodes at
-    → HasShown b k l (Ok (Unmerged count (option_map (λ r. NoFrame r.home) at))) command
-gave_shown b command k l nodes count None are h = tt
-gave_shown b command k l nodes count (Some row) are h = (h.0, subst (Does k h.0) (sym (are (Some (NoFrame row.home)))) h.1, h.2)
 
 -- the first row of a guest is told, if it has one
 abbrev pub IsTold : PagesView → ℕ → Option Held → Type 0
@@ -46,47 +32,39 @@ has_told p guest o told = any_found (is_of guest) p.rows ∙ (λ i. is_some (fin
 -- `Unmerge` of a guest without a row is refused, and nothing changes
 pub unmerge_refused : (p : PagesView) (k : KeeperView) (cursor : Option GuestPage) (passes guest : ℕ)
     → has_guest (state_of p cursor passes) guest ≡ false
-    → CarriedOut (book p k cursor passes) (book p k cursor passes) (Unmerge guest) (Err UnknownPage)
+    → IsCarried (book p k cursor passes) (book p k cursor passes) (Unmerge guest) (Err UnknownPage)
 unmerge_refused p k cursor passes guest has = record {
   own = refl;
   answer = rw has refl;
   state = refl;
   steps = record { keeper = refl; frame = refl };
-  frames = does_nothing k;
-  shown = tt;
 }
 
 -- `Mergeable` of a guest without a row is refused, and nothing changes
 pub mergeable_refused : (p : PagesView) (k : KeeperView) (cursor : Option GuestPage) (passes guest : ℕ)
     → has_guest (state_of p cursor passes) guest ≡ false
-    → CarriedOut (book p k cursor passes) (book p k cursor passes) (Mergeable guest) (Err UnknownPage)
+    → IsCarried (book p k cursor passes) (book p k cursor passes) (Mergeable guest) (Err UnknownPage)
 mergeable_refused p k cursor passes guest has = record {
   own = refl;
   answer = rw has refl;
   state = refl;
   steps = record { keeper = refl; frame = refl };
-  frames = does_nothing k;
-  shown = tt;
 }
 
 -- `Unmerge` of a guest that has a row is carried out where its shared rows are unshared up to a stop or the end
 pub unmerge_carried : {p q : PagesView} {k l : KeeperView} (cursor : Option GuestPage) (passes : ℕ) {guest count : ℕ} {stop : Option Fault}
     → Unshares p q k l (Some guest) count stop → has_guest (state_of p cursor passes) guest ≡ true
-    → CarriedOut (book p k cursor passes) (book q l cursor passes) (Unmerge guest) (Ok (Unmerged count stop))
+    → IsCarried (book p k cursor passes) (book q l cursor passes) (Unmerge guest) (Ok (Unmerged count stop))
 unmerge_carried {p} {q} {k} {l} cursor passes {guest} {count} {stop} u has =
     let b = state_of p cursor passes in
     let rows = shared_rows (is_of guest) b in
-    let homes = map (λ (r : Row). r.home) (take count rows) in
-    let does = gave_does k l homes u.at u.gave in
     record {
-      own = does.1.table;
+      own = unshares_own u;
       answer = rw (has, u.fault) (is_unmerged rows count u.at u.stands);
       state = ap (λ x. state_of x cursor passes) u.pages
           ∙ ap (λ o. record b { rows = change_rows (λ r. is_of guest r && is_before o r) let_go b.rows })
           (sym (stop_is rows count u.at u.stands));
       steps = u.unmerges;
-      frames = does;
-      shown = rw u.fault (gave_shown b (Unmerge guest) k l homes count u.at (λ _. refl) u.gave);
     }
 
 -- all pages of a guest become mergeable, if it has one
@@ -94,14 +72,12 @@ module _ {p q : PagesView} {k : KeeperView} (cursor : Option GuestPage) (passes 
     (goes : q ≡ record p { rows = change_rows (is_of guest) in_scan p.rows; restless = q.restless }) where
   -- `Mergeable` of a guest that has a row is carried out where all its rows are put in the scan
   pub mergeable_carried : has_guest (state_of p cursor passes) guest ≡ true
-      → CarriedOut (book p k cursor passes) (book q k cursor passes) (Mergeable guest) (Ok Done)
+      → IsCarried (book p k cursor passes) (book q k cursor passes) (Mergeable guest) (Ok Done)
   mergeable_carried has = record {
     own = refl;
     answer = rw has tt;
     state = ap (λ x. state_of x cursor passes) goes;
     steps = record { keeper = refl; frame = ap (λ (x : PagesView). x.frame) goes };
-    frames = does_nothing k;
-    shown = tt;
   }
 
   -- rows and dups lie lawfully once a guest's rows are in the scan
@@ -126,21 +102,15 @@ module _ {p m : PagesView} {k l : KeeperView} (cursor : Option GuestPage) (passe
   abbrev met : List Row
   met = shared_rows every_row b
 
-  abbrev homes : List ℕ
-  homes = map (λ r. r.home) (take count met)
-
   -- whatever it does to the rows and knobs once the pages have left
   carried : (q : PagesView) (cursor' : Option GuestPage) → q.frame ≡ m.frame → state_of q cursor' passes ≡ unshare_stopped stop count b
-      → CarriedOut (book p k cursor passes) (book q l cursor' passes) (SetRun 2) (Ok (Unmerged count stop))
+      → IsCarried (book p k cursor passes) (book q l cursor' passes) (SetRun 2) (Ok (Unmerged count stop))
   carried q cursor' frame state =
-      let does = gave_does k l homes u.at u.gave in
       record {
-        own = does.1.table;
+        own = unshares_own u;
         answer = rw u.fault (is_unmerged met count u.at u.stands);
         state = state;
         steps = subst (λ f. UnmergesTo (take count met) stop (lying p k) (record { frame = f; keeper = l })) (sym frame) u.unmerges;
-        frames = does;
-        shown = rw u.fault (gave_shown b (SetRun 2) k l homes count u.at (λ _. refl) u.gave);
       }
 
   across : knobs.merge_across_nodes ≡ m.knobs.merge_across_nodes
@@ -148,7 +118,7 @@ module _ {p m : PagesView} {k l : KeeperView} (cursor : Option GuestPage) (passe
 
   -- `SetRun` 2 is carried out, and all lies lawfully, where the unsharing of all rows stopped and run is 0 then
   pub unshare_stops : is_some stop ≡ true → {q : PagesView} → q ≡ record m { knobs = record knobs { run = 0 } }
-      → CarriedOut (book p k cursor passes) (book q l cursor passes) (SetRun 2) (Ok (Unmerged count stop)) × IsLaid q l
+      → IsCarried (book p k cursor passes) (book q l cursor passes) (SetRun 2) (Ok (Unmerged count stop)) × IsLaid q l
   unshare_stops some {q} goes =
       let rows = stopped_rows u.at p.rows
       ∙ ap (λ o. change_rows (λ r. shared_state r.state && is_before o r) unshared p.rows) (sym (stop_is met count u.at u.stands)) in (
@@ -180,7 +150,7 @@ module _ {p m : PagesView} {k l : KeeperView} (cursor : Option GuestPage) (passe
     -- `SetRun` 2 is carried out, and all lies lawfully, where the unsharing of all rows went through and run is 2 then
     pub unshare_ends : {w q : PagesView} → w ≡ record m { rows = map unshared m.rows; restless = w.restless }
         → q ≡ record w { knobs = record knobs { run = 2 } }
-        → CarriedOut (book p k cursor passes) (book q l None passes) (SetRun 2) (Ok (Unmerged count stop)) × IsLaid q l
+        → IsCarried (book p k cursor passes) (book q l None passes) (SetRun 2) (Ok (Unmerged count stop)) × IsLaid q l
     unshare_ends {w} {q} wide goes =
         let rows = ap (map unshared) went
         ∙ map_mapped unshared (left_by None) unshared p.rows (λ i d lt. grind arith) in (

@@ -2,7 +2,7 @@
 use Rattle.ksm_book.proofs.Names.{not-true, both_ways, Agrees, All, All-filter, ap, arith, DupFits, DupRow, elsewhere, eq-eqb, filter, filter_passes, frame_at, Frames, frames_of, get_or, get_or-set_other, get_or-set_same, is_some, IsInLife, Ledger, length, length-set, life_or, List, named_at, ne_eqb, None, not, Option, place_frame, Placed, refl, Row, RowFits, set, Shape, subst, sym, true, ℕ, ◌/◌, ◌<◌, ◌==◌, ◌∙◌, ◌≡◌, ◌≢◌, ◌≤◌}
 use mathlib.Core.Logic.{dite}
 use native.Mathlib.Decide.{ℕ_discrete}
-use Rattle.ksm_book.proofs.ByPage.{contains_filter}
+use Rattle.ksm_base.proofs.Changes.{contains_filter}
 use Rattle.ksm_book.proofs.Moves.{served_as}
 use Rattle.std.proofs.lemmas.List.Elements.{Contains-get_or}
 

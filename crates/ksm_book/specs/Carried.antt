@@ -69,6 +69,17 @@ TakesSteps v w command (Err (NoFrame node)) = TurnsAway (mapped v) (mapped w) no
 TakesSteps v w command answer = IsIdle (mapped v) (mapped w)
 
 -- the command was carried out, and answered so
+pub record IsCarried (v w : BookView) (command : Command) (given : Answer) : Type 0 where
+  -- the keeper is of the same table
+  pub own : w.keeper.table ≡ v.keeper.table
+  -- the answer is one that the state allows, or says that memory was refused
+  pub answer : IsAnswerOrMemory v.state command given
+  -- the state after it
+  pub state : w.state ≡ after v.state command given
+  -- the steps that it made, and no others, and the frame of each page after them
+  pub steps : TakesSteps v w command given
+
+-- the same, and what follows from its steps: which frames they gave, and what the log shows of the answer
 pub record CarriedOut (v w : BookView) (command : Command) (given : Answer) : Type 0 where
   -- the keeper is of the same table
   pub own : w.keeper.table ≡ v.keeper.table

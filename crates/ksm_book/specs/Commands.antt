@@ -15,6 +15,7 @@ use Rattle.frame_core.specs.declared.event.KeeperStep.TheVariants.{Reap, Raise, 
 use Rattle.frame_core.specs.declared.event.KeeperStep.TheVariants.{Withdraw, Freeze}
 use Rattle.frame_core.specs.declared.frame.Kind.TheVariants.{Stable, Dying}
 use Rattle.frame_core.specs.Ledger.{frame_at}
+use Rattle.frame_table.specs.Kept.{did}
 use Rattle.frame_table.specs.Named.{KeeperView}
 use Rattle.ksm_pages.specs.Paged.{Frames, lies_on}
 use Rattle.ksm_book.specs.Placement.{is_frame}
@@ -113,9 +114,13 @@ pub record Moves (v w : Mapped) (rows : List Row) (dup : DupRow) (node : ℕ) : 
   pub finds : Finds v.keeper searched node got
   pub frozen : KeeperView
   pub freezes : Made searched frozen (Freeze (dup_frame v.frame rows dup.number) ∷ [])
+  -- its own frame is shown until then, and dying after it
+  pub stood : (frame_at searched.ledger (dup_frame v.frame rows dup.number)).kind ≡ Stable
   pub exchanged : (frame_at frozen.ledger (dup_frame v.frame rows dup.number)).kind ≡ Dying
   pub mounts : Made frozen w.keeper
       (mounting (dup_frame v.frame rows dup.number) got dup.place (item_count rows dup) dup.bytes)
+  -- last the place names the one found
+  pub named : (before : KeeperView) × (w.keeper ≡ did before (Publish dup.place got) 0)
   pub frame : w.frame ≡ instead (dup_frame v.frame rows dup.number) got v.frame
 
 -- a dup's frame is held: a frame of the node was found, and the exchange of the dup's frame's count was tried and not

@@ -1,5 +1,5 @@
 -- What the keeper's steps mean: for the log, for every lawful placement, and for the lives that were spent (own).
-use Rattle.std.specs.Prelude.{◌≡◌, ℕ, ◌+◌, ◌-◌, ◌*◌, ◌<◌, ◌≤◌, List, [], ◌∷◌, Contains, Option, Some, None}
+use Rattle.std.specs.Prelude.{◌≡◌, ℕ, ◌+◌, ◌-◌, ◌*◌, ◌<◌, ◌≤◌, List, [], Contains, Option, Some, None}
 use Rattle.std.specs.List.{sum_by}
 use Rattle.ksm_base.specs.declared.row.Row.{Row}
 use Rattle.ksm_base.specs.declared.row.DupRow.{DupRow}
@@ -14,7 +14,7 @@ use Rattle.frame_core.specs.Ledger.{frame_at}
 use Rattle.frame_table.specs.Named.{KeeperView}
 use Rattle.ksm_pages.specs.Paged.{Frames}
 use Rattle.ksm_book.specs.Placement.{Placed, node_of}
-use Rattle.ksm_book.specs.Steps.{Log, Did, Does, HasNoFree}
+use Rattle.ksm_book.specs.Steps.{Log, Did, HasNoFree}
 
 -- every lawful placement is still lawful, with another frame in hand
 abbrev pub Keeps : KeeperView → KeeperView → Option ℕ → Option ℕ → Type 0
@@ -64,7 +64,6 @@ pub record NoneLeft (v w : KeeperView) (node : ℕ) : Type 0 where
 
 -- frame g of the home is in hand, with these bytes
 pub record Took (v w : KeeperView) (home : ℕ) (bytes : List ℕ) (g : ℕ) : Type 0 where
-  pub does : Does v w (home ∷ [])
   pub keeps : Keeps v w None (Some g)
   pub spent : spent v.ledger ≤ spent w.ledger
   pub frame : g < frames_of v.table.shape

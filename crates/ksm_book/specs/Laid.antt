@@ -1,6 +1,6 @@
 -- The pages as they lie in the keeper's frames, and the state of the book that they tell (own).
 use Rattle.std.specs.Prelude.{◌≡◌, ℕ, ◌<◌, ◌≤◌, ◌&&◌, ◌==◌, find, MatchOption, Result, Ok, Err}
-use Rattle.std.specs.Prelude.{Option, None, Some, List, [], ◌∷◌}
+use Rattle.std.specs.Prelude.{Option, None, Some, List, []}
 use Rattle.ksm_base.specs.declared.page.GuestPage.{GuestPage}
 use Rattle.ksm_base.specs.declared.row.PageState.TheVariants.{Private}
 use Rattle.ksm_base.specs.declared.fault.Fault.{Fault}
@@ -13,10 +13,9 @@ use Rattle.ksm_base.specs.State.{BookState}
 use Rattle.ksm_base.specs.Values.{IsShape}
 use Rattle.frame_table.specs.Named.{KeeperView}
 use Rattle.ksm_book.specs.Placement.{Placed}
-use Rattle.ksm_book.specs.Steps.{Did, Does, loads}
+use Rattle.ksm_book.specs.Steps.{Did, loads}
 use Rattle.ksm_book.specs.Commands.{FindsHeld, Mapped, Moves, Resettles, TurnsAway}
-use Rattle.ksm_book.specs.Keeping.{spent, NoneLeft}
-use Rattle.ksm_book.specs.Mounted.{IsMoved}
+use Rattle.ksm_book.specs.Keeping.{spent}
 use Rattle.ksm_pages.specs.Paged.{PagesView, on_its_own}
 
 -- where each page lies, with the keeper of the frames
@@ -53,7 +52,6 @@ pub record Houses (change : Row → Row) (page : GuestPage) (node : ℕ) (bytes 
 pub record Resettled (p q : PagesView) (k l : KeeperView) (page : GuestPage) (node : ℕ) (bytes : List ℕ) : Type 0 where
   pub pages : q ≡ record p { rows = change_row page on_its_own p.rows; frame = q.frame; restless = q.restless }
   pub resettles : Resettles (lying p k) (lying q l) page node bytes
-  pub does : Does k l (node ∷ [])
   pub placed : (change : Row → Row) → Houses change page node bytes p.rows
       → Placed p.shape p.knobs.merge_across_nodes l.ledger (change_row page change p.rows) q.frame p.dups None
   pub spent : p.next ≤ spent l.ledger
@@ -62,14 +60,13 @@ pub record Resettled (p q : PagesView) (k l : KeeperView) (page : GuestPage) (no
 pub record TurnedAway (p q : PagesView) (k l : KeeperView) (node : ℕ) : Type 0 where
   pub pages : q ≡ p
   pub turns : TurnsAway (lying p k) (lying q l) node
-  pub left : NoneLeft k l node
   pub laid : IsLaid q l
 
 -- a dup moved to a frame of the node; or none was free; or a reader holds its frame
 abbrev pub MovesOr : {X : Type 0} → PagesView → PagesView → KeeperView → KeeperView → DupRow → ℕ → Result X Fault
     → Type 0
 MovesOr p q k l dup node (Ok moved) = Moves (lying p k) (lying q l) p.rows dup node
-MovesOr p q k l dup node (Err (NoFrame n)) = TurnsAway (lying p k) (lying q l) n
+MovesOr p q k l dup node (Err (NoFrame n)) = (n ≡ node) × TurnsAway (lying p k) (lying q l) n
 MovesOr p q k l dup node (Err InUse) = FindsHeld (lying p k) (lying q l) p.rows dup node
 MovesOr p q k l dup node (Err fault) = ⊥
 
@@ -91,8 +88,6 @@ pub record HasRemounted {X : Type 0} (p q : PagesView) (k l : KeeperView) (dup :
   pub rest : q ≡ record p { frame = q.frame }
   -- rows and dups lie lawfully
   pub laid : IsLaid q l
-  -- what the keeper's log shows
-  pub shown : IsMoved k l dup.place node result
   -- the steps that were made, and where each page lies after them
   pub moves : MovesOr p q k l dup node result
 

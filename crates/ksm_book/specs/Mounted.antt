@@ -1,17 +1,15 @@
 -- What the keeper does where a dup moves to another frame (own).
-use Rattle.std.specs.Prelude.{◌≡◌, ◌≢◌, ◌<◌, ◌≤◌, ◌+◌, ℕ, [], ◌∷◌, Contains, Result, Ok, Err, Some}
+use Rattle.std.specs.Prelude.{◌≡◌, ◌≢◌, ◌<◌, ◌≤◌, ◌+◌, ℕ, [], ◌∷◌, Contains, Some}
 use Rattle.std.specs.Prelude.{length, slice_set}
+use Rattle.ksm_base.specs.declared.limits.TheConstants.{MOST_REFERENCES}
 use Rattle.ksm_base.specs.declared.page.TheConstants.{PAGE_WORDS}
 use Rattle.ksm_base.specs.Values.{frames_of}
-use Rattle.ksm_base.specs.declared.fault.Fault.{Fault}
-use Rattle.ksm_base.specs.declared.fault.Fault.TheVariants.{NoFrame, InUse}
 use Rattle.frame_core.specs.declared.event.KeeperStep.TheVariants.{Raise, Publish, Freeze}
 use Rattle.frame_core.specs.declared.frame.Kind.TheVariants.{Free, Dying, Stable}
 use Rattle.frame_core.specs.declared.ledger.Ledger.{Ledger}
 use Rattle.frame_core.specs.State.{count_in}
 use Rattle.frame_core.specs.Ledger.{frame_at, named_at, IsLoose}
 use Rattle.frame_table.specs.Named.{KeeperView}
-use Rattle.ksm_book.specs.Keeping.{NoneLeft}
 use Rattle.ksm_book.specs.Steps.{Log, Did}
 
 -- a frame may take the place of another at a place, with so many references
@@ -30,7 +28,7 @@ pub record MayMount (v : KeeperView) (left frame place count : ℕ) : Type 0 whe
   pub loose : IsLoose v.ledger (named_at v.ledger place)
   -- of references there is one at least, and not too many
   pub some : 1 ≤ count
-  pub few : count ≤ 1024
+  pub few : count ≤ MOST_REFERENCES
 
 -- a frame, in its next life, has the bytes of another and so many references, and a place names it
 abbrev pub once_mounted : Ledger → ℕ → ℕ → ℕ → ℕ → Ledger
@@ -59,10 +57,3 @@ pub record HasMoved (v w : KeeperView) (place node : ℕ) : Type 0 where
   pub before : ℕ
   pub raised : Contains part (Raise frame, before)
   pub published : Contains part (Publish place frame, 0)
-
--- the dup at the place moved to a frame of the node; or none was free; or a reader holds its frame
-abbrev pub IsMoved : {X : Type 0} → KeeperView → KeeperView → ℕ → ℕ → Result X Fault → Type 0
-IsMoved v w place node (Ok moved) = HasMoved v w place node
-IsMoved v w place node (Err (NoFrame n)) = (n ≡ node) × NoneLeft v w node
-IsMoved v w place node (Err InUse) = HasLost v w
-IsMoved v w place node (Err fault) = ⊥

@@ -1,5 +1,5 @@
 -- Pages that leave their dups, or the zero page, one after another, in order (own).
-use Rattle.std.specs.Prelude.{◌≡◌, ℕ, Bool, true, [], ◌∷◌, length, map, filter, take, slice_get, ◌&&◌}
+use Rattle.std.specs.Prelude.{◌≡◌, ℕ, Bool, true, [], ◌∷◌, length, filter, take, slice_get, ◌&&◌}
 use Rattle.std.specs.Prelude.{List, Option, None, Some, option_map, if◌then◌else◌}
 use Rattle.ksm_base.specs.declared.fault.Fault.{Fault}
 use Rattle.ksm_base.specs.declared.fault.Fault.TheVariants.{NoFrame}
@@ -9,11 +9,9 @@ use Rattle.ksm_base.specs.Rows.{change_row, change_rows, row_at, shared_state}
 use Rattle.ksm_base.specs.Apply.{is_before, let_go, unshared}
 use Rattle.frame_table.specs.Named.{KeeperView}
 use Rattle.ksm_book.specs.Carried.{UnmergesTo}
-use Rattle.ksm_book.specs.Keeping.{NoneLeft}
 use Rattle.ksm_book.specs.Commands.{ResettlesEach}
 use Rattle.ksm_book.specs.Laid.{IsLaid, TurnedAway, lying}
 use Rattle.ksm_pages.specs.Paged.{PagesView, of_guest}
-use Rattle.ksm_book.specs.Steps.{Does}
 
 -- a merged or Zero row of the guest, or of any
 abbrev pub is_shared_of : Option ℕ → Row → Bool
@@ -29,11 +27,6 @@ abbrev pub IsStop : List Row → ℕ → Option Row → Type 0
 IsStop rows k None = k ≡ length rows
 IsStop rows k (Some row) = slice_get rows k ≡ Some row
 
--- the keeper gave a frame on each of the nodes, and found none on the home of the row at which there was a stop
-abbrev pub Gave : KeeperView → KeeperView → List ℕ → Option Row → Type 0
-Gave v w nodes None = Does v w nodes
-Gave v w nodes (Some row) = (u : KeeperView) × Does v u nodes × NoneLeft u w row.home
-
 -- the row, if it is merged or Zero
 abbrev pub shared_of : Row → List Row
 shared_of r = filter (λ x. shared_state x.state) (r ∷ [])
@@ -45,7 +38,6 @@ pub record HasLeft (p q : PagesView) (k l : KeeperView) (guest : Option ℕ) (pa
   pub given : count ≡ length (shared_of row)
   pub pages : q ≡ record p { rows = change_row page (left_by guest) p.rows; frame = q.frame; restless = q.restless }
   pub steps : ResettlesEach (shared_of row) (lying p k) (lying q l)
-  pub does : Does k l (map (λ r. r.home) (shared_of row))
   pub laid : IsLaid q l
 
 -- the row of a page is shared, and no frame of its home was left for it
@@ -69,5 +61,4 @@ pub record Unshares (p q : PagesView) (k l : KeeperView) (guest : Option ℕ) (c
     restless = q.restless;
   }
   pub unmerges : UnmergesTo (take count (filter (is_shared_of guest) p.rows)) stop (lying p k) (lying q l)
-  pub gave : Gave k l (map (λ r. r.home) (take count (filter (is_shared_of guest) p.rows))) at
   pub laid : IsLaid q l

@@ -11,7 +11,7 @@ ghost use Rattle.ksm_base.specs.Refusals.{is_known};
 ghost use Rattle.ksm_base.specs.State.{opening};
 ghost use Rattle.ksm_base.specs.Values.{IsShape};
 ghost use Rattle.frame_core.specs.Ledger.{first_ledger};
-ghost use Rattle.ksm_book.specs.Carried.{CarriedOut, unjournaled};
+ghost use Rattle.ksm_book.specs.Carried.{CarriedOut, IsCarried, unjournaled};
 ghost use Rattle.ksm_pages.specs.Paged.{nowhere};
 ghost use Rattle.ksm_book.specs.Laid.{LoadsIf};
 ghost use Rattle.ksm_base.specs.Sound.{IsSound};
@@ -184,7 +184,7 @@ impl Book {
 #[inline(always)]
 fn carry_out(state: &mut State, table: &FrameTable, command: Command) -> Result<Reply, Fault>
     requires own { state.old.keeper.table ≡ table.now }
-    ensures { CarriedOut (view_of state.old) (view_of state.new) command result }
+    ensures { IsCarried (view_of state.old) (view_of state.new) command result }
 {
     match command {
         Command::Register { page, node, bytes } => state.register(table, page, node, bytes),

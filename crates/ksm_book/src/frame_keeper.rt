@@ -111,7 +111,7 @@ impl FrameKeeper {
         self.free.least(from, end)
     }
 
-    /// How many references on a frame are the keeper's own: 0 to 1,024.
+    /// How many references on a frame are the keeper's own: 0 to `MOST_REFERENCES`.
     pub fn base(&self, frame: u32) -> u64
         requires { frame < frames_of self.now.table.shape }
         ensures { result ≡ (frame_at self.now.ledger frame).base }
@@ -122,6 +122,7 @@ impl FrameKeeper {
     // The calls that follow hand a step to the keeper. Where that may turn the kind of the frame, it is marked in the
     // sets that it may have left or entered.
 
+    /// One reference more on a frame.
     pub fn add(&mut self, table: &FrameTable, frame: u32)
         requires own { self.old.table ≡ table.now }
         requires may { May self.old (Add frame) }
@@ -130,6 +131,7 @@ impl FrameKeeper {
         self.keeper.add(table, frame);
     }
 
+    /// One reference less on a frame. With the last it is dying.
     pub fn sub(&mut self, table: &FrameTable, frame: u32)
         requires own { self.old.table ≡ table.now }
         requires may { May self.old (Sub frame) }
@@ -142,6 +144,8 @@ impl FrameKeeper {
         }
     }
 
+    /// Looks whether readers still hold a dying frame: where none does it is free, or retired after its last life. Says
+    /// whether none did.
     pub fn reap(&mut self, table: &FrameTable, frame: u32) -> bool
         requires own { self.old.table ≡ table.now }
         requires may { May self.old (Reap frame) }
@@ -152,6 +156,7 @@ impl FrameKeeper {
         alone
     }
 
+    /// Takes a free frame into its next life, to be filled.
     pub fn raise(&mut self, table: &FrameTable, frame: u32)
         requires own { self.old.table ≡ table.now }
         requires may { May self.old (Raise frame) }
@@ -163,6 +168,7 @@ impl FrameKeeper {
         self.free.mark(frame, is_free(kind));
     }
 
+    /// Stores a word of a frame.
     pub fn put(&mut self, table: &FrameTable, frame: u32, i: usize, word: u64)
         requires own { self.old.table ≡ table.now }
         requires may { May self.old (Put frame i word) }
@@ -171,6 +177,7 @@ impl FrameKeeper {
         self.keeper.put(table, frame, i, word);
     }
 
+    /// Makes a frame that was filled the page's own, with one reference.
     pub fn open(&mut self, table: &FrameTable, frame: u32)
         requires own { self.old.table ≡ table.now }
         requires may { May self.old (Open frame) }
@@ -179,6 +186,7 @@ impl FrameKeeper {
         self.keeper.open(table, frame);
     }
 
+    /// A place names the frame from now on, in its life.
     pub fn publish(&mut self, table: &FrameTable, place: u32, frame: u32)
         requires own { self.old.table ≡ table.now }
         requires may { May self.old (Publish place frame) }
@@ -187,6 +195,7 @@ impl FrameKeeper {
         self.keeper.publish(table, place, frame);
     }
 
+    /// A place names no frame any more.
     pub fn withdraw(&mut self, table: &FrameTable, place: u32)
         requires own { self.old.table ≡ table.now }
         requires may { May self.old (Withdraw place) }
@@ -195,6 +204,8 @@ impl FrameKeeper {
         self.keeper.withdraw(table, place);
     }
 
+    /// Tries to take all references from a shown frame, which is dying then. Says whether no reader held it; where one
+    /// did, nothing changes.
     pub fn freeze(&mut self, table: &FrameTable, frame: u32) -> bool
         requires own { self.old.table ≡ table.now }
         requires may { May self.old (Freeze frame) }
@@ -206,6 +217,7 @@ impl FrameKeeper {
         alone
     }
 
+    /// Loads a word of a frame.
     pub fn word(&mut self, table: &FrameTable, frame: u32, i: usize) -> u64
         requires own { self.old.table ≡ table.now }
         requires may { May self.old (Word frame i) }

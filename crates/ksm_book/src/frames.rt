@@ -118,7 +118,7 @@ pub fn known_frame(frame: Option<u32>) -> u32
 {
     match frame {
         Some(frame) => frame,
-        None => 0,
+        None => unreachable!(),
     }
 }
 

@@ -2,6 +2,7 @@
 
 ghost use Rattle.std.specs.Prelude.{◌≡◌, ◌<◌, ◌≤◌, ◌+◌, replicate};
 ghost use Rattle.ksm_base.specs.Values.{frames_of};
+ghost use Rattle.ksm_base.specs.declared.limits.TheConstants.{MOST_REFERENCES};
 ghost use Rattle.frame_core.specs.declared.event.KeeperStep.TheVariants.{Add, Publish};
 ghost use Rattle.frame_core.specs.Ledger.{frame_at, with_frame};
 ghost use Rattle.frame_table.specs.Kept.{did};
@@ -20,7 +21,7 @@ fn add_times(keeper: &mut FrameKeeper, table: &FrameTable, frame: u32, count: u6
     requires own { keeper.old.table ≡ table.now }
     requires inside { frame < frames_of keeper.old.table.shape }
     requires some { 1 ≤ (frame_at keeper.old.ledger frame).base }
-    requires few { (frame_at keeper.old.ledger frame).base + count ≤ 1024 }
+    requires few { (frame_at keeper.old.ledger frame).base + count ≤ MOST_REFERENCES }
     ensures made { Made keeper.old keeper.new (replicate count (Add frame)) }
     ensures ledger { keeper.new.ledger ≡ with_frame keeper.old.ledger frame
         (with_more (frame_at keeper.old.ledger frame) count) }

@@ -11,7 +11,7 @@ ghost use Rattle.ksm_base.specs.declared.page.GuestPage.{GuestPage};
 ghost use Rattle.ksm_base.specs.Rows.{InPageOrder};
 ghost use Rattle.ksm_base.specs.State.{with_none_waiting};
 ghost use Rattle.ksm_base.specs.Visit.{after_cursor, pass_begun, pass_ended_at_last};
-ghost use Rattle.ksm_book.specs.Carried.{CarriedOut};
+ghost use Rattle.ksm_book.specs.Carried.{IsCarried};
 ghost use Rattle.ksm_book.specs.Folded.{begun, last_of, mergeable_pages, pages_ahead, pages_visited};
 ghost use Rattle.ksm_book.specs.Scanned.{Comes, EndsAt, GoesOn, HasScanned, HasVisited, ListsAll, StopsAt, StopsBefore};
 ghost use Rattle.ksm_book.specs.Scanned.{StopsShort, ahead_before, ahead_up_to, doing, from_to, is_nowhere, is_over};
@@ -157,10 +157,7 @@ impl State {
     {
         match self.pages.restless_at(at) {
             Some(spot) => spot,
-            None => Spot {
-                page: GuestPage { guest: 0, page: 0 },
-                key: 0,
-            },
+            None => unreachable!(),
         }
     }
 
@@ -365,7 +362,7 @@ impl State {
     #[inline(never)]
     pub fn scan(&mut self, table: &FrameTable, count: u64) -> Result<Reply, Fault>
         requires own { self.old.keeper.table ≡ table.now }
-        ensures { CarriedOut (view_of self.old) (view_of self.new) (Command.Scan count) result }
+        ensures { IsCarried (view_of self.old) (view_of self.new) (Command.Scan count) result }
     {
         if self.pages.knobs().run != 1 {
             return Err(Fault::NotRunning);

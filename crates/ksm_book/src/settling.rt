@@ -7,7 +7,6 @@ ghost use Rattle.ksm_base.specs.Rows.{InPlaceOrder, has_items, is_stale};
 ghost use Rattle.ksm_book.specs.Commands.{Performs, pruning};
 ghost use Rattle.ksm_book.specs.Laid.{IsLaid, Resettled, TurnedAway, lying};
 ghost use Rattle.ksm_pages.specs.Paged.{IsKnown, seen};
-ghost use Rattle.ksm_book.specs.Steps.{Does};
 
 use crate::frame_keeper::FrameKeeper;
 use crate::frames::{release_if, take_frame};
@@ -55,7 +54,6 @@ pub fn drop_stale(pages: &mut Pages, keeper: &mut FrameKeeper, table: &FrameTabl
     } }
     ensures count { result ≡ count_by (is_stale pages.old.rows) pages.old.dups }
     ensures laid { IsLaid (seen pages.new) keeper.new }
-    ensures does { Does keeper.old keeper.new [] }
     ensures performs { Performs (lying (seen pages.old) keeper.old) (lying (seen pages.new) keeper.new)
         (pruning pages.old.rows pages.old.dups (seen pages.old).frame) }
 {

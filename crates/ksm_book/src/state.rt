@@ -10,7 +10,7 @@ ghost use Rattle.ksm_base.specs.declared.fault.Fault.TheVariants.{Memory};
 ghost use Rattle.ksm_base.specs.Refusals.{is_known};
 ghost use Rattle.ksm_base.specs.Sound.{IsSound};
 ghost use Rattle.frame_core.specs.Ledger.{first_ledger};
-ghost use Rattle.ksm_book.specs.Carried.{CarriedOut};
+ghost use Rattle.ksm_book.specs.Carried.{IsCarried};
 ghost use Rattle.ksm_book.specs.Whole.{view_of};
 ghost use Rattle.ksm_book.specs.Keeping.{spent};
 ghost use Rattle.ksm_book.specs.Laid.{LoadsIf};
@@ -126,7 +126,7 @@ impl State {
         bytes: PageBytes,
     ) -> Result<Reply, Fault>
         requires own { self.old.keeper.table ≡ table.now }
-        ensures { CarriedOut (view_of self.old) (view_of self.new) (Command.Register page node bytes) result }
+        ensures { IsCarried (view_of self.old) (view_of self.new) (Command.Register page node bytes) result }
     {
         let shape = self.pages.shape();
         if node >= shape.nodes {
@@ -152,7 +152,7 @@ impl State {
         bytes: PageBytes,
     ) -> Result<Reply, Fault>
         requires own { self.old.keeper.table ≡ table.now }
-        ensures { CarriedOut (view_of self.old) (view_of self.new) (Command.Store page bytes) result }
+        ensures { IsCarried (view_of self.old) (view_of self.new) (Command.Store page bytes) result }
     {
         let Some(held) = self.pages.held(page) else {
             return Err(Fault::UnknownPage);
@@ -180,7 +180,7 @@ impl State {
     /// Drops a page: its row goes, and so does its reference on a frame.
     pub fn drop_page(&mut self, table: &FrameTable, page: GuestPage) -> Result<Reply, Fault>
         requires own { self.old.keeper.table ≡ table.now }
-        ensures { CarriedOut (view_of self.old) (view_of self.new) (Command.Drop page) result }
+        ensures { IsCarried (view_of self.old) (view_of self.new) (Command.Drop page) result }
     {
         let Some(held) = self.pages.held(page) else {
             return Err(Fault::UnknownPage);
@@ -223,6 +223,7 @@ impl State {
         Ok(Some(Vec::from_slice(alloc, items)?))
     }
 
+    /// The knobs.
     pub fn knobs(&self) -> Knobs
         ensures { result ≡ self.now.state.knobs }
     {
@@ -232,7 +233,7 @@ impl State {
     /// All stale dups go.
     pub fn prune(&mut self, table: &FrameTable) -> Result<Reply, Fault>
         requires own { self.old.keeper.table ≡ table.now }
-        ensures { CarriedOut (view_of self.old) (view_of self.new) Command.Prune result }
+        ensures { IsCarried (view_of self.old) (view_of self.new) Command.Prune result }
     {
         let count = drop_stale(&mut self.pages, &mut self.keeper, table);
         Ok(Reply::Pruned(count))
@@ -246,7 +247,7 @@ impl State {
         node: u32,
     ) -> Result<Reply, Fault>
         requires own { self.old.keeper.table ≡ table.now }
-        ensures { CarriedOut (view_of self.old) (view_of self.new) (Command.MovePage page node) result }
+        ensures { IsCarried (view_of self.old) (view_of self.new) (Command.MovePage page node) result }
     {
         if node >= self.pages.shape().nodes {
             return Err(Fault::BadNode);

@@ -11,7 +11,7 @@ use crate::frames::{clear, release_if};
 use crate::state::State;
 use frame_table::FrameTable;
 use ksm_base::{Fault, GuestPage};
-use ksm_pages::{Find, Glance, Held, Spot};
+use ksm_pages::{Find, Glance, Spot};
 use ksm_tree::Best;
 
 /// What became of a page that was visited.
@@ -121,25 +121,16 @@ impl State {
         ensures restless { self.new.restless ≡ self.old.restless }
         ensures refused { OnErr result (self.new ≡ self.old) }
     {
-        let first = known_spot(other, self.pages.held(other));
+        let Some(held) = self.pages.held(other) else {
+            unreachable!()
+        };
         let place = self.pages.new_place();
         let taken = self.pages.has_dup(place);
-        let (frame, lone) = self.pages.pair(place, first, spot)?;
+        let (frame, lone) = self.pages.pair(place, held.spot, spot)?;
         clear(&mut self.keeper, table, place, taken);
         self.keeper.publish(table, place, frame);
         self.keeper.add(table, frame);
         self.keeper.sub(table, lone);
         Ok(())
-    }
-}
-
-// The page, with what is known of the key of its row.
-fn known_spot(page: GuestPage, held: Option<Held>) -> Spot
-    requires { MatchOption held (true ≡ true) (λ h. h.spot.page ≡ page) }
-    ensures { result.page ≡ page }
-{
-    match held {
-        Some(held) => held.spot,
-        None => Spot { page, key: 0 },
     }
 }

@@ -1,6 +1,5 @@
-use Rattle.ksm_book.proofs.Names.{ap, arith, count_by, filter, is_stale, PagesView, seen, sym, ◌∙◌}
+use Rattle.ksm_book.proofs.Names.{ap, arith, count_by, is_stale, PagesView, seen, sym, ◌∙◌}
 use Rattle.ksm_book.proofs.Pruning.{drop_few, drop_fewer, drop_vacant, drops_more, drop_may, dropped}
-use Rattle.ksm_book.proofs.Shown.{quiet_does, quiet_withdraws}
 use Rattle.ksm_book.proofs.settling.drop_stale.Goals as goal
 
 pub withdraw-requires-clause-may : goal.withdraw-requires-clause-may
@@ -25,12 +24,10 @@ stale-smaller c =
 
 pub returns : goal.returns
 returns c =
-    let p = seen c.args.pages.now in
     let done = dropped c.stale.invariant (sym c.in_default.is ∙ c.stale_place.ensures) in
     record {
       pages = done.0;
       count = done.1;
       laid = c.stale.invariant.laid;
-      does = quiet_does done.2.made (quiet_withdraws (filter (is_stale p.rows) p.dups));
       performs = done.2;
     }

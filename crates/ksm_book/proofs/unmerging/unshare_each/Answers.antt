@@ -1,7 +1,17 @@
-use Rattle.ksm_book.proofs.Names.{arith, rules, Some}
+use Rattle.ksm_book.proofs.Names.{arith, rules, Some, ◌∙◌}
 use Rattle.ksm_book.proofs.Along.{further, not_far}
-use Rattle.ksm_book.proofs.Unmerged.{unsharing_end, unsharing_home, unsharing_next, unsharing_stop}
+use Rattle.ksm_book.proofs.Unmerged.{unshares_own, unsharing_end, unsharing_home, unsharing_next, unsharing_own, unsharing_stop}
 use Rattle.ksm_book.proofs.unmerging.unshare_each.Goals as goal
+
+pub leave-requires-clause-own : goal.leave-requires-clause-own
+leave-requires-clause-own c = unsharing_own c.pages.invariant c.lie_in_order.ensures.rise ∙ c.requires.own
+
+pub returns-in-Err-clause-own : goal.returns-in-Err-clause-own
+returns-in-Err-clause-own c =
+    unshares_own (unsharing_stop c.pages.invariant c.lie_in_order.ensures.rise c.in-Some.ensures.1 c.in-Err.ensures.turned)
+
+pub returns-clause-own : goal.returns-clause-own
+returns-clause-own c = unshares_own (unsharing_end c.pages.invariant c.lie_in_order.ensures.rise c.in_default.ensures)
 
 pub leave-requires-clause-home : goal.leave-requires-clause-home
 leave-requires-clause-home c =

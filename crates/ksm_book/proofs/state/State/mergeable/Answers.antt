@@ -1,4 +1,4 @@
-use Rattle.ksm_book.proofs.Names.{CarriedOut, Err, Mergeable, refl, seen, subst, UnknownPage, view_of, ◌∙◌}
+use Rattle.ksm_book.proofs.Names.{IsCarried, Err, Mergeable, refl, seen, subst, UnknownPage, view_of, ◌∙◌}
 use Rattle.ksm_book.proofs.Singles.{carried_so, sound_carried}
 use Rattle.ksm_book.proofs.Unshared.{has_told, mergeable_carried, mergeable_laid, mergeable_refused}
 use Rattle.ksm_book.proofs.state.State.mergeable.Goals as goal
@@ -7,7 +7,7 @@ pub returns-then-is_none : goal.returns-then-is_none
 returns-then-is_none c =
     let s = c.self.inside in
     let has = has_told (seen s.pages) c.args.guest c.next.result c.next.ensures ∙ c.if-is_none.ensures in
-    subst (λ x. CarriedOut (view_of x) (view_of x) (Mergeable c.args.guest) (Err UnknownPage)) c.self.view_is
+    subst (λ x. IsCarried (view_of x) (view_of x) (Mergeable c.args.guest) (Err UnknownPage)) c.self.view_is
     (mergeable_refused (seen s.pages) s.keeper s.cursor s.passes c.args.guest has)
 
 pub invariant_of-self : goal.invariant_of-self

@@ -1,4 +1,4 @@
-use Rattle.ksm_book.proofs.Names.{ap, BookView, CarriedOut, inl, inr, Knobs, KeeperView, MayMove, MoveDup, PagesView, refl, seen, Shape, state_of, subst, sym, ◌<◌, ◌∙◌}
+use Rattle.ksm_book.proofs.Names.{ap, BookView, IsCarried, inl, inr, Knobs, KeeperView, MayMove, MoveDup, PagesView, refl, seen, Shape, state_of, subst, sym, ◌<◌, ◌∙◌}
 use Rattle.ksm_book.proofs.DupMoves.{done_carried, fault_carried, live_there}
 use Rattle.ksm_book.proofs.Singles.{book, carried_so}
 use Rattle.ksm_book.proofs.state.State.move_dup.Goals as goal
@@ -33,10 +33,10 @@ returns c =
     let command = MoveDup c.args.place c.args.node in
     let there = may ((goal.at.returns c).Joined-else-knobs-eq0) in
     carried_so c.self.view_is refl (elim c.match-remount.branch [
-      | in-Ok w ↦ subst (CarriedOut old new command) (sym w.result-is)
+      | in-Ok w ↦ subst (IsCarried old new command) (sym w.result-is)
           (done_carried p q s.keeper l s.cursor s.passes c.args.place c.args.node c.in-Some.dup c.in-Some.ensures there c.remount.ensures.own
           w.in-Ok.ensures.remounted)
-      | in-Err w ↦ subst (CarriedOut old new command) (sym w.result-is)
+      | in-Err w ↦ subst (IsCarried old new command) (sym w.result-is)
           (fault_carried p q s.keeper l s.cursor s.passes c.args.place c.args.node c.in-Some.dup c.in-Some.ensures there c.remount.ensures.own
           w.in-Err.fault w.in-Err.ensures.remounted)
     ])

@@ -1,4 +1,4 @@
-use Rattle.ksm_book.proofs.Names.{ap, arith, BookValue, BookView, CarriedOut, Knobs, length, mergeable_pages, None, Ok, refl, Scan, subst, sym, view_of, ◌∙◌, ◌≡◌, ◌≤◌, if◌then◌else◌}
+use Rattle.ksm_book.proofs.Names.{ap, arith, BookValue, BookView, IsCarried, Knobs, length, mergeable_pages, None, Ok, refl, Scan, subst, sym, view_of, ◌∙◌, ◌≡◌, ◌≤◌, if◌then◌else◌}
 use Rattle.ksm_book.proofs.ScanCarried.{any_none, scanned, visits_carried}
 use Rattle.ksm_book.proofs.state.State.scan.Goals as goal
 use Rattle.ksm_book.proofs.state.State.scan.Goals.{After-count_mergeable}
@@ -19,7 +19,7 @@ returns c =
     let view = c.list_restless.ensures.view in
     let some = subst (λ (v : BookView). 1 ≤ length (mergeable_pages v.state.rows)) (sym view)
     (omega (arith, c.count_mergeable.ensures, c.if-count_mergeable-eq0.false)) in
-    subst (λ v. CarriedOut v (view_of c.visits.new.self) (Scan c.args.count) (Ok c.visits.result)) view
+    subst (λ v. IsCarried v (view_of c.visits.new.self) (Scan c.args.count) (Ok c.visits.result)) view
     (visits_carried c.list_restless.new.self c.visits.new.self c.args.count
     (ap (λ (v : BookView). v.state.knobs.run) view ∙ running ((goal.at.returns c).After-count_mergeable)) c.visits.ensures.own
     c.visits.result some c.visits.ensures.scanned)

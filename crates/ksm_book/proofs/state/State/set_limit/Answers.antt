@@ -1,4 +1,5 @@
 use Rattle.ksm_book.proofs.Names.{ap, arith, BookValue, changes_while_shared, Done, false, inl, IsLaid, IsSound, Knobs, nat_tests, None, PagesView, refusal, rules, seen, SetLimit, sound_set_limit, state_of, subst, sym, ◌∙◌, ◌≡◌, ◌≤◌}
+use Rattle.ksm_base.specs.declared.limits.TheConstants.{MOST_REFERENCES}
 use Rattle.ksm_book.proofs.Laying.{retuned}
 use Rattle.ksm_book.proofs.state.State.set_limit.Goals as goal
 
@@ -7,7 +8,7 @@ invariant_of-self c =
     let s = c.self.inside in
     let b = state_of (seen s.pages) s.cursor s.passes in
     let inside = c.if-not-contains.ensures in
-    let within : (2 ≤ c.args.limit) × (c.args.limit ≤ 1024) = search rules in
+    let within : (2 ≤ c.args.limit) × (c.args.limit ≤ MOST_REFERENCES) = search rules in
     let calm : changes_while_shared b b.knobs.max_page_sharing c.args.limit ≡ false =
     ap (λ (k : Knobs). changes_while_shared b k.max_page_sharing c.args.limit) (sym c.knobs-knobs.ensures)
     ∙ ap (λ (x : BookValue). changes_while_shared x.state c.knobs-knobs.result.max_page_sharing c.args.limit) c.self.view_is ∙ sym c.if-would_change_shared.ensures in

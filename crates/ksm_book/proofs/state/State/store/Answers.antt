@@ -1,5 +1,6 @@
-use Rattle.ksm_book.proofs.Names.{ap, CarriedOut, Done, find_all, is_some, IsLaid, KeeperView, length, Ok, PAGE_WORDS, PagesView, refl, Resettled, rules, same_page, seen, Store, stored, subst, sym, ◌<◌, ◌∙◌, ◌≡◌}
+use Rattle.ksm_book.proofs.Names.{ap, IsCarried, Done, find_all, is_some, IsLaid, KeeperView, length, Ok, PAGE_WORDS, PagesView, refl, Resettled, rules, same_page, seen, Store, stored, subst, sym, ◌<◌, ◌∙◌, ◌≡◌}
 use Rattle.ksm_book.proofs.Laying.{has_frame, laid_written, own_framed}
+use Rattle.ksm_book.proofs.Shown.{resettles_own}
 use Rattle.ksm_book.proofs.Singles.{alone_now, book, carried_so, own_ready, sound_carried, store_copied, store_written, row_held, Carries, found_resettled}
 use Rattle.ksm_book.proofs.state.State.store.Goals as goal
 
@@ -20,7 +21,7 @@ store-requires-2 c = alone_now c.self.inside.pages.rows c.in-Some.held.spot.page
     (sym c.in-Some.ensures.shared ∙ c.if-held.false)
 
 module _ (c : goal.After-store-2) where
-  written : CarriedOut (book (seen c.self.inside.pages) c.self.inside.keeper c.self.inside.cursor c.self.inside.passes) (book (seen c.store-2.new.self) c.write.new.keeper c.self.inside.cursor c.self.inside.passes) (Store c.in-Some.held.spot.page c.args.bytes) (Ok Done)
+  written : IsCarried (book (seen c.self.inside.pages) c.self.inside.keeper c.self.inside.cursor c.self.inside.passes) (book (seen c.store-2.new.self) c.write.new.keeper c.self.inside.cursor c.self.inside.passes) (Store c.in-Some.held.spot.page c.args.bytes) (Ok Done)
   written =
       store_written (seen c.self.inside.pages) c.self.inside.keeper c.write.new.keeper c.self.inside.cursor c.self.inside.passes c.in-Some.held.spot.page c.args.bytes c.in-Some.ensures.row
       (row_held c.in-Some.ensures) (ap (λ (z : KeeperView). z.table) c.write.ensures.wrote)
@@ -53,7 +54,7 @@ copied : (c : goal.After-store) → Carries (seen c.self.inside.pages) c.self.in
     c.resettle.new.keeper c.self.inside.cursor c.self.inside.passes (Store c.in-Some.held.spot.page c.args.bytes) (Ok Done)
 copied c =
     store_copied (seen c.self.inside.pages) c.self.inside.keeper c.resettle.new.keeper c.self.inside.cursor c.self.inside.passes c.in-Some.held.spot.page c.args.bytes c.in-Some.ensures.row
-    (row_held c.in-Some.ensures) c.in_default-resettle.ensures.resettled.does.1.table
+    (row_held c.in-Some.ensures) (resettles_own c.in_default-resettle.ensures.resettled.resettles)
     (seen c.resettle.new.pages) (seen c.store.new.self) c.self.invariant.1 c.self.invariant.0.rows_rise
     (subst (λ n. Resettled (seen c.self.inside.pages) (seen c.resettle.new.pages) c.self.inside.keeper c.resettle.new.keeper c.in-Some.held.spot.page n c.args.bytes) c.in-Some.ensures.home c.in_default-resettle.ensures.resettled)
     c.store.ensures (sym c.in-Some.ensures.shared ∙ c.if-held.true)

@@ -1,4 +1,4 @@
-use Rattle.ksm_book.proofs.Names.{CarriedOut, Err, refl, seen, subst, UnknownPage, Unmerge, view_of, ◌∙◌}
+use Rattle.ksm_book.proofs.Names.{IsCarried, Err, refl, seen, subst, UnknownPage, Unmerge, view_of, ◌∙◌}
 use Rattle.ksm_book.proofs.Singles.{carried_so, sound_carried}
 use Rattle.ksm_book.proofs.Unshared.{has_told, unmerge_carried, unmerge_refused}
 use Rattle.ksm_book.proofs.state.State.unmerge.Goals as goal
@@ -7,7 +7,7 @@ pub returns-then-is_none : goal.returns-then-is_none
 returns-then-is_none c =
     let s = c.self.inside in
     let has = has_told (seen s.pages) c.args.guest c.next.result c.next.ensures ∙ c.if-is_none.ensures in
-    subst (λ x. CarriedOut (view_of x) (view_of x) (Unmerge c.args.guest) (Err UnknownPage)) c.self.view_is
+    subst (λ x. IsCarried (view_of x) (view_of x) (Unmerge c.args.guest) (Err UnknownPage)) c.self.view_is
     (unmerge_refused (seen s.pages) s.keeper s.cursor s.passes c.args.guest has)
 
 pub invariant_of-self : goal.invariant_of-self
