@@ -2,7 +2,7 @@
 use crate::host::{Host, taken};
 use clap::Error;
 use ksm_base::Shape;
-use ksm_host::{Ended, Status, played, run_on, told};
+use ksm_host::{Ended, Retrying, Status, played, run_on, told};
 use ksm_options::options;
 use std::alloc::{AllocError, Global};
 use std::io::{self, BufReader, BufWriter, ErrorKind, Read, Write};
@@ -120,6 +120,7 @@ fn wrong_words_have_their_status(rt: HostRuntime) -> Result<(), Fail> {
         "ksmbook --nodes 0 --frames 4",
         "ksmbook --nodes 1 --frames 257",
         "ksmbook --nodes 1 --frames 4 more",
+        "ksmbook --nodes 1 --frames 4 --passes 2 --tries 8 --last-generation 4 more",
         "ksmbook --nodes 1 --frames 4 --nodes 1",
         "ksmbook --nodes 1 --frames \u{1b}[31m",
         "ksmbook --nodes --frames 4",
@@ -138,9 +139,44 @@ fn wrong_words_have_their_status(rt: HostRuntime) -> Result<(), Fail> {
     Ok(())
 }
 
-/// Where memory is refused for the words, nothing is said.
+/// A call for help has a text that names each option, and no error.
 #[test]
-fn nothing_is_said_of_memory(rt: HostRuntime) {
+fn help_names_each_option(rt: HostRuntime) {
+    let run = ended(&rt, rt.alloc(), "ksmbook --help", "stat\n", None);
+    assert!(rt; !run.2.contains("error"));
+    for option in [
+        "Usage: ksmbook ",
+        "--nodes ",
+        "--frames ",
+        "--passes ",
+        "--tries ",
+        "--last-generation ",
+    ] {
+        assert!(rt; run.2.contains(option), "{option}");
+    }
+}
+
+/// The version is printed where it alone is asked for.
+#[test]
+fn the_version_is_printed(rt: HostRuntime) {
+    let run = ended(&rt, rt.alloc(), "ksmbook --version", "stat\n", None);
+    assert_eq!(rt; run.0, Status::Done);
+    assert!(rt; run.1.as_slice().starts_with("ksmbook ".as_bytes()));
+    assert!(rt; run.1.as_slice().ends_with("\n".as_bytes()));
+    assert_eq!(rt; run.2.as_str(), "");
+    for words in [
+        "ksmbook --version more",
+        "ksmbook --nodes 1 --frames 4 --version",
+    ] {
+        let run = ended(&rt, rt.alloc(), words, "stat\n", None);
+        assert_eq!(rt; run.0, Status::NotUnderstood);
+        assert!(rt; run.1.is_empty());
+    }
+}
+
+/// Where memory is refused for the words, they are not at fault.
+#[test]
+fn words_are_not_at_fault_for_memory(rt: HostRuntime) {
     let host = Host::new(rt.alloc(), "ksmbook", "", None);
     let read = told(&host, Err(Error::from(AllocError)));
     let (printed, said) = host.told();
@@ -151,7 +187,9 @@ fn nothing_is_said_of_memory(rt: HostRuntime) {
 
 const FOUR: &str = "ksmbook --nodes 1 --frames 4";
 
-/// Each end of a script. Where the output fails, it has what it took before that, nothing more is sent, and nothing is said.
+const BROKEN: &str = "ksmbook: a read or a write failed\n";
+
+/// Each end of a script. Where the output fails, it has what it took before that, nothing more is sent, and it is said.
 #[test]
 fn each_end_has_its_status(rt: HostRuntime) -> Result<(), Fail> {
     let cases = [
@@ -175,7 +213,7 @@ fn each_end_has_its_status(rt: HostRuntime) -> Result<(), Fail> {
             let (status, said) = if room == wanted.len() {
                 (end, why)
             } else {
-                (Status::Broken, "")
+                (Status::Broken, BROKEN)
             };
             assert_eq!(rt; run.0, status, "{script:?} {room}");
             assert_eq!(rt;
@@ -195,6 +233,7 @@ enum Turn<'a> {
     /// Some bytes, or none: the end of the input.
     Bytes(&'a str),
     Fault,
+    Interruption,
 }
 
 /// Input that answers each call with the next turn, and counts the calls.
@@ -214,6 +253,7 @@ impl Read for Turns<'_> {
                 rest.read(buffer)
             }
             Some(Turn::Fault) => Err(io::Error::from(ErrorKind::BrokenPipe)),
+            Some(Turn::Interruption) => Err(io::Error::from(ErrorKind::Interrupted)),
             None => Ok(0),
         }
     }
@@ -305,5 +345,26 @@ fn nothing_is_sent_after_a_failed_write(rt: HostRuntime) -> Result<(), Fail> {
             assert_eq!(rt; run.1.as_slice(), &wanted.as_bytes()[..room], "{room}");
         }
     }
+    Ok(())
+}
+
+/// A read that is interrupted is tried again, also within a line.
+#[test]
+fn interrupted_reads_are_tried_again(rt: HostRuntime) -> Result<(), Fail> {
+    let turns = [
+        Turn::Interruption,
+        Turn::Bytes("reg 0 0 0 aa\nget 1"),
+        Turn::Interruption,
+        Turn::Interruption,
+        Turn::Bytes(" 0\n"),
+        Turn::Interruption,
+    ];
+    let input = Turns {
+        turns: &turns,
+        calls: 0,
+    };
+    let run = played_by(&rt, rt.alloc(), 64, Retrying::new(input), None)?;
+    assert_eq!(rt; run.0, Status::Done);
+    assert_eq!(rt; run.1.as_slice(), "ok\nrefused 2\n".as_bytes());
     Ok(())
 }

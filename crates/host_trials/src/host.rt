@@ -132,16 +132,21 @@ impl<'a> Input for Host<'a> {
 }
 
 impl Print for Host<'_> {
-    fn print<D: Display + Drop>(&self, _value: D) -> io::Result<()> {
-        Err(io::Error::from(ErrorKind::Unsupported))
+    fn print<D: Display + Drop>(&self, value: D) -> io::Result<()> {
+        let mut printed = self.printed.try_borrow_mut().map_err(|_| busy())?;
+        write!(*printed, "{value}")?;
+        Ok(())
     }
 
-    fn println<D: Display + Drop>(&self, _value: D) -> io::Result<()> {
-        Err(io::Error::from(ErrorKind::Unsupported))
+    fn println<D: Display + Drop>(&self, value: D) -> io::Result<()> {
+        self.print(value)?;
+        self.print("\n")
     }
 
-    fn write_all(&self, _bytes: &[u8]) -> io::Result<()> {
-        Err(io::Error::from(ErrorKind::Unsupported))
+    fn write_all(&self, bytes: &[u8]) -> io::Result<()> {
+        let mut printed = self.printed.try_borrow_mut().map_err(|_| busy())?;
+        printed.extend_from_slice(bytes)?;
+        Ok(())
     }
 
     fn write_some(&self, bytes: &[u8]) -> io::Result<usize> {

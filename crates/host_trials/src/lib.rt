@@ -8,4 +8,6 @@ mod ends;
 #[cfg(test)]
 mod host;
 #[cfg(test)]
+mod largest;
+#[cfg(test)]
 mod refusals;

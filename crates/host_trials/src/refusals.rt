@@ -117,6 +117,7 @@ fn words_stand_behind_a_reply_that_is_sent(rt: HostRuntime) {
     let first = "line 1, refused 12: there is no such pass: look 1\n";
     let both =
         "line 1, refused 12: there is no such pass: look 1\nline 2, refused 14: the pass holds no frame: look 0\n";
+    let broken = "ksmbook: a read or a write failed\n";
     for room in 0..=wanted.len() {
         let host = Host::new(rt.alloc(), WORDS, "look 1\nlook 0\n", Some(room)).explaining(
             Some("1"),
@@ -124,13 +125,16 @@ fn words_stand_behind_a_reply_that_is_sent(rt: HostRuntime) {
         );
         let outcome = run_on(&host, &rt, &host);
         let (printed, said) = host.told();
-        let (end, why) = match room {
-            0..=10 => (Status::Broken, ""),
-            11..=21 => (Status::Broken, first),
-            _ => (Status::Done, both),
+        let (end, why, last) = match room {
+            0..=10 => (Status::Broken, "", broken),
+            11..=21 => (Status::Broken, first, broken),
+            _ => (Status::Done, both, ""),
         };
         assert_eq!(rt; outcome.status(), end, "{room}");
         assert_eq!(rt; printed.as_slice(), &wanted.as_bytes()[..room], "{room}");
-        assert_eq!(rt; said.as_str(), why, "{room}");
+        assert!(rt;
+            said.as_str().strip_prefix(why) == Some(last),
+            "{room}"
+        );
     }
 }

@@ -2,13 +2,16 @@
 #![tactic(auto)]
 
 mod answering;
+mod retrying;
 mod running;
 mod said;
 mod start;
 mod status;
 mod telling;
+mod version;
 
 pub use answering::answer;
+pub use retrying::Retrying;
 pub use running::{Ended, played, run_on};
 pub use start::{told, words};
 pub use status::{Outcome, Status};

@@ -5,10 +5,12 @@ ghost use Rattle.ksm_host.specs.Ends.{EndsBy, EndsOn, Serves};
 ghost use Rattle.ksm_script.specs.Script.{streams};
 
 use crate::answering::answer;
-use crate::said::say_why;
+use crate::retrying::Retrying;
+use crate::said::{say_end, say_why};
 use crate::start::{opened, words};
 use crate::status::{Outcome, Status};
 use crate::telling::{Telling, tells_refusals};
+use crate::version::{asks_version, tell_version};
 use frame_table::ClosedTable;
 use ksm_script::Session;
 use ksm_shared::{Naming, Parts};
@@ -36,28 +38,38 @@ pub struct Ended<O> {
     pub output: O,
 }
 
-/// The program on a host: it reads the words and the input there, and prints the replies. Audits run in the threads.
-/// Refusals are told in words too where the variable `KSMBOOK_EXPLAIN` is 1, or where it is not 0 and standard error,
-/// `errors`, is a terminal.
+/// The program on a host: it reads the words and the input there, and prints the replies, or the version where the words
+/// ask for that. Audits run in the threads. Refusals are told in words too where the variable `KSMBOOK_EXPLAIN` is 1, or
+/// where it is not 0 and standard error, `errors`, is a terminal. At each status but 0 standard error says why.
 pub fn run_on<
     R: Env + Input + Print + Eprint + AllocGlobal,
     T: Threads + Wait + Sync,
     E: IsTerminal,
 >(rt: &R, threads: &T, errors: &E) -> Outcome {
-    let words = match words(rt) {
-        Ok(words) => words,
-        Err(status) => return Outcome::new(status),
+    let status = match words(rt) {
+        Err(status) => status,
+        Ok(words) if asks_version(words.as_slice()) => tell_version(rt),
+        Ok(words) => ended_on(rt, threads, errors, words.as_slice()),
     };
-    let reader = BufReader::with_capacity(rt.alloc(), READ_BLOCK, rt.reader());
+    say_end(rt, status);
+    Outcome::new(status)
+}
+
+/// How the program ends over the host's input and output.
+fn ended_on<R: Env + Input + Print + Eprint + AllocGlobal, T: Threads + Wait + Sync, E: IsTerminal>(
+    rt: &R,
+    threads: &T,
+    errors: &E,
+    words: &[String],
+) -> Status {
+    let input = Retrying::new(rt.reader());
+    let reader = BufReader::with_capacity(rt.alloc(), READ_BLOCK, input);
     let writer = BufWriter::with_capacity(rt.alloc(), WRITE_BLOCK, io::writer(rt));
-    match (reader, writer) {
-        (Ok(mut reader), Ok(writer)) => {
-            let tells = tells_refusals(rt, errors);
-            let ended = played(rt, threads, words.as_slice(), tells, &mut reader, writer);
-            Outcome::new(ended.status)
-        }
-        _ => Outcome::new(Status::NoMemory),
-    }
+    let (Ok(mut reader), Ok(writer)) = (reader, writer) else {
+        return Status::NoMemory;
+    };
+    let tells = tells_refusals(rt, errors);
+    played(rt, threads, words, tells, &mut reader, writer).status
 }
 
 /// The program over its words, its input and its output: it opens the book that the words tell, answers the script, and

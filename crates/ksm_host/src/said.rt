@@ -1,4 +1,5 @@
 //! What the program says on standard error.
+use crate::status::Status;
 use ksm_causes::BadLine;
 use std::fmt::{self, Display, Formatter, Write};
 
@@ -38,4 +39,15 @@ pub(crate) fn say_why<R: Eprint>(rt: &R, number: u64, line: &[u8]) {
     if let Some(bad) = BadLine::of(number, line) {
         let _ = rt.eprint(bad);
     }
+}
+
+/// Says on standard error why the program ended before all lines had their reply, where nothing else says it. Where that
+/// takes no text, the status says it.
+pub(crate) fn say_end<R: Eprint>(rt: &R, status: Status) {
+    let why = match status {
+        Status::Broken => "ksmbook: a read or a write failed\n",
+        Status::NoMemory => "ksmbook: memory was refused\n",
+        Status::Done | Status::NotUnderstood => return,
+    };
+    let _ = rt.eprint(why);
 }

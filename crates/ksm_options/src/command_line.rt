@@ -38,7 +38,7 @@ fn required<'a>(alloc: Global, name: &'a str, most: u64, help: &'a str) -> Arg<'
 
 /// What stands under the options in the help.
 const WHERE_TO_READ: &str =
-    "The commands are in the manual page ksmbook(5), the rest in ksmbook(1); in a checkout both are docs/SCRIPT.md";
+    "ksmbook --version prints its version. The commands are in the manual page ksmbook(5), the rest in ksmbook(1); in a checkout both are docs/SCRIPT.md";
 
 /// The command line without an option.
 fn named<'a>(alloc: Global) -> Result<Command<'a>, AllocError>
