@@ -36,6 +36,7 @@ impl Model for CountedRow {
 }
 
 impl CountedRow {
+    /// A row of these counters, which stand after this beginning of the journal.
     pub fn new(counters: Counters, beginning: Beginning) -> CountedRow
         ensures { (result.counters ≡ counters) × (result.reached ≡ beginning) }
     {
