@@ -4,7 +4,7 @@
  * A table has FRAMES and PLACES, as many of each. A frame has 8 words of 64 bits (a page of 64 bytes), a count of references, and a life:
  * how many times it was given. A place is empty, or names a frame in one of its lives. A reader looks a place up and holds the frame that it
  * names: the lookup takes a reference, if the frame is still in the life named and has one. While a reader holds a frame its life does not
- * end and its words do not change. No lock is taken by anyone, and no call waits.
+ * end and its words do not change. No lookup and no call of the keeper takes a lock or waits.
  *
  * One thread at a time is the KEEPER, by the table's handle. It gives a frame its next life (ksm_raise), fills it (ksm_put), opens it
  * (ksm_open_frame) and names it at a place (ksm_publish). To take it back it gives its references back (ksm_sub, or ksm_freeze at once if no
@@ -14,16 +14,23 @@
  * Or a BOOK keeps the frames: the pages of guests, of which those that read the same are merged (ksm_book_open, below). Its handle is that of
  * its table: passes are taken out of it, and it is closed, by the same calls; of the keeper's calls it allows none (KSM_KIND).
  *
- * What every call promises is proved of the code in the archive (crates/ksm_ffi). Each condition of a call is tested, and answered by a number.
- * A call writes to its other pointers with KSM_DONE alone, but for two calls of a book that say so; with any other number all is as it was there.
+ * What the calls promise is proved of the code that does them (crates/ksm_ffi); ksmbook.c, which stands before it, is read and tested: it tests
+ * each pointer for NULL, draws the numbers by which tables tell their passes apart, takes the lock of a table's passes, and has the texts.
+ * Each condition of a call is tested, and answered by a number. A call writes to its other pointers with KSM_DONE alone, but for two calls of a
+ * book and ksm_reap_all, which say so; with any other number all is as it was there. A NULL is refused, as KSM_NULL, in each call.
  * What nothing tests, and you must keep:
- *   - a handle was set to KSM_TABLE_NONE or KSM_PASS_NONE before its first call, is no copy of another, and only these calls change it;
- *   - a handle is in one call at a time. It may go from one thread to another where you order that (a lock, a thread's start or join, or an
- *     atomic of sequential consistency). So each reader thread has a pass of its own, and one thread at a time has the table;
+ *   - a handle was set to KSM_TABLE_NONE or KSM_PASS_NONE before its first call, is no copy of another, and only these calls change it. It stays
+ *     where it is while it is open;
+ *   - a handle is in one call at a time, but that any thread may open and close passes of a table at any time (ksm_pass_open, ksm_pass_close),
+ *     also while another thread is in a call with the table. Else it may go from one thread to another where you order that (a lock, a thread's
+ *     start or join, or an atomic of sequential consistency). So each reader thread has a pass of its own, and one thread at a time has the table;
  *   - the other pointers point to as much as is said here, none of it part of a handle; none of two pointers in a call is the same;
  *   - no call is made from a signal handler, or in the child of a fork of a program with threads.
  *
- * Link out/libksm_ffi.a of crates/ksm_ffi (`rt lib` there makes it) and liblibc_c.a of the kit.
+ * Link libksmbook: `pkg-config --cflags --libs ksmbook` where it is installed.
+ *
+ * The ABI: KSM_VERSION_MAJOR is in the name of the shared library. Within one major version no number, type or call changes its meaning or its
+ * layout; a minor version may add calls and numbers, so treat a number that you do not know by its range: below 10 done, from 10 on refused.
  */
 #ifndef KSMBOOK_H
 #define KSMBOOK_H
@@ -35,11 +42,31 @@
 extern "C" {
 #endif
 
-/* A table with its keeper or its book, and a pass. Not open where `at` is NULL. */
-typedef struct ksm_table { void *at; } ksm_table;
-typedef struct ksm_pass { void *at; } ksm_pass;
-#define KSM_TABLE_NONE { NULL }
-#define KSM_PASS_NONE { NULL }
+/* The version of this header, and as one number that grows. ksm_version() tells that of the library. */
+#define KSM_VERSION_MAJOR 1
+#define KSM_VERSION_MINOR 1
+#define KSM_VERSION_PATCH 0
+#define KSM_VERSION (KSM_VERSION_MAJOR * 10000 + KSM_VERSION_MINOR * 100 + KSM_VERSION_PATCH)
+
+/* What a call answers has to be looked at. */
+#if defined(__GNUC__)
+#define KSM_CALL __attribute__((warn_unused_result)) uint32_t
+#else
+#define KSM_CALL uint32_t
+#endif
+
+/* A table with its keeper or its book, and a pass. Not open where all is zero, as a static one is. The fields are the library's. */
+typedef struct ksm_table { void *at, *passes; uint32_t lock, unused; } ksm_table;
+typedef struct ksm_pass { void *at, *none; uint32_t lock, unused; } ksm_pass;
+
+/* A handle that is not open, as an expression. */
+#if defined(__cplusplus)
+#define KSM_TABLE_NONE (ksm_table{nullptr, nullptr, 0, 0})
+#define KSM_PASS_NONE (ksm_pass{nullptr, nullptr, 0, 0})
+#else
+#define KSM_TABLE_NONE ((ksm_table){NULL, NULL, 0, 0})
+#define KSM_PASS_NONE ((ksm_pass){NULL, NULL, 0, 0})
+#endif
 
 /* How many words a page has. */
 #define KSM_PAGE_WORDS 8
@@ -66,8 +93,9 @@ enum {
     KSM_IDLE = 18,       /* the pass holds nothing */
     KSM_NO_PASS = 19,    /* all passes of the table are out */
     KSM_PASSES_OUT = 20, /* passes of the table are out */
-    KSM_OTHER = 21,      /* the pass has another table's number, or no pass of this table is out */
+    KSM_OTHER = 21,      /* the pass is another table's */
     KSM_COMMAND = 22,    /* there is no command of this kind */
+    KSM_NULL = 23,       /* a pointer is NULL */
     /* Why a book refuses a command. No page, dup, knob or counter has changed; the journal has an entry of it, and a frame that nobody held
        any more may have been taken back. With KSM_MEMORY there is no entry. */
     KSM_UNKNOWN_PAGE = 32,       /* the page, or a page of the guest, is not registered */
@@ -97,38 +125,56 @@ enum {
  *
  * ksm_table_open opens a table of nodes (1 to 4) times frames_per_node (1 to 256) frames, all FREE, and as many places, all empty; with so many
  * passes (1 to 16); a frame is given last_generation times at most (1 to 2^40), and a lookup makes at most `tries` exchanges (1 to 64).
- * `number` is what tells the table's passes from those of other tables: give each table that is open another.
- * KSM_DONE, KSM_OPEN, KSM_SHAPE, KSM_MEMORY.
- *
+ * The table gets a number that no table of this process had before, by which it tells its passes. KSM_DONE, KSM_OPEN, KSM_SHAPE, KSM_MEMORY.
  * ksm_table_close frees it where every pass that was taken out is back, and answers KSM_PASSES_OUT where one is not: a pass is back only by
  * ksm_pass_close, so one that holds a frame, or was lost, keeps its table open. KSM_DONE, KSM_CLOSED, KSM_KIND, KSM_PASSES_OUT.
+ * Both are for the thread that has the table.
+ *
  * ksm_pass_open takes a pass out of the table, which holds nothing. KSM_DONE, KSM_OPEN, KSM_CLOSED, KSM_KIND, KSM_NO_PASS, KSM_MEMORY.
- * ksm_pass_close gives it back. KSM_DONE, KSM_CLOSED (either), KSM_KIND (either), KSM_HOLDING, KSM_OTHER.
- * All four are for the thread that has the table.
+ * ksm_pass_close gives it back to the table that it came from. KSM_DONE, KSM_CLOSED (either), KSM_KIND (either), KSM_HOLDING, KSM_OTHER.
+ * Both are for any thread, also while another has the table. They take a lock of the table that only they and ksm_table_close take, for the time
+ * of an allocation; ksm_table_open and ksm_book_open take one that all of them share. No other call takes a lock or waits.
  */
-uint32_t ksm_table_open(ksm_table *table, uint64_t number, uint32_t nodes, uint32_t frames_per_node, uint32_t passes,
-                        uint64_t last_generation, uint32_t tries);
-uint32_t ksm_table_close(ksm_table *table);
-uint32_t ksm_pass_open(ksm_table *table, ksm_pass *pass);
-uint32_t ksm_pass_close(ksm_table *table, ksm_pass *pass);
+KSM_CALL ksm_table_open(ksm_table *table, uint32_t nodes, uint32_t frames_per_node, uint32_t passes, uint64_t last_generation, uint32_t tries);
+KSM_CALL ksm_table_close(ksm_table *table);
+KSM_CALL ksm_pass_open(ksm_table *table, ksm_pass *pass);
+KSM_CALL ksm_pass_close(ksm_table *table, ksm_pass *pass);
+
+/*
+ * The texts and the version. ksm_strerror says a number of this header in words; never NULL, and not to be freed.
+ */
+const char *ksm_strerror(uint32_t answer);
+uint32_t ksm_version(void);
 
 /*
  * The keeper. Each of these may answer KSM_CLOSED, KSM_KIND, KSM_RANGE, or KSM_STATE where it is not allowed.
+ *
+ * A reap that answers KSM_DONE comes after every read of every reader that held the frame: each of them has left it, and what it read before it
+ * left happens before what you do after the reap (both are steps of sequential consistency on one word). So what a frame's words point to may
+ * be freed or used again then, and not before. The same holds of a freeze that answers KSM_DONE.
+ *
+ * A place that is named anew: publish the new frame after the last reference on the old one is given back (ksm_sub or ksm_freeze, whichever
+ * frees the place), and reap that when you like. Between the two steps a reader finds the place gone (KSM_ZERO), and never a wrong page.
+ *
+ * ksm_reap_all reaps each of frames[0 .. *count], in that order. Those that stay are moved to the front, in their order, and *count says how
+ * many they are; those that were reaped stand behind them. KSM_DONE where none stays; KSM_USED where readers hold all that stay; else the first
+ * of KSM_RANGE and KSM_STATE that a frame was refused with. It writes with each of these numbers.
  */
-uint32_t ksm_raise(ksm_table *table, uint32_t frame);                             /* FREE: its next life begins; FILLING then */
-uint32_t ksm_put(ksm_table *table, uint32_t frame, size_t i, uint64_t word);      /* FILLING, PRIVATE: stores word i */
-uint32_t ksm_open_frame(ksm_table *table, uint32_t frame);                        /* FILLING: one reference; PRIVATE then */
-uint32_t ksm_publish(ksm_table *table, uint32_t place, uint32_t frame);           /* PRIVATE: STABLE then. Not where the place names a
+KSM_CALL ksm_raise(ksm_table *table, uint32_t frame);                             /* FREE: its next life begins; FILLING then */
+KSM_CALL ksm_put(ksm_table *table, uint32_t frame, size_t i, uint64_t word);      /* FILLING, PRIVATE: stores word i */
+KSM_CALL ksm_open_frame(ksm_table *table, uint32_t frame);                        /* FILLING: one reference; PRIVATE then */
+KSM_CALL ksm_publish(ksm_table *table, uint32_t place, uint32_t frame);           /* PRIVATE: STABLE then. Not where the place names a
                                                                                      frame that is STABLE in the life named */
-uint32_t ksm_withdraw(ksm_table *table, uint32_t place);                          /* empties the place; not where it names such a frame */
-uint32_t ksm_add(ksm_table *table, uint32_t frame);                               /* 1 to 1,023 references of the keeper: one more */
-uint32_t ksm_sub(ksm_table *table, uint32_t frame);                               /* from 1 on: one less; with the last, DYING then */
-uint32_t ksm_freeze(ksm_table *table, uint32_t frame);                            /* STABLE: all of the keeper's back, and DYING then, if no
+KSM_CALL ksm_withdraw(ksm_table *table, uint32_t place);                          /* empties the place; not where it names such a frame */
+KSM_CALL ksm_add(ksm_table *table, uint32_t frame);                               /* 1 to 1,023 references of the keeper: one more */
+KSM_CALL ksm_sub(ksm_table *table, uint32_t frame);                               /* from 1 on: one less; with the last, DYING then */
+KSM_CALL ksm_freeze(ksm_table *table, uint32_t frame);                            /* STABLE: all of the keeper's back, and DYING then, if no
                                                                                      reader has one; else KSM_USED */
-uint32_t ksm_reap(ksm_table *table, uint32_t frame);                              /* DYING: FREE then, or RETIRED after its last life, if no
+KSM_CALL ksm_reap(ksm_table *table, uint32_t frame);                              /* DYING: FREE then, or RETIRED after its last life, if no
                                                                                      reader has one; else KSM_USED */
-uint32_t ksm_load(ksm_table *table, uint32_t frame, size_t i, uint64_t *word);    /* PRIVATE, STABLE, DYING: loads word i */
-uint32_t ksm_frame(ksm_table *table, uint32_t frame, uint32_t *kind, uint64_t *references, uint64_t *life); /* of the keeper: any state */
+KSM_CALL ksm_reap_all(ksm_table *table, uint32_t *frames, size_t *count);         /* as above */
+KSM_CALL ksm_load(ksm_table *table, uint32_t frame, size_t i, uint64_t *word);    /* PRIVATE, STABLE, DYING: loads word i */
+KSM_CALL ksm_frame(ksm_table *table, uint32_t frame, uint32_t *kind, uint64_t *references, uint64_t *life); /* of the keeper: any state */
 
 /*
  * A book: which page of which guest reads what, and which pages are merged into which frame ("dup"). What a command does, to the last counter,
@@ -185,30 +231,29 @@ typedef struct ksm_counters {
  * ksm_book_read loads the bytes of a page: those stored last. KSM_DONE, KSM_NOTHING.
  * ksm_book_ticket tells the place of the dup into which a page is merged, where passes can look it up. KSM_DONE, KSM_NOTHING.
  * ksm_book_mappers tells the pages merged into the dup at a place, ascending, each as guest * 2^32 + page, to pages[0 .. *count], and how many
- * they are. KSM_DONE; KSM_RANGE, which writes *count alone, where `room` is smaller; KSM_NOTHING, KSM_MEMORY. `pages` points to `room` numbers,
- * and is not NULL.
+ * they are. KSM_DONE; KSM_RANGE, which writes *count alone, where `room` is smaller; KSM_NOTHING, KSM_MEMORY. `pages` points to `room` numbers;
+ * it may be NULL where `room` is 0.
  * ksm_book_counters counts. KSM_DONE.
  */
-uint32_t ksm_book_open(ksm_table *book, uint64_t number, uint32_t nodes, uint32_t frames_per_node, uint32_t passes,
-                       uint64_t last_generation, uint32_t tries);
-uint32_t ksm_book_apply(ksm_table *book, const ksm_command *command, ksm_made *made);
-uint32_t ksm_book_read(ksm_table *book, uint16_t guest, uint32_t page, uint64_t bytes[8]);
-uint32_t ksm_book_ticket(ksm_table *book, uint16_t guest, uint32_t page, uint32_t *place);
-uint32_t ksm_book_mappers(ksm_table *book, uint32_t place, uint64_t *pages, size_t room, uint64_t *count);
-uint32_t ksm_book_counters(ksm_table *book, ksm_counters *counters);
+KSM_CALL ksm_book_open(ksm_table *book, uint32_t nodes, uint32_t frames_per_node, uint32_t passes, uint64_t last_generation, uint32_t tries);
+KSM_CALL ksm_book_apply(ksm_table *book, const ksm_command *command, ksm_made *made);
+KSM_CALL ksm_book_read(ksm_table *book, uint16_t guest, uint32_t page, uint64_t bytes[8]);
+KSM_CALL ksm_book_ticket(ksm_table *book, uint16_t guest, uint32_t page, uint32_t *place);
+KSM_CALL ksm_book_mappers(ksm_table *book, uint32_t place, uint64_t *pages, size_t room, uint64_t *count);
+KSM_CALL ksm_book_counters(ksm_table *book, ksm_counters *counters);
 
 /*
  * A pass. Each of these may answer KSM_CLOSED or KSM_KIND. The three lookups are for a pass that holds nothing (KSM_HOLDING), of a place that
  * there is (KSM_RANGE); they answer KSM_DONE, KSM_VACANT, KSM_ZERO, KSM_LIFE or KSM_BUSY. The others are for one that holds a frame (KSM_IDLE).
  */
-uint32_t ksm_find(ksm_pass *pass, uint32_t place);                                /* holds the frame that the place names */
-uint32_t ksm_find_equal(ksm_pass *pass, uint32_t place, const uint64_t page[8]);  /* the same, and compares its words with a page:
+KSM_CALL ksm_find(ksm_pass *pass, uint32_t place);                                /* holds the frame that the place names */
+KSM_CALL ksm_find_equal(ksm_pass *pass, uint32_t place, const uint64_t page[8]);  /* the same, and compares its words with a page:
                                                                                      KSM_DONE only if all are equal, else KSM_DIFFERS */
-uint32_t ksm_look_up(ksm_pass *pass, uint32_t place, uint64_t words[8]);          /* ksm_find, ksm_words and ksm_leave in one call */
-uint32_t ksm_word(ksm_pass *pass, size_t i, uint64_t *word);                      /* loads word i; KSM_RANGE */
-uint32_t ksm_words(ksm_pass *pass, uint64_t words[8]);                            /* loads every word */
-uint32_t ksm_held(ksm_pass *pass, uint32_t *place, uint32_t *frame, uint64_t *life); /* tells where it was found */
-uint32_t ksm_leave(ksm_pass *pass);                                               /* gives the frame back; the pass holds nothing then */
+KSM_CALL ksm_look_up(ksm_pass *pass, uint32_t place, uint64_t words[8]);          /* ksm_find, ksm_words and ksm_leave in one call */
+KSM_CALL ksm_word(ksm_pass *pass, size_t i, uint64_t *word);                      /* loads word i; KSM_RANGE */
+KSM_CALL ksm_words(ksm_pass *pass, uint64_t words[8]);                            /* loads every word */
+KSM_CALL ksm_held(ksm_pass *pass, uint32_t *place, uint32_t *frame, uint64_t *life); /* tells where it was found */
+KSM_CALL ksm_leave(ksm_pass *pass);                                               /* gives the frame back; the pass holds nothing then */
 
 #ifdef __cplusplus
 }

@@ -7,7 +7,7 @@
  *
  * Link it with -Wl,--wrap=malloc: the wrapper below refuses memory when it is told to.
  */
-#include "../ksmbook.h"
+#include "ksmbook.h"
 
 #include <stdio.h>
 #include <stdlib.h>
@@ -89,7 +89,7 @@ static void at_random(uint64_t rounds) {
     ksm_table book = KSM_TABLE_NONE;
     ksm_made made;
     uint64_t seed = 1;
-    ANSWERS(KSM_DONE, ksm_book_open(&book, 1, 2, 64, 1, (uint64_t)1 << 40, 64));
+    ANSWERS(KSM_DONE, ksm_book_open(&book, 2, 64, 1, (uint64_t)1 << 40, 64));
     ANSWERS(KSM_DONE, apply(&book, valued(KSM_SET_RUN, 1, 0), &made));
     for (uint64_t round = 0; round < rounds; round++) {
         uint16_t guest = drawn(&seed) % GUESTS;
@@ -126,8 +126,8 @@ static void merged(void) {
     uint64_t bytes[KSM_PAGE_WORDS], pages[2], count = 0;
     uint32_t place = 99;
 
-    ANSWERS(KSM_DONE, ksm_book_open(&book, 2, 2, 2, 1, 1000, 64));
-    ANSWERS(KSM_OPEN, ksm_book_open(&book, 2, 2, 2, 1, 1000, 64));
+    ANSWERS(KSM_DONE, ksm_book_open(&book, 2, 2, 1, 1000, 64));
+    ANSWERS(KSM_OPEN, ksm_book_open(&book, 2, 2, 1, 1000, 64));
     ANSWERS(KSM_KIND, ksm_raise(&book, 0));
     ANSWERS(KSM_DONE, ksm_pass_open(&book, &pass));
     ANSWERS(KSM_NOT_RUNNING, apply(&book, scan, &made));
@@ -206,7 +206,7 @@ static void memory(void) {
     uint32_t place, answer = KSM_MEMORY, openings = 0, commands = 0;
     for (int n = 0; answer == KSM_MEMORY; n++) {
         granted = n;
-        answer = ksm_book_open(&book, 4, 1, 4, 1, 1000, 64);
+        answer = ksm_book_open(&book, 1, 4, 1, 1000, 64);
         granted = -1;
         openings += answer == KSM_MEMORY;
         IS(answer == KSM_MEMORY, book.at == NULL);
@@ -246,9 +246,9 @@ static void not_a_table(void) {
     ksm_table book = KSM_TABLE_NONE;
     uint64_t word = 5, life = 5, words[KSM_PAGE_WORDS] = {5};
     uint32_t kind = 5;
-    ANSWERS(KSM_DONE, ksm_book_open(&book, 5, 1, 1, 1, 1, 1));
+    ANSWERS(KSM_DONE, ksm_book_open(&book, 1, 1, 1, 1, 1));
     ksm_pass *wrong = (ksm_pass *)(void *)&book;
-    ANSWERS(KSM_OPEN, ksm_table_open(&book, 5, 1, 1, 1, 1, 1));
+    ANSWERS(KSM_OPEN, ksm_table_open(&book, 1, 1, 1, 1, 1));
     ANSWERS(KSM_KIND, ksm_raise(&book, 0));
     ANSWERS(KSM_KIND, ksm_put(&book, 0, 0, 0));
     ANSWERS(KSM_KIND, ksm_open_frame(&book, 0));
@@ -278,13 +278,13 @@ static void no_books(void) {
     ksm_counters counters;
     uint64_t bytes[KSM_PAGE_WORDS], count;
     uint32_t place;
-    ANSWERS(KSM_SHAPE, ksm_book_open(&none, 3, 5, 1, 1, 1, 1));
+    ANSWERS(KSM_SHAPE, ksm_book_open(&none, 5, 1, 1, 1, 1));
     ANSWERS(KSM_CLOSED, apply(&none, given, &made));
     ANSWERS(KSM_CLOSED, ksm_book_read(&none, 0, 0, bytes));
     ANSWERS(KSM_CLOSED, ksm_book_ticket(&none, 0, 0, &place));
     ANSWERS(KSM_CLOSED, ksm_book_mappers(&none, 0, bytes, 1, &count));
     ANSWERS(KSM_CLOSED, ksm_book_counters(&none, &counters));
-    ANSWERS(KSM_DONE, ksm_table_open(&table, 3, 1, 1, 1, 1, 1));
+    ANSWERS(KSM_DONE, ksm_table_open(&table, 1, 1, 1, 1, 1));
     ANSWERS(KSM_KIND, apply(&table, given, &made));
     ANSWERS(KSM_KIND, ksm_book_read(&table, 0, 0, bytes));
     ANSWERS(KSM_KIND, ksm_book_ticket(&table, 0, 0, &place));

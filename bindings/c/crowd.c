@@ -5,7 +5,7 @@
  * holds. Readers begin once every place names a page. At the end every count has to be the keeper's own. Prints what was found, and ends with 1
  * if anything was wrong, nothing was held, or no page moved beside the readers.
  */
-#include "../ksmbook.h"
+#include "ksmbook.h"
 
 #include <pthread.h>
 #include <sched.h>
@@ -117,7 +117,7 @@ int main(int argc, char **argv) {
     int at[PLACES];
     uint64_t moves = 0, frozen = 0, wrong = 0, found[KSM_USED + 1] = {0};
 
-    must(ksm_table_open(&table, 1, 4, FRAMES / 4, READERS, (uint64_t)1 << 40, 64), "ksm_table_open");
+    must(ksm_table_open(&table, 4, FRAMES / 4, READERS, (uint64_t)1 << 40, 64), "ksm_table_open");
     for (uint32_t place = 0; place < PLACES; place++)
         at[place] = -1;
     for (int i = 0; i < READERS; i++) {
@@ -134,7 +134,7 @@ int main(int argc, char **argv) {
     uint32_t frame = 0, place = 0;
     while (atomic_load(&reading) > 0) {
         frame = (frame + 1) % FRAMES;
-        ksm_reap(&table, frame);
+        (void)!ksm_reap(&table, frame);
         if (!fill(&table, frame))
             continue;
         place = (place + 5) % PLACES;

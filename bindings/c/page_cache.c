@@ -4,7 +4,7 @@
  * The map says how many times each page was written. A reader looks there before and after its lookup: the version that it read has to be one of
  * those between, and its words those of that version. Ends with 1 if anything was wrong.
  */
-#include "../ksmbook.h"
+#include "ksmbook.h"
 
 #include <pthread.h>
 #include <stdatomic.h>
@@ -66,7 +66,7 @@ static void *read_pages(void *arg) {
 }
 
 /* The writer: a frame of its own for each page, and those that readers may still hold. */
-static ksm_table table = KSM_TABLE_NONE;
+static ksm_table table; /* all zero: not open */
 static int frame_of[KEYS];
 static uint32_t unused[FRAMES], dying[FRAMES];
 static int unused_count, dying_count;
@@ -109,7 +109,7 @@ int main(int argc, char **argv) {
     uint64_t writes = argc > 1 ? strtoull(argv[1], NULL, 10) : 200000, found = 0, wrong = 0;
     reader readers[READERS] = {0};
     pthread_t threads[READERS];
-    must(ksm_table_open(&table, 0, 1, FRAMES, READERS, (uint64_t)1 << 40, 64), "ksm_table_open");
+    must(ksm_table_open(&table, 1, FRAMES, READERS, (uint64_t)1 << 40, 64), "ksm_table_open");
     for (uint32_t frame = 0; frame < FRAMES; frame++)
         unused[unused_count++] = frame;
     for (uint32_t key = 0; key < KEYS; key++) {

@@ -1,33 +1,62 @@
-//! Links the archive of crates/ksm_ffi, and the C of the kit that gives it memory.
-//!
-//! KSMBOOK_ARCHIVE and KSMBOOK_KIT_C name the folders of libksm_ffi.a and liblibc_c.a, where they are not where `rt lib` and the kit put them.
+//! Finds libksmbook, the first that there is of: the folder that KSMBOOK_LIB_DIR names, the checkout's (bench/library makes it), the archive that
+//! the crate carries for its target, and what pkg-config tells of an installed one. Where there is none it says what to do.
 
-use std::path::PathBuf;
-use std::process::Command;
+use std::path::{Path, PathBuf};
+use std::process::{Command, exit};
 use std::{env, fs};
 
-fn folder(variable: &str, or: impl FnOnce() -> PathBuf, file: &str) -> PathBuf {
-    println!("cargo:rerun-if-env-changed={variable}");
-    let folder = env::var_os(variable).map_or_else(or, PathBuf::from);
-    let path = folder.join(file);
-    assert!(path.exists(), "{} is missing: run `rt lib` in crates/ksm_ffi, or set {variable}", path.display());
-    println!("cargo:rerun-if-changed={}", path.display());
-    fs::canonicalize(folder).expect("the folder of the archive")
+const ARCHIVE: &str = "libksmbook.a";
+const HELP: &str = "libksmbook was not found. Install the package libksmbook-dev, or set KSMBOOK_LIB_DIR to a folder with libksmbook.a \
+    (in a checkout of ksmbook `release/join` makes bindings/out/libksmbook.a)";
+
+fn variable(name: &str) -> Option<PathBuf> {
+    println!("cargo:rerun-if-env-changed={name}");
+    env::var_os(name).map(PathBuf::from)
 }
 
-// The kit is where the page lies that `rt doc` names.
-fn kit() -> PathBuf {
-    let said = Command::new("rt").arg("doc").output().expect("rt").stdout;
-    let page = PathBuf::from(String::from_utf8_lossy(&said).trim());
-    page.parent().expect("the folder of the kit").join("c")
+fn link_archive(folder: &Path) {
+    let folder = fs::canonicalize(folder).unwrap_or_else(|_| folder.to_path_buf());
+    println!("cargo:rerun-if-changed={}", folder.join(ARCHIVE).display());
+    println!("cargo:rustc-link-search=native={}", folder.display());
+    println!("cargo:rustc-link-lib=static=ksmbook");
+}
+
+// Tells the linker what pkg-config says, if it knows the library.
+fn link_installed() -> bool {
+    let said = match Command::new("pkg-config").args(["--libs", "ksmbook >= 1.1.0", "ksmbook < 2"]).output() {
+        Ok(said) if said.status.success() => said,
+        _ => return false,
+    };
+    for word in String::from_utf8_lossy(&said.stdout).split_whitespace() {
+        if let Some(folder) = word.strip_prefix("-L") {
+            println!("cargo:rustc-link-search=native={folder}");
+        } else if let Some(name) = word.strip_prefix("-l") {
+            println!("cargo:rustc-link-lib={name}");
+        }
+    }
+    true
 }
 
 fn main() {
-    let package = PathBuf::from(env::var_os("CARGO_MANIFEST_DIR").expect("a variable of Cargo"));
-    let archive = folder("KSMBOOK_ARCHIVE", || package.join("../../crates/ksm_ffi/out"), "libksm_ffi.a");
-    let kit = folder("KSMBOOK_KIT_C", kit, "liblibc_c.a");
-    println!("cargo:rustc-link-search=native={}", archive.display());
-    println!("cargo:rustc-link-search=native={}", kit.display());
-    println!("cargo:rustc-link-lib=static=ksm_ffi");
-    println!("cargo:rustc-link-lib=static=libc_c");
+    if env::var_os("DOCS_RS").is_some() {
+        return;
+    }
+    let package = PathBuf::from(env::var_os("CARGO_MANIFEST_DIR").unwrap_or_default());
+    let target = env::var("TARGET").unwrap_or_default();
+    let carried = [package.join("../out"), package.join("lib").join(target)];
+    match variable("KSMBOOK_LIB_DIR") {
+        Some(folder) if folder.join(ARCHIVE).is_file() => link_archive(&folder),
+        Some(folder) => {
+            eprintln!("KSMBOOK_LIB_DIR: there is no {ARCHIVE} in {}", folder.display());
+            exit(1);
+        }
+        None => match carried.iter().find(|folder| folder.join(ARCHIVE).is_file()) {
+            Some(folder) => link_archive(folder),
+            None if link_installed() => {}
+            None => {
+                eprintln!("{HELP}");
+                exit(1);
+            }
+        },
+    }
 }

@@ -3,7 +3,7 @@
 //! The map says how many times each page was written. A reader looks there before and after its lookup: the version that it read has to be
 //! one of those between, and its words those of that version.
 
-use ksmbook::{Kind, Page, Pass, Refused, Shape, Table};
+use ksmbook::{Error, Found, Kind, Page, Pass, Shape, Table};
 use std::collections::HashMap;
 use std::sync::Mutex;
 use std::sync::atomic::{AtomicBool, Ordering};
@@ -28,26 +28,24 @@ struct Cache {
 }
 
 impl Cache {
-    fn open(passes: u32) -> Result<Cache, Refused> {
+    fn open(passes: u32) -> Result<Cache, Error> {
         let table = Table::open(Shape { frames_per_node: 128, passes, ..Shape::SMALL })?;
         Ok(Cache { table, frame_of: HashMap::new(), free: (0..128).collect(), dying: Vec::new() })
     }
 
     // A frame that nobody reads any more.
-    fn free_frame(&mut self) -> Result<u32, Refused> {
+    fn free_frame(&mut self) -> Result<u32, Error> {
         loop {
             if let Some(frame) = self.free.pop() {
                 return Ok(frame);
             }
-            for frame in std::mem::take(&mut self.dying) {
-                let list = if self.table.reap(frame)? { &mut self.free } else { &mut self.dying };
-                list.push(frame);
-            }
+            let left = self.table.reap_all(&mut self.dying)?;
+            self.free.extend(self.dying.drain(left..));
         }
     }
 
     // Readers see the page before or this one, and for a moment in between neither.
-    fn write(&mut self, key: u32, page: &Page) -> Result<(), Refused> {
+    fn write(&mut self, key: u32, page: &Page) -> Result<(), Error> {
         let frame = self.free_frame()?;
         self.table.give(frame, page)?;
         if let Some(old) = self.frame_of.insert(key, frame) {
@@ -61,7 +59,10 @@ impl Cache {
 fn read(pass: &mut Pass, key: u32, map: &Mutex<HashMap<u32, u64>>) -> bool {
     let written = || map.lock().unwrap()[&key];
     let before = written();
-    let Ok(found) = pass.look_up(key).expect("a key of the cache") else { return false };
+    let found = match pass.look_up(key).expect("a key of the cache") {
+        Found::Held(found) => found,
+        Found::Gone(_) => return false,
+    };
     // The writer may have published one page that the map does not say yet.
     let after = written() + 1;
     assert_eq!(found, page(key, found[1]), "words of two pages");
@@ -69,9 +70,9 @@ fn read(pass: &mut Pass, key: u32, map: &Mutex<HashMap<u32, u64>>) -> bool {
     true
 }
 
-fn main() -> Result<(), Refused> {
+fn main() -> Result<(), Error> {
     let mut cache = Cache::open(4)?;
-    let mut passes = (0..4).map(|_| cache.table.pass()).collect::<Result<Vec<Pass>, Refused>>()?;
+    let mut passes = (0..4).map(|_| cache.table.pass()).collect::<Result<Vec<Pass>, Error>>()?;
     for key in 0..KEYS {
         cache.write(key, &page(key, 0))?;
     }
@@ -97,14 +98,12 @@ fn main() -> Result<(), Refused> {
         }
         done.store(true, Ordering::SeqCst);
     });
-    for pass in passes {
-        cache.table.take_back(pass).map_err(|(refused, _)| refused)?;
-    }
+    drop(passes);
     for frame in cache.frame_of.into_values() {
         assert!(cache.table.freeze(frame)?, "a reference is left");
         assert_eq!(cache.table.frame(frame)?.kind, Kind::Dying);
     }
-    cache.table.close().map_err(|(refused, _)| refused)?;
+    cache.table.close()?;
     println!("{WRITES} pages written, {} found by four readers, each as the map says", hits.into_inner().unwrap());
     Ok(())
 }

@@ -1,13 +1,17 @@
 //! The book: which page of which guest reads what, and which pages are merged.
 
-use crate::raw::{self, Handle, Made, Request};
-use crate::{Page, Pass, Refused, Shape, done, next_number};
-use std::cell::Cell;
-use std::fmt;
-use std::marker::PhantomData;
+use crate::error::{Error, Result, done};
+use crate::pass::Pass;
+use crate::raw::{self, Made, Request};
+use crate::shared::{Shape, Shared};
+use crate::table::Passes;
+use crate::{PAGE_WORDS, Page};
+use alloc::sync::Arc;
+use alloc::vec;
+use alloc::vec::Vec;
 
 /// A page of a guest.
-#[derive(Clone, Copy, Debug, PartialEq, Eq, PartialOrd, Ord, Hash)]
+#[derive(Clone, Copy, Debug, Default, PartialEq, Eq, PartialOrd, Ord, Hash)]
 pub struct GuestPage {
     /// The guest.
     pub guest: u16,
@@ -15,37 +19,39 @@ pub struct GuestPage {
     pub page: u32,
 }
 
-/// What can be asked of a book. What each does is in the project's `docs/MODEL.md`. Each may be refused for [`Fault::Memory`].
+/// What can be asked of a book. What each does is in the project's `docs/MODEL.md`. Each may be refused for [`Error::Memory`].
 #[derive(Clone, Copy, Debug, PartialEq, Eq)]
+#[non_exhaustive]
+#[allow(missing_docs)]
 pub enum Command {
-    /// A new page with these bytes, on a frame of this node. [`Fault::BadNode`], [`Fault::AlreadyRegistered`], [`Fault::NoFrame`].
+    /// A new page with these bytes, on a frame of this node. [`Error::BadNode`], [`Error::AlreadyRegistered`], [`Error::NoFrame`].
     Register { page: GuestPage, node: u32, bytes: Page },
-    /// The page goes. [`Fault::UnknownPage`].
+    /// The page goes. [`Error::UnknownPage`].
     Drop { page: GuestPage },
-    /// The page gets these bytes: in place, or in a copy where it is shared. [`Fault::UnknownPage`], [`Fault::NoFrame`].
+    /// The page gets these bytes: in place, or in a copy where it is shared. [`Error::UnknownPage`], [`Error::NoFrame`].
     Store { page: GuestPage, bytes: Page },
-    /// So many visits of the scan, which goes on where it stopped. [`Fault::NotRunning`].
+    /// So many visits of the scan, which goes on where it stopped. [`Error::NotRunning`].
     Scan { visits: u64 },
     /// Every dup without items goes.
     Prune,
-    /// All pages of the guest are unmerged, and the scan visits them no more. [`Fault::UnknownPage`].
+    /// All pages of the guest are unmerged, and the scan visits them no more. [`Error::UnknownPage`].
     Unmerge { guest: u16 },
-    /// The scan visits all pages of the guest again. [`Fault::UnknownPage`].
+    /// The scan visits all pages of the guest again. [`Error::UnknownPage`].
     Mergeable { guest: u16 },
-    /// The page gets a frame of its own on another node. [`Fault::BadNode`], [`Fault::UnknownPage`], [`Fault::NoFrame`].
+    /// The page gets a frame of its own on another node. [`Error::BadNode`], [`Error::UnknownPage`], [`Error::NoFrame`].
     MovePage { page: GuestPage, node: u32 },
-    /// The dup at a place gets another frame of this node. [`Fault::BadNode`], [`Fault::UnknownPlace`], [`Fault::CrossesNodes`],
-    /// [`Fault::NoFrame`], [`Fault::InUse`].
+    /// The dup at a place gets another frame of this node. [`Error::BadNode`], [`Error::UnknownPlace`], [`Error::CrossesNodes`],
+    /// [`Error::NoFrame`], [`Error::InUse`].
     MoveDup { place: u32, node: u32 },
-    /// `run`, 0 to 2; 2 unmerges all pages. [`Fault::BadValue`].
+    /// `run`, 0 to 2; 2 unmerges all pages. [`Error::BadValue`].
     SetRun(u32),
-    /// `pages_to_scan`, 1 to 1,000,000. [`Fault::BadValue`].
+    /// `pages_to_scan`, 1 to 1,000,000. [`Error::BadValue`].
     SetPagesToScan(u32),
-    /// `merge_across_nodes`, 0 or 1. [`Fault::BadValue`], [`Fault::SharedPages`].
+    /// `merge_across_nodes`, 0 or 1. [`Error::BadValue`], [`Error::SharedPages`].
     SetAcross(u32),
-    /// `max_page_sharing`, 2 to 1,024. [`Fault::BadValue`], [`Fault::SharedPages`].
+    /// `max_page_sharing`, 2 to 1,024. [`Error::BadValue`], [`Error::SharedPages`].
     SetLimit(u32),
-    /// `use_zero_pages`, 0 or 1. [`Fault::BadValue`].
+    /// `use_zero_pages`, 0 or 1. [`Error::BadValue`].
     SetZeroPages(u32),
 }
 
@@ -79,75 +85,8 @@ pub struct Reply {
     /// How many: visits made, dups pruned, pages unmerged; else 0.
     pub count: u64,
     /// Why a scan or an unmerging stopped, if it did.
-    pub stop: Option<Fault>,
+    pub stop: Option<Error>,
 }
-
-/// Why a command was refused, or stopped. No page, dup, knob or counter has changed for a refusal.
-#[derive(Clone, Copy, Debug, PartialEq, Eq)]
-#[non_exhaustive]
-pub enum Fault {
-    /// There is no memory.
-    Memory,
-    /// The page, or a page of the guest, is not registered.
-    UnknownPage,
-    /// The page is registered.
-    AlreadyRegistered,
-    /// No frame of this node is free.
-    NoFrame(u32),
-    /// A scan while `run` is not 1.
-    NotRunning,
-    /// The knob does not change while pages are shared.
-    SharedPages,
-    /// The value is out of its knob's range.
-    BadValue,
-    /// Somebody holds the frame of the dup.
-    InUse,
-    /// The dup was to move to another node, while pages are not merged across nodes.
-    CrossesNodes,
-    /// No dup with items stands at the place.
-    UnknownPlace,
-    /// There is no such node.
-    BadNode,
-}
-
-impl Fault {
-    fn of(answer: u32, node: u32) -> Fault {
-        match answer {
-            raw::MEMORY => Fault::Memory,
-            raw::UNKNOWN_PAGE => Fault::UnknownPage,
-            raw::ALREADY_REGISTERED => Fault::AlreadyRegistered,
-            raw::NO_FRAME => Fault::NoFrame(node),
-            raw::NOT_RUNNING => Fault::NotRunning,
-            raw::SHARED_PAGES => Fault::SharedPages,
-            raw::BAD_VALUE => Fault::BadValue,
-            raw::IN_USE => Fault::InUse,
-            raw::CROSSES_NODES => Fault::CrossesNodes,
-            raw::UNKNOWN_PLACE => Fault::UnknownPlace,
-            raw::BAD_NODE => Fault::BadNode,
-            answer => unreachable!("the types rule this answer out: {answer}"),
-        }
-    }
-}
-
-impl fmt::Display for Fault {
-    fn fmt(&self, f: &mut fmt::Formatter<'_>) -> fmt::Result {
-        match self {
-            Fault::Memory => f.write_str("there is no memory"),
-            Fault::UnknownPage => f.write_str("the page is not registered"),
-            Fault::AlreadyRegistered => f.write_str("the page is registered"),
-            Fault::NoFrame(node) => write!(f, "no frame of node {node} is free"),
-            Fault::NotRunning => f.write_str("the scan does not run"),
-            Fault::SharedPages => f.write_str("pages are shared"),
-            Fault::BadValue => f.write_str("the value is out of its knob's range"),
-            Fault::InUse => f.write_str("somebody holds the frame"),
-            Fault::CrossesNodes => f.write_str("pages are not merged across nodes"),
-            Fault::UnknownPlace => f.write_str("no dup with items stands at the place"),
-            Fault::BadNode => f.write_str("there is no such node"),
-        }
-    }
-}
-
-impl std::error::Error for Fault {}
 
 /// The counters, each with the kernel's name for it.
 #[repr(C)]
@@ -171,10 +110,10 @@ pub struct Counters {
     pub full_scans: u64,
 }
 
-/// A book with its table: the pages of guests, of which those that read the same are merged into one frame, a dup. It may go to another thread,
-/// and is in one thread at a time; its passes look the merged frames up beside it.
+/// A book with its table: the pages of guests, of which those that read the same are merged into one frame, a dup. Its passes look the merged
+/// frames up beside it.
 ///
-/// Dropped while passes are out, it is left as it is, and its memory is not freed: close it by [`Book::close`] to know.
+/// Dropped while passes are out, it is closed and freed with the last of them, and of its [`Passes`].
 ///
 /// ```
 /// use ksmbook::{Book, Command, GuestPage, Shape};
@@ -188,99 +127,114 @@ pub struct Counters {
 /// book.apply(Command::Scan { visits: 4 })?;
 /// assert_eq!(book.ticket(one), book.ticket(other));
 /// assert_eq!((book.counters().shared, book.counters().sharing), (1, 1));
-/// # Ok::<(), Box<dyn std::error::Error>>(())
+/// # Ok::<(), ksmbook::Error>(())
 /// ```
+#[derive(Debug)]
 pub struct Book {
-    handle: Handle,
-    one_thread: PhantomData<Cell<()>>,
+    shared: Arc<Shared>,
 }
 
 // Whether there was something to tell.
 fn told<T>(answer: u32, value: T) -> Option<T> {
-    match answer {
-        raw::DONE => Some(value),
-        raw::NOTHING => None,
-        answer => unreachable!("the types rule this answer out: {answer}"),
-    }
+    (answer == raw::DONE).then_some(value)
 }
 
 impl Book {
     /// Opens a book without pages, on a table of its own.
-    pub fn open(shape: Shape) -> Result<Book, Refused> {
-        let mut handle = Handle::NONE;
-        let Shape { nodes, frames_per_node, passes, last_generation, tries } = shape;
-        done(raw::book_open(&mut handle, next_number(), nodes, frames_per_node, passes, last_generation, tries))?;
-        Ok(Book { handle, one_thread: PhantomData })
+    ///
+    /// # Errors
+    ///
+    /// [`Error::Shape`] where a size is out of its range; [`Error::Memory`].
+    pub fn open(shape: Shape) -> Result<Book> {
+        Ok(Book { shared: Shared::open(raw::ksm_book_open, shape)? })
     }
 
-    /// Closes the book, if all its passes came back. One that is not closed comes back, with [`Refused::PassesOut`].
-    pub fn close(mut self) -> Result<(), (Refused, Book)> {
-        done(raw::table_close(&mut self.handle)).map_err(|refused| (refused, self))
+    /// Closes the book and frees its memory.
+    ///
+    /// # Errors
+    ///
+    /// [`Error::PassesOut`]: the book is closed and freed then when the last of its passes, and of its [`Passes`], is dropped.
+    pub fn close(self) -> Result<()> {
+        self.shared.close()
     }
 
-    /// Takes a pass out of the book's table, or answers [`Refused::NoPass`] or [`Refused::Memory`].
-    pub fn pass(&mut self) -> Result<Pass, Refused> {
-        Pass::of(&mut self.handle)
+    /// Takes a pass out of the book's table, which comes back when it is dropped.
+    ///
+    /// # Errors
+    ///
+    /// [`Error::NoPass`] where all are out; [`Error::Memory`].
+    pub fn pass(&self) -> Result<Pass> {
+        Pass::of(&self.shared)
     }
 
-    /// Gives a pass back. One of another table comes back, with [`Refused::Other`].
-    pub fn take_back(&mut self, pass: Pass) -> Result<(), (Refused, Pass)> {
-        pass.back_to(&mut self.handle)
+    /// What takes passes out of this book's table, and may go to any thread.
+    #[must_use]
+    pub fn passes(&self) -> Passes {
+        Passes::of(&self.shared)
     }
 
-    /// Does a command, and answers what it did. A refusal changes no page, dup, knob or counter.
-    pub fn apply(&mut self, command: Command) -> Result<Reply, Fault> {
+    /// Does a command, and answers what it did.
+    ///
+    /// # Errors
+    ///
+    /// Those that [`Command`] names. A refusal changes no page, dup, knob or counter; the journal has an entry of it, but for [`Error::Memory`], and
+    /// a frame that nobody held any more may have been taken back.
+    pub fn apply(&mut self, command: Command) -> Result<Reply> {
         let mut made = Made::default();
-        match raw::book_apply(&mut self.handle, &command.request(), &mut made) {
-            raw::DONE => Ok(Reply {
-                count: made.count,
-                stop: (made.stop != 0).then(|| Fault::of(made.stop, made.node)),
-            }),
-            answer => Err(Fault::of(answer, made.node)),
+        // SAFETY: `&mut` shows that this is the only call of the book, here and below; each other pointer is of a reference.
+        match unsafe { raw::ksm_book_apply(self.shared.handle(), &command.request(), &mut made) } {
+            raw::DONE => Ok(Reply { count: made.count, stop: (made.stop != 0).then(|| Error::of(made.stop, made.node)) }),
+            answer => Err(Error::of(answer, made.node)),
         }
     }
 
     /// The bytes of a page: those stored last. None where it is not registered.
     pub fn read(&mut self, page: GuestPage) -> Option<Page> {
-        let mut bytes = [0; crate::PAGE_WORDS];
-        let answer = raw::book_read(&mut self.handle, page.guest, page.page, &mut bytes);
+        let mut bytes = [0; PAGE_WORDS];
+        // SAFETY: as above.
+        let answer = unsafe { raw::ksm_book_read(self.shared.handle(), page.guest, page.page, bytes.as_mut_ptr()) };
         told(answer, bytes)
     }
 
     /// The place of the dup into which a page is merged; none where it is not merged.
     pub fn ticket(&mut self, page: GuestPage) -> Option<u32> {
         let mut place = 0;
-        let answer = raw::book_ticket(&mut self.handle, page.guest, page.page, &mut place);
+        // SAFETY: as above.
+        let answer = unsafe { raw::ksm_book_ticket(self.shared.handle(), page.guest, page.page, &mut place) };
         told(answer, place)
     }
 
-    /// The pages merged into the dup at a place, ascending; none where no dup with items stands there. Refused for [`Refused::Memory`] alone.
-    pub fn mappers(&mut self, place: u32) -> Result<Option<Vec<GuestPage>>, Refused> {
+    /// The pages merged into the dup at a place, ascending; none where no dup with items stands there.
+    ///
+    /// # Errors
+    ///
+    /// [`Error::Memory`].
+    pub fn mappers(&mut self, place: u32) -> Result<Option<Vec<GuestPage>>> {
         let (mut pages, mut count) = (vec![0; 16], 0);
-        let mut answer = raw::book_mappers(&mut self.handle, place, &mut pages, &mut count);
+        let mut answer = self.mappers_to(place, &mut pages, &mut count);
         if answer == raw::RANGE {
-            pages.resize(count as usize, 0);
-            answer = raw::book_mappers(&mut self.handle, place, &mut pages, &mut count);
+            pages.resize(usize::try_from(count).unwrap_or(usize::MAX), 0);
+            answer = self.mappers_to(place, &mut pages, &mut count);
         }
-        if answer == raw::MEMORY {
-            return Err(Refused::Memory);
+        if answer == raw::NOTHING {
+            return Ok(None);
         }
-        pages.truncate(count as usize);
+        done(answer)?;
+        pages.truncate(usize::try_from(count).unwrap_or(usize::MAX));
         let pages = pages.into_iter().map(|page| GuestPage { guest: (page >> 32) as u16, page: page as u32 });
-        Ok(told(answer, ()).map(|()| pages.collect()))
+        Ok(Some(pages.collect()))
+    }
+
+    fn mappers_to(&mut self, place: u32, pages: &mut [u64], count: &mut u64) -> u32 {
+        // SAFETY: as above.
+        unsafe { raw::ksm_book_mappers(self.shared.handle(), place, pages.as_mut_ptr(), pages.len(), count) }
     }
 
     /// The counters, as they are now.
     pub fn counters(&mut self) -> Counters {
         let mut counters = Counters::default();
-        let answer = raw::book_counters(&mut self.handle, &mut counters);
-        assert_eq!(answer, raw::DONE, "a book counts");
+        // SAFETY: as above. It is refused only where this is no open book.
+        let _ = unsafe { raw::ksm_book_counters(self.shared.handle(), &mut counters) };
         counters
-    }
-}
-
-impl Drop for Book {
-    fn drop(&mut self) {
-        let _ = raw::table_close(&mut self.handle);
     }
 }

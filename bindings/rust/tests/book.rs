@@ -1,9 +1,9 @@
 //! The book through the safe types, and against a plain map.
 
-use ksmbook::{Book, Command, Fault, Found, GuestPage, Pass, Refused, Reply, Shape, Table};
+use ksmbook::{Book, Command, Error, Found, GuestPage, Pass, Reply, Shape};
 use std::collections::BTreeMap;
 
-const NONE: Option<Fault> = None;
+const NONE: Option<Error> = None;
 
 fn page(guest: u16, page: u32) -> GuestPage {
     GuestPage { guest, page }
@@ -13,7 +13,7 @@ fn register(of: GuestPage, node: u32, word: u64) -> Command {
     Command::Register { page: of, node, bytes: [word; 8] }
 }
 
-fn done(count: u64) -> Result<Reply, Fault> {
+fn done(count: u64) -> Result<Reply, Error> {
     Ok(Reply { count, stop: NONE })
 }
 
@@ -23,50 +23,46 @@ fn equal_pages_are_merged_and_looked_up() {
     let mut pass = book.pass().unwrap();
     assert_eq!(book.apply(register(page(0, 0), 0, 7)), done(0));
     assert_eq!(book.apply(register(page(1, 5), 0, 7)), done(0));
-    assert_eq!(book.apply(Command::Scan { visits: 4 }), Err(Fault::NotRunning));
+    assert_eq!(book.apply(Command::Scan { visits: 4 }), Err(Error::NotRunning));
     assert_eq!(book.apply(Command::SetRun(1)), done(0));
     assert_eq!(book.apply(Command::Scan { visits: 4 }), done(4));
     let place = book.ticket(page(0, 0)).unwrap();
     assert_eq!(book.mappers(place).unwrap(), Some(vec![page(0, 0), page(1, 5)]));
     assert_eq!((book.counters().shared, book.counters().sharing), (1, 1));
-    let Found::Held(mut hold) = pass.find(place).unwrap() else { panic!("nothing held") };
+    let Found::Held(hold) = pass.find(place).unwrap() else { panic!("nothing held") };
     assert_eq!(hold.words(), [7; 8]);
-    assert_eq!(book.apply(Command::MoveDup { place, node: 0 }), Err(Fault::InUse));
+    assert_eq!(book.apply(Command::MoveDup { place, node: 0 }), Err(Error::InUse));
     hold.leave();
     assert_eq!(book.apply(Command::MoveDup { place, node: 0 }), done(0));
     assert_eq!(book.apply(Command::Store { page: page(0, 0), bytes: [8; 8] }), done(0));
     assert_eq!(book.read(page(0, 0)), Some([8; 8]));
     assert_eq!(book.read(page(1, 5)), Some([7; 8]));
     assert_eq!((book.read(page(1, 6)), book.ticket(page(1, 6)), book.mappers(9).unwrap()), (None, None, None));
-    let (refused, mut book) = book.close().err().unwrap();
-    assert_eq!(refused, Refused::PassesOut);
-    book.take_back(pass).ok().unwrap();
-    book.close().ok().unwrap();
+    assert_eq!(book.close(), Err(Error::PassesOut));
+    // It is closed with its pass.
+    assert_eq!(pass.look_up(place).unwrap(), Found::Held([7; 8]));
 }
 
 #[test]
 fn what_is_refused() {
     let mut book = Book::open(Shape { nodes: 2, frames_per_node: 1, ..Shape::SMALL }).unwrap();
     let apply = |book: &mut Book, command| book.apply(command).err();
-    assert_eq!(Book::open(Shape { nodes: 0, ..Shape::SMALL }).err(), Some(Refused::Shape));
+    assert_eq!(Book::open(Shape { nodes: 0, ..Shape::SMALL }).err(), Some(Error::Shape));
     assert_eq!(apply(&mut book, register(page(0, 0), 1, 7)), None);
-    assert_eq!(apply(&mut book, register(page(0, 0), 1, 7)), Some(Fault::AlreadyRegistered));
-    assert_eq!(apply(&mut book, register(page(0, 1), 1, 7)), Some(Fault::NoFrame(1)));
-    assert_eq!(apply(&mut book, register(page(0, 1), 2, 7)), Some(Fault::BadNode));
-    assert_eq!(apply(&mut book, Command::Drop { page: page(0, 1) }), Some(Fault::UnknownPage));
-    assert_eq!(apply(&mut book, Command::Unmerge { guest: 1 }), Some(Fault::UnknownPage));
-    assert_eq!(apply(&mut book, Command::MoveDup { place: 0, node: 0 }), Some(Fault::UnknownPlace));
-    assert_eq!(apply(&mut book, Command::SetLimit(1)), Some(Fault::BadValue));
-    let mut table = Table::open(Shape::SMALL).unwrap();
-    let (refused, _pass) = book.take_back(table.pass().unwrap()).err().unwrap();
-    assert_eq!(refused, Refused::Other);
+    assert_eq!(apply(&mut book, register(page(0, 0), 1, 7)), Some(Error::AlreadyRegistered));
+    assert_eq!(apply(&mut book, register(page(0, 1), 1, 7)), Some(Error::NoFrame(1)));
+    assert_eq!(apply(&mut book, register(page(0, 1), 2, 7)), Some(Error::BadNode));
+    assert_eq!(apply(&mut book, Command::Drop { page: page(0, 1) }), Some(Error::UnknownPage));
+    assert_eq!(apply(&mut book, Command::Unmerge { guest: 1 }), Some(Error::UnknownPage));
+    assert_eq!(apply(&mut book, Command::MoveDup { place: 0, node: 0 }), Some(Error::UnknownPlace));
+    assert_eq!(apply(&mut book, Command::SetLimit(1)), Some(Error::BadValue));
 }
 
 // Looks each place up so many times, and answers how many lookups found a frame. The words of each have to be those of one frame.
 fn look(pass: &mut Pass, rounds: u32) -> u64 {
     let mut found = 0;
     for place in (0..rounds).flat_map(|_| 0..16) {
-        let Ok(words) = pass.look_up(place).unwrap() else { continue };
+        let Found::Held(words) = pass.look_up(place).unwrap() else { continue };
         assert!(words.iter().all(|word| *word == words[0]), "words of two frames: {words:?}");
         found += 1;
     }
@@ -87,23 +83,21 @@ fn readers_look_merged_frames_up_beside_the_book() {
         for n in 0..5000 {
             let of = page(0, n % 8);
             match book.apply(Command::Store { page: of, bytes: [u64::from(n / 64); 8] }) {
-                Ok(_) | Err(Fault::NoFrame(0)) => {}
+                Ok(_) | Err(Error::NoFrame(0)) => {}
                 refused => panic!("{refused:?}"),
             }
             assert_eq!(book.apply(Command::Scan { visits: 16 }).map(|reply| reply.stop), Ok(NONE));
             let Some(place) = book.ticket(of) else { continue };
             match book.apply(Command::MoveDup { place, node: 0 }) {
-                Ok(_) | Err(Fault::InUse | Fault::NoFrame(0)) => {}
+                Ok(_) | Err(Error::InUse | Error::NoFrame(0)) => {}
                 refused => panic!("{refused:?}"),
             }
         }
         readers.into_iter().map(|reader| reader.join().unwrap()).sum()
     });
     assert!(found > 0, "no lookup found a frame");
-    for pass in passes {
-        book.take_back(pass).ok().unwrap();
-    }
-    book.close().ok().unwrap();
+    drop(passes);
+    book.close().unwrap();
 }
 
 #[test]
@@ -131,5 +125,5 @@ fn what_was_stored_last_is_read() {
         let asked = page(drawn(3) as u16, drawn(16) as u32);
         assert_eq!(book.read(asked), plain.get(&asked).map(|word| [*word; 8]));
     }
-    book.close().ok().unwrap();
+    book.close().unwrap();
 }

@@ -23,12 +23,12 @@ fn read(pass: &mut Pass, lookups: u64, first: u32) -> u64 {
     for n in 0..lookups {
         place = (place + 7) % PLACES;
         if n % 8 == 0 {
-            let Found::Held(mut hold) = pass.find(place).unwrap() else { continue };
-            let (words, (where_, frame, life)) = (hold.words(), hold.told());
-            assert_eq!((where_, words), (place, page_of(frame, life)));
-            assert!((0..PAGE_WORDS).all(|i| hold.word(i) == Some(words[i])));
+            let Found::Held(hold) = pass.find(place).unwrap() else { continue };
+            let told = hold.told();
+            assert_eq!((told.place, hold.words()), (place, page_of(told.frame, told.life)));
+            assert!((0..PAGE_WORDS).all(|i| hold.word(i) == Some(hold[i])));
             held += 1;
-        } else if let Ok(page) = pass.look_up(place).unwrap() {
+        } else if let Found::Held(page) = pass.look_up(place).unwrap() {
             assert!(is_one_life(&page));
             held += 1;
         }
@@ -41,7 +41,7 @@ fn keep(table: &mut Table, reading: &AtomicUsize, frames: u32) -> u64 {
     let (mut at, mut place, mut moves) = ([None; PLACES as usize], 0, 0);
     while reading.load(Ordering::SeqCst) > 0 {
         for frame in 0..frames {
-            let _ = table.reap(frame);
+            let _is_held = table.reap(frame);
             let known = table.frame(frame).unwrap();
             if known.kind != Kind::Free {
                 continue;
@@ -80,9 +80,7 @@ fn four_threads_and_a_keeper() {
         let moves = keep(&mut table, &reading, 32);
         (readers.into_iter().map(|reader| reader.join().unwrap()).sum::<u64>(), moves)
     });
-    for pass in passes {
-        table.take_back(pass).ok().unwrap();
-    }
+    drop(passes);
     for frame in 0..32 {
         if table.frame(frame).unwrap().kind == Kind::Stable {
             assert_eq!(table.freeze(frame), Ok(true), "a count that is not the keeper's");
@@ -91,7 +89,7 @@ fn four_threads_and_a_keeper() {
             assert_eq!(table.reap(frame), Ok(true), "a count that is not 0");
         }
     }
-    table.close().ok().unwrap();
+    table.close().unwrap();
     assert!(held > 0 && moves > 0);
     println!("{lookups} lookups, {held} held; {moves} moves");
 }

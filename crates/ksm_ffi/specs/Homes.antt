@@ -47,3 +47,10 @@ Judged h v number answer.Done = (number ≡ h.number) × (length h.back < h.coun
 Judged h v number answer.Holding = (number ≡ h.number) × (length h.back < h.count) × ¬ IsIdle v
 Judged h v number answer.Other = (number ≢ h.number) ⊎ (h.count ≤ length h.back)
 Judged h v number a = ⊥
+
+-- whether the passes are those of the table with this number, and none is out
+abbrev pub JudgesWhole : HomeView → ℕ → Answer → Type 0
+JudgesWhole h number answer.Done = (number ≡ h.number) × (length h.back ≡ h.count)
+JudgesWhole h number answer.PassesOut = (number ≡ h.number) × (length h.back ≢ h.count)
+JudgesWhole h number answer.Other = number ≢ h.number
+JudgesWhole h number a = ⊥

@@ -1,49 +1,66 @@
 //! The calls of a book. One thread at a time makes them, by the handle of the book's table; its passes are those of a
 //! table.
-ghost use Rattle.std.specs.Prelude.{◌≡◌, ◌≢◌};
+ghost use Rattle.std.specs.Prelude.{◌≡◌, ◌≢◌, ◌<◌, ◌≤◌, OnOk};
 ghost use Rattle.ksm_base.specs.Counting.{counters_of};
 ghost use Rattle.ksm_base.specs.Reading.{mappers_of, ticket_of};
 ghost use Rattle.ksm_ffi.specs.Books.{ReadsBook, TellsCount, TellsCounters, TellsMappers, TellsTicket};
 ghost use Rattle.ksm_ffi.specs.Requests.{LeavesMade};
-ghost use Rattle.ksm_ffi.specs.Things.{AppliesRequest, OnBook, OpensBookAt, OpensBookThing, SeesBook};
+ghost use Rattle.ksm_ffi.specs.Things.{AppliesRequest, IsNewBook, MakesBook, OnBook, OpensOf, SeesBook};
 
 use crate::answer::Answer;
 use crate::bookkeeper::Bookkeeper;
-use crate::handle::Handle;
+use crate::handle::{Handle, open_both};
+use crate::numbers::Numbers;
 use crate::request::{Counted, Made, Request};
 use crate::thing::Thing;
 use ksm_base::{GuestPage, PageBytes, Shape};
 use std::alloc::Global;
 
-// A book in a box of its own.
-fn open_book(alloc: Global, shape: Shape, number: u64) -> Result<Box<Thing>, Answer>
-    ensures { OpensBookThing shape number result }
+// A book and the passes of its table, each in a box of its own.
+fn make_book(
+    alloc: Global,
+    numbers: &mut Numbers,
+    shape: Shape,
+) -> Result<(Box<Thing>, Box<Thing>), Answer>
+    ensures made { MakesBook shape numbers.old.next result }
+    ensures drawn { OnOk result (numbers.old.next < numbers.new.next) }
+    ensures rises { numbers.old.next ≤ numbers.new.next }
 {
+    if !shape.check() {
+        return Err(Answer::Shape);
+    }
+    let Some(number) = numbers.draw() else {
+        return Err(Answer::Memory);
+    };
     let (bookkeeper, home) = Bookkeeper::open(alloc, shape, number)?;
-    Thing::Book(bookkeeper, home).boxed(alloc)
+    Thing::Book(bookkeeper, number).both_boxed(Thing::Home(home), alloc)
 }
 
-/// Opens a book on a table of its own, whose frames the book keeps.
+/// Opens a book without pages on a table of its own of these sizes at a handle, and the passes of that table at another,
+/// as a table is opened.
 #[unsafe(no_mangle)]
 pub extern "C" fn ksm_book_open(
     alloc: Global,
+    numbers: &mut Numbers,
     book: &mut Handle,
-    number: u64,
+    home: &mut Handle,
     nodes: u32,
     frames_per_node: u32,
     passes: u32,
     last_generation: u64,
     tries: u32,
 ) -> u32
-    ensures { OpensBookAt (record {
+    ensures opened { OpensOf IsNewBook (record {
       nodes = nodes;
       frames_per_node = frames_per_node;
       passes = passes;
       last_generation = last_generation;
       tries = tries;
-    }) number book.old.thing result book.new.thing }
+    }) numbers.old.next book.old.thing home.old.thing result book.new.thing home.new.thing }
+    ensures drawn { result ≡ 0 → numbers.old.next < numbers.new.next }
+    ensures rises { numbers.old.next ≤ numbers.new.next }
 {
-    if let Some(_) = book.as_mut() {
+    if book.is_open() || home.is_open() {
         return Answer::Open.number();
     }
     let shape = Shape {
@@ -53,7 +70,7 @@ pub extern "C" fn ksm_book_open(
         last_generation,
         tries,
     };
-    book.open(open_book(alloc, shape, number))
+    open_both(book, home, make_book(alloc, numbers, shape))
 }
 
 // Does a command, if there is one of this kind.

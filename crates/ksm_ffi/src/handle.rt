@@ -1,5 +1,7 @@
 //! What C holds: a pointer to a box, or null.
-ghost use Rattle.std.specs.Prelude.{◌≡◌, MatchOption};
+ghost use Rattle.std.specs.Prelude.{◌≡◌, MatchOption, MatchResult};
+ghost use Rattle.ksm_ffi.specs.Answers.{number_of};
+ghost use Rattle.ksm_ffi.specs.declared.answer.Answer.TheVariants as answer;
 ghost use Rattle.std.specs.Borrow.{sem};
 ghost use Rattle.std.specs.declared.option.Option.{Option};
 ghost use Rattle.std.specs.declared.option.Option.TheVariants.{None, Some};
@@ -33,10 +35,8 @@ impl Model for Handle {
 unsafe impl Send for Handle {}
 
 impl Handle {
-    ghost use Rattle.std.specs.Prelude.{MatchResult};
-    ghost use Rattle.ksm_ffi.specs.Answers.{number_of};
+    ghost use Rattle.std.specs.Prelude.{IsSome, IsTrue, ◌↔◌};
     ghost use Rattle.ksm_ffi.specs.Lends.{LendsInPlace};
-    ghost use Rattle.ksm_ffi.specs.declared.answer.Answer.TheVariants as answer;
 
     fn empty(alloc: Global) -> Handle
         ensures { result.thing ≡ None }
@@ -82,6 +82,17 @@ impl Handle {
         unsafe { Some(&mut *(self.at as *mut Thing)) }
     }
 
+    /// Whether the handle is open.
+    pub(crate) fn is_open(&mut self) -> bool
+        ensures told { IsTrue result ↔ IsSome self.old.thing }
+        ensures kept { self.new.thing ≡ self.old.thing }
+    {
+        match self.as_mut() {
+            Some(_) => true,
+            None => false,
+        }
+    }
+
     /// Takes what the handle stands for out of it. It is not open then.
     pub(crate) fn take(&mut self, alloc: Global) -> Option<Box<Thing>>
         ensures old { MatchOption result (self.old.thing ≡ None) (λ b. self.old.thing ≡ Some b.value) }
@@ -113,5 +124,26 @@ impl Handle {
         ensures { self.new.thing ≡ Some thing.value }
     {
         *self = Handle::of_loose(Loose::of(thing));
+    }
+}
+
+/// Opens two handles that are not open on the two that were made. Answers the number of Done, or of why nothing was
+/// made.
+pub(crate) fn open_both(
+    one: &mut Handle,
+    other: &mut Handle,
+    made: Result<(Box<Thing>, Box<Thing>), Answer>,
+) -> u32
+    ensures told { MatchResult made (λ _. result ≡ number_of answer.Done) (λ a. result ≡ number_of a) }
+    ensures one { MatchResult made (λ r. one.new.thing ≡ Some r.0.value) (λ _. one.new.thing ≡ one.old.thing) }
+    ensures other { MatchResult made (λ r. other.new.thing ≡ Some r.1.value) (λ _. other.new.thing ≡ other.old.thing) }
+{
+    match made {
+        Ok((first, second)) => {
+            one.put(first);
+            other.put(second);
+            Answer::Done.number()
+        }
+        Err(answer) => answer.number(),
     }
 }

@@ -1,8 +1,9 @@
-//! The passes of a table that are not out, and how they are lent and come back.
+//! The passes of a table that are not out, and how they are lent and come back: one at a time, while others have the
+//! table.
 ghost use Rattle.std.specs.Prelude.{◌≡◌, ◌<◌, ◌↔◌, IsTrue, IfOk, IfSome, false, length};
 ghost use Rattle.ksm_base.specs.Values.{IsShape};
 ghost use Rattle.frame_table.specs.Seats.{new_keeper};
-ghost use Rattle.ksm_ffi.specs.Homes.{Judged, Lends, all_back, one_back};
+ghost use Rattle.ksm_ffi.specs.Homes.{Judged, JudgesWhole, Lends, all_back, one_back};
 ghost use Rattle.ksm_ffi.specs.Passes.{IsIdle};
 
 use crate::answer::Answer;
@@ -122,6 +123,19 @@ impl Home {
             Answer::Done
         } else {
             Answer::Holding
+        }
+    }
+
+    /// Whether these are the passes of the table with this number, and none is out.
+    pub fn judge_close(&self, number: u64) -> Answer
+        ensures { JudgesWhole self.now number result }
+    {
+        if number != self.number {
+            Answer::Other
+        } else if self.is_whole() {
+            Answer::Done
+        } else {
+            Answer::PassesOut
         }
     }
 

@@ -16,7 +16,7 @@ use crate::answer::Answer;
 use crate::home::Home;
 use frame_core::{KeeperStep, Kind, Life};
 use frame_table::{FrameTable, Keeper};
-use ksm_base::{PAGE_WORDS, Shape};
+use ksm_base::{MOST_REFERENCES, PAGE_WORDS, Shape};
 use std::alloc::Global;
 use std::marker::Model;
 use std::sync::Arc;
@@ -137,7 +137,7 @@ impl Owner {
             KeeperStep::Raise(frame) => self.is_kind(frame, Kind::Free),
             KeeperStep::Open(frame) => self.is_kind(frame, Kind::Filling),
             KeeperStep::Freeze(frame) => self.is_kind(frame, Kind::Stable),
-            KeeperStep::Add(frame) => (1..=1023).contains(&self.keeper.base(frame)),
+            KeeperStep::Add(frame) => (1..MOST_REFERENCES).contains(&self.keeper.base(frame)),
             KeeperStep::Sub(frame) => 1 <= self.keeper.base(frame),
             KeeperStep::Put {
                 frame,
@@ -174,7 +174,7 @@ fn may_be_inside()
 
 // The calls of the keeper. What is not allowed is refused, and has changed nothing.
 impl Owner {
-    /// Takes one reference more on a frame on which the keeper has 1 to 1,023.
+    /// Takes one reference more on a frame on which the keeper has one, and fewer than `MOST_REFERENCES`.
     pub fn add(&mut self, frame: u32) -> Answer
         ensures { Keeps self.old (Add frame) result self.new }
     {

@@ -48,13 +48,12 @@ fn rest(slot: &mut Option<Pass>, pass: Pass)
     let _none = unsafe { ManuallyDrop::new_unchecked(slot.replace(pass)) };
 }
 
-// Keeps a hold.
+// Keeps a hold. That nothing is there is proved, and so not tested.
 fn keep(slot: &mut Option<Held>, held: Held)
     requires { slot.old ≡ None }
     ensures { slot.new ≡ Some held }
 {
-    let gone = slot.replace(held);
-    let None = gone else { unreachable!() };
+    let _none = unsafe { ManuallyDrop::new_unchecked(slot.replace(held)) };
 }
 
 // Loads every word of the page, to where the caller wants them, so that they are not copied on their way.

@@ -1,49 +1,68 @@
-//! Opening a table, closing it or a book, passes, and the calls of the keeper, which one thread makes at a time.
-ghost use Rattle.std.specs.Prelude.{◌≡◌, ◌≢◌};
+//! Opening a table, closing it or a book, passes, and the calls of the keeper. One thread at a time makes those of the
+//! keeper, and one at a time those of the handle of passes; these may be two threads.
+ghost use Rattle.std.specs.Prelude.{◌≡◌, ◌≢◌, ◌<◌, ◌≤◌, OnOk};
 ghost use Rattle.frame_core.specs.declared.event.KeeperStep.TheVariants.{Reap, Put, Raise, Open, Add, Sub, Publish};
 ghost use Rattle.frame_core.specs.declared.event.KeeperStep.TheVariants.{Withdraw, Freeze};
 ghost use Rattle.ksm_ffi.specs.Keeping.{Keeps, KeepsWord, TellsOf};
-ghost use Rattle.ksm_ffi.specs.Things.{Closes, ClosesPass, IsGivenBack, JudgesBack, JudgesClose, JudgesHome, LendsBox};
-ghost use Rattle.ksm_ffi.specs.Things.{LendsThing, OnTable, Opens, OpensPass, OpensThing};
+ghost use Rattle.ksm_ffi.specs.Things.{Closes, ClosesPass, IsGivenBack, IsNewTable, JudgesBack, JudgesClose, LendsBox};
+ghost use Rattle.ksm_ffi.specs.Things.{LendsThing, MakesTable, OnTable, OpensOf, OpensPass};
 ghost use Rattle.ksm_ffi.specs.declared.answer.Answer.TheVariants as answer;
 
 use crate::answer::Answer;
-use crate::handle::Handle;
+use crate::handle::{Handle, open_both};
 use crate::home::Home;
+use crate::numbers::Numbers;
 use crate::owner::Owner;
 use crate::thing::Thing;
 use ksm_base::Shape;
 use std::alloc::Global;
 
-// A table in a box of its own.
-fn open_table(alloc: Global, shape: Shape, number: u64) -> Result<Box<Thing>, Answer>
-    ensures { OpensThing shape number result }
+// A table and its passes, each in a box of its own.
+fn make_table(
+    alloc: Global,
+    numbers: &mut Numbers,
+    shape: Shape,
+) -> Result<(Box<Thing>, Box<Thing>), Answer>
+    ensures made { MakesTable shape numbers.old.next result }
+    ensures drawn { OnOk result (numbers.old.next < numbers.new.next) }
+    ensures rises { numbers.old.next ≤ numbers.new.next }
 {
+    if !shape.check() {
+        return Err(Answer::Shape);
+    }
+    let Some(number) = numbers.draw() else {
+        return Err(Answer::Memory);
+    };
     let (owner, home) = Owner::open(alloc, shape, number)?;
-    Thing::Table(owner, home).boxed(alloc)
+    Thing::Table(owner, number).both_boxed(Thing::Home(home), alloc)
 }
 
-/// Opens a table with all frames free and all places empty. Passes are told from those of tables with other numbers.
+/// Opens a table of these sizes with all frames free and all places empty at a handle, and its passes, of which none is
+/// out, at another; both have a number that none before had, by which passes are told from those of other tables.
+/// Refused where either handle is open, where a size is out of its range, or for memory; then both are as they were.
 #[unsafe(no_mangle)]
 pub extern "C" fn ksm_table_open(
     alloc: Global,
+    numbers: &mut Numbers,
     table: &mut Handle,
-    number: u64,
+    home: &mut Handle,
     nodes: u32,
     frames_per_node: u32,
     passes: u32,
     last_generation: u64,
     tries: u32,
 ) -> u32
-    ensures { Opens (record {
+    ensures opened { OpensOf IsNewTable (record {
       nodes = nodes;
       frames_per_node = frames_per_node;
       passes = passes;
       last_generation = last_generation;
       tries = tries;
-    }) number table.old.thing result table.new.thing }
+    }) numbers.old.next table.old.thing home.old.thing result table.new.thing home.new.thing }
+    ensures drawn { result ≡ 0 → numbers.old.next < numbers.new.next }
+    ensures rises { numbers.old.next ≤ numbers.new.next }
 {
-    if let Some(_) = table.as_mut() {
+    if table.is_open() || home.is_open() {
         return Answer::Open.number();
     }
     let shape = Shape {
@@ -53,49 +72,46 @@ pub extern "C" fn ksm_table_open(
         last_generation,
         tries,
     };
-    table.open(open_table(alloc, shape, number))
+    open_both(table, home, make_table(alloc, numbers, shape))
 }
 
-/// Closes a table, if no pass of it is out, and frees its memory.
+/// Closes a table or a book with its passes where none of them is out, and only there. Else both handles are as they
+/// were, and the answer is why: passes are out, they are another table's, or a handle is closed or stands for something
+/// else.
 #[unsafe(no_mangle)]
-pub extern "C" fn ksm_table_close(alloc: Global, table: &mut Handle) -> u32
-    ensures { Closes table.old.thing result table.new.thing }
+pub extern "C" fn ksm_table_close(alloc: Global, table: &mut Handle, home: &mut Handle) -> u32
+    ensures { Closes table.old.thing home.old.thing result table.new.thing home.new.thing }
 {
     let Some(thing) = table.take(alloc) else {
         return Answer::Closed.number();
     };
-    let answer = judge_close(&thing);
+    let Some(passes) = home.take(alloc) else {
+        table.put(thing);
+        return Answer::Closed.number();
+    };
+    let answer = judge_close(&thing, &passes);
     if answer == Answer::Done {
         Box::into_inner(thing).retire();
+        Box::into_inner(passes).retire();
     } else {
         table.put(thing);
+        home.put(passes);
     }
     answer.number()
 }
 
-// Whether no pass of a table is out.
-fn judge_home(home: &Home) -> Answer
-    ensures { JudgesHome home.now result }
+// Whether what two handles stand for may be closed, as a table or a book and its passes, and if not, why.
+fn judge_close(thing: &Thing, passes: &Thing) -> Answer
+    ensures { JudgesClose thing.now passes.now result }
 {
-    if home.is_whole() {
-        Answer::Done
-    } else {
-        Answer::PassesOut
+    match (thing, passes) {
+        (Thing::Table(_, number), Thing::Home(home)) => home.judge_close(*number),
+        (Thing::Book(_, number), Thing::Home(home)) => home.judge_close(*number),
+        _ => Answer::Kind,
     }
 }
 
-// Whether what a handle stands for may be closed, and if not, why.
-fn judge_close(thing: &Thing) -> Answer
-    ensures { JudgesClose thing.now result }
-{
-    match thing {
-        Thing::Table(_, home) => judge_home(home),
-        Thing::Book(_, home) => judge_home(home),
-        Thing::Pass(_, _) => Answer::Kind,
-    }
-}
-
-// Lends a pass of a table, in a box of its own.
+// Lends a pass, in a box of its own.
 fn lend_boxed(alloc: Global, home: &mut Home) -> Result<Box<Thing>, Answer>
     ensures { LendsBox home.old result home.new }
 {
@@ -113,67 +129,66 @@ fn lend_boxed(alloc: Global, home: &mut Home) -> Result<Box<Thing>, Answer>
 }
 
 // Lends a pass of what a handle stands for.
-fn lend(alloc: Global, table: &mut Thing) -> Result<Box<Thing>, Answer>
-    ensures { LendsThing table.old result table.new }
+fn lend(alloc: Global, passes: &mut Thing) -> Result<Box<Thing>, Answer>
+    ensures { LendsThing passes.old result passes.new }
 {
-    match table {
-        Thing::Table(_, home) => lend_boxed(alloc, home),
-        Thing::Book(_, home) => lend_boxed(alloc, home),
-        Thing::Pass(_, _) => Err(Answer::Kind),
+    match passes {
+        Thing::Home(home) => lend_boxed(alloc, home),
+        _ => Err(Answer::Kind),
     }
 }
 
-/// Opens a pass of the table: the last that came back, or else one that never was out.
+/// Opens a pass at a handle that is not open, by the handle of a table's passes: the last that came back, or else one
+/// that never was out. It holds nothing, and is out then. Refused where all are out, for memory, or for the handles.
 #[unsafe(no_mangle)]
-pub extern "C" fn ksm_pass_open(alloc: Global, table: &mut Handle, pass: &mut Handle) -> u32
-    ensures { OpensPass table.old.thing pass.old.thing result table.new.thing pass.new.thing }
+pub extern "C" fn ksm_pass_open(alloc: Global, home: &mut Handle, pass: &mut Handle) -> u32
+    ensures { OpensPass home.old.thing pass.old.thing result home.new.thing pass.new.thing }
 {
-    if let Some(_) = pass.as_mut() {
+    if pass.is_open() {
         return Answer::Open.number();
     }
-    let Some(mut thing) = table.take(alloc) else {
+    let Some(mut thing) = home.take(alloc) else {
         return Answer::Closed.number();
     };
     let lent = lend(alloc, &mut thing);
-    table.put(thing);
+    home.put(thing);
     pass.open(lent)
 }
 
-// Whether a pass may come back to a table, and if not, why.
-fn judge_back(table: &Thing, pass: &Thing) -> Answer
-    ensures { JudgesBack table.now pass.now result }
+// Whether a pass may come back to the passes of a table, and if not, why.
+fn judge_back(passes: &Thing, pass: &Thing) -> Answer
+    ensures { JudgesBack passes.now pass.now result }
 {
-    match (table, pass) {
-        (Thing::Table(_, home), Thing::Pass(reader, number)) => home.judge_back(reader, *number),
-        (Thing::Book(_, home), Thing::Pass(reader, number)) => home.judge_back(reader, *number),
+    match (passes, pass) {
+        (Thing::Home(home), Thing::Pass(reader, number)) => home.judge_back(reader, *number),
         _ => Answer::Kind,
     }
 }
 
 // Gives a pass back that may come back.
-fn give_back(table: &mut Thing, pass: Thing)
-    requires { JudgesBack table.old pass answer.Done }
-    ensures { IsGivenBack table.old pass table.new }
+fn give_back(passes: &mut Thing, pass: Thing)
+    requires { JudgesBack passes.old pass answer.Done }
+    ensures { IsGivenBack passes.old pass passes.new }
 {
     let Some(reader) = pass.into_reader() else {
         unreachable!()
     };
-    match table {
-        Thing::Table(_, home) => home.take_back(reader),
-        Thing::Book(_, home) => home.take_back(reader),
-        Thing::Pass(_, _) => unreachable!(),
+    match passes {
+        Thing::Home(home) => home.take_back(reader),
+        _ => unreachable!(),
     }
 }
 
-/// Gives a pass that holds nothing back to its table.
+/// Gives a pass back, by the handle of its table's passes: where it has that table's number, one is out, and it holds
+/// nothing. Else both handles are as they were, and the answer is why.
 #[unsafe(no_mangle)]
-pub extern "C" fn ksm_pass_close(alloc: Global, table: &mut Handle, pass: &mut Handle) -> u32
-    ensures { ClosesPass table.old.thing pass.old.thing result table.new.thing pass.new.thing }
+pub extern "C" fn ksm_pass_close(alloc: Global, home: &mut Handle, pass: &mut Handle) -> u32
+    ensures { ClosesPass home.old.thing pass.old.thing result home.new.thing pass.new.thing }
 {
     let Some(back) = pass.take(alloc) else {
         return Answer::Closed.number();
     };
-    let Some(mut thing) = table.take(alloc) else {
+    let Some(mut thing) = home.take(alloc) else {
         pass.put(back);
         return Answer::Closed.number();
     };
@@ -183,7 +198,7 @@ pub extern "C" fn ksm_pass_close(alloc: Global, table: &mut Handle, pass: &mut H
     } else {
         pass.put(back);
     }
-    table.put(thing);
+    home.put(thing);
     answer.number()
 }
 

@@ -12,10 +12,13 @@ use std::mem::ManuallyDrop;
 
 /// What a handle stands for.
 pub enum Thing {
-    /// A table with its keeper, and its passes that are not out.
-    Table(Owner, Home),
-    /// A book on its table, and the passes that are not out.
-    Book(Bookkeeper, Home),
+    /// A table with its keeper, and the table's number.
+    Table(Owner, u64),
+    /// A book on its table, and the table's number.
+    Book(Bookkeeper, u64),
+    /// The passes of a table that are not out. They have a handle of their own, so that threads may take passes while
+    /// another has the table.
+    Home(Home),
     /// A pass, and the number of its table.
     Pass(Reader, u64),
 }
@@ -34,20 +37,34 @@ impl Thing {
         }
     }
 
+    /// Both in boxes of their own. Where there is no memory for that, they go for good.
+    pub fn both_boxed(self, other: Thing, alloc: Global) -> Result<(Box<Thing>, Box<Thing>), Answer>
+        ensures { MatchResult result (λ r. (r.0.value ≡ self) × (r.1.value ≡ other)) (λ a. a ≡ Answer.Memory) }
+    {
+        let first = match self.boxed(alloc) {
+            Ok(first) => first,
+            Err(answer) => {
+                other.retire();
+                return Err(answer);
+            }
+        };
+        match other.boxed(alloc) {
+            Ok(second) => Ok((first, second)),
+            Err(answer) => {
+                Box::into_inner(first).retire();
+                Err(answer)
+            }
+        }
+    }
+
     /// The pass that it stands for; what else it is goes for good.
     pub fn into_reader(self) -> Option<Reader>
         ensures { result ≡ reader_of self }
     {
         match self {
             Thing::Pass(reader, _) => Some(reader),
-            Thing::Table(owner, home) => {
-                owner.retire();
-                home.retire();
-                None
-            }
-            Thing::Book(bookkeeper, home) => {
-                bookkeeper.retire();
-                home.retire();
+            other => {
+                other.retire();
                 None
             }
         }
@@ -56,14 +73,9 @@ impl Thing {
     /// Lets it go for good.
     pub fn retire(self) {
         match self {
-            Thing::Table(owner, home) => {
-                owner.retire();
-                home.retire();
-            }
-            Thing::Book(bookkeeper, home) => {
-                bookkeeper.retire();
-                home.retire();
-            }
+            Thing::Table(owner, _) => owner.retire(),
+            Thing::Book(bookkeeper, _) => bookkeeper.retire(),
+            Thing::Home(home) => home.retire(),
             Thing::Pass(reader, _) => reader.retire(),
         }
     }

@@ -1,0 +1,142 @@
+/*
+ * Blocks of 4 KiB outside the table, to which a word of a frame points: blocks [SECONDS [READERS]].
+ *
+ * One keeper replaces blocks for SECONDS (5), while READERS (7, at most 15) read them; each reader opens its own pass. A block is freed once the
+ * frame that pointed to it is reaped, which comes after every read of it: AddressSanitizer and memcheck would see a read behind that. Ends with 1
+ * if a block was not as it was written, or older than a version that the reader knew of.
+ */
+#include "ksmbook.h"
+
+#include <pthread.h>
+#include <stdatomic.h>
+#include <stdio.h>
+#include <stdlib.h>
+#include <time.h>
+
+#define KEYS 32
+#define FRAMES 64
+#define WORDS 512
+#define MOST_READERS 15
+
+static ksm_table table; /* all zero: not open */
+static atomic_int done;
+static _Atomic uint64_t written[KEYS];
+
+static void must(uint32_t answer, const char *call) {
+    if (answer != KSM_DONE) {
+        fprintf(stderr, "blocks: %s: %s\n", call, ksm_strerror(answer));
+        exit(1);
+    }
+}
+
+static uint64_t *block_of(uint64_t key, uint64_t version) {
+    uint64_t *block = malloc(WORDS * sizeof *block);
+    if (block == NULL)
+        exit(1);
+    for (uint64_t i = 0; i < WORDS; i++)
+        block[i] = (version << 8 | key) * (2 * i + 1);
+    return block;
+}
+
+static int is_block(const uint64_t *block, uint64_t key, uint64_t least) {
+    uint64_t first = block[0];
+    for (uint64_t i = 0; i < WORDS; i++)
+        if (block[i] != first * (2 * i + 1))
+            return 0;
+    return (first & 0xFF) == key && first >> 8 >= least;
+}
+
+typedef struct reader {
+    uint64_t reads, gone, wrong;
+} reader;
+
+static void *read_blocks(void *arg) {
+    reader *r = arg;
+    ksm_pass pass = KSM_PASS_NONE;
+    must(ksm_pass_open(&table, &pass), "ksm_pass_open");
+    for (uint32_t key = 0; !atomic_load(&done); key = (key + 7) % KEYS) {
+        uint64_t least = atomic_load(&written[key]), at = 0;
+        /* Between the end of the old frame and the name of the new one the place is told gone. */
+        if (ksm_find(&pass, key) != KSM_DONE) {
+            r->gone++;
+            continue;
+        }
+        must(ksm_word(&pass, 0, &at), "ksm_word");
+        r->wrong += !is_block((const uint64_t *)(uintptr_t)at, key, least);
+        must(ksm_leave(&pass), "ksm_leave");
+        r->reads++;
+    }
+    must(ksm_pass_close(&table, &pass), "ksm_pass_close");
+    return NULL;
+}
+
+/* The keeper's lists: which frame each key has, which block each frame has, and the frames that have none or wait for readers. */
+static uint32_t frame_of[KEYS], unused[FRAMES], dying[FRAMES];
+static uint64_t *blocks[FRAMES];
+static size_t unused_count, dying_count;
+
+static void reap(void) {
+    size_t left = dying_count;
+    uint32_t answer = ksm_reap_all(&table, dying, &left);
+    if (answer != KSM_USED)
+        must(answer, "ksm_reap_all");
+    for (; dying_count > left; dying_count--) {
+        uint32_t frame = dying[dying_count - 1];
+        free(blocks[frame]);
+        unused[unused_count++] = frame;
+    }
+}
+
+static void put(uint32_t key, uint64_t version) {
+    while (unused_count == 0)
+        reap();
+    uint32_t frame = unused[--unused_count];
+    blocks[frame] = block_of(key, version);
+    must(ksm_raise(&table, frame), "ksm_raise");
+    must(ksm_put(&table, frame, 0, (uint64_t)(uintptr_t)blocks[frame]), "ksm_put");
+    must(ksm_open_frame(&table, frame), "ksm_open_frame");
+    if (version > 0) {
+        must(ksm_sub(&table, frame_of[key]), "ksm_sub");
+        dying[dying_count++] = frame_of[key];
+    }
+    must(ksm_publish(&table, key, frame), "ksm_publish");
+    frame_of[key] = frame;
+    atomic_store(&written[key], version);
+}
+
+int main(int argc, char **argv) {
+    time_t seconds = argc > 1 ? atoi(argv[1]) : 5;
+    int readers = argc > 2 ? atoi(argv[2]) : 7;
+    reader found[MOST_READERS] = {{0}}, all = {0};
+    pthread_t threads[MOST_READERS];
+    uint64_t writes = 0;
+    if (readers < 1 || readers > MOST_READERS)
+        return 2;
+    must(ksm_table_open(&table, 1, FRAMES, (uint32_t)readers, (uint64_t)1 << 40, 64), "ksm_table_open");
+    for (uint32_t frame = 0; frame < FRAMES; frame++)
+        unused[unused_count++] = frame;
+    for (uint32_t key = 0; key < KEYS; key++)
+        put(key, 0);
+    for (int i = 0; i < readers; i++)
+        if (pthread_create(&threads[i], NULL, read_blocks, &found[i]))
+            exit(1);
+    for (time_t end = time(NULL) + seconds; time(NULL) < end;)
+        for (uint32_t key = 0; key < KEYS; key++, writes++)
+            put(key, atomic_load(&written[key]) + 1);
+    atomic_store(&done, 1);
+    for (int i = 0; i < readers; i++) {
+        pthread_join(threads[i], NULL);
+        all.reads += found[i].reads;
+        all.gone += found[i].gone;
+        all.wrong += found[i].wrong;
+    }
+    reap();
+    for (uint32_t key = 0; key < KEYS; key++) {
+        must(ksm_freeze(&table, frame_of[key]), "ksm_freeze at the end");
+        free(blocks[frame_of[key]]);
+    }
+    must(ksm_table_close(&table), "ksm_table_close");
+    printf("%llu blocks read by %d threads, %llu gone for a moment, %llu replaced, %llu wrong\n", (unsigned long long)all.reads, readers,
+           (unsigned long long)all.gone, (unsigned long long)writes, (unsigned long long)all.wrong);
+    return all.wrong != 0;
+}

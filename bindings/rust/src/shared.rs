@@ -1,0 +1,96 @@
+//! A table or a book in one place, where its keeper and its passes find it.
+
+use crate::error::{Result, done};
+use crate::raw::{self, Handle};
+use alloc::sync::Arc;
+use core::cell::UnsafeCell;
+
+/// The sizes of a table.
+///
+/// ```
+/// use ksmbook::Shape;
+///
+/// let shape = Shape { frames_per_node: 64, ..Shape::default() };
+/// assert_eq!((shape.nodes, shape.passes), (1, 4));
+/// ```
+#[derive(Clone, Copy, Debug, PartialEq, Eq, Hash)]
+pub struct Shape {
+    /// How many nodes, 1 to 4.
+    pub nodes: u32,
+    /// How many frames each node has, 1 to 256; those of node n are numbered from `n * frames_per_node` on.
+    pub frames_per_node: u32,
+    /// How many passes there are, 1 to 16.
+    pub passes: u32,
+    /// How many times a frame is given at most, 1 to 2^40.
+    pub last_generation: u64,
+    /// How many exchanges a lookup makes at most, 1 to 64.
+    pub tries: u32,
+}
+
+impl Shape {
+    /// One node of 16 frames, with 4 passes.
+    pub const SMALL: Shape = Shape { nodes: 1, frames_per_node: 16, passes: 4, last_generation: 1 << 40, tries: 64 };
+}
+
+impl Default for Shape {
+    /// [`Shape::SMALL`].
+    fn default() -> Shape {
+        Shape::SMALL
+    }
+}
+
+/// A table that is open. It is closed when its keeper and all of its passes are gone.
+#[derive(Debug)]
+pub(crate) struct Shared {
+    handle: UnsafeCell<Handle>,
+}
+
+// SAFETY: the archive's handles may go to other threads. Of calls with this one at the same time the library allows what this crate makes: one of
+// the keeper, whose type is there once and asks for `&mut`, beside any number that open and close passes.
+unsafe impl Send for Shared {}
+// SAFETY: the same.
+unsafe impl Sync for Shared {}
+
+type Open = unsafe extern "C" fn(*mut Handle, u32, u32, u32, u64, u32) -> u32;
+
+impl Shared {
+    /// Opens a table or a book by its call.
+    pub fn open(call: Open, shape: Shape) -> Result<Arc<Shared>> {
+        let shared = Arc::new(Shared { handle: UnsafeCell::new(Handle::NONE) });
+        let Shape { nodes, frames_per_node, passes, last_generation, tries } = shape;
+        // SAFETY: the handle is closed, lies still, and nobody else has it.
+        done(unsafe { call(shared.handle(), nodes, frames_per_node, passes, last_generation, tries) })?;
+        Ok(shared)
+    }
+
+    /// Where the handle lies.
+    pub fn handle(&self) -> *mut Handle {
+        self.handle.get()
+    }
+
+    /// Takes a pass out.
+    pub fn pass(&self, pass: &mut Handle) -> Result<()> {
+        // SAFETY: any thread may, and the pass is the caller's.
+        done(unsafe { raw::ksm_pass_open(self.handle(), pass) })
+    }
+
+    /// Closes what is open, for the keeper, if all passes are back.
+    pub fn close(&self) -> Result<()> {
+        // SAFETY: the keeper calls, or nobody else has it.
+        done(unsafe { raw::ksm_table_close(self.handle()) })
+    }
+}
+
+impl Drop for Shared {
+    // Each pass has a part of this, so all are back. It is not open where it was closed before, or did not open.
+    fn drop(&mut self) {
+        // SAFETY: nobody else has it.
+        let _ = unsafe { raw::ksm_table_close(self.handle.get_mut()) };
+    }
+}
+
+impl core::fmt::Debug for Handle {
+    fn fmt(&self, f: &mut core::fmt::Formatter<'_>) -> core::fmt::Result {
+        f.write_str("Handle")
+    }
+}
