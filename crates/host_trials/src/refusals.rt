@@ -132,9 +132,6 @@ fn words_stand_behind_a_reply_that_is_sent(rt: HostRuntime) {
         };
         assert_eq!(rt; outcome.status(), end, "{room}");
         assert_eq!(rt; printed.as_slice(), &wanted.as_bytes()[..room], "{room}");
-        assert!(rt;
-            said.as_str().strip_prefix(why) == Some(last),
-            "{room}"
-        );
+        assert!(rt; said.as_str().strip_prefix(why) == Some(last), "{room}");
     }
 }

@@ -128,12 +128,14 @@ impl Pages {
         let _ = self.rows.restless_len();
     }
 
+    /// The shape of the table on whose frames the pages lie.
     pub fn shape(&self) -> Shape
         ensures { result ≡ self.now.shape }
     {
         self.shape
     }
 
+    /// The knobs, as they were set last.
     pub fn knobs(&self) -> Knobs
         ensures { result ≡ self.now.knobs }
     {

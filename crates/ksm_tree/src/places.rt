@@ -39,6 +39,7 @@ impl Places {
         })
     }
 
+    /// Whether no place is there.
     pub fn is_empty(&self) -> bool
         ensures { result ≡ (length self.now.list.items == 0) }
     {
