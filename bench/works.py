@@ -69,11 +69,16 @@ WORKS = {
 JOURNAL = "journal"
 
 
+# The C library picks its functions on memory by the processor; with these all processors count alike.
+PLAIN_LIBRARY = {"GLIBC_TUNABLES": "glibc.cpu.hwcaps=-AVX2,-AVX,-AVX512F,-AVX512VL,-ERMS,-FSRM,-SSSE3,-SSE4_1,-SSE4_2,-BMI2,-LZCNT"}
+
+
 def counted(program, options, script):
     """The instructions that a run takes, or none where the program doesn't read the script to its end."""
     words = ["valgrind", "--tool=callgrind", "--callgrind-out-file=/dev/null", program, *options]
     with open(script, "rb") as lines:
-        run = subprocess.run(words, stdin=lines, stdout=subprocess.DEVNULL, stderr=subprocess.PIPE, check=False)
+        run = subprocess.run(words, stdin=lines, stdout=subprocess.DEVNULL, stderr=subprocess.PIPE, check=False,
+                             env={**os.environ, **PLAIN_LIBRARY})
     if run.returncode:
         raise SystemExit(f"{program}: ended with status {run.returncode}")
     (told,) = [line for line in run.stderr.decode().splitlines() if "Collected" in line]
