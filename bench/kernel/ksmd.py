@@ -165,7 +165,7 @@ class Ksmd:
         self.dups.remove(dup)
 
     def leave(self, item):
-        """An item is listed from its dup no longer. From 7.0 on what is known of its page is lost: these fields have
+        """An item is listed from its dup no longer. From 7.3 on what is known of its page is lost: these fields have
         another number meanwhile."""
         item.dup.items.remove(item)
         item.dup = None
@@ -287,14 +287,14 @@ class Ksmd:
         node.value.add(dup)
 
     def insert(self, page):
-        """stable_tree_insert: a new dup, on the page's frame."""
+        """stable_tree_insert: a new dup, on the page's frame. ksmbook has so many places: else a stale dup goes."""
         free = set(range(PLACES)) - {dup.place for dup in self.dups}
-        if not free:
+        if not free and not self.linux("stale-dropped"):
             self.take_down(min((dup for dup in self.dups if not dup.frame.mapped), key=lambda dup: dup.place))
             return self.insert(page)
         tree = self.tree_of(page.frame)
         node, place = self.find(tree, page.content, False)
-        page.frame.dup = Dup(page.frame, page.content, tree, self.made, min(free))
+        page.frame.dup = Dup(page.frame, page.content, tree, self.made, min(free, default=PLACES))
         self.made += 1
         self.dups.append(page.frame.dup)
         self.link(page.frame.dup, tree, node, place)
@@ -386,7 +386,7 @@ class Ksmd:
         self.unstable[tree].link(item.waits[0], *place)
 
     def is_done_early(self, item):
-        """What comes before the search of the stable tree since 6.4, for a page that is not merged."""
+        """What 6.12 and later do before they search the stable tree, for a page that is not merged."""
         if self.linux("changed-first"):
             self.take_off(item)
             if self.has_changed(item):
@@ -395,7 +395,7 @@ class Ksmd:
         return self.linux("zero-first") and is_unchanged and self.becomes_zero(item)
 
     def is_done_late(self, item, own):
-        """What comes behind it, before 6.4 and in ksmbook."""
+        """What 6.1 and ksmbook do behind it."""
         is_late = self.is_61 or not own
         if is_late and not self.linux("changed-first") and self.has_changed(item):
             return True
