@@ -49,7 +49,8 @@ class Figures:
 def missed(copies: int, first: float) -> float:
     """For a content of so many copies that was taken for sure, how many of its kind were not, since the blocks that
     were read first had too few of them."""
-    chance = sum(math.comb(copies, times) * first ** times * (1 - first) ** (copies - times) for times in range(SURE))
+    chance = sum(math.comb(copies, times) * first ** times * (1 - first) ** (copies - times)
+                 for times in range(min(SURE, copies + 1)))
     return min(chance, MOST_MISSED) / (1 - min(chance, MOST_MISSED))
 
 

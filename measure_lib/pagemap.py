@@ -5,6 +5,7 @@ where several do since a fork, `k` where KSM merged it, `z` where it is the kern
 none of these. Only root is told frames, and so sees `k` and `z`; others see `2` in their place.
 """
 
+import contextlib
 import ctypes
 import mmap
 import os
@@ -54,9 +55,10 @@ def frame_at(entries: bytes, at: int) -> int:
     return int.from_bytes(entries[at * ENTRY:(at + 1) * ENTRY], "little") & FRAME
 
 
-def own_frames() -> tuple[int, int]:
-    """The frame of the kernel's page of zeroes, and one of this program's own. 0 where the system does not tell
-    frames."""
+@contextlib.contextmanager
+def own_frames() -> Iterator[tuple[int, int]]:
+    """The frame of the kernel's page of zeroes, and one that is this program's own meanwhile. 0 where the system does
+    not tell frames."""
     with (mmap.mmap(-1, 2 * PAGE, flags=mmap.MAP_PRIVATE | mmap.MAP_ANONYMOUS) as pages,
           open("/proc/self/pagemap", "rb", 0) as pagemap):
         pages.madvise(mmap.MADV_NOHUGEPAGE)
@@ -66,7 +68,7 @@ def own_frames() -> tuple[int, int]:
         number = ctypes.addressof(held) // PAGE
         del held
         entries = entries_of(pagemap.fileno(), number, 2)
-        return frame_at(entries, 0), frame_at(entries, 1)
+        yield frame_at(entries, 0), frame_at(entries, 1)
 
 
 class Frames:
@@ -74,14 +76,14 @@ class Frames:
     nothing. Some kernels, 6.12 among them, call each anonymous page merged, this program's own too."""
 
     def __init__(self):
-        zero, own = own_frames()
-        self.zero = zero or None
-        try:
-            self.flags: int | None = os.open("/proc/kpageflags", os.O_RDONLY) if zero else None
-        except OSError:
-            self.flags = None
         self.known: dict[int, int] = {}
-        self.are_wrong = bool(self.flags_of(own) & IS_KSM)
+        self.flags: int | None = None
+        with own_frames() as (zero, own):
+            self.zero = zero or None
+            with contextlib.suppress(OSError):
+                self.flags = os.open("/proc/kpageflags", os.O_RDONLY) if zero else None
+            self.are_wrong = bool(self.flags_of(own) & IS_KSM)
+        self.known.clear()
 
     @property
     def are_told(self) -> bool:
