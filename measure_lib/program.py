@@ -92,8 +92,10 @@ def can_be_written(path: str | None) -> None:
 
 
 def measure(options: argparse.Namespace) -> Report:
-    """Measures, and tells."""
+    """Measures, and tells. An interruption ends a series, and what was read then is not told."""
     report, look = look_for(options)
+    if options.every and look.is_interrupted:
+        raise KeyboardInterrupt
     report.checked = check(report, look, options)
     look.close()
     if options.log:

@@ -47,6 +47,7 @@ class Sampler:
         self.layout = struct.Struct(layout_of_keys())
         self.view = memoryview(bytearray(MEGABYTE))
         self.empty = bytes(PAGE)
+        self.zeroes = digest(self.empty)
         self.empty_key = self.digest(bytes(PIECES * PIECE))
         self.first = FIRST
         self.sure_keys: set[int] = set()
@@ -79,11 +80,13 @@ class Sampler:
         found = []
         for at in places:
             page = bytes(self.view[at * PAGE:(at + 1) * PAGE])
+            if page == self.empty:
+                found.append((at, self.zeroes))
+                continue
             digest = self.digest(page)
-            if keys[at] == empty_key:
-                if page != self.empty and digest & mask >= bound:
-                    continue
-            elif keys[at] in sure:
+            if keys[at] == empty_key and digest & mask >= bound:
+                continue
+            if keys[at] in sure:
                 self.sure.add(digest)
             found.append((at, digest))
         return found
