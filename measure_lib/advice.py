@@ -59,8 +59,9 @@ def speed(report: Report) -> str:
     whose = "as ksmd took on this machine so far" if is_own else "as measured elsewhere (see the document)"
     told = f"{as_time(busy)} of a processor, {each * 1e6:.1f} millionths of a second a page, {whose}"
     if pages_to_scan(report) is None:
-        return f"Going over all of it twice takes ksmd {told}: more than ten minutes have."
-    return f"Going over all of it twice in ten minutes takes ksmd {told}. It goes on at this pace."
+        return f"Going over the memory of these processes twice takes ksmd {told}: more than ten minutes have."
+    return (f"Going over the memory of these processes twice in ten minutes takes ksmd {told}. It goes on at this pace; "
+            "what else is marked comes on top.")
 
 
 def knobs(report: Report) -> list[tuple[str, int, str]]:

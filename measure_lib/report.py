@@ -159,7 +159,9 @@ def report_of(look: Look, kernel: Kernel, refused: int, effort: Effort, rows: in
     for owner in alive:
         left_out.add(look.seen[owner].space.left_out)
     for owner in alive:
-        look.seen[owner].pages += look.zeroed.get(owner, 0) - round(figures.census.again[owner])
+        seen, zeroed = look.seen[owner], look.zeroed.get(owner, 0)
+        seen.pages += zeroed - round(figures.census.again[owner])
+        seen.space.marked += zeroed
     by_node = on_nodes(figures.census, now.max_page_sharing) if len(kernel.nodes) > 1 else {}
     return Report(kernel, look.only_marked, look.seen, refused, left_out, nodes_from(look), look.frames.are_told,
                   look.are_zeroes_told(), figures, by_node, look.zeroes("split").total(), shown, effort, Checked(),
