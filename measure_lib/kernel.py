@@ -43,8 +43,8 @@ def number_in(name: str) -> int | None:
 
 
 def has_run() -> bool:
-    """Tells whether KSM runs, or has anything merged."""
-    return number_in("run") == 1 or bool(number_in("pages_shared"))
+    """Tells whether KSM runs, or ran since the machine was started."""
+    return number_in("run") == 1 or bool(number_in("full_scans"))
 
 
 def advisor() -> str:
