@@ -84,11 +84,23 @@ def forget() -> None:
     write("run", 0)
 
 
+def marked() -> list[str]:
+    """The processes that have memory marked for KSM, as far as the kernel tells (Linux 6.15)."""
+    found = []
+    for entry in filter(str.isdecimal, os.listdir("/proc")):
+        with contextlib.suppress(OSError), open(f"/proc/{entry}/ksm_stat", encoding="ascii") as stat:
+            if "ksm_mergeable: yes" in stat.read():
+                found.append(entry)
+    return found
+
+
 @contextlib.contextmanager
 def as_it_was() -> Iterator[None]:
-    """All knobs are at the end what they were; nothing may be merged before."""
+    """All knobs are at the end what they were; nothing may be merged before, or marked for it."""
     if read("run") != 0 or read("pages_shared"):
         raise OSError("KSM runs on this machine, or has something merged")
+    if others := marked():
+        raise OSError(f"memory is marked for KSM already, of process {', '.join(others)}: it would be merged, too")
     before = {name: read(name) for name in (*FAST, "max_page_sharing", "use_zero_pages", "merge_across_nodes")}
     try:
         yield
