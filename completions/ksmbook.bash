@@ -22,7 +22,7 @@ _ksmbook() {
         given=" ${COMP_WORDS[*]} "
         [[ $given == *" $option "* || $given == *" $option="* ]] || options+="$option "
     done
-    mapfile -t COMPREPLY < <(compgen -W "$options --help" -- "$word")
+    mapfile -t COMPREPLY < <(compgen -W "$options --help --version" -- "$word")
 }
 
 complete -F _ksmbook ksmbook

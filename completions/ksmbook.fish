@@ -2,6 +2,7 @@
 
 complete -c ksmbook -f
 complete -c ksmbook -l help -d 'How the program is called'
+complete -c ksmbook -l version -d 'The version of the program'
 complete -c ksmbook -l nodes -x -a '1 2 3 4' -d 'NUMA nodes'
 complete -c ksmbook -l frames -x -d 'Frames of each node, 1 to 256'
 complete -c ksmbook -l passes -x -a '(seq 16)' -d 'Passes, by which frames are looked up'
