@@ -146,7 +146,7 @@ def shared_package(build, commit, work, output):
     documents(build, commit, root, package)
     fields = f"Depends: libc6 (>= {needed(BUILT / f'libksmbook.so.{version}')})\nSection: libs\n"
     build.put(root / "DEBIAN" / "control", control(commit, root, package, fields, SHARED_DESCRIPTION).encode())
-    build.put(root / "DEBIAN" / "shlibs", f"libksmbook {major} {package} (>= {version})\n".encode())
+    build.put(root / "DEBIAN" / "shlibs", f"libksmbook {major} {package} (>= {version}~)\n".encode())
     build.put(root / "DEBIAN" / "triggers", b"activate-noawait ldconfig\n")
     return build.pack_deb(commit, root, output / f"{package}_{commit.version}_amd64.deb")
 
