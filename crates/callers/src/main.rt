@@ -1,4 +1,4 @@
-//! Two callers with one book, each in a thread of its own: an example for programs in Rattle (`docs/LIBRARY.md`).
+//! Two callers with one book, each in a thread of its own: an example for programs in Rattle (the crate's README).
 //!
 //! Each registers eight pages, all of which read the same. One of them then has them merged, looks the merged frame up, and asks for the
 //! counters; neither of these two takes the lock. What it prints is the same in every schedule.
