@@ -16,6 +16,11 @@ class Speeds:
     head: str
     works: dict
 
+    @property
+    def commit(self):
+        """The commit whose program was measured."""
+        return self.head.split()[3]
+
     def line(self, line):
         """A line of the page with the figures that were measured, if it is the row of a work."""
         cells = [cell.strip() for cell in line.strip().strip("|").split("|")]
@@ -39,9 +44,8 @@ class Speeds:
         for name in self.works:
             if not any(line.startswith(f"| `{name}` |") for line in lines):
                 yield f"docs/SPEED.md: {name} of bench/speed.txt has no row"
-        commit = self.head.split()[3]
-        if commit not in page:
-            yield f"docs/SPEED.md: commit {commit} of bench/speed.txt is not named"
+        if self.commit not in page:
+            yield f"docs/SPEED.md: commit {self.commit} of bench/speed.txt is not named"
 
 
 def read():
