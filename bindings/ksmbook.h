@@ -71,6 +71,14 @@ typedef struct ksm_pass { void *at, *none; uint32_t lock, unused; } ksm_pass;
 /* How many words a page has. */
 #define KSM_PAGE_WORDS 8
 
+/* The limits of a table, and how many references of its keeper a frame has at most. */
+#define KSM_MOST_NODES 4
+#define KSM_MOST_FRAMES_PER_NODE 256
+#define KSM_MOST_PASSES 16
+#define KSM_MOST_LIVES ((uint64_t)1 << 40)
+#define KSM_MOST_TRIES 64
+#define KSM_MOST_REFERENCES 1024
+
 /* What a call answers. Below 10 it did what it was called for. */
 enum {
     KSM_DONE = 0,        /* done; of a lookup: a frame is held */
@@ -123,8 +131,8 @@ enum {
 /*
  * Opening and closing.
  *
- * ksm_table_open opens a table of nodes (1 to 4) times frames_per_node (1 to 256) frames, all FREE, and as many places, all empty; with so many
- * passes (1 to 16); a frame is given last_generation times at most (1 to 2^40), and a lookup makes at most `tries` exchanges (1 to 64).
+ * ksm_table_open opens a table of nodes times frames_per_node frames, all FREE, and as many places, all empty; with so many passes; a frame is
+ * given last_generation times at most, and a lookup makes at most `tries` exchanges. Each is 1 to its KSM_MOST_ above.
  * The table gets a number that no table of this process had before, by which it tells its passes. KSM_DONE, KSM_OPEN, KSM_SHAPE, KSM_MEMORY.
  * ksm_table_close frees it where every pass that was taken out is back, and answers KSM_PASSES_OUT where one is not: a pass is back only by
  * ksm_pass_close, so one that holds a frame, or was lost, keeps its table open. KSM_DONE, KSM_CLOSED, KSM_KIND, KSM_PASSES_OUT.
@@ -166,7 +174,7 @@ KSM_CALL ksm_open_frame(ksm_table *table, uint32_t frame);                      
 KSM_CALL ksm_publish(ksm_table *table, uint32_t place, uint32_t frame);           /* PRIVATE: STABLE then. Not where the place names a
                                                                                      frame that is STABLE in the life named */
 KSM_CALL ksm_withdraw(ksm_table *table, uint32_t place);                          /* empties the place; not where it names such a frame */
-KSM_CALL ksm_add(ksm_table *table, uint32_t frame);                               /* 1 to 1,023 references of the keeper: one more */
+KSM_CALL ksm_add(ksm_table *table, uint32_t frame);                               /* from 1 to KSM_MOST_REFERENCES - 1 of the keeper: one more */
 KSM_CALL ksm_sub(ksm_table *table, uint32_t frame);                               /* from 1 on: one less; with the last, DYING then */
 KSM_CALL ksm_freeze(ksm_table *table, uint32_t frame);                            /* STABLE: all of the keeper's back, and DYING then, if no
                                                                                      reader has one; else KSM_USED */
@@ -195,7 +203,7 @@ enum {
     KSM_SET_RUN = 10,           /* value: 0 to 2 */
     KSM_SET_PAGES_TO_SCAN = 11, /* value: 1 to 1,000,000 */
     KSM_SET_ACROSS = 12,        /* value: merge_across_nodes, 0 or 1 */
-    KSM_SET_LIMIT = 13,         /* value: max_page_sharing, 2 to 1,024 */
+    KSM_SET_LIMIT = 13,         /* value: max_page_sharing, 2 to KSM_MOST_REFERENCES */
     KSM_SET_ZERO_PAGES = 14     /* value: use_zero_pages, 0 or 1 */
 };
 

@@ -1,7 +1,7 @@
 /*
  * Blocks of 4 KiB outside the table, to which a word of a frame points: blocks [SECONDS [READERS]].
  *
- * One keeper replaces blocks for SECONDS (5), while READERS (7, at most 15) read them; each reader opens its own pass. A block is freed once the
+ * One keeper replaces blocks for SECONDS (5), while READERS (7, fewer than KSM_MOST_PASSES) read them; each reader opens its own pass. A block is freed once the
  * frame that pointed to it is reaped, which comes after every read of it: AddressSanitizer and memcheck would see a read behind that. Ends with 1
  * if a block was not as it was written, or older than a version that the reader knew of.
  */
@@ -16,7 +16,7 @@
 #define KEYS 32
 #define FRAMES 64
 #define WORDS 512
-#define MOST_READERS 15
+#define MOST_READERS (KSM_MOST_PASSES - 1)
 
 static ksm_table table; /* all zero: not open */
 static atomic_int done;
@@ -112,7 +112,7 @@ int main(int argc, char **argv) {
     uint64_t writes = 0;
     if (readers < 1 || readers > MOST_READERS)
         return 2;
-    must(ksm_table_open(&table, 1, FRAMES, (uint32_t)readers, (uint64_t)1 << 40, 64), "ksm_table_open");
+    must(ksm_table_open(&table, 1, FRAMES, (uint32_t)readers, KSM_MOST_LIVES, KSM_MOST_TRIES), "ksm_table_open");
     for (uint32_t frame = 0; frame < FRAMES; frame++)
         unused[unused_count++] = frame;
     for (uint32_t key = 0; key < KEYS; key++)

@@ -89,7 +89,7 @@ static void at_random(uint64_t rounds) {
     ksm_table book = KSM_TABLE_NONE;
     ksm_made made;
     uint64_t seed = 1;
-    ANSWERS(KSM_DONE, ksm_book_open(&book, 2, 64, 1, (uint64_t)1 << 40, 64));
+    ANSWERS(KSM_DONE, ksm_book_open(&book, 2, 64, 1, KSM_MOST_LIVES, KSM_MOST_TRIES));
     ANSWERS(KSM_DONE, apply(&book, valued(KSM_SET_RUN, 1, 0), &made));
     for (uint64_t round = 0; round < rounds; round++) {
         uint16_t guest = drawn(&seed) % GUESTS;

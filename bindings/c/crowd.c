@@ -117,7 +117,7 @@ int main(int argc, char **argv) {
     int at[PLACES];
     uint64_t moves = 0, frozen = 0, wrong = 0, found[KSM_USED + 1] = {0};
 
-    must(ksm_table_open(&table, 4, FRAMES / 4, READERS, (uint64_t)1 << 40, 64), "ksm_table_open");
+    must(ksm_table_open(&table, 4, FRAMES / 4, READERS, KSM_MOST_LIVES, KSM_MOST_TRIES), "ksm_table_open");
     for (uint32_t place = 0; place < PLACES; place++)
         at[place] = -1;
     for (int i = 0; i < READERS; i++) {

@@ -112,14 +112,14 @@ static ksm_pass *some_pass(pass **of, uint32_t *refused) {
 
 static void open_table(void) {
     table *t = &tables[drawn(TABLES)];
-    uint32_t nodes = drawn(12) == 0 ? 5 : 1 + drawn(2), frames = drawn(12) == 0 ? 0 : 1 + drawn(3), count = drawn(12) == 0 ? 17 : 1 + drawn(3);
-    uint32_t tries = drawn(12) == 0 ? 65 : 1;
+    uint32_t nodes = drawn(12) == 0 ? KSM_MOST_NODES + 1 : 1 + drawn(2), frames = drawn(12) == 0 ? 0 : 1 + drawn(3), count = drawn(12) == 0 ? KSM_MOST_PASSES + 1 : 1 + drawn(3);
+    uint32_t tries = drawn(12) == 0 ? KSM_MOST_TRIES + 1 : 1;
     uint64_t lives = drawn(12) == 0 ? 0 : LIVES;
     if (drawn(20) == 0) {
         is(ksm_table_open(NULL, nodes, frames, count, lives, tries), KSM_NULL, "ksm_table_open");
         return;
     }
-    uint32_t wanted = t->open ? KSM_OPEN : nodes > 4 || frames == 0 || count > 16 || tries > 64 || lives == 0 ? KSM_SHAPE : KSM_DONE;
+    uint32_t wanted = t->open ? KSM_OPEN : nodes > KSM_MOST_NODES || frames == 0 || count > KSM_MOST_PASSES || tries > KSM_MOST_TRIES || lives == 0 ? KSM_SHAPE : KSM_DONE;
     is(ksm_table_open(&t->handle, nodes, frames, count, lives, tries), wanted, "ksm_table_open");
     if (wanted == KSM_DONE) {
         ksm_table handle = t->handle;
@@ -253,7 +253,7 @@ static void keep(void) {
             t->places[at].named = 0;
         break;
     case 5:
-        wanted = !is_frame ? KSM_RANGE : x->own < 1 || x->own > 1023 ? KSM_STATE : KSM_DONE;
+        wanted = !is_frame ? KSM_RANGE : x->own < 1 || x->own >= KSM_MOST_REFERENCES ? KSM_STATE : KSM_DONE;
         is(ksm_add(handle, f), refused ? refused : wanted, "ksm_add");
         if (!refused && wanted == KSM_DONE)
             x->own++;
@@ -480,7 +480,7 @@ static void of_book(void) {
 static void open_the_book(void) {
     book = KSM_TABLE_NONE;
     is(ksm_book_open(&book, 1, 0, 1, 1, 1), KSM_SHAPE, "ksm_book_open");
-    is(ksm_book_open(&book, 1, 8, 1, (uint64_t)1 << 40, 1), KSM_DONE, "ksm_book_open");
+    is(ksm_book_open(&book, 1, 8, 1, KSM_MOST_LIVES, 1), KSM_DONE, "ksm_book_open");
     for (uint32_t page = 0; page < 4; page++) {
         ksm_command command = {0};
         ksm_made made;

@@ -173,14 +173,14 @@ static void closed_and_kinds(void) {
 static void shapes_and_memory(void) {
     ksm_table table = KSM_TABLE_NONE;
     ksm_pass pass = KSM_PASS_NONE;
-    uint64_t lives = (uint64_t)1 << 40;
+    uint64_t lives = KSM_MOST_LIVES;
     ANSWERS(KSM_SHAPE, ksm_table_open(&table, 0, 1, 1, 1, 1));
-    ANSWERS(KSM_SHAPE, ksm_table_open(&table, 5, 1, 1, 1, 1));
-    ANSWERS(KSM_SHAPE, ksm_table_open(&table, 1, 257, 1, 1, 1));
-    ANSWERS(KSM_SHAPE, ksm_table_open(&table, 1, 1, 17, 1, 1));
+    ANSWERS(KSM_SHAPE, ksm_table_open(&table, KSM_MOST_NODES + 1, 1, 1, 1, 1));
+    ANSWERS(KSM_SHAPE, ksm_table_open(&table, 1, KSM_MOST_FRAMES_PER_NODE + 1, 1, 1, 1));
+    ANSWERS(KSM_SHAPE, ksm_table_open(&table, 1, 1, KSM_MOST_PASSES + 1, 1, 1));
     ANSWERS(KSM_SHAPE, ksm_table_open(&table, 1, 1, 1, lives + 1, 1));
-    ANSWERS(KSM_SHAPE, ksm_table_open(&table, 1, 1, 1, 1, 65));
-    ANSWERS(KSM_DONE, ksm_table_open(&table, 4, 256, 16, lives, 64));
+    ANSWERS(KSM_SHAPE, ksm_table_open(&table, 1, 1, 1, 1, KSM_MOST_TRIES + 1));
+    ANSWERS(KSM_DONE, ksm_table_open(&table, KSM_MOST_NODES, KSM_MOST_FRAMES_PER_NODE, KSM_MOST_PASSES, lives, KSM_MOST_TRIES));
     ANSWERS(KSM_DONE, ksm_table_close(&table));
 
     /* Each allocation of an opening refused in turn. */
@@ -308,7 +308,7 @@ static void lives_and_lookups(void) {
     if (memcmp(words, PAGE, sizeof words))
         answers(99, 0, "the words that were looked up");
     ANSWERS(KSM_IDLE, ksm_leave(&pass));
-    for (int i = 1; i < 1024; i++)
+    for (int i = 1; i < KSM_MOST_REFERENCES; i++)
         ANSWERS(KSM_DONE, ksm_add(&table, 0));
     ANSWERS(KSM_STATE, ksm_add(&table, 0));
     ANSWERS(KSM_DONE, ksm_freeze(&table, 0));

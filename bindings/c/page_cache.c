@@ -109,7 +109,7 @@ int main(int argc, char **argv) {
     uint64_t writes = argc > 1 ? strtoull(argv[1], NULL, 10) : 200000, found = 0, wrong = 0;
     reader readers[READERS] = {0};
     pthread_t threads[READERS];
-    must(ksm_table_open(&table, 1, FRAMES, READERS, (uint64_t)1 << 40, 64), "ksm_table_open");
+    must(ksm_table_open(&table, 1, FRAMES, READERS, KSM_MOST_LIVES, KSM_MOST_TRIES), "ksm_table_open");
     for (uint32_t frame = 0; frame < FRAMES; frame++)
         unused[unused_count++] = frame;
     for (uint32_t key = 0; key < KEYS; key++) {

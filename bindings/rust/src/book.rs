@@ -49,7 +49,7 @@ pub enum Command {
     SetPagesToScan(u32),
     /// `merge_across_nodes`, 0 or 1. [`Error::BadValue`], [`Error::SharedPages`].
     SetAcross(u32),
-    /// `max_page_sharing`, 2 to 1,024. [`Error::BadValue`], [`Error::SharedPages`].
+    /// `max_page_sharing`, 2 to [`Shape::MOST_REFERENCES`](crate::Shape::MOST_REFERENCES). [`Error::BadValue`], [`Error::SharedPages`].
     SetLimit(u32),
     /// `use_zero_pages`, 0 or 1. [`Error::BadValue`].
     SetZeroPages(u32),

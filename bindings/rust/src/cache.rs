@@ -15,8 +15,8 @@ use core::ptr::NonNull;
 use core::sync::atomic::{AtomicU8, Ordering};
 use std::sync::{Mutex, MutexGuard, PoisonError};
 
-/// The most keys that a cache has: a key takes two of the 1,024 places.
-const MOST_KEYS: u32 = 512;
+/// The most keys that a cache has: a key takes two places of the largest table.
+const MOST_KEYS: u32 = Shape::MOST_NODES * Shape::MOST_FRAMES_PER_NODE / 2;
 /// Where a key's value is: at neither of its places.
 const NOWHERE: u8 = 2;
 
@@ -121,7 +121,8 @@ fn page_of<T>(block: NonNull<T>) -> Page {
 }
 
 impl<T: Send + Sync> Cache<T> {
-    /// Opens a cache for keys below `keys` (1 to 512), without values, for as many readers at a time (1 to 16).
+    /// Opens a cache for keys below `keys` (1 to half of the largest table's frames), without values, for as many readers
+    /// at a time (1 to [`Shape::MOST_PASSES`]).
     ///
     /// # Errors
     ///
@@ -131,7 +132,7 @@ impl<T: Send + Sync> Cache<T> {
             return Err(Error::Shape);
         }
         let places = 2 * keys;
-        let nodes = (places + 255) / 256;
+        let nodes = (places + Shape::MOST_FRAMES_PER_NODE - 1) / Shape::MOST_FRAMES_PER_NODE;
         let frames_per_node = (places + nodes - 1) / nodes;
         let table = Table::open(Shape { nodes, frames_per_node, passes: readers, ..Shape::SMALL })?;
         let frames = nodes * frames_per_node;

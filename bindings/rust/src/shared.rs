@@ -15,21 +15,41 @@ use core::cell::UnsafeCell;
 /// ```
 #[derive(Clone, Copy, Debug, PartialEq, Eq, Hash)]
 pub struct Shape {
-    /// How many nodes, 1 to 4.
+    /// How many nodes, 1 to [`Shape::MOST_NODES`].
     pub nodes: u32,
-    /// How many frames each node has, 1 to 256; those of node n are numbered from `n * frames_per_node` on.
+    /// How many frames each node has, 1 to [`Shape::MOST_FRAMES_PER_NODE`]; those of node n are numbered from
+    /// `n * frames_per_node` on.
     pub frames_per_node: u32,
-    /// How many passes there are, 1 to 16.
+    /// How many passes there are, 1 to [`Shape::MOST_PASSES`].
     pub passes: u32,
-    /// How many times a frame is given at most, 1 to 2^40.
+    /// How many times a frame is given at most, 1 to [`Shape::MOST_LIVES`].
     pub last_generation: u64,
-    /// How many exchanges a lookup makes at most, 1 to 64.
+    /// How many exchanges a lookup makes at most, 1 to [`Shape::MOST_TRIES`].
     pub tries: u32,
 }
 
 impl Shape {
+    /// How many nodes a table has at most.
+    pub const MOST_NODES: u32 = 4;
+    /// How many frames a node has at most.
+    pub const MOST_FRAMES_PER_NODE: u32 = 256;
+    /// How many passes a table has at most.
+    pub const MOST_PASSES: u32 = 16;
+    /// How many times a frame is given at most.
+    pub const MOST_LIVES: u64 = 1 << 40;
+    /// How many exchanges a lookup makes at most.
+    pub const MOST_TRIES: u32 = 64;
+    /// How many references on one frame are the keeper's at most, and so how many pages are merged into one.
+    pub const MOST_REFERENCES: u32 = 1024;
+
     /// One node of 16 frames, with 4 passes.
-    pub const SMALL: Shape = Shape { nodes: 1, frames_per_node: 16, passes: 4, last_generation: 1 << 40, tries: 64 };
+    pub const SMALL: Shape = Shape {
+        nodes: 1,
+        frames_per_node: 16,
+        passes: 4,
+        last_generation: Shape::MOST_LIVES,
+        tries: Shape::MOST_TRIES,
+    };
 }
 
 impl Default for Shape {

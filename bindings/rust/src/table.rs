@@ -162,7 +162,7 @@ impl Table {
         done(unsafe { raw::ksm_withdraw(self.shared.handle(), place) })
     }
 
-    /// Takes one reference more on a frame on which the keeper has 1 to 1,023.
+    /// Takes one reference more on a frame on which the keeper has one, and fewer than [`Shape::MOST_REFERENCES`].
     ///
     /// # Errors
     ///

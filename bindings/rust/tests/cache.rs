@@ -1,6 +1,6 @@
 //! A cache of values of any size.
 
-use ksmbook::{Cache, Error};
+use ksmbook::{Cache, Error, Shape};
 use std::sync::Arc;
 use std::sync::atomic::{AtomicBool, AtomicUsize, Ordering};
 
@@ -61,14 +61,15 @@ fn what_is_refused() {
 
 #[test]
 fn the_largest_cache() {
-    let cache = Cache::open(512, 16).unwrap();
+    let keys = Shape::MOST_NODES * Shape::MOST_FRAMES_PER_NODE / 2;
+    let cache = Cache::open(keys, Shape::MOST_PASSES).unwrap();
     let mut reader = cache.reader().unwrap();
     for round in 0..3u32 {
-        for key in 0..512 {
+        for key in 0..keys {
             cache.put(key, round * 1000 + key).unwrap();
         }
     }
-    for key in 0..512 {
+    for key in 0..keys {
         assert_eq!(*reader.get(key).unwrap().unwrap(), 2000 + key);
     }
 }

@@ -8,13 +8,14 @@ use Rattle.std.proofs.lemmas.Slice.Eq.{bytes_eq-Decides}
 use Rattle.clap.specs.Matches.{ReadsOne}
 use Rattle.clap.specs.Values.{IsUnsignedIn}
 use Rattle.clap.specs.Walk.{Text}
+use Rattle.ksm_base.specs.declared.limits.TheConstants.{MOST_FRAMES_PER_NODE, MOST_LIVES, MOST_NODES, MOST_PASSES, MOST_TRIES}
 use Rattle.ksm_options.specs.Settings.{AllFit, Frames, Given, LastGeneration, Nodes, Passes, Setting, Tries, default_of, has, is_of, most_of, name_of, number, or_default, text_of, value_of}
 
 -- ---- a setting by its name
 
 most_named : Text → ℕ
-most_named name = cond (bytes_eq name (name_of Nodes)) 4 (cond (bytes_eq name (name_of Frames)) 256 (cond (bytes_eq name (name_of Passes)) 16
-    (cond (bytes_eq name (name_of Tries)) 64 1099511627776)))
+most_named name = cond (bytes_eq name (name_of Nodes)) MOST_NODES (cond (bytes_eq name (name_of Frames)) MOST_FRAMES_PER_NODE (cond (bytes_eq name (name_of Passes)) MOST_PASSES
+    (cond (bytes_eq name (name_of Tries)) MOST_TRIES MOST_LIVES)))
 
 most_by_name : (s : Setting) → most_named (name_of s) ≡ most_of s
 unfolding most_named
@@ -93,7 +94,7 @@ default_fits Nodes n e = absurd (cc)
 default_fits Frames n e = absurd (cc)
 default_fits Passes n e = let is : 2 ≡ n = cc in (omega arith, omega arith)
 default_fits Tries n e = let is : 8 ≡ n = cc in (omega arith, omega arith)
-default_fits LastGeneration n e = let is : 1099511627776 ≡ n = cc in (omega arith, omega arith)
+default_fits LastGeneration n e = let is : MOST_LIVES ≡ n = cc in (omega arith, omega arith)
 
 -- a value that was given is in the setting's range
 pub value_fits : (s : Setting) (given : List Given) (n : ℕ) → AllFit given → value_of s given ≡ Some n → (1 ≤ n) × (n ≤ most_of s)

@@ -5,10 +5,11 @@ use Rattle.std.proofs.lemmas.Bool.Decides.{nat_tests}
 use Rattle.clap.specs.Values.{IsUnsignedIn}
 use Rattle.clap.specs.Walk.{Text}
 use Rattle.ksm_options.specs.Plain.{AllDecimal, IsDecimal, IsWellFormed, written}
+use Rattle.ksm_base.specs.declared.limits.TheConstants.{MOST_LIVES}
 use Rattle.ksm_options.specs.Settings.{AllFit, Frames, Given, LastGeneration, Nodes, Passes, Setting, Tries, most_of}
 use Rattle.ksm_options.specs.Told.{Gives, Tells, apart, nothing}
 
-most_is_small : (s : Setting) → most_of s ≤ 1099511627776
+most_is_small : (s : Setting) → most_of s ≤ MOST_LIVES
 most_is_small Nodes = omega arith
 most_is_small Frames = omega arith
 most_is_small Passes = omega arith

@@ -5,6 +5,7 @@ use Rattle.std.specs.List.{list_any}
 use Rattle.std.specs.Str.{bytes_eq}
 use Rattle.std.specs.Str.Parse.{digits_value, without_leading_plus}
 use Rattle.clap.specs.Values.{IsUnsignedIn}
+use Rattle.ksm_base.specs.declared.limits.TheConstants.{MOST_FRAMES_PER_NODE, MOST_LIVES, MOST_NODES, MOST_PASSES, MOST_TRIES}
 use Rattle.clap.specs.Words.{Text}
 
 -- ---- a setting
@@ -25,13 +26,13 @@ name_of Passes = codes "passes"
 name_of Tries = codes "tries"
 name_of LastGeneration = codes "last-generation"
 
--- the range of a setting is 1 to this; the last generation is at most 2 ^ 40
+-- the range of a setting is 1 to this
 abbrev pub most_of : Setting → ℕ
-most_of Nodes = 4
-most_of Frames = 256
-most_of Passes = 16
-most_of Tries = 64
-most_of LastGeneration = 1099511627776
+most_of Nodes = MOST_NODES
+most_of Frames = MOST_FRAMES_PER_NODE
+most_of Passes = MOST_PASSES
+most_of Tries = MOST_TRIES
+most_of LastGeneration = MOST_LIVES
 
 -- what a setting is where no word gives it; a setting with none of these has to be given
 abbrev pub default_of : Setting → Option ℕ
@@ -39,7 +40,7 @@ default_of Nodes = None
 default_of Frames = None
 default_of Passes = Some 2
 default_of Tries = Some 8
-default_of LastGeneration = Some 1099511627776
+default_of LastGeneration = Some MOST_LIVES
 
 -- the settings that have to be given
 abbrev pub is_required : Setting → Bool

@@ -10,7 +10,7 @@ ghost use Rattle.ksm_options.specs.Told.{IsToldBy, Tells};
 use clap::builder::ValueParser;
 use clap::error::ErrorKind;
 use clap::{Arg, ArgAction, ArgMatches, Command, Error};
-use ksm_base::Shape;
+use ksm_base::{MOST_FRAMES_PER_NODE, MOST_LIVES, MOST_NODES, MOST_PASSES, MOST_TRIES, Shape};
 use std::alloc::{AllocError, Global};
 
 /// The option `--NAME N`, where N is 1 to `most`.
@@ -66,24 +66,29 @@ fn with<'a>(command: Command<'a>, option: Arg<'a>) -> Result<Command<'a>, AllocE
 fn command<'a>(alloc: Global) -> Result<Command<'a>, AllocError>
     ensures { IfOk result (λ command. app_of command ≡ ksmbook) }
 {
-    let nodes = required(alloc, "nodes", 4, "NUMA nodes, 1 to 4");
-    let frames = required(alloc, "frames", 256, "Frames of each node, 1 to 256");
+    let nodes = required(alloc, "nodes", MOST_NODES as u64, "NUMA nodes, 1 to 4");
+    let frames = required(
+        alloc,
+        "frames",
+        MOST_FRAMES_PER_NODE as u64,
+        "Frames of each node, 1 to 256",
+    );
     let passes = number(
         alloc,
         "passes",
-        16,
+        MOST_PASSES as u64,
         "Passes, by which frames are looked up, 1 to 16 [default: 2]",
     );
     let tries = number(
         alloc,
         "tries",
-        64,
+        MOST_TRIES as u64,
         "Exchanges that a lookup makes at most, 1 to 64 [default: 8]",
     );
     let last_generation = number(
         alloc,
         "last-generation",
-        1_099_511_627_776,
+        MOST_LIVES,
         "How often a frame is given, 1 to 1099511627776 [default: 1099511627776]",
     );
     let with_nodes = with(named(alloc)?, nodes)?;
@@ -129,7 +134,7 @@ pub fn options(alloc: Global, words: &[String]) -> Result<Shape, Error>
         passes: matches.get_one::<u32>("passes").unwrap_or(2),
         last_generation: matches
             .get_one::<u64>("last-generation")
-            .unwrap_or(1_099_511_627_776),
+            .unwrap_or(MOST_LIVES),
         tries: matches.get_one::<u32>("tries").unwrap_or(8),
     })
 }

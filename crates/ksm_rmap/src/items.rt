@@ -1,6 +1,7 @@
 //! The reverse map of one dup: a sorted list of pages, since most dups have few. Eight lie in the list itself.
 ghost use Rattle.std.specs.Prelude.{◌≡◌, ℕ, ◌<◌, ◌≤◌, List, [], true, false, length, Some, IfErr};
 ghost use Rattle.std.specs.Prelude.{IsTrue, OnOk, OnErr, filter, slice_get, slice_index_or};
+ghost use Rattle.ksm_base.specs.declared.limits.TheConstants.{MOST_REFERENCES};
 ghost use Rattle.ksm_base.specs.declared.page.GuestPage.{GuestPage};
 ghost use Rattle.ksm_base.specs.Rows.{comes_before, same_page};
 ghost use Rattle.ksm_rmap.specs.Items.{AreAscending, has_item, with_item, without_item};
@@ -10,8 +11,8 @@ use smallvec::SmallVec;
 use std::alloc::Global;
 use std::marker::Model;
 
-/// The pages that are mapped to one merged page, in ascending order, each once and at most 1,024 (mm/ksm, the reverse
-/// map).
+/// The pages that are mapped to one merged page, in ascending order, each once and at most `MOST_REFERENCES` (mm/ksm,
+/// the reverse map).
 ///
 /// `add` and `remove` cost the logarithm of the number of pages, and a move of those behind.
 #[derive(Drop)]
@@ -21,6 +22,7 @@ pub struct Items {
 
 impl Model for Items {
     ghost use Rattle.std.specs.Prelude.{◌≤◌, List, length};
+    ghost use Rattle.ksm_base.specs.declared.limits.TheConstants.{MOST_REFERENCES};
     ghost use Rattle.ksm_base.specs.declared.page.GuestPage.{GuestPage};
     ghost use Rattle.ksm_rmap.specs.Items.{AreAscending};
 
@@ -28,7 +30,7 @@ impl Model for Items {
 
     ghost view = { λ i. i.pages.items };
 
-    ghost invariant = { λ i. AreAscending i.pages.items × (length i.pages.items ≤ 1024) };
+    ghost invariant = { λ i. AreAscending i.pages.items × (length i.pages.items ≤ MOST_REFERENCES) };
 }
 
 impl Items {
@@ -44,7 +46,7 @@ impl Items {
     /// Adds a page that is not there. The one fault is `Memory`, and then the pages stay as they were.
     #[inline(always)]
     pub fn add(&mut self, page: GuestPage) -> Result<(), Fault>
-        requires fewer { length self.old < 1024 }
+        requires fewer { length self.old < MOST_REFERENCES }
         requires absent { has_item page self.old ≡ false }
         ensures added { OnOk result (self.new ≡ with_item page self.old) }
         ensures kept { OnErr result (self.new ≡ self.old) }
@@ -79,7 +81,7 @@ impl Items {
     /// How many pages there are.
     pub fn len(&self) -> usize
         ensures count { result ≡ length self.now }
-        ensures few { result ≤ 1024 }
+        ensures few { result ≤ MOST_REFERENCES }
         ensures ascending { AreAscending self.now }
     {
         self.pages.len()

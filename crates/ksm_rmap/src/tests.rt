@@ -1,10 +1,10 @@
 //! Tests of the items through their calls.
 use super::*;
-use ksm_base::{Fault, GuestPage};
+use ksm_base::{Fault, GuestPage, MOST_REFERENCES};
 use std::test::Fail;
 
 fn add(items: &mut Items, page: GuestPage) -> Result<(), Fault> {
-    if items.len() < 1024 && !items.contains(page) {
+    if (items.len() as u64) < MOST_REFERENCES && !items.contains(page) {
         items.add(page)?;
     }
     Ok(())

@@ -1,5 +1,5 @@
 -- The dups of one group, and all others: what each makes of the totals, and what a dup that comes or goes changes of them.
-use Rattle.ksm_tree.proofs.Names.{[], All, All-head, All-tail, All-weaker, and_parts, ap, AreTotals, arith, Bool, bytes_eq, bytes_eq-Decides, cases_Bool, chained_of, chains_of, count-append, count_by, count_by-le-length, count_more, count_none, DupRow, false, filter, filter_all, find, get_or, group_places, group_size, if◌then◌else◌, in_chain, in_group, inl, InPlaceOrder, inr, IsRegrouped, leads_group, length, length-filter, length-map, List, list_all, list_all-append, list_all-from_AllPass, nat_le, nat_lt, nat_tests, none-some, not, pairs_head, pairs_tail, refl, same_group, same_Some, Some, suc, sym, Tells, Totals, true, with_dup, ℕ, ◌&&◌, ◌++◌, ◌+◌, ◌<◌, ◌==◌, ◌||◌, ◌∙◌, ◌∷◌, ◌≡◌, ◌≤◌}
+use Rattle.ksm_tree.proofs.Names.{[], All, All-head, All-tail, All-weaker, and_parts, ap, AreTotals, arith, Bool, bytes_eq, bytes_eq-Decides, cases_Bool, chained_of, chains_of, count-append, count_by, count_by-le-length, count_more, count_none, DupRow, false, filter, filter_all, find, get_or, group_places, group_size, if◌then◌else◌, in_chain, in_group, inl, InPlaceOrder, inr, IsRegrouped, leads_group, length, length-filter, length-map, List, list_all, list_all-append, list_all-from_AllPass, MOST_FRAMES, nat_le, nat_lt, nat_tests, none-some, not, pairs_head, pairs_tail, refl, same_group, same_Some, Some, suc, sym, Tells, Totals, true, with_dup, ℕ, ◌&&◌, ◌++◌, ◌+◌, ◌<◌, ◌==◌, ◌||◌, ◌∙◌, ◌∷◌, ◌≡◌, ◌≤◌}
 use Rattle.ksm_tree.proofs.Alike.{count_alike}
 use Rattle.ksm_tree.proofs.Keys.{own_group, self_group}
 use Rattle.ksm_base.proofs.Orders.{dups_parted as rows_parted, Lower}
@@ -207,8 +207,8 @@ rows_fit k p (r ∷ rows) least above below rise =
     let rest = rows_fit (suc r.place) p rows (omega (arith, under)) (All-weaker (Lower r) (λ e. suc r.place ≤ e.place) (λ e h. let later = h.0 in omega (arith, later)) rows first) (All-tail (λ e. e.place < p) r rows below) (pairs_tail Lower r rows rise) in
     omega (arith, rest, here)
 
--- there are at most 1,024 chains and 1,024 dups in them
-pub totals_few : (p : ℕ) (rows : List DupRow) (totals : Totals) → p ≤ 1024 → All (λ r. r.place < p) rows → InPlaceOrder rows → AreTotals rows totals → (totals.chains ≤ 1024) × (totals.dups ≤ 1024)
+-- there are at most as many chains as frames, and as many dups in them
+pub totals_few : (p : ℕ) (rows : List DupRow) (totals : Totals) → p ≤ MOST_FRAMES → All (λ r. r.place < p) rows → InPlaceOrder rows → AreTotals rows totals → (totals.chains ≤ MOST_FRAMES) × (totals.dups ≤ MOST_FRAMES)
 totals_few p rows totals few below rise are =
     let fit = rows_fit 0 p rows (omega arith) (λ k d lt. omega arith) below rise in
     let dups = count_by-le-length (in_chain rows) rows in
@@ -218,7 +218,7 @@ totals_few p rows totals few below rise are =
     (omega (arith, first, chains, fit, few), omega (arith, second, dups, fit, few))
 
 -- the totals have room for each group as it is
-pub totals_tell : (t : ℕ) (b : List ℕ) (p : ℕ) (rows : List DupRow) (totals : Totals) → p ≤ 1024 → All (λ r. r.place < p) rows → InPlaceOrder rows → AreTotals rows totals → Tells (length (group_places t b rows)) totals
+pub totals_tell : (t : ℕ) (b : List ℕ) (p : ℕ) (rows : List DupRow) (totals : Totals) → p ≤ MOST_FRAMES → All (λ r. r.place < p) rows → InPlaceOrder rows → AreTotals rows totals → Tells (length (group_places t b rows)) totals
 totals_tell t b p rows totals few below rise are =
     let n = places_size t b rows in
     let dups = dups_parted t b rows in
@@ -299,7 +299,7 @@ module _ (old r : DupRow) (less rows new : List DupRow) (there : IsMore old less
       }
 
   -- after a dup came and before another went, the totals tell of a group of any size that they told of
-  pub totals_between : (t u : Totals) → IsRegrouped (length (group_places r.tree r.bytes rows)) (length (group_places r.tree r.bytes new)) t u → (n : ℕ) → t.chains ≤ 1024 → t.dups ≤ 1024 → Tells n t → Tells n u
+  pub totals_between : (t u : Totals) → IsRegrouped (length (group_places r.tree r.bytes rows)) (length (group_places r.tree r.bytes new)) t u → (n : ℕ) → t.chains ≤ MOST_FRAMES → t.dups ≤ MOST_FRAMES → Tells n t → Tells n u
   totals_between t u first n few small tells =
       let from : IsRegrouped (size r.tree r.bytes rows) (size r.tree r.bytes new) t u = rw (← places_size r.tree r.bytes rows, ← places_size r.tree r.bytes new) first in
       let one = there.counts (in_group r.tree r.bytes) in

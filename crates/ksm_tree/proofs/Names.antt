@@ -10,6 +10,7 @@ pub use Rattle.ksm_base.specs.Rows.{change_row, change_rows, comes_before, has_i
 pub use Rattle.ksm_base.specs.State.{tree_of}
 pub use Rattle.ksm_base.specs.Visit.{best_dup, empty_from, new_place, partner, place_or}
 pub use Rattle.ksm_base.specs.declared.knobs.Knobs.{Knobs}
+pub use Rattle.ksm_base.specs.declared.limits.TheConstants.{MOST_FRAMES, MOST_REFERENCES}
 pub use Rattle.ksm_base.specs.declared.page.GuestPage.{GuestPage}
 pub use Rattle.ksm_base.specs.declared.row.DupRow.{DupRow}
 pub use Rattle.ksm_base.specs.declared.row.PageState.{PageState}
@@ -26,7 +27,7 @@ pub use Rattle.ksm_tree.specs.Dups.{AreDups, change_items, dup_at, dup_of, DupsS
 pub use Rattle.ksm_tree.specs.Grouping.{AreGroups, content_in, IsIdle, places_in, waits_in}
 pub use Rattle.ksm_tree.specs.Groups.{chain_in, IsCounted, IsCountedAnew, SameChains, SameWaits, under, waiting_in}
 pub use Rattle.ksm_tree.specs.Index.{AreIndexed, dups_seen, group_places, in_group, IsEntered, place_of, places_of, row_place}
-pub use Rattle.ksm_tree.specs.NumberSets.{has, HasNoBit, HasNone, IsLeast, IsLowestBit, IsSummed, Marks}
+pub use Rattle.ksm_tree.specs.NumberSets.{AreSummed, has, HasBelow, HasNoBit, HasNone, IsLeast, IsLowestBit, IsSummed, Marks}
 pub use Rattle.ksm_tree.specs.Numbered.{AreNumbered, content_of, content_order, IsUnused, number_of, Numbers}
 pub use Rattle.ksm_tree.specs.Places.{with_place, without}
 pub use Rattle.ksm_tree.specs.Slots.{ArePlaced, AreSlots, change_at, count_in, is_empty_slot, IsSetOf, is_stale_slot, present, slots_seen, SlotsState}

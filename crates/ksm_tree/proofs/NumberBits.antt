@@ -1,5 +1,6 @@
 -- What the words of a set, and their summary, say of its numbers.
-use Rattle.ksm_tree.proofs.Names.{ap, arith, bit_at, bit_at-zero, bit_at_above, bit_at_clear_other, bit_at_clear_same, bit_at_set_other, bit_at_set_same, bit_and, bit_or, cases_eq, cases_lt, eqb-true, false, get_or, get_or-set_other, get_or-set_same, get_or_past, has, HasNoBit, HasNone, inl, inr, IsLeast, IsLowestBit, IsSummed, length, length-set, List, Marks, nat_tests, ne_eqb, not, set, shr-shr, sym, true, w64, ℕ, ◌%◌, ◌*◌, ◌+◌, ◌-◌, ◌/◌, ◌<◌, ◌==◌, ◌^◌, ◌∙◌, ◌≡◌, ◌≢◌, ◌≤◌}
+use Rattle.ksm_tree.proofs.Names.{AreSummed, ap, arith, Bool, bit_at, bit_at-zero, bit_at_above, bit_at_clear_other, bit_at_clear_same, bit_at_ones, bit_at_set_other, bit_at_set_same, bit_and, bit_or, cases_eq, cases_lt, eqb-true, false, get_or, get_or-set_other, get_or-set_same, get_or_past, get_or-replicate, has, HasBelow, HasNoBit, HasNone, inl, inr, IsLeast, IsLowestBit, IsSummed, length, length-set, List, Marks, MatchOption, nat_tests, ne_eqb, None, not, Option, replicate, set, shr-shr, Some, sym, true, w64, ℕ, ◌%◌, ◌*◌, ◌+◌, ◌-◌, ◌/◌, ◌<◌, ◌==◌, ◌^◌, ◌∙◌, ◌≡◌, ◌≢◌, ◌≤◌}
+use Rattle.std.proofs.lemmas.List.{length-replicate}
 
 -- a word in which a bit is set is not 0
 some_bit : (word i : ℕ) → bit_at word i ≡ 1 → word ≢ 0
@@ -46,15 +47,28 @@ module _ (words : List ℕ) where
     least = none_further low middle n before found.least;
   }
 
-  module _ (summary : ℕ) (h : IsSummed words summary) where
-    -- a word without a bit in the summary is 0
-    word_clear : (w : ℕ) → w < 64 → bit_at summary w ≡ 0 → get_or words w 0 ≡ 0
+  -- what the words behind one answer holds from a number of that word on, where the word has no bit from there on
+  pub further : (from w : ℕ) → w ≡ from / 64 → HasNoBit (get_or words w 0) (from % 64) → (found : Option ℕ)
+      → MatchOption found (HasNone words ((w + 1) * 64) (64 * length words)) (IsLeast words ((w + 1) * 64) (64 * length words))
+      → MatchOption found (HasNone words from (64 * length words)) (IsLeast words from (64 * length words))
+  further from w at none found h = of found h where
+    before : HasNone words from ((w + 1) * 64)
+    before n low below = in_word w n (omega (arith, at, low)) below ∙ ap (λ b. b == 1) (none (n % 64) (omega (arith, at, low, below)) (omega arith))
+
+    of : (found : Option ℕ) → MatchOption found (HasNone words ((w + 1) * 64) (64 * length words)) (IsLeast words ((w + 1) * 64) (64 * length words))
+        → MatchOption found (HasNone words from (64 * length words)) (IsLeast words from (64 * length words))
+    of None h = none_further from ((w + 1) * 64) (64 * length words) before h
+    of (Some n) h = least_further from ((w + 1) * 64) (64 * length words) n (omega (arith, at)) before h
+
+  module _ (upper : List ℕ) (h : IsSummed words upper) where
+    -- a word whose number is not in the upper set is 0
+    word_clear : (w : ℕ) → w < 64 * length upper → has upper w ≡ false → get_or words w 0 ≡ 0
     word_clear w low clear =
         let named = h.named w low in
         eqb-true (get_or words w 0) 0 (grind (arith, nat_tests, named, clear))
 
-    -- a word with a bit in the summary is not 0, and stands among the words
-    word_set : (w : ℕ) → w < 64 → bit_at summary w ≡ 1 → get_or words w 0 ≢ 0
+    -- a word whose number is in the upper set is not 0, and stands among the words
+    word_set : (w : ℕ) → w < 64 * length upper → has upper w ≡ true → get_or words w 0 ≢ 0
     word_set w low one zero = let named = h.named w low in grind (arith, nat_tests, named, one, zero)
 
     word_within : (w : ℕ) → get_or words w 0 ≢ 0 → w < length words
@@ -63,42 +77,103 @@ module _ (words : List ℕ) where
       | inr more ↦ absurd (some (get_or_past words w 0 more))
     ]
 
-    -- the lowest bit of the summary behind a word's names the word of the least number behind that word
-    pub found_behind : (at next bit : ℕ) → IsLowestBit summary (at + 1) next → IsLowestBit (get_or words next 0) 0 bit → IsLeast words ((at + 1) * 64) (64 * length words) (next * 64 + bit)
+    -- the least number of the upper set behind a word's is that of the word of the least number behind that word
+    pub found_behind : (at next bit : ℕ) → IsLeast upper (at + 1) (64 * length upper) next → IsLowestBit (get_or words next 0) 0 bit → IsLeast words ((at + 1) * 64) (64 * length words) (next * 64 + bit)
     found_behind at next bit named found =
         let within = word_within next (word_set next named.high_is named.there) in
-        let none = none_in_zeros (at + 1) next (λ w from below. word_clear w (omega (arith, below, named.high_is)) (named.lowest w from below)) in
+        let none = none_in_zeros (at + 1) next (λ w from below. word_clear w (omega (arith, below, named.high_is)) (named.least w from below)) in
         let least = found_in_word next 0 (next * 64) (64 * length words) bit (omega arith) (omega arith) found (omega (arith, within, found.high_is)) in
         least_further ((at + 1) * 64) (next * 64) (64 * length words) (next * 64 + bit) (omega (arith, named.low_is)) none least
 
-    -- the summary is right once a word is put, if it says of that whether it is 0, and of the others what it did
-    summed_put : (w word summary' : ℕ) → w < length words → (bit_at summary' w == 1) ≡ not (word == 0) → ((v : ℕ) → v < 64 → v ≢ w → bit_at summary' v ≡ bit_at summary v) → IsSummed (set words w word) summary'
-    summed_put w word summary' within here others = record {
-      many = length-set words w word ∙ h.many;
+    -- the upper set is right once a word is put, if it says of that whether it is 0, and of the others what it did
+    pub summed_put : (w word : ℕ) (upper' : List ℕ) (there : Bool) → w < length words → there ≡ not (word == 0) → Marks upper upper' w there → IsSummed (set words w word) upper'
+    summed_put w word upper' there within here marks = record {
+      room = omega (arith, h.room, marks.room, length-set words w word);
       named = λ v low. elim (cases_eq v w) [
-        | inl same ↦ ap (λ u. bit_at summary' u == 1) same ∙ here
+        | inl same ↦ ap (has upper') same ∙ marks.here ∙ here
             ∙ ap (λ x. not (x == 0)) (sym (get_or-set_same words w word 0 within) ∙ ap (λ u. get_or (set words w word) u 0) (sym same))
-        | inr apart ↦ ap (λ b. b == 1) (others v low apart) ∙ h.named v low
+        | inr apart ↦ marks.others v apart ∙ h.named v (omega (arith, low, marks.room))
             ∙ ap (λ x. not (x == 0)) (sym (get_or-set_other words w v word 0 apart))
       ];
     }
 
-    -- the summary is right once a bit is set in a word, and that word's bit in the summary
-    pub summed_more : (w i : ℕ) → w < length words → i < 64 → IsSummed (set words w (bit_or (get_or words w 0) (1 * 2 ^ i % 18446744073709551616))) (bit_or summary (1 * 2 ^ w % 18446744073709551616))
-    summed_more w i within small =
-        let low : w < 64 = omega (arith, within, h.many) in
+    -- the upper set is right once a bit is set in a word, and that word's number is in it
+    pub summed_more : (w i : ℕ) (upper' : List ℕ) → w < length words → i < 64 → Marks upper upper' w true → IsSummed (set words w (bit_or (get_or words w 0) (1 * 2 ^ i % 18446744073709551616))) upper'
+    summed_more w i upper' within small marks =
         let word : ℕ = bit_or (get_or words w 0) (1 * 2 ^ i % 18446744073709551616) in
         let some : not (word == 0) ≡ true = ap not (ne_eqb word 0 (some_bit word i (bit_at_set_same w64 (get_or words w 0) i small))) in
-        summed_put w word (bit_or summary (1 * 2 ^ w % 18446744073709551616)) within (ap (λ b. b == 1) (bit_at_set_same w64 summary w low) ∙ sym some)
-        (λ v _ apart. bit_at_set_other w64 summary w low v apart)
+        summed_put w word upper' true within (sym some) marks
 
-    -- the summary is right once a word is 0, and its bit in the summary cleared
-    pub summed_less : (w word : ℕ) → w < length words → word ≡ 0 → IsSummed (set words w word) (bit_and summary (18446744073709551615 - 1 * 2 ^ w % 18446744073709551616))
-    summed_less w word within zero =
-        let low : w < 64 = omega (arith, within, h.many) in
-        summed_put w word (bit_and summary (18446744073709551615 - 1 * 2 ^ w % 18446744073709551616)) within
-        (ap (λ b. b == 1) (bit_at_clear_same w64 summary w low) ∙ sym (ap (λ x. not (x == 0)) zero))
-        (λ v below apart. bit_at_clear_other w64 summary w low v below apart)
+    -- the upper set is right once a word is 0, and its number is not in it any more
+    pub summed_less : (w word : ℕ) (upper' : List ℕ) → w < length words → word ≡ 0 → Marks upper upper' w false → IsSummed (set words w word) upper'
+    summed_less w word upper' within zero marks =
+        summed_put w word upper' false within (sym (ap (λ x. not (x == 0)) zero)) marks
+
+module _ (words upper : List ℕ) (h : AreSummed words upper) where
+  -- the sets stay right once a bit is set in a word, and that word's number is in the upper one
+  pub stay_more : (w i : ℕ) (upper' : List ℕ) → w < length words → i < 64 → 1 < length words → Marks upper upper' w true → AreSummed (set words w (bit_or (get_or words w 0) (1 * 2 ^ i % 18446744073709551616))) upper'
+  stay_more w i upper' within small many marks = record {
+    fits = omega (arith, h.fits, length-set words w (bit_or (get_or words w 0) (1 * 2 ^ i % 18446744073709551616)));
+    summed = λ _. summed_more words upper (h.summed many) w i upper' within small marks;
+  }
+
+  -- they stay right once a word is 0, and its number is not in the upper one any more
+  pub stay_less : (w word : ℕ) (upper' : List ℕ) → w < length words → word ≡ 0 → 1 < length words → Marks upper upper' w false → AreSummed (set words w word) upper'
+  stay_less w word upper' within zero many marks = record {
+    fits = omega (arith, h.fits, length-set words w word);
+    summed = λ _. summed_less words upper (h.summed many) w word upper' within zero marks;
+  }
+
+-- the numbers below a count, and then the next
+pub below_more : (upper upper' : List ℕ) (at : ℕ) → HasBelow upper at → Marks upper upper' at true → HasBelow upper' (at + 1)
+below_more upper upper' at h marks n = elim (cases_eq n at) [
+  | inl same ↦ ap (has upper') same ∙ marks.here ∙ grind (arith, nat_tests, same)
+  | inr apart ↦ marks.others n apart ∙ h n ∙ grind (arith, nat_tests, apart)
+]
+
+-- words with all bits have all numbers for which there is room
+pub all_there : (k n : ℕ) → n < 64 * k → has (replicate k 18446744073709551615) n ≡ true
+all_there k n low =
+    ap (λ w. bit_at w (n % 64) == 1) (get_or-replicate k (n / 64) 18446744073709551615 0 (omega (arith, low)))
+    ∙ ap (λ b. b == 1) (bit_at_ones 64 (n % 64) (omega arith))
+
+zero_word : (k w : ℕ) → ◌≡◌ {A = ℕ} (get_or (replicate k 0) w 0) 0
+zero_word k w = elim (cases_lt w k) [
+  | inl less ↦ get_or-replicate k w 0 0 less
+  | inr more ↦ get_or_past (replicate k 0) w 0 (omega (arith, more, length-replicate {A = ℕ} k 0))
+]
+
+-- words that are 0 have no number
+pub none_there : (k n : ℕ) → has (replicate k 0) n ≡ false
+none_there k n = ap (λ w. bit_at w (n % 64) == 1) (zero_word k (n / 64)) ∙ ap (λ b. b == 1) (bit_at-zero (n % 64))
+
+-- above words with all bits stands the set of the numbers of all
+pub all_summed : (k : ℕ) (upper : List ℕ) → 64 * k ≤ 2 ^ 32 → k < 64 * length upper → HasBelow upper k → AreSummed (replicate k 18446744073709551615) upper
+all_summed k upper fits room h =
+    let many = length-replicate {A = ℕ} k 18446744073709551615 in
+    record {
+      fits = omega (arith, fits, many);
+      summed = λ _. record {
+        room = omega (arith, room, many);
+        named = λ w _. elim (cases_lt w k) [
+          | inl less ↦ h w ∙ grind (arith, nat_tests, less) ∙ sym (ap (λ x. not (x == 0)) (get_or-replicate k w 18446744073709551615 0 less))
+          | inr more ↦ h w ∙ grind (arith, nat_tests, more)
+              ∙ sym (ap (λ x. not (x == 0)) (get_or_past (replicate k 18446744073709551615) w 0 (omega (arith, more, many))))
+        ];
+      };
+    }
+
+-- above words that are 0 stands the set of no number
+pub none_summed : (k : ℕ) (upper : List ℕ) → 64 * k ≤ 2 ^ 32 → k < 64 * length upper → ((w : ℕ) → has upper w ≡ false) → AreSummed (replicate k 0) upper
+none_summed k upper fits room h =
+    let many = length-replicate {A = ℕ} k 0 in
+    record {
+      fits = omega (arith, fits, many);
+      summed = λ _. record {
+        room = omega (arith, room, many);
+        named = λ w _. h w ∙ sym (ap (λ x. not (x == 0)) (zero_word k w));
+      };
+    }
 
 -- a word that has a number's bit as it is to be, and keeps its other bits, marks that number
 marks_put : (words : List ℕ) (number word bit : ℕ) → number < 64 * length words → bit_at word (number % 64) ≡ bit → ((i : ℕ) → i < 64 → i ≢ number % 64 → bit_at word i ≡ bit_at (get_or words (number / 64) 0) i) → Marks words (set words (number / 64) word) number (bit == 1)

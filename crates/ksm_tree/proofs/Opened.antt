@@ -1,5 +1,5 @@
 -- Slots that are all empty.
-use Rattle.ksm_tree.proofs.Names.{[], ap, ArePlaced, AreSlots, arith, Bool, cond, count_by, count_in, count_more, CountedSet, Dup, false, get_or-replicate, has, is_empty_slot, is_stale_slot, IsSetOf, length, List, map, None, Option, present, refl, replicate, slots_seen, suc, suc-mul, sym, true, zero, zero-mul, ℕ, ◌*◌, ◌<◌, ◌∙◌, ◌∷◌, ◌≡◌, ◌≤◌}
+use Rattle.ksm_tree.proofs.Names.{[], ap, ArePlaced, AreSlots, arith, Bool, cond, count_by, count_in, count_more, CountedSet, Dup, false, get_or-replicate, has, is_empty_slot, is_stale_slot, IsSetOf, length, List, map, MOST_FRAMES, None, Option, present, refl, replicate, slots_seen, suc, suc-mul, sym, true, zero, zero-mul, ℕ, ◌*◌, ◌<◌, ◌∙◌, ◌∷◌, ◌≡◌, ◌≤◌}
 use Rattle.std.proofs.lemmas.List.{length-replicate}
 
 -- a list of n empty slots
@@ -23,7 +23,7 @@ none_passes test (suc n) =
     omega (arith, rest, more, suc-mul n (cond (test None) 1 0))
 
 -- a set that has all of so many places, or none, is that of the empty slots that pass a test
-none_set : (test : Option Dup → Bool) (n : ℕ) (places : CountedSet) → n ≤ 1024 → 1024 ≤ 64 * length places.set → ((p : ℕ) → p < 1024 → has places.set p ≡ test None) → places.count ≡ n * cond (test None) 1 0 → IsSetOf test (none_of n) places
+none_set : (test : Option Dup → Bool) (n : ℕ) (places : CountedSet) → n ≤ MOST_FRAMES → MOST_FRAMES ≤ 64 * length places.set → ((p : ℕ) → p < MOST_FRAMES → has places.set p ≡ test None) → places.count ≡ n * cond (test None) 1 0 → IsSetOf test (none_of n) places
 none_set test n places few wide each count =
     let many = length-replicate {A = Option Dup} n None in
     record {
@@ -41,7 +41,7 @@ none_counted zero = refl
 none_counted (suc n) = ap (λ counts. 0 ∷ counts) (none_counted n)
 
 -- empty slots are right with counts of 0, all places empty, and none stale
-pub none_slots : (n : ℕ) (counts : List ℕ) (empty stale : CountedSet) → n ≤ 1024 → counts ≡ replicate n 0 → 1024 ≤ 64 * length empty.set → ((p : ℕ) → p < 1024 → has empty.set p ≡ true) → empty.count ≡ n → 1024 ≤ 64 * length stale.set → ((p : ℕ) → p < 1024 → has stale.set p ≡ false) → stale.count ≡ 0 → AreSlots (none_of n) counts empty stale
+pub none_slots : (n : ℕ) (counts : List ℕ) (empty stale : CountedSet) → n ≤ MOST_FRAMES → counts ≡ replicate n 0 → MOST_FRAMES ≤ 64 * length empty.set → ((p : ℕ) → p < MOST_FRAMES → has empty.set p ≡ true) → empty.count ≡ n → MOST_FRAMES ≤ 64 * length stale.set → ((p : ℕ) → p < MOST_FRAMES → has stale.set p ≡ false) → stale.count ≡ 0 → AreSlots (none_of n) counts empty stale
 none_slots n counts empty stale few counted wide all each wide_stale none zero_count =
     record {
       few = rw length-replicate few;

@@ -1,5 +1,5 @@
 -- The places whose slots pass a test, as a set: what a change of one slot does to it.
-use Rattle.ksm_tree.proofs.Names.{ap, arith, Bool, cases_eq, cond, count_by-le-length, CountedSet, Dup, get_or, get_or-le-sum_by, get_or-set_other, get_or-set_same, has, inl, inr, IsMarked, IsSetOf, length, length-set, List, MayBeMarked, None, Option, refl, set, sum_by-set, sym, ℕ, ◌+◌, ◌<◌, ◌∙◌, ◌≡◌, ◌≤◌}
+use Rattle.ksm_tree.proofs.Names.{ap, arith, Bool, cases_eq, cond, count_by-le-length, CountedSet, Dup, get_or, get_or-le-sum_by, get_or-set_other, get_or-set_same, has, inl, inr, IsMarked, IsSetOf, length, length-set, List, MayBeMarked, MOST_FRAMES, None, Option, refl, set, sum_by-set, sym, ℕ, ◌+◌, ◌<◌, ◌∙◌, ◌≡◌, ◌≤◌}
 
 module _ (test : Option Dup → Bool) (slots : List (Option Dup)) (p : ℕ) (s : Option Dup) (within : p < length slots) where
   -- the set once a slot is put, and its place marked as the slot passes
@@ -28,7 +28,7 @@ module _ (test : Option Dup → Bool) (slots : List (Option Dup)) (p : ℕ) (s :
       }) h
 
 -- the place of a slot may be marked
-pub may_be_marked : (test : Option Dup → Bool) (slots : List (Option Dup)) (places : CountedSet) (p : ℕ) → IsSetOf test slots places → length slots ≤ 1024 → p < length slots → MayBeMarked places p
+pub may_be_marked : (test : Option Dup → Bool) (slots : List (Option Dup)) (places : CountedSet) (p : ℕ) → IsSetOf test slots places → length slots ≤ MOST_FRAMES → p < length slots → MayBeMarked places p
 may_be_marked test slots places p h few within = record {
   room = omega (arith, h.room, within);
   few = omega (arith, few, h.count, count_by-le-length test slots);

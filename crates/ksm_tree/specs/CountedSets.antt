@@ -1,12 +1,13 @@
 -- Sets of places with how many they are. (own)
 use Rattle.std.specs.Prelude.{◌≡◌, ℕ, ◌+◌, ◌*◌, ◌<◌, ◌≤◌, Bool, true, cond, length}
+use Rattle.ksm_base.specs.declared.limits.TheConstants.{MOST_FRAMES}
 use Rattle.ksm_tree.specs.declared.counted_set.CountedSet.{CountedSet}
 use Rattle.ksm_tree.specs.NumberSets.{has, Marks}
 
 -- the place has its bit, and the count has room for it, and is not 0 where it is in the set
 pub record MayBeMarked (places : CountedSet) (place : ℕ) : Type 0 where
   pub room : place < 64 * length places.set
-  pub few : places.count ≤ 1024
+  pub few : places.count ≤ MOST_FRAMES
   pub counted : has places.set place ≡ true → 1 ≤ places.count
 
 -- the place is in the set after it, or is not; the other places are as they were, and the count follows

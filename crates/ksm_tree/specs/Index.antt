@@ -2,6 +2,7 @@
 use Rattle.std.specs.Prelude.{◌≡◌, ℕ, ◌≤◌, Bool, ◌&&◌, ◌==◌, List, map, filter, find}
 use Rattle.std.specs.Prelude.{option_map, Option, Some, bytes_eq, nat_eq, if◌then◌else◌}
 use Rattle.std.specs.HashMap.{get}
+use Rattle.ksm_base.specs.declared.limits.TheConstants.{MOST_FRAMES}
 use Rattle.ksm_base.specs.declared.row.DupRow.{DupRow}
 use Rattle.ksm_tree.specs.declared.index.Index.{Index}
 use Rattle.ksm_tree.specs.Dups.{DupsState, AreDups, rows_of}
@@ -39,7 +40,7 @@ dups_seen s next index = record {
 
 -- the dups are lawful, and the index finds and counts just them
 pub record AreIndexed (s : SlotsState) (next : ℕ) (index : Index) : Type 0 where
-  pub few : s.places ≤ 1024
+  pub few : s.places ≤ MOST_FRAMES
   pub lawful : AreDups (dups_seen s next index)
   pub numbered : (number : ℕ) → place_of number index ≡ row_place number (rows_of s.dups)
   pub counted : AreTotals (rows_of s.dups) index.groups.totals

@@ -1,5 +1,5 @@
 -- Sets of numbers as words of bits. (own)
-use Rattle.std.specs.Prelude.{◌≡◌, ◌≢◌, ◌==◌, ℕ, ◌/◌, ◌%◌, ◌<◌, ◌≤◌, Bool, true, false, not, List, length, slice_index}
+use Rattle.std.specs.Prelude.{◌≡◌, ◌≢◌, ◌==◌, ℕ, ◌*◌, ◌/◌, ◌%◌, ◌^◌, ◌<◌, ◌≤◌, nat_lt, Bool, true, false, not, List, length, slice_index}
 use Rattle.std.specs.Int.{bit_at}
 
 -- the bit of the number is set
@@ -23,10 +23,19 @@ pub record Marks (old new : List ℕ) (number : ℕ) (marked : Bool) : Type 0 wh
   pub here : has new number ≡ marked
   pub others : (n : ℕ) → n ≢ number → has new n ≡ has old n
 
--- there are so many words, and the summary has a bit for each that is not 0
-pub record IsSummed (words : List ℕ) (summary : ℕ) : Type 0 where
-  pub many : length words ≡ 16
-  pub named : (w : ℕ) → w < 64 → (bit_at summary w == 1) ≡ not (slice_index words w == 0)
+-- the upper set has the numbers of just those words that are not 0, and room for one number more than they are
+pub record IsSummed (words upper : List ℕ) : Type 0 where
+  pub room : length words < 64 * length upper
+  pub named : (w : ℕ) → w < 64 * length upper → has upper w ≡ not (slice_index words w == 0)
+
+-- the numbers of the words have 32 bits; the upper set is right where there are two words or more
+pub record AreSummed (words upper : List ℕ) : Type 0 where
+  pub fits : 64 * length words ≤ 2 ^ 32
+  pub summed : 1 < length words → IsSummed words upper
+
+-- just the numbers below a count
+abbrev pub HasBelow : List ℕ → ℕ → Type 0
+HasBelow words count = (n : ℕ) → has words n ≡ nat_lt n count
 
 -- no bit of the word is set from low on
 abbrev pub HasNoBit : ℕ → ℕ → Type 0

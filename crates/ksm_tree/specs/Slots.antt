@@ -1,6 +1,7 @@
 -- The dups by place: a slot for each place, and the places whose slots pass a test. (own)
 use Rattle.std.specs.Prelude.{◌≡◌, ℕ, suc, ◌*◌, ◌<◌, ◌≤◌, Bool, true, false, List, [], ◌∷◌}
 use Rattle.std.specs.Prelude.{count_by, get_or, length, map, Option, Some, None, if◌then◌else◌}
+use Rattle.ksm_base.specs.declared.limits.TheConstants.{MOST_FRAMES}
 use Rattle.ksm_base.specs.declared.page.GuestPage.{GuestPage}
 use Rattle.ksm_tree.specs.declared.dup.Dup.{Dup}
 use Rattle.ksm_tree.specs.declared.counted_set.CountedSet.{CountedSet}
@@ -51,7 +52,7 @@ pub record IsSetOf (test : Option Dup → Bool) (slots : List (Option Dup)) (pla
 
 -- each count is of the items at its place; the places of the empty slots and those of the stale dups are known
 pub record AreSlots (slots : List (Option Dup)) (counts : List ℕ) (empty stale : CountedSet) : Type 0 where
-  pub few : length slots ≤ 1024
+  pub few : length slots ≤ MOST_FRAMES
   pub placed : ArePlaced 0 slots
   pub counted : counts ≡ map count_in slots
   pub empties : IsSetOf is_empty_slot slots empty

@@ -1,6 +1,7 @@
 //! What groups and waiting pages are found by: a tree and the bytes of a page, in an order of their own. Beside that
 //! the slot in which the number of their group is remembered.
 ghost use Rattle.std.specs.Prelude.{◌<◌};
+ghost use Rattle.ksm_tree.specs.declared.content.TheConstants.{SLOTS as slots};
 
 use ksm_base::PageBytes;
 
@@ -12,8 +13,11 @@ pub struct Content {
     pub bytes: PageBytes,
 }
 
-/// How many slots there are for the numbers of groups: 2 to the number of bits that `slot_of` keeps.
-pub const SLOTS: usize = 1_024;
+// How many bits of a product `slot_of` keeps.
+const SLOT_BITS: u32 = 10;
+
+/// How many slots there are for the numbers of groups.
+pub const SLOTS: usize = 1 << SLOT_BITS;
 
 // 2 to the 64 over the golden ratio. The highest bits of a product by it hang on all bits of what is multiplied.
 const SPREAD: u64 = 0x9e37_79b9_7f4a_7c15;
@@ -22,11 +26,11 @@ const SPREAD: u64 = 0x9e37_79b9_7f4a_7c15;
 /// byte, whose words are equal.
 #[inline(always)]
 pub fn slot_of(tree: u32, bytes: &PageBytes) -> usize
-    ensures { result < 1024 }
+    ensures { result < slots }
 {
     let mut mixed = u64::from(tree);
     for word in bytes {
         mixed = mixed.wrapping_mul(SPREAD).wrapping_add(*word);
     }
-    (mixed.wrapping_mul(SPREAD) >> 54) as usize
+    (mixed.wrapping_mul(SPREAD) >> (64 - SLOT_BITS)) as usize
 }

@@ -1,4 +1,4 @@
-//! A set of numbers below 1,024, with how many of the places that there are it has.
+//! A set of numbers, with how many of the places that there are it has.
 ghost use Rattle.std.specs.Prelude.{true, false};
 ghost use Rattle.ksm_tree.specs.CountedSets.{IsMarked, MayBeMarked};
 

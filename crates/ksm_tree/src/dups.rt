@@ -15,6 +15,7 @@ ghost use Rattle.std.specs.Prelude.{option_map, slice_get, if◌then◌else◌, 
 ghost use Rattle.std.specs.Option.{unwrap_or};
 ghost use Rattle.ksm_base.specs.Counting.{in_chain, leads_group};
 ghost use Rattle.ksm_base.specs.Rows.{same_page};
+ghost use Rattle.ksm_base.specs.declared.limits.TheConstants.{MOST_FRAMES, MOST_REFERENCES};
 ghost use Rattle.ksm_rmap.specs.Items.{has_item, with_item, without_item};
 ghost use Rattle.ksm_tree.specs.Choosing.{ArePlacesToJoin, best_of, found_at, of_group};
 ghost use Rattle.ksm_tree.specs.Choosing.{choice_of, is_behind, unless_behind};
@@ -76,7 +77,7 @@ impl Dups {
     /// No dups, with room for one at each of so many places. The one fault is `Memory`.
     pub fn open(alloc: Global, places: u32) -> Result<Dups, Fault>
         requires least { 1 ≤ places }
-        requires most { places ≤ 1024 }
+        requires most { places ≤ MOST_FRAMES }
         ensures opened { IfOk result (λ dups. dups ≡ record {
           places = places;
           dups = [];
@@ -332,7 +333,7 @@ impl Dups {
     /// changes.
     pub fn join(&mut self, dup: u64, page: GuestPage) -> Result<u32, Fault>
         requires known { is_some (dup_of dup self.old.dups) ≡ true }
-        requires fewer { length (items_of dup self.old.dups) < 1024 }
+        requires fewer { length (items_of dup self.old.dups) < MOST_REFERENCES }
         requires absent { has_item page (items_of dup self.old.dups) ≡ false }
         ensures place { IfOk result (λ place. Some place ≡ option_map (λ d. d.row.place) (dup_of dup self.old.dups)) }
         ensures joined { OnOk result (self.new ≡ record self.old {
@@ -348,7 +349,7 @@ impl Dups {
     #[inline(always)]
     pub fn join_at(&mut self, guess: u32, dup: u64, page: GuestPage) -> Result<u32, Fault>
         requires known { is_some (dup_of dup self.old.dups) ≡ true }
-        requires fewer { length (items_of dup self.old.dups) < 1024 }
+        requires fewer { length (items_of dup self.old.dups) < MOST_REFERENCES }
         requires absent { has_item page (items_of dup self.old.dups) ≡ false }
         ensures place { IfOk result (λ place. Some place ≡ option_map (λ d. d.row.place) (dup_of dup self.old.dups)) }
         ensures joined { OnOk result (self.new ≡ record self.old {

@@ -7,6 +7,7 @@
 ghost use Rattle.std.specs.Prelude.{◌≡◌, ℕ, ◌<◌, ◌≤◌, All, IfErr, IfOk, IfSome, length, not, replicate, slice_index};
 ghost use Rattle.std.specs.Prelude.{slice_set};
 ghost use Rattle.std.specs.List.{list_all};
+ghost use Rattle.ksm_base.specs.declared.limits.TheConstants.{MOST_FRAMES};
 ghost use Rattle.ksm_tree.specs.Counts.{is_open as is_open_count, places_where};
 
 use crate::places::Places;
@@ -68,7 +69,7 @@ impl Counts {
 
     /// The open places are kept from now on by this limit. By the limit 0 no place is open, and nothing has to be kept.
     pub fn keep_open(&mut self, limit: u32)
-        requires { length self.old ≤ 1024 }
+        requires { length self.old ≤ MOST_FRAMES }
         ensures { self.new ≡ self.old }
     {
         if limit == self.limit {
@@ -127,7 +128,7 @@ pub fn none_open(limit: u32, counts: &[u32], places: &[u32]) -> bool
 
 /// Fills `open_at` with the places that are open by a limit.
 fn open_anew(limit: u32, counts: &[u32], open_at: &mut Places)
-    requires few { length counts.now ≤ 1024 }
+    requires few { length counts.now ≤ MOST_FRAMES }
     requires room { length counts.now ≤ open_at.old.list.capacity }
     ensures opens { open_at.new.list.items ≡ places_where (is_open_count limit) 0 counts.now }
     ensures capacity { open_at.new.list.capacity ≡ open_at.old.list.capacity }

@@ -1,6 +1,7 @@
 //! The trees of the book: groups of dups with their items, and the pages that wait.
 #![tactic(auto)]
 
+mod bits;
 mod choice;
 mod content;
 mod counted_set;

@@ -1,51 +1,54 @@
-//! Sets of numbers below 1,024, one bit for each. One word more says which words are not 0: so the least number of a
-//! range is found by a few instructions wherever it is, and so is that there is none.
-ghost use Rattle.std.specs.Prelude.{◌≡◌, ◌≢◌, ℕ, ◌+◌, ◌*◌, ◌<◌, ◌≤◌, true, false, length, slice_index, MatchOption};
-ghost use Rattle.ksm_tree.specs.NumberSets.{has, HasNoBit, HasNone, IsLeast, IsLowestBit, Marks};
+//! Sets of the numbers of frames, or of places, as words of bits with as many heights above them as their limit wants.
+ghost use Rattle.std.specs.Prelude.{◌≡◌, ◌*◌, ◌<◌, ◌≤◌, ℕ, true, false, length, MatchOption};
+ghost use Rattle.ksm_base.specs.declared.limits.TheConstants.{MOST_FRAMES as most_frames};
+ghost use Rattle.ksm_tree.specs.NumberSets.{has, HasNone, IsLeast, Marks};
 
+use crate::bits::{Bits, Word, Words};
+use ksm_base::MOST_FRAMES;
 use std::marker::Model;
 
-const WORDS: usize = 16;
+// How many words there are, and how many above them; each height has room for one number more than there are words
+// below it. One word stands above all.
+const WORDS: usize = (MOST_FRAMES as usize + 63) / 64;
 
-/// Numbers below 1,024, each by its bit: number n by bit n % 64 of word n / 64.
+const ABOVE: usize = WORDS / 64 + 1;
+
+const TOP: usize = ABOVE / 64 + 1;
+
+const _: () = prove!(TOP < 64);
+
+/// Numbers below `MOST_FRAMES`, each by its bit.
 #[derive(Drop)]
 pub struct NumberSet {
-    words: [u64; WORDS],
-    // Bit w is set exactly where word w is not 0.
-    summary: u64,
+    bits: Words<Words<Words<Word, TOP>, ABOVE>, WORDS>,
 }
 
 impl Model for NumberSet {
     ghost use Rattle.std.specs.Prelude.{ℕ, List};
-    ghost use Rattle.ksm_tree.specs.NumberSets.{IsSummed};
 
     ghost Value = { List ℕ };
 
-    ghost view = { λ s. s.words };
-
-    ghost invariant = { λ s. IsSummed s.words s.summary };
+    ghost view = { λ s. s.bits };
 }
 
 impl NumberSet {
-    /// All numbers below 1,024.
+    /// All numbers below `MOST_FRAMES`.
     pub fn full() -> NumberSet
-        ensures wide { 1024 ≤ 64 * length result }
-        ensures all { (n : ℕ) → n < 1024 → has result n ≡ true }
+        ensures wide { most_frames ≤ 64 * length result }
+        ensures all { (n : ℕ) → n < most_frames → has result n ≡ true }
     {
         NumberSet {
-            words: [u64::MAX; WORDS],
-            summary: (1 << WORDS) - 1,
+            bits: Words::full(Words::empty(Words::empty(Word::empty()))),
         }
     }
 
-    /// No numbers, with room for all below 1,024.
+    /// No numbers, with room for all below `MOST_FRAMES`.
     pub fn empty() -> NumberSet
-        ensures wide { 1024 ≤ 64 * length result }
-        ensures none { (n : ℕ) → n < 1024 → has result n ≡ false }
+        ensures wide { most_frames ≤ 64 * length result }
+        ensures none { (n : ℕ) → n < most_frames → has result n ≡ false }
     {
         NumberSet {
-            words: [0; WORDS],
-            summary: 0,
+            bits: Words::empty(Words::empty(Words::empty(Word::empty()))),
         }
     }
 
@@ -55,7 +58,7 @@ impl NumberSet {
         requires { number < 64 * length self.now }
         ensures { result ≡ has self.now number }
     {
-        (self.words[number as usize / 64] >> (number % 64)) & 1 == 1
+        self.bits.contains(number)
     }
 
     /// Puts a number into the set if `marked`, and else takes it out. There is room for its bit.
@@ -77,9 +80,7 @@ impl NumberSet {
         requires { number < 64 * length self.old }
         ensures { Marks self.old self.new number true }
     {
-        let at = number as usize / 64;
-        self.words[at] |= 1 << (number % 64);
-        self.summary |= 1 << at;
+        self.bits.add(number);
     }
 
     /// Takes a number out of the set. There is room for its bit.
@@ -88,12 +89,7 @@ impl NumberSet {
         requires { number < 64 * length self.old }
         ensures { Marks self.old self.new number false }
     {
-        let at = number as usize / 64;
-        let left = self.words[at] & !(1 << (number % 64));
-        self.words[at] = left;
-        if left == 0 {
-            self.summary &= !(1 << at);
-        }
+        self.bits.remove(number);
     }
 
     /// The least number of those from `from` on and below `end`.
@@ -105,55 +101,7 @@ impl NumberSet {
         if end <= from {
             return None;
         }
-        let found = self.first_from(from)?;
+        let found = self.bits.first_from(from)?;
         (found < end).then_some(found)
     }
-
-    // The least number from one on.
-    #[inline(always)]
-    fn first_from(&self, from: u32) -> Option<u32>
-        requires { from < 64 * length self.now }
-        ensures { let end = 64 * length self.now in
-            MatchOption result (HasNone self.now from end) (IsLeast self.now from end) }
-    {
-        let at = from / 64;
-        match lowest_from(self.words[at as usize], from % 64) {
-            Some(bit) => Some(at * 64 + bit),
-            None => self.first_behind(at),
-        }
-    }
-
-    // The least number in the words behind one.
-    #[inline(always)]
-    fn first_behind(&self, at: u32) -> Option<u32>
-        requires { at < length self.now }
-        ensures { let end = 64 * length self.now in
-            MatchOption result (HasNone self.now ((at + 1) * 64) end) (IsLeast self.now ((at + 1) * 64) end) }
-    {
-        let next = lowest_from(self.summary, at + 1)?;
-        Some(next * 64 + lowest(self.words[next as usize]))
-    }
-}
-
-// The lowest bit that is set in a word, from one on.
-#[inline(always)]
-fn lowest_from(word: u64, from: u32) -> Option<u32>
-    requires { from < 64 }
-    ensures { MatchOption result (HasNoBit word from) (IsLowestBit word from) }
-{
-    let rest = word >> from;
-    if rest == 0 {
-        None
-    } else {
-        Some(from + lowest(rest))
-    }
-}
-
-// The lowest bit that is set in a word.
-#[inline(always)]
-fn lowest(word: u64) -> u32
-    requires { word ≢ 0 }
-    ensures { IsLowestBit word 0 result }
-{
-    word.trailing_zeros()
 }

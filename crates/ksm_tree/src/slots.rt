@@ -3,6 +3,7 @@
 ghost use Rattle.std.specs.Prelude.{◌≡◌, ℕ, ◌<◌, ◌≤◌, [], true, false, None, Some};
 ghost use Rattle.std.specs.Prelude.{count_by, find, length, option_copied, option_map};
 ghost use Rattle.std.specs.Prelude.{is_some, slice_index_or, IfErr, IfOk, IfSome, OnErr, OnOk};
+ghost use Rattle.ksm_base.specs.declared.limits.TheConstants.{MOST_FRAMES, MOST_REFERENCES};
 ghost use Rattle.ksm_tree.specs.Choosing.{empty_place};
 ghost use Rattle.ksm_rmap.specs.Items.{has_item, with_item, without_item};
 ghost use Rattle.ksm_tree.specs.Dups.{dup_at, items_in, is_live, is_stale};
@@ -39,7 +40,7 @@ impl Model for Slots {
 impl Slots {
     /// So many empty places. The one fault is `Memory`.
     pub fn open(alloc: Global, places: u32) -> Result<Slots, Fault>
-        requires { places ≤ 1024 }
+        requires { places ≤ MOST_FRAMES }
         ensures opened { IfOk result (λ slots. slots ≡ record { places = places; dups = [] }) }
         ensures memory { IfErr result (λ fault. fault ≡ Fault.Memory) }
     {
@@ -150,7 +151,7 @@ impl Slots {
     /// A page becomes an item of the dup at a place. The one fault is `Memory`, and then nothing changes.
     pub fn add_item(&mut self, place: u32, page: GuestPage) -> Result<(), Fault>
         requires known { is_some (dup_at place self.old.dups) ≡ true }
-        requires fewer { length (items_in (dup_at place self.old.dups)) < 1024 }
+        requires fewer { length (items_in (dup_at place self.old.dups)) < MOST_REFERENCES }
         requires absent { has_item page (items_in (dup_at place self.old.dups)) ≡ false }
         ensures added { OnOk result (self.new ≡ record {
           places = self.old.places;

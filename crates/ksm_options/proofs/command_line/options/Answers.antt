@@ -3,6 +3,7 @@ use Rattle.std.proofs.Common.{◌≡◌, ◌∙◌, ap, refl, sym, List, Some, a
 use Rattle.std.proofs.lemmas.Result.{IfErr-weaker}
 use Rattle.clap.specs.Words.{kind_of}
 use Rattle.clap.specs.declared.error.kind.ErrorKind.TheVariants.{OutOfMemory}
+use Rattle.ksm_base.specs.declared.limits.TheConstants.{MOST_LIVES}
 use Rattle.ksm_options.specs.Settings.{Frames, Given, LastGeneration, Nodes, Passes, Tries}
 use Rattle.ksm_options.specs.Told.{IsToldBy, Tells}
 use Rattle.ksm_options.proofs.Numbers.{given_number, setting_read, value_fits, value_given, value_or}
@@ -38,7 +39,7 @@ told_by c =
       frames = value_given Frames t.0 _ (sym c.unwrap-2.ensures ∙ frames);
       passes = value_or Passes t.0 c.get_one-3.result 2 passes refl ∙ ap Some (sym c.unwrap_or.ensures);
       tries = value_or Tries t.0 c.get_one-5.result 8 tries refl ∙ ap Some (sym c.unwrap_or-3.ensures);
-      last_generation = value_or LastGeneration t.0 c.get_one-4.result 1099511627776 last refl ∙ ap Some (sym c.unwrap_or-2.ensures);
+      last_generation = value_or LastGeneration t.0 c.get_one-4.result MOST_LIVES last refl ∙ ap Some (sym c.unwrap_or-2.ensures);
     }
 
 pub returns-clause-told : goal.returns-clause-told

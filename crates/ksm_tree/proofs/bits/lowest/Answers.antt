@@ -1,5 +1,5 @@
 use Rattle.ksm_tree.proofs.Names.{arith, bit_at-trailing_zeros, w64}
-use Rattle.ksm_tree.proofs.number_set.lowest.Goals as goal
+use Rattle.ksm_tree.proofs.bits.lowest.Goals as goal
 
 pub returns : goal.returns
 returns c =

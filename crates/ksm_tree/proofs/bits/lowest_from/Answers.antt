@@ -1,6 +1,6 @@
 use Rattle.ksm_tree.proofs.Names.{arith}
 use Rattle.ksm_tree.proofs.NumberBits.{lowest_behind, none_from}
-use Rattle.ksm_tree.proofs.number_set.lowest_from.Goals as goal
+use Rattle.ksm_tree.proofs.bits.lowest_from.Goals as goal
 
 pub returns-then-rest-eq0 : goal.returns-then-rest-eq0
 returns-then-rest-eq0 c = none_from c.args.word c.args.from c.if-rest-eq0.true

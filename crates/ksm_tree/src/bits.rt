@@ -1,0 +1,224 @@
+//! Sets of numbers of any height: words of bits, and above them the set of those words that are not 0. So the least
+//! number is found in a step for each height, wherever it is, and so is that there is none.
+ghost use Rattle.std.specs.Prelude.{◌≡◌, ◌≢◌, ℕ, ◌+◌, ◌*◌, ◌/◌, ◌^◌, ◌<◌, ◌≤◌, [], ◌∷◌, List, true, false, length};
+ghost use Rattle.std.specs.Prelude.{MatchOption, nat_le};
+ghost use Rattle.ksm_tree.specs.NumberSets.{has, HasNoBit, HasNone, IsLeast, IsLowestBit, Marks};
+
+use std::marker::Model;
+
+/// What each height promises.
+pub trait Bits: Drop {
+    ghost words: { Self → List ℕ };
+
+    /// Puts a number into the set. There is room for its bit.
+    fn add(&mut self, number: u32)
+        requires { number < 64 * length (words self.old) }
+        ensures { Marks (words self.old) (words self.new) number true };
+
+    /// Takes a number out of the set. There is room for its bit.
+    fn remove(&mut self, number: u32)
+        requires { number < 64 * length (words self.old) }
+        ensures { Marks (words self.old) (words self.new) number false };
+
+    /// The least number from one on.
+    fn first_from(&self, from: u32) -> Option<u32>
+        requires { from < 64 * length (words self.now) }
+        ensures { let end = 64 * length (words self.now) in
+            MatchOption result (HasNone (words self.now) from end) (IsLeast (words self.now) from end) };
+}
+
+/// Numbers below 64, each by its bit.
+#[derive(Drop)]
+pub struct Word {
+    word: u64,
+}
+
+impl Model for Word {
+    ghost use Rattle.std.specs.Prelude.{ℕ, List, [], ◌∷◌};
+
+    ghost Value = { List ℕ };
+
+    ghost view = { λ w. w.word ∷ [] };
+}
+
+impl Word {
+    /// No numbers.
+    pub fn empty() -> Word
+        ensures { result ≡ 0 ∷ [] }
+    {
+        Word { word: 0 }
+    }
+}
+
+impl Bits for Word {
+    ghost words = { λ w. w };
+
+    #[inline(always)]
+    fn add(&mut self, number: u32) {
+        self.word |= 1 << (number % 64);
+    }
+
+    #[inline(always)]
+    fn remove(&mut self, number: u32) {
+        self.word &= !(1 << (number % 64));
+    }
+
+    #[inline(always)]
+    fn first_from(&self, from: u32) -> Option<u32> {
+        lowest_from(self.word, from % 64)
+    }
+}
+
+/// Numbers below 64 times so many words, each by its bit: number n by bit n % 64 of word n / 64.
+#[derive(Drop)]
+pub struct Words<S: Bits, const WORDS: usize> {
+    words: [u64; WORDS],
+    // The numbers of those words that are not 0. It is not kept where there is one word alone.
+    summary: S,
+}
+
+impl<S: Bits, const WORDS: usize> Model for Words<S, WORDS> {
+    ghost use Rattle.std.specs.Prelude.{ℕ, List};
+    ghost use Rattle.ksm_tree.specs.NumberSets.{AreSummed};
+
+    ghost Value = { List ℕ };
+
+    ghost view = { λ w. w.words };
+
+    ghost invariant = { λ w. AreSummed w.words (S.words w.summary) };
+}
+
+impl<S: Bits, const WORDS: usize> Words<S, WORDS> {
+    ghost use Rattle.std.specs.Prelude.{replicate};
+
+    /// No numbers.
+    pub fn empty(summary: S) -> Words<S, WORDS>
+        requires room { WORDS < 64 * length (S.words summary) }
+        requires fits { 64 * WORDS ≤ 2 ^ 32 }
+        requires none { (w : ℕ) → has (S.words summary) w ≡ false }
+        ensures { result ≡ replicate WORDS 0 }
+    {
+        Words {
+            words: [0; WORDS],
+            summary,
+        }
+    }
+
+    /// All numbers for which there is room.
+    pub fn full(summary: S) -> Words<S, WORDS>
+        requires room { WORDS < 64 * length (S.words summary) }
+        requires fits { 64 * WORDS ≤ 2 ^ 32 }
+        requires none { (w : ℕ) → has (S.words summary) w ≡ false }
+        ensures { result ≡ replicate WORDS 18446744073709551615 }
+    {
+        let mut all = summary;
+        for at in 0..WORDS {
+            all.add(at as u32);
+        }
+        Words {
+            words: [u64::MAX; WORDS],
+            summary: all,
+        }
+    }
+
+    /// Whether a number is in the set. There is room for its bit.
+    #[inline(always)]
+    pub fn contains(&self, number: u32) -> bool
+        requires { number < 64 * length self.now }
+        ensures { result ≡ has self.now number }
+    {
+        (self.words[number as usize / 64] >> (number % 64)) & 1 == 1
+    }
+
+    // The least number in the words behind one.
+    #[inline(always)]
+    fn first_behind(&self, at: u32) -> Option<u32>
+        requires { at < length self.now }
+        ensures { let end = 64 * length self.now in
+            MatchOption result (HasNone self.now ((at + 1) * 64) end) (IsLeast self.now ((at + 1) * 64) end) }
+    {
+        if is_alone(&self.words) {
+            return None;
+        }
+        let next = self.summary.first_from(at + 1)?;
+        Some(next * 64 + lowest(self.words[next as usize]))
+    }
+}
+
+// Which of the words has a number's bit. Where there is one word that is known before the program runs.
+#[inline(always)]
+fn word_of(number: u32, words: &[u64]) -> usize
+    requires { number < 64 * length words.now }
+    ensures { result ≡ number / 64 }
+{
+    if is_alone(words) {
+        0
+    } else {
+        number as usize / 64
+    }
+}
+
+// Whether there is one word.
+#[inline(always)]
+fn is_alone(words: &[u64]) -> bool
+    ensures { result ≡ nat_le (length words.now) 1 }
+{
+    words.len() <= 1
+}
+
+impl<S: Bits, const WORDS: usize> Bits for Words<S, WORDS> {
+    ghost words = { λ w. w };
+
+    #[inline(always)]
+    fn add(&mut self, number: u32) {
+        let alone = is_alone(&self.words);
+        let at = word_of(number, &self.words);
+        self.words[at] |= 1 << (number % 64);
+        if !alone {
+            self.summary.add(at as u32);
+        }
+    }
+
+    #[inline(always)]
+    fn remove(&mut self, number: u32) {
+        let alone = is_alone(&self.words);
+        let at = word_of(number, &self.words);
+        let left = self.words[at] & !(1 << (number % 64));
+        self.words[at] = left;
+        if !alone && left == 0 {
+            self.summary.remove(at as u32);
+        }
+    }
+
+    #[inline(always)]
+    fn first_from(&self, from: u32) -> Option<u32> {
+        let at = word_of(from, &self.words) as u32;
+        match lowest_from(self.words[at as usize], from % 64) {
+            Some(bit) => Some(at * 64 + bit),
+            None => self.first_behind(at),
+        }
+    }
+}
+
+// The lowest bit that is set in a word, from one on.
+#[inline(always)]
+fn lowest_from(word: u64, from: u32) -> Option<u32>
+    requires { from < 64 }
+    ensures { MatchOption result (HasNoBit word from) (IsLowestBit word from) }
+{
+    let rest = word >> from;
+    if rest == 0 {
+        None
+    } else {
+        Some(from + lowest(rest))
+    }
+}
+
+// The lowest bit that is set in a word.
+#[inline(always)]
+fn lowest(word: u64) -> u32
+    requires { word ≢ 0 }
+    ensures { IsLowestBit word 0 result }
+{
+    word.trailing_zeros()
+}
