@@ -472,8 +472,12 @@ impl Rows {
             return;
         };
         let entry = &mut self.entries[key];
+        let was = entry.mergeable;
         entry.mergeable = mergeable;
         let restless = entry.is_restless();
+        if was == mergeable {
+            return;
+        }
         self.order.mark(spot.page, mergeable);
         if restless {
             self.restless.add(Spot {
