@@ -211,6 +211,16 @@ without_come row rows rise absent =
     ∙ ap (λ b. low ++ (cond (not b) (row ∷ []) [] ++ high)) (same_page_refl row.page)
     ∙ sym (absent_parts pages_ordered (λ (r : Row). r.page) row.page rows rise absent)
 
+-- `Register` of a page without a row is refused with nothing changed, where a search for a frame finds none by no step
+pub register_refused : (p : PagesView) (k : KeeperView) (cursor : Option GuestPage) (passes : ℕ) (page : GuestPage) (node : ℕ) (bytes : List ℕ) → node < p.shape.nodes → row_at page p.rows ≡ None
+    → FindsNone k k node → IsCarried (book p k cursor passes) (book p k cursor passes) (Register page node bytes) (Err (NoFrame node))
+register_refused p k cursor passes page node bytes less absent searched = record {
+  own = refl;
+  answer = rw (there_is p.shape.nodes node less, absent) refl;
+  state = refl;
+  steps = record { searched = searched; frame = refl };
+}
+
 -- a page comes, at home on a node, with these bytes
 pub record HasCome (p m : PagesView) (page : GuestPage) (node : ℕ) (bytes : List ℕ) : Type 0 where
   -- the rows are in order, and the page had none

@@ -125,13 +125,6 @@ is_quiet Changed = false
 is_quiet Shared = false
 is_quiet Gone = true
 
--- later visits leave the row as it is
-abbrev pub is_over : Visited → Bool
-is_over Same = false
-is_over Changed = false
-is_over Shared = true
-is_over Gone = true
-
 -- the visits of the listed pages from one index up to another stopped at an index
 pub record StopsAt (old new : BookValue) (first end at : ℕ) : Type 0 where
   -- it lies between the two

@@ -1,6 +1,6 @@
 //! What the book has the keeper do with frames: find one and fill it, write it and read it, and give it back.
 
-ghost use Rattle.std.specs.Prelude.{◌≡◌, ◌<◌, ◌≤◌, ◌-◌, true, None, Some, is_some, IfSome, MatchOption, [], ◌∷◌};
+ghost use Rattle.std.specs.Prelude.{◌≡◌, ◌<◌, ◌≤◌, ◌-◌, true, None, Some, is_some, IfSome, IsTrue, MatchOption, [], ◌∷◌};
 ghost use Rattle.std.specs.Prelude.{length, map, if◌then◌else◌};
 ghost use Rattle.ksm_base.specs.declared.page.TheConstants.{PAGE_WORDS as WORDS};
 ghost use Rattle.ksm_base.specs.Values.{frames_of, IsShape};
@@ -48,6 +48,25 @@ pub fn find_frame(
     let end = first + shape.frames_per_node;
     reap_each(keeper, table, first, end);
     keeper.next_free(first, end)
+}
+
+/// Whether no frame of a node is free or dying: then a search for one would make no step, and find none.
+#[inline(always)]
+pub fn is_used_up(keeper: &FrameKeeper, shape: Shape, node: u32) -> bool
+    requires shape { shape ≡ keeper.now.table.shape }
+    requires checked { IsShape shape }
+    requires node { node < shape.nodes }
+    ensures { IsTrue result → FindsNone keeper.now keeper.now node }
+{
+    let first = node * shape.frames_per_node;
+    let end = first + shape.frames_per_node;
+    if let Some(_) = keeper.next_free(first, end) {
+        return false;
+    }
+    match keeper.next_dying(first, end) {
+        Some(_) => false,
+        None => true,
+    }
 }
 
 /// Stores the bytes to a frame, word by word.

@@ -4,7 +4,7 @@
 //! asked first (`ahead`), so those in between need no look. And where a whole pass changed nothing but which rows wait,
 //! the passes that would repeat it are counted and not made.
 
-ghost use Rattle.std.specs.Prelude.{◌≡◌, ◌+◌, ◌-◌, ◌<◌, ◌≤◌, true, not, Some, filter, length, slice_get};
+ghost use Rattle.std.specs.Prelude.{◌≡◌, ◌&&◌, ◌+◌, ◌-◌, ◌<◌, ◌≤◌, true, not, Some, filter, length, slice_get};
 ghost use Rattle.std.specs.Prelude.{Err, OnOk, OnErr, IfOk, IfErr};
 ghost use Rattle.ksm_base.specs.declared.fault.Fault.TheVariants.{Memory};
 ghost use Rattle.ksm_base.specs.declared.page.GuestPage.{GuestPage};
@@ -14,7 +14,7 @@ ghost use Rattle.ksm_base.specs.Visit.{after_cursor, pass_begun, pass_ended_at_l
 ghost use Rattle.ksm_book.specs.Carried.{IsCarried};
 ghost use Rattle.ksm_book.specs.Folded.{begun, last_of, mergeable_pages, pages_ahead, pages_visited};
 ghost use Rattle.ksm_book.specs.Scanned.{Comes, EndsAt, GoesOn, HasScanned, HasVisited, ListsAll, StopsAt, StopsBefore};
-ghost use Rattle.ksm_book.specs.Scanned.{StopsShort, ahead_before, ahead_up_to, doing, from_to, is_nowhere, is_over};
+ghost use Rattle.ksm_book.specs.Scanned.{StopsShort, ahead_before, ahead_up_to, doing, from_to, is_nowhere};
 ghost use Rattle.ksm_book.specs.Scanned.{is_quiet, last_visited, passes_ended, up_to};
 ghost use Rattle.ksm_book.specs.Whole.{view_of};
 
@@ -50,17 +50,18 @@ fn last(ahead: Ahead) -> Option<GuestPage>
     }
 }
 
-impl Visited {
-    fn is_quiet(self) -> bool
-        ensures { result ≡ is_quiet self }
+impl Made {
+    // With one visit more.
+    #[inline(always)]
+    fn and(self, visited: Visited) -> Made
+        ensures { result.quiet ≡ (self.quiet && is_quiet visited) }
     {
-        matches!(self, Visited::Same | Visited::Gone)
-    }
-
-    fn is_over(self) -> bool
-        ensures { result ≡ is_over self }
-    {
-        matches!(self, Visited::Shared | Visited::Gone)
+        match visited {
+            Visited::Same => self,
+            Visited::Gone => Made { over: true, ..self },
+            Visited::Changed => Made { quiet: false, ..self },
+            Visited::Shared => Made { quiet: false, over: true },
+        }
     }
 }
 
@@ -185,10 +186,7 @@ impl State {
         for at in first..end {
             let spot = self.listed_at(at);
             match self.visit(table, spot) {
-                Ok(visited) => {
-                    made.quiet &= visited.is_quiet();
-                    made.over |= visited.is_over();
-                }
+                Ok(visited) => made = made.and(visited),
                 Err(_) => return Err(at),
             }
         }

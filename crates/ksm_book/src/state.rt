@@ -18,7 +18,7 @@ ghost use Rattle.ksm_pages.specs.Paged.{nowhere};
 ghost use Rattle.ksm_book.specs.Promised.{FindsPlace, LieOn, NumbersAreSmall};
 
 use crate::frame_keeper::FrameKeeper;
-use crate::frames::{known_frame, load, release_if, take_frame, write};
+use crate::frames::{is_used_up, known_frame, load, release_if, take_frame, write};
 use crate::settling::{drop_stale, resettle};
 use frame_table::{FrameTable, Keeper};
 use ksm_base::{Command, Counters, Fault, GuestPage, Knobs, PageBytes, Reply, Shape};
@@ -134,6 +134,9 @@ impl State {
         }
         if self.pages.has(page) {
             return Err(Fault::AlreadyRegistered);
+        }
+        if is_used_up(&self.keeper, shape, node) {
+            return Err(Fault::NoFrame(node));
         }
         let spot = self.pages.insert(page, node, &bytes)?;
         let Some(frame) = take_frame(&mut self.keeper, table, shape, node, bytes) else {

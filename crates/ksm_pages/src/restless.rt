@@ -6,7 +6,7 @@
 //! the next scan makes it anew: so no command is refused for it.
 
 ghost use Rattle.std.specs.Prelude.{◌≡◌, ◌⊎◌, ◌≤◌, [], true, false, filter, find, is_some, length, not, slice_get};
-ghost use Rattle.std.specs.Prelude.{slice_index_or, option_map, IsTrue, OnErr, OnOk, insert, ◌<◌};
+ghost use Rattle.std.specs.Prelude.{slice_index_or, option_map, IsTrue, OnErr, OnOk, insert, remove, ◌<◌};
 ghost use Rattle.ksm_base.specs.declared.page.GuestPage.{GuestPage};
 ghost use Rattle.ksm_base.specs.Rows.{comes_before, same_page};
 ghost use Rattle.ksm_base.specs.Visit.{after_cursor};
@@ -80,6 +80,16 @@ fn put_in(spots: &mut Vec<Spot>, at: usize, spot: Spot) -> Result<(), Fault>
     spots.copy_within(at..len, at + 1);
     spots[at] = spot;
     Ok(())
+}
+
+/// Takes the spot at an index out, and moves those behind it down by one, as `put_in` does.
+fn take_out(spots: &mut Vec<Spot>, at: usize)
+    requires { at < length spots.old.items }
+    ensures { spots.new.items ≡ remove spots.old.items at }
+{
+    let len = spots.len();
+    spots.copy_within(at + 1..len, at);
+    spots.truncate(len - 1);
 }
 
 /// Whether it is certain that no visit changes the row of a spot.
@@ -174,7 +184,7 @@ impl Restless {
         let at = place_of(self.spots.as_slice(), page);
         let found = stands_at(self.spots.as_slice(), at, page);
         if found {
-            self.spots.remove(at);
+            take_out(&mut self.spots, at);
         }
     }
 

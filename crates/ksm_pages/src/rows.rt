@@ -320,12 +320,14 @@ impl Rows {
         };
         let entry = &mut self.entries[key];
         let old = entry.state(self.pass);
+        let was_restless = entry.is_restless();
         entry.kind = Kind::Own;
         entry.number = 0;
         entry.at = frame;
         let restless = entry.mergeable;
         self.tally.change(old, PageState::Private);
-        if restless {
+        // A row that a visit may change is listed already.
+        if restless != was_restless {
             self.restless.add(Spot {
                 page: spot.page,
                 key,
@@ -470,8 +472,12 @@ impl Rows {
             return;
         };
         let entry = &mut self.entries[key];
+        let was = entry.mergeable;
         entry.mergeable = mergeable;
         let restless = entry.is_restless();
+        if was == mergeable {
+            return;
+        }
         self.order.mark(spot.page, mergeable);
         if restless {
             self.restless.add(Spot {

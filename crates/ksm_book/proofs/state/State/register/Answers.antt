@@ -1,7 +1,16 @@
-use Rattle.ksm_book.proofs.Names.{change_row, Done, Err, is_some, lies_on, NoFrame, None, Ok, on_its_own, refl, Register, row_at, seen, Shape, Some, subst, sym, true, without_page, ◌<◌, ◌∙◌, ◌≡◌, none_of}
-use Rattle.ksm_book.proofs.Singles.{HasCome, carried_so, come_known, register_come, register_turned, sound_carried, Carries}
+use Rattle.ksm_book.proofs.Names.{ap, change_row, Done, Err, is_some, IsCarried, lies_on, NoFrame, None, Ok, on_its_own, refl, Register, row_at, seen, Shape, Some, subst, sym, true, view_of, without_page, ◌<◌, ◌∙◌, ◌≡◌, none_of}
+use Rattle.ksm_book.proofs.Singles.{HasCome, book, carried_so, come_known, register_come, register_refused, register_turned, sound_carried, Carries}
 use Rattle.ksm_book.proofs.state.State.register.Goals as goal
 use Rattle.ksm_book.proofs.state.State.register.Goals.{In_ok-spot}
+
+pub returns-then-is_used_up : goal.returns-then-is_used_up
+returns-then-is_used_up c =
+    let p = seen c.self.inside.pages in
+    carried_so c.self.view_is refl
+    (subst (λ x. IsCarried (book p c.self.inside.keeper c.self.inside.cursor c.self.inside.passes) x (Register c.args.page c.args.node c.args.bytes) (Err (NoFrame c.args.node))) (ap view_of c.self.view_is)
+    (register_refused p c.self.inside.keeper c.self.inside.cursor c.self.inside.passes c.args.page c.args.node c.args.bytes
+    (subst (λ (s : Shape). c.args.node < s.nodes) c.shape-shape.ensures c.if-node-shape.false)
+    (none_of (row_at c.args.page c.self.inside.pages.rows) (sym c.has.ensures ∙ c.if-has.false)) (c.is_used_up.ensures c.if-is_used_up.true)))
 
 -- the page came
 new : (c : In_ok-spot) → HasCome (seen c.self.inside.pages) (seen c.insert.new.self) c.args.page c.args.node c.args.bytes

@@ -1,4 +1,5 @@
 use Rattle.ksm_book.proofs.Names.{[], and_parts, ap, arith, rules, BookState, Deed, doing, from_to, IsStill, Listing, page_visited, pages_visited, Reached, slice_get, Some, subst, sym, ◌++◌, ◌+◌, ◌∙◌, ◌∷◌, ◌≡◌}
+use Rattle.ksm_book.specs.Scanned.{is_quiet}
 use Rattle.ksm_book.proofs.Folded.{still_on, visited_more}
 use Rattle.ksm_book.proofs.PagesAhead.{from_to_end, from_to_more}
 use Rattle.ksm_book.proofs.state.State.visit_listed.Goals as goal
@@ -18,11 +19,11 @@ loop-at-preserved c =
       λ from s before. subst (Reached from c.visit.new.self) (visit s)
           (c.in-Ok.ensures.comes from (pages_visited doing s pages) (c.loop-at.invariant.2 from s before)),
       λ quiet from s before.
-          let both = and_parts c.loop-at.made.quiet c.is_quiet.result quiet in
+          let both = and_parts c.loop-at.made.quiet (is_quiet c.in-Ok.visited) (sym c.and-made.ensures ∙ quiet) in
           subst (IsStill s) (visit s)
           (still_on s (pages_visited doing s pages) (page_visited doing (pages_visited doing s pages) page)
           (c.loop-at.invariant.3 both.0 from s before)
-          (c.in-Ok.ensures.quiet (sym c.is_quiet.ensures ∙ both.1) from (pages_visited doing s pages)
+          (c.in-Ok.ensures.quiet both.1 from (pages_visited doing s pages)
           (c.loop-at.invariant.2 from s before))),
       c.visit.ensures.own ∙ c.loop-at.invariant.4,
     )

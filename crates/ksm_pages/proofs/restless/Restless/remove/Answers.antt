@@ -4,10 +4,10 @@ use Rattle.ksm_pages.proofs.Spots.{page_of, pages_kept}
 use Rattle.ksm_pages.proofs.restless.Restless.remove.Goals as goal
 
 -- the spots that are left
-left : (c : goal.After-remove) → c.remove.new.self.items ≡ filter (λ s. not (same_page s.page c.args.page)) c.self.inside.spots.items
+left : (c : goal.After-take_out) → c.take_out.new.spots.items ≡ filter (λ s. not (same_page s.page c.args.page)) c.self.inside.spots.items
 left c =
-    let d = c.remove.result in
-    c.remove.ensures.items
+    let d : Spot = record { page = c.args.page; key = 0 } in
+    c.take_out.ensures
     ∙ remove_at pages_ordered page_of c.args.page c.self.inside.spots.items c.self.invariant c.as_slice.ensures.value c.as_slice-2.ensures.value c.place_of-at.ensures.count
     d (c.if-found.ensures.within refl) (c.if-found.ensures.here refl d)
 

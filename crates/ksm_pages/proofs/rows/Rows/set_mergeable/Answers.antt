@@ -1,12 +1,26 @@
-use Rattle.ksm_pages.proofs.Names.{ap, held_in, IsRows, on_row, refl, subst, sym, with_value, ◌∙◌}
-use Rattle.ksm_pages.proofs.Writing.{listed_less, listed_now, nothing, still_marked, viewed_marked}
+use Rattle.ksm_pages.proofs.Names.{ap, arith, held_in, IsRows, on_row, refl, subst, sym, with_value, ◌∙◌}
+use Rattle.ksm_pages.proofs.Writing.{listed_less, listed_now, nothing, still_marked, untouched, viewed, viewed_marked}
 use Rattle.ksm_pages.proofs.rows.Rows.set_mergeable.Goals as goal
 
 pub returns-in_default : goal.returns-in_default
 returns-in_default c = nothing c.self.inside c.self.invariant c.args.spot.page c.in_default.ensures.told (on_row (λ r. record r { mergeable = c.args.mergeable })) c.args.self.now c.self.view_is
 
+-- the flag is what it was
 pub invariant_of-self : goal.invariant_of-self
 invariant_of-self c =
+    let e' = record c.index_mut-entry.result.now { mergeable = c.args.mergeable } in
+    let same = c.if-was-mergeable.true in
+    untouched c.self.inside c.self.invariant c.in-Some.ensures.there c.index_mut-entry.ensures.value e' refl refl refl (grind (arith, same))
+
+pub returns-then-was-mergeable : goal.returns-then-was-mergeable
+returns-then-was-mergeable c =
+    let s = c.self.inside in
+    let e' = record c.index_mut-entry.result.now { mergeable = c.args.mergeable } in
+    viewed s c.self.invariant c.in-Some.ensures.there c.index_mut-entry.ensures.value e' refl
+    (on_row (λ r. record r { mergeable = c.args.mergeable })) refl s.restless c.args.self.now c.self.view_is
+
+pub invariant_of-self-then-restless : goal.invariant_of-self-then-restless
+invariant_of-self-then-restless c =
     let s = c.self.inside in
     let there = c.in-Some.ensures.there in
     let stood = c.index_mut-entry.ensures.value in

@@ -20,23 +20,23 @@ invariant_of-self c =
     still s c.self.invariant there stood e' refl refl (λ own. omega arith) c.add.new.self (listed_now s c.self.invariant there stood e' refl c.add.new.self c.add.ensures)
     c.state-old.ensures (sym (rests_now s.pass c.self.invariant.counting)) c.change.ensures
 
-pub invariant_of-self-else-restless : goal.invariant_of-self-else-restless
-invariant_of-self-else-restless c =
+pub invariant_of-self-else-restless-was_restless : goal.invariant_of-self-else-restless-was_restless
+invariant_of-self-else-restless-was_restless c =
     let s = c.self.inside in
     let e = c.index_mut-entry.result.now in
     kept s c.self.invariant c.in-Some.ensures.there c.index_mut-entry.ensures.value (record e { number = 0; at = c.args.frame; kind = kinds.Own }) refl refl (λ own. omega arith)
-    (λ may. absurd (true≢false (sym may ∙ ap (λ b. b && true) c.if-restless.false))) s.restless refl
+    (λ may. let w = c.is_restless-was_restless.ensures in let f = c.if-restless-was_restless.false in grind (arith, w, f, may)) s.restless refl
     c.state-old.ensures (sym (rests_now s.pass c.self.invariant.counting)) c.change.ensures
 
-pub returns-then-restless : goal.returns-then-restless
-returns-then-restless c =
+pub returns-then-restless-was_restless : goal.returns-then-restless-was_restless
+returns-then-restless-was_restless c =
     let s = c.self.inside in
     let e = c.index_mut-entry.result.now in
     viewed s c.self.invariant c.in-Some.ensures.there c.index_mut-entry.ensures.value (record e { number = 0; at = c.args.frame; kind = kinds.Own }) refl
     (mapped Private (Some c.args.frame)) (ap (λ st. mapped st (Some c.args.frame) (held_of s.pass e)) (rests_now s.pass c.self.invariant.counting)) c.add.new.self c.args.self.now c.self.view_is
 
-pub returns-else-restless : goal.returns-else-restless
-returns-else-restless c =
+pub returns-else-restless-was_restless : goal.returns-else-restless-was_restless
+returns-else-restless-was_restless c =
     let s = c.self.inside in
     let e = c.index_mut-entry.result.now in
     viewed s c.self.invariant c.in-Some.ensures.there c.index_mut-entry.ensures.value (record e { number = 0; at = c.args.frame; kind = kinds.Own }) refl
