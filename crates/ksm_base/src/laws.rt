@@ -22,7 +22,8 @@ pub fn a_refusal_keeps_the_state()
     ensures { (b : BookState) (command : Command) (fault : Fault) → after b command (Err fault) ≡ b }
 {}
 
-/// Want of memory is no answer that the definitions allow, so no legal journal has an entry of it.
+/// A refusal for memory is no answer that the definitions allow, so no legal journal has a command that was refused so. (A
+/// scan that memory stopped between two visits has made the first of them, and is an entry.)
 pub fn memory_is_no_answer()
     ensures { (b : BookState) (command : Command) → IsAnswer b command (Err Fault.Memory) → ⊥ }
 {}
