@@ -1,28 +1,34 @@
 //! The book: its rows and dups, and the commands on one page or dup.
 
+use std::mem;
+
 use crate::command::{Answer, Command, Counters, Fault, Knobs, Reply};
 use crate::contents::{Contents, Waiting};
 use crate::dups::Dups;
 use crate::journal::Journal;
 use crate::keeper::Keeper;
 use crate::order::Order;
+use crate::restless::{Entry, Restless};
 use crate::rows::{Page, Row, Rows, State};
 use crate::table::{PageBytes, ZERO_PAGE};
-use crate::unmerged::List;
+use crate::waiting::WaitingRows;
 
 pub struct Book {
     pub keeper: Keeper,
     pub knobs: Knobs,
     pub(crate) rows: Rows,
     pub(crate) order: Order,
-    pub(crate) unmerged: List,
+    pub(crate) restless: Restless,
+    pub(crate) waiting: WaitingRows,
     pub(crate) dups: Dups,
     pub(crate) contents: Contents,
     pub(crate) counters: Counters,
     pub(crate) cursor: Option<Page>,
-    /// One more whenever no row waits any longer.
-    pub(crate) pass: u64,
-    nodes: u32,
+    /// The first page at which a row of the list may wait in this pass: those before it stopped when a knob was set.
+    pub(crate) waits_from: Page,
+    /// One more whenever no row waits any longer in the group that it waited in.
+    pub(crate) era: u64,
+    pub(crate) nodes: u32,
     journal: Journal,
 }
 
@@ -40,12 +46,14 @@ impl Book {
             },
             rows: Rows::default(),
             order: Order::default(),
-            unmerged: List::default(),
+            restless: Restless::default(),
+            waiting: WaitingRows::default(),
             dups: Dups::open(places),
             contents: Contents::new(nodes),
             counters: Counters::default(),
             cursor: None,
-            pass: 1,
+            waits_from: 0,
+            era: 1,
             nodes,
             journal: Journal::default(),
         }
@@ -112,6 +120,20 @@ impl Book {
         u64::from(self.order.mergeable())
     }
 
+    /// How many rows wait: those that the pass went by since they stopped last.
+    pub fn waiting(&self) -> u64 {
+        let waiting = match self.cursor {
+            Some(page) => self.waiting.before(page + 1),
+            None => self.waiting.count(),
+        };
+        let stopped = if self.waits_from > 0 {
+            self.waiting.before(self.waits_from)
+        } else {
+            0
+        };
+        waiting.saturating_sub(stopped) as u64
+    }
+
     #[inline]
     pub(crate) fn slot(&self, page: Page) -> Result<u32, Fault> {
         self.rows.find(page).ok_or(Fault::UnknownPage)
@@ -126,6 +148,16 @@ impl Book {
         if self.knobs.merge_across_nodes == 1 { 0 } else { u32::from(home) }
     }
 
+    /// Whether these are the bytes that the book knows a row to have.
+    #[inline]
+    fn has_bytes(&self, slot: u32, bytes: &PageBytes) -> bool {
+        match self.rows.at(slot).state {
+            State::Own { frame } => self.keeper.table.has(frame, bytes),
+            State::Merged { place, .. } => self.contents.bytes(self.dups.at(place).content) == bytes,
+            State::Zero => *bytes == ZERO_PAGE,
+        }
+    }
+
     /// The bytes that the book knows a row to have.
     pub(crate) fn known(&self, slot: u32) -> PageBytes {
         match self.rows.at(slot).state {
@@ -137,19 +169,43 @@ impl Book {
 
     #[inline]
     pub(crate) fn stop_waiting(&mut self, slot: u32) {
-        let row = self.rows.at(slot);
-        let Some(content) = row.content else { return };
-        let tree = self.tree(row.home);
+        let Row { page, content, home, .. } = *self.rows.at(slot);
+        let Some(content) = content else { return };
+        let tree = self.tree(home);
         let waiting = &mut self.contents.group(content, tree).waiting;
-        if *waiting == (Waiting { slot, pass: self.pass }) {
+        if *waiting == (Waiting { slot, era: self.era }) {
             *waiting = Waiting::default();
-            self.counters.waiting -= 1;
+            self.waiting.remove(page);
         }
     }
 
+    /// No row waits any longer, and each is visited again.
     pub(crate) fn all_stop_waiting(&mut self) {
-        self.pass += 1;
-        self.counters.waiting = 0;
+        self.era += 1;
+        for entry in self.waiting.take_all() {
+            self.restless.add(&mut self.rows, entry.slot);
+        }
+    }
+
+    /// No row waits until a pass comes to it, and then in the group that is its own now: the first of those in one group.
+    pub(crate) fn all_wait_anew(&mut self) {
+        self.era += 1;
+        self.waits_from = self.cursor.map_or(Page::MAX, |page| page + 1);
+        let mut waiting = mem::take(&mut self.waiting);
+        waiting.retain(|Entry { slot, .. }| {
+            let row = self.rows.at(slot);
+            let content = row.content.expect("a row that waits was visited");
+            let tree = self.tree(row.home);
+            let first = &mut self.contents.group(content, tree).waiting;
+            let is_first = first.era < self.era;
+            if is_first {
+                *first = Waiting { slot, era: self.era };
+            } else {
+                self.restless.add(&mut self.rows, slot);
+            }
+            is_first
+        });
+        self.waiting = waiting;
     }
 
     /// The row gives back the frame that it has, if it has one, or leaves its dup.
@@ -169,13 +225,9 @@ impl Book {
         let frame = self.keeper.take(node, bytes).ok_or(Fault::NoFrame)?;
         self.release(slot);
         let row = self.rows.at_mut(slot);
-        let was_own = matches!(row.state, State::Own { .. });
         row.home = node as u8;
         row.state = State::Own { frame };
-        if !was_own {
-            let page = row.page;
-            self.unmerged.insert(page, slot);
-        }
+        self.restless.add(&mut self.rows, slot);
         Ok(())
     }
 
@@ -197,10 +249,12 @@ impl Book {
             state: State::Own { frame },
             content: None,
             home: node as u8,
-            unchanged: false,
+            is_unchanged: false,
+            is_mergeable: true,
+            is_listed: false,
         });
         self.order.insert(page);
-        self.unmerged.insert(page, slot);
+        self.restless.add(&mut self.rows, slot);
         Ok(Reply::Done)
     }
 
@@ -210,23 +264,25 @@ impl Book {
         self.forget_content(slot);
         self.rows.remove(slot);
         self.order.remove(page);
-        self.unmerged.remove(page);
         Ok(Reply::Done)
     }
 
     fn store(&mut self, page: Page, bytes: &PageBytes) -> Answer {
         let slot = self.slot(page)?;
-        let is_same = self.known(slot) == *bytes;
+        let is_same = self.has_bytes(slot, bytes);
         let Row { state, home, .. } = *self.rows.at(slot);
         match state {
             State::Merged { .. } | State::Zero => self.resettle(slot, u32::from(home), bytes)?,
             State::Own { frame } => {
                 self.stop_waiting(slot);
-                self.keeper.table.store(frame, bytes);
+                self.restless.add(&mut self.rows, slot);
+                if !is_same {
+                    self.keeper.table.store(frame, bytes);
+                }
             }
         }
         if !is_same {
-            self.rows.at_mut(slot).unchanged = false;
+            self.rows.at_mut(slot).is_unchanged = false;
             self.forget_content(slot);
         }
         Ok(Reply::Done)

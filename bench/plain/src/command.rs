@@ -62,7 +62,6 @@ pub struct Knobs {
 pub struct Counters {
     pub shared: u64,
     pub merged: u64,
-    pub waiting: u64,
     pub zero: u64,
     pub chains: u64,
     pub dups: u64,

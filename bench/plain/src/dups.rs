@@ -3,7 +3,7 @@
 use std::cmp::Reverse;
 
 use crate::book::Book;
-use crate::contents::Open;
+use crate::contents::{Group, Open};
 use crate::numbers::Numbers;
 use crate::rows::State;
 
@@ -17,10 +17,13 @@ pub struct Dup {
     pub items: Vec<u32>,
 }
 
+/// The words of a set of places.
+const PLACE_WORDS: usize = 1024 / u64::BITS as usize;
+
 pub struct Dups {
     dups: Vec<Dup>,
-    empty: Numbers,
-    stale: Numbers,
+    empty: Numbers<PLACE_WORDS>,
+    stale: Numbers<PLACE_WORDS>,
     next: u64,
 }
 
@@ -51,13 +54,17 @@ impl Dups {
 }
 
 impl Book {
-    /// The dup had so many items and has so many now: it may be joined, or may no longer.
+    /// The dup had so many items and has so many now: it may be joined, or may no longer. Where it is the first that may be joined, the
+    /// row that waits is to be visited.
     #[inline]
     fn count_items(&mut self, place: u32, before: u32, now: u32) {
         let limit = self.knobs.max_page_sharing;
         let dup = self.dups.at(place);
         let number = Reverse(dup.number);
-        let open = &mut self.contents.group(dup.content, dup.tree).open;
+        let Group { open, waiting, .. } = self.contents.group(dup.content, dup.tree);
+        if open.is_empty() && waiting.era == self.era {
+            self.restless.add(&mut self.rows, waiting.slot);
+        }
         let entry = |items| Open { items, number, place };
         if 1 <= before && before < limit {
             if open.last() == Some(&entry(before)) {

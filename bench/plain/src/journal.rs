@@ -94,7 +94,6 @@ impl Journal {
         kind
     }
 
-    /// A number in digits of seven bits, the lowest first, each but the last with its highest bit set.
     #[inline]
     fn add_number(&mut self, number: u64) {
         let mut left = number;
@@ -105,10 +104,15 @@ impl Journal {
         self.0.push(left as u8);
     }
 
+    /// A guest and a page of it, whose digits are eight at most.
     #[inline]
     fn add_page(&mut self, page: Page) {
-        self.add_number(page >> 32);
-        self.add_number(page & u64::from(u32::MAX));
+        let (guest, guest_digits) = digits((page >> 32) as u32);
+        let (number, number_digits) = digits(page as u32);
+        let all = guest | number << (8 * guest_digits);
+        let length = self.0.len() + guest_digits + number_digits;
+        self.0.extend_from_slice(&all.to_le_bytes());
+        self.0.truncate(length);
     }
 
     #[inline]
@@ -123,4 +127,17 @@ impl Journal {
         }
         0
     }
+}
+
+/// A number in digits of seven bits, the lowest first, each but the last with its highest bit set: so many in the lowest bytes.
+#[inline]
+fn digits(number: u32) -> (u64, usize) {
+    let mut left = u64::from(number);
+    let (mut digits, mut count) = (0, 0);
+    while left >= 1 << 7 {
+        digits |= (left & 0x7f | 1 << 7) << (8 * count);
+        left >>= 7;
+        count += 1;
+    }
+    (digits | left << (8 * count), count + 1)
 }

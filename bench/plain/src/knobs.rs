@@ -2,6 +2,7 @@
 
 use crate::book::Book;
 use crate::command::{Answer, Fault, Reply};
+use crate::table::ZERO_PAGE;
 
 impl Book {
     pub(crate) fn set_run(&mut self, run: u32) -> Answer {
@@ -28,7 +29,22 @@ impl Book {
             return Err(Fault::BadValue);
         }
         self.knobs.use_zero_pages = zero_pages;
+        if zero_pages == 1
+            && let Some(zero) = self.contents.number(&ZERO_PAGE)
+        {
+            self.visit_waiting(zero);
+        }
         Ok(Reply::Done)
+    }
+
+    /// The rows of a content that wait are to be visited.
+    fn visit_waiting(&mut self, content: u32) {
+        for tree in 0..self.nodes {
+            let waiting = self.contents.group(content, tree).waiting;
+            if waiting.era == self.era {
+                self.restless.add(&mut self.rows, waiting.slot);
+            }
+        }
     }
 
     /// A knob of sharing gets another value only while nothing is shared; stale dups go then.
@@ -46,8 +62,8 @@ impl Book {
         }
         if across != self.knobs.merge_across_nodes {
             self.begin_to_set()?;
-            self.all_stop_waiting();
             self.knobs.merge_across_nodes = across;
+            self.all_wait_anew();
         }
         Ok(Reply::Done)
     }

@@ -12,13 +12,14 @@ mod knobs;
 mod line;
 mod numbers;
 mod order;
+mod restless;
 mod rows;
 mod scan;
 mod session;
 mod table;
 mod text;
-mod unmerged;
 mod unmerging;
+mod waiting;
 
 use std::process::ExitCode;
 

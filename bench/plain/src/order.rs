@@ -35,17 +35,6 @@ pub struct Order {
     /// How many pages of each run are mergeable.
     counts: Vec<u32>,
     mergeable: u32,
-    version: u64,
-    last: Last,
-}
-
-/// The run that was looked into last, with how many pages of the runs before it are mergeable, as of a version: the next page that is
-/// asked for is often in the same run.
-#[derive(Clone, Copy, Default)]
-struct Last {
-    version: u64,
-    run: usize,
-    before: u32,
 }
 
 impl Order {
@@ -53,12 +42,6 @@ impl Order {
     #[inline]
     pub fn mergeable(&self) -> u32 {
         self.mergeable
-    }
-
-    /// It changes with the pages and with which of them are mergeable, and is 0 only where there never was one.
-    #[inline]
-    pub fn version(&self) -> u64 {
-        self.version
     }
 
     /// The run in which a page is, or would be.
@@ -77,7 +60,8 @@ impl Order {
         let at = self.runs[run].partition_point(|entry| entry.page() < page);
         self.runs[run].insert(at, Entry::new(page, true));
         self.firsts[run] = self.runs[run][0].page();
-        self.count(run, true);
+        self.counts[run] += 1;
+        self.mergeable += 1;
     }
 
     /// Cuts a full run in two, or makes an empty one for the page where there is none, or where the page comes behind the full one.
@@ -100,11 +84,11 @@ impl Order {
     }
 
     pub fn remove(&mut self, page: Page) {
-        self.mark(page, false);
         let run = self.run_of(page);
         let at = self.runs[run].partition_point(|entry| entry.page() < page);
-        self.runs[run].remove(at);
-        self.version += 1;
+        let came = u32::from(self.runs[run].remove(at).is_mergeable());
+        self.counts[run] -= came;
+        self.mergeable -= came;
         match self.runs[run].first() {
             Some(first) => self.firsts[run] = first.page(),
             None => {
@@ -115,72 +99,92 @@ impl Order {
         }
     }
 
-    /// Marks a page that is there; tells whether it was marked otherwise.
-    pub fn mark(&mut self, page: Page, is_mergeable: bool) -> bool {
-        let run = self.run_of(page);
-        let at = self.runs[run].partition_point(|entry| entry.page() < page);
-        let was_mergeable = self.runs[run][at].is_mergeable();
-        if was_mergeable != is_mergeable {
-            self.runs[run][at] = Entry::new(page, is_mergeable);
-            self.count(run, is_mergeable);
+    /// Marks the pages from the first to the last of these; tells which were marked otherwise, in order.
+    pub fn mark(&mut self, pages: RangeInclusive<Page>, is_mergeable: bool) -> Vec<Page> {
+        let mut marked = Vec::new();
+        for run in self.run_of(*pages.start())..self.runs.len() {
+            let entries = &mut self.runs[run];
+            let alike = if is_mergeable { entries.len() } else { 0 };
+            if self.firsts[run] > *pages.end() {
+                break;
+            }
+            if self.counts[run] as usize == alike {
+                continue;
+            }
+            let differ = |entry: &&mut Entry| entry.is_mergeable() != is_mergeable && pages.contains(&entry.page());
+            for entry in entries.iter_mut().filter(differ) {
+                *entry = Entry::new(entry.page(), is_mergeable);
+                marked.push(entry.page());
+            }
+            self.counts[run] = mergeable_of(entries);
         }
-        was_mergeable != is_mergeable
-    }
-
-    /// A mergeable page of the run came or went.
-    fn count(&mut self, run: usize, came: bool) {
-        if came {
-            self.counts[run] += 1;
-            self.mergeable += 1;
+        let count = marked.len() as u32;
+        self.mergeable = if is_mergeable {
+            self.mergeable + count
         } else {
-            self.counts[run] -= 1;
-            self.mergeable -= 1;
-        }
-        self.version += 1;
+            self.mergeable - count
+        };
+        marked
     }
 
-    /// How many pages up to this one are mergeable, itself included.
-    pub fn up_to(&mut self, page: Page) -> u32 {
-        if self.runs.is_empty() {
-            return 0;
+    /// Goes so many visits on behind the cursor, or to the end of the pass where that comes first: the last page visited, or none where
+    /// the pass ends, and how many visits there are.
+    pub fn ahead(&self, cursor: Option<Page>, visits: u64) -> (Option<Page>, u64) {
+        if cursor.is_none() && visits >= u64::from(self.mergeable) {
+            return (None, u64::from(self.mergeable));
         }
-        let Last { run, before, .. } = self.look_into(page);
-        let entries = &self.runs[run];
-        let at = entries.partition_point(|entry| entry.page() <= page);
-        let is_whole = self.counts[run] as usize == entries.len();
-        before + if is_whole { at as u32 } else { mergeable_of(&entries[..at]) }
+        let mut left = visits;
+        let mut run = cursor.map_or(0, |page| self.run_of(page));
+        let mut start = cursor.map_or(0, |page| self.runs[run].partition_point(|entry| entry.page() <= page));
+        while run < self.runs.len() {
+            let there = self.mergeable_from(run, start);
+            if left <= there {
+                let is_last = left == there && self.counts[run + 1..].iter().all(|&count| count == 0);
+                return ((!is_last).then(|| self.nth(run, start, left)), visits);
+            }
+            left -= there;
+            (run, start) = (run + 1, 0);
+        }
+        (None, visits - left)
     }
 
-    /// Finds the run of a page.
+    /// How many pages of a run are mergeable, from an index on.
     #[inline]
-    fn look_into(&mut self, page: Page) -> Last {
-        let Last { version, run, .. } = self.last;
-        let is_there = version == self.version && self.firsts[run] <= page && self.firsts.get(run + 1).is_none_or(|&next| page < next);
-        if !is_there {
-            let run = self.run_of(page);
-            self.last = Last {
-                version: self.version,
-                run,
-                before: self.counts[..run].iter().sum(),
-            };
-        }
-        self.last
+    fn mergeable_from(&self, run: usize, start: usize) -> u64 {
+        let entries = &self.runs[run];
+        let count = self.counts[run];
+        u64::from(if start == 0 {
+            count
+        } else if count as usize == entries.len() {
+            count - start as u32
+        } else {
+            mergeable_of(&entries[start..])
+        })
     }
 
-    /// The mergeable page up to which there are so many, which are no more than there are, and one at least.
-    pub fn nth(&self, count: u32) -> Page {
-        let mut left = count;
-        let mut run = 0;
-        while self.counts[run] < left {
-            left -= self.counts[run];
-            run += 1;
-        }
-        let entries = &self.runs[run];
-        if self.counts[run] as usize == entries.len() {
-            return entries[left as usize - 1].page();
+    /// The page up to which so many of a run are mergeable, from an index on: one at least, and no more than there are.
+    fn nth(&self, run: usize, start: usize, count: u64) -> Page {
+        let entries = &self.runs[run][start..];
+        let before = count as usize - 1;
+        if self.counts[run] as usize == self.runs[run].len() {
+            return entries[before].page();
         }
         let mut mergeable = entries.iter().filter(|entry| entry.is_mergeable());
-        mergeable.nth(left as usize - 1).expect("the run has so many").page()
+        mergeable.nth(before).expect("the run has so many").page()
+    }
+
+    /// Whether there are pages from the first to the last of these.
+    pub fn has_any(&self, pages: &RangeInclusive<Page>) -> bool {
+        let Some(entries) = self.runs.get(self.run_of(*pages.start())) else {
+            return false;
+        };
+        let at = entries.partition_point(|entry| entry.page() < *pages.start());
+        let next = self.firsts.get(self.run_of(*pages.start()) + 1).copied();
+        entries
+            .get(at)
+            .map(|entry| entry.page())
+            .or(next)
+            .is_some_and(|page| page <= *pages.end())
     }
 
     /// The pages from the first to the last of these, in order.

@@ -5,19 +5,22 @@ use std::mem;
 use crate::book::Book;
 use crate::command::{Answer, Fault, Reply};
 use crate::contents::Waiting;
-use crate::rows::State;
+use crate::restless::Entry;
+use crate::rows::{Page, State};
 use crate::table::ZERO_PAGE;
 
 /// What a visit comes to.
 enum Visit {
     /// The row waits.
     Waits,
+    /// It waits, in place of a row that is visited again.
+    WaitsFirst,
     /// It keeps its frame, and is unchanged now.
     Stays,
     /// It was merged, or went to the zero page.
     Leaves,
-    /// It had been merged before.
-    WasMerged,
+    /// It was gone, had no frame of its own, or wasn't mergeable.
+    WasGone,
 }
 
 impl Book {
@@ -25,100 +28,120 @@ impl Book {
         if self.knobs.run != 1 {
             return Err(Fault::NotRunning);
         }
-        let rows = self.order.mergeable();
-        if rows == 0 {
+        if self.order.mergeable() == 0 {
             return Ok(Reply::Scanned(0));
         }
         let mut left = visits;
         while left > 0 {
-            let is_whole = self.cursor.is_none() && left >= u64::from(rows);
-            let passed = self.cursor.map_or(0, |page| self.order.up_to(page));
-            let end = u64::from(rows).min(u64::from(passed) + left) as u32;
-            let is_quiet = self.scan_part(passed, end);
-            left -= u64::from(end - passed);
-            if is_whole && is_quiet {
-                let passes = left / u64::from(rows);
+            let is_whole = self.cursor.is_none();
+            if is_whole {
+                self.waits_from = 0;
+            }
+            self.restless.gather(&mut self.rows);
+            let (last, made) = self.order.ahead(self.cursor, left);
+            let is_quiet = self.visit_up_to(last.unwrap_or(Page::MAX));
+            self.cursor = last;
+            left -= made;
+            if last.is_none() {
+                let mut passes = 1;
+                if is_whole && is_quiet {
+                    passes += left / made;
+                    left %= made;
+                }
                 self.counters.full_scans = self.counters.full_scans.saturating_add(passes);
-                left -= passes * u64::from(rows);
             }
         }
         Ok(Reply::Scanned(visits))
     }
 
-    /// Makes the visits of a pass behind the first so many, up to the end; tells whether each left its row as it was, or waiting.
-    fn scan_part(&mut self, passed: u32, end: u32) -> bool {
-        let first = match self.cursor {
-            Some(page) => self.unmerged.behind(page),
-            None => {
-                self.all_stop_waiting();
-                0
-            }
-        };
-        // No visit adds to the list, or changes which rows are mergeable.
-        let mut list = mem::take(&mut self.unmerged);
+    /// Visits the restless rows behind the cursor, up to a page; tells whether each was left as it was, or waiting.
+    fn visit_up_to(&mut self, last: Page) -> bool {
+        let first = self.cursor.map_or(0, |page| self.restless.behind(page));
+        let mut list = mem::take(&mut self.restless.sorted);
         let (mut kept, mut next, mut is_quiet) = (first, first, true);
-        while let Some(row) = list.0.get_mut(next)
-            && row.up_to(&mut self.order) <= end
+        while let Some(&entry) = list.get(next)
+            && entry.page <= last
         {
-            let slot = row.slot;
-            let visit = self.visit(slot);
-            is_quiet &= matches!(visit, Visit::Waits | Visit::WasMerged);
-            if matches!(visit, Visit::Waits | Visit::Stays) {
-                if kept < next {
-                    list.0[kept] = list.0[next];
-                }
-                kept += 1;
-            }
             next += 1;
+            match self.visit(entry) {
+                Visit::Waits | Visit::WasGone => {}
+                Visit::WaitsFirst => self.restless.put_ahead(&mut list, next, entry.page),
+                Visit::Leaves => is_quiet = false,
+                Visit::Stays => {
+                    list[kept] = entry;
+                    kept += 1;
+                    is_quiet = false;
+                }
+            }
         }
-        list.0.drain(kept..next);
-        self.unmerged = list;
-        self.stand_at(passed, end);
+        list.drain(kept..next);
+        self.restless.sorted = list;
         is_quiet
     }
 
-    /// The cursor goes to the page up to which the pass has come, or the pass ends.
-    fn stand_at(&mut self, passed: u32, end: u32) {
-        if end == self.order.mergeable() {
-            self.counters.full_scans = self.counters.full_scans.saturating_add(1);
-            self.cursor = None;
-        } else if end > passed {
-            self.cursor = Some(self.order.nth(end));
-        }
-    }
-
     #[inline]
-    fn visit(&mut self, slot: u32) -> Visit {
-        let row = self.rows.at(slot);
-        let (home, is_unchanged) = (row.home, row.unchanged);
+    fn visit(&mut self, entry: Entry) -> Visit {
+        let slot = entry.slot;
+        let row = self.rows.at_mut(slot);
+        if row.page != entry.page {
+            return Visit::WasGone;
+        }
+        row.is_listed = false;
         let State::Own { frame } = row.state else {
-            return Visit::WasMerged;
+            return Visit::WasGone;
         };
+        if !row.is_mergeable {
+            return Visit::WasGone;
+        }
+        let (home, is_unchanged) = (row.home, row.is_unchanged);
         let content = row.content.unwrap_or_else(|| self.learn_content(slot, frame));
         let tree = self.tree(home);
         let goes_to_zero = self.knobs.use_zero_pages == 1 && *self.contents.bytes(content) == ZERO_PAGE;
         let group = self.contents.group(content, tree);
-        let other = group.waiting;
         if let Some(best) = group.open.last() {
             let place = best.place;
+            self.stop_waiting(slot);
             self.join_dup(place, slot, frame);
+            Visit::Leaves
         } else if !is_unchanged {
-            self.rows.at_mut(slot).unchanged = true;
-            return Visit::Stays;
+            let row = self.rows.at_mut(slot);
+            (row.is_unchanged, row.is_listed) = (true, true);
+            Visit::Stays
         } else if goes_to_zero {
+            self.stop_waiting(slot);
             self.keeper.sub(frame);
             self.rows.at_mut(slot).state = State::Zero;
             self.counters.zero += 1;
-        } else if other.pass == self.pass
-            && let State::Own { frame: first } = self.rows.at(other.slot).state
-        {
-            self.make_dup((other.slot, first), (slot, frame), content, tree);
+            Visit::Leaves
+        } else if group.waiting.era == self.era {
+            let other = group.waiting.slot;
+            self.meet(other, (entry, frame), content, tree)
         } else {
-            group.waiting = Waiting { slot, pass: self.pass };
-            self.counters.waiting += 1;
+            group.waiting = Waiting { slot, era: self.era };
+            self.waiting.insert(entry);
+            Visit::Waits
+        }
+    }
+
+    /// A row with its frame merges with the one of its group, where that one waits in this pass by now, or waits in place of it.
+    fn meet(&mut self, other: u32, (entry, frame): (Entry, u32), content: u32, tree: u32) -> Visit {
+        if other == entry.slot {
             return Visit::Waits;
         }
-        Visit::Leaves
+        let row = self.rows.at(other);
+        let State::Own { frame: first } = row.state else {
+            unreachable!("a row that waits has a frame of its own")
+        };
+        let page = row.page;
+        if (self.waits_from..entry.page).contains(&page) {
+            self.make_dup((other, first), (entry.slot, frame), content, tree);
+            return Visit::Leaves;
+        }
+        self.waiting.remove(page);
+        self.restless.add(&mut self.rows, other);
+        self.contents.group(content, tree).waiting.slot = entry.slot;
+        self.waiting.insert(entry);
+        Visit::WaitsFirst
     }
 
     /// The number of the row's bytes, which it keeps until it is stored to.

@@ -6,7 +6,7 @@ use std::sync::atomic::Ordering::SeqCst;
 use std::thread;
 
 use crate::book::Book;
-use crate::command::{Answer, Command, Counters, Fault, Reply};
+use crate::command::{Answer, Command, Fault, Reply};
 use crate::line::{Knob, Line};
 use crate::table::{Found, Hold, PageBytes, Table, Why};
 use crate::text::{write_content, write_number};
@@ -48,7 +48,7 @@ impl Session {
             Line::Rmap(place) => self.write_mappers(text, place)?,
             Line::Show(knob) => self.write_knob(text, knob),
             Line::ShowZeroPages => write_number(text, b"", self.book.counters().zero),
-            Line::Stat => write_counters(text, self.book.counters(), self.book.mergeable()),
+            Line::Stat => write_counters(text, &self.book),
             Line::Find(pass, place) => self.find(text, pass, place, None)?,
             Line::Equal(pass, place, content) => self.find(text, pass, place, Some(content))?,
             Line::Look(pass) => {
@@ -201,11 +201,12 @@ fn write_refusal(text: &mut Vec<u8>, fault: Fault) {
     write_number(text, b"refused ", fault as u32);
 }
 
-fn write_counters(text: &mut Vec<u8>, counters: &Counters, mergeable: u64) {
+fn write_counters(text: &mut Vec<u8>, book: &Book) {
+    let (counters, waiting) = (book.counters(), book.waiting());
     write_number(text, b"stat shared=", counters.shared);
     write_number(text, b" sharing=", counters.merged - counters.shared);
-    write_number(text, b" unshared=", counters.waiting);
-    write_number(text, b" volatile=", mergeable - counters.merged - counters.waiting - counters.zero);
+    write_number(text, b" unshared=", waiting);
+    write_number(text, b" volatile=", book.mergeable() - counters.merged - waiting - counters.zero);
     write_number(text, b" chains=", counters.chains);
     write_number(text, b" dups=", counters.dups);
     write_number(text, b" full_scans=", counters.full_scans);

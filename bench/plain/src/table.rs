@@ -1,7 +1,8 @@
-//! The words that readers and the keeper share: places, and for each frame a word of generation and count, and its content.
+//! The words that readers and the keeper share: places, and for each frame a word of generation and count, and its content. A content
+//! is written only where no reader has a hold, and a reader gets a hold by the words, which are in one order: so contents need none.
 
 use std::sync::atomic::AtomicU64;
-use std::sync::atomic::Ordering::SeqCst;
+use std::sync::atomic::Ordering::{Relaxed, SeqCst};
 
 include!(concat!(env!("OUT_DIR"), "/page_words.rs"));
 
@@ -102,13 +103,20 @@ impl Table {
     #[inline]
     pub fn load(&self, frame: u32) -> PageBytes {
         let content = &self.frames[frame as usize].content;
-        std::array::from_fn(|i| content[i].load(SeqCst))
+        std::array::from_fn(|i| content[i].load(Relaxed))
+    }
+
+    /// Whether a frame has these bytes. The first word that differs tells.
+    #[inline]
+    pub fn has(&self, frame: u32, bytes: &PageBytes) -> bool {
+        let mut words = self.frames[frame as usize].content.iter().zip(bytes);
+        words.all(|(word, value)| word.load(Relaxed) == *value)
     }
 
     #[inline]
     pub fn store(&self, frame: u32, bytes: &PageBytes) {
         for (word, value) in self.frames[frame as usize].content.iter().zip(bytes) {
-            word.store(*value, SeqCst);
+            word.store(*value, Relaxed);
         }
     }
 
@@ -128,8 +136,8 @@ impl Table {
     }
 
     #[inline]
-    pub fn add(&self, frame: u32) {
-        self.frames[frame as usize].word.fetch_add(1, SeqCst);
+    pub fn add(&self, frame: u32, references: u32) {
+        self.frames[frame as usize].word.fetch_add(u64::from(references), SeqCst);
     }
 
     #[inline]

@@ -1,21 +1,26 @@
 //! Commands on all pages of a guest, and on all pages.
 
+use std::ops::RangeInclusive;
+
 use crate::book::Book;
 use crate::command::{Answer, Fault, Reply};
 use crate::rows::{Page, Row, State, page};
 
-impl Book {
-    fn pages_of(&self, guest: u32) -> Result<Vec<Page>, Fault> {
-        let pages = self.order.within(page(guest, 0)..=page(guest, u32::MAX));
-        if pages.is_empty() { Err(Fault::UnknownPage) } else { Ok(pages) }
-    }
+/// The pages that a guest may have.
+fn pages_of(guest: u32) -> RangeInclusive<Page> {
+    page(guest, 0)..=page(guest, u32::MAX)
+}
 
+impl Book {
     pub(crate) fn make_mergeable(&mut self, guest: u32) -> Answer {
-        for page in self.pages_of(guest)? {
-            if self.order.mark(page, true) {
-                let slot = self.slot(page)?;
-                self.unmerged.insert(page, slot);
-            }
+        let pages = pages_of(guest);
+        if !self.order.has_any(&pages) {
+            return Err(Fault::UnknownPage);
+        }
+        for page in self.order.mark(pages, true) {
+            let slot = self.slot(page)?;
+            self.rows.at_mut(slot).is_mergeable = true;
+            self.restless.add(&mut self.rows, slot);
         }
         Ok(Reply::Done)
     }
@@ -31,19 +36,27 @@ impl Book {
     }
 
     pub(crate) fn unmerge(&mut self, guest: u32) -> Answer {
-        let mut unshared = 0;
-        for page in self.pages_of(guest)? {
+        let pages = self.order.within(pages_of(guest));
+        let first = *pages.first().ok_or(Fault::UnknownPage)?;
+        let (mut unshared, mut stop) = (0, None);
+        for &page in &pages {
             let slot = self.slot(page)?;
             match self.unshare(slot) {
                 Ok(was_shared) => unshared += u64::from(was_shared),
-                Err(fault) => return Ok(Reply::Unmerged(unshared, Some(fault))),
+                Err(fault) => {
+                    stop = Some((page, fault));
+                    break;
+                }
             }
             self.stop_waiting(slot);
-            self.rows.at_mut(slot).unchanged = false;
-            self.order.mark(page, false);
-            self.unmerged.remove(page);
+            let row = self.rows.at_mut(slot);
+            (row.is_unchanged, row.is_mergeable) = (false, false);
         }
-        Ok(Reply::Unmerged(unshared, None))
+        let end = stop.map_or(page(guest, u32::MAX) + 1, |(page, _)| page);
+        if first < end {
+            self.order.mark(first..=end - 1, false);
+        }
+        Ok(Reply::Unmerged(unshared, stop.map(|(_, fault)| fault)))
     }
 
     pub(crate) fn unmerge_all(&mut self) -> Reply {
@@ -53,7 +66,7 @@ impl Book {
             match self.unshare(slot) {
                 Ok(false) => {}
                 Ok(true) => {
-                    self.rows.at_mut(slot).unchanged = false;
+                    self.rows.at_mut(slot).is_unchanged = false;
                     unshared += 1;
                 }
                 Err(fault) => {
@@ -64,7 +77,7 @@ impl Book {
         }
         self.all_stop_waiting();
         for row in self.rows.all_mut() {
-            row.unchanged = false;
+            row.is_unchanged = false;
         }
         self.cursor = None;
         self.knobs.run = 2;
