@@ -1,5 +1,5 @@
 -- The pages once a page with a frame of its own joined a dup.
-use Rattle.ksm_pages.proofs.Names.{All, ap, AreKept, AreTied, AreWaiting, arith, both_ways, change_held, change_items, change_row, count_by, Dup, dup_numbered, dup_of, DupRow, DupsState, each_at_page, Entry, eq-eqb, eqb-true, false, find_none, frame_of, frame_seen, Frames, get_or, GuestPage, has_number, HasRoom, Held, held_at, held_of, Inside, is_some, IsStopped, item_count, items_in, length, let_out, lies_on, List, Listing, lodging, lodgings_of, mapped, Merged, merged_into, merged_state, None, none-some, number_found, Option, option_map, PageState, PagesValue, PagesView, Private, refl, Row, row_at, row_found, row_stopped, rows_items, rows_of, RowsView, same_Some, seen, shared_state, Some, state_of, subst, sym, tied_count, tied_joined, true, true≢false, Waiting, with_item, Zero, ℕ, ◌<◌, ◌==◌, ◌∙◌, ◌≡◌, InPageOrder}
+use Rattle.ksm_pages.proofs.Names.{All, ap, AreKept, AreTied, AreWaiting, arith, both_ways, change_held, change_items, change_row, count_by, Dup, dup_numbered, dup_of, DupRow, DupsState, each_at_page, Entry, eq-eqb, eqb-true, false, find_none, frame_of, frame_seen, Frames, get_or, GuestPage, has_number, HasRoom, Held, held_at, held_of, InPageOrder, Inside, is_some, IsStopped, item_count, items_in, length, let_out, lies_on, List, Listing, lodging, lodgings_of, mapped, Merged, merged_into, merged_state, MOST_REFERENCES, None, none-some, number_found, Option, option_map, PageState, PagesValue, PagesView, Private, refl, Row, row_at, row_found, row_stopped, rows_items, rows_of, RowsView, same_Some, seen, shared_state, Some, state_of, subst, sym, tied_count, tied_joined, true, true≢false, Waiting, with_item, Zero, ℕ, ◌<◌, ◌==◌, ◌∙◌, ◌≡◌}
 use Rattle.ksm_tree.specs.Dups.{items_of as items_numbered, rows_of as dup_rows}
 use Rattle.ksm_pages.specs.Held.{frame_of as own_frame}
 use Rattle.ksm_pages.proofs.Writing.{own_kind}
@@ -37,7 +37,7 @@ has_known rows dups number room =
     (ap (λ (d : DupRow). d.number) room.1.2 ∙ room.2)
 
 found_room : (rows : List Row) (dups : List Dup) (number : ℕ) (o : Option Dup) → AreTied rows dups → dup_of number dups ≡ o
-    → HasRoom rows (dup_rows dups) number → (is_some o ≡ true) × (length (items_in o) < 1024)
+    → HasRoom rows (dup_rows dups) number → (is_some o ≡ true) × (length (items_in o) < MOST_REFERENCES)
 found_room rows dups number None tied is room = absurd (true≢false (sym (has_known rows dups number room) ∙ ap is_some is))
 found_room rows dups number (Some d) tied is room =
     let counted = ap (λ o. length (items_in o)) (sym is) ∙ tied_count rows dups number d tied is in
@@ -50,9 +50,9 @@ pub known_room : (rows : List Row) (dups : List Dup) (number : ℕ) → AreTied 
     → is_some (dup_of number dups) ≡ true
 known_room rows dups number tied room = (found_room rows dups number (dup_of number dups) tied refl room).0
 
--- a dup with room has fewer than 1,024 items
+-- a dup with room has fewer items than there are references at most
 pub fewer_room : (rows : List Row) (dups : List Dup) (number : ℕ) → AreTied rows dups → HasRoom rows (dup_rows dups) number
-    → length (items_numbered number dups) < 1024
+    → length (items_numbered number dups) < MOST_REFERENCES
 fewer_room rows dups number tied room = (found_room rows dups number (dup_of number dups) tied refl room).1
 
 in_state : (of : ℕ → Option ℕ) (number : ℕ) (state : PageState) (own : Option ℕ) → merged_into number state ≡ true

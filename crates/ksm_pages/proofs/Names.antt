@@ -11,6 +11,7 @@ pub use Rattle.ksm_base.specs.Rows.{all_zero, change_row, change_rows, comes_bef
 pub use Rattle.ksm_base.specs.State.{default_knobs, place_count, tree_of}
 pub use Rattle.ksm_base.specs.Visit.{after_cursor, best_dup, is_for_zero, partner}
 pub use Rattle.ksm_base.specs.declared.knobs.Knobs.{Knobs}
+pub use Rattle.ksm_base.specs.declared.limits.TheConstants.{MOST_REFERENCES}
 pub use Rattle.ksm_base.specs.declared.page.GuestPage.{GuestPage}
 pub use Rattle.ksm_base.specs.declared.row.DupRow.{DupRow}
 pub use Rattle.ksm_base.specs.declared.row.PageState.{PageState}

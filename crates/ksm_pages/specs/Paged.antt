@@ -3,6 +3,7 @@
 use Rattle.std.specs.Prelude.{◌≡◌, ℕ, ◌+◌, ◌<◌, ◌≤◌, ◌^◌, Bool, true, false, not, ◌&&◌, ◌||◌, ◌==◌, ◌-◌, List, [], ◌∷◌}
 use Rattle.std.specs.Prelude.{slice_get, option_map, map, All, Contains, find, Option, Some, None, is_some}
 use Rattle.std.specs.Prelude.{option_and_then, MatchOption, length, filter, if◌then◌else◌}
+use Rattle.ksm_base.specs.declared.limits.TheConstants.{MOST_REFERENCES}
 use Rattle.ksm_base.specs.declared.page.GuestPage.{GuestPage}
 use Rattle.ksm_base.specs.declared.row.PageState.TheVariants.{Private, Waiting, Merged, Zero}
 use Rattle.ksm_base.specs.declared.row.Row.{Row}
@@ -139,7 +140,7 @@ elsewhere place d = not (d.place == place)
 
 -- a dup of this number has room for one item more
 abbrev pub HasRoom : List Row → List DupRow → ℕ → Type 0
-HasRoom rows dups number = (d : DupRow) × Contains dups d × (d.number ≡ number) × (item_count rows d ≤ 1023)
+HasRoom rows dups number = (d : DupRow) × Contains dups d × (d.number ≡ number) × (item_count rows d ≤ MOST_REFERENCES - 1)
 
 -- the dup that is made of a row, with a number and at a place
 abbrev pub dup_of_row : Knobs → ℕ → ℕ → Row → DupRow

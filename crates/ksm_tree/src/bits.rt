@@ -147,14 +147,14 @@ impl<S: Bits, const WORDS: usize> Words<S, WORDS> {
 
 // Which of the words has a number's bit. Where there is one word that is known before the program runs.
 #[inline(always)]
-fn word_of(number: u32, words: &[u64]) -> usize
+fn word_of(number: u32, words: &[u64]) -> u32
     requires { number < 64 * length words.now }
     ensures { result ≡ number / 64 }
 {
     if is_alone(words) {
         0
     } else {
-        number as usize / 64
+        number / 64
     }
 }
 
@@ -173,9 +173,9 @@ impl<S: Bits, const WORDS: usize> Bits for Words<S, WORDS> {
     fn add(&mut self, number: u32) {
         let alone = is_alone(&self.words);
         let at = word_of(number, &self.words);
-        self.words[at] |= 1 << (number % 64);
+        self.words[at as usize] |= 1 << (number % 64);
         if !alone {
-            self.summary.add(at as u32);
+            self.summary.add(at);
         }
     }
 
@@ -183,18 +183,18 @@ impl<S: Bits, const WORDS: usize> Bits for Words<S, WORDS> {
     fn remove(&mut self, number: u32) {
         let alone = is_alone(&self.words);
         let at = word_of(number, &self.words);
-        let left = self.words[at] & !(1 << (number % 64));
-        self.words[at] = left;
+        let left = self.words[at as usize] & !(1 << (number % 64));
+        self.words[at as usize] = left;
         if !alone && left == 0 {
-            self.summary.remove(at as u32);
+            self.summary.remove(at);
         }
     }
 
     #[inline(always)]
     fn first_from(&self, from: u32) -> Option<u32> {
-        let at = word_of(from, &self.words) as u32;
+        let at = word_of(from, &self.words);
         match lowest_from(self.words[at as usize], from % 64) {
-            Some(bit) => Some(at * 64 + bit),
+            Some(bit) => Some(from / 64 * 64 + bit),
             None => self.first_behind(at),
         }
     }
