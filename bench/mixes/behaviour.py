@@ -328,18 +328,25 @@ def pinned_pages() -> str:
     return "120 pages that io_uring registered are told apart, 380 are counted"
 
 
+def interrupted_after(child: int, seconds: float) -> dict[str, object]:
+    """What is told where ctrl-C comes so much later, of memory that takes twelve seconds; nothing where too little was
+    read."""
+    run = subprocess.Popen([MEASURE, "--hurry", "--mergeable", "--no-check", "--json", "--rate", "20", str(child)],
+                           stdout=subprocess.PIPE, stderr=subprocess.PIPE, text=True)
+    time.sleep(seconds)
+    run.send_signal(signal.SIGINT)
+    told = run.communicate()[0]
+    assert run.returncode in (0, 130), run.returncode
+    return json.loads(told) if not run.returncode else {}
+
+
 def interrupted() -> str:
     """What was read before an interruption tells bounds, within which the whole lies."""
     child = holding([Page(1 + i // 2) for i in range(30000)] + [Page(10 ** 6 + i) for i in range(30000)])
-    run = subprocess.Popen([MEASURE, "--hurry", "--mergeable", "--no-check", "--json", "--rate", "20", str(child)],
-                           stdout=subprocess.PIPE, stderr=subprocess.PIPE, text=True)
-    # the whole takes twelve seconds, so that on a busy host too this comes in between
-    time.sleep(6)
-    run.send_signal(signal.SIGINT)
-    told = json.loads(run.communicate()[0])
+    # a busy host begins late
+    told = interrupted_after(child, 4) or interrupted_after(child, 8) or interrupted_after(child, 12)
     end(child)
-    assert run.returncode == 0 and told["known"]["kind"] == "interrupted", told["known"]
-    assert 5 < told["known"]["read_percent"] < 95, told["known"]
+    assert told["known"]["kind"] == "interrupted" and told["known"]["read_percent"] < 95, told["known"]
     whole = 15000 * PAGE / (1 << 20)
     assert all(row["saved_from_mb"] <= whole <= row["saved_to_mb"] for row in told["settings"]), told["settings"]
     return f"interrupted when {told['known']['read_percent']:.0f}% was read, the whole lies within the bounds"
