@@ -24,6 +24,10 @@ HEAVY = 30
 BINS = [(1, 1), (2, 2), (3, 3), (4, 4), (5, 6), (7, 9), (10, 14), (15, 21), (22, HEAVY - 1)]
 # how many standard errors a number may be off, and the part by which more are allowed where nothing fits
 ERRORS, MORE = 2.2, 1.4
+# the same where the errors are told by 2, 3 .. rounds (Student's distribution), and by more
+STUDENT, LATER = [21.2, 5.6, 3.9, 3.3, 3.0, 2.8, 2.7, 2.6], 2.5
+# of n blocks that were read none is of a kind that UNSEEN / n of all are, 3 times in 100
+UNSEEN = 3.5
 # a number of blocks is this part above the one before, where all would be too many
 STEP, ALL_BELOW = 1.15, 12
 
@@ -141,18 +145,28 @@ def error_of(by_round: "collections.Counter[int]", all_by_round: "collections.Co
     return math.sqrt(rounds / (rounds - 1) * sum(residue * residue for residue in residues)) / whole
 
 
-class Estimate:
-    """What may be said of the whole, from what was met in a part of it: how many pages there are, and which part was
-    read."""
+def errors_from(rounds: int) -> float:
+    """How many standard errors a number may be off that so many rounds tell."""
+    return STUDENT[max(rounds, 2) - 2] if rounds < len(STUDENT) + 2 else LATER
 
-    def __init__(self, met: Met, pages: float, part: float, rounds: int):
+
+class Estimate:
+    """What may be said of the whole, from what was met in a part of it: how many pages there are, which part was read,
+    in how many rounds and blocks."""
+
+    def __init__(self, met: Met, pages: float, part: float, rounds: int, blocks: float):
         self.met, self.pages, self.part, self.rounds = met, pages, part, max(rounds, 2)
+        self.errors = errors_from(rounds)
+        # the most that blocks may be off, half of which save all and half nothing; and those of kinds not met at all
+        self.most = ERRORS * pages * math.sqrt((1 - part) / max(blocks, 1)) / 2
+        self.unseen = pages * (1 - part) * min(UNSEEN / max(blocks, 1), 1)
+        self.is_one_round = rounds < 2
         self.blocks = numbers_of_blocks(part)
         self.chances = [chances(blocks, part) for blocks in self.blocks]
         self.zeroes = self.share(met.zeroes)
         self.heavy = self.share(met.heavy_rounds)
-        light, blocks = sum(times * size for size, times in met.sizes.items()), max(met.sizes.total(), 1)
-        self.size = light / blocks
+        light = sum(times * size for size, times in met.sizes.items())
+        self.size = light / max(met.sizes.total(), 1)
         # what is saved within blocks is known as well as the rounds agree on it
         self.within = self.pages * error_of(met.within, met.rounds, self.rounds) * math.sqrt(1 - part)
 
@@ -201,7 +215,7 @@ class Estimate:
         """The least and the most frames that stay of the contents met in few blocks."""
         if not self.met.seen:
             return 0.0, 0.0
-        costs, errors = self.costs(limit), ERRORS
+        costs, errors = self.costs(limit), self.errors
         for _ in range(8):
             rows = self.rows(errors)
             low = least(costs, rows)
@@ -211,14 +225,20 @@ class Estimate:
             errors *= MORE
         return None
 
+    def off(self, limit: int) -> float:
+        """How many pages what is saved may be off since other blocks differ from those that were read."""
+        each = 1 - 1 / limit
+        by_rounds = self.errors * math.hypot(self.heavy[1] * each, self.zeroes[1] * each, self.within)
+        told = self.most * each if self.is_one_round else min(by_rounds, self.most * each)
+        return max(told, self.unseen * each)
+
     def saved(self, setting: Setting) -> tuple[float, float]:
         """The least and the most pages that a setting saves."""
         limit, whole = setting.max_page_sharing, max(self.met.rounds.total(), 1)
         few = self.frames(limit) or (0.0, self.pages)
         times = self.pages / whole
         many = sum(math.ceil(pages * times / limit) for pages in self.met.heavy)
-        zeroes, error = self.zeroes
+        zeroes, off = self.zeroes[0], self.off(limit)
         empty = 0.0 if setting.use_zero_pages else min(zeroes, math.ceil(zeroes / limit))
-        off = ERRORS * math.hypot(self.heavy[1], error, self.within) * (1 - 1 / limit)
         middle = self.pages - many - empty
         return max(middle - few[1] - off, 0.0), min(max(middle - few[0] + off, 0.0), self.pages)

@@ -95,7 +95,8 @@ def of_interrupted(look: Look, census: Census, settings: list[Setting], split: i
     places = census.pages() - census.zeroed + census.mapped_again() + census.empty.again
     part = min(max(places / max(look.pages(), 1), 1e-6), 1.0)
     pages = (census.pages() - census.zeroed) / part
-    by_trees = {across: Estimate(met_of(look, not across), pages, part, look.rounds)
+    blocks = places / look.plan.whole
+    by_trees = {across: Estimate(met_of(look, not across), pages, part, look.rounds, blocks)
                 for across in {setting.merge_across_nodes for setting in settings}}
     figures = []
     for setting in settings:

@@ -20,6 +20,7 @@ TOP = os.path.dirname(os.path.dirname(os.path.dirname(os.path.abspath(__file__))
 sys.path.insert(0, TOP)
 from measure_lib import choosing, excerpt, processes, program, savings, units  # pylint: disable=wrong-import-position
 from measure_lib.census import Census, Content, census_of  # pylint: disable=wrong-import-position
+from measure_lib.estimate import Estimate, Met  # pylint: disable=wrong-import-position
 from measure_lib.look import Look  # pylint: disable=wrong-import-position
 from measure_lib.trouble import NOT_AS_PROVED, Ended, Trouble  # pylint: disable=wrong-import-position
 
@@ -327,20 +328,41 @@ def pinned_pages() -> str:
     return "120 pages that io_uring registered are told apart, 380 are counted"
 
 
+def interrupted_after(child: int, seconds: float) -> dict[str, object]:
+    """What is told where ctrl-C comes so much later, of memory that takes twelve seconds; nothing where too little was
+    read."""
+    run = subprocess.Popen([MEASURE, "--hurry", "--mergeable", "--no-check", "--json", "--rate", "20", str(child)],
+                           stdout=subprocess.PIPE, stderr=subprocess.PIPE, text=True)
+    time.sleep(seconds)
+    run.send_signal(signal.SIGINT)
+    told = run.communicate()[0]
+    assert run.returncode in (0, 130), run.returncode
+    return json.loads(told) if not run.returncode else {}
+
+
 def interrupted() -> str:
     """What was read before an interruption tells bounds, within which the whole lies."""
     child = holding([Page(1 + i // 2) for i in range(30000)] + [Page(10 ** 6 + i) for i in range(30000)])
-    run = subprocess.Popen([MEASURE, "--hurry", "--mergeable", "--no-check", "--json", "--rate", "60", str(child)],
-                           stdout=subprocess.PIPE, stderr=subprocess.PIPE, text=True)
-    time.sleep(2.5)
-    run.send_signal(signal.SIGINT)
-    told = json.loads(run.communicate()[0])
+    # a busy host begins late
+    told = interrupted_after(child, 4) or interrupted_after(child, 8) or interrupted_after(child, 12)
     end(child)
-    assert run.returncode == 0 and told["known"]["kind"] == "interrupted", told["known"]
-    assert 5 < told["known"]["read_percent"] < 95, told["known"]
+    assert told["known"]["kind"] == "interrupted" and told["known"]["read_percent"] < 95, told["known"]
     whole = 15000 * PAGE / (1 << 20)
     assert all(row["saved_from_mb"] <= whole <= row["saved_to_mb"] for row in told["settings"]), told["settings"]
     return f"interrupted when {told['known']['read_percent']:.0f}% was read, the whole lies within the bounds"
+
+
+def bounds_of_few_blocks() -> str:
+    """Where pairs alone were met in three blocks of sixty, the other blocks may have none; not so in 3,000 of 60,000."""
+    lows = []
+    for blocks, rounds, pairs in (3, 1, 500), (3000, 20, 1):
+        met, pages = Met(), 2 * blocks * pairs
+        for number in range(blocks * pairs):
+            met.add({number % blocks: number % rounds}, {number % blocks: 2})
+        estimate = Estimate(met, 20 * pages, 0.05, rounds, blocks)
+        lows.append([estimate.saved(setting)[0] / (20 * pages) for setting in savings.grid(1)])
+    assert max(lows[0]) < 0.1 and min(lows[1]) > 0.45, lows
+    return f"of three blocks of pairs the least is {max(lows[0]):.0%}, of 3,000 {min(lows[1]):.0%}"
 
 
 def over_time() -> str:
@@ -371,6 +393,6 @@ def how_numbers_are_written() -> str:
     return "no zero has a sign"
 
 
-ALL = [chosen_by_names, pinned_pages, interrupted, over_time, how_numbers_are_written, excerpts_on_nodes,
-       one_that_ends, one_that_ended_before, one_that_grows, pages_that_change, frames_of_a_fork,
+ALL = [chosen_by_names, pinned_pages, interrupted, bounds_of_few_blocks, over_time, how_numbers_are_written,
+       excerpts_on_nodes, one_that_ends, one_that_ended_before, one_that_grows, pages_that_change, frames_of_a_fork,
        without_permission, statuses, nothing_of_contents]
