@@ -151,11 +151,7 @@ fn word_of(number: u32, words: &[u64]) -> u32
     requires { number < 64 * length words.now }
     ensures { result ≡ number / 64 }
 {
-    if is_alone(words) {
-        0
-    } else {
-        number / 64
-    }
+    if is_alone(words) { 0 } else { number / 64 }
 }
 
 // Whether there is one word.
