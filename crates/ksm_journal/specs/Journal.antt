@@ -1,5 +1,5 @@
 -- A journal, whether its entries are kept or counted. Own.
-use Rattle.std.specs.Prelude.{ℕ, ◌-◌, ◌^◌, Bool, true, false, ltb, ◌&&◌, List, Option, None, Some}
+use Rattle.std.specs.Prelude.{ℕ, ◌-◌, ◌^◌, Bool, true, false, ltb, ◌&&◌, if◌then◌else◌, List, Option, None, Some, slice_get}
 use Rattle.ksm_base.specs.Journal.{Entry}
 use Rattle.ksm_journal.specs.Coding.{KeptView}
 
@@ -25,3 +25,7 @@ is_free (Some k) = k.has_room
 -- a journal of so many entries has memory for one more, and number for it
 abbrev pub has_room_for : ℕ → Option KeptView → Bool
 has_room_for count kept = ltb count most_entries && is_free kept
+
+-- the entry with this number, from 0 on, if there is one and the entries are kept
+abbrev pub told_at : Bool → List Entry → ℕ → Option Entry
+told_at kept entries number = if kept then slice_get entries number else None

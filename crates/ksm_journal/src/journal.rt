@@ -1,7 +1,7 @@
 //! The journal: the commands that a book was given, with its answers.
 
-ghost use Rattle.std.specs.Prelude.{◌≡◌, ◌++◌, ◌∷◌, ◌<◌, [], Ok, None, true, false, if◌then◌else◌, length, slice_get, IfOk};
-ghost use Rattle.ksm_journal.specs.Journal.{most_entries};
+ghost use Rattle.std.specs.Prelude.{◌≡◌, ◌++◌, ◌∷◌, ◌<◌, [], Ok, true, false, length, IfOk};
+ghost use Rattle.ksm_journal.specs.Journal.{most_entries, told_at};
 
 use crate::history::History;
 use crate::kept::KeptEntries;
@@ -110,7 +110,7 @@ impl Journal {
     /// The command of entry `number`, from 0 on, with its answer; none where there are not so many entries, and none
     /// where they are counted alone.
     pub fn get(&self, number: usize) -> Option<(Command, Result<Reply, Fault>)>
-        ensures { result ≡ (if self.now.is_kept then slice_get self.now.entries number else None) }
+        ensures { result ≡ told_at self.now.is_kept self.now.entries number }
     {
         match &self.kept {
             Some(kept) => kept.get(number),
