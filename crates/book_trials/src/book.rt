@@ -1,6 +1,6 @@
 //! The book by its commands: pages merge, are written, move, and give their frames back, and the journal has each
 //! command.
-ghost use Rattle.std.specs.Prelude.{◌≡◌, All, IfOk, vec_len};
+ghost use Rattle.std.specs.Prelude.{◌≡◌, [], All, IfOk, vec_len};
 ghost use Rattle.ksm_base.specs.Values.{IsShape, frames_of};
 
 use frame_table::{Found, FrameTable, Pass};
@@ -8,7 +8,7 @@ use ksm_base::Command::{
     Drop, Mergeable, MoveDup, MovePage, Prune, Register, Scan, SetAcross, SetLimit, SetRun, Store,
 };
 use ksm_base::{Command, Counters, Fault, GuestPage, PAGE_WORDS, PageBytes, Reply, Shape};
-use ksm_book::Book;
+use ksm_book::{Book, Journal};
 use std::alloc::Global;
 use std::process::Abort;
 use std::test::Fail;
@@ -51,21 +51,36 @@ fn scanned(visits: u64) -> Result<Reply, Fault> {
     Ok(Reply::Scanned { visits, stop: None })
 }
 
-// A table with its passes, and a book on it.
-fn opened(alloc: Global, shape: Shape) -> Result<(FrameTable, Book, Vec<Pass>), Fault>
-    requires { IsShape shape }
+// A table with its passes, and a book on it with this journal.
+fn opened_with(
+    alloc: Global,
+    shape: Shape,
+    journal: Journal,
+) -> Result<(FrameTable, Book, Vec<Pass>), Fault>
+    requires shape { IsShape shape }
+    requires empty { journal.entries ≡ [] }
     ensures shape { IfOk result (λ t. t.0.shape ≡ shape) }
     ensures own { IfOk result (λ t. t.1.keeper.table ≡ t.0) }
     ensures passes { IfOk result (λ t. (vec_len t.2 ≡ shape.passes) × All (λ p. p.table ≡ t.0) t.2.items) }
 {
     let (table, keeper, passes) = FrameTable::open(alloc, shape)?;
-    match Book::open(alloc, keeper, shape) {
+    match Book::open(alloc, keeper, shape, journal) {
         Ok(book) => Ok((table, book, passes)),
         Err((keeper, fault)) => {
             let _ = table.close(keeper, passes);
             Err(fault)
         }
     }
+}
+
+// The same with a journal that counts its entries.
+fn opened(alloc: Global, shape: Shape) -> Result<(FrameTable, Book, Vec<Pass>), Fault>
+    requires { IsShape shape }
+    ensures shape { IfOk result (λ t. t.0.shape ≡ shape) }
+    ensures own { IfOk result (λ t. t.1.keeper.table ≡ t.0) }
+    ensures passes { IfOk result (λ t. (vec_len t.2 ≡ shape.passes) × All (λ p. p.table ≡ t.0) t.2.items) }
+{
+    opened_with(alloc, shape, Journal::counted())
 }
 
 // Two pages of one content, merged by two passes.
@@ -216,10 +231,12 @@ fn held_dup_moves_once_it_is_left(rt: HostRuntime) -> Result<(), Fail> {
     Ok(())
 }
 
-// The journal has each command with its answer, in order, those refused included.
+// A kept journal has each command with its answer, in order, those refused included.
 #[test]
 fn journal_tells_each_command(rt: HostRuntime) -> Result<(), Fail> {
-    let (table, mut book, passes) = opened(rt.alloc(), SHAPE)?;
+    let alloc = rt.alloc();
+    let (table, mut book, passes) = opened_with(alloc, SHAPE, Journal::kept(alloc))?;
+    assert!(rt; book.journal().is_kept());
     assert_eq!(rt; book.journal().get(0), None);
     merge_two(&rt, &table, &mut book);
     let refused = book.apply(&table, registered(0, 0));
@@ -233,6 +250,60 @@ fn journal_tells_each_command(rt: HostRuntime) -> Result<(), Fail> {
     assert_eq!(rt; book.journal().get(5), Some((stored(1), DONE)));
     assert_eq!(rt; book.journal().get(6), None);
     let _ = table.close(book.close(), passes);
+    Ok(())
+}
+
+// Commands that are done and some that are refused: pages come, merge, are written and go, and knobs change.
+fn mixed() -> [Command; 12] {
+    [
+        registered(0, 0),
+        registered(1, 0),
+        registered(0, 0),
+        SetRun(1),
+        Scan { visits: 4 },
+        stored(1),
+        stored(3),
+        SetLimit(1),
+        Prune,
+        MoveDup { place: 0, node: 1 },
+        Drop { page: page(0) },
+        SetRun(2),
+    ]
+}
+
+// An entry that was read, if there was one.
+type Told = Option<(Command, Result<Reply, Fault>)>;
+
+// What the commands are answered, by a book with this journal, and what its journal then tells: how many entries there
+// are, and the first.
+fn answers(
+    alloc: Global,
+    journal: Journal,
+) -> Result<([Result<Reply, Fault>; 12], usize, Told), Fault>
+    requires { journal.entries ≡ [] }
+{
+    let (table, mut book, passes) = opened_with(alloc, SHAPE, journal)?;
+    let commands = mixed();
+    let mut answers = [DONE; 12];
+    'commands: for i in 0..12 {
+        answers[i] = book.apply(&table, commands[i]);
+    }
+    let told = (answers, book.journal().len(), book.journal().get(0));
+    let _ = table.close(book.close(), passes);
+    Ok(told)
+}
+
+// A book that counts its entries answers as one that keeps them, and has as many; but it tells none.
+#[test]
+fn counted_book_answers_as_a_kept_one(rt: HostRuntime) -> Result<(), Fail> {
+    let alloc = rt.alloc();
+    let kept = answers(alloc, Journal::kept(alloc))?;
+    let counted = answers(alloc, Journal::counted())?;
+    assert_eq!(rt; kept.0, counted.0);
+    assert_eq!(rt; kept.0[2], Err(Fault::AlreadyRegistered));
+    assert_eq!(rt; (kept.1, counted.1), (12, 12));
+    assert_eq!(rt; kept.2, Some((registered(0, 0), DONE)));
+    assert_eq!(rt; counted.2, None);
     Ok(())
 }
 

@@ -1,6 +1,6 @@
 -- A command carried out: what it answered, the state after it, the steps that it made on the frames, and where each
 -- page lies then (own).
-use Rattle.std.specs.Prelude.{◌≡◌, ℕ, ◌==◌, List, take, Option, Some, None, Ok, Err, MatchBool, MatchOption}
+use Rattle.std.specs.Prelude.{◌≡◌, ℕ, ◌==◌, Bool, List, take, Option, Some, None, Ok, Err, MatchBool, MatchOption}
 use Rattle.ksm_base.specs.declared.row.Row.{Row}
 use Rattle.ksm_base.specs.declared.command.Command.{Command}
 use Rattle.ksm_base.specs.declared.command.Command.TheVariants.{Register, Drop, Store, Scan, Prune, Unmerge}
@@ -94,12 +94,14 @@ pub record CarriedOut (v w : BookView) (command : Command) (given : Answer) : Ty
   -- what the log shows of no frame, in use, and a dup that moved
   pub shown : HasShown v.state v.keeper w.keeper given command
 
--- what contracts see of a book: its state, where its pages lie, the keeper of the frames, and its journal
+-- what contracts see of a book: its state, where its pages lie, the keeper of the frames, and its journal, with whether
+-- the entries are kept
 pub record JournaledBook : Type 0 where
   pub state : BookState
   pub lodgings : List Lodging
   pub keeper : KeeperView
   pub journal : List Entry
+  pub is_kept : Bool
 
 -- a book without its journal
 abbrev pub unjournaled : JournaledBook → BookView

@@ -31,7 +31,8 @@ use std::alloc::Global;
 use std::marker::Model;
 
 /// The pages of the guests and the dups into which they are merged, in the frames of a keeper, with the journal of all
-/// commands. Contracts see the state of the book, the frame of each page, the keeper, and the entries of the journal.
+/// commands. Contracts see the state of the book, the frame of each page, the keeper, the entries of the journal, and
+/// whether they are kept.
 ///
 /// The journal is legal: it leads from the opening book to the state as it is.
 pub struct Book {
@@ -50,29 +51,37 @@ impl Model for Book {
       lodgings = b.state.lodgings;
       keeper = b.state.keeper;
       journal = b.journal.entries;
+      is_kept = b.journal.is_kept;
     } };
 
     ghost invariant = { λ b. IsLegal b.state.keeper.table.shape b.journal.entries b.state.state };
 }
 
 impl Book {
-    /// The opening book, in the frames of a keeper that has made no step. Refused for memory alone, it gives the keeper
-    /// back.
-    pub fn open(alloc: Global, keeper: Keeper, shape: Shape) -> Result<Book, (Keeper, Fault)>
+    /// The opening book, in the frames of a keeper that has made no step, with an empty journal, which is kept or
+    /// counted. Refused for memory alone, it gives the keeper back.
+    pub fn open(
+        alloc: Global,
+        keeper: Keeper,
+        shape: Shape,
+        journal: Journal,
+    ) -> Result<Book, (Keeper, Fault)>
         requires shape { IsShape shape }
         requires same { keeper.table.shape ≡ shape }
         requires new { keeper.ledger ≡ first_ledger shape }
+        requires empty { journal.entries ≡ [] }
         ensures opened { IfOk result (λ b. unjournaled b ≡ record {
           state = opening shape;
           frame = nowhere;
           keeper = keeper;
         }) }
         ensures journal { IfOk result (λ b. b.journal ≡ []) }
+        ensures kept { IfOk result (λ b. b.is_kept ≡ journal.is_kept) }
         ensures refused { IfErr result (λ e. (e.0 ≡ keeper) × (e.1 ≡ Fault.Memory)) }
     {
         Ok(Book {
             state: State::open(alloc, keeper, shape)?,
-            journal: Journal::new(alloc),
+            journal,
         })
     }
 
@@ -85,6 +94,7 @@ impl Book {
         ensures state { self.new.state ≡ after self.old.state command result }
         ensures carried { CarriedOut (unjournaled self.old) (unjournaled self.new) command result }
         ensures journal { self.new.journal ≡ journal_after self.old.journal command result }
+        ensures kept { self.new.is_kept ≡ self.old.is_kept }
     {
         a_journal_goes_on();
         self.journal.reserve()?;
@@ -96,9 +106,11 @@ impl Book {
         answer
     }
 
-    /// The journal: every command with its answer, in order, but those refused for memory.
+    /// The journal: every command with its answer, in order, but those refused for memory. Where it is counted, only
+    /// how many there are can be read.
     pub fn journal(&self) -> &Journal
-        ensures { result.now.entries ≡ self.now.journal }
+        ensures entries { result.now.entries ≡ self.now.journal }
+        ensures kept { result.now.is_kept ≡ self.now.is_kept }
     {
         &self.journal
     }
@@ -126,7 +138,7 @@ impl Book {
         ensures stored { IfSome result (λ bytes. last_stored page self.old.journal ≡ Some bytes) }
         ensures state { self.new.state ≡ self.old.state }
         ensures frame { (unjournaled self.new).frame ≡ (unjournaled self.old).frame }
-        ensures journal { self.new.journal ≡ self.old.journal }
+        ensures journal { (self.new.journal ≡ self.old.journal) × (self.new.is_kept ≡ self.old.is_kept) }
         ensures loads { LoadsIf ((unjournaled self.old).frame page) result self.old.keeper self.new.keeper }
     {
         each_page_has_what_was_stored_last();

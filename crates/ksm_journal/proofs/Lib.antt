@@ -1,1 +1,2 @@
 pub mod Entries
+mod Walks

@@ -113,7 +113,7 @@ entries_of pages wholes [] answers = []
 entries_of pages wholes (c ∷ cs) [] = []
 entries_of pages wholes (c ∷ cs) (t ∷ ts) = entry_of pages wholes c.kind c t ∷ entries_of pages wholes cs ts
 
--- what contracts see of a journal: its entries, and whether there is memory for one more
-pub record JournalView : Type 0 where
+-- what contracts see of the kept entries: which they are, and whether there is memory for one more
+pub record KeptView : Type 0 where
   pub entries : List Entry
   pub has_room : Bool

@@ -1,101 +1,95 @@
 //! The journal: the commands that a book was given, with its answers.
 
-ghost use Rattle.std.specs.Prelude.{◌≡◌, ◌++◌, ◌∷◌, [], true, length, slice_get, IfOk};
+ghost use Rattle.std.specs.Prelude.{◌≡◌, ◌++◌, ◌∷◌, ◌<◌, [], Ok, true, false, length, IfOk};
+ghost use Rattle.ksm_journal.specs.Journal.{most_entries, told_at};
 
-use crate::code::{AnswerCode, CommandCode, StoredPage, beside, entry, short, whole};
+use crate::history::History;
+use crate::kept::KeptEntries;
 use ksm_base::{Command, Fault, Reply};
 use std::alloc::{AllocError, Global};
 use std::marker::Model;
 
-/// Commands with their answers, in the order in which they were made. Contracts see the entries, and whether there is
-/// memory for one more.
+/// Commands with their answers, in the order in which they were made. Contracts see the entries, whether they are kept,
+/// and whether there is memory for one more.
 ///
-/// An entry takes nine bytes. A page that is not full of one byte takes 72 more. What no code tells stands whole beside
-/// the codes, in 120 more: a scan that stopped, an unmerging that did, a number of more than 32 bits, a node above 3.
+/// Kept entries can be read, and each takes nine bytes or more for good. Those of a counted journal stand in proofs
+/// alone: it takes no memory, and only their number can be read.
 #[derive(Drop)]
 pub struct Journal {
-    codes: Vec<CommandCode>,
-    answers: Vec<AnswerCode>,
-    pages: Vec<StoredPage>,
-    wholes: Vec<(Command, Result<Reply, Fault>)>,
+    count: usize,
+    history: History<Command, Result<Reply, Fault>>,
+    kept: Option<KeptEntries>,
 }
 
 impl Model for Journal {
-    ghost use Rattle.std.specs.Prelude.{◌≡◌, ◌<◌, ◌^◌, ltb, ◌&&◌, length, vec_len, vec_capacity, All};
-    ghost use Rattle.ksm_journal.specs.Coding.{JournalView, entries_of, IsInside};
+    ghost use Rattle.std.specs.Prelude.{◌≡◌, length, IfSome};
+    ghost use Rattle.ksm_journal.specs.Journal.{JournalView, has_room_for, is_some};
 
     ghost Value = { JournalView };
 
     ghost view = { λ j. record {
-      entries = entries_of j.pages.items j.wholes.items j.codes.items j.answers.items;
-      has_room = (ltb (vec_len j.codes) (vec_capacity j.codes) && ltb (vec_len j.answers) (vec_capacity j.answers))
-          && ((ltb (vec_len j.pages) (vec_capacity j.pages) && ltb (vec_len j.pages) (2 ^ 32))
-          && (ltb (vec_len j.wholes) (vec_capacity j.wholes) && ltb (vec_len j.wholes) (2 ^ 32)));
+      entries = j.history.items;
+      is_kept = is_some j.kept;
+      has_room = has_room_for j.count j.kept;
     } };
 
-    ghost invariant = { λ j. (length j.answers.items ≡ length j.codes.items)
-        × All (λ c. IsInside (length j.pages.items) (length j.wholes.items) c.kind c.number) j.codes.items };
+    ghost invariant = { λ j. (j.count ≡ length j.history.items)
+        × IfSome j.kept (λ kept. kept.entries ≡ j.history.items) };
 }
 
 impl Journal {
-    /// The journal of a book that was given no command. It takes no memory.
-    pub fn new(alloc: Global) -> Journal
-        ensures { result.entries ≡ [] }
+    /// The journal of a book that was given no command. It keeps its entries, and takes no memory yet.
+    pub fn kept(alloc: Global) -> Journal
+        ensures entries { result.entries ≡ [] }
+        ensures kept { result.is_kept ≡ true }
     {
         Journal {
-            codes: Vec::new(alloc),
-            answers: Vec::new(alloc),
-            pages: Vec::new(alloc),
-            wholes: Vec::new(alloc),
+            count: 0,
+            history: History::new(),
+            kept: Some(KeptEntries::new(alloc)),
+        }
+    }
+
+    /// The same, but it counts its entries alone, and never takes memory.
+    pub fn counted() -> Journal
+        ensures entries { result.entries ≡ [] }
+        ensures counted { result.is_kept ≡ false }
+    {
+        Journal {
+            count: 0,
+            history: History::new(),
+            kept: None,
         }
     }
 
     /// Takes the memory of one more entry. Refused for memory, or where 2^32 pages or whole entries stand beside the
-    /// codes.
+    /// codes; where the entries are counted, only behind 2^64 - 1 of them.
     pub fn reserve(&mut self) -> Result<(), AllocError>
-        ensures kept { self.new.entries ≡ self.old.entries }
+        ensures entries { self.new.entries ≡ self.old.entries }
+        ensures kept { self.new.is_kept ≡ self.old.is_kept }
         ensures room { IfOk result (λ _. self.new.has_room ≡ true) }
+        ensures counted { self.old.is_kept ≡ false → length self.old.entries < most_entries → result ≡ Ok tt }
     {
-        if self.pages.len() > u32::MAX as usize || self.wholes.len() > u32::MAX as usize {
+        if self.count == usize::MAX {
             return Err(AllocError);
         }
-        self.codes.reserve(1)?;
-        self.answers.reserve(1)?;
-        self.pages.reserve(1)?;
-        self.wholes.reserve(1)
+        match &mut self.kept {
+            Some(kept) => kept.reserve(),
+            None => Ok(()),
+        }
     }
 
     /// Adds an entry.
+    #[inline(always)]
     pub fn add(&mut self, command: Command, answer: Result<Reply, Fault>)
         requires room { self.old.has_room ≡ true }
-        ensures { self.new.entries ≡ self.old.entries ++ (command, answer) ∷ [] }
+        ensures entries { self.new.entries ≡ self.old.entries ++ (command, answer) ∷ [] }
+        ensures kept { self.new.is_kept ≡ self.old.is_kept }
     {
-        let Some((code, told)) = short(&command, &answer) else {
-            self.add_long(command, answer);
-            return;
-        };
-        self.codes.push_reserved(code);
-        self.answers.push_reserved(told);
-    }
-
-    // Takes the entry by value and is not inlined, for speed: else `add` would clear for each entry what only a long
-    // one needs.
-
-    /// Adds an entry of which the codes do not tell all.
-    #[inline(never)]
-    fn add_long(&mut self, command: Command, answer: Result<Reply, Fault>)
-        requires room { self.old.has_room ≡ true }
-        ensures { self.new.entries ≡ self.old.entries ++ (command, answer) ∷ [] }
-    {
-        if let Some((code, told, page)) = beside(&command, &answer, self.pages.len() as u32) {
-            self.pages.push_reserved(page);
-            self.codes.push_reserved(code);
-            self.answers.push_reserved(told);
-        } else {
-            let code = whole(self.wholes.len() as u32);
-            self.wholes.push_reserved((command, answer));
-            self.codes.push_reserved(code);
-            self.answers.push_reserved(AnswerCode::AllDone);
+        self.history = self.history.and(&command, &answer);
+        self.count += 1;
+        if let Some(kept) = &mut self.kept {
+            kept.add(command, answer);
         }
     }
 
@@ -103,21 +97,24 @@ impl Journal {
     pub fn len(&self) -> usize
         ensures { result ≡ length self.now.entries }
     {
-        self.codes.len()
+        self.count
     }
 
-    /// The command of entry `number`, from 0 on, with its answer; none where there are not so many entries.
-    pub fn get(&self, number: usize) -> Option<(Command, Result<Reply, Fault>)>
-        ensures { result ≡ slice_get self.now.entries number }
+    /// Whether the entries are kept.
+    pub fn is_kept(&self) -> bool
+        ensures { result ≡ self.now.is_kept }
     {
-        if number >= self.codes.len() {
-            return None;
+        self.kept.is_some()
+    }
+
+    /// The command of entry `number`, from 0 on, with its answer; none where there are not so many entries, and none
+    /// where they are counted alone.
+    pub fn get(&self, number: usize) -> Option<(Command, Result<Reply, Fault>)>
+        ensures { result ≡ told_at self.now.is_kept self.now.entries number }
+    {
+        match &self.kept {
+            Some(kept) => kept.get(number),
+            None => None,
         }
-        Some(entry(
-            self.codes[number],
-            self.answers[number],
-            &self.pages,
-            &self.wholes,
-        ))
     }
 }

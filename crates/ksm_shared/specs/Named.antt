@@ -1,16 +1,17 @@
 -- Which parts a lock, a share or an answer is of (own).
-use Rattle.std.specs.Prelude.{ℕ, []}
+use Rattle.std.specs.Prelude.{ℕ, [], Bool, false}
 use Rattle.atomic_table.specs.Seated.{TableId}
 use Rattle.logbook.specs.Pages.{Book}
 use Rattle.ksm_base.specs.declared.shape.Shape.{Shape}
 use Rattle.frame_table.specs.Named.{TableName}
 
 -- the parts of one book: the table of its frames, the table of what its shares have seen, the logbook of its journal,
--- how many shares there are, and how many readers of counters
+-- whether the entries are kept, how many shares there are, and how many readers of counters
 pub record PartsId : Type 0 where
   pub frames : TableName
   pub seen : TableId
   pub logbook : Book
+  pub is_kept : Bool
   pub callers : ℕ
   pub readers : ℕ
 
@@ -29,6 +30,7 @@ no_parts = record {
   frames = record { id = no_table; shape = no_shape };
   seen = no_table;
   logbook = no_logbook;
+  is_kept = false;
   callers = 0;
   readers = 0;
 }

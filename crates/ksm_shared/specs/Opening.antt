@@ -18,6 +18,7 @@ parts_of frames p = record {
   frames = frames;
   seen = p.seen.shared.table_id;
   logbook = p.scribe.logbook;
+  is_kept = p.journal.is_kept;
   callers = p.callers;
   readers = p.readers;
 }
@@ -37,7 +38,9 @@ pub record IsNew (parts : PartsId) (p : Inner) : Type 0 where
   pub few_readers : p.readers ≤ 16
   pub readers : p.readers ≡ parts.readers
   pub logbook : p.scribe.logbook ≡ parts.logbook
-  pub journal : p.scribe.journal ≡ []
+  pub scribe : p.scribe.journal ≡ []
+  pub journal : p.journal.entries ≡ []
+  pub kept : p.journal.is_kept ≡ parts.is_kept
 
 -- the opening book of these parts: no page and no dup, and the keeper has made no step
 abbrev pub opening_book : PartsId → BookView
@@ -48,5 +51,6 @@ opening_book parts = record { state = opening parts.frames.shape; frame = nowher
 pub record IsOpeningLock (parts : PartsId) (locked : Locked) : Type 0 where
   pub book : unjournaled locked.book ≡ opening_book parts
   pub journal : locked.book.journal ≡ []
+  pub kept : locked.book.is_kept ≡ parts.is_kept
   pub log : locked.log ≡ []
   pub shown : locked.shown ≡ []

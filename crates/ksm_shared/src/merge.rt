@@ -29,8 +29,8 @@ use std::sync::Wait;
 /// are shown.
 ///
 /// Whenever the lock is free: the book lies lawfully in the frames of the table of `N`, its journal is legal and leads
-/// to its state, each entry is owned by one of the shares of `N`, and readers are shown the counters after the whole
-/// journal (`lies_lawfully`).
+/// to its state and is kept or counted as `N` says, each entry is owned by one of the shares of `N`, and readers are
+/// shown the counters after the whole journal (`lies_lawfully`).
 pub struct Merge<N: Naming> {
     pub(crate) book: Book,
     pub(crate) seen: SeenTable,
@@ -151,6 +151,7 @@ impl<N: Naming> Merge<N> {
         ensures legal { IsLegal N.parts.frames.shape (entries self.now.log) self.now.book.state }
         ensures stored { ReadsLastStored (entries self.now.log) self.now.book.state.rows }
         ensures journal { self.now.book.journal ≡ entries self.now.log }
+        ensures kept { self.now.book.is_kept ≡ N.parts.is_kept }
         ensures owners { OwnersBelow N.parts.callers self.now.log }
         ensures published { self.now.shown ≡ entries self.now.log }
     {

@@ -16,18 +16,19 @@ use crate::share::Share;
 use crate::writing::mint;
 use frame_table::Keeper;
 use ksm_base::{Fault, Shape};
-use ksm_book::Book;
+use ksm_book::{Book, Journal};
 use std::alloc::Global;
 use std::marker::PhantomData;
 
-/// What is to lie under the merge lock: the keeper, the table of what shares have seen with the book's seat there, and
-/// the scribe of the logbook by which beginnings of the journal are compared.
+/// What is to lie under the merge lock: the keeper, the table of what shares have seen with the book's seat there, the
+/// scribe of the logbook by which beginnings of the journal are compared, and the empty journal.
 pub(crate) struct Inner {
     pub shape: Shape,
     pub keeper: Keeper,
     pub seen: SeenTable,
     pub seat: SeenSeat,
     pub scribe: Scribe,
+    pub journal: Journal,
     pub callers: u32,
     pub readers: u32,
 }
@@ -43,6 +44,7 @@ impl Inner {
             seen: _,
             seat: _,
             scribe: _,
+            journal: _,
             callers: _,
             readers: _,
         } = self;
@@ -107,10 +109,11 @@ fn open_merge<N: Naming>(
         seen,
         mut seat,
         scribe,
+        journal,
         callers,
         readers,
     } = inner;
-    let book = Book::open(alloc, keeper, shape)?;
+    let book = Book::open(alloc, keeper, shape, journal)?;
     let counters = book.counters();
     let publisher = match Publisher::open(alloc, scribe, counters, readers) {
         Ok(publisher) => publisher,

@@ -1,5 +1,5 @@
 //! What a shared book is made of, before it has a name.
-ghost use Rattle.std.specs.Prelude.{◌≡◌, ◌≤◌, IfOk, IfErr};
+ghost use Rattle.std.specs.Prelude.{◌≡◌, ◌≤◌, true, false, IfOk, IfErr};
 ghost use Rattle.ksm_base.specs.Values.{IsShape};
 ghost use Rattle.frame_table.specs.Seats.{Ends, new_keeper};
 
@@ -8,6 +8,7 @@ use crate::opening::Inner;
 use crate::seen::SeenTable;
 use frame_table::{ClosedTable, FrameTable, Pass};
 use ksm_base::{Fault, Shape};
+use ksm_book::Journal;
 use std::alloc::Global;
 use std::marker::Model;
 
@@ -36,13 +37,14 @@ impl Model for Parts {
 }
 
 impl Parts {
-    /// The parts of a book of this shape, with 1 to 16 callers and a reader of counters for each. Refused for memory
-    /// alone; then nothing is kept.
+    /// The parts of a book of this shape, with 1 to 16 callers and a reader of counters for each. The entries of its
+    /// journal are counted. Refused for memory alone; then nothing is kept.
     pub fn open(alloc: Global, shape: Shape, callers: u32) -> Result<Parts, Fault>
         requires shape { IsShape shape }
         requires callers { (1 ≤ callers) × (callers ≤ 16) }
         ensures opened { IfOk result
             (λ parts. (parts.frames.shape ≡ shape) × (parts.callers ≡ callers) × (parts.readers ≡ callers)) }
+        ensures counted { IfOk result (λ parts. parts.is_kept ≡ false) }
         ensures memory { IfErr result (λ fault. fault ≡ Fault.Memory) }
     {
         let (seen, seat) = SeenTable::of_words(alloc, &[0], &())?;
@@ -58,6 +60,7 @@ impl Parts {
                 seen,
                 seat,
                 scribe,
+                journal: Journal::counted(),
                 callers,
                 readers: callers,
             },
@@ -76,6 +79,26 @@ impl Parts {
             mut inner,
         } = self;
         inner.readers = 0;
+        Parts {
+            alloc,
+            frames,
+            passes,
+            inner,
+        }
+    }
+
+    /// The same for a book that keeps the entries of its journal, so that they can be read. Each command but those
+    /// refused for memory then takes nine bytes or more, for good.
+    pub fn keeping_journal(self) -> Parts
+        ensures { result ≡ record self { is_kept = true } }
+    {
+        let Parts {
+            alloc,
+            frames,
+            passes,
+            mut inner,
+        } = self;
+        inner.journal = Journal::kept(alloc);
         Parts {
             alloc,
             frames,

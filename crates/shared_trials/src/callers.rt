@@ -5,14 +5,17 @@ ghost use Rattle.ksm_base.specs.Values.{frames_of};
 use crate::commands::{
     DONE, SHAPE, TWO_MERGED, all_done, filled, merge_two, page, register, store,
 };
-use ksm_base::{Fault, Knobs};
+use ksm_base::{Command, Fault, Knobs, Reply};
 use ksm_shared::{GatherFault, Ksm, Naming, Parts, Share, Tally, gather};
 use std::alloc::Global;
 use std::marker::Brand;
 use std::process::Abort;
-use std::sync::Wait;
+use std::sync::{MutexGuard, Wait};
 use std::test::Fail;
 use std::thread::{Threads, join};
+
+/// An entry that was read, if there was one.
+type Told = Option<(Command, Result<Reply, Fault>)>;
 
 // The byte of a caller's j-th store.
 fn byte_of(guest: u16, j: u8) -> u8 {
@@ -142,6 +145,43 @@ fn one_caller_makes_each_locked_read(rt: HostRuntime) -> Result<(), Fail> {
     let alloc = rt.alloc();
     let parts = Parts::open(alloc, SHAPE, 1)?;
     one::<Brand, _>(&rt, alloc, parts)
+}
+
+// The first two entries, read under the lock after one command, and whether the journal is kept.
+fn entries<N: Naming, R: Wait + Abort>(rt: &R, parts: Parts) -> Result<(bool, Told, Told), Fail>
+    requires { parts ≡ N.parts }
+{
+    let (ksm, passes, mut shares, _readers) = Ksm::<N>::open(parts)?;
+    let Some(mut share) = shares.pop() else {
+        drop(ksm.close(rt, passes));
+        return Err("share".into());
+    };
+    let answer = ksm.carry_out(rt, &mut share, register(0, 0, 10));
+    let merge = ksm.lock(rt);
+    let journal = merge.book().journal();
+    let told = (journal.is_kept(), journal.get(0), journal.get(1));
+    MutexGuard::unlock(merge);
+    drop(ksm.close(rt, passes));
+    assert_eq!(rt; answer, DONE);
+    Ok(told)
+}
+
+// A book that keeps its journal tells an entry under the lock.
+#[test]
+fn kept_journal_is_read_under_the_lock(rt: HostRuntime) -> Result<(), Fail> {
+    let parts = Parts::open(rt.alloc(), SHAPE, 1)?.keeping_journal();
+    let told = entries::<Brand, _>(&rt, parts)?;
+    assert_eq!(rt; told, (true, Some((register(0, 0, 10), DONE)), None));
+    Ok(())
+}
+
+// One that is opened with no more words counts its entries, and tells none.
+#[test]
+fn journal_is_counted_if_nothing_is_said(rt: HostRuntime) -> Result<(), Fail> {
+    let parts = Parts::open(rt.alloc(), SHAPE, 1)?;
+    let told = entries::<Brand, _>(&rt, parts)?;
+    assert_eq!(rt; told, (false, None, None));
+    Ok(())
 }
 
 // Two pages are merged, and each gets bytes of its own. It answers whether all went so, and what the first place then

@@ -51,6 +51,7 @@ invariant_of-self g c =
     record {
       own = c.apply-result.ensures.carried.own ∙ i.own;
       journal = new_journal _ _ _ _ _ _ _ i.journal c.apply-result.ensures.journal (log g c);
+      kept = c.apply-result.ensures.kept ∙ i.kept;
       seen = i.seen;
       word = i.word;
       seated = w.table.0 ∙ i.seen;

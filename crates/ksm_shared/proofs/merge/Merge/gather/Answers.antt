@@ -42,7 +42,7 @@ module _ (g : Over) (c : goal.After-len-entries g) where
 pub invariant_of-result : goal.invariant_of-result
 invariant_of-result g c =
     let i = c.self.invariant in
-    let long = c.len-entries.ensures ∙ ap length (c.journal.ensures ∙ i.journal) ∙ length-entries c.self.inside.seat.me.0.log in
+    let long = c.len-entries.ensures ∙ ap length (c.journal.ensures.entries ∙ i.journal) ∙ length-entries c.self.inside.seat.me.0.log in
     (c.join_all-seat.ensures.seat.0 ∙ i.seen, is_all g c, long ∙ ap length (sym (seen g c)))
 
 pub returns-clause-all : goal.returns-clause-all
