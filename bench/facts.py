@@ -18,6 +18,7 @@ import re
 
 TOP = os.path.dirname(os.path.dirname(os.path.abspath(__file__)))
 FILE = os.path.join(TOP, "bench", "facts.txt")
+LIMITS = "crates/ksm_base/src/limits.rt"
 VALUE = re.compile(r"(\w+) = (constant|product|count|measured) (.*)")
 MEASURED = re.compile(r"([0-9a-f]{7,8}), (.+): (\S+)")
 
@@ -57,10 +58,13 @@ def shown(value, is_plain):
 
 
 def constant_of(path, name):
-    """The value of a constant: a number, a power of two, or another constant of the file times or plus a number."""
+    """The value of a constant: a number, a power of two, or another constant of the file, or of the limits, times or plus a
+    number."""
     with open(os.path.join(TOP, path), encoding="utf-8") as file:
         text = file.read()
     found = re.search(rf"const {name}: \w+ = ([^;]+);", text)
+    if not found and path != LIMITS:
+        return constant_of(LIMITS, name)
     if not found:
         raise KeyError(f"{path} has no constant {name}")
     words = re.sub(r"\b[A-Z][A-Z_0-9]+\b", lambda other: str(constant_of(path, other[0])), found[1]).replace("_", "")

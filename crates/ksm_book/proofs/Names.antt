@@ -40,6 +40,7 @@ pub use Rattle.ksm_base.specs.declared.command.Command.TheVariants.{Drop, Mergea
 pub use Rattle.ksm_base.specs.declared.fault.Fault.{Fault}
 pub use Rattle.ksm_base.specs.declared.fault.Fault.TheVariants.{InUse, Memory, NoFrame, UnknownPage}
 pub use Rattle.ksm_base.specs.declared.knobs.Knobs.{Knobs}
+pub use Rattle.ksm_base.specs.declared.limits.TheConstants.{MOST_REFERENCES}
 pub use Rattle.ksm_base.specs.declared.page.GuestPage.{GuestPage}
 pub use Rattle.ksm_base.specs.declared.page.TheConstants.{PAGE_WORDS}
 pub use Rattle.ksm_base.specs.declared.reply.Reply.{Reply}

@@ -2,6 +2,7 @@
 use Rattle.std.specs.Prelude.{◌≡◌, ◌≤◌, []}
 use Rattle.ksm_base.specs.State.{opening}
 use Rattle.ksm_base.specs.Values.{IsShape}
+use Rattle.ksm_base.specs.declared.limits.TheConstants.{MOST_PASSES}
 use Rattle.frame_table.specs.Named.{TableName}
 use Rattle.frame_table.specs.Seats.{new_keeper}
 use Rattle.ksm_book.specs.Carried.{unjournaled}
@@ -33,9 +34,9 @@ pub record IsNew (parts : PartsId) (p : Inner) : Type 0 where
   pub seat : p.seat.table_id ≡ parts.seen
   pub nothing : p.seat.me ≡ (book_view [] 0, [])
   pub some : 1 ≤ p.callers
-  pub few : p.callers ≤ 16
+  pub few : p.callers ≤ MOST_PASSES
   pub callers : p.callers ≡ parts.callers
-  pub few_readers : p.readers ≤ 16
+  pub few_readers : p.readers ≤ MOST_PASSES
   pub readers : p.readers ≡ parts.readers
   pub logbook : p.scribe.logbook ≡ parts.logbook
   pub scribe : p.scribe.journal ≡ []

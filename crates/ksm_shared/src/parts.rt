@@ -1,6 +1,7 @@
 //! What a shared book is made of, before it has a name.
 ghost use Rattle.std.specs.Prelude.{◌≡◌, ◌≤◌, true, false, IfOk, IfErr};
 ghost use Rattle.ksm_base.specs.Values.{IsShape};
+ghost use Rattle.ksm_base.specs.declared.limits.TheConstants.{MOST_PASSES};
 ghost use Rattle.frame_table.specs.Seats.{Ends, new_keeper};
 
 use crate::beginning::Scribe;
@@ -37,11 +38,11 @@ impl Model for Parts {
 }
 
 impl Parts {
-    /// The parts of a book of this shape, with 1 to 16 callers and a reader of counters for each. The entries of its
-    /// journal are counted. Refused for memory alone; then nothing is kept.
+    /// The parts of a book of this shape, with 1 to `MOST_PASSES` callers and a reader of counters for each. The entries
+    /// of its journal are counted. Refused for memory alone; then nothing is kept.
     pub fn open(alloc: Global, shape: Shape, callers: u32) -> Result<Parts, Fault>
         requires shape { IsShape shape }
-        requires callers { (1 ≤ callers) × (callers ≤ 16) }
+        requires callers { (1 ≤ callers) × (callers ≤ MOST_PASSES) }
         ensures opened { IfOk result
             (λ parts. (parts.frames.shape ≡ shape) × (parts.callers ≡ callers) × (parts.readers ≡ callers)) }
         ensures counted { IfOk result (λ parts. parts.is_kept ≡ false) }

@@ -3,6 +3,7 @@ ghost use Rattle.std.specs.Prelude.{◌≡◌, ◌<◌, ◌≤◌, ◌++◌, [],
 ghost use Rattle.ksm_base.specs.Counting.{counters_of};
 ghost use Rattle.ksm_base.specs.Journal.{AreAnswers, replay};
 ghost use Rattle.ksm_base.specs.State.{opening};
+ghost use Rattle.ksm_base.specs.declared.limits.TheConstants.{MOST_PASSES};
 ghost use Rattle.left_right.specs.Sides.{view as sight};
 ghost use Rattle.ksm_shared.specs.Published.{IsRowOf, list_of, no_sight};
 
@@ -46,7 +47,7 @@ impl<N: Naming> Publisher<N> {
     ) -> Result<Publisher<N>, Fault>
         requires scribe { (scribe.logbook ≡ N.parts.logbook) × (scribe.journal ≡ []) }
         requires counters { counters ≡ counters_of (opening N.parts.frames.shape) }
-        requires readers { (readers ≡ N.parts.readers) × (readers ≤ 16) }
+        requires readers { (readers ≡ N.parts.readers) × (readers ≤ MOST_PASSES) }
         ensures opened { IfOk result (λ p. p ≡ []) }
         ensures memory { IfErr result (λ fault. fault ≡ Fault.Memory) }
     {
