@@ -8,7 +8,7 @@ use Rattle.ksm_audit.specs.declared.report.Row.{Row}
 use Rattle.ksm_audit.specs.declared.job.Line.{Line}
 use Rattle.ksm_audit.specs.Claims.{once_from, times}
 use Rattle.ksm_audit.specs.Lookups.{IsLookup, Visits}
-use Rattle.ksm_audit.specs.Working.{Sat, Drew, line, places_of, AreLookups, Made, Keeps, Answers, MayStop}
+use Rattle.ksm_audit.specs.Working.{Sat, Drew, line, places_of, AreLookups, MakesLookups, Keeps, Answers, MayStop}
 use Rattle.ksm_audit.proofs.Dealing.{times_append}
 
 -- a number does not occur in a list of one other number
@@ -93,7 +93,7 @@ lookups_more sh (l ∷ ls) place row log here are is =
     (are.0, are.1 ++ here, ap (λ (x : ReaderLog). x ++ here) are.2 ∙ append_assoc are.0 are.1 here, are.3, lookups_more sh ls place row are.1 here are.4 is)
 
 -- a pass that made some lookups and then one visit made the lookups with the line of that visit
-pub made_more : (v w x : PassView) (ls : List Line) (place : ℕ) (row : Row) → Made v ls w → Visits w place row x → Made v (ls ++ line place row ∷ []) x
+pub made_more : (v w x : PassView) (ls : List Line) (place : ℕ) (row : Row) → MakesLookups v ls w → Visits w place row x → MakesLookups v (ls ++ line place row ∷ []) x
 made_more v w x ls place row made visit =
     let added = made.1.0 in
     let here = visit.1.0 in
@@ -129,12 +129,12 @@ module _ (may : ℕ → Type 0) (place : ℕ) (v : PassView) (ls : List Line) (r
       a
 
   -- once a place was answered, the pass has made the lookups of all the lines
-  pub made_on : (u : PassView) → Made u ls v → Made u ls' w
+  pub made_on : (u : PassView) → MakesLookups u ls v → MakesLookups u ls' w
   made_on u made = ⊎_elim
-      (λ (b : Before). subst (λ (x : List Line × PassView). Made u x.0 x.1) (λ i. (sym b.2 i, sym b.1 i)) made)
+      (λ (b : Before). subst (λ (x : List Line × PassView). MakesLookups u x.0 x.1) (λ i. (sym b.2 i, sym b.1 i)) made)
       (⊎_elim
-      (λ (b : Refuses). subst (λ (x : List Line × PassView). Made u x.0 x.1) (λ i. (sym b.2 i, sym b.1 i)) made)
-      (λ (b : Looks). subst (λ (x : List Line). Made u x w) (sym b.2.1) (made_more u v w ls place b.2.0 made b.2.2)))
+      (λ (b : Refuses). subst (λ (x : List Line × PassView). MakesLookups u x.0 x.1) (λ i. (sym b.2 i, sym b.1 i)) made)
+      (λ (b : Looks). subst (λ (x : List Line). MakesLookups u x w) (sym b.2.1) (made_more u v w ls place b.2.0 made b.2.2)))
       a
 
   -- the pass is of the same table once a place was answered

@@ -15,7 +15,7 @@ use Rattle.ksm_audit.specs.declared.auditing.AuditFault.{AuditFault}
 use Rattle.ksm_audit.specs.declared.auditing.AuditFault.TheVariants.{Memory, Gate}
 use Rattle.ksm_audit.specs.Claims.{once_below}
 use Rattle.ksm_audit.specs.Lookups.{IsLookup}
-use Rattle.ksm_audit.specs.Working.{Made}
+use Rattle.ksm_audit.specs.Working.{MakesLookups}
 
 -- 1 for a load of this place
 abbrev pub is_load : ℕ → ReaderStep → ℕ
@@ -34,7 +34,7 @@ loads_of p (v ∷ vs) = loads p v.log + loads_of p vs
 
 -- the same pass, whose log is longer by whole lookups alone
 abbrev pub Gains : PassView → PassView → Type 0
-Gains v w = (lines : List Line) × Made v lines w
+Gains v w = (lines : List Line) × MakesLookups v lines w
 
 -- what the pass did meanwhile has a whole lookup of the place that ended with this row
 abbrev pub Shows : ℕ → Row → PassView → PassView → Type 0

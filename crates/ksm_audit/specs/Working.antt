@@ -43,8 +43,8 @@ AreLookups sh (l ∷ ls) log =
     (here rest : ReaderLog) × (log ≡ here ++ rest) × IsLookup sh l.place l.row here × AreLookups sh ls rest
 
 -- the pass made these lookups
-abbrev pub Made : PassView → List Line → PassView → Type 0
-Made v lines w = (w.table ≡ v.table) × Adds v.log w.log (AreLookups v.table.shape lines)
+abbrev pub MakesLookups : PassView → List Line → PassView → Type 0
+MakesLookups v lines w = (w.table ≡ v.table) × Adds v.log w.log (AreLookups v.table.shape lines)
 
 -- the gate had refused, or refuses this place, and nothing was done; or the place was looked up
 abbrev pub Answers : (ℕ → Type 0) → ℕ → PassView → List Line → Option ℕ → PassView → List Line → Option ℕ → Type 0
@@ -84,7 +84,7 @@ pub record Works (claims : TableId) (table : TableName) (may : ℕ → Type 0) (
   pub last : frames_of table.shape < j.seat.me.0.next
   pub vain : j.seat.me.0.past ≤ 1
   pub stop : MayStop may (frames_of table.shape) j.refused
-  pub made : (v w : PassView) × (i.pass ≡ Some v) × (j.pass ≡ Some w) × Made v j.lines.items w
+  pub made : (v w : PassView) × (i.pass ≡ Some v) × (j.pass ≡ Some w) × MakesLookups v j.lines.items w
 
 -- a list of lines that is empty and has room for so many
 abbrev pub IsEmpty : ℕ → Vec Line → Type 0

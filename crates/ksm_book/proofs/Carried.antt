@@ -10,7 +10,7 @@ use Rattle.ksm_base.proofs.Reasons.{has_reason}
 use Rattle.ksm_book.specs.Carried.{StoresTo, MovesTo, TakesSteps}
 use Rattle.std.specs.Prelude.{option_and_then}
 use Rattle.ksm_book.specs.Commands.{IsIdle}
-use Rattle.ksm_book.proofs.Names.{[], Answer, best_dup, BookState, BookView, Bool, CarriedOut, cond_both, Deed, Does, DupRow, emptying, Err, false, filter, Frames, handling, HasLost, HasMoved, HasShown, idle, is_for_zero, is_stale, IsCarried, List, list_any, listed, live_dup_at, Mapped, mapped, MatchBool, MatchOption, Moves, new_place, next_row, nodes_got, None, Ok, Option, pairing, partner, Performs, place_count, pruning, refl, Resettles, rewriting, Row, row_at, scanning, shared_rows, shared_state, Some, staying, subst, sym, take, true, visit_begun, visiting, visiting_of, visits, Withdraw, withdrawing, ℕ, ◌==◌, ◌∷◌, ◌≡◌, zero, suc, every_row, is_of, FindsHeld, frame_on, if◌then◌else◌}
+use Rattle.ksm_book.proofs.Names.{[], Answer, best_dup, BookState, BookView, Bool, CarriedOut, cond_both, Deed, AllocatesOn, DupRow, emptying, Err, false, filter, Frames, handling, HasLost, HasMoved, HasShown, idle, is_for_zero, is_stale, IsCarried, List, list_any, listed, live_dup_at, Mapped, mapped, MatchBool, MatchOption, Moves, new_place, next_row, nodes_got, None, Ok, Option, pairing, partner, Performs, place_count, pruning, refl, Resettles, rewriting, Row, row_at, scanning, shared_rows, shared_state, Some, staying, subst, sym, take, true, visit_begun, visiting, visiting_of, visits, Withdraw, withdrawing, ℕ, ◌==◌, ◌∷◌, ◌≡◌, zero, suc, every_row, is_of, FindsHeld, frame_on, if◌then◌else◌}
 use Rattle.ksm_book.proofs.DupMoves.{place_is}
 use Rattle.ksm_book.proofs.Made.{made_none}
 use Rattle.ksm_book.proofs.Shown.{GivesNone, quiet_both, quiet_does, quiet_leaving, quiet_puts, quiet_withdraws, provides_does, resettles_does, each_does, unmerges_does, none_left, lost, moved}
@@ -55,27 +55,27 @@ quiet_scanning (suc n) b frame =
 -- ---------------------------------------------------------------- the frames that were given
 
 -- where no step was made, no frame was given
-idle_does : {v w : Mapped} → IsIdle v w → Does v.keeper w.keeper []
+idle_does : {v w : Mapped} → IsIdle v w → AllocatesOn v.keeper w.keeper []
 idle_does h = quiet_does (made_none h.keeper) tt
 
 stored_does : (v w : Mapped) (bytes : List ℕ) (row : Row) (shared : Bool)
     → MatchBool shared (Resettles v w row.page row.home bytes) (Performs v w (rewriting v.frame row.page bytes))
-    → Does v.keeper w.keeper (listed (if shared then Some row.home else None))
+    → AllocatesOn v.keeper w.keeper (listed (if shared then Some row.home else None))
 stored_does v w bytes row true h = resettles_does h
 stored_does v w bytes row false h = quiet_does h.made (quiet_puts (frame_on v.frame row.page) 0 bytes)
 
 store_does : (v w : Mapped) (bytes : List ℕ) (found : Option Row) → MatchOption found ⊥ (StoresTo v w bytes)
-    → Does v.keeper w.keeper (listed (option_and_then (λ r. if shared_state r.state then Some r.home else None) found))
+    → AllocatesOn v.keeper w.keeper (listed (option_and_then (λ r. if shared_state r.state then Some r.home else None) found))
 store_does v w bytes None h = absurd h
 store_does v w bytes (Some row) h = stored_does v w bytes row (shared_state row.state) h
 
 moved_does : (v w : Mapped) (node : ℕ) (row : Row) (home : Bool) → MatchBool home (IsIdle v w) (Resettles v w row.page node row.bytes)
-    → Does v.keeper w.keeper (listed (if home then None else Some node))
+    → AllocatesOn v.keeper w.keeper (listed (if home then None else Some node))
 moved_does v w node row true h = idle_does h
 moved_does v w node row false h = resettles_does h
 
 move_does : (v w : Mapped) (node : ℕ) (found : Option Row) → MatchOption found ⊥ (MovesTo v w node)
-    → Does v.keeper w.keeper (listed (option_and_then (λ r. if r.home == node then None else Some node) found))
+    → AllocatesOn v.keeper w.keeper (listed (option_and_then (λ r. if r.home == node then None else Some node) found))
 move_does v w node None h = absurd h
 move_does v w node (Some row) h = moved_does v w node row (row.home == node) h
 
@@ -92,11 +92,11 @@ dup_held v w node None h = absurd h
 dup_held v w node (Some d) h = lost (mapped v) (mapped w) v.state.rows d node h
 
 prune_does : (v w : BookView) (same : Bool)
-    → MatchBool same (IsIdle (mapped v) (mapped w)) (Performs (mapped v) (mapped w) (pruning v.state.rows v.state.dups v.frame)) → Does v.keeper w.keeper []
+    → MatchBool same (IsIdle (mapped v) (mapped w)) (Performs (mapped v) (mapped w) (pruning v.state.rows v.state.dups v.frame)) → AllocatesOn v.keeper w.keeper []
 prune_does v w true h = idle_does h
 prune_does v w false h = quiet_does h.made (quiet_withdraws (filter (is_stale v.state.rows) v.state.dups))
 
-frames_given : (v w : BookView) (command : Command) (answer : Answer) → TakesSteps v w command answer → Does v.keeper w.keeper (nodes_got v.state answer command)
+frames_given : (v w : BookView) (command : Command) (answer : Answer) → TakesSteps v w command answer → AllocatesOn v.keeper w.keeper (nodes_got v.state answer command)
 frames_given v w (Register page node bytes) (Ok Done) h = provides_does h.provides
 frames_given v w (Drop page) (Ok Done) h = quiet_does h.made (quiet_leaving (v.frame page))
 frames_given v w (Store page bytes) (Ok Done) h = store_does (mapped v) (mapped w) bytes (row_at page v.state.rows) h

@@ -1,5 +1,5 @@
 -- Frames written, read, found and filled, and a dup's place that comes to name another frame.
-use Rattle.ksm_book.proofs.Names.{Add, ap, arith, blank, did, div-mul-add, Dying, Finds, FitsBase, frame_at, frames_of, Free, GenerationFits, get_or-set_other, get_or-set_same, inl, IsLawful, KeeperView, Kind, Ledger, length, length-set, List, loads, Made, mounting, None, Note, Open, PAGE_WORDS, Placed, Private, Provides, Publish, puts, Raise, raised, refl, replicate, replicate-append-replicate, same_Some, set-get_or, Shape, Some, spent, spent_on, stepped, subst, sym, Took, with_frame, ℕ, ◌*◌, ◌+◌, ◌-◌, ◌/◌, ◌<◌, ◌∙◌, ◌≡◌, ◌≢◌, ◌≤◌, set-set}
+use Rattle.ksm_book.proofs.Names.{Add, ap, arith, blank, did, div-mul-add, Dying, Finds, FitsBase, frame_at, frames_of, Free, GenerationFits, get_or-set_other, get_or-set_same, inl, IsLawful, KeeperView, Kind, Ledger, length, length-set, List, loads, MakesSteps, mounting, None, Note, Open, PAGE_WORDS, Placed, Private, Provides, Publish, puts, Raise, raised, refl, replicate, replicate-append-replicate, same_Some, set-get_or, Shape, Some, spent, spent_on, stepped, subst, sym, HasNewFrame, with_frame, ℕ, ◌*◌, ◌+◌, ◌-◌, ◌/◌, ◌<◌, ◌∙◌, ◌≡◌, ◌≢◌, ◌≤◌, set-set}
 use Rattle.ksm_book.proofs.ByPage.{one_same, one_other}
 use Rattle.ksm_book.proofs.Keeping.{node_end, searched_placed, searched_spends, spent_kept}
 use Rattle.ksm_book.proofs.Made.{made_one, made_part, made_then}
@@ -71,7 +71,7 @@ module _ {v w : KeeperView} {node : ℕ} {bytes : List ℕ} {g : ℕ} (less : no
   own = record { kind = Private; base = 1; generation = (frame_at u.ledger g).generation + 1; content = bytes }
 
   -- a frame that was found and filled is in hand with its bytes
-  pub took : w.ledger ≡ with_frame u.ledger g own → Took v w node bytes g
+  pub took : w.ledger ≡ with_frame u.ledger g own → HasNewFrame v w node bytes g
   took taken_ledger =
       let free = h.finds.lowest.free in
       let now : frame_at w.ledger g ≡ own = ap (λ z. frame_at z g) taken_ledger ∙ at_again u.ledger g (found_within v u node g less l h.finds) own in
@@ -107,9 +107,9 @@ module _ {v w : KeeperView} {node : ℕ} {bytes : List ℕ} {g : ℕ} (less : no
 -- ---------------------------------------------------------------- a place comes to name another frame
 
 -- n references that came to a frame, and one more, are n + 1 steps of the keeper
-pub add_more : (v w w' : KeeperView) (f n found : ℕ) → Made v w (replicate n (Add f)) → w' ≡ did w (Add f) found → Made v w' (replicate (n + 1) (Add f))
+pub add_more : (v w w' : KeeperView) (f n found : ℕ) → MakesSteps v w (replicate n (Add f)) → w' ≡ did w (Add f) found → MakesSteps v w' (replicate (n + 1) (Add f))
 add_more v w w' f n found so_far is =
-    subst (Made v w') (replicate-append-replicate n 1 (Add f)) (made_then so_far (made_one w w' (Add f) found is))
+    subst (MakesSteps v w') (replicate-append-replicate n 1 (Add f)) (made_then so_far (made_one w w' (Add f) found is))
 
 -- the words of a dying frame stay where a free one is raised
 pub words_kept : (v w : KeeperView) (f g found : ℕ) → (frame_at v.ledger g).kind ≡ Free → (frame_at v.ledger f).kind ≡ Dying → w ≡ did v (Raise g) found
@@ -120,7 +120,7 @@ words_kept v w f g found free dying is =
 
 -- a frame is raised, words of another are loaded and stored there, it is opened, references come, and the place names it
 pub mounts : (v a b c d e w : KeeperView) (f g place count found opened' : ℕ) (bytes : List ℕ) → a ≡ did v (Raise g) found → b ≡ stepped a (loads f 0 bytes)
-    → c ≡ stepped b (puts g 0 bytes) → d ≡ did c (Open g) opened' → Made d e (replicate (count - 1) (Add g)) → w ≡ did e (Publish place g) 0 → Made v w (mounting f g place count bytes)
+    → c ≡ stepped b (puts g 0 bytes) → d ≡ did c (Open g) opened' → MakesSteps d e (replicate (count - 1) (Add g)) → w ≡ did e (Publish place g) 0 → MakesSteps v w (mounting f g place count bytes)
 mounts v a b c d e w f g place count found opened' bytes raises loads' stores opens adds shows =
     made_then (made_one v a (Raise g) found raises)
     (made_then (made_part a b (loads f 0 bytes) loads')

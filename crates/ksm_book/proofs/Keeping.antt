@@ -1,5 +1,5 @@
 -- The keeper's steps as changes of a placement, and the lives that they spend.
-use Rattle.ksm_book.proofs.Names.{[], Add, added, All, All-filter, All-head, All-tail, ap, arith, blank, Bool, cases_lt, cond, count_in, did, DupRow, Dying, dying_kind, dying_on, false, Filling, filter_passes, FitsBase, frame_at, Frames, frames_of, Free, GenerationFits, get_or, get_or-range_with_len, get_or_past, IfSome, inl, inr, KeeperView, Kind, leaving, Ledger, ledger_after, length, length-range_with_len, List, lowered, Made, map, May, nat_tests, ne_eqb, None, Note, Option, past_lives, Placed, Private, range_with_len, Reap, reaped, refl, Retired, Row, same_Some, set, Shape, Some, spent, spent_on, Stable, Sub, subst, suc, sum_by, sum_by-cons, sum_by-set, sym, true, uses, with_frame, zero, ℕ, ◌*◌, ◌+◌, ◌-◌, ◌<◌, ◌==◌, ◌∷◌, ◌≡◌, ◌≢◌, ◌≤◌, cond_both}
+use Rattle.ksm_book.proofs.Names.{[], Add, added, All, All-filter, All-head, All-tail, ap, arith, blank, Bool, cases_lt, cond, count_in, did, DupRow, Dying, dying_kind, dying_on, false, Filling, filter_passes, FitsBase, frame_at, Frames, frames_of, Free, GenerationFits, get_or, get_or-range_with_len, get_or_past, IfSome, inl, inr, KeeperView, Kind, leaving, Ledger, ledger_after, length, length-range_with_len, List, lowered, MakesSteps, map, May, nat_tests, ne_eqb, None, Note, Option, past_lives, Placed, Private, range_with_len, Reap, reaped, refl, Retired, Row, same_Some, set, Shape, Some, spent, spent_on, Stable, Sub, subst, suc, sum_by, sum_by-cons, sum_by-set, sym, true, uses, with_frame, zero, ℕ, ◌*◌, ◌+◌, ◌-◌, ◌<◌, ◌==◌, ◌∷◌, ◌≡◌, ◌≢◌, ◌≤◌, cond_both}
 use Rattle.ksm_book.proofs.ByPage.{one_same, one_other}
 use Rattle.ksm_book.proofs.Made.{first_made, none_made, step_made}
 use Rattle.ksm_book.proofs.Noted.{noted}
@@ -85,7 +85,7 @@ may_leave v same (Some g) p =
     (subst (λ (s : Shape). g < frames_of s) (sym same) held.0, held.1)
 
 -- what was in hand was given back: rows and dups lie lawfully
-pub left_placed : {v w : KeeperView} (o : Option ℕ) → Made v w (leaving o) → {sh : Shape} {across : ℕ} {rows : List Row} {frame : Frames} {dups : List DupRow}
+pub left_placed : {v w : KeeperView} (o : Option ℕ) → MakesSteps v w (leaving o) → {sh : Shape} {across : ℕ} {rows : List Row} {frame : Frames} {dups : List DupRow}
     → Placed sh across v.ledger rows frame dups o → Placed sh across w.ledger rows frame dups None
 left_placed {v} {w} None m {sh} {across} {rows} {frame} {dups} p = subst (λ (z : KeeperView). Placed sh across z.ledger rows frame dups None) (sym (none_made m)) p
 left_placed {v} {w} (Some g) m {sh} {across} {rows} {frame} {dups} p =
@@ -104,7 +104,7 @@ left_placed {v} {w} (Some g) m {sh} {across} {rows} {frame} {dups} p =
     }) (λ f ne. sym (one_other f (Some g) (λ e. ne (sym (same_Some g f e))))))
 
 -- a reference given back ends no life
-pub left_spends : {v w : KeeperView} (o : Option ℕ) → Made v w (leaving o) → spent v.ledger ≤ spent w.ledger
+pub left_spends : {v w : KeeperView} (o : Option ℕ) → MakesSteps v w (leaving o) → spent v.ledger ≤ spent w.ledger
 left_spends {v} {w} None m = let same = ap (λ (z : KeeperView). spent z.ledger) (none_made m) in omega (arith, same)
 left_spends {v} {w} (Some g) m =
     let old : Note = frame_at v.ledger g in
@@ -116,7 +116,7 @@ left_spends {v} {w} (Some g) m =
 -- ---------------------------------------------------------------- a reference comes
 
 -- a reference came on a stable frame, and is in hand: rows and dups lie lawfully
-pub added_placed : {v w : KeeperView} {g : ℕ} → Made v w (Add g ∷ []) → (frame_at v.ledger g).kind ≡ Stable → {sh : Shape} {across : ℕ} {rows : List Row} {frame : Frames} {dups : List DupRow}
+pub added_placed : {v w : KeeperView} {g : ℕ} → MakesSteps v w (Add g ∷ []) → (frame_at v.ledger g).kind ≡ Stable → {sh : Shape} {across : ℕ} {rows : List Row} {frame : Frames} {dups : List DupRow}
     → g < frames_of sh → Placed sh across v.ledger rows frame dups None → Placed sh across w.ledger rows frame dups (Some g)
 added_placed {v} {w} {g} m stable {sh} {across} {rows} {frame} {dups} inside p =
     let old : Note = frame_at v.ledger g in
@@ -134,7 +134,7 @@ added_placed {v} {w} {g} m stable {sh} {across} {rows} {frame} {dups} inside p =
     }) (λ f ne. one_other f (Some g) (λ e. ne (sym (same_Some g f e)))))
 
 -- a reference that came ends no life
-pub added_spends : {v w : KeeperView} {g : ℕ} → Made v w (Add g ∷ []) → spent v.ledger ≤ spent w.ledger
+pub added_spends : {v w : KeeperView} {g : ℕ} → MakesSteps v w (Add g ∷ []) → spent v.ledger ≤ spent w.ledger
 added_spends {v} {w} {g} m =
     let same = ap (λ (z : KeeperView). spent z.ledger) (step_made m).1 in
     let more = spent_kept v.ledger g (added (frame_at v.ledger g)) (omega arith) in
@@ -200,7 +200,7 @@ module _ (sh : Shape) (k : Ledger) (g found : ℕ) where
   ]
 
 -- frames on which nothing is were reaped: rows and dups lie lawfully
-reaps_placed : (fs : List ℕ) (v w : KeeperView) → Made v w (map Reap fs) → (across : ℕ) (rows : List Row) (frame : Frames) (dups : List DupRow) (hand : Option ℕ)
+reaps_placed : (fs : List ℕ) (v w : KeeperView) → MakesSteps v w (map Reap fs) → (across : ℕ) (rows : List Row) (frame : Frames) (dups : List DupRow) (hand : Option ℕ)
     → All (IsLeft v.table.shape v.ledger) fs → Placed v.table.shape across v.ledger rows frame dups hand → Placed v.table.shape across w.ledger rows frame dups hand
 reaps_placed [] v w m across rows frame dups hand left p = subst (λ (z : KeeperView). Placed v.table.shape across z.ledger rows frame dups hand) (sym (none_made m)) p
 reaps_placed (f ∷ fs) v w m across rows frame dups hand left p =
@@ -211,7 +211,7 @@ reaps_placed (f ∷ fs) v w m across rows frame dups hand left p =
     (λ i d lt. still_left sh v.ledger f first.0 (get_or fs i d) (rest i d lt))
     (reap_placed sh v.ledger f first.0 across rows frame dups hand (All-head (IsLeft sh v.ledger) f fs left) p)
 
-reaps_spend : (fs : List ℕ) (v w : KeeperView) → Made v w (map Reap fs) → spent v.ledger ≤ spent w.ledger
+reaps_spend : (fs : List ℕ) (v w : KeeperView) → MakesSteps v w (map Reap fs) → spent v.ledger ≤ spent w.ledger
 reaps_spend [] v w m = let same = ap (λ (z : KeeperView). spent z.ledger) (none_made m) in omega (arith, same)
 reaps_spend (f ∷ fs) v w m =
     let first = first_made m in
@@ -224,7 +224,7 @@ pub node_end : (node nodes size : ℕ) → node < nodes → node * size + size �
 node_end node nodes size lt = grind arith
 
 -- the dying frames of a node were reaped: rows and dups lie lawfully
-pub searched_placed : {v w : KeeperView} (node : ℕ) → node < v.table.shape.nodes → Made v w (map Reap (dying_on v.table.shape v.ledger node))
+pub searched_placed : {v w : KeeperView} (node : ℕ) → node < v.table.shape.nodes → MakesSteps v w (map Reap (dying_on v.table.shape v.ledger node))
     → (across : ℕ) (rows : List Row) (frame : Frames) (dups : List DupRow) (hand : Option ℕ) → Placed v.table.shape across v.ledger rows frame dups hand
     → Placed v.table.shape across w.ledger rows frame dups hand
 searched_placed {v} {w} node less m across rows frame dups hand p =
@@ -246,5 +246,5 @@ searched_placed {v} {w} node less m across rows frame dups hand p =
     p
 
 -- reaping spends no fewer lives
-pub searched_spends : {v w : KeeperView} (node : ℕ) → Made v w (map Reap (dying_on v.table.shape v.ledger node)) → spent v.ledger ≤ spent w.ledger
+pub searched_spends : {v w : KeeperView} (node : ℕ) → MakesSteps v w (map Reap (dying_on v.table.shape v.ledger node)) → spent v.ledger ≤ spent w.ledger
 searched_spends {v} {w} node m = reaps_spend (dying_on v.table.shape v.ledger node) v w m

@@ -1,5 +1,5 @@
 -- What becomes of pages that lie lawfully, where the keeper makes its steps.
-use Rattle.ksm_book.proofs.Names.{[], All, ap, arith, blank, change_row, default_knobs, DupFits, DupRow, false, find_all, first_ledger, FitsBase, frame_at, Frames, frames_of, GenerationFits, get_or, GuestPage, holding, Houses, inl, InPageOrder, inr, IsLaid, IsLawful, IsReadable, IsServed, IsShape, KeeperView, Keeps, Kind, kind_for, Knobs, Ledger, length, length-replicate, lies_on, List, Listing, map, MatchOption, Merged, merged_into, None, Note, nowhere, Option, PAGE_WORDS, PageState, PagesView, Placed, Private, refl, replicate, Row, row_at, same_page, Shape, shared_state, slice_index_or, Some, spent, subst, suc, sym, Took, true, with_frame, with_row, Zero, zero, zero_state, ℕ, ◌/◌, ◌<◌, ◌∙◌, ◌≡◌, ◌≤◌, ◌⊎◌, cond_both, if◌then◌else◌, Stable}
+use Rattle.ksm_book.proofs.Names.{[], All, ap, arith, blank, change_row, default_knobs, DupFits, DupRow, false, find_all, first_ledger, FitsBase, frame_at, Frames, frames_of, GenerationFits, get_or, GuestPage, holding, Houses, inl, InPageOrder, inr, IsLaid, IsLawful, IsReadable, IsServed, IsShape, KeeperView, Keeps, Kind, kind_for, Knobs, Ledger, length, length-replicate, lies_on, List, Listing, map, MatchOption, Merged, merged_into, None, Note, nowhere, Option, PAGE_WORDS, PageState, PagesView, Placed, Private, refl, replicate, Row, row_at, same_page, Shape, shared_state, slice_index_or, Some, spent, subst, suc, sym, HasNewFrame, true, with_frame, with_row, Zero, zero, zero_state, ℕ, ◌/◌, ◌<◌, ◌∙◌, ◌≡◌, ◌≤◌, ◌⊎◌, cond_both, if◌then◌else◌, Stable}
 use Rattle.ksm_base.specs.declared.row.PageState.TheVariants.{Private as OwnPage}
 use Rattle.ksm_book.proofs.ByPage.{found_page, row_of_page}
 use Rattle.ksm_book.proofs.Keeping.{spent_kept}
@@ -23,7 +23,7 @@ pub shape_same : (sh : Shape) (v w : KeeperView) → v.table.shape ≡ sh → w.
 shape_same sh v w same e = ap (λ x. x.shape) e ∙ same
 
 -- the frame taken serves a row with its bytes on its home
-module _ {sh : Shape} {across : ℕ} {v w : KeeperView} {rows : List Row} {frame : Frames} {dups : List DupRow} (same : v.table.shape ≡ sh) {node : ℕ} {bytes : List ℕ} {g : ℕ} (took : Took v w node bytes g) (p : Placed sh across v.ledger rows frame dups None) where
+module _ {sh : Shape} {across : ℕ} {v w : KeeperView} {rows : List Row} {frame : Frames} {dups : List DupRow} (same : v.table.shape ≡ sh) {node : ℕ} {bytes : List ℕ} {g : ℕ} (took : HasNewFrame v w node bytes g) (p : Placed sh across v.ledger rows frame dups None) where
   in_new_hand : Placed sh across w.ledger rows frame dups (Some g)
   in_new_hand = kept v same w (Some g) took.keeps p
 

@@ -1,5 +1,5 @@
 -- Parts of a log, and lists of steps that were made, one after the other.
-use Rattle.ksm_book.proofs.Names.{length-take-le, [], along, ap, append-nil, append_assoc, arith, Did, did, drop, get_or, given_by, Gives, IsNeeded, KeeperStep, KeeperView, Ledger, ledger_after, length, List, Log, Made, map-append, needed_after, None, Option, refl, replayed, set, Shape, Some, stepped, steps_of, subst, suc, sym, take, take_more, zero, ℕ, ◌++◌, ◌+◌, ◌<◌, ◌∙◌, ◌∷◌, ◌≡◌}
+use Rattle.ksm_book.proofs.Names.{length-take-le, [], along, ap, append-nil, append_assoc, arith, Allocates, did, drop, get_or, given_by, Gives, IsNeeded, KeeperStep, KeeperView, Ledger, ledger_after, length, List, Log, MakesSteps, map-append, needed_after, None, Option, refl, replayed, set, Shape, Some, stepped, steps_of, subst, suc, sym, take, take_more, zero, ℕ, ◌++◌, ◌+◌, ◌<◌, ◌∙◌, ◌∷◌, ◌≡◌}
 
 -- a log is replayed part by part
 pub replayed_append : (sh : Shape) (k : Ledger) (xs ys : Log) → replayed sh k (xs ++ ys) ≡ replayed sh (replayed sh k xs) ys
@@ -29,7 +29,7 @@ gives_append sh k ms ns (x ∷ xs) ys h h' =
     (more.0, subst (λ zs. Gives sh next zs (xs ++ ys)) (sym more.1) (gives_append sh next (needed_after ms (given_by x.0)) ns xs ys h.1 h'))
 
 -- two parts, one after the other, gave the frames of both
-pub chained : {u v w : KeeperView} {ms ns : List ℕ} {xs ys : Log} → Did u v ms xs → Did v w ns ys → Did u w (ms ++ ns) (xs ++ ys)
+pub chained : {u v w : KeeperView} {ms ns : List ℕ} {xs ys : Log} → Allocates u v ms xs → Allocates v w ns ys → Allocates u w (ms ++ ns) (xs ++ ys)
 chained {u} {v} {w} {ms} {ns} {xs} {ys} a b = record {
   table = b.table ∙ a.table;
   log = b.log ∙ ap (λ l. l ++ ys) a.log ∙ append_assoc u.log xs ys;
@@ -61,19 +61,19 @@ word_written (w ∷ ws) (c ∷ cs) (suc i) same lt = ap (λ l. w ∷ l) (word_wr
 -- ---------------------------------------------------------------- steps, and no others
 
 -- where the keeper stays as it is, no step was made
-pub made_none : {v w : KeeperView} → w ≡ v → Made v w []
+pub made_none : {v w : KeeperView} → w ≡ v → MakesSteps v w []
 made_none {v} {w} e = record { part = []; after = e ∙ (λ i. record { table = v.table; ledger = v.ledger; log = sym (append-nil v.log) i }); are = refl }
 
 -- a keeper that went on by one step has made that step and no other
-pub made_one : (v w : KeeperView) (e : KeeperStep) (found : ℕ) → w ≡ did v e found → Made v w (e ∷ [])
+pub made_one : (v w : KeeperView) (e : KeeperStep) (found : ℕ) → w ≡ did v e found → MakesSteps v w (e ∷ [])
 made_one v w e found is = record { part = (e, found) ∷ []; after = is; are = refl }
 
 -- a keeper that went on by a part of the log has made the steps of that part
-pub made_part : (v w : KeeperView) (part : Log) → w ≡ stepped v part → Made v w (steps_of part)
+pub made_part : (v w : KeeperView) (part : Log) → w ≡ stepped v part → MakesSteps v w (steps_of part)
 made_part v w part is = record { part = part; after = is; are = refl }
 
 -- two pieces of work, one after the other, have made the steps of both
-pub made_then : {u v w : KeeperView} {xs ys : List KeeperStep} → Made u v xs → Made v w ys → Made u w (xs ++ ys)
+pub made_then : {u v w : KeeperView} {xs ys : List KeeperStep} → MakesSteps u v xs → MakesSteps v w ys → MakesSteps u w (xs ++ ys)
 made_then {u} {v} {w} {xs} {ys} a b = record {
   part = a.part ++ b.part;
   after = b.after ∙ ap (λ (z : KeeperView). stepped z b.part) a.after ∙ stepped_then u a.part b.part;
@@ -81,7 +81,7 @@ made_then {u} {v} {w} {xs} {ys} a b = record {
 }
 
 -- where no step was made, nothing changed
-pub none_made : {v w : KeeperView} → Made v w [] → w ≡ v
+pub none_made : {v w : KeeperView} → MakesSteps v w [] → w ≡ v
 none_made {v} {w} m = by m.part m.after m.are
   where
     by : (part : Log) → w ≡ stepped v part → steps_of part ≡ [] → w ≡ v
@@ -89,10 +89,10 @@ none_made {v} {w} m = by m.part m.after m.are
     by (e ∷ es) after are = absurd (grind (arith, are))
 
 -- a keeper that made some steps made the first of them and then the others
-pub first_made : {v w : KeeperView} {e : KeeperStep} {es : List KeeperStep} → Made v w (e ∷ es) → (found : ℕ) × Made (did v e found) w es
+pub first_made : {v w : KeeperView} {e : KeeperStep} {es : List KeeperStep} → MakesSteps v w (e ∷ es) → (found : ℕ) × MakesSteps (did v e found) w es
 first_made {v} {w} {e} {es} m = by m.part m.after m.are
   where
-    by : (part : Log) → w ≡ stepped v part → steps_of part ≡ e ∷ es → (found : ℕ) × Made (did v e found) w es
+    by : (part : Log) → w ≡ stepped v part → steps_of part ≡ e ∷ es → (found : ℕ) × MakesSteps (did v e found) w es
     by [] after are = absurd (grind (arith, are))
     by (s ∷ part) after are =
         let first : s.0 ≡ e = grind (arith, are) in
@@ -100,11 +100,11 @@ first_made {v} {w} {e} {es} m = by m.part m.after m.are
         (s.1, record { part = part; after = after ∙ sym (stepped_then v (s ∷ []) part) ∙ ap (λ x. stepped (did v x s.1) part) first; are = rest })
 
 -- a keeper that made one step went on by that step, with some word that it found
-pub step_made : {v w : KeeperView} {e : KeeperStep} → Made v w (e ∷ []) → (found : ℕ) × (w ≡ did v e found)
+pub step_made : {v w : KeeperView} {e : KeeperStep} → MakesSteps v w (e ∷ []) → (found : ℕ) × (w ≡ did v e found)
 step_made {v} {w} {e} m = let first = first_made m in (first.0, none_made first.1)
 
 -- a keeper that made the steps of two lists made those of the first and then those of the second
-pub parts_made : {v w : KeeperView} (xs ys : List KeeperStep) → Made v w (xs ++ ys) → (between : KeeperView) × Made v between xs × Made between w ys
+pub parts_made : {v w : KeeperView} (xs ys : List KeeperStep) → MakesSteps v w (xs ++ ys) → (between : KeeperView) × MakesSteps v between xs × MakesSteps between w ys
 parts_made {v} {w} [] ys m = (v, made_none refl, m)
 parts_made {v} {w} (x ∷ xs) ys m =
     let first = first_made m in

@@ -55,13 +55,13 @@ pub use Rattle.ksm_book.specs.Commands.{Deed, dup_frame, emptying, Finds, FindsH
 pub use Rattle.ksm_book.specs.Folded.{begun, IsBeside, IsStill, last_of, mergeable_pages, next_visited, page_visited, pages_ahead, pages_visited, pass_at, restless_at, restless_row, visited, visits_beside}
 pub use Rattle.ksm_tree.specs.NumberSets.{has, Marks}
 pub use Rattle.ksm_book.specs.FrameSets.{AreSets, IsSetOf, NoneOf}
-pub use Rattle.ksm_book.specs.Keeping.{holding, IsLawful, Keeps, NoneLeft, past_lives, spent, spent_on, Took, with_more}
+pub use Rattle.ksm_book.specs.Keeping.{holding, IsLawful, Keeps, NoneLeft, past_lives, spent, spent_on, HasNewFrame, with_more}
 pub use Rattle.ksm_book.specs.Laid.{HasRemounted, Houses, IsLaid, LoadsIf, lying, MayMove, Resettled, state_of, TurnedAway}
 pub use Rattle.ksm_book.specs.Mounted.{HasLost, HasMoved, MayMount, once_mounted}
 pub use Rattle.ksm_book.specs.Placement.{Agrees, DupFits, FitsBase, in_hand, is_frame, IsInLife, IsServed, kind_for, life_or, node_of, place_frame, place_life, Placed, RowFits, uses}
 pub use Rattle.ksm_book.specs.Promised.{dup_frames, FindsPlace, HasItsOwn, is_in_use, IsOutlived, LieOn, NumbersAreSmall, own_frames, StandsOn}
 pub use Rattle.ksm_book.specs.Scanned.{AreListed, Comes, doing, EndsAt, from_to, HasScanned, HasStayed, is_nowhere, IsForZero, last_visited, ListsAll, MayJoin, MeetsPage, Reached, up_to, VisitsPage}
-pub use Rattle.ksm_book.specs.Steps.{along, Did, Does, dying_from, dying_kind, dying_on, free_kind, given_by, Gives, IsLowestFree, IsNeeded, loads, Log, Made, needed_after, puts, replayed, stepped, steps_of}
+pub use Rattle.ksm_book.specs.Steps.{along, Allocates, AllocatesOn, dying_from, dying_kind, dying_on, free_kind, given_by, Gives, IsLowestFree, IsNeeded, loads, Log, MakesSteps, needed_after, puts, replayed, stepped, steps_of}
 pub use Rattle.ksm_book.specs.Unmerged.{HasLeft, is_shared_of, IsStop, left_by, MayNotLeave, shared_of, Unshares}
 pub use Rattle.ksm_book.specs.Whole.{BookValue, BookView, HasShown, listed, mapped, nodes_got, view_of}
 pub use Rattle.ksm_book.specs.Worked.{apart, page, together}

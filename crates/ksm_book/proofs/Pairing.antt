@@ -1,5 +1,5 @@
 -- A visited page makes a dup with the page that waits for it: what the keeper may do, and what becomes of the book.
-use Rattle.ksm_book.proofs.Names.{[], Add, All, All-contains_itself, ap, arith, BookState, BookView, Bool, change_row, change_rows, Contains, Contains-append_right, count_none, did, dup_of_row, DupRow, each_at_page, eq-eqb, false, filter, find_all, find_changed_other, find_passes, frame_number, frames_of, GuestPage, IfSome, if◌then◌else◌, InPageOrder, IsFree, IsLaid, IsSound, IsVacant, item_count, joined_count, KeeperView, leaving, lies_on, List, list_any, lying, Made, MatchOption, May, MayPair, MeetsPage, Merged, merged_into, merged_state, MOST_REFERENCES, nat_lt, nat_tests, new_place, new_place_free, next_is_new, Option, ordered_change, PageState, PagesView, paired, pairing, partner, Performs, place_count, Publish, refl, Row, row_at, row_visiting, same_page, shared_state, Some, state_of, Sub, subst, sym, true, waiting_state, waits_for, waits_tells, WaitsFor, with_dup, Withdraw, withdrawing, Zero, ℕ, ◌++◌, ◌+◌, ◌-◌, ◌<◌, ◌==◌, ◌||◌, ◌∙◌, ◌∷◌, ◌≡◌, ◌≤◌}
+use Rattle.ksm_book.proofs.Names.{[], Add, All, All-contains_itself, ap, arith, BookState, BookView, Bool, change_row, change_rows, Contains, Contains-append_right, count_none, did, dup_of_row, DupRow, each_at_page, eq-eqb, false, filter, find_all, find_changed_other, find_passes, frame_number, frames_of, GuestPage, IfSome, if◌then◌else◌, InPageOrder, IsFree, IsLaid, IsSound, IsVacant, item_count, joined_count, KeeperView, leaving, lies_on, List, list_any, lying, MakesSteps, MatchOption, May, MayPair, MeetsPage, Merged, merged_into, merged_state, MOST_REFERENCES, nat_lt, nat_tests, new_place, new_place_free, next_is_new, Option, ordered_change, PageState, PagesView, paired, pairing, partner, Performs, place_count, Publish, refl, Row, row_at, row_visiting, same_page, shared_state, Some, state_of, Sub, subst, sym, true, waiting_state, waits_for, waits_tells, WaitsFor, with_dup, Withdraw, withdrawing, Zero, ℕ, ◌++◌, ◌+◌, ◌-◌, ◌<◌, ◌==◌, ◌||◌, ◌∙◌, ◌∷◌, ◌≡◌, ◌≤◌}
 use Rattle.ksm_pages.specs.Paged.{paired as are_paired}
 use Rattle.ksm_book.proofs.Made.{made_one, made_then}
 use Rattle.ksm_book.proofs.Sharing.{laid_found, laid_joined, may_clear, may_found, may_join, may_part, spent_most, tree_is_home}
@@ -115,12 +115,12 @@ module _ (other : GuestPage) {p : PagesView} {k : KeeperView} {cursor : Option G
 
   module _ {f : ℕ} (stands : p.frame one ≡ Some f) {k1 : KeeperView} {taken : Bool}
       (taken_is : taken ≡ list_any (λ d. d.place == place) p.dups)
-      (cleared : Made k k1 (if taken then Withdraw place ∷ [] else [])) where
+      (cleared : MakesSteps k k1 (if taken then Withdraw place ∷ [] else [])) where
     lies : p.frame w.page ≡ Some f
     lies = ap p.frame (sym (is ∙ met.2)) ∙ stands
 
-    clears : Made k k1 (withdrawing p.dups place)
-    clears = subst (λ t. Made k k1 (if t then Withdraw place ∷ [] else [])) taken_is cleared
+    clears : MakesSteps k k1 (withdrawing p.dups place)
+    clears = subst (λ t. MakesSteps k k1 (if t then Withdraw place ∷ [] else [])) taken_is cleared
 
     -- once its place is cleared, the new dup may be published there on the frame of the page that waits
     pub may_publish : May k1 (Publish place f)
@@ -162,20 +162,20 @@ module _ (other : GuestPage) {p : PagesView} {k : KeeperView} {cursor : Option G
 
       module _ {lone : ℕ} (left : p.frame page ≡ Some lone) where
         -- once a reference came to the frame of the page that waits, the visited page's own frame may be left
-        pub may_sub_from : {k3 : KeeperView} → Made k2 k3 (Add f ∷ []) → May k3 (Sub lone)
+        pub may_sub_from : {k3 : KeeperView} → MakesSteps k2 k3 (Add f ∷ []) → May k3 (Sub lone)
         may_sub_from {k3} comes = subst (λ o. IfSome o (λ g. May k3 (Sub g))) left
             (may_part first_laid first_rise page row (change w) row_still item_at f lies refl change (λ r. refl) refl
             (sym tells.bytes) k3 comes)
 
-        module _ {k3 l : KeeperView} (comes : Made k2 k3 (Add f ∷ [])) (leaves : Made k3 l (Sub lone ∷ [])) (q : PagesView)
+        module _ {k3 l : KeeperView} (comes : MakesSteps k2 k3 (Add f ∷ [])) (leaves : MakesSteps k3 l (Sub lone ∷ [])) (q : PagesView)
             (told : MatchOption (row_at one p.rows) (true ≡ false) (λ r. MatchOption (row_at page p.rows) (true ≡ false)
             (λ x. q ≡ are_paired place r x p))) where
           goes : q ≡ are_paired place w row p
           goes = at_row (λ x. q ≡ are_paired place w x p) page p.rows row at.found
               (at_row (λ r. MatchOption (row_at page p.rows) (true ≡ false) (λ x. q ≡ are_paired place r x p)) one p.rows w waits_one told)
 
-          steps : Made k2 l (Add f ∷ leaving (p.frame page))
-          steps = subst (λ o. Made k2 l (Add f ∷ leaving o)) (sym left) (made_then comes leaves)
+          steps : MakesSteps k2 l (Add f ∷ leaving (p.frame page))
+          steps = subst (λ o. MakesSteps k2 l (Add f ∷ leaving o)) (sym left) (made_then comes leaves)
 
           both : change_row page change first.rows ≡ change_rows (λ r. same_page r.page w.page || same_page r.page row.page) change p.rows
           both = ap (λ x. change_row x change first.rows) (sym at_page) ∙ two_changes w.page row.page (Merged p.next) p.rows
@@ -183,7 +183,7 @@ module _ (other : GuestPage) {p : PagesView} {k : KeeperView} {cursor : Option G
           q_is : q ≡ record first { rows = change_row page change first.rows; frame = lies_on page (Some f) p.frame }
           q_is = goes ∙ (λ t. record first { rows = sym both t; frame = lies_on (at_page t) (lies t) p.frame })
 
-          all_steps : Made k l (withdrawing p.dups place ++ (Publish place f ∷ Add f ∷ leaving (p.frame page)))
+          all_steps : MakesSteps k l (withdrawing p.dups place ++ (Publish place f ∷ Add f ∷ leaving (p.frame page)))
           all_steps = made_then clears (made_then (made_one k1 k2 (Publish place f) 0 shown) steps)
 
           deed_is : row_visiting b p.frame row ≡ record {

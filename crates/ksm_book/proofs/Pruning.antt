@@ -1,5 +1,5 @@
 -- Stale dups go one by one.
-use Rattle.ksm_book.proofs.Names.{[], All, All-head, All-tail, ap, append-nil, append_assoc, arith, cases_Bool, count_by, count_by-le-length, did, DupRow, elsewhere, eqb-true, false, filter, filter_all, filter_none, find, find_all, find_none, find_passes, frames_at_most, frames_of, get_or, has_items, inl, InPlaceOrder, inr, is_stale, IsLaid, IsVacant, item_count, KeeperView, length, length-append, length-filter, List, lying, Made, map, map-append, May, nat_tests, None, not, one_of_each_place, option_map, ordered_filter, PagesView, pairs_tail, Performs, pruning, refl, Row, Shape, Some, subst, suc, sym, true, Withdraw, ℕ, ◌++◌, ◌+◌, ◌<◌, ◌==◌, ◌^◌, ◌∙◌, ◌∷◌, ◌≡◌, ◌≤◌}
+use Rattle.ksm_book.proofs.Names.{[], All, All-head, All-tail, ap, append-nil, append_assoc, arith, cases_Bool, count_by, count_by-le-length, did, DupRow, elsewhere, eqb-true, false, filter, filter_all, filter_none, find, find_all, find_none, find_passes, frames_at_most, frames_of, get_or, has_items, inl, InPlaceOrder, inr, is_stale, IsLaid, IsVacant, item_count, KeeperView, length, length-append, length-filter, List, lying, MakesSteps, map, map-append, May, nat_tests, None, not, one_of_each_place, option_map, ordered_filter, PagesView, pairs_tail, Performs, pruning, refl, Row, Shape, Some, subst, suc, sym, true, Withdraw, ℕ, ◌++◌, ◌+◌, ◌<◌, ◌==◌, ◌^◌, ◌∙◌, ◌∷◌, ◌≡◌, ◌≤◌}
 use Rattle.std.proofs.lemmas.Bool.{eq-eqb}
 use Rattle.ksm_book.proofs.Sharing.{laid_cleared, vacant_loose}
 use Rattle.ksm_book.proofs.Made.{made_one, made_then}
@@ -71,7 +71,7 @@ pub record Drops (p q : PagesView) (k l : KeeperView) (count : ℕ) : Type 0 whe
   -- the count is that of those that went
   pub many : count ≡ length gone
   -- their places were withdrawn, in their order
-  pub made : Made k l (map (λ d. Withdraw d.place) gone)
+  pub made : MakesSteps k l (map (λ d. Withdraw d.place) gone)
   -- at first the dups were in the order of their places
   pub first : InPlaceOrder p.dups
   -- now the dups are in the order of their places
@@ -133,7 +133,7 @@ module _ {p q : PagesView} {k l : KeeperView} {count : ℕ} (h : Drops p q k l c
   drops_more q' l' is goes =
       let dups : q'.dups ≡ filter (elsewhere place) q.dups = ap (λ (x : PagesView). x.dups) goes in
       let vacant = subst (λ rows. IsVacant place rows q.dups) rows_are drop_vacant in
-      let one = subst (λ x. Made l l' (Withdraw x ∷ [])) (sym stale.2) (made_one l l' (Withdraw place) 0 is) in
+      let one = subst (λ x. MakesSteps l l' (Withdraw x ∷ [])) (sym stale.2) (made_one l l' (Withdraw place) 0 is) in
       record {
         pages = goes ∙ (λ t. record (h.pages t) { dups = filter (elsewhere place) q.dups }) ∙ (λ t. record p { dups = sym dups t });
         live = ap (filter (has_items p.rows)) dups ∙ live_elsewhere p.rows place q.dups vacant ∙ h.live;
@@ -141,7 +141,7 @@ module _ {p q : PagesView} {k l : KeeperView} {count : ℕ} (h : Drops p q k l c
         all = h.all ∙ ap (λ ds. h.gone ++ ds) next ∙ sym (append_assoc h.gone (stale.0 ∷ []) _)
             ∙ ap (λ ds. (h.gone ++ stale.0 ∷ []) ++ filter (is_stale p.rows) ds) (sym dups);
         many = omega (arith, h.many, length-append h.gone (stale.0 ∷ []));
-        made = subst (Made k l') (sym (map-append (λ (d : DupRow). Withdraw d.place) h.gone (stale.0 ∷ []))) (made_then h.made one);
+        made = subst (MakesSteps k l') (sym (map-append (λ (d : DupRow). Withdraw d.place) h.gone (stale.0 ∷ []))) (made_then h.made one);
         first = h.first;
         rise = subst InPlaceOrder (sym dups) (ordered_filter (elsewhere place) q.dups h.rise);
         before = h.before;
@@ -164,7 +164,7 @@ module _ {p q : PagesView} {k l : KeeperView} {count : ℕ} (h : Drops p q k l c
         h.pages ∙ (λ t. record p { dups = (sym (none_stale p.rows q.dups none) ∙ h.live) t }),
         h.many ∙ ap length (sym all) ∙ length-filter (is_stale p.rows) p.dups,
         record {
-          made = subst (λ ds. Made k l (map (λ (d : DupRow). Withdraw d.place) ds)) (sym all) h.made;
+          made = subst (λ ds. MakesSteps k l (map (λ (d : DupRow). Withdraw d.place) ds)) (sym all) h.made;
           frame = ap (λ (x : PagesView). x.frame) h.pages;
         },
       )

@@ -1,5 +1,5 @@
 -- A dup with items, and where its pages lie before and after it moves.
-use Rattle.ksm_book.proofs.Names.{list_any_at, [], All, and_parts, ap, arith, blank, Bool, cond, count_in, did, dup_frame, dup_numbered, DupFits, DupRow, Dying, each_has_number, eq-eqb, find_all, find_passes, Err, Finds, FindsHeld, FindsNone, HasRemounted, InUse, MayMount, MayMove, NoFrame, Ok, frame_at, frame_found, frame_number, frames_of, Free, Freeze, get_or, get_or-set_other, GuestPage, has_items, instead, is_frame, is_item, IsInLife, IsLaid, IsLoose, IsLowestFree, item_count, items_on, KeeperView, Ledger, length, length-set, Life, life_or, List, list_any, ltb-true, lying, Made, merged_into, mounting, Moves, named_at, ne_eqb, node_of, None, Note, Option, PagesView, place_frame, Placed, Publish, refl, Row, row_at, same_page, same_Some, set, Shape, Some, spent, Stable, subst, sym, true, with_frame, ℕ, ◌&&◌, ◌*◌, ◌+◌, ◌<◌, ◌==◌, ◌∙◌, ◌∷◌, ◌≡◌, ◌≢◌, ◌≤◌, if◌then◌else◌, once_mounted, All-contains_itself, Contains}
+use Rattle.ksm_book.proofs.Names.{list_any_at, [], All, and_parts, ap, arith, blank, Bool, cond, count_in, did, dup_frame, dup_numbered, DupFits, DupRow, Dying, each_has_number, eq-eqb, find_all, find_passes, Err, Finds, FindsHeld, FindsNone, HasRemounted, InUse, MayMount, MayMove, NoFrame, Ok, frame_at, frame_found, frame_number, frames_of, Free, Freeze, get_or, get_or-set_other, GuestPage, has_items, instead, is_frame, is_item, IsInLife, IsLaid, IsLoose, IsLowestFree, item_count, items_on, KeeperView, Ledger, length, length-set, Life, life_or, List, list_any, ltb-true, lying, MakesSteps, merged_into, mounting, Moves, named_at, ne_eqb, node_of, None, Note, Option, PagesView, place_frame, Placed, Publish, refl, Row, row_at, same_page, same_Some, set, Shape, Some, spent, Stable, subst, sym, true, with_frame, ℕ, ◌&&◌, ◌*◌, ◌+◌, ◌<◌, ◌==◌, ◌∙◌, ◌∷◌, ◌≡◌, ◌≢◌, ◌≤◌, if◌then◌else◌, once_mounted, All-contains_itself, Contains}
 use mathlib.Core.Logic.{dite}
 use native.Mathlib.Decide.{ℕ_discrete}
 use Rattle.ksm_book.proofs.ByPage.{found_page, same_frames}
@@ -143,7 +143,7 @@ module _ {v : PagesView} {k : KeeperView} {dup : DupRow} {node g : ℕ} (may : M
 
     -- the exchange of the old frame's count
     module _ {u : KeeperView} (found : ℕ) (freezes : u ≡ did w (Freeze g) found) where
-      by_freeze : Made w u (Freeze g ∷ [])
+      by_freeze : MakesSteps w u (Freeze g ∷ [])
       by_freeze = made_one w u (Freeze g) found freezes
 
       frozen_table : u.table ≡ w.table
@@ -161,7 +161,7 @@ module _ {v : PagesView} {k : KeeperView} {dup : DupRow} {node g : ℕ} (may : M
           got = f;
           searched = w;
           finds = to;
-          freezes = subst (λ x. Made w u (Freeze x ∷ [])) (sym dup_frame_is) by_freeze;
+          freezes = subst (λ x. MakesSteps w u (Freeze x ∷ [])) (sym dup_frame_is) by_freeze;
           kept = ap (λ x. (frame_at u.ledger x).kind) dup_frame_is ∙ ap (λ (z : Ledger). (frame_at z g).kind) still ∙ stable;
           frame = refl;
         }
@@ -230,10 +230,10 @@ module _ {v : PagesView} {k : KeeperView} {dup : DupRow} {node g : ℕ} (may : M
 
         -- and the dup stands on the new frame
         module _ {x : KeeperView} {items : ℕ} (items_are : items ≡ n.base)
-            (does : Made u x (mounting g f dup.place items (frame_at u.ledger g).content))
+            (does : MakesSteps u x (mounting g f dup.place items (frame_at u.ledger g).content))
             (knows : x.ledger ≡ once_mounted u.ledger g f dup.place items) where
-          mounts : Made u x (mounting g f dup.place n.base (frame_at u.ledger g).content)
-          mounts = subst (λ y. Made u x (mounting g f dup.place y (frame_at u.ledger g).content)) items_are does
+          mounts : MakesSteps u x (mounting g f dup.place n.base (frame_at u.ledger g).content)
+          mounts = subst (λ y. MakesSteps u x (mounting g f dup.place y (frame_at u.ledger g).content)) items_are does
 
           module _ (q : PagesView) (goes : q ≡ record v { frame = items_on dup.number f v.rows v.frame }) where
             goes_there : q.frame ≡ instead g f v.frame
@@ -245,10 +245,10 @@ module _ {v : PagesView} {k : KeeperView} {dup : DupRow} {node g : ℕ} (may : M
               searched = w;
               finds = to;
               frozen = u;
-              freezes = subst (λ y. Made w u (Freeze y ∷ [])) (sym dup_frame_is) by_freeze;
+              freezes = subst (λ y. MakesSteps w u (Freeze y ∷ [])) (sym dup_frame_is) by_freeze;
               stood = ap (λ y. (frame_at w.ledger y).kind) dup_frame_is ∙ stable;
               exchanged = ap (λ y. (frame_at u.ledger y).kind) dup_frame_is ∙ (may_mount refl).dying;
-              mounts = subst (λ (z : ℕ × ℕ × List ℕ). Made u x (mounting z.0 f dup.place z.1 z.2))
+              mounts = subst (λ (z : ℕ × ℕ × List ℕ). MakesSteps u x (mounting z.0 f dup.place z.1 z.2))
                   (λ t. (sym dup_frame_is t, base t, (ap (λ (y : Note). y.content) at_g ∙ bytes) t)) mounts;
               named = named;
               frame = goes_there ∙ ap (λ y. instead y f v.frame) (sym dup_frame_is);

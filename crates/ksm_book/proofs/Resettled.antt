@@ -1,5 +1,5 @@
 -- How a page gets another frame.
-use Rattle.ksm_book.proofs.Names.{ap, arith, change_row, FindsNone, Frames, GuestPage, Houses, IfSome, InPageOrder, is_some, IsKnown, IsLaid, KeeperView, leaving, lies_on, List, Made, MatchOption, May, None, on_its_own, Option, PagesView, Placed, Provides, refl, Resettled, Row, row_at, Shape, Some, Sub, subst, sym, Took, true, TurnedAway, ℕ, ◌<◌, ◌∙◌, ◌≡◌}
+use Rattle.ksm_book.proofs.Names.{ap, arith, change_row, FindsNone, Frames, GuestPage, Houses, IfSome, InPageOrder, is_some, IsKnown, IsLaid, KeeperView, leaving, lies_on, List, MakesSteps, MatchOption, May, None, on_its_own, Option, PagesView, Placed, Provides, refl, Resettled, Row, row_at, Shape, Some, Sub, subst, sym, HasNewFrame, true, TurnedAway, ℕ, ◌<◌, ◌∙◌, ◌≡◌}
 use Rattle.ksm_base.specs.declared.row.PageState.TheVariants.{Private}
 use Rattle.ksm_book.proofs.Shown.{provides_does}
 use Rattle.ksm_book.proofs.Keeping.{left_placed, left_spends, may_leave, searched_placed, searched_spends}
@@ -10,7 +10,7 @@ abbrev pub housed : ℕ → List ℕ → Row → Row
 housed node bytes r = record r { home = node; bytes = bytes; state = Private }
 
 module _ {p : PagesView} {k w : KeeperView} (h : IsLaid p k) (rise : InPageOrder p.rows) (page : GuestPage) (known : IsKnown page p.rows) {node : ℕ} {bytes : List ℕ} {g : ℕ}
-    (provides : Provides k w node bytes g) (taken : Took k w node bytes g) where
+    (provides : Provides k w node bytes g) (taken : HasNewFrame k w node bytes g) where
   abbrev across : ℕ
   across = p.knobs.merge_across_nodes
 
@@ -35,9 +35,9 @@ module _ {p : PagesView} {k w : KeeperView} (h : IsLaid p k) (rise : InPageOrder
 
     -- a page that took a frame with its bytes on a node, and left the one that it had, is resettled there
     pub resettled : (q : PagesView) (u : KeeperView) → q ≡ record p { rows = change_row page on_its_own p.rows; frame = lies_on page (Some g) p.frame; restless = q.restless }
-        → Made w u (leaving left) → Resettled p q k u page node bytes
+        → MakesSteps w u (leaving left) → Resettled p q k u page node bytes
     resettled q u goes made =
-        let leaves = subst (λ o. Made w u (leaving o)) was made in
+        let leaves = subst (λ o. MakesSteps w u (leaving o)) was made in
         let lies : q.frame ≡ lies_on page (Some g) p.frame = ap (λ (x : PagesView). x.frame) goes in
         record {
           pages = goes ∙ (λ t. record p { rows = change_row page on_its_own p.rows; frame = sym lies t; restless = q.restless });

@@ -1,7 +1,7 @@
 -- The visit of a row, by what is found: what becomes of the book, and what is done to the frames.
-use Rattle.ksm_book.proofs.Names.{[], Add, All, All-contains_itself, and_parts, ap, arith, Best, best_dup, best_dup_has_room, BookState, BookValue, BookView, Bool, change_row, Comes, Contains, doing, DupRow, each_at_page, emptying, false, find_all, find_passes, frame_found, frame_number, Frames, GuestPage, handled, handling, HasRoom, HasStayed, idle, IfSome, if◌then◌else◌, is_best, is_restless, IsDupOf, IsForZero, IsJoined, IsLaid, IsSound, item_count, joining, KeeperStep, KeeperView, leaving, lies_on, List, lying, Made, mapped, MatchOption, May, MayJoin, Merged, merged_into, merged_state, MOST_REFERENCES, nat_tests, None, not, Option, page_visited, PagesView, paired, pairing, partner, Performs, Placed, Reached, refl, Row, row_at, row_visited, row_visiting, same_Some, shared_state, Some, sound_row_visited, state_of, Sub, subst, sym, true, true≢false, view_of, visited, VisitsPage, Zero, ℕ, ◌-◌, ◌∙◌, ◌∷◌, ◌≡◌, ◌≤◌}
+use Rattle.ksm_book.proofs.Names.{[], Add, All, All-contains_itself, and_parts, ap, arith, Best, best_dup, best_dup_has_room, BookState, BookValue, BookView, Bool, change_row, Comes, Contains, doing, DupRow, each_at_page, emptying, false, find_all, find_passes, frame_found, frame_number, Frames, GuestPage, handled, handling, HasRoom, HasStayed, idle, IfSome, if◌then◌else◌, is_best, is_restless, IsDupOf, IsForZero, IsJoined, IsLaid, IsSound, item_count, joining, KeeperStep, KeeperView, leaving, lies_on, List, lying, MakesSteps, mapped, MatchOption, May, MayJoin, Merged, merged_into, merged_state, MOST_REFERENCES, nat_tests, None, not, Option, page_visited, PagesView, paired, pairing, partner, Performs, Placed, Reached, refl, Row, row_at, row_visited, row_visiting, same_Some, shared_state, Some, sound_row_visited, state_of, Sub, subst, sym, true, true≢false, view_of, visited, VisitsPage, Zero, ℕ, ◌-◌, ◌∙◌, ◌∷◌, ◌≡◌, ◌≤◌}
 use Rattle.ksm_base.specs.declared.row.PageState.TheVariants.{Private}
-use Rattle.frame_table.specs.Kept.{Did}
+use Rattle.frame_table.specs.Kept.{Allocates}
 use Rattle.ksm_book.proofs.ByPage.{found_page, row_of_page}
 use Rattle.ksm_book.proofs.Keeping.{left_placed, left_spends, may_leave}
 use Rattle.ksm_book.proofs.Laying.{laid_rows}
@@ -50,7 +50,7 @@ pub at_row : (P : Row → Type 0) (page : GuestPage) (rows : List Row) (row : Ro
 at_row P page rows row found is = subst (λ o. MatchOption o (true ≡ false) P) found is
 
 -- a step of the keeper was made, as its call says
-pub made_by : {v w : KeeperView} {e : KeeperStep} → Did v e w → Made v w (e ∷ [])
+pub made_by : {v w : KeeperView} {e : KeeperStep} → Allocates v e w → MakesSteps v w (e ∷ [])
 made_by {v} {w} {e} did = made_one v w e did.0 did.1
 
 -- a book, seen as v, lies lawfully, and something is so of the row of a page
@@ -210,12 +210,12 @@ module _ (best : Best) {p : PagesView} {k : KeeperView} {cursor : Option GuestPa
 
     module _ (lone : ℕ) (left : p.frame page ≡ Some lone) where
       -- once a reference came to the dup's frame, the joining page's own frame may be left
-      pub may_sub : {w : KeeperView} → Made k w (Add g ∷ []) → May w (Sub lone)
+      pub may_sub : {w : KeeperView} → MakesSteps k w (Add g ∷ []) → May w (Sub lone)
       may_sub {w} comes = subst (λ o. IfSome o (λ f. May w (Sub f))) left
           (may_part at.laid at.sound.rows_rise page row item at.found found_item g there item_merged
           change (λ r. refl) state_is same_bytes w comes)
 
-      module _ {w l : KeeperView} (comes : Made k w (Add g ∷ [])) (leaves : Made w l (Sub lone ∷ [])) (q : PagesView)
+      module _ {w l : KeeperView} (comes : MakesSteps k w (Add g ∷ [])) (leaves : MakesSteps w l (Sub lone ∷ [])) (q : PagesView)
           (goes : q ≡ record p { rows = change_row page change p.rows; frame = q.frame })
           (frame : All (λ r. merged_into best.number r.state ≡ true → q.frame ≡ lies_on page (p.frame r.page) p.frame) p.rows) where
         frame_is : q.frame ≡ lies_on page (Some g) p.frame
@@ -226,8 +226,8 @@ module _ (best : Best) {p : PagesView} {k : KeeperView} {cursor : Option GuestPa
         q_is : q ≡ record p { rows = change_row page change p.rows; frame = lies_on page (Some g) p.frame }
         q_is = goes ∙ (λ t. record p { rows = change_row page change p.rows; frame = frame_is t })
 
-        steps : Made k l (Add g ∷ leaving (p.frame page))
-        steps = subst (λ o. Made k l (Add g ∷ leaving o)) (sym left) (made_then comes leaves)
+        steps : MakesSteps k l (Add g ∷ leaving (p.frame page))
+        steps = subst (λ o. MakesSteps k l (Add g ∷ leaving o)) (sym left) (made_then comes leaves)
 
         deed_is : row_visiting (state_of p cursor passes) p.frame row ≡ joining p.frame page g
         deed_is = (visited_by (state_of p cursor passes) p.frame row (Some dup) at.so.0 told.1).1
@@ -263,11 +263,11 @@ module _ {p : PagesView} {k : KeeperView} {cursor : Option GuestPage} {passes : 
   may_empty was = subst (λ o. IfSome o (λ f. May k (Sub f))) (sym was) (may_leave k at.laid.same (p.frame page) zero_hand)
 
   -- once the page is Zero and has left its frame, the book is what the visit leads to
-  pub zero_leads : (q : PagesView) {l : KeeperView} {left : Option ℕ} → left ≡ p.frame page → Made k l (leaving left)
+  pub zero_leads : (q : PagesView) {l : KeeperView} {left : Option ℕ} → left ≡ p.frame page → MakesSteps k l (leaving left)
       → q ≡ record p { rows = change_row page zeroed p.rows; frame = lies_on page None p.frame } → Leads v q l cursor passes page
   zero_leads q {l} was made goes =
       let b = state_of p cursor passes in
-      let leaves = subst (λ o. Made k l (leaving o)) was made in
+      let leaves = subst (λ o. MakesSteps k l (leaving o)) was made in
       leads at q l at.so.restless
       (subst (λ (x : PagesView). IsLaid x l) (sym goes)
       (laid_rows at.laid (change_row page zeroed p.rows) (lies_on page None p.frame) p.restless l

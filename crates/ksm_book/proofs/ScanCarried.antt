@@ -1,5 +1,5 @@
 -- A scan carried out: what its visits come to is what the command promises.
-use Rattle.ksm_book.proofs.Names.{[], ap, arith, BookValue, IsCarried, Comes, Deed, doing, Done, false, Fault, HasScanned, IsScanned, length, List, list_any, list_any_none, Made, Memory, mergeable_pages, None, none_counted, Ok, Option, Reply, Row, Scan, scan_stopped, Scanned, Some, subst, sym, true, view_of, visits_beside, ℕ, ◌∙◌, ◌∷◌, ◌≡◌, ◌≤◌, if◌then◌else◌}
+use Rattle.ksm_book.proofs.Names.{[], ap, arith, BookValue, IsCarried, Comes, Deed, doing, Done, false, Fault, HasScanned, IsScanned, length, List, list_any, list_any_none, MakesSteps, Memory, mergeable_pages, None, none_counted, Ok, Option, Reply, Row, Scan, scan_stopped, Scanned, Some, subst, sym, true, view_of, visits_beside, ℕ, ◌∙◌, ◌∷◌, ◌≡◌, ◌≤◌, if◌then◌else◌}
 use Rattle.ksm_book.proofs.Doing.{scanning_is}
 use Rattle.ksm_book.proofs.Folded.{beside_state}
 use Rattle.ksm_book.proofs.Listed.{some_pages}
@@ -24,7 +24,7 @@ module _ (v w : BookValue) (count : ℕ) (running : v.state.knobs.run ≡ 1) (ta
   scanned made stop is comes =
       let there = comes v (first v) (begins v) in
       let deed = sym (scanning_is made v.state (view_of v).frame) in
-      let steps = subst (λ (d : Deed). Made v.keeper w.keeper d.steps) deed there.1.made in
+      let steps = subst (λ (d : Deed). MakesSteps v.keeper w.keeper d.steps) deed there.1.made in
       record {
         own = table;
         answer = rw running is;

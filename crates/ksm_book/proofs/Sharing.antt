@@ -1,6 +1,6 @@
 -- What becomes of the layout where rows change together, join a dup, or make or lose one.
 use Rattle.ksm_base.specs.declared.limits.TheConstants.{MOST_FRAMES, MOST_LIVES, MOST_REFERENCES}
-use Rattle.ksm_book.proofs.Names.{[], Add, All, All-filter, ap, arith, blank, Bool, both_ways, cases_Bool, change_row, Contains, count_by, count_none, did, DupRow, elsewhere, eq-eqb, eqb-true, false, filter, filter_passes, find, find_all, find_none, find_passes, FitsBase, frame_at, Frames, frames_at_most, frames_of, get_or, get_or-set_same, get_or_default, GuestPage, IfSome, if◌then◌else◌, inl, InPageOrder, inr, IsInLife, IsLaid, IsLoose, IsServed, IsVacant, item_count, KeeperView, Kind, kind_for, Knobs, leaving, Ledger, ledger_after, length, lies_on, Life, life_or, List, list_any, Listing, Made, May, Merged, merged_into, merged_state, named_at, nat_lt, nat_tests, None, none_found, not-true, Note, Option, PageState, PagesView, past_lives, place_frame, Placed, Private, Publish, refl, Row, row_at, RowFits, set, set-get_or, settled, settled_state, Shape, shared_state, Some, spent, spent_on, Stable, Sub, subst, sum_by-le, sym, tree_of, true, Waiting, with_dup, with_frame, Withdraw, withdrawing, ℕ, ◌*◌, ◌++◌, ◌+◌, ◌-◌, ◌<◌, ◌==◌, ◌^◌, ◌∙◌, ◌∷◌, ◌≡◌, ◌≢◌, ◌≤◌, ◌⊎◌}
+use Rattle.ksm_book.proofs.Names.{[], Add, All, All-filter, ap, arith, blank, Bool, both_ways, cases_Bool, change_row, Contains, count_by, count_none, did, DupRow, elsewhere, eq-eqb, eqb-true, false, filter, filter_passes, find, find_all, find_none, find_passes, FitsBase, frame_at, Frames, frames_at_most, frames_of, get_or, get_or-set_same, get_or_default, GuestPage, IfSome, if◌then◌else◌, inl, InPageOrder, inr, IsInLife, IsLaid, IsLoose, IsServed, IsVacant, item_count, KeeperView, Kind, kind_for, Knobs, leaving, Ledger, ledger_after, length, lies_on, Life, life_or, List, list_any, Listing, MakesSteps, May, Merged, merged_into, merged_state, named_at, nat_lt, nat_tests, None, none_found, not-true, Note, Option, PageState, PagesView, past_lives, place_frame, Placed, Private, Publish, refl, Row, row_at, RowFits, set, set-get_or, settled, settled_state, Shape, shared_state, Some, spent, spent_on, Stable, Sub, subst, sum_by-le, sym, tree_of, true, Waiting, with_dup, with_frame, Withdraw, withdrawing, ℕ, ◌*◌, ◌++◌, ◌+◌, ◌-◌, ◌<◌, ◌==◌, ◌^◌, ◌∙◌, ◌∷◌, ◌≡◌, ◌≢◌, ◌≤◌, ◌⊎◌}
 use Rattle.ksm_book.proofs.Moves.{Serves, joined, published, base_is_items, stale_is_loose}
 use Rattle.ksm_book.proofs.Laying.{LodgesAs, laid_rows, own_kind, served_at, shape_same}
 use Rattle.ksm_book.proofs.Keeping.{added_placed, added_spends, left_placed, left_spends, lives_most, may_leave, past_le, spent_set}
@@ -53,7 +53,7 @@ module _ {p : PagesView} {k : KeeperView} (h : IsLaid p k) (rise : InPageOrder p
   module _ (c : Row → Row) (keeps : (r : Row) → (c r).page ≡ r.page) (state : (c row).state ≡ item.state)
       (bytes : (c row).bytes ≡ item.bytes) where
     -- once the reference has come, the page lies there, and its own frame is in the hand
-    joined_hand : (w : KeeperView) → Made k w (Add g ∷ []) → Placed p.shape across w.ledger (change_row page c p.rows)
+    joined_hand : (w : KeeperView) → MakesSteps k w (Add g ∷ []) → Placed p.shape across w.ledger (change_row page c p.rows)
         (lies_on page (Some g) p.frame) p.dups (p.frame page)
     joined_hand w comes =
         let q = added_placed comes item_stable item_fits.0.frame h.placed in
@@ -62,11 +62,11 @@ module _ {p : PagesView} {k : KeeperView} (h : IsLaid p k) (rise : InPageOrder p
         (ap shared_state (merged_as item.state merged).1) q
 
     -- once a reference came to the item's frame, the frame of the page that joins, if it has one, may be left
-    pub may_part : (w : KeeperView) → Made k w (Add g ∷ []) → IfSome (p.frame page) (λ f. May w (Sub f))
+    pub may_part : (w : KeeperView) → MakesSteps k w (Add g ∷ []) → IfSome (p.frame page) (λ f. May w (Sub f))
     may_part w comes = may_leave w (shape_same p.shape k w h.same (ap (λ (z : KeeperView). z.table) comes.after)) (p.frame page) (joined_hand w comes)
 
     -- rows and dups lie lawfully once a page is an item, lies on the item's frame and has left its own
-    pub laid_joined : (u : KeeperView) (restless : Listing) → Made k u (Add g ∷ leaving (p.frame page))
+    pub laid_joined : (u : KeeperView) (restless : Listing) → MakesSteps k u (Add g ∷ leaving (p.frame page))
         → IsLaid (record p { rows = change_row page c p.rows; frame = lies_on page (Some g) p.frame; restless = restless }) u
     laid_joined u restless m =
         let parts = parts_made (Add g ∷ []) (leaving (p.frame page)) m in
@@ -112,14 +112,14 @@ module _ {p : PagesView} {k : KeeperView} (w : KeeperView) (h : IsLaid p k) (pla
   )
 
   -- once what a vacant place names is withdrawn, the place names nothing, and the keeper knows the rest as it was
-  pub cleared_ledger : Made k w (withdrawing p.dups place) → w.ledger ≡ record
+  pub cleared_ledger : MakesSteps k w (withdrawing p.dups place) → w.ledger ≡ record
       { frames = k.ledger.frames; places = set k.ledger.places place None }
   cleared_ledger m = elim (cases_Bool (list_any (λ d. d.place == place) p.dups)) [
     | inl taken ↦ ap (λ (z : KeeperView). z.ledger) (step_made
-        (subst (λ (b : Bool). Made k w (if b then Withdraw place ∷ [] else [])) taken m)).1
+        (subst (λ (b : Bool). MakesSteps k w (if b then Withdraw place ∷ [] else [])) taken m)).1
     | inr none ↦
         let empty = h.placed.empty place (has_none place p.dups none) in
-        ap (λ (z : KeeperView). z.ledger) (none_made (subst (λ (b : Bool). Made k w (if b then Withdraw place ∷ [] else [])) none m))
+        ap (λ (z : KeeperView). z.ledger) (none_made (subst (λ (b : Bool). MakesSteps k w (if b then Withdraw place ∷ [] else [])) none m))
         ∙ (λ t. record {
           frames = k.ledger.frames;
           places = sym
@@ -202,7 +202,7 @@ module _ {p : PagesView} {k : KeeperView} (h : IsLaid p k) (rise : InPageOrder p
   own = fits.kind ∙ own_kind row.state alone
 
   -- once its place is cleared, a new dup may be published there on the frame of a row that is not shared
-  pub may_found : (w : KeeperView) → Made k w (withdrawing p.dups d.place) → May w (Publish d.place f)
+  pub may_found : (w : KeeperView) → MakesSteps k w (withdrawing p.dups d.place) → May w (Publish d.place f)
   may_found w m =
       let empty = cleared_ledger w h d.place inside vacant m in
       let same = sym (ap (λ (z : KeeperView). z.table.shape) m.after ∙ h.same) in
@@ -216,7 +216,7 @@ module _ {p : PagesView} {k : KeeperView} (h : IsLaid p k) (rise : InPageOrder p
 
   -- rows and dups lie lawfully once the row's frame is published at the place of the new dup
   pub laid_found : (c : Row → Row) (w1 w : KeeperView) (restless : Listing) → ((r : Row) → (c r).page ≡ r.page)
-      → (c row).state ≡ Merged p.next → (c row).bytes ≡ row.bytes → Made k w1 (withdrawing p.dups d.place)
+      → (c row).state ≡ Merged p.next → (c row).bytes ≡ row.bytes → MakesSteps k w1 (withdrawing p.dups d.place)
       → w ≡ did w1 (Publish d.place f) 0
       → d.bytes ≡ row.bytes → (p.knobs.merge_across_nodes ≡ 0 → row.home ≡ d.tree) → All (λ e. e.number < p.next) p.dups
       → All (λ r. merged_into p.next r.state ≡ false) p.rows

@@ -1,5 +1,5 @@
 -- The frames that steps give, and what the log shows of a frame that was not found, of one in use, and of a dup that moved.
-use Rattle.ksm_book.proofs.Names.{[], Add, append-nil, Fault, GuestPage, NoFrame, Resettles, ResettlesEach, UnmergesTo, ap, append_cancel_left, arith, blank, Bool, cases_Bool, cond, Contains, Contains-append_right, Contains-push, count_in, Did, did, Does, dup_frame, DupRow, Dying, dying_kind, dying_on, false, FindsHeld, FindsNone, frame_at, Free, free_kind, Freeze, frozen, get_or, get_or-range_with_len, get_or-set_other, given_by, Gives, HasLost, HasMoved, inl, inr, IsLowestFree, IsNeeded, item_count, KeeperStep, KeeperView, leaving, Ledger, ledger_after, length, length-append, length-range_with_len, List, loads, Log, Made, map, Mapped, Moves, nat_tests, needed_after, None, NoneLeft, Note, Open, Option, Provides, Publish, puts, Raise, range_with_len, Reap, reaped, refl, replicate, Retired, Row, set, Shape, Some, Stable, stepped, steps_of, subst, suc, sym, true, with_frame, Withdraw, zero, ℕ, ◌*◌, ◌++◌, ◌+◌, ◌-◌, ◌<◌, ◌==◌, ◌∙◌, ◌∷◌, ◌≡◌, ◌≢◌, ◌≤◌, drop}
+use Rattle.ksm_book.proofs.Names.{[], Add, append-nil, Fault, GuestPage, NoFrame, Resettles, ResettlesEach, UnmergesTo, ap, append_cancel_left, arith, blank, Bool, cases_Bool, cond, Contains, Contains-append_right, Contains-push, count_in, Allocates, did, AllocatesOn, dup_frame, DupRow, Dying, dying_kind, dying_on, false, FindsHeld, FindsNone, frame_at, Free, free_kind, Freeze, frozen, get_or, get_or-range_with_len, get_or-set_other, given_by, Gives, HasLost, HasMoved, inl, inr, IsLowestFree, IsNeeded, item_count, KeeperStep, KeeperView, leaving, Ledger, ledger_after, length, length-append, length-range_with_len, List, loads, Log, MakesSteps, map, Mapped, Moves, nat_tests, needed_after, None, NoneLeft, Note, Open, Option, Provides, Publish, puts, Raise, range_with_len, Reap, reaped, refl, replicate, Retired, Row, set, Shape, Some, Stable, stepped, steps_of, subst, suc, sym, true, with_frame, Withdraw, zero, ℕ, ◌*◌, ◌++◌, ◌+◌, ◌-◌, ◌<◌, ◌==◌, ◌∙◌, ◌∷◌, ◌≡◌, ◌≢◌, ◌≤◌, drop}
 use Rattle.ksm_book.proofs.Keeping.{set_holds}
 use Rattle.ksm_book.proofs.Made.{chained, stepped_then, first_made, made_none, made_then, none_made, step_made}
 use Rattle.ksm_base.proofs.Changes.{contains_filter}
@@ -45,7 +45,7 @@ quiet_leaving None = tt
 quiet_leaving (Some f) = (refl, tt)
 
 -- a part of the log whose steps give no frame gave none
-pub part_did : (v w : KeeperView) (part : Log) → w ≡ stepped v part → GivesNone (steps_of part) → Did v w [] part
+pub part_did : (v w : KeeperView) (part : Log) → w ≡ stepped v part → GivesNone (steps_of part) → Allocates v w [] part
 part_did v w part is quiet = record {
   table = ap (λ (z : KeeperView). z.table) is;
   log = ap (λ (z : KeeperView). z.log) is;
@@ -60,31 +60,31 @@ part_did v w part is quiet = record {
         subst (λ (o : Option ℕ). IsNeeded v.table.shape k [] o × Gives v.table.shape next (needed_after [] o) part) (sym q.0) (tt, by next part q.1)
 
 -- steps that give no frame gave none by the part of the log in which they were made
-pub quiet_did : {v w : KeeperView} {steps : List KeeperStep} (m : Made v w steps) → GivesNone steps → Did v w [] m.part
+pub quiet_did : {v w : KeeperView} {steps : List KeeperStep} (m : MakesSteps v w steps) → GivesNone steps → Allocates v w [] m.part
 quiet_did {v} {w} {steps} m quiet = part_did v w m.part m.after (subst GivesNone (sym m.are) quiet)
 
 -- a keeper that made steps that give no frame gave none
-pub quiet_does : {v w : KeeperView} {steps : List KeeperStep} → Made v w steps → GivesNone steps → Does v w []
+pub quiet_does : {v w : KeeperView} {steps : List KeeperStep} → MakesSteps v w steps → GivesNone steps → AllocatesOn v w []
 quiet_does {v} {w} {steps} m quiet = (m.part, quiet_did m quiet)
 
 -- frames given on some nodes and then on others were given on the nodes of both, in order
-pub does_then : {u v w : KeeperView} {ms ns : List ℕ} → Does u v ms → Does v w ns → Does u w (ms ++ ns)
+pub does_then : {u v w : KeeperView} {ms ns : List ℕ} → AllocatesOn u v ms → AllocatesOn v w ns → AllocatesOn u w (ms ++ ns)
 does_then {u} {v} {w} {ms} {ns} a b = (a.0 ++ b.0, chained a.1 b.1)
 
 -- the lowest free frame of a node was raised, and no other was given
-pub raised_does : {v w : KeeperView} {g node : ℕ} {steps : List KeeperStep} → IsLowestFree v.table.shape v.ledger node g → Made v w (Raise g ∷ steps) → GivesNone steps → Does v w (node ∷ [])
+pub raised_does : {v w : KeeperView} {g node : ℕ} {steps : List KeeperStep} → IsLowestFree v.table.shape v.ledger node g → MakesSteps v w (Raise g ∷ steps) → GivesNone steps → AllocatesOn v w (node ∷ [])
 raised_does {v} {w} {g} {node} {steps} lowest m quiet =
     let first = first_made m in
     let r : KeeperView = did v (Raise g) first.0 in
-    let one : Did v r (node ∷ []) ((Raise g, first.0) ∷ []) = record { table = refl; log = refl; ledger = refl; gives = (lowest, refl) } in
+    let one : Allocates v r (node ∷ []) ((Raise g, first.0) ∷ []) = record { table = refl; log = refl; ledger = refl; gives = (lowest, refl) } in
     does_then ((Raise g, first.0) ∷ [], one) (quiet_does first.1 quiet)
 
 -- a keeper that reaped the dying frames of a node gave no frame
-pub searched_does : {v w : KeeperView} (node : ℕ) → Made v w (map Reap (dying_on v.table.shape v.ledger node)) → Does v w []
+pub searched_does : {v w : KeeperView} (node : ℕ) → MakesSteps v w (map Reap (dying_on v.table.shape v.ledger node)) → AllocatesOn v w []
 searched_does {v} {w} node m = quiet_does m (quiet_reaps (dying_on v.table.shape v.ledger node))
 
 -- a keeper that provided a frame with bytes gave one frame, on the node asked for
-pub provides_does : {v w : KeeperView} {node : ℕ} {bytes : List ℕ} {g : ℕ} → Provides v w node bytes g → Does v w (node ∷ [])
+pub provides_does : {v w : KeeperView} {node : ℕ} {bytes : List ℕ} {g : ℕ} → Provides v w node bytes g → AllocatesOn v w (node ∷ [])
 provides_does {v} {w} {node} {bytes} {g} h =
     let u : KeeperView = h.searched in
     let searched = searched_does node h.finds.reaped in
@@ -93,7 +93,7 @@ provides_does {v} {w} {node} {bytes} {g} h =
     (raised_does lowest h.fills (quiet_both (steps_of (puts g 0 bytes)) (Open g ∷ []) (quiet_puts g 0 bytes) (refl, tt)))
 
 -- a page that was resettled was given one frame, on the node asked for
-pub resettles_does : {v w : Mapped} {page : GuestPage} {node : ℕ} {bytes : List ℕ} → Resettles v w page node bytes → Does v.keeper w.keeper (node ∷ [])
+pub resettles_does : {v w : Mapped} {page : GuestPage} {node : ℕ} {bytes : List ℕ} → Resettles v w page node bytes → AllocatesOn v.keeper w.keeper (node ∷ [])
 resettles_does {v} {page = page} h = does_then (provides_does h.provides) (quiet_does h.leaves (quiet_leaving (v.frame page)))
 
 -- and the keeper is of the same table
@@ -101,7 +101,7 @@ pub resettles_own : {v w : Mapped} {page : GuestPage} {node : ℕ} {bytes : List
 resettles_own h = (resettles_does h).1.table
 
 -- pages that were resettled one after another were given a frame each, on their homes
-pub each_does : (rows : List Row) (v w : Mapped) → ResettlesEach rows v w → Does v.keeper w.keeper (map (λ r. r.home) rows)
+pub each_does : (rows : List Row) (v w : Mapped) → ResettlesEach rows v w → AllocatesOn v.keeper w.keeper (map (λ r. r.home) rows)
 each_does [] v w h = quiet_does (made_none h.keeper) tt
 each_does (r ∷ rows) v w h = does_then (resettles_does h.1) (each_does rows h.0 w h.2)
 
@@ -120,7 +120,7 @@ set_here P (x ∷ xs) (suc i) y new none = set_here P xs i y new none
 -- ---------------------------------------------------------------- no frame was found
 
 -- a frame that is not dying does not become so where frames are reaped
-lives_on : (fs : List ℕ) (v w : KeeperView) (f : ℕ) → Made v w (map Reap fs) → ¬ ((frame_at v.ledger f).kind ≡ Dying) → ¬ ((frame_at w.ledger f).kind ≡ Dying)
+lives_on : (fs : List ℕ) (v w : KeeperView) (f : ℕ) → MakesSteps v w (map Reap fs) → ¬ ((frame_at v.ledger f).kind ≡ Dying) → ¬ ((frame_at w.ledger f).kind ≡ Dying)
 lives_on [] v w f m alive = subst (λ (z : KeeperView). ¬ ((frame_at z.ledger f).kind ≡ Dying)) (sym (none_made m)) alive
 lives_on (g ∷ fs) v w f m alive =
     let first = first_made m in
@@ -145,7 +145,7 @@ waits (g ∷ fs) v w f (s ∷ part) after are (zero, lt, is) still =
     let first : s.0 ≡ Reap f = grind (arith, are, is) in
     let rest : steps_of part ≡ map Reap fs = grind (arith, are) in
     let u : KeeperView = did v (Reap f) s.1 in
-    let m : Made u w (map Reap fs) = record { part = part; after = after ∙ sym (stepped_then v (s ∷ []) part) ∙ ap (λ x. stepped (did v x s.1) part) first; are = rest } in
+    let m : MakesSteps u w (map Reap fs) = record { part = part; after = after ∙ sym (stepped_then v (s ∷ []) part) ∙ ap (λ x. stepped (did v x s.1) part) first; are = rest } in
     (s.1, found (count_in s.1) (λ gone. lives_on fs u w f m gone still), (0, omega arith, (λ t. (first t, s.1))))
   where
     note : Note
@@ -261,11 +261,11 @@ moved v w rows dup node h =
 -- ---------------------------------------------------------------- pages that are unmerged
 
 -- rows that were unmerged, to the last or up to a stop, were given a frame each, on their homes
-pub unmerges_does : (rows : List Row) (stop : Option Fault) (v w : Mapped) → UnmergesTo rows stop v w → Does v.keeper w.keeper (map (λ r. r.home) rows)
+pub unmerges_does : (rows : List Row) (stop : Option Fault) (v w : Mapped) → UnmergesTo rows stop v w → AllocatesOn v.keeper w.keeper (map (λ r. r.home) rows)
 unmerges_does rows None v w h = each_does rows v w h
 unmerges_does rows (Some (NoFrame node)) v w h =
     let left = none_left h.2.searched in
-    subst (Does v.keeper w.keeper) (append-nil (map (λ r. r.home) rows)) (does_then (each_does rows v h.0 h.1) (left.part, left.did))
+    subst (AllocatesOn v.keeper w.keeper) (append-nil (map (λ r. r.home) rows)) (does_then (each_does rows v h.0 h.1) (left.part, left.did))
 unmerges_does rows _ v w h = absurd h
 
 -- and the keeper is of the same table

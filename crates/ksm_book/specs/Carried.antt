@@ -17,7 +17,7 @@ use Rattle.ksm_base.specs.State.{BookState}
 use Rattle.frame_table.specs.Named.{KeeperView}
 use Rattle.ksm_book.specs.Commands.{Mapped, IsIdle, TurnsAway, Admits, Resettles, ResettlesEach, Moves, FindsHeld}
 use Rattle.ksm_book.specs.Commands.{Performs, rewriting, emptying, pruning, scanning}
-use Rattle.ksm_book.specs.Steps.{Does}
+use Rattle.ksm_book.specs.Steps.{AllocatesOn}
 use Rattle.ksm_pages.specs.Paged.{Lodging, frame_of}
 use Rattle.ksm_book.specs.Whole.{BookView, mapped, nodes_got, HasShown}
 
@@ -90,7 +90,7 @@ pub record CarriedOut (v w : BookView) (command : Command) (given : Answer) : Ty
   -- the steps that it made, and no others, and the frame of each page after them
   pub steps : TakesSteps v w command given
   -- the frames that it gave: the lowest free one of each node on which it needed one and got it
-  pub frames : Does v.keeper w.keeper (nodes_got v.state given command)
+  pub frames : AllocatesOn v.keeper w.keeper (nodes_got v.state given command)
   -- what the log shows of no frame, in use, and a dup that moved
   pub shown : HasShown v.state v.keeper w.keeper given command
 

@@ -19,23 +19,23 @@ use Rattle.frame_table.specs.Kept.{did}
 use Rattle.frame_table.specs.Named.{KeeperView}
 use Rattle.ksm_pages.specs.Paged.{Frames, lies_on}
 use Rattle.ksm_book.specs.Placement.{is_frame}
-use Rattle.ksm_book.specs.Steps.{Made, steps_of, dying_on, HasNoFree, IsLowestFree, puts, loads}
+use Rattle.ksm_book.specs.Steps.{MakesSteps, steps_of, dying_on, HasNoFree, IsLowestFree, puts, loads}
 
 -- a node was searched in vain: each dying frame of it was reaped, ascending, and none is free
 pub record FindsNone (v w : KeeperView) (node : ℕ) : Type 0 where
-  pub reaped : Made v w (map Reap (dying_on v.table.shape v.ledger node))
+  pub reaped : MakesSteps v w (map Reap (dying_on v.table.shape v.ledger node))
   pub none : HasNoFree v.table.shape w.ledger node
 
 -- a free frame of a node was found: each dying one of it was reaped, ascending, and this is the lowest free one then
 pub record Finds (v w : KeeperView) (node frame : ℕ) : Type 0 where
-  pub reaped : Made v w (map Reap (dying_on v.table.shape v.ledger node))
+  pub reaped : MakesSteps v w (map Reap (dying_on v.table.shape v.ledger node))
   pub lowest : IsLowestFree v.table.shape w.ledger node frame
 
 -- a frame of one's own: one of the node is found, raised, stored to word by word, and opened
 pub record Provides (v w : KeeperView) (node : ℕ) (bytes : List ℕ) (frame : ℕ) : Type 0 where
   pub searched : KeeperView
   pub finds : Finds v searched node frame
-  pub fills : Made searched w (Raise frame ∷ (steps_of (puts frame 0 bytes) ++ Open frame ∷ []))
+  pub fills : MakesSteps searched w (Raise frame ∷ (steps_of (puts frame 0 bytes) ++ Open frame ∷ []))
 
 -- where each page lies, and the keeper of the frames
 pub record Mapped : Type 0 where
@@ -90,7 +90,7 @@ pub record Resettles (v w : Mapped) (page : GuestPage) (node : ℕ) (bytes : Lis
   pub got : ℕ
   pub between : KeeperView
   pub provides : Provides v.keeper between node bytes got
-  pub leaves : Made between w.keeper (leaving (v.frame page))
+  pub leaves : MakesSteps between w.keeper (leaving (v.frame page))
   pub frame : w.frame ≡ lies_on page (Some got) v.frame
 
 -- the pages of these rows are resettled at their homes, one after another
@@ -113,11 +113,11 @@ pub record Moves (v w : Mapped) (rows : List Row) (dup : DupRow) (node : ℕ) : 
   pub searched : KeeperView
   pub finds : Finds v.keeper searched node got
   pub frozen : KeeperView
-  pub freezes : Made searched frozen (Freeze (dup_frame v.frame rows dup.number) ∷ [])
+  pub freezes : MakesSteps searched frozen (Freeze (dup_frame v.frame rows dup.number) ∷ [])
   -- its own frame is shown until then, and dying after it
   pub stood : (frame_at searched.ledger (dup_frame v.frame rows dup.number)).kind ≡ Stable
   pub exchanged : (frame_at frozen.ledger (dup_frame v.frame rows dup.number)).kind ≡ Dying
-  pub mounts : Made frozen w.keeper
+  pub mounts : MakesSteps frozen w.keeper
       (mounting (dup_frame v.frame rows dup.number) got dup.place (item_count rows dup) dup.bytes)
   -- last the place names the one found
   pub named : (before : KeeperView) × (w.keeper ≡ did before (Publish dup.place got) 0)
@@ -129,7 +129,7 @@ pub record FindsHeld (v w : Mapped) (rows : List Row) (dup : DupRow) (node : ℕ
   pub got : ℕ
   pub searched : KeeperView
   pub finds : Finds v.keeper searched node got
-  pub freezes : Made searched w.keeper (Freeze (dup_frame v.frame rows dup.number) ∷ [])
+  pub freezes : MakesSteps searched w.keeper (Freeze (dup_frame v.frame rows dup.number) ∷ [])
   pub kept : (frame_at w.keeper.ledger (dup_frame v.frame rows dup.number)).kind ≡ Stable
   pub frame : w.frame ≡ v.frame
 
@@ -140,7 +140,7 @@ pub record Deed : Type 0 where
 
 -- the keeper made these steps, and the pages lie on these frames
 pub record Performs (v w : Mapped) (deed : Deed) : Type 0 where
-  pub made : Made v.keeper w.keeper deed.steps
+  pub made : MakesSteps v.keeper w.keeper deed.steps
   pub frame : w.frame ≡ deed.frame
 
 -- no step

@@ -14,7 +14,7 @@ use Rattle.frame_core.specs.Ledger.{frame_at}
 use Rattle.frame_table.specs.Named.{KeeperView}
 use Rattle.ksm_pages.specs.Paged.{Frames}
 use Rattle.ksm_book.specs.Placement.{Placed, node_of}
-use Rattle.ksm_book.specs.Steps.{Log, Did, HasNoFree}
+use Rattle.ksm_book.specs.Steps.{Log, Allocates, HasNoFree}
 
 -- every lawful placement is still lawful, with another frame in hand
 abbrev pub Keeps : KeeperView → KeeperView → Option ℕ → Option ℕ → Type 0
@@ -58,12 +58,12 @@ HasWaited w low count part =
 -- no frame of the node is free, though each dying one was read: so no frame was given
 pub record NoneLeft (v w : KeeperView) (node : ℕ) : Type 0 where
   pub part : Log
-  pub did : Did v w [] part
+  pub did : Allocates v w [] part
   pub waited : HasWaited w (node * v.table.shape.frames_per_node) v.table.shape.frames_per_node part
   pub none : HasNoFree v.table.shape w.ledger node
 
 -- frame g of the home is in hand, with these bytes
-pub record Took (v w : KeeperView) (home : ℕ) (bytes : List ℕ) (g : ℕ) : Type 0 where
+pub record HasNewFrame (v w : KeeperView) (home : ℕ) (bytes : List ℕ) (g : ℕ) : Type 0 where
   pub keeps : Keeps v w None (Some g)
   pub spent : spent v.ledger ≤ spent w.ledger
   pub frame : g < frames_of v.table.shape

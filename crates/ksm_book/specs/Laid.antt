@@ -13,7 +13,7 @@ use Rattle.ksm_base.specs.State.{BookState}
 use Rattle.ksm_base.specs.Values.{IsShape}
 use Rattle.frame_table.specs.Named.{KeeperView}
 use Rattle.ksm_book.specs.Placement.{Placed}
-use Rattle.ksm_book.specs.Steps.{Did, loads}
+use Rattle.ksm_book.specs.Steps.{Allocates, loads}
 use Rattle.ksm_book.specs.Commands.{FindsHeld, Mapped, Moves, Resettles, TurnsAway}
 use Rattle.ksm_book.specs.Keeping.{spent}
 use Rattle.ksm_pages.specs.Paged.{PagesView, on_its_own}
@@ -95,4 +95,4 @@ pub record HasRemounted {X : Type 0} (p q : PagesView) (k l : KeeperView) (dup :
 abbrev pub LoadsIf : Option ℕ → Option (List ℕ) → KeeperView → KeeperView → Type 0
 LoadsIf frame None v w = w ≡ v
 LoadsIf None (Some bytes) v w = w ≡ v
-LoadsIf (Some frame) (Some bytes) v w = Did v w [] (loads frame 0 bytes)
+LoadsIf (Some frame) (Some bytes) v w = Allocates v w [] (loads frame 0 bytes)

@@ -10,7 +10,7 @@ use Rattle.frame_core.specs.declared.ledger.Ledger.{Ledger}
 use Rattle.frame_core.specs.State.{count_in}
 use Rattle.frame_core.specs.Ledger.{frame_at, named_at, IsLoose}
 use Rattle.frame_table.specs.Named.{KeeperView}
-use Rattle.ksm_book.specs.Steps.{Log, Did}
+use Rattle.ksm_book.specs.Steps.{Log, Allocates}
 
 -- a frame may take the place of another at a place, with so many references
 pub record MayMount (v : KeeperView) (left frame place count : ℕ) : Type 0 where
@@ -43,7 +43,7 @@ once_mounted k left frame place count =
 -- the exchange of a frame word was tried, and found another count than the keeper's references
 pub record HasLost (v w : KeeperView) : Type 0 where
   pub part : Log
-  pub did : Did v w [] part
+  pub did : Allocates v w [] part
   pub frame : ℕ
   pub found : ℕ
   pub tried : Contains part (Freeze frame, found)
@@ -52,7 +52,7 @@ pub record HasLost (v w : KeeperView) : Type 0 where
 -- a frame was raised and then published at the place
 pub record HasMoved (v w : KeeperView) (place node : ℕ) : Type 0 where
   pub part : Log
-  pub did : Did v w (node ∷ []) part
+  pub did : Allocates v w (node ∷ []) part
   pub frame : ℕ
   pub before : ℕ
   pub raised : Contains part (Raise frame, before)

@@ -37,7 +37,7 @@ abbrev pub stepped : KeeperView → Log → KeeperView
 stepped v part = record { table = v.table; ledger = replayed v.table.shape v.ledger part; log = v.log ++ part }
 
 -- the keeper went from v to w by these steps in this order, and by no others
-pub record Made (v w : KeeperView) (steps : List KeeperStep) : Type 0 where
+pub record MakesSteps (v w : KeeperView) (steps : List KeeperStep) : Type 0 where
   pub part : Log
   pub after : w ≡ stepped v part
   pub are : steps_of part ≡ steps
@@ -88,15 +88,15 @@ Gives sh k nodes (e ∷ es) =
     × Gives sh (ledger_after sh k e.0 e.1) (needed_after nodes (given_by e.0)) es
 
 -- the keeper went from v to w by this part of its log, which gave a frame on each of the nodes
-pub record Did (v w : KeeperView) (nodes : List ℕ) (part : Log) : Type 0 where
+pub record Allocates (v w : KeeperView) (nodes : List ℕ) (part : Log) : Type 0 where
   pub table : w.table ≡ v.table
   pub log : w.log ≡ v.log ++ part
   pub ledger : w.ledger ≡ replayed v.table.shape v.ledger part
   pub gives : Gives v.table.shape v.ledger nodes part
 
 -- the keeper went from v to w, and gave a frame on each of the nodes
-abbrev pub Does : KeeperView → KeeperView → List ℕ → Type 0
-Does v w nodes = (part : Log) × Did v w nodes part
+abbrev pub AllocatesOn : KeeperView → KeeperView → List ℕ → Type 0
+AllocatesOn v w nodes = (part : Log) × Allocates v w nodes part
 
 -- a step for each of these words, from word i on
 abbrev pub along : (ℕ → ℕ → KeeperStep × ℕ) → ℕ → List ℕ → Log

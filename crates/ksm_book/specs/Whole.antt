@@ -8,7 +8,7 @@ use Rattle.ksm_base.specs.Refusals.{is_of}
 use Rattle.ksm_base.specs.Answers.{Answer, frame_needed, shared_rows, every_row}
 use Rattle.ksm_base.specs.State.{BookState}
 use Rattle.frame_table.specs.Named.{KeeperView}
-use Rattle.ksm_book.specs.Steps.{Does}
+use Rattle.ksm_book.specs.Steps.{AllocatesOn}
 use Rattle.ksm_book.specs.Commands.{Mapped}
 use Rattle.ksm_book.specs.Keeping.{NoneLeft}
 use Rattle.ksm_book.specs.Mounted.{HasLost, HasMoved}
@@ -51,7 +51,7 @@ nodes_got b _ _ = []
 abbrev pub HasShown : BookState → KeeperView → KeeperView → Answer → Command → Type 0
 HasShown b v w (Err (NoFrame node)) command = NoneLeft v w node
 HasShown b v w (Ok (Unmerged k (Some (NoFrame node)))) command =
-    (u : KeeperView) × Does v u (nodes_got b (Ok (Unmerged k (Some (NoFrame node)))) command) × NoneLeft u w node
+    (u : KeeperView) × AllocatesOn v u (nodes_got b (Ok (Unmerged k (Some (NoFrame node)))) command) × NoneLeft u w node
 HasShown b v w (Err InUse) (MoveDup place node) = HasLost v w
 HasShown b v w (Ok Done) (MoveDup place node) = HasMoved v w place node
 HasShown b v w _ _ = Unit {0}

@@ -7,9 +7,9 @@ ghost use Rattle.ksm_base.specs.Values.{frames_of, IsShape};
 ghost use Rattle.frame_core.specs.declared.event.KeeperStep.TheVariants.{Reap, Sub, Withdraw};
 ghost use Rattle.frame_core.specs.Ledger.{frame_at, with_frame, IsReadable, IsWritable};
 ghost use Rattle.frame_table.specs.Kept.{May};
-ghost use Rattle.ksm_book.specs.Steps.{dying_from, loads, puts, stepped, Made};
+ghost use Rattle.ksm_book.specs.Steps.{dying_from, loads, puts, stepped, MakesSteps};
 ghost use Rattle.ksm_book.specs.Commands.{Finds, FindsNone, Provides, leaving};
-ghost use Rattle.ksm_book.specs.Keeping.{holding, IsLawful, Took};
+ghost use Rattle.ksm_book.specs.Keeping.{holding, IsLawful, HasNewFrame};
 
 use crate::frame_keeper::FrameKeeper;
 use frame_table::FrameTable;
@@ -21,7 +21,7 @@ fn reap_each(keeper: &mut FrameKeeper, table: &FrameTable, first: u32, end: u32)
     requires own { keeper.old.table ≡ table.now }
     requires low { first ≤ end }
     requires inside { end ≤ frames_of keeper.old.table.shape }
-    ensures { Made keeper.old keeper.new (map Reap (dying_from keeper.old.ledger first (end - first))) }
+    ensures { MakesSteps keeper.old keeper.new (map Reap (dying_from keeper.old.ledger first (end - first))) }
 {
     let mut from = first;
     'dying: while let Some(frame) = keeper.next_dying(from, end) {
@@ -121,7 +121,7 @@ pub fn take_frame(
     requires lawful { IsLawful keeper.old None }
     ensures provides { MatchOption result
         (FindsNone keeper.old keeper.new node) (Provides keeper.old keeper.new node bytes) }
-    ensures took { IfSome result (Took keeper.old keeper.new node bytes) }
+    ensures took { IfSome result (HasNewFrame keeper.old keeper.new node bytes) }
 {
     let frame = find_frame(keeper, table, shape, node)?;
     keeper.raise(table, frame);
@@ -145,7 +145,7 @@ pub fn known_frame(frame: Option<u32>) -> u32
 pub fn release_if(keeper: &mut FrameKeeper, table: &FrameTable, frame: Option<u32>)
     requires own { keeper.old.table ≡ table.now }
     requires may { IfSome frame (λ f. May keeper.old (Sub f)) }
-    ensures { Made keeper.old keeper.new (leaving frame) }
+    ensures { MakesSteps keeper.old keeper.new (leaving frame) }
 {
     if let Some(frame) = frame {
         keeper.sub(table, frame);
@@ -156,7 +156,7 @@ pub fn release_if(keeper: &mut FrameKeeper, table: &FrameTable, frame: Option<u3
 pub fn clear(keeper: &mut FrameKeeper, table: &FrameTable, place: u32, taken: bool)
     requires own { keeper.old.table ≡ table.now }
     requires may { May keeper.old (Withdraw place) }
-    ensures { Made keeper.old keeper.new (if taken then Withdraw place ∷ [] else []) }
+    ensures { MakesSteps keeper.old keeper.new (if taken then Withdraw place ∷ [] else []) }
 {
     if taken {
         keeper.withdraw(table, place);

@@ -10,7 +10,7 @@ ghost use Rattle.frame_table.specs.Named.{KeeperView};
 ghost use Rattle.ksm_book.specs.Commands.{mounting};
 ghost use Rattle.ksm_book.specs.Keeping.{with_more};
 ghost use Rattle.ksm_book.specs.Mounted.{MayMount, once_mounted};
-ghost use Rattle.ksm_book.specs.Steps.{Made};
+ghost use Rattle.ksm_book.specs.Steps.{MakesSteps};
 
 use crate::frame_keeper::FrameKeeper;
 use crate::frames::{load, write};
@@ -22,7 +22,7 @@ fn add_times(keeper: &mut FrameKeeper, table: &FrameTable, frame: u32, count: u6
     requires inside { frame < frames_of keeper.old.table.shape }
     requires some { 1 ≤ (frame_at keeper.old.ledger frame).base }
     requires few { (frame_at keeper.old.ledger frame).base + count ≤ MOST_REFERENCES }
-    ensures made { Made keeper.old keeper.new (replicate count (Add frame)) }
+    ensures made { MakesSteps keeper.old keeper.new (replicate count (Add frame)) }
     ensures ledger { keeper.new.ledger ≡ with_frame keeper.old.ledger frame
         (with_more (frame_at keeper.old.ledger frame) count) }
 {
@@ -42,7 +42,7 @@ pub fn mount(
 )
     requires own { keeper.old.table ≡ table.now }
     requires may { MayMount keeper.old left frame place count }
-    ensures made { Made keeper.old keeper.new
+    ensures made { MakesSteps keeper.old keeper.new
         (mounting left frame place count (frame_at keeper.old.ledger left).content) }
     ensures ledger { keeper.new.ledger ≡ once_mounted keeper.old.ledger left frame place count }
     ensures published { (before : KeeperView) × (keeper.new ≡ did before (Publish place frame) 0) }

@@ -1,7 +1,7 @@
 use Rattle.std.proofs.Common.{◌≡◌, ◌-◌, ◌≤◌, Some, None, vec_capacity}
 use Rattle.ksm_base.specs.Values.{frames_of}
 use Rattle.frame_table.specs.Named.{PassView}
-use Rattle.ksm_audit.specs.Working.{places_of, Keeps, MayStop, Made}
+use Rattle.ksm_audit.specs.Working.{places_of, Keeps, MayStop, MakesLookups}
 use Rattle.ksm_audit.proofs.work.work.Given as goal
 
 abbrev pub invariant-places : goal.invariant-places
@@ -14,7 +14,7 @@ invariant-places g l = record {
   vain : l.seat.me.0.past ≡ 0;
   room : frames_of l.table.shape ≤ vec_capacity l.lines;
   stop : MayStop (g.G.Gate.may_refuse l.gate) (frames_of l.table.shape) l.refused;
-  made : (v : PassView) × (l.fn.job.pass ≡ Some v) × Made v l.lines.items l.pass;
+  made : (v : PassView) × (l.fn.job.pass ≡ Some v) × MakesLookups v l.lines.items l.pass;
   empty : l.slot ≡ None;
 }
 

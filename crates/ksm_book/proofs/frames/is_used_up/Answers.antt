@@ -1,4 +1,4 @@
-use Rattle.ksm_book.proofs.Names.{ap, arith, dying_from, dying_kind, FindsNone, free_kind, KeeperView, Made, map, NoneOf, Reap, Shape, subst, sym, ℕ, ◌*◌, ◌+◌, ◌-◌, ◌∙◌, ◌≡◌, [], refl}
+use Rattle.ksm_book.proofs.Names.{ap, arith, dying_from, dying_kind, FindsNone, free_kind, KeeperView, MakesSteps, map, NoneOf, Reap, Shape, subst, sym, ℕ, ◌*◌, ◌+◌, ◌-◌, ◌∙◌, ◌≡◌, [], refl}
 use Rattle.ksm_book.proofs.Made.{made_none}
 use Rattle.ksm_book.proofs.Sweeps.{passed}
 use Rattle.ksm_book.proofs.frames.is_used_up.Goals as goal
@@ -19,7 +19,7 @@ in_vain v node none =
     let dying : dying_from v.ledger low many ≡ [] =
     ap (dying_from v.ledger low) all ∙ passed v.ledger low v.ledger low (omega arith) (λ f ge. refl) (low + many) (omega arith) none.1 ∙ ap (dying_from v.ledger low) nothing in
     record {
-      reaped = subst (λ fs. Made v v (map Reap fs)) (sym dying) (made_none refl);
+      reaped = subst (λ fs. MakesSteps v v (map Reap fs)) (sym dying) (made_none refl);
       none = none.0;
     }
 

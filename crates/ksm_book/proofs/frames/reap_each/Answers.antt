@@ -1,4 +1,4 @@
-use Rattle.ksm_book.proofs.Names.{[], ap, arith, count_in, dying_from, frame_at, KeeperView, Made, map, map-append, Reap, subst, sym, ℕ, ◌-◌, ◌==◌, ◌∙◌, ◌∷◌}
+use Rattle.ksm_book.proofs.Names.{[], ap, arith, count_in, dying_from, frame_at, KeeperView, MakesSteps, map, map-append, Reap, subst, sym, ℕ, ◌-◌, ◌==◌, ◌∙◌, ◌∷◌}
 use Rattle.ksm_book.proofs.FrameKinds.{other_if}
 use Rattle.ksm_book.proofs.Made.{made_one, made_then}
 use Rattle.ksm_book.proofs.Sweeps.{next_reaped, passed}
@@ -20,7 +20,7 @@ dying-preserved c =
     record {
       low = omega (arith, so_far.low, low);
       high = omega (arith, high);
-      made = subst (Made v w')
+      made = subst (MakesSteps v w')
           (sym (ap (map Reap) (next_reaped v.ledger c.args.first w.ledger from so_far.low so_far.later frame low first.least first.there) ∙ map-append Reap (dying_from v.ledger c.args.first (from - c.args.first)) (frame ∷ [])))
           (made_then so_far.made (made_one w w' (Reap frame) found is));
       later = λ f ge. ap (λ (z : KeeperView). frame_at z.ledger f) is ∙ other_if (count_in found == 0) w.ledger frame f _ (λ e. omega (arith, ge, e)) ∙ so_far.later f (omega (arith, ge, low));
@@ -30,4 +30,4 @@ pub returns : goal.returns
 returns c =
     let v = c.args.keeper.now in
     let so_far = c.dying.invariant in
-    subst (λ fs. Made v c.dying.keeper (map Reap fs)) (sym (passed v.ledger c.args.first c.dying.keeper.ledger c.dying.from so_far.low so_far.later c.args.end so_far.high c.in_default.ensures)) so_far.made
+    subst (λ fs. MakesSteps v c.dying.keeper (map Reap fs)) (sym (passed v.ledger c.args.first c.dying.keeper.ledger c.dying.from so_far.low so_far.later c.args.end so_far.high c.in_default.ensures)) so_far.made

@@ -1,11 +1,11 @@
-use Rattle.ksm_book.proofs.Names.{List, Made, mounting, subst, ℕ, ◌∙◌, ap, arith, KeeperView, ledger_after, frame_at, holding, opened, raised, shown, set, Some, Stable, Publish, with_more, ◌+◌, ◌-◌, ◌≡◌}
+use Rattle.ksm_book.proofs.Names.{List, MakesSteps, mounting, subst, ℕ, ◌∙◌, ap, arith, KeeperView, ledger_after, frame_at, holding, opened, raised, shown, set, Some, Stable, Publish, with_more, ◌+◌, ◌-◌, ◌≡◌}
 use Rattle.ksm_book.proofs.Filling.{mounts, words_kept, again, at_again, follow}
 use Rattle.ksm_book.proofs.mounting.mount.Goals as goal
 
 pub returns-clause-made : goal.returns-clause-made
 returns-clause-made c =
     let v = c.args.keeper.now in
-    subst (λ (bs : List ℕ). Made v c.publish.new.self (mounting c.args.left c.args.frame c.args.place c.args.count bs))
+    subst (λ (bs : List ℕ). MakesSteps v c.publish.new.self (mounting c.args.left c.args.frame c.args.place c.args.count bs))
     (c.load-bytes.ensures.bytes ∙ words_kept v c.raise.new.self c.args.left c.args.frame c.raise.ensures.0 c.requires.may.free c.requires.may.dying c.raise.ensures.1)
     (mounts v c.raise.new.self c.load-bytes.new.keeper c.write.new.keeper c.open.new.self c.add_times.new.keeper c.publish.new.self c.args.left c.args.frame c.args.place c.args.count
     c.raise.ensures.0 _ c.load-bytes.result c.raise.ensures.1 c.load-bytes.ensures.loaded c.write.ensures.wrote c.open.ensures c.add_times.ensures.made c.publish.ensures)
