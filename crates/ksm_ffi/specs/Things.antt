@@ -1,5 +1,5 @@
 -- What a call does to handles (own).
-use Rattle.std.specs.Prelude.{◌≡◌, ℕ, ◌⊎◌, Some, None, Option, Result, Ok, Err}
+use Rattle.std.specs.Prelude.{◌≡◌, ℕ, ◌⊎◌, Bool, Some, None, Option, Result, Ok, Err}
 use Rattle.std.specs.declared.boxed.Box.{Box}
 use Rattle.std.specs.declared.alloc.Global.{Global}
 use Rattle.ksm_base.specs.declared.shape.Shape.{Shape}
@@ -92,10 +92,10 @@ abbrev pub IsNewTable : Shape → ℕ → Thing → Thing → Type 0
 IsNewTable sh number t p =
     (v : KeeperView) × IsNewOf sh v × (t ≡ Table v number) × (p ≡ Home (all_back v.table number))
 
--- an opening book, on a table of this shape and number of which no pass is out
-abbrev pub IsNewBook : Shape → ℕ → Thing → Thing → Type 0
-IsNewBook sh number t p =
-    (b : JournaledBook) × IsOpening sh b × (t ≡ Book b number) × (p ≡ Home (all_back b.keeper.table number))
+-- an opening book, with its journal kept or counted, on a table of this shape and number of which no pass is out
+abbrev pub IsNewBook : Bool → Shape → ℕ → Thing → Thing → Type 0
+IsNewBook keeps sh number t p =
+    (b : JournaledBook) × IsOpening sh keeps b × (t ≡ Book b number) × (p ≡ Home (all_back b.keeper.table number))
 
 -- a table and its passes are made, each in a box
 abbrev pub MakesTable : Shape → ℕ → Result (Box Thing Global × Box Thing Global) Answer → Type 0
@@ -103,9 +103,9 @@ MakesTable sh number (Ok r) = IsShape sh × IsNewTable sh number r.0.value r.1.v
 MakesTable sh number (Err a) = OpensNot sh a
 
 -- a book and the passes of its table are made, each in a box
-abbrev pub MakesBook : Shape → ℕ → Result (Box Thing Global × Box Thing Global) Answer → Type 0
-MakesBook sh number (Ok r) = IsShape sh × IsNewBook sh number r.0.value r.1.value
-MakesBook sh number (Err a) = OpensNot sh a
+abbrev pub MakesBook : Shape → Bool → ℕ → Result (Box Thing Global × Box Thing Global) Answer → Type 0
+MakesBook sh keeps number (Ok r) = IsShape sh × IsNewBook keeps sh number r.0.value r.1.value
+MakesBook sh keeps number (Err a) = OpensNot sh a
 
 -- both handles are as they were, and this is why
 abbrev pub KeepsBoth : Option Thing → Option Thing → Answer → ℕ → Option Thing → Option Thing → Type 0

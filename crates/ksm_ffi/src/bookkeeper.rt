@@ -1,18 +1,19 @@
 //! A book with the table of its frames. Each call gives the book the table, and tells by a number what came of it.
-ghost use Rattle.std.specs.Prelude.{◌≡◌, ◌≢◌};
+ghost use Rattle.std.specs.Prelude.{◌≡◌, ◌≢◌, []};
+ghost use Rattle.ksm_journal.specs.Journal.{told_at};
 ghost use Rattle.ksm_base.specs.Counting.{counters_of};
 ghost use Rattle.ksm_base.specs.Reading.{mappers_of, ticket_of};
 ghost use Rattle.ksm_ffi.specs.Books.{Applies, OpensBook, ReadsBook, TellsCount, TellsCounters, TellsMappers};
-ghost use Rattle.ksm_ffi.specs.Books.{TellsTicket, packed};
+ghost use Rattle.ksm_ffi.specs.Books.{TellsEntries, TellsEntry, TellsTicket, packed};
 ghost use Rattle.ksm_ffi.specs.Requests.{LeavesMade};
 ghost use Rattle.ksm_ffi.specs.declared.answer.Answer.TheVariants as answer;
 
 use crate::answer::Answer;
 use crate::home::Home;
-use crate::request::{Counted, Made, answered};
+use crate::request::{Counted, Made, Request, answered};
 use frame_table::FrameTable;
 use ksm_base::{Command, GuestPage, PageBytes, Shape};
-use ksm_book::Book;
+use ksm_book::{Book, Journal};
 use std::alloc::Global;
 use std::marker::Model;
 use std::sync::Arc;
@@ -35,9 +36,15 @@ impl Model for Bookkeeper {
 }
 
 impl Bookkeeper {
-    /// The opening book on a table with all frames free, all places empty and no pass out.
-    pub fn open(alloc: Global, shape: Shape, number: u64) -> Result<(Bookkeeper, Home), Answer>
-        ensures { OpensBook shape number result }
+    /// The opening book on a table with all frames free, all places empty and no pass out. Its journal is kept or
+    /// counted.
+    pub fn open(
+        alloc: Global,
+        shape: Shape,
+        keeps: bool,
+        number: u64,
+    ) -> Result<(Bookkeeper, Home), Answer>
+        ensures { OpensBook shape keeps number result }
     {
         if !shape.check() {
             return Err(Answer::Shape);
@@ -45,7 +52,7 @@ impl Bookkeeper {
         let Some((table, keeper, home)) = Home::open(alloc, shape, number) else {
             return Err(Answer::Memory);
         };
-        match Book::open(alloc, keeper, shape) {
+        match Book::open(alloc, keeper, shape, journal(alloc, keeps)) {
             Ok(book) => Ok((Bookkeeper { table, book }, home)),
             Err((keeper, _)) => {
                 keeper.retire();
@@ -116,6 +123,35 @@ impl Bookkeeper {
         Answer::Done
     }
 
+    /// Tells how many entries the journal has, to `count`.
+    pub fn entries(&self, count: &mut u64) -> Answer
+        ensures { TellsEntries self.now.journal result count.new }
+    {
+        *count = self.book.journal().len() as u64;
+        Answer::Done
+    }
+
+    /// Tells an entry of a journal that is kept: the command to `request`, the number that it was answered to `told`,
+    /// and what it did to `made`.
+    pub fn entry(
+        &self,
+        number: u64,
+        request: &mut Request,
+        told: &mut u32,
+        made: &mut Made,
+    ) -> Answer
+        ensures told { TellsEntry (told_at self.now.is_kept self.now.journal number) result request.new told.new made.new }
+        ensures kept { result ≢ answer.Done → (request.new ≡ request.old) × (told.new ≡ told.old) × (made.new ≡ made.old) }
+    {
+        let Some((command, given)) = self.book.journal().get(number as usize) else {
+            return Answer::Nothing;
+        };
+        *request = Request::of(command);
+        *told = answered(given).number();
+        made.tell(given);
+        Answer::Done
+    }
+
     /// Counts, to `counted`.
     pub fn count(&self, counted: &mut Counted) -> Answer
         ensures { TellsCounters (counters_of self.now.state) result counted.new }
@@ -129,6 +165,18 @@ impl Bookkeeper {
         let Bookkeeper { table, book } = self;
         book.close().retire();
         drop(table);
+    }
+}
+
+// The journal of a book that was given no command.
+fn journal(alloc: Global, keeps: bool) -> Journal
+    ensures entries { result.entries ≡ [] }
+    ensures kept { result.is_kept ≡ keeps }
+{
+    if keeps {
+        Journal::kept(alloc)
+    } else {
+        Journal::counted()
     }
 }
 

@@ -3,7 +3,9 @@
 ghost use Rattle.std.specs.Prelude.{◌≡◌, ◌≢◌, ◌<◌, ◌≤◌, OnOk};
 ghost use Rattle.ksm_base.specs.Counting.{counters_of};
 ghost use Rattle.ksm_base.specs.Reading.{mappers_of, ticket_of};
-ghost use Rattle.ksm_ffi.specs.Books.{ReadsBook, TellsCount, TellsCounters, TellsMappers, TellsTicket};
+ghost use Rattle.ksm_journal.specs.Journal.{told_at};
+ghost use Rattle.ksm_ffi.specs.Books.{ReadsBook, TellsCount, TellsCounters, TellsEntries, TellsEntry, TellsMappers};
+ghost use Rattle.ksm_ffi.specs.Books.{TellsTicket};
 ghost use Rattle.ksm_ffi.specs.Requests.{LeavesMade};
 ghost use Rattle.ksm_ffi.specs.Things.{AppliesRequest, IsNewBook, MakesBook, OnBook, OpensOf, SeesBook};
 
@@ -21,8 +23,9 @@ fn make_book(
     alloc: Global,
     numbers: &mut Numbers,
     shape: Shape,
+    keeps: bool,
 ) -> Result<(Box<Thing>, Box<Thing>), Answer>
-    ensures made { MakesBook shape numbers.old.next result }
+    ensures made { MakesBook shape keeps numbers.old.next result }
     ensures drawn { OnOk result (numbers.old.next < numbers.new.next) }
     ensures rises { numbers.old.next ≤ numbers.new.next }
 {
@@ -32,12 +35,12 @@ fn make_book(
     let Some(number) = numbers.draw() else {
         return Err(Answer::Memory);
     };
-    let (bookkeeper, home) = Bookkeeper::open(alloc, shape, number)?;
+    let (bookkeeper, home) = Bookkeeper::open(alloc, shape, keeps, number)?;
     Thing::Book(bookkeeper, number).both_boxed(Thing::Home(home), alloc)
 }
 
 /// Opens a book without pages on a table of its own of these sizes at a handle, and the passes of that table at another,
-/// as a table is opened.
+/// as a table is opened. Its journal keeps its entries, so that they can be told, or counts them alone.
 #[unsafe(no_mangle)]
 pub extern "C" fn ksm_book_open(
     alloc: Global,
@@ -49,8 +52,9 @@ pub extern "C" fn ksm_book_open(
     passes: u32,
     last_generation: u64,
     tries: u32,
+    keeps: bool,
 ) -> u32
-    ensures opened { OpensOf IsNewBook (record {
+    ensures opened { OpensOf (IsNewBook keeps) (record {
       nodes = nodes;
       frames_per_node = frames_per_node;
       passes = passes;
@@ -70,7 +74,7 @@ pub extern "C" fn ksm_book_open(
         last_generation,
         tries,
     };
-    open_both(book, home, make_book(alloc, numbers, shape))
+    open_both(book, home, make_book(alloc, numbers, shape, keeps))
 }
 
 // Does a command, if there is one of this kind.
@@ -193,6 +197,49 @@ pub extern "C" fn ksm_book_counters(alloc: Global, book: &mut Handle, counted: &
     };
     let answer = match &*thing {
         Thing::Book(bookkeeper, _) => bookkeeper.count(counted),
+        _ => Answer::Kind,
+    };
+    book.put(thing);
+    answer.number()
+}
+
+/// Tells how many entries the journal of the book has: the commands that were given, but those refused for memory.
+#[unsafe(no_mangle)]
+pub extern "C" fn ksm_book_entries(alloc: Global, book: &mut Handle, count: &mut u64) -> u32
+    ensures told { OnBook (SeesBook (λ v a. TellsEntries v.journal a count.new)) book.old.thing result book.new.thing }
+    ensures kept { result ≢ 0 → count.new ≡ count.old }
+{
+    let Some(thing) = book.take(alloc) else {
+        return Answer::Closed.number();
+    };
+    let answer = match &*thing {
+        Thing::Book(bookkeeper, _) => bookkeeper.entries(count),
+        _ => Answer::Kind,
+    };
+    book.put(thing);
+    answer.number()
+}
+
+/// Tells an entry of a journal that is kept, by its number from 0 on: the command, the number that it was answered, and
+/// what it did.
+#[unsafe(no_mangle)]
+pub extern "C" fn ksm_book_entry(
+    alloc: Global,
+    book: &mut Handle,
+    number: u64,
+    request: &mut Request,
+    told: &mut u32,
+    made: &mut Made,
+) -> u32
+    ensures told { OnBook (SeesBook (λ v a. TellsEntry (told_at v.is_kept v.journal number) a request.new told.new made.new))
+        book.old.thing result book.new.thing }
+    ensures kept { result ≢ 0 → (request.new ≡ request.old) × (told.new ≡ told.old) × (made.new ≡ made.old) }
+{
+    let Some(thing) = book.take(alloc) else {
+        return Answer::Closed.number();
+    };
+    let answer = match &*thing {
+        Thing::Book(bookkeeper, _) => bookkeeper.entry(number, request, told, made),
         _ => Answer::Kind,
     };
     book.put(thing);

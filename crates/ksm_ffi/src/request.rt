@@ -1,10 +1,12 @@
 //! A command, a reply and counters as C has them.
-ghost use Rattle.std.specs.Prelude.{◌≡◌, Ok};
+ghost use Rattle.std.specs.Prelude.{◌≡◌, Ok, Some, [], ◌∷◌};
+ghost use Rattle.std.specs.List.{repeat};
+ghost use Rattle.ksm_base.specs.declared.page.TheConstants.{PAGE_WORDS};
 ghost use Rattle.ksm_ffi.specs.Requests.{IsMade, LeavesMade, TellsFault, TellsMade, answered, commanded, counted_of};
 ghost use Rattle.ksm_ffi.specs.Requests.{fault_answer, node_of};
 
 use crate::answer::Answer;
-use ksm_base::{Command, Counters, Fault, GuestPage, PageBytes, Reply};
+use ksm_base::{Command, Counters, Fault, GuestPage, PAGE_WORDS, PageBytes, Reply};
 
 /// A command. `kind` tells which, and so which of the other fields count.
 #[repr(C)]
@@ -23,6 +25,94 @@ pub struct Request {
 }
 
 impl Request {
+    /// A command as C has it. The fields that its kind does not name are 0.
+    pub fn of(command: Command) -> Request
+        ensures { commanded result ≡ Some command }
+    {
+        let none = Request::of_value(5, 0);
+        match command {
+            Command::Register { page, node, bytes } => Request {
+                node,
+                bytes,
+                ..Request::of_page(1, page)
+            },
+            Command::Drop { page } => Request::of_page(2, page),
+            Command::Store { page, bytes } => Request {
+                bytes,
+                ..Request::of_page(3, page)
+            },
+            Command::Scan { visits } => Request {
+                kind: 4,
+                visits,
+                ..none
+            },
+            Command::Prune => none,
+            Command::Unmerge { guest } => Request {
+                kind: 6,
+                guest,
+                ..none
+            },
+            Command::Mergeable { guest } => Request {
+                kind: 7,
+                guest,
+                ..none
+            },
+            Command::MovePage { page, node } => Request {
+                node,
+                ..Request::of_page(8, page)
+            },
+            Command::MoveDup { place, node } => Request {
+                node,
+                ..Request::of_value(9, place)
+            },
+            Command::SetRun(run) => Request::of_value(10, run),
+            Command::SetPagesToScan(pages) => Request::of_value(11, pages),
+            Command::SetAcross(across) => Request::of_value(12, across),
+            Command::SetLimit(limit) => Request::of_value(13, limit),
+            Command::SetZeroPages(zero_pages) => Request::of_value(14, zero_pages),
+        }
+    }
+
+    fn of_page(kind: u16, page: GuestPage) -> Request
+        ensures { result ≡ record {
+          kind = kind;
+          guest = page.guest;
+          page = page.page;
+          visits = 0;
+          node = 0;
+          value = 0;
+          bytes = repeat PAGE_WORDS (0 ∷ []);
+        } }
+    {
+        Request {
+            guest: page.guest,
+            page: page.page,
+            ..Request::of_value(kind, 0)
+        }
+    }
+
+    fn of_value(kind: u16, value: u32) -> Request
+        ensures { result ≡ record {
+          kind = kind;
+          guest = 0;
+          page = 0;
+          visits = 0;
+          node = 0;
+          value = value;
+          bytes = repeat PAGE_WORDS (0 ∷ []);
+        } }
+    {
+        Request {
+            kind,
+            guest: 0,
+            page: 0,
+            visits: 0,
+            node: 0,
+            value,
+            bytes: [0; PAGE_WORDS],
+        }
+    }
+
     /// The command, if there is one of this kind.
     pub fn command(&self) -> Option<Command>
         ensures { result ≡ commanded self.now }
