@@ -1,16 +1,5 @@
 -- A field is read exactly where a word writes it, and words are read as fields exactly where they write their parts.
-use Rattle.std.proofs.Common.{◌≡◌, ℕ, ◌^◌, List, [], ◌∷◌, Option, Some, None, refl, sym, ap, subst, ◌∙◌, Bool, true, false, cond, arith}
-use Rattle.std.specs.Prelude.{bytes_eq, option_map}
-use Rattle.std.proofs.lemmas.Slice.Eq.{bytes_eq-Decides}
-use Rattle.ksm_base.specs.declared.page.GuestPage.{GuestPage}
-use Rattle.ksm_lines.specs.declared.knob.Knob.{Knob}
-use Rattle.ksm_lines.specs.declared.knob.Knob.TheVariants.{Run, PagesToScan, MergeAcrossNodes, MaxPageSharing, UseZeroPages}
-use Rattle.ksm_lines.specs.declared.knob.Shown.{Shown}
-use Rattle.ksm_lines.specs.declared.knob.Shown.TheVariants.{Knob as OfKnob, ZeroPages}
-use Rattle.ksm_lines.specs.declared.line.Line.{Line}
-use Rattle.ksm_lines.specs.Knobs.{knob_name, shown_name}
-use Rattle.ksm_lines.specs.Grammar.{Part, name, guest, number, content, IsWritten, AreWritten, parts_of}
-use Rattle.ksm_lines.specs.Reading.{◌>>=◌, field, guest_of, number_of, page_at, ended, alone, page_alone, knob_of, shown_of}
+use Rattle.ksm_lines.proofs.Names.{[], alone, ap, AreWritten, arith, bytes_eq, bytes_eq-Decides, cond, ended, false, field, guest, guest_of, GuestPage, IsWritten, Knob, knob_name, knob_of, Line, List, MaxPageSharing, MergeAcrossNodes, None, number, number_of, OfKnob, Option, option_map, page_alone, page_at, PagesToScan, Part, parts_of, refl, Run, Shown, shown_name, shown_of, Some, sym, true, UseZeroPages, ZeroPages, ℕ, ◌>>=◌, ◌^◌, ◌∙◌, ◌∷◌, ◌≡◌}
 use Rattle.ksm_lines.proofs.Numbers.{number_takes, number_again}
 
 -- values that are there and equal are equal

@@ -1,15 +1,5 @@
 -- Bytes are read as a line exactly where they write it.
-use Rattle.std.proofs.Common.{◌≡◌, ℕ, true, false, cond, List, [], ◌∷◌, Option, Some, None, Result, Ok, Err, refl, sym, ap, subst, ◌∙◌}
-use Rattle.std.specs.Prelude.{codes, bytes_eq, option_map, IfOk}
-use Rattle.std.proofs.lemmas.Slice.Eq.{bytes_eq-Decides}
-use Rattle.ksm_lines.specs.declared.line.Line.{Line}
-use Rattle.ksm_lines.specs.declared.line.Line.TheVariants.{Empty, Register, Drop, Store, Get, Ticket, Mappers, ScanPages, Scan, Prune, Unmerge, Mergeable, MovePage, MoveDup, Set, Show, Stat, Find, Equal, Look, Leave, Audit}
-use Rattle.ksm_lines.specs.declared.line.LineFault.{LineFault}
-use Rattle.ksm_lines.specs.Grammar.{Part, name, guest, number, content, AreWritten, parts_of}
-use Rattle.ksm_lines.specs.Content.{content_of}
-use Rattle.ksm_lines.specs.Knobs.{knob_name, shown_name}
-use Rattle.ksm_lines.specs.Reading.{Gives, alone, guest_of, number_of, knob_of, shown_of}
-use Rattle.ksm_lines.specs.Forms.{scan_at, Form, forms, look_up_forms, managing_forms, named_line, line_at}
+use Rattle.ksm_lines.proofs.Names.{[], alone, ap, AreWritten, Audit, bytes_eq, bytes_eq-Decides, codes, cond, content, content_of, Drop, Empty, Equal, Err, false, Find, Form, forms, Get, Gives, guest, guest_of, IfOk, knob_name, Leave, Line, line_at, LineFault, List, Look, Mappers, Mergeable, MoveDup, MovePage, name, named_line, number, number_of, Ok, Option, option_map, Part, parts_of, Prune, refl, Register, Result, Scan, scan_at, ScanPages, Set, Show, shown_name, shown_of, Some, Stat, Store, subst, sym, Ticket, true, Unmerge, ℕ, ◌∙◌, ◌∷◌, ◌≡◌}
 use Rattle.ksm_lines.proofs.Fields.{some_is, none_some, guest_read, number_read, knob_read, shown_read, number_written, guest_written, knob_written, shown_written}
 use Rattle.ksm_lines.proofs.Fields.{Finds, end_finds, field_finds, page_finds, last_finds, word_finds, page_alone_finds}
 use Rattle.ksm_lines.proofs.Fields.{Tells, end_tells, field_tells, page_tells, last_tells, word_tells, page_alone_tells}
