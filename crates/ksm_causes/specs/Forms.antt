@@ -2,15 +2,10 @@
 use Rattle.std.specs.Prelude.{ℕ, ◌≤◌, Bool, List, [], ◌∷◌, length, map, Option, Some, None, codes, bytes_eq}
 use Rattle.std.specs.Prelude.{if◌then◌else◌}
 use Rattle.std.specs.Char.{to_ascii_lowercase}
-use Rattle.std.specs.List.{list_any}
 use Rattle.std.specs.Option.{is_some}
 use denote.Ref.{Bor}
 use Rattle.ksm_lines.specs.declared.line.Line.{Line}
-use Rattle.ksm_lines.specs.declared.knob.Knob.TheVariants.{Run, PagesToScan, MergeAcrossNodes, MaxPageSharing}
-use Rattle.ksm_lines.specs.declared.knob.Knob.TheVariants.{UseZeroPages}
-use Rattle.ksm_lines.specs.declared.knob.Shown.TheVariants.{ZeroPages}
 use Rattle.ksm_lines.specs.Grammar.{Writes}
-use Rattle.ksm_lines.specs.Knobs.{knob_name, shown_name}
 use Rattle.ksm_causes.specs.declared.part.Number.TheVariants.{Guest, Page, Node, Place, Pass, Visits, Value}
 use Rattle.ksm_causes.specs.declared.part.Part.{Part}
 use Rattle.ksm_causes.specs.declared.part.Part.TheVariants.{Number, Content, Knob, Shown}
@@ -70,13 +65,6 @@ parts_given (Some parts) = Some parts.now
 -- a line begins with the name
 abbrev pub is_name : List ℕ → Bool
 is_name word = is_some (parts_in forms word)
-
-abbrev pub is_knob : List ℕ → Bool
-is_knob word =
-    list_any (bytes_eq word) (map knob_name (Run ∷ PagesToScan ∷ MergeAcrossNodes ∷ MaxPageSharing ∷ UseZeroPages ∷ []))
-
-abbrev pub is_counter : List ℕ → Bool
-is_counter word = bytes_eq word (shown_name ZeroPages)
 
 abbrev pub lowered : List ℕ → List ℕ
 lowered word = map to_ascii_lowercase word

@@ -1,12 +1,13 @@
 -- Why a line is bad: of its words, read from left to right, the first that can't stand there (own).
-use Rattle.std.specs.Prelude.{ℕ, ◌+◌, ◌*◌, Bool, true, false, not, ◌&&◌, ◌||◌, ◌==◌, nat_lt, List, [], ◌∷◌, length}
+use Rattle.std.specs.Prelude.{ℕ, ◌+◌, Bool, true, false, not, ◌&&◌, ◌||◌, ◌==◌, nat_lt, nat_le, List, [], ◌∷◌, length}
 use Rattle.std.specs.Prelude.{drop, Option, Some, None, option_map, position, slice_index, if◌then◌else◌}
 use Rattle.std.specs.Char.{is_ascii_digit, is_ascii_graphic, is_ascii_hexdigit}
 use Rattle.std.specs.List.{list_all}
-use Rattle.std.specs.Option.{option_or}
-use Rattle.std.specs.Str.Parse.{digits_value}
-use Rattle.ksm_base.specs.declared.page.TheConstants.{PAGE_WORDS}
+use Rattle.std.specs.Option.{is_some, option_or}
+use Rattle.ksm_lines.specs.Content.{content_of}
+use Rattle.ksm_lines.specs.Forms.{line_at}
 use Rattle.ksm_lines.specs.Grammar.{words_of}
+use Rattle.ksm_lines.specs.Reading.{number_of, knob_of, shown_of}
 use Rattle.ksm_causes.specs.declared.part.Number as numbers
 use Rattle.ksm_causes.specs.declared.part.Number.TheVariants.{Guest, Visits}
 use Rattle.ksm_causes.specs.declared.part.Part.{Part}
@@ -18,29 +19,37 @@ use Rattle.ksm_causes.specs.declared.cause.Cause.TheVariants.{Missing, OneWordMo
 use Rattle.ksm_causes.specs.declared.cause.Cause.TheVariants.{TooLarge, NotHexadecimal, ContentLength, UnknownKnob}
 use Rattle.ksm_causes.specs.declared.cause.Cause.TheVariants.{UnknownShown, CounterSet}
 use Rattle.ksm_causes.specs.declared.cause.Trouble.{Trouble}
-use Rattle.ksm_causes.specs.Forms.{forms, parts_in, is_name, is_knob, is_counter, lowered}
+use Rattle.ksm_causes.specs.Forms.{forms, parts_in, is_name, lowered}
 
 abbrev pub at : ℕ → Cause → Trouble
 at column cause = record { column = column; cause = cause }
 
 -- ---- a word, at the column of its first byte
 
--- the first byte that fails a test
-abbrev pub byte_trouble : (ℕ → Bool) → (ℕ → Cause) → ℕ → List ℕ → Option Trouble
-byte_trouble stands cause column word =
-    option_map (λ i. at (column + i) (cause (slice_index word i))) (position (λ byte. not (stands byte)) word)
-
 abbrev pub strange_cause : ℕ → Cause
 strange_cause byte = if byte == 9 then Tab else if byte == 13 then CarriageReturn else OtherByte
 
--- a byte that stands in no word of any line
+-- the first byte that stands in no word of any line
 abbrev pub strange_trouble : ℕ → List ℕ → Option Trouble
-strange_trouble = byte_trouble is_ascii_graphic strange_cause
+strange_trouble column word =
+    option_map (λ i. at (column + i) (strange_cause (slice_index word i)))
+    (position (λ byte. not (is_ascii_graphic byte)) word)
 
 -- the largest number that may stand for a guest, a page and so on
 abbrev pub most : numbers.Number → ℕ
 most Guest = 65535
 most _ = 4294967295
+
+abbrev pub is_within : ℕ → Option ℕ → Bool
+is_within most None = false
+is_within most (Some n) = nat_le n most
+
+-- the language reads the word as this part
+abbrev pub is_read : Part → List ℕ → Bool
+is_read (Number number) word = is_within (most number) (number_of word)
+is_read Content word = is_some (content_of word)
+is_read Knob word = is_some (knob_of word)
+is_read Shown word = is_some (shown_of word)
 
 abbrev pub are_digits : List ℕ → Bool
 are_digits word = list_all is_ascii_digit word && nat_lt 0 (length word)
@@ -51,43 +60,40 @@ is_signed word = (slice_index word 0 == 43 || slice_index word 0 == 45) && are_d
 abbrev pub has_leading_zero : List ℕ → Bool
 has_leading_zero word = slice_index word 0 == 48 && nat_lt 1 (length word)
 
--- what a word is not, then its form, then its range
-abbrev pub number_cause : numbers.Number → List ℕ → Option Cause
+-- Why a word that is not read is none: what it is not, then its form, then its range.
+abbrev pub number_cause : numbers.Number → List ℕ → Cause
 number_cause number word =
-    if is_signed word then Some Sign
-    else if not (are_digits word) then Some (NotANumber number)
-    else if has_leading_zero word then Some LeadingZero
-    else if nat_lt (most number) (digits_value 10 word) then Some (TooLarge number)
-    else None
+    if is_signed word then Sign
+    else if not (are_digits word) then NotANumber number
+    else if has_leading_zero word then LeadingZero
+    else TooLarge number
 
-abbrev pub length_cause : List ℕ → Option Cause
-length_cause word = if length word == 2 || length word == 16 * PAGE_WORDS then None else Some ContentLength
+-- the first byte that is no digit, or else the length
+abbrev pub content_trouble : ℕ → Option ℕ → Trouble
+content_trouble column None = at column ContentLength
+content_trouble column (Some i) = at (column + i) NotHexadecimal
 
-abbrev pub knob_cause : List ℕ → Option Cause
+abbrev pub knob_cause : List ℕ → Cause
 knob_cause word =
-    if is_knob word then None
-    else if is_counter word then Some CounterSet
-    else if is_knob (lowered word) then Some Capital
-    else Some UnknownKnob
+    if is_some (shown_of word) then CounterSet
+    else if is_some (knob_of (lowered word)) then Capital
+    else UnknownKnob
 
-abbrev pub shown_cause : List ℕ → Option Cause
-shown_cause word =
-    if is_knob word || is_counter word then None
-    else if is_knob (lowered word) || is_counter (lowered word) then Some Capital
-    else Some UnknownShown
+abbrev pub shown_cause : List ℕ → Cause
+shown_cause word = if is_some (shown_of (lowered word)) then Capital else UnknownShown
 
--- why a word of printable bytes is not this part
-abbrev pub part_trouble : Part → ℕ → List ℕ → Option Trouble
-part_trouble (Number number) column word = option_map (at column) (number_cause number word)
-part_trouble Content column word =
-    option_or (byte_trouble is_ascii_hexdigit (λ byte. NotHexadecimal) column word)
-    (option_map (at column) (length_cause word))
-part_trouble Knob column word = option_map (at column) (knob_cause word)
-part_trouble Shown column word = option_map (at column) (shown_cause word)
+-- why a word of printable bytes that is not read as this part is none
+abbrev pub part_trouble : Part → ℕ → List ℕ → Trouble
+part_trouble (Number number) column word = at column (number_cause number word)
+part_trouble Content column word = content_trouble column (position (λ byte. not (is_ascii_hexdigit byte)) word)
+part_trouble Knob column word = at column (knob_cause word)
+part_trouble Shown column word = at column (shown_cause word)
 
 -- why a word is not this part: a byte that no line has comes first
 abbrev pub word_trouble : Part → ℕ → List ℕ → Option Trouble
-word_trouble part column word = option_or (strange_trouble column word) (part_trouble part column word)
+word_trouble part column word =
+    if is_read part word then None
+    else option_or (strange_trouble column word) (Some (part_trouble part column word))
 
 -- ---- a line; *end* is the column of the byte behind the words that were read
 
@@ -135,6 +141,9 @@ words_trouble [] = None
 words_trouble ([] ∷ words) = empty_trouble words
 words_trouble (name ∷ words) = named_trouble (parts_in forms name) name words
 
--- a line that is too long is that before all else
+-- a line that is too long is that before all else, and one that the language reads is good
 abbrev pub trouble_of : List ℕ → Option Trouble
-trouble_of line = if nat_lt 256 (length line) then Some (at 257 LongLine) else words_trouble (words_of line)
+trouble_of line =
+    if nat_lt 256 (length line) then Some (at 257 LongLine)
+    else if is_some (line_at (words_of line)) then None
+    else words_trouble (words_of line)

@@ -2,15 +2,15 @@
 ghost use Rattle.std.specs.Prelude.{◌≡◌, ◌+◌, ◌≤◌, ◌∷◌, ◌==◌, ◌↔◌, None, List, [], length};
 ghost use Rattle.std.specs.List.{list_all};
 ghost use Rattle.ksm_lines.specs.Grammar.{words_of};
-ghost use Rattle.ksm_lines.specs.Reading.{words_left};
+ghost use Rattle.ksm_lines.specs.Reading.{left_length, words_left};
 ghost use Rattle.ksm_causes.specs.Forms.{IsGood, forms, parts_in};
-ghost use Rattle.ksm_causes.specs.Sizes.{left_length};
 ghost use Rattle.ksm_causes.specs.Troubles.{is_empty, missing_trouble, space_trouble, parts_trouble, named_trouble};
 ghost use Rattle.ksm_causes.specs.Troubles.{words_trouble, trouble_of};
 
 use crate::cause::{Cause, Trouble};
 use crate::part::{Number, Part, parts_of};
-use crate::word::{cut, name_cause, strange_byte, word_trouble};
+use crate::word::{name_cause, strange_byte, word_trouble};
+use ksm_lines::{cut, read_line};
 use ksm_script::LONGEST_LINE;
 
 /// Why a line, without its newline, is bad; none where it is good.
@@ -21,7 +21,10 @@ pub fn cause_of(line: &[u8]) -> Option<Trouble>
     if line.len() > LONGEST_LINE {
         return Some(Trouble::new(LONGEST_LINE + 1, Cause::LongLine));
     }
-    words_trouble(line)
+    match read_line(line) {
+        Ok(_) => None,
+        Err(_) => words_trouble(line),
+    }
 }
 
 /// What is wrong with the words of a line that is not too long.

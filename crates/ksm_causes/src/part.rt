@@ -55,29 +55,25 @@ pub(crate) fn parts_of(name: &[u8]) -> Option<&'static [Part]>
     ensures { parts_given result ≡ parts_in forms name.now }
 {
     if is(name, "reg") {
-        return Some(&[
+        Some(&[
             Part::Number(Guest),
             Part::Number(Page),
             Part::Number(Node),
             Part::Content,
-        ]);
+        ])
+    } else if is(name, "drop") {
+        Some(&[Part::Number(Guest), Part::Number(Page)])
+    } else if is(name, "put") {
+        Some(&[Part::Number(Guest), Part::Number(Page), Part::Content])
+    } else if is(name, "get") {
+        Some(&[Part::Number(Guest), Part::Number(Page)])
+    } else if is(name, "ticket") {
+        Some(&[Part::Number(Guest), Part::Number(Page)])
+    } else if is(name, "rmap") {
+        Some(&[Part::Number(Place)])
+    } else {
+        managing(name)
     }
-    if is(name, "drop") {
-        return Some(&[Part::Number(Guest), Part::Number(Page)]);
-    }
-    if is(name, "put") {
-        return Some(&[Part::Number(Guest), Part::Number(Page), Part::Content]);
-    }
-    if is(name, "get") {
-        return Some(&[Part::Number(Guest), Part::Number(Page)]);
-    }
-    if is(name, "ticket") {
-        return Some(&[Part::Number(Guest), Part::Number(Page)]);
-    }
-    if is(name, "rmap") {
-        return Some(&[Part::Number(Place)]);
-    }
-    managing(name)
 }
 
 /// The parts behind a name of the scan, of guests, moves, settings and counters, or of the passes.
@@ -85,33 +81,26 @@ fn managing(name: &[u8]) -> Option<&'static [Part]>
     ensures { parts_given result ≡ parts_in managing_forms name.now }
 {
     if is(name, "scan") {
-        return Some(&[Part::Number(Visits)]);
+        Some(&[Part::Number(Visits)])
+    } else if is(name, "prune") {
+        Some(&[])
+    } else if is(name, "unmerge") {
+        Some(&[Part::Number(Guest)])
+    } else if is(name, "mergeable") {
+        Some(&[Part::Number(Guest)])
+    } else if is(name, "move") {
+        Some(&[Part::Number(Guest), Part::Number(Page), Part::Number(Node)])
+    } else if is(name, "movedup") {
+        Some(&[Part::Number(Place), Part::Number(Node)])
+    } else if is(name, "set") {
+        Some(&[Part::Knob, Part::Number(Value)])
+    } else if is(name, "show") {
+        Some(&[Part::Shown])
+    } else if is(name, "stat") {
+        Some(&[])
+    } else {
+        looking_up(name)
     }
-    if is(name, "prune") {
-        return Some(&[]);
-    }
-    if is(name, "unmerge") {
-        return Some(&[Part::Number(Guest)]);
-    }
-    if is(name, "mergeable") {
-        return Some(&[Part::Number(Guest)]);
-    }
-    if is(name, "move") {
-        return Some(&[Part::Number(Guest), Part::Number(Page), Part::Number(Node)]);
-    }
-    if is(name, "movedup") {
-        return Some(&[Part::Number(Place), Part::Number(Node)]);
-    }
-    if is(name, "set") {
-        return Some(&[Part::Knob, Part::Number(Value)]);
-    }
-    if is(name, "show") {
-        return Some(&[Part::Shown]);
-    }
-    if is(name, "stat") {
-        return Some(&[]);
-    }
-    looking_up(name)
 }
 
 /// The parts behind a name of the passes.
@@ -119,19 +108,16 @@ fn looking_up(name: &[u8]) -> Option<&'static [Part]>
     ensures { parts_given result ≡ parts_in look_up_forms name.now }
 {
     if is(name, "find") {
-        return Some(&[Part::Number(Pass), Part::Number(Place)]);
+        Some(&[Part::Number(Pass), Part::Number(Place)])
+    } else if is(name, "equal") {
+        Some(&[Part::Number(Pass), Part::Number(Place), Part::Content])
+    } else if is(name, "look") {
+        Some(&[Part::Number(Pass)])
+    } else if is(name, "leave") {
+        Some(&[Part::Number(Pass)])
+    } else if is(name, "audit") {
+        Some(&[])
+    } else {
+        None
     }
-    if is(name, "equal") {
-        return Some(&[Part::Number(Pass), Part::Number(Place), Part::Content]);
-    }
-    if is(name, "look") {
-        return Some(&[Part::Number(Pass)]);
-    }
-    if is(name, "leave") {
-        return Some(&[Part::Number(Pass)]);
-    }
-    if is(name, "audit") {
-        return Some(&[]);
-    }
-    None
 }

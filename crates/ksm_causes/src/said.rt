@@ -9,7 +9,7 @@ ghost use Rattle.ksm_causes.specs.Troubles.{trouble_of};
 use crate::cause::{Cause, Trouble};
 use crate::line::cause_of;
 use crate::part::{Number, Part};
-use crate::word::{PAGE_DIGITS, cut};
+use ksm_lines::{PAGE_DIGITS, cut};
 use std::fmt::{self, Display, Formatter, Write};
 
 /// A word that is quoted is cut behind so many bytes.

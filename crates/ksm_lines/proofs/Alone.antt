@@ -1,11 +1,5 @@
 -- The last word is the whole text that is left.
-use Rattle.std.proofs.Common.{◌≡◌, ℕ, Bool, true, false, eqb, List, None, refl, ap, ◌∙◌}
-use Rattle.std.specs.Char.{is_ascii_digit, is_ascii_hexdigit}
-use Rattle.std.specs.List.{list_all}
-use Rattle.std.proofs.lemmas.Bool.{eqb-true}
-use Rattle.ksm_lines.specs.Content.{content_of}
-use Rattle.ksm_lines.specs.Grammar.{words_of}
-use Rattle.ksm_lines.specs.Reading.{alone, number_of}
+use Rattle.ksm_lines.proofs.Names.{alone, ap, Bool, content_of, eqb, eqb-true, false, is_ascii_digit, is_ascii_hexdigit, List, list_all, None, number_of, refl, true, words_of, ℕ, ◌∙◌, ◌≡◌}
 use Rattle.ksm_lines.proofs.Words.{alone_text}
 
 space : (test : ℕ → Bool) → test 32 ≡ false → (byte : ℕ) → eqb byte 32 ≡ true → test byte ≡ false

@@ -1,16 +1,11 @@
 -- The worked lines hold.
-use Rattle.std.proofs.Common.{◌≡◌, ℕ, List, Option, None, sym, refl, ◌∙◌}
-use Rattle.std.specs.Prelude.{codes}
-use Rattle.ksm_lines.specs.declared.line.Line.{Line}
+use Rattle.ksm_lines.proofs.Names.{BadLines, codes, IsNoLine, Line, line_at, List, None, Option, refl, sym, words_of, ℕ, ◌∙◌, ◌≡◌}
 use Rattle.ksm_lines.specs.declared.line.Line.TheVariants as lines
-use Rattle.ksm_lines.specs.Grammar.{words_of, IsNoLine}
-use Rattle.ksm_lines.specs.Forms.{line_at}
-use Rattle.ksm_lines.specs.Worked.{BadLines}
 use Rattle.ksm_lines.proofs.Lines.{line_again, line_takes}
 
 -- what is not read as a line is written by none
 none_writes : (bytes : List ℕ) → (let none : Option Line = None in line_at (words_of bytes) ≡ none) → IsNoLine bytes
-none_writes bytes e form written = cc (sym e ∙ line_again form (words_of bytes) written)
+none_writes bytes e form written = cc (sym e ∙ (line_again form).finds (words_of bytes) written)
 
 -- the bad lines of the worked list are no lines, and the good ones are
 pub bad_lines : BadLines

@@ -1,17 +1,6 @@
 -- The digits at the front of a text, and the words behind them.
-use Rattle.std.proofs.Common.{◌≡◌, ℕ, ◌+◌, ◌-◌, ◌^◌, ◌<◌, ◌≤◌, ◌&&◌, take-take, Bool, true, false, eqb, ltb, List, [], ◌∷◌, length, take, drop, get_or, None, inl, inr, refl, sym, ap, subst, ◌∙◌, arith}
-use Rattle.std.specs.Char.{is_ascii_digit}
-use Rattle.std.specs.List.{list_all, position_or_len, before_first, after_first, slice_split}
-use Rattle.std.specs.Str.Parse.{digits_value}
-use Rattle.std.proofs.lemmas.Bool.{cases_lt, eqb-true, le-ltb}
-use Rattle.std.proofs.lemmas.List.{take_rest, get_or-take, length-take, length-take-le}
-use Rattle.std.proofs.lemmas.List.Folds.{list_all_at}
-use Rattle.std.proofs.lemmas.List.Sums.{position_or_len_is, passes_at_first}
-use Rattle.std.proofs.lemmas.List.Splits.{slice_split_first}
-use Rattle.ksm_lines.specs.Grammar.{words_of}
-use Rattle.ksm_lines.specs.Reading.{field, is_plain, number_of}
+use Rattle.ksm_lines.proofs.Names.{[], after_first, ap, arith, before_first, Bool, cases_lt, digits_value, digits_value-take-le, drop, eqb, eqb-true, false, field, get_or, get_or-take, inl, inr, is_ascii_digit, is_plain, le-ltb, length, length-take, length-take-le, List, list_all, list_all_at, ltb, None, number_of, passes_at_first, position_or_len, position_or_len_is, refl, slice_split, slice_split_first, subst, sym, take, take-take, take_rest, true, words_of, ℕ, ◌&&◌, ◌+◌, ◌-◌, ◌<◌, ◌^◌, ◌∙◌, ◌∷◌, ◌≡◌, ◌≤◌}
 use Rattle.ksm_lines.proofs.Booleans.{chosen}
-use Rattle.std.proofs.lemmas.Str.Parse.{digits_value-take-le}
 use Rattle.ksm_lines.proofs.Alone.{no_number}
 use Rattle.ksm_lines.proofs.Words.{cut_none}
 

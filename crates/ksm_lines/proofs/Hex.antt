@@ -1,9 +1,5 @@
 -- The values of hexadecimal digits.
-use Rattle.std.proofs.Common.{◌≡◌, ℕ, zero, suc, ◌<◌, ◌==◌, Bool, true, false, not, ◌&&◌, ◌||◌, eqb, ltb, inl, inr, refl, arith, ◌∙◌}
-use Rattle.std.specs.Prelude.{slice_index}
-use Rattle.std.proofs.lemmas.Bool.{and_parts, cases_lt, eqb-true, lt-ltb}
-use Rattle.ksm_lines.specs.declared.field.TheConstants.{DIGIT_VALUES}
-use Rattle.ksm_lines.specs.Content.{digit_or_none, hex_value}
+use Rattle.ksm_lines.proofs.Names.{and_parts, arith, Bool, cases_lt, digit_or_none, DIGIT_VALUES, eqb, eqb-true, false, hex_value, inl, inr, lt-ltb, ltb, not, refl, slice_index, suc, true, zero, ℕ, ◌&&◌, ◌<◌, ◌==◌, ◌||◌, ◌∙◌, ◌≡◌}
 
 -- a test of all numbers below n
 abbrev pub passes_below : (ℕ → Bool) → ℕ → Bool

@@ -1,14 +1,6 @@
 -- Digits, many at once.
-use Rattle.std.proofs.Common.{◌≡◌, ℕ, zero, suc, ◌+◌, ◌*◌, ◌%◌, ◌^◌, ◌++◌, ◌<◌, ◌≤◌, ◌&&◌, ◌||◌, get_or, arith, take, Bool, true, false, cond, not, eqb, ltb, List, [], ◌∷◌, map, length, replicate, Fits, w8, refl, sym, ap, ap₂, ◌∙◌}
-use Rattle.std.proofs.lemmas.Simd.{bitmask_splat, length-chunk, get_or-chunk, zip2_of_maps, splat_is_map}
-use Rattle.std.proofs.lemmas.Bool.{and_parts, eqb-true, ltb-true, ltb-false, lt-ltb, ne_eqb}
-use Rattle.std.specs.List.{list_all, range_with_len}
-use Rattle.std.proofs.Math.Seq.{take-add}
-use lib.Lanes.{Each1, zip2, sel_l, top, mask_l}
-use Rattle.std.specs.Char.{is_ascii_hexdigit}
-use Rattle.std.proofs.lemmas.List.Folds.{list_all-append, list_all-map}
-use Rattle.ksm_lines.specs.Content.{hex_value, is_small, digits_of_word, pair_in, byte_at}
-use Rattle.std.proofs.lemmas.List.{get_or-map, get_or_append_left, take_all}
+use Rattle.ksm_lines.proofs.Names.{[], and_parts, ap, ap₂, arith, bitmask_splat, Bool, byte_at, cond, digits_of_word, Each1, eqb, eqb-true, false, Fits, get_or, get_or-chunk, get_or-map, get_or_append_left, hex_value, is_ascii_hexdigit, is_small, length, length-chunk, List, list_all, list_all-append, list_all-map, lt-ltb, ltb, ltb-false, ltb-true, map, mask_l, ne_eqb, not, pair_in, range_with_len, refl, replicate, sel_l, splat_is_map, suc, sym, take, take-add, take_all, top, true, zero, zip2, zip2_of_maps, ℕ, ◌%◌, ◌&&◌, ◌*◌, ◌++◌, ◌+◌, ◌<◌, ◌^◌, ◌||◌, ◌∙◌, ◌∷◌, ◌≡◌, ◌≤◌}
+use Rattle.std.proofs.Common.{w8}
 use Rattle.ksm_lines.proofs.Front.{passes_in}
 use Rattle.ksm_lines.proofs.Hex.{passes_below, passes_at}
 

@@ -1,3 +1,4 @@
+pub mod Names
 pub mod Booleans
 pub mod Words
 pub mod Numbers

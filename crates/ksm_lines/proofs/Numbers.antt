@@ -1,19 +1,5 @@
 -- A word is read as a number exactly where it is the number's decimal text.
-use Rattle.std.proofs.Common.{◌≡◌, ℕ, ◌+◌, ◌-◌, ◌*◌, ◌^◌, ◌<◌, ◌≤◌, Bool, true, false, not, ◌&&◌, ◌||◌, ltb, eqb, List, length, take, get_or, eq-eqb, Some, None, inl, inr, refl, sym, ap, ap₂, subst, ◌∙◌, rules, arith}
-use Rattle.std.specs.Prelude.{decimal}
-use Rattle.std.specs.Char.{is_ascii_digit}
-use Rattle.std.specs.List.{list_all}
-use Rattle.std.specs.Str.Parse.{digits_value}
-use Rattle.std.proofs.lemmas.Bool.{cases_lt, le-ltb, lt-ltb, ltb-true, eqb-true}
-use Rattle.std.proofs.lemmas.Fmt.{decimal_digit, decimal_nonempty, first_decimal, digits_decimal, digits_value-decimal, decimal-digits_value}
-use Rattle.std.proofs.lemmas.Str.Parse.{IsNumeralModel, numerals_by_value}
-use Rattle.ksm_lines.specs.Digits.{digits_of, IsReadTo, IsHigh}
-use Rattle.ksm_lines.specs.Reading.{is_plain, number_below}
-use Rattle.std.proofs.lemmas.Str.Parse.{digits_value-take-le}
-use Rattle.std.proofs.lemmas.Int.Digits.{digits_value_more}
-use Rattle.std.proofs.lemmas.List.{take_all}
-use Rattle.std.proofs.lemmas.List.Folds.{list_all_more}
-use Rattle.std.specs.Char.{digit_value}
+use Rattle.ksm_lines.proofs.Names.{ap, ap₂, arith, Bool, cases_lt, decimal, decimal-digits_value, decimal_digit, decimal_nonempty, digit_value, digits_decimal, digits_of, digits_value, digits_value-decimal, digits_value-take-le, digits_value_more, eq-eqb, eqb, eqb-true, false, first_decimal, get_or, inl, inr, is_ascii_digit, is_plain, IsHigh, IsNumeralModel, IsReadTo, le-ltb, length, List, list_all, list_all_more, lt-ltb, ltb, ltb-true, None, not, number_below, numerals_by_value, refl, rules, Some, subst, sym, take, take_all, true, ℕ, ◌&&◌, ◌*◌, ◌+◌, ◌-◌, ◌<◌, ◌^◌, ◌||◌, ◌∙◌, ◌≡◌, ◌≤◌}
 use Rattle.ksm_lines.proofs.Booleans.{chosen, is_chosen, first_true, second_true}
 
 -- the test for decimal digits and the value of a text of digits are a model of numerals

@@ -1,19 +1,5 @@
 -- Words at the front of a text, each with the byte behind it.
-use Rattle.std.proofs.Common.{◌≡◌, ◌≢◌, ℕ, zero, suc, ◌+◌, ◌-◌, ◌^◌, ◌<◌, ◌≤◌, Bool, true, false, cond, not, ◌&&◌, eqb, All, List, [], ◌∷◌, ◌++◌, length, take, drop, get_or, Option, None, Some, refl, sym, ap, ap₂, subst, ◌∙◌, arith, append_assoc, take-append-drop}
-use Rattle.std.specs.Prelude.{decimal}
-use Rattle.std.specs.Char.{is_ascii_digit, is_ascii_hexdigit}
-use Rattle.std.specs.List.{list_all, onto_first}
-use Rattle.std.specs.Str.Parse.{digits_value}
-use Rattle.std.proofs.lemmas.Bool.{and_parts, eqb-true}
-use Rattle.std.proofs.lemmas.Fmt.{digits_decimal, decimal-digits_value}
-use Rattle.std.proofs.lemmas.List.{length-take-le, take_more, take_rest}
-use Rattle.std.proofs.lemmas.List.Elements.{All-nil, All-cons}
-use Rattle.std.proofs.lemmas.List.Folds.{list_all-append}
-use Rattle.ksm_lines.specs.declared.line.Line.{Line}
-use Rattle.ksm_lines.specs.Content.{content_of}
-use Rattle.ksm_lines.specs.Digits.{IsReadTo}
-use Rattle.ksm_lines.specs.Grammar.{AreWritten, parts_of, words_of}
-use Rattle.ksm_lines.specs.Leading.{BeginsWith}
+use Rattle.ksm_lines.proofs.Names.{[], All, All-cons, All-nil, and_parts, ap, append_assoc, ap₂, AreWritten, arith, BeginsWith, Bool, codes, cond, content_of, decimal, decimal-digits_value, digits_decimal, digits_value, drop, eqb, eqb-true, Equal, false, Find, Get, get_or, GuestPage, is_ascii_digit, is_ascii_hexdigit, IsReadTo, Leave, length, length-take-le, Line, List, list_all, list_all-append, Look, None, not, onto_first, Option, parts_of, refl, Register, Scan, Some, Stat, Store, subst, suc, sym, take, take-append-drop, take_more, take_rest, Ticket, true, words_of, zero, ℕ, ◌&&◌, ◌++◌, ◌+◌, ◌-◌, ◌<◌, ◌^◌, ◌∙◌, ◌∷◌, ◌≡◌, ◌≢◌, ◌≤◌}
 use Rattle.ksm_lines.proofs.Numbers.{own}
 
 -- a byte of a word: neither a space nor a newline
@@ -60,9 +46,9 @@ content_is_word word page read = word_of is_ascii_hexdigit word refl refl (of (l
 -- ---- a number that was read
 
 -- a text whose first digits were read as a number is the number's decimal, the byte behind, and the rest
-pub number_in_front : (text : List ℕ) (at number end : ℕ) → IsReadTo at text number → at < length text → 0 < at → (get_or text 0 0 ≡ 48 → at ≤ 1)
-    → get_or text at 0 ≡ end → text ≡ decimal number ++ end ∷ take (length text - (at + 1)) (drop (at + 1) text)
-number_in_front text at number end read lt long single is =
+pub number_in_front : (text : List ℕ) (at value end : ℕ) → IsReadTo at text value → at < length text → 0 < at → (get_or text 0 0 ≡ 48 → at ≤ 1)
+    → get_or text at 0 ≡ end → text ≡ decimal value ++ end ∷ take (length text - (at + 1)) (drop (at + 1) text)
+number_in_front text at value end read lt long single is =
     let word = take at text in
     let size : length word ≡ at = length-take-le at text (omega arith) in
     let first : get_or word 0 0 ≡ get_or text 0 0 = first_of text at long in
@@ -72,7 +58,7 @@ number_in_front text at number end read lt long single is =
     let rest = drop (at + 1) text in
     sym (take-append-drop (at + 1) text) ∙ ap (λ l. l ++ rest) (take_more text at 0 lt) ∙ append_assoc word (get_or text at 0 ∷ []) rest
     ∙ ap₂ (λ w b. w ++ b ∷ rest) (sym written ∙ ap decimal (sym read.1)) is
-    ∙ ap (λ l. decimal number ++ end ∷ l) (sym (take_rest text (at + 1)))
+    ∙ ap (λ l. decimal value ++ end ∷ l) (sym (take_rest text (at + 1)))
   where
     first_of : (text : List ℕ) (at : ℕ) → 0 < at → get_or (take at text) 0 0 ≡ get_or text 0 0
     first_of text zero lt = absurd (omega arith)
@@ -165,3 +151,83 @@ all_plain (byte ∷ bytes) is =
 pub begins : (form : Line) (words : List (List ℕ)) (text rest : List ℕ) → AreWritten (parts_of form) words → Leads words text rest → BeginsWith form text rest
 begins form words text rest written lead =
     (lead.line, subst (λ (ws : List (List ℕ)). AreWritten (parts_of form) ws) (sym lead.parts) written, all_plain lead.line lead.plain, lead.is)
+
+-- ---- the lines
+
+-- behind a word and its space a line of the other words
+number_more : (n : ℕ) (text behind rest : List ℕ) (words : List (List ℕ)) → n < 2 ^ 32 → text ≡ decimal n ++ 32 ∷ behind → Leads words behind rest → Leads (decimal n ∷ words) text rest
+number_more n text behind rest words fits is later = more (decimal n) text behind rest words (decimal_is_word n (omega (arith, fits))) is later
+
+number_last : (n : ℕ) (text rest : List ℕ) → n < 2 ^ 32 → text ≡ decimal n ++ 10 ∷ rest → Leads (decimal n ∷ []) text rest
+number_last n text rest fits is = last (decimal n) text rest (decimal_is_word n (omega (arith, fits))) is
+
+-- the two words of a page
+page_more : (page : GuestPage) (text behind rest : List ℕ) (words : List (List ℕ)) → (page.guest < 2 ^ 16) × (page.page < 2 ^ 32) → text ≡ decimal page.guest ++ 32 ∷ (decimal page.page ++ 32 ∷ behind)
+    → Leads words behind rest → Leads (decimal page.guest ∷ decimal page.page ∷ words) text rest
+page_more page text behind rest words fits is later =
+    number_more page.guest text _ rest _ (omega (arith, fits.0)) is (number_more page.page _ behind rest words fits.1 refl later)
+
+page_last : (page : GuestPage) (text rest : List ℕ) → (page.guest < 2 ^ 16) × (page.page < 2 ^ 32) → text ≡ decimal page.guest ++ 32 ∷ (decimal page.page ++ 10 ∷ rest)
+    → Leads (decimal page.guest ∷ decimal page.page ∷ []) text rest
+page_last page text rest fits is = number_more page.guest text _ rest _ (omega (arith, fits.0)) is (number_last page.page _ rest fits.1 refl)
+
+-- a content is the last word
+abbrev Ends : List ℕ → List ℕ → List ℕ → Type 0
+Ends bytes text rest = (word : List ℕ) × (content_of word ≡ Some bytes) × (text ≡ word ++ 10 ∷ rest)
+
+content_last : (bytes text rest : List ℕ) (h : Ends bytes text rest) → Leads (h.0 ∷ []) text rest
+content_last bytes text rest h = last h.0 text rest (content_is_word h.0 bytes h.1) h.2
+
+module _ (text left rest : List ℕ) where
+  pub stat_line : text ≡ codes "stat\n" ++ rest → BeginsWith Stat text rest
+  stat_line is = begins Stat (codes "stat" ∷ []) text rest (refl, tt) (last (codes "stat") text rest refl is)
+
+  pub look_line : (pass : ℕ) → text ≡ codes "look " ++ left → left ≡ decimal pass ++ 10 ∷ rest → pass < 2 ^ 32 → BeginsWith (Look pass) text rest
+  look_line pass is one fits =
+      begins (Look pass) (codes "look" ∷ decimal pass ∷ []) text rest (refl, ((fits, refl), tt)) (more (codes "look") text left rest _ refl is (number_last pass left rest fits one))
+
+  pub leave_line : (pass : ℕ) → text ≡ codes "leave " ++ left → left ≡ decimal pass ++ 10 ∷ rest → pass < 2 ^ 32 → BeginsWith (Leave pass) text rest
+  leave_line pass is one fits =
+      begins (Leave pass) (codes "leave" ∷ decimal pass ∷ []) text rest (refl, ((fits, refl), tt)) (more (codes "leave") text left rest _ refl is (number_last pass left rest fits one))
+
+  pub scan_line : (visits : ℕ) → text ≡ codes "scan " ++ left → left ≡ decimal visits ++ 10 ∷ rest → visits < 2 ^ 32 → BeginsWith (Scan visits) text rest
+  scan_line visits is one fits =
+      begins (Scan visits) (codes "scan" ∷ decimal visits ∷ []) text rest (refl, ((fits, refl), tt)) (more (codes "scan") text left rest _ refl is (number_last visits left rest fits one))
+
+  pub get_line : (page : GuestPage) → text ≡ codes "get " ++ left → left ≡ decimal page.guest ++ 32 ∷ (decimal page.page ++ 10 ∷ rest) → (page.guest < 2 ^ 16) × (page.page < 2 ^ 32)
+      → BeginsWith (Get page) text rest
+  get_line page is two fits =
+      begins (Get page) (codes "get" ∷ decimal page.guest ∷ decimal page.page ∷ []) text rest (refl, ((fits.0, refl), ((fits.1, refl), tt)))
+      (more (codes "get") text left rest _ refl is (page_last page left rest fits two))
+
+  pub ticket_line : (page : GuestPage) → text ≡ codes "ticket " ++ left → left ≡ decimal page.guest ++ 32 ∷ (decimal page.page ++ 10 ∷ rest) → (page.guest < 2 ^ 16) × (page.page < 2 ^ 32)
+      → BeginsWith (Ticket page) text rest
+  ticket_line page is two fits =
+      begins (Ticket page) (codes "ticket" ∷ decimal page.guest ∷ decimal page.page ∷ []) text rest (refl, ((fits.0, refl), ((fits.1, refl), tt)))
+      (more (codes "ticket") text left rest _ refl is (page_last page left rest fits two))
+
+  module _ (behind : List ℕ) where
+    pub find_line : (pass place : ℕ) → text ≡ codes "find " ++ left → left ≡ decimal pass ++ 32 ∷ behind → pass < 2 ^ 32 → behind ≡ decimal place ++ 10 ∷ rest → place < 2 ^ 32
+        → BeginsWith (Find pass place) text rest
+    find_line pass place is one fits two small =
+        begins (Find pass place) (codes "find" ∷ decimal pass ∷ decimal place ∷ []) text rest (refl, ((fits, refl), ((small, refl), tt)))
+        (more (codes "find") text left rest _ refl is (number_more pass left behind rest _ fits one (number_last place behind rest small two)))
+
+    pub store_line : (page : GuestPage) (bytes : List ℕ) → text ≡ codes "put " ++ left → left ≡ decimal page.guest ++ 32 ∷ (decimal page.page ++ 32 ∷ behind)
+        → (page.guest < 2 ^ 16) × (page.page < 2 ^ 32) → Ends bytes behind rest → BeginsWith (Store page bytes) text rest
+    store_line page bytes is two fits last =
+        begins (Store page bytes) (codes "put" ∷ decimal page.guest ∷ decimal page.page ∷ last.0 ∷ []) text rest (refl, ((fits.0, refl), ((fits.1, refl), (last.1, tt))))
+        (more (codes "put") text left rest _ refl is (page_more page left behind rest _ fits two (content_last bytes behind rest last)))
+
+    pub register_line : (page : GuestPage) (node : ℕ) (bytes bare : List ℕ) → text ≡ codes "reg " ++ left → left ≡ decimal page.guest ++ 32 ∷ (decimal page.page ++ 32 ∷ behind)
+        → (page.guest < 2 ^ 16) × (page.page < 2 ^ 32) → behind ≡ decimal node ++ 32 ∷ bare → node < 2 ^ 32 → Ends bytes bare rest → BeginsWith (Register page node bytes) text rest
+    register_line page node bytes bare is two fits three small last =
+        begins (Register page node bytes) (codes "reg" ∷ decimal page.guest ∷ decimal page.page ∷ decimal node ∷ last.0 ∷ []) text rest
+        (refl, ((fits.0, refl), ((fits.1, refl), ((small, refl), (last.1, tt)))))
+        (more (codes "reg") text left rest _ refl is (page_more page left behind rest _ fits two (number_more node behind bare rest _ small three (content_last bytes bare rest last))))
+
+    pub equal_line : (pass place : ℕ) (bytes bare : List ℕ) → text ≡ codes "equal " ++ left → left ≡ decimal pass ++ 32 ∷ behind → pass < 2 ^ 32 → behind ≡ decimal place ++ 32 ∷ bare
+        → place < 2 ^ 32 → Ends bytes bare rest → BeginsWith (Equal pass place bytes) text rest
+    equal_line pass place bytes bare is one fits two small last =
+        begins (Equal pass place bytes) (codes "equal" ∷ decimal pass ∷ decimal place ∷ last.0 ∷ []) text rest (refl, ((fits, refl), ((small, refl), (last.1, tt))))
+        (more (codes "equal") text left rest _ refl is (number_more pass left behind rest _ fits one (number_more place behind bare rest _ small two (content_last bytes bare rest last))))

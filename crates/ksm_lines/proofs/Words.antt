@@ -1,14 +1,5 @@
 -- Words, parted at each space.
-use Rattle.std.proofs.Common.{◌≡◌, ℕ, ◌+◌, ◌-◌, ◌<◌, Bool, true, false, cond, List, [], ◌∷◌, length, take, drop, Option, Some, None, refl, sym, ap, ◌∙◌}
-use Rattle.std.specs.Prelude.{position}
-use Rattle.std.specs.List.{list_all, slice_split, onto_first, position_from, position_or_len}
-use Rattle.std.proofs.lemmas.Bool.{ltb-true}
-use Rattle.std.proofs.lemmas.Iterator.Adapters.{position_from-zero}
-use Rattle.std.proofs.lemmas.List.{take_rest}
-use Rattle.std.proofs.lemmas.List.Splits.{slice_split_first}
-use Rattle.std.proofs.lemmas.List.Folds.{list_all_at}
-use Rattle.std.proofs.lemmas.List.Sums.{passes_at_first}
-use Rattle.ksm_lines.specs.Reading.{◌>>=◌, alone, ended}
+use Rattle.ksm_lines.proofs.Names.{[], alone, ap, Bool, cond, drop, ended, false, length, List, list_all, list_all_at, ltb-true, None, onto_first, Option, passes_at_first, position, position_from, position_from-zero, position_or_len, refl, slice_split, slice_split_first, Some, sym, take, take_rest, true, ℕ, ◌+◌, ◌-◌, ◌<◌, ◌>>=◌, ◌∙◌, ◌∷◌, ◌≡◌}
 use Rattle.ksm_lines.proofs.Booleans.{is_chosen}
 
 -- a text that is split has a first part

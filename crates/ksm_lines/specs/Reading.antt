@@ -1,6 +1,6 @@
 -- Reading the words of a line from left to right.
-use Rattle.std.specs.Prelude.{◌≡◌, ℕ, ◌^◌, Bool, not, ◌&&◌, ◌||◌, ◌==◌, nat_lt, List, [], ◌∷◌, length, Option, Some}
-use Rattle.std.specs.Prelude.{None, option_map, Result, Ok, Err, bytes_eq, slice_index, if◌then◌else◌}
+use Rattle.std.specs.Prelude.{◌≡◌, ℕ, ◌+◌, ◌^◌, Bool, not, ◌&&◌, ◌||◌, ◌==◌, nat_lt, List, [], ◌∷◌, length, Option}
+use Rattle.std.specs.Prelude.{Some, None, option_map, Result, Ok, Err, bytes_eq, slice_index, if◌then◌else◌}
 use Rattle.std.specs.Char.{is_ascii_digit}
 use Rattle.std.specs.List.{list_all}
 use Rattle.std.specs.Str.Parse.{digits_value}
@@ -19,6 +19,11 @@ use Rattle.ksm_lines.specs.Knobs.{knob_name, shown_name}
 abbrev pub words_left : Option (Bor (List ℕ)) → List (List ℕ)
 words_left None = []
 words_left (Some text) = words_of text.now
+
+-- how many bytes are left, the space before them included
+abbrev pub left_length : Option (Bor (List ℕ)) → ℕ
+left_length None = 0
+left_length (Some text) = length text.now + 1
 
 infixl 10 ◌>>=◌
 abbrev pub ◌>>=◌ : {A B : Type 0} → Option A → (A → Option B) → Option B

@@ -9,7 +9,7 @@ ghost use Rattle.ksm_lines.specs.Content.{content_of};
 ghost use Rattle.ksm_lines.specs.Grammar.{words_of};
 ghost use Rattle.ksm_lines.specs.Digits.{digits_of, IsReadTo, IsHigh};
 ghost use Rattle.ksm_lines.specs.Reading.{Gives, GivesField, words_left, field, guest_of, number_of, page_at, alone};
-ghost use Rattle.ksm_lines.specs.Reading.{page_alone, knob_of, shown_of, ended};
+ghost use Rattle.ksm_lines.specs.Reading.{page_alone, knob_of, shown_of, ended, left_length};
 
 use crate::knob::{Knob, Shown, knob_named, shown_named};
 use crate::line::LineFault;
@@ -47,7 +47,8 @@ fn first_space(text: &[u8]) -> Option<usize>
 
 /// The first word of a text, and what follows the space behind it.
 pub fn cut(text: &[u8]) -> (&[u8], Option<&[u8]>)
-    ensures { words_of text.now ≡ result.0.now ∷ words_left result.1 }
+    ensures words { words_of text.now ≡ result.0.now ∷ words_left result.1 }
+    ensures fits { length result.0.now + left_length result.1 ≡ length text.now }
 {
     match first_space(text) {
         Some(at) => (&text[..at], Some(&text[at + 1..])),
@@ -81,18 +82,6 @@ pub fn behind_name<'a, const N: usize>(text: &'a [u8], name: &[u8; N]) -> Option
     Some(&text[N..])
 }
 
-/// Whether a text is these bytes.
-#[inline(always)]
-pub fn is_name<const N: usize>(text: &[u8], name: &[u8; N]) -> bool
-    requires { 4 ≤ N }
-    ensures { IsTrue result → text.now ≡ name.now }
-{
-    let Some(left) = behind_name(text, name) else {
-        return false;
-    };
-    left.is_empty()
-}
-
 /// Whether a word is this name.
 pub fn is(word: &[u8], name: &str) -> bool
     ensures { result ≡ bytes_eq word.now name.now }
@@ -111,7 +100,7 @@ pub fn ended(left: Option<&[u8]>) -> Result<(), LineFault>
 }
 
 /// The number that a word writes in decimal digits without leading zeros.
-fn number_in(word: &[u8]) -> Result<u32, LineFault>
+pub fn number_in(word: &[u8]) -> Result<u32, LineFault>
     ensures { Gives result (number_of word.now) }
 {
     match word {

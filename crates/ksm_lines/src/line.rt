@@ -1,17 +1,15 @@
 //! The lines of the language.
-ghost use Rattle.std.specs.Prelude.{◌≡◌, IfOk, Ok, option_map};
+ghost use Rattle.std.specs.Prelude.{◌≡◌, IfOk, Ok};
 ghost use Rattle.ksm_lines.specs.declared.line.Line.{Line};
 ghost use Rattle.ksm_lines.specs.Grammar.{Writes, words_of};
-ghost use Rattle.ksm_lines.specs.declared.line.Line.TheVariants.{Get as line_get, Ticket as line_ticket};
-ghost use Rattle.ksm_lines.specs.declared.line.Line.TheVariants.{Look as line_look, Leave as line_leave};
-ghost use Rattle.ksm_lines.specs.Reading.{Gives, alone, number_of, page_alone, words_left};
+ghost use Rattle.ksm_lines.specs.Reading.{Gives, words_left};
 ghost use Rattle.ksm_lines.specs.Forms.{forms, managing_forms, look_up_forms, line_at, named_line, name_alone};
 ghost use Rattle.ksm_lines.specs.Forms.{register_at, store_at, scan_at, move_page_at, move_dup_at, set_at, find_at};
 ghost use Rattle.ksm_lines.specs.Forms.{equal_at};
 
 use crate::field::{
-    behind_name, content_alone, cut, ended, guest_alone, is, is_name, knob, number, number_alone,
-    page, page_alone, shown_alone,
+    content_alone, cut, ended, guest_alone, is, knob, number, number_alone, page, page_alone,
+    shown_alone,
 };
 use crate::knob::{Knob, Shown};
 use ksm_base::{GuestPage, PageBytes};
@@ -119,120 +117,19 @@ pub enum LineFault {
 
 /// The line that the bytes are.
 pub fn read_line(bytes: &[u8]) -> Result<Line, LineFault>
+    ensures found { Gives result (line_at (words_of bytes.now)) }
     ensures written { IfOk result (λ line. Writes line bytes.now) }
     ensures read { (line : Line) → Writes line bytes.now → result ≡ Ok line }
 {
     told_line(bytes)
 }
 
-// Each arm is the call that gives the line. A line in an arm of its own would be cleared before each line that is read.
-
-/// The line that the bytes are. The lines that come by the million are told by their first bytes.
-#[inline(always)]
-fn told_line(bytes: &[u8]) -> Result<Line, LineFault>
-    ensures { Gives result (line_at (words_of bytes.now)) }
-{
-    match bytes {
-        [b'p', ..] => store_or_other(bytes),
-        [b'g', ..] => get_or_other(bytes),
-        [b'f', ..] => find_or_other(bytes),
-        [b'l', b'o', ..] => look_or_other(bytes),
-        [b'l', ..] => leave_or_other(bytes),
-        [b'e', ..] => equal_or_other(bytes),
-        [b't', ..] => ticket_or_other(bytes),
-        [b'r', b'e', ..] => register_or_other(bytes),
-        [b's', ..] => stat_or_other(bytes),
-        _ => told_by_words(bytes),
-    }
-}
-
 /// The line that the bytes are, told by its first word.
-fn told_by_words(bytes: &[u8]) -> Result<Line, LineFault>
+fn told_line(bytes: &[u8]) -> Result<Line, LineFault>
     ensures { Gives result (line_at (words_of bytes.now)) }
 {
     let (name, left) = cut(bytes);
     named(name, left)
-}
-
-fn store_or_other(bytes: &[u8]) -> Result<Line, LineFault>
-    ensures { Gives result (line_at (words_of bytes.now)) }
-{
-    match behind_name(bytes, b"put ") {
-        Some(left) => store(Some(left)),
-        None => told_by_words(bytes),
-    }
-}
-
-fn get_or_other(bytes: &[u8]) -> Result<Line, LineFault>
-    ensures { Gives result (line_at (words_of bytes.now)) }
-{
-    match behind_name(bytes, b"get ") {
-        Some(left) => get(Some(left)),
-        None => told_by_words(bytes),
-    }
-}
-
-fn find_or_other(bytes: &[u8]) -> Result<Line, LineFault>
-    ensures { Gives result (line_at (words_of bytes.now)) }
-{
-    match behind_name(bytes, b"find ") {
-        Some(left) => find(Some(left)),
-        None => told_by_words(bytes),
-    }
-}
-
-fn look_or_other(bytes: &[u8]) -> Result<Line, LineFault>
-    ensures { Gives result (line_at (words_of bytes.now)) }
-{
-    match behind_name(bytes, b"look ") {
-        Some(left) => look(Some(left)),
-        None => told_by_words(bytes),
-    }
-}
-
-fn leave_or_other(bytes: &[u8]) -> Result<Line, LineFault>
-    ensures { Gives result (line_at (words_of bytes.now)) }
-{
-    match behind_name(bytes, b"leave ") {
-        Some(left) => leave(Some(left)),
-        None => told_by_words(bytes),
-    }
-}
-
-fn equal_or_other(bytes: &[u8]) -> Result<Line, LineFault>
-    ensures { Gives result (line_at (words_of bytes.now)) }
-{
-    match behind_name(bytes, b"equal ") {
-        Some(left) => equal(Some(left)),
-        None => told_by_words(bytes),
-    }
-}
-
-fn ticket_or_other(bytes: &[u8]) -> Result<Line, LineFault>
-    ensures { Gives result (line_at (words_of bytes.now)) }
-{
-    match behind_name(bytes, b"ticket ") {
-        Some(left) => ticket(Some(left)),
-        None => told_by_words(bytes),
-    }
-}
-
-fn register_or_other(bytes: &[u8]) -> Result<Line, LineFault>
-    ensures { Gives result (line_at (words_of bytes.now)) }
-{
-    match behind_name(bytes, b"reg ") {
-        Some(left) => register(Some(left)),
-        None => told_by_words(bytes),
-    }
-}
-
-fn stat_or_other(bytes: &[u8]) -> Result<Line, LineFault>
-    ensures { Gives result (line_at (words_of bytes.now)) }
-{
-    if is_name(bytes, b"stat") {
-        return Ok(Line::Stat);
-    }
-    told_by_words(bytes)
 }
 
 /// The line that begins with a name.
@@ -240,27 +137,22 @@ fn named(name: &[u8], left: Option<&[u8]>) -> Result<Line, LineFault>
     ensures { Gives result (named_line forms name.now (words_left left.entry)) }
 {
     if is(name, "put") {
-        return store(left);
+        store(left)
+    } else if is(name, "get") {
+        page_alone(left).map(|page| Line::Get { page })
+    } else if is(name, "reg") {
+        register(left)
+    } else if is(name, "drop") {
+        page_alone(left).map(|page| Line::Drop { page })
+    } else if is(name, "") {
+        alone(Line::Empty, left)
+    } else if is(name, "ticket") {
+        page_alone(left).map(|page| Line::Ticket { page })
+    } else if is(name, "rmap") {
+        number_alone(left).map(|place| Line::Mappers { place })
+    } else {
+        managing(name, left)
     }
-    if is(name, "get") {
-        return get(left);
-    }
-    if is(name, "reg") {
-        return register(left);
-    }
-    if is(name, "drop") {
-        return page_alone(left).map(|page| Line::Drop { page });
-    }
-    if is(name, "") {
-        return alone(Line::Empty, left);
-    }
-    if is(name, "ticket") {
-        return ticket(left);
-    }
-    if is(name, "rmap") {
-        return number_alone(left).map(|place| Line::Mappers { place });
-    }
-    managing(name, left)
 }
 
 /// The line of the scan, of guests, moves, settings and counters, or of the passes, that begins with a name.
@@ -268,33 +160,26 @@ fn managing(name: &[u8], left: Option<&[u8]>) -> Result<Line, LineFault>
     ensures { Gives result (named_line managing_forms name.now (words_left left.entry)) }
 {
     if is(name, "scan") {
-        return scan(left);
+        scan(left)
+    } else if is(name, "prune") {
+        alone(Line::Prune, left)
+    } else if is(name, "unmerge") {
+        guest_alone(left).map(|guest| Line::Unmerge { guest })
+    } else if is(name, "mergeable") {
+        guest_alone(left).map(|guest| Line::Mergeable { guest })
+    } else if is(name, "move") {
+        move_page(left)
+    } else if is(name, "movedup") {
+        move_dup(left)
+    } else if is(name, "set") {
+        set(left)
+    } else if is(name, "show") {
+        shown_alone(left).map(|shown| Line::Show { shown })
+    } else if is(name, "stat") {
+        alone(Line::Stat, left)
+    } else {
+        looking_up(name, left)
     }
-    if is(name, "prune") {
-        return alone(Line::Prune, left);
-    }
-    if is(name, "unmerge") {
-        return guest_alone(left).map(|guest| Line::Unmerge { guest });
-    }
-    if is(name, "mergeable") {
-        return guest_alone(left).map(|guest| Line::Mergeable { guest });
-    }
-    if is(name, "move") {
-        return move_page(left);
-    }
-    if is(name, "movedup") {
-        return move_dup(left);
-    }
-    if is(name, "set") {
-        return set(left);
-    }
-    if is(name, "show") {
-        return shown_alone(left).map(|shown| Line::Show { shown });
-    }
-    if is(name, "stat") {
-        return alone(Line::Stat, left);
-    }
-    looking_up(name, left)
 }
 
 /// The line of the passes that begins with a name.
@@ -302,21 +187,18 @@ fn looking_up(name: &[u8], left: Option<&[u8]>) -> Result<Line, LineFault>
     ensures { Gives result (named_line look_up_forms name.now (words_left left.entry)) }
 {
     if is(name, "find") {
-        return find(left);
+        find(left)
+    } else if is(name, "equal") {
+        equal(left)
+    } else if is(name, "look") {
+        number_alone(left).map(|pass| Line::Look { pass })
+    } else if is(name, "leave") {
+        number_alone(left).map(|pass| Line::Leave { pass })
+    } else if is(name, "audit") {
+        alone(Line::Audit, left)
+    } else {
+        Err(LineFault::Bad)
     }
-    if is(name, "equal") {
-        return equal(left);
-    }
-    if is(name, "look") {
-        return look(left);
-    }
-    if is(name, "leave") {
-        return leave(left);
-    }
-    if is(name, "audit") {
-        return alone(Line::Audit, left);
-    }
-    Err(LineFault::Bad)
 }
 
 /// A line that is its name alone.
@@ -342,30 +224,6 @@ fn store(left: Option<&[u8]>) -> Result<Line, LineFault>
     let (page, left) = page(left)?;
     let bytes = content_alone(left)?;
     Ok(Line::Store { page, bytes })
-}
-
-fn get(left: Option<&[u8]>) -> Result<Line, LineFault>
-    ensures { Gives result (option_map (λ page. line_get page) (page_alone (words_left left.entry))) }
-{
-    page_alone(left).map(|page| Line::Get { page })
-}
-
-fn ticket(left: Option<&[u8]>) -> Result<Line, LineFault>
-    ensures { Gives result (option_map (λ page. line_ticket page) (page_alone (words_left left.entry))) }
-{
-    page_alone(left).map(|page| Line::Ticket { page })
-}
-
-fn look(left: Option<&[u8]>) -> Result<Line, LineFault>
-    ensures { Gives result (option_map (λ pass. line_look pass) (alone number_of (words_left left.entry))) }
-{
-    number_alone(left).map(|pass| Line::Look { pass })
-}
-
-fn leave(left: Option<&[u8]>) -> Result<Line, LineFault>
-    ensures { Gives result (option_map (λ pass. line_leave pass) (alone number_of (words_left left.entry))) }
-{
-    number_alone(left).map(|pass| Line::Leave { pass })
 }
 
 fn scan(left: Option<&[u8]>) -> Result<Line, LineFault>

@@ -1,6 +1,5 @@
 use Rattle.std.proofs.Common.{◌≡◌, ◌+◌, drop}
-use Rattle.ksm_lines.specs.Reading.{words_left}
-use Rattle.ksm_causes.specs.Sizes.{left_length}
+use Rattle.ksm_lines.specs.Reading.{left_length, words_left}
 use Rattle.ksm_causes.specs.Troubles.{parts_trouble}
 use Rattle.ksm_causes.proofs.line.parts_trouble.Given as goal
 

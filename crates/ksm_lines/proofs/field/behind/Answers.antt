@@ -1,6 +1,4 @@
-use Rattle.std.proofs.Common.{arith, ◌∙◌, ap, sym, ◌∷◌, [], ◌<◌, length, ◌≤◌, List, ℕ}
-use Rattle.std.proofs.lemmas.List.{take_all}
-use Rattle.std.proofs.lemmas.Bool.{ne_eqb}
+use Rattle.ksm_lines.proofs.Names.{[], ap, arith, length, List, ne_eqb, sym, take_all, ℕ, ◌<◌, ◌∙◌, ◌∷◌, ◌≤◌}
 use Rattle.ksm_lines.proofs.Front.{one_word, first_word, odd_word}
 use Rattle.ksm_lines.proofs.field.behind.Goals as goal
 

@@ -1,5 +1,4 @@
-use Rattle.std.proofs.Common.{sym, ap, ◌∙◌}
-use Rattle.std.specs.Int.{w32, to_le_bytes}
+use Rattle.ksm_lines.proofs.Names.{ap, sym, to_le_bytes, w32, ◌∙◌}
 use Rattle.ksm_lines.proofs.field.behind_name.Goals as goal
 
 pub loop-i-init : goal.loop-i-init

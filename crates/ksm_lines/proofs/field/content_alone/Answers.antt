@@ -1,6 +1,4 @@
-use Rattle.std.proofs.Common.{◌∙◌, ap, subst, sym}
-use Rattle.ksm_lines.specs.Content.{content_of}
-use Rattle.ksm_lines.specs.Reading.{Gives, alone, words_left}
+use Rattle.ksm_lines.proofs.Names.{alone, ap, content_of, Gives, subst, sym, words_left, ◌∙◌}
 use Rattle.ksm_lines.proofs.Alone.{content_alone}
 use Rattle.ksm_lines.proofs.field.content_alone.Goals as goal
 

@@ -1,7 +1,5 @@
 -- By its tests alone: a search would compute the page's words.
-use Rattle.std.proofs.Common.{◌≡◌, ◌*◌, Bool, true, false, cond, length, Option, None, refl, arith}
-use Rattle.std.proofs.lemmas.Bool.{ne_eqb}
-use Rattle.ksm_base.specs.declared.page.TheConstants.{PAGE_WORDS}
+use Rattle.ksm_lines.proofs.Names.{arith, Bool, cond, false, length, ne_eqb, None, Option, PAGE_WORDS, refl, true, ◌*◌, ◌≡◌}
 use Rattle.ksm_lines.proofs.field.content_in.Goals as goal
 
 none_of_three : {A : Type 0} (a b c : Bool) (x y : Option A) → b ≡ false → c ≡ false → cond a None (cond b x (cond c y None)) ≡ None

@@ -1,7 +1,5 @@
-use Rattle.std.proofs.Common.{ℕ, refl}
-use borrow.Rule.Simd.Lanes.{act2}
-use borrow.Table.Row.{s_int}
-use mir.Syntax.{w8, bit_and, lt, mask, unsigned, wrap_add, wrap_sub}
+use Rattle.ksm_lines.proofs.Names.{act2, bit_and, lt, mask, refl, s_int, unsigned, wrap_add, wrap_sub, ℕ}
+use mir.Syntax.{w8}
 use Rattle.ksm_lines.proofs.Lanes.{itself, joined, splat_is, picked, small_for_digits, values_of_digits}
 use Rattle.ksm_lines.proofs.field.digit_values.Goals as goal
 

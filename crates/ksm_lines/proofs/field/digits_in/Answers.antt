@@ -1,6 +1,4 @@
-use Rattle.std.proofs.Common.{◌<◌, refl, arith, length}
-use Rattle.std.specs.Char.{is_ascii_digit}
-use Rattle.std.proofs.lemmas.List.Folds.{list_all_at}
+use Rattle.ksm_lines.proofs.Names.{arith, is_ascii_digit, length, list_all_at, refl, ◌<◌}
 use Rattle.ksm_lines.proofs.Numbers.{no_digits_high, digits_whole}
 use Rattle.ksm_lines.proofs.field.digits_in.Goals as goal
 

@@ -1,5 +1,4 @@
-use Rattle.std.proofs.Common.{eqb, ◌∙◌, ap}
-use Rattle.ksm_lines.specs.Reading.{ended, words_left}
+use Rattle.ksm_lines.proofs.Names.{ap, ended, eqb, words_left, ◌∙◌}
 use Rattle.ksm_lines.proofs.Words.{not_ended}
 use Rattle.ksm_lines.proofs.field.ended.Goals as goal
 

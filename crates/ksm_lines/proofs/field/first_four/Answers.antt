@@ -1,8 +1,4 @@
-use Rattle.std.proofs.Common.{rules, ◌≡◌, ◌<◌, ℕ, get_or, take, inl, inr, subst, sym, arith}
-use Rattle.std.specs.Int.{w32, from_le_bytes}
-use Rattle.std.proofs.lemmas.Bool.{cases_lt}
-use Rattle.std.proofs.lemmas.List.{get_or-take, get_or_past, length-take-le}
-use Rattle.std.proofs.lemmas.Nat.{le_bytes_4}
+use Rattle.ksm_lines.proofs.Names.{arith, cases_lt, from_le_bytes, get_or, get_or-take, get_or_past, inl, inr, le_bytes_4, length-take-le, rules, subst, sym, take, w32, ℕ, ◌<◌, ◌≡◌}
 use Rattle.ksm_lines.proofs.field.first_four.Goals as goal
 
 pub returns : goal.returns

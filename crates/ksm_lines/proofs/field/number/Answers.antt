@@ -1,5 +1,4 @@
-use Rattle.std.proofs.Common.{◌∙◌, ap}
-use Rattle.ksm_lines.specs.Reading.{field, number_of, words_left}
+use Rattle.ksm_lines.proofs.Names.{ap, field, number_of, words_left, ◌∙◌}
 use Rattle.ksm_lines.proofs.Front.{high_word}
 use Rattle.ksm_lines.proofs.field.number.Goals as goal
 

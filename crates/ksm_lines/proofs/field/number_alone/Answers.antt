@@ -1,5 +1,4 @@
-use Rattle.std.proofs.Common.{◌∙◌, ap, subst, sym}
-use Rattle.ksm_lines.specs.Reading.{Gives, alone, number_of, words_left}
+use Rattle.ksm_lines.proofs.Names.{alone, ap, Gives, number_of, subst, sym, words_left, ◌∙◌}
 use Rattle.ksm_lines.proofs.Alone.{number_alone}
 use Rattle.ksm_lines.proofs.field.number_alone.Goals as goal
 

@@ -1,13 +1,4 @@
-use Rattle.std.proofs.Common.{◌≡◌, ◌+◌, ◌*◌, ◌<◌, ◌∙◌, ◌&&◌, true, List, ℕ, Some, ap, ap₂, arith, get_or, length-set, map, refl, set, subst, sym}
-use Rattle.std.proofs.lemmas.Bool.{and_parts}
-use Rattle.std.proofs.lemmas.List.{take_all}
-use Rattle.std.proofs.lemmas.List.Edits.{fill_by_more}
-use Rattle.std.proofs.lemmas.List.FromFn.{fill_by_all}
-use Rattle.std.specs.Char.{is_ascii_hexdigit}
-use Rattle.std.specs.Int.{w64, from_le_bytes}
-use Rattle.std.specs.List.{list_all, range_with_len}
-use Rattle.ksm_base.specs.declared.page.TheConstants.{PAGE_WORDS}
-use Rattle.ksm_lines.specs.Content.{byte_at, is_small, page_of, pair_in, word_at}
+use Rattle.ksm_lines.proofs.Names.{and_parts, ap, ap₂, arith, byte_at, fill_by_all, fill_by_more, from_le_bytes, get_or, is_ascii_hexdigit, is_small, length-set, List, list_all, map, page_of, PAGE_WORDS, pair_in, range_with_len, refl, set, Some, subst, sym, take_all, true, w64, word_at, ℕ, ◌&&◌, ◌*◌, ◌+◌, ◌<◌, ◌∙◌, ◌≡◌}
 use Rattle.ksm_lines.proofs.Lanes.{one_more, other_way, word_is}
 use Rattle.ksm_lines.proofs.field.page_in.Goals as goal
 

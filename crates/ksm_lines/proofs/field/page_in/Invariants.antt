@@ -1,8 +1,4 @@
-use Rattle.std.proofs.Common.{◌≡◌, ℕ, ◌*◌, ◌<◌, true, length, take, get_or}
-use Rattle.std.specs.Char.{is_ascii_hexdigit}
-use Rattle.std.specs.List.{list_all}
-use Rattle.ksm_base.specs.declared.page.TheConstants.{PAGE_WORDS}
-use Rattle.ksm_lines.specs.Content.{byte_at, is_small, word_at}
+use Rattle.ksm_lines.proofs.Names.{byte_at, get_or, is_ascii_hexdigit, is_small, length, list_all, PAGE_WORDS, take, true, word_at, ℕ, ◌*◌, ◌<◌, ◌≡◌}
 use Rattle.ksm_lines.proofs.field.page_in.Given as goal
 
 -- the first words are there, where their bytes are digits; and that they are is told by the largest values

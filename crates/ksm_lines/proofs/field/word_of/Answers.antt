@@ -1,5 +1,4 @@
-use Rattle.std.proofs.Common.{ap, ◌∙◌}
-use Rattle.std.specs.Int.{w64, from_le_bytes}
+use Rattle.ksm_lines.proofs.Names.{ap, from_le_bytes, w64, ◌∙◌}
 use Rattle.ksm_lines.proofs.Lanes.{pairs_told}
 use Rattle.ksm_lines.proofs.field.word_of.Goals as goal
 

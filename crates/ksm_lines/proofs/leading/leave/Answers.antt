@@ -1,12 +1,5 @@
-use Rattle.std.proofs.Common.{refl, arith, ◌∷◌, []}
-use Rattle.std.specs.Prelude.{codes, decimal}
-use Rattle.ksm_lines.specs.declared.line.Line.TheVariants.{Leave}
-use Rattle.ksm_lines.proofs.Parted.{begins, decimal_is_word, last, more}
+use Rattle.ksm_lines.proofs.Parted.{leave_line}
 use Rattle.ksm_lines.proofs.leading.leave.Goals as goal
 
 pub returns : goal.returns
-returns c =
-    let pass = c.in_ok-pass in
-    begins (Leave pass.pass) (codes "leave" ∷ decimal pass.pass ∷ []) _ _ (refl, ((pass.ensures.fits, refl), tt))
-    (more (codes "leave") c.args.text.now c.in_ok-left.left.now _ _ refl c.in_ok-left.ensures
-    (last (decimal pass.pass) c.in_ok-left.left.now _ (decimal_is_word pass.pass (omega (arith, pass.ensures.fits))) pass.ensures.text))
+returns c = leave_line _ _ _ _ c.in_ok-left.ensures c.in_ok-pass.ensures.text c.in_ok-pass.ensures.fits

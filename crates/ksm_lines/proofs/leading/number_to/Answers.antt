@@ -1,5 +1,4 @@
-use Rattle.std.proofs.Common.{rules, ◌≡◌, ℕ, ◌+◌, ◌-◌, ◌*◌, ap₂, sym, subst, refl, arith}
-use Rattle.ksm_lines.specs.Digits.{IsReadTo}
+use Rattle.ksm_lines.proofs.Names.{ap₂, arith, IsReadTo, refl, rules, subst, sym, ℕ, ◌*◌, ◌+◌, ◌-◌, ◌≡◌}
 use Rattle.ksm_lines.proofs.Numbers.{read_more}
 use Rattle.ksm_lines.proofs.Parted.{number_in_front}
 use Rattle.ksm_lines.proofs.leading.number_to.Goals as goal

@@ -1,5 +1,4 @@
-use Rattle.std.proofs.Common.{◌≡◌, ◌≤◌, get_or}
-use Rattle.ksm_lines.specs.Digits.{IsReadTo}
+use Rattle.ksm_lines.proofs.Names.{get_or, IsReadTo, ◌≡◌, ◌≤◌}
 use Rattle.ksm_lines.proofs.leading.number_to.Given as goal
 
 -- the first digits are read, and a first digit 0 is alone

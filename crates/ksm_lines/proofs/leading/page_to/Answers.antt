@@ -1,5 +1,4 @@
-use Rattle.std.proofs.Common.{◌∙◌, ◌++◌, ◌∷◌, ap}
-use Rattle.std.specs.Prelude.{decimal}
+use Rattle.ksm_lines.proofs.Names.{ap, decimal, ◌++◌, ◌∙◌, ◌∷◌}
 use Rattle.ksm_lines.proofs.leading.page_to.Goals as goal
 
 pub returns-clause-text : goal.returns-clause-text
