@@ -59,6 +59,23 @@ fn moving_and_lookup_rows(rt: HostRuntime) -> Result<(), Fail> {
             output: "ok\nok\nok\nok\nscanned 4\nrefused 9\nok\nheld 1 2\nrefused 10\nrefused 11\n",
             ..ROW
         },
+        Row {
+            name: "refused_moves_spend_no_life",
+            frames: 2,
+            last_generation: 2,
+            input: "reg 0 0 0 aa\nreg 0 1 0 aa\nset run 1\nscan 4\nfind 0 0\nmovedup 0 0\nmovedup 0 0\nleave 0\nmovedup 0 0\nfind 0 0\nleave 0\nmovedup 0 0\nfind 0 0\nleave 0\nmovedup 0 0\n",
+            output: "ok\nok\nok\nscanned 4\nheld 0 1\nrefused 8\nrefused 8\nok\nok\nheld 1 2\nok\nok\nheld 0 2\nok\nrefused 4\n",
+            ..ROW
+        },
+        Row {
+            name: "held_in_its_last_life",
+            nodes: 2,
+            frames: 1,
+            last_generation: 2,
+            input: "reg 0 0 0 aa\nreg 0 1 1 aa\nset run 1\nscan 4\nmovedup 0 1\nmovedup 0 0\nfind 0 0\nmovedup 0 1\nmovedup 0 0\nlook 0\nleave 0\nmovedup 0 1\n",
+            output: "ok\nok\nok\nscanned 4\nok\nok\nheld 0 2\nrefused 4\nrefused 4\n[aa]\nok\nrefused 4\n",
+            ..ROW
+        },
     ];
     play_all(&rt, rt.alloc(), &rows)
 }
