@@ -66,7 +66,6 @@ WORKS = {
     "pages_in_a_slot": Work(workload.pages_in_a_slot, 5_000, 1 / 2, beside=workload.pages_at_random),
     "contents_collide": Work(workload.contents_that_collide, 50, 1 / 2, beside=workload.contents_at_random),
 }
-JOURNAL = "journal"
 
 
 # The C library picks its functions on memory by the processor; with these all processors count alike.

@@ -29,10 +29,9 @@ pub enum Reply {
     Unmerged(u64, Option<Fault>),
 }
 
-/// A refusal, with its number.
+/// A refusal, with its number; 1, for memory, is for the proved program alone.
 #[derive(Clone, Copy, PartialEq, Eq)]
 pub enum Fault {
-    Memory = 1,
     UnknownPage = 2,
     AlreadyRegistered = 3,
     NoFrame = 4,

@@ -6,7 +6,6 @@ mod command;
 mod contents;
 mod dups;
 mod input;
-mod journal;
 mod keeper;
 mod knobs;
 mod line;
@@ -72,7 +71,7 @@ fn main() -> ExitCode {
         Ok(false) => 2,
         Err(_) => 3,
     };
-    // The end of the process takes the rows and the journal.
+    // The end of the process takes the rows.
     std::mem::forget(session);
     ExitCode::from(status)
 }
