@@ -27,7 +27,7 @@ static handle *pass_of(ksm_pass *pass) {
 uint32_t proved_ksm_table_open(uint64_t *numbers, handle *table, handle *passes, uint32_t nodes, uint32_t frames_per_node, uint32_t count,
                                uint64_t last_generation, uint32_t tries);
 uint32_t proved_ksm_book_open(uint64_t *numbers, handle *book, handle *passes, uint32_t nodes, uint32_t frames_per_node, uint32_t count,
-                              uint64_t last_generation, uint32_t tries);
+                              uint64_t last_generation, uint32_t tries, _Bool keeps);
 uint32_t proved_ksm_table_close(handle *table, handle *passes);
 uint32_t proved_ksm_pass_open(handle *passes, handle *pass);
 uint32_t proved_ksm_pass_close(handle *passes, handle *pass);
@@ -60,13 +60,22 @@ uint32_t ksm_table_open(ksm_table *table, uint32_t nodes, uint32_t frames_per_no
     return answer;
 }
 
-uint32_t ksm_book_open(ksm_table *book, uint32_t nodes, uint32_t frames_per_node, uint32_t passes, uint64_t last_generation, uint32_t tries) {
+static uint32_t book_open(ksm_table *book, uint32_t nodes, uint32_t frames_per_node, uint32_t passes, uint64_t last_generation, uint32_t tries,
+                          _Bool keeps) {
     if (book == NULL)
         return KSM_NULL;
     lock(&numbers_lock);
-    uint32_t answer = proved_ksm_book_open(&numbers, keeper_of(book), passes_of(book), nodes, frames_per_node, passes, last_generation, tries);
+    uint32_t answer = proved_ksm_book_open(&numbers, keeper_of(book), passes_of(book), nodes, frames_per_node, passes, last_generation, tries, keeps);
     unlock(&numbers_lock);
     return answer;
+}
+
+uint32_t ksm_book_open(ksm_table *book, uint32_t nodes, uint32_t frames_per_node, uint32_t passes, uint64_t last_generation, uint32_t tries) {
+    return book_open(book, nodes, frames_per_node, passes, last_generation, tries, 0);
+}
+
+uint32_t ksm_book_open_kept(ksm_table *book, uint32_t nodes, uint32_t frames_per_node, uint32_t passes, uint64_t last_generation, uint32_t tries) {
+    return book_open(book, nodes, frames_per_node, passes, last_generation, tries, 1);
 }
 
 uint32_t ksm_table_close(ksm_table *table) {
@@ -127,6 +136,9 @@ CALL(ksm_book_apply, (ksm_table *book, const ksm_command *command, ksm_made *mad
 CALL(ksm_book_read, (ksm_table *book, uint16_t guest, uint32_t page, uint64_t bytes[8]), (book, guest, page, bytes), book == NULL || bytes == NULL)
 CALL(ksm_book_ticket, (ksm_table *book, uint16_t guest, uint32_t page, uint32_t *place), (book, guest, page, place), book == NULL || place == NULL)
 CALL(ksm_book_counters, (ksm_table *book, ksm_counters *counters), (book, counters), book == NULL || counters == NULL)
+CALL(ksm_book_entries, (ksm_table *book, uint64_t *count), (book, count), book == NULL || count == NULL)
+CALL(ksm_book_entry, (ksm_table *book, uint64_t number, ksm_command *command, uint32_t *answer, ksm_made *made),
+     (book, number, command, answer, made), book == NULL || command == NULL || answer == NULL || made == NULL)
 CALL(ksm_find, (ksm_pass *pass, uint32_t place), (pass, place), pass == NULL)
 CALL(ksm_find_equal, (ksm_pass *pass, uint32_t place, const uint64_t page[8]), (pass, place, page), pass == NULL || page == NULL)
 CALL(ksm_look_up, (ksm_pass *pass, uint32_t place, uint64_t words[8]), (pass, place, words), pass == NULL || words == NULL)

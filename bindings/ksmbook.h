@@ -232,7 +232,9 @@ typedef struct ksm_counters {
 } ksm_counters;
 
 /*
- * ksm_book_open opens a book without pages, on a table of its own, as ksm_table_open does. ksm_table_close closes it.
+ * ksm_book_open opens a book without pages, on a table of its own, as ksm_table_open does. ksm_table_close closes it. Of its journal, the list of
+ * the commands with their answers, only how long it is can be told. ksm_book_open_kept opens a book that keeps its journal, so that each entry can
+ * be told: a command then takes 9 bytes or more for good, and is refused with KSM_MEMORY where these are not there.
  * Each of the others may answer KSM_CLOSED or KSM_KIND.
  *
  * ksm_book_apply does a command: KSM_DONE, KSM_COMMAND, KSM_MEMORY, or a number from KSM_UNKNOWN_PAGE on. `made` is written with KSM_NO_FRAME too.
@@ -242,13 +244,19 @@ typedef struct ksm_counters {
  * they are. KSM_DONE; KSM_RANGE, which writes *count alone, where `room` is smaller; KSM_NOTHING, KSM_MEMORY. `pages` points to `room` numbers;
  * it may be NULL where `room` is 0.
  * ksm_book_counters counts. KSM_DONE.
+ * ksm_book_entries tells how many entries the journal has: the commands that were given, but those that KSM_MEMORY or KSM_COMMAND refused. KSM_DONE.
+ * ksm_book_entry tells an entry of a journal that is kept, by its number from 0 on: the command, what it was answered, and what it did, where
+ * ksm_book_apply wrote that to `made`. KSM_DONE; KSM_NOTHING where there are not so many, or the journal is not kept.
  */
 KSM_CALL ksm_book_open(ksm_table *book, uint32_t nodes, uint32_t frames_per_node, uint32_t passes, uint64_t last_generation, uint32_t tries);
+KSM_CALL ksm_book_open_kept(ksm_table *book, uint32_t nodes, uint32_t frames_per_node, uint32_t passes, uint64_t last_generation, uint32_t tries);
 KSM_CALL ksm_book_apply(ksm_table *book, const ksm_command *command, ksm_made *made);
 KSM_CALL ksm_book_read(ksm_table *book, uint16_t guest, uint32_t page, uint64_t bytes[8]);
 KSM_CALL ksm_book_ticket(ksm_table *book, uint16_t guest, uint32_t page, uint32_t *place);
 KSM_CALL ksm_book_mappers(ksm_table *book, uint32_t place, uint64_t *pages, size_t room, uint64_t *count);
 KSM_CALL ksm_book_counters(ksm_table *book, ksm_counters *counters);
+KSM_CALL ksm_book_entries(ksm_table *book, uint64_t *count);
+KSM_CALL ksm_book_entry(ksm_table *book, uint64_t number, ksm_command *command, uint32_t *answer, ksm_made *made);
 
 /*
  * A pass. Each of these may answer KSM_CLOSED or KSM_KIND. The three lookups are for a pass that holds nothing (KSM_HOLDING), of a place that

@@ -241,6 +241,47 @@ static void memory(void) {
     ANSWERS(KSM_DONE, ksm_table_close(&book));
 }
 
+/* A book that keeps its journal tells each command with its answer, and wants memory for that alone; another book does neither. */
+static void journals(void) {
+    ksm_table kept = KSM_TABLE_NONE, counted = KSM_TABLE_NONE;
+    ksm_command told;
+    ksm_made made = {0};
+    uint64_t count = 5;
+    uint32_t answer = KSM_MEMORY, wants = 0;
+    ANSWERS(KSM_DONE, ksm_book_open_kept(&kept, 1, 2, 1, 1000, 64));
+    ANSWERS(KSM_OPEN, ksm_book_open_kept(&kept, 1, 2, 1, 1000, 64));
+    ANSWERS(KSM_DONE, ksm_book_open(&counted, 1, 2, 1, 1000, 64));
+    ANSWERS(KSM_NOTHING, ksm_book_entry(&kept, 0, &told, &answer, &made));
+    for (int n = 0; answer == KSM_MEMORY; n++) {
+        granted = n;
+        answer = apply(&kept, valued(KSM_SET_LIMIT, 3, 0), &made);
+        granted = -1;
+        wants += answer == KSM_MEMORY;
+    }
+    ANSWERS(KSM_DONE, answer);
+    granted = 0;
+    answer = apply(&counted, valued(KSM_SET_LIMIT, 3, 0), &made);
+    granted = -1;
+    ANSWERS(KSM_DONE, answer);
+    IS(1, wants > 0);
+    ANSWERS(KSM_BAD_VALUE, apply(&kept, valued(KSM_SET_LIMIT, 1, 0), &made));
+    ANSWERS(KSM_BAD_VALUE, apply(&counted, valued(KSM_SET_LIMIT, 1, 0), &made));
+    ANSWERS(KSM_DONE, ksm_book_entries(&kept, &count));
+    IS(2, count);
+    ANSWERS(KSM_DONE, ksm_book_entries(&counted, &count));
+    IS(2, count);
+    ANSWERS(KSM_DONE, ksm_book_entry(&kept, 1, &told, &answer, &made));
+    IS(KSM_SET_LIMIT, told.kind);
+    IS(1, told.value);
+    IS(KSM_BAD_VALUE, answer);
+    answer = 5;
+    ANSWERS(KSM_NOTHING, ksm_book_entry(&kept, 2, &told, &answer, &made));
+    ANSWERS(KSM_NOTHING, ksm_book_entry(&counted, 1, &told, &answer, &made));
+    IS(5, answer);
+    ANSWERS(KSM_DONE, ksm_table_close(&kept));
+    ANSWERS(KSM_DONE, ksm_table_close(&counted));
+}
+
 /* The keeper's calls are refused on a book, and those of a pass. */
 static void not_a_table(void) {
     ksm_table book = KSM_TABLE_NONE;
@@ -284,12 +325,16 @@ static void no_books(void) {
     ANSWERS(KSM_CLOSED, ksm_book_ticket(&none, 0, 0, &place));
     ANSWERS(KSM_CLOSED, ksm_book_mappers(&none, 0, bytes, 1, &count));
     ANSWERS(KSM_CLOSED, ksm_book_counters(&none, &counters));
+    ANSWERS(KSM_CLOSED, ksm_book_entries(&none, &count));
+    ANSWERS(KSM_CLOSED, ksm_book_entry(&none, 0, &given, &place, &made));
     ANSWERS(KSM_DONE, ksm_table_open(&table, 1, 1, 1, 1, 1));
     ANSWERS(KSM_KIND, apply(&table, given, &made));
     ANSWERS(KSM_KIND, ksm_book_read(&table, 0, 0, bytes));
     ANSWERS(KSM_KIND, ksm_book_ticket(&table, 0, 0, &place));
     ANSWERS(KSM_KIND, ksm_book_mappers(&table, 0, bytes, 1, &count));
     ANSWERS(KSM_KIND, ksm_book_counters(&table, &counters));
+    ANSWERS(KSM_KIND, ksm_book_entries(&table, &count));
+    ANSWERS(KSM_KIND, ksm_book_entry(&table, 0, &given, &place, &made));
     ANSWERS(KSM_DONE, ksm_table_close(&table));
 }
 
@@ -297,6 +342,7 @@ int main(int argc, char **argv) {
     at_random(argc > 1 ? strtoull(argv[1], NULL, 10) : 20000);
     merged();
     memory();
+    journals();
     not_a_table();
     no_books();
     for (uint32_t n = KSM_NOTHING; n <= KSM_BAD_NODE; n++)

@@ -463,7 +463,13 @@ static void of_book(void) {
         is(ksm_book_mappers(&book, 0, NULL, 0, &count), KSM_NOTHING, "ksm_book_mappers");
         is(ksm_book_mappers(&book, 0, pages, 2, NULL), KSM_NULL, "ksm_book_mappers");
         is(ksm_book_counters(&book, NULL), KSM_NULL, "ksm_book_counters");
+        is(ksm_book_entries(&book, NULL), KSM_NULL, "ksm_book_entries");
+        is(ksm_book_entry(&book, 0, NULL, &at, &made), KSM_NULL, "ksm_book_entry");
+        is(ksm_book_entry(&book, 0, &command, NULL, &made), KSM_NULL, "ksm_book_entry");
+        is(ksm_book_entry(&book, 0, &command, &at, NULL), KSM_NULL, "ksm_book_entry");
+        is(ksm_book_entry(&book, drawn(4), &command, &at, &made), KSM_NOTHING, "ksm_book_entry");
         is(ksm_book_open(&book, 1, 1, 1, 1, 1), KSM_OPEN, "ksm_book_open");
+        is(ksm_book_open_kept(&book, 1, 1, 1, 1, 1), KSM_OPEN, "ksm_book_open_kept");
         return;
     }
     refused = refused ? refused : KSM_KIND;
@@ -472,9 +478,13 @@ static void of_book(void) {
     is(ksm_book_ticket(handle, 0, 0, &at), refused, "ksm_book_ticket");
     is(ksm_book_mappers(handle, 0, pages, 2, &count), refused, "ksm_book_mappers");
     is(ksm_book_counters(handle, &counters), refused, "ksm_book_counters");
+    is(ksm_book_entries(handle, &count), refused, "ksm_book_entries");
+    is(ksm_book_entry(handle, 0, &command, &at, &made), refused, "ksm_book_entry");
     same(made.count == 77 && at == 77 && count == 77, "a refused call of a book wrote");
     if (handle == NULL)
         is(ksm_book_open(NULL, 1, 1, 1, 1, 1), KSM_NULL, "ksm_book_open");
+    if (handle == NULL)
+        is(ksm_book_open_kept(NULL, 1, 1, 1, 1, 1), KSM_NULL, "ksm_book_open_kept");
 }
 
 static void open_the_book(void) {

@@ -56,6 +56,29 @@ pub enum Command {
 }
 
 impl Command {
+    // What the library tells of a command that it was given.
+    fn of(request: &Request) -> Command {
+        let Request { guest, page, visits, node, value, bytes, kind } = *request;
+        let page = GuestPage { guest, page };
+        match kind {
+            raw::REGISTER => Command::Register { page, node, bytes },
+            raw::DROP => Command::Drop { page },
+            raw::STORE => Command::Store { page, bytes },
+            raw::SCAN => Command::Scan { visits },
+            raw::PRUNE => Command::Prune,
+            raw::UNMERGE => Command::Unmerge { guest },
+            raw::MERGEABLE => Command::Mergeable { guest },
+            raw::MOVE_PAGE => Command::MovePage { page, node },
+            raw::MOVE_DUP => Command::MoveDup { place: value, node },
+            raw::SET_RUN => Command::SetRun(value),
+            raw::SET_PAGES_TO_SCAN => Command::SetPagesToScan(value),
+            raw::SET_ACROSS => Command::SetAcross(value),
+            raw::SET_LIMIT => Command::SetLimit(value),
+            raw::SET_ZERO_PAGES => Command::SetZeroPages(value),
+            kind => unreachable!("the library tells commands alone: {kind}"),
+        }
+    }
+
     fn request(self) -> Request {
         let none = Request::default();
         let of = |kind, page: GuestPage| Request { kind, guest: page.guest, page: page.page, ..none };
@@ -139,14 +162,44 @@ fn told<T>(answer: u32, value: T) -> Option<T> {
     (answer == raw::DONE).then_some(value)
 }
 
+// What a command was answered.
+fn answered(answer: u32, made: &Made) -> Result<Reply> {
+    match answer {
+        raw::DONE => Ok(Reply { count: made.count, stop: (made.stop != 0).then(|| Error::of(made.stop, made.node)) }),
+        answer => Err(Error::of(answer, made.node)),
+    }
+}
+
 impl Book {
-    /// Opens a book without pages, on a table of its own.
+    /// Opens a book without pages, on a table of its own. Its journal is counted: only how many entries there are can be read, and no command takes
+    /// memory for one.
     ///
     /// # Errors
     ///
     /// [`Error::Shape`] where a size is out of its range; [`Error::Memory`].
     pub fn open(shape: Shape) -> Result<Book> {
         Ok(Book { shared: Shared::open(raw::ksm_book_open, shape)? })
+    }
+
+    /// Opens a book that keeps its journal, so that its entries can be read ([`Book::entry`]). Each command but those refused for memory then takes
+    /// nine bytes or more, for good.
+    ///
+    /// ```
+    /// use ksmbook::{Book, Command, Error, Shape};
+    ///
+    /// let mut book = Book::open_kept(Shape::SMALL)?;
+    /// book.apply(Command::Prune)?;
+    /// let _ = book.apply(Command::Scan { visits: 1 });
+    /// assert_eq!(book.entries(), 2);
+    /// assert_eq!(book.entry(1), Some((Command::Scan { visits: 1 }, Err(Error::NotRunning))));
+    /// # Ok::<(), ksmbook::Error>(())
+    /// ```
+    ///
+    /// # Errors
+    ///
+    /// Those of [`Book::open`].
+    pub fn open_kept(shape: Shape) -> Result<Book> {
+        Ok(Book { shared: Shared::open(raw::ksm_book_open_kept, shape)? })
     }
 
     /// Closes the book and frees its memory.
@@ -182,10 +235,8 @@ impl Book {
     pub fn apply(&mut self, command: Command) -> Result<Reply> {
         let mut made = Made::default();
         // SAFETY: `&mut` shows that this is the only call of the book, here and below; each other pointer is of a reference.
-        match unsafe { raw::ksm_book_apply(self.shared.handle(), &command.request(), &mut made) } {
-            raw::DONE => Ok(Reply { count: made.count, stop: (made.stop != 0).then(|| Error::of(made.stop, made.node)) }),
-            answer => Err(Error::of(answer, made.node)),
-        }
+        let answer = unsafe { raw::ksm_book_apply(self.shared.handle(), &command.request(), &mut made) };
+        answered(answer, &made)
     }
 
     /// The bytes of a page: those stored last. None where it is not registered.
@@ -236,5 +287,21 @@ impl Book {
         // SAFETY: as above. It is refused only where this is no open book.
         let _ = unsafe { raw::ksm_book_counters(self.shared.handle(), &mut counters) };
         counters
+    }
+
+    /// How many entries the journal has: the commands that were given, but those refused for memory.
+    pub fn entries(&mut self) -> u64 {
+        let mut count = 0;
+        // SAFETY: as above. It is refused only where this is no open book.
+        let _ = unsafe { raw::ksm_book_entries(self.shared.handle(), &mut count) };
+        count
+    }
+
+    /// An entry of the journal, by its number from 0 on: a command with its answer. None where there are not so many, or the journal is counted.
+    pub fn entry(&mut self, number: u64) -> Option<(Command, Result<Reply>)> {
+        let (mut request, mut answer, mut made) = (Request::default(), 0, Made::default());
+        // SAFETY: as above.
+        let told_if = unsafe { raw::ksm_book_entry(self.shared.handle(), number, &mut request, &mut answer, &mut made) };
+        told(told_if, ()).map(|()| (Command::of(&request), answered(answer, &made)))
     }
 }

@@ -113,9 +113,12 @@ extern "C" {
     pub fn ksm_held(pass: *mut Handle, place: *mut u32, frame: *mut u32, life: *mut u64) -> u32;
     pub fn ksm_leave(pass: *mut Handle) -> u32;
     pub fn ksm_book_open(book: *mut Handle, nodes: u32, frames_per_node: u32, passes: u32, last_generation: u64, tries: u32) -> u32;
+    pub fn ksm_book_open_kept(book: *mut Handle, nodes: u32, frames_per_node: u32, passes: u32, last_generation: u64, tries: u32) -> u32;
     pub fn ksm_book_apply(book: *mut Handle, command: *const Request, made: *mut Made) -> u32;
     pub fn ksm_book_read(book: *mut Handle, guest: u16, page: u32, bytes: *mut u64) -> u32;
     pub fn ksm_book_ticket(book: *mut Handle, guest: u16, page: u32, place: *mut u32) -> u32;
     pub fn ksm_book_mappers(book: *mut Handle, place: u32, pages: *mut u64, room: usize, count: *mut u64) -> u32;
     pub fn ksm_book_counters(book: *mut Handle, counters: *mut Counters) -> u32;
+    pub fn ksm_book_entries(book: *mut Handle, count: *mut u64) -> u32;
+    pub fn ksm_book_entry(book: *mut Handle, number: u64, command: *mut Request, answer: *mut u32, made: *mut Made) -> u32;
 }

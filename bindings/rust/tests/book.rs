@@ -127,3 +127,40 @@ fn what_was_stored_last_is_read() {
     }
     book.close().unwrap();
 }
+
+// The random commands of the test above, shortly: each is answered alike, and the kept journal tells each with its answer.
+#[test]
+fn a_kept_journal_tells_what_was_answered() {
+    let shape = Shape { nodes: 2, frames_per_node: 3, ..Shape::SMALL };
+    let (mut counted, mut kept) = (Book::open(shape).unwrap(), Book::open_kept(shape).unwrap());
+    let mut seed = 5u64;
+    let mut drawn = |below: u64| {
+        seed = seed.wrapping_mul(6364136223846793005).wrapping_add(1442695040888963407);
+        (seed >> 33) % below
+    };
+    let mut given = vec![Command::SetRun(1), Command::SetAcross(0), Command::SetPagesToScan(7), Command::SetLimit(2), Command::SetZeroPages(1)];
+    for _ in 0..2000 {
+        let of = page(drawn(2) as u16, drawn(4) as u32);
+        let (word, node) = (drawn(3), drawn(3) as u32);
+        given.push(match drawn(9) {
+            0 => Command::Scan { visits: drawn(20) },
+            1 => Command::Drop { page: of },
+            2 | 3 => register(of, node, word),
+            4 => Command::MovePage { page: of, node },
+            5 => Command::MoveDup { place: drawn(7) as u32, node },
+            6 if drawn(8) == 0 => Command::Unmerge { guest: of.guest },
+            6 => Command::Mergeable { guest: of.guest },
+            7 => Command::Prune,
+            _ => Command::Store { page: of, bytes: [word, 1, 2, 3, 4, 5, 6, 7] },
+        });
+    }
+    let answers: Vec<_> = given.iter().map(|command| counted.apply(*command)).collect();
+    for (command, answer) in given.iter().zip(&answers) {
+        assert_eq!(kept.apply(*command), *answer);
+    }
+    assert_eq!((counted.entries(), kept.entries()), (given.len() as u64, given.len() as u64));
+    for (number, told) in given.iter().copied().zip(answers).enumerate() {
+        assert_eq!((counted.entry(number as u64), kept.entry(number as u64)), (None, Some(told)));
+    }
+    assert_eq!(kept.entry(given.len() as u64), None);
+}
