@@ -59,8 +59,14 @@ impl Made {
         match visited {
             Visited::Same => self,
             Visited::Gone => Made { over: true, ..self },
-            Visited::Changed => Made { quiet: false, ..self },
-            Visited::Shared => Made { quiet: false, over: true },
+            Visited::Changed => Made {
+                quiet: false,
+                ..self
+            },
+            Visited::Shared => Made {
+                quiet: false,
+                over: true,
+            },
         }
     }
 }
