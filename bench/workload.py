@@ -426,6 +426,28 @@ def one_page_guests(script):
         script.scan(2)
 
 
+def guests_in_turn(script, numbers):
+    """Guests of one page each come in the order of their numbers, two hundred in a round, and a scan merges what it can."""
+    script.begin(limit=1024)
+    for count, guest in enumerate(numbers):
+        if count % 200 == 0:
+            yield
+        script.add(f"reg {guest} 0 {guest % NODES} {guest % 64:02x}")
+        if count % 200 == 199:
+            script.scan(400)
+    yield
+
+
+def guests_upward(script):
+    """65,000 guests from the first up. Most find no frame."""
+    return guests_in_turn(script, range(65_000))
+
+
+def guests_downward(script):
+    """The same from the last down."""
+    return guests_in_turn(script, reversed(range(65_000)))
+
+
 def lay_one_guest(script):
     """Merges the pages of guest 0, sixteen of them in each dup."""
     script.begin(limit=16)

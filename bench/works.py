@@ -64,6 +64,7 @@ WORKS = {
     "mixed": Work(workload.mixed, 20_000, 0.7),
     "pages_collide": Work(workload.pages_that_collide, 5_000, 1 / 2, beside=workload.pages_at_random),
     "pages_in_a_slot": Work(workload.pages_in_a_slot, 5_000, 1 / 2, beside=workload.pages_at_random),
+    "guests_downward": Work(workload.guests_downward, 325, 1 / 2.5, beside=workload.guests_upward),
     "contents_collide": Work(workload.contents_that_collide, 50, 1 / 2, beside=workload.contents_at_random),
 }
 
