@@ -4,6 +4,8 @@ A switch that is on lets the model do what ksmbook does, one that is off what th
 the model is the kernel, and with all of them on it is ksmbook. A difference that a kernel does not have is on there.
 """
 
+import re
+
 EVER, NEVER = (0, 0), (99, 0)
 ALL_KERNELS = (EVER, NEVER)
 # Of the lines between 6.1 and 6.12 none was tried: 6.4 is a guess.
@@ -42,12 +44,20 @@ SWITCHES = {
     "forked-over": ALL_KERNELS,
     "skipped": LIKE_612,
 }
+# Of a line of kernels, the release since which a pass empties all unstable trees, so that use-after-free is no more.
+MENDED = {(6, 12): 118}
 
 
 def version_of(release):
     """The version of a kernel by its release, for example (6, 12) of 6.12.117."""
     first, second, *_ = release.split(".")
     return int(first), int(second)
+
+
+def is_mended(release):
+    """Tells whether a release, for example 6.12.118+deb13, has no use-after-free any more."""
+    number = re.match(r"\d+\.\d+\.(\d+)", release)
+    return bool(number) and int(number[1]) >= MENDED.get(version_of(release), float("inf"))
 
 
 def switches_of(version):
