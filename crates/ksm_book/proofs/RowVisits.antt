@@ -1,7 +1,7 @@
 -- The visit of a row, by what is found: what becomes of the book, and what is done to the frames.
 use Rattle.ksm_book.proofs.Names.{[], Add, All, All-contains_itself, and_parts, ap, arith, Best, best_dup, best_dup_has_room, BookState, BookValue, BookView, Bool, change_row, Comes, Contains, doing, DupRow, each_at_page, emptying, false, find_all, find_passes, frame_found, frame_number, Frames, GuestPage, handled, handling, HasRoom, HasStayed, idle, IfSome, if◌then◌else◌, is_best, is_restless, IsDupOf, IsForZero, IsJoined, IsLaid, IsSound, item_count, joining, KeeperStep, KeeperView, leaving, lies_on, List, lying, MakesSteps, mapped, MatchOption, May, MayJoin, Merged, merged_into, merged_state, MOST_REFERENCES, nat_tests, None, not, Option, page_visited, PagesView, paired, pairing, partner, Performs, Placed, Reached, refl, Row, row_at, row_visited, row_visiting, same_Some, shared_state, Some, sound_row_visited, state_of, Sub, subst, sym, true, true≢false, view_of, visited, VisitsPage, Zero, ℕ, ◌-◌, ◌∙◌, ◌∷◌, ◌≡◌, ◌≤◌}
 use Rattle.ksm_base.specs.declared.row.PageState.TheVariants.{Private}
-use Rattle.frame_table.specs.Kept.{Allocates}
+use Rattle.frame_table.specs.Kept.{Did}
 use Rattle.ksm_book.proofs.ByPage.{found_page, row_of_page}
 use Rattle.ksm_book.proofs.Keeping.{left_placed, left_spends, may_leave}
 use Rattle.ksm_book.proofs.Laying.{laid_rows}
@@ -50,7 +50,7 @@ pub at_row : (P : Row → Type 0) (page : GuestPage) (rows : List Row) (row : Ro
 at_row P page rows row found is = subst (λ o. MatchOption o (true ≡ false) P) found is
 
 -- a step of the keeper was made, as its call says
-pub made_by : {v w : KeeperView} {e : KeeperStep} → Allocates v e w → MakesSteps v w (e ∷ [])
+pub made_by : {v w : KeeperView} {e : KeeperStep} → Did v e w → MakesSteps v w (e ∷ [])
 made_by {v} {w} {e} did = made_one v w e did.0 did.1
 
 -- a book, seen as v, lies lawfully, and something is so of the row of a page

@@ -7,7 +7,7 @@ ghost use Rattle.frame_core.specs.declared.event.KeeperStep.TheVariants.{Reap, P
 ghost use Rattle.frame_core.specs.declared.event.KeeperStep.TheVariants.{Withdraw, Freeze, Word};
 ghost use Rattle.frame_core.specs.Ledger.{frame_at, first_ledger};
 ghost use Rattle.frame_core.specs.State.{frame_word, count_in};
-ghost use Rattle.frame_table.specs.Kept.{May, did, Allocates};
+ghost use Rattle.frame_table.specs.Kept.{May, did, Did};
 ghost use Rattle.ksm_tree.specs.NumberSets.{Marks};
 ghost use Rattle.ksm_book.specs.FrameSets.{NoneOf, IsFirstOf};
 ghost use Rattle.ksm_book.specs.Steps.{free_kind, dying_kind};
@@ -126,7 +126,7 @@ impl FrameKeeper {
     pub fn add(&mut self, table: &FrameTable, frame: u32)
         requires own { self.old.table ≡ table.now }
         requires may { May self.old (Add frame) }
-        ensures { Allocates self.old (Add frame) self.new }
+        ensures { Did self.old (Add frame) self.new }
     {
         self.keeper.add(table, frame);
     }
@@ -135,7 +135,7 @@ impl FrameKeeper {
     pub fn sub(&mut self, table: &FrameTable, frame: u32)
         requires own { self.old.table ≡ table.now }
         requires may { May self.old (Sub frame) }
-        ensures { Allocates self.old (Sub frame) self.new }
+        ensures { Did self.old (Sub frame) self.new }
     {
         self.keeper.sub(table, frame);
         // With a reference left, it is of the kind that it was.
@@ -160,7 +160,7 @@ impl FrameKeeper {
     pub fn raise(&mut self, table: &FrameTable, frame: u32)
         requires own { self.old.table ≡ table.now }
         requires may { May self.old (Raise frame) }
-        ensures { Allocates self.old (Raise frame) self.new }
+        ensures { Did self.old (Raise frame) self.new }
     {
         self.keeper.raise(table, frame);
         // It was free, and not dying.
