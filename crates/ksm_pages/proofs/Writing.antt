@@ -289,6 +289,11 @@ module _ (s : Inside) (are : AreRows s) where
       viewed_gone now v seen_as =
           ap (λ held. record { held = held; restless = now; pass = s.pass }) held_gone ∙ ap (λ (w : RowsView). record w { held = without_held page w.held; restless = now }) seen_as
 
+-- where a page has no row, none is seen
+pub nowhere_seen : (s : Inside) → AreRows s → (page : GuestPage) → None ≡ key_in s.order page → (v : RowsView) → view_of s ≡ v → held_at page v.held ≡ None
+nowhere_seen s are page told v is =
+    ap (λ (w : RowsView). held_at page w.held) (sym is) ∙ held_nowhere s.entries s.order are.ascending are.filed s.pass page (sym told)
+
 -- where a page has no row, the rows without that page are seen as before
 pub nothing_gone : (s : Inside) → AreRows s → (page : GuestPage) → None ≡ key_in s.order page → (v : RowsView) → view_of s ≡ v → v ≡ record v { held = without_held page v.held }
 nothing_gone s are page told v is =

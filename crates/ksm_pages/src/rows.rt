@@ -13,7 +13,7 @@ ghost use Rattle.ksm_base.specs.declared.row.PageState.TheVariants.{Private, Wai
 ghost use Rattle.ksm_base.specs.Apply.{fresh_row};
 ghost use Rattle.ksm_base.specs.Rows.{InPageOrder, comes_before, settled, shared_state};
 ghost use Rattle.ksm_base.specs.Visit.{after_cursor};
-ghost use Rattle.ksm_rmap.specs.Items.{AreAscending as AreRising};
+ghost use Rattle.ksm_rmap.specs.Items.{AreAscending as AreRising, has_item};
 ghost use Rattle.ksm_pages.specs.Filed.{AreFiled, AreListed, IsTally, IsUnder, key_in};
 ghost use Rattle.ksm_pages.specs.Held.{AreAllListed, Reaches, change_held, held_at, held_of, last_or, mapped, on_row};
 ghost use Rattle.ksm_pages.specs.Held.{pages_ahead, pages_between, rows_of, with_held, without_held};
@@ -289,12 +289,14 @@ impl Rows {
         Ok(spot)
     }
 
-    /// The row of a page goes, if it has one.
+    /// The row of a page goes, if it has one, and the page is not listed any more.
     pub fn remove(&mut self, spot: Spot)
-        ensures { self.new ≡ record self.old {
+        ensures gone { self.new ≡ record self.old {
           held = without_held spot.page self.old.held;
           restless = self.new.restless;
         } }
+        ensures unlisted { is_some (held_at spot.page self.old.held) ≡ true
+            → has_item spot.page self.new.restless.pages ≡ false }
     {
         let Some(key) = key_of(&self.entries, &self.order, spot) else {
             return;

@@ -1,3 +1,4 @@
+use Rattle.ksm_pages.proofs.Names.{ap, is_some}
 use Rattle.ksm_pages.proofs.Turning.{HasLeft, held_as, known_left, lay, parted}
 use Rattle.ksm_pages.proofs.pages.Pages.remove.Goals as goal
 
@@ -6,10 +7,13 @@ gone : (c : goal.After-remove)
 gone c = known_left c.self.invariant c.self.view_is c.requires c.leave-left.ensures
 
 pub invariant_of-self : goal.invariant_of-self
-invariant_of-self c = (parted (gone c) c.remove.new.self (held_as c.remove.ensures)).lawful
+invariant_of-self c = (parted (gone c) c.remove.new.self (held_as c.remove.ensures.gone)).lawful
 
 pub returns-clause-left : goal.returns-clause-left
 returns-clause-left c = lay (gone c) c.deref.ensures.value
 
 pub returns-clause-gone : goal.returns-clause-gone
-returns-clause-gone c = (parted (gone c) c.remove.new.self (held_as c.remove.ensures)).told_as
+returns-clause-gone c = (parted (gone c) c.remove.new.self (held_as c.remove.ensures.gone)).told_as
+
+pub returns-clause-unlisted : goal.returns-clause-unlisted
+returns-clause-unlisted c = c.remove.ensures.unlisted (ap is_some (gone c).found)

@@ -1,10 +1,11 @@
-use Rattle.ksm_pages.proofs.Names.{ap, find, held_in, is_of, is_some, IsRows, Named, Private, subst, sym, ◌∙◌}
-use Rattle.ksm_pages.proofs.Writing.{can_be, nothing_gone, still_gone, viewed_gone}
+use Rattle.ksm_pages.proofs.Names.{ap, find, has_item, held_in, is_of, is_some, IsRows, Listing, Named, Private, subst, sym, true≢false, ◌∙◌}
+use Rattle.ksm_pages.proofs.Listings.{without_lacks}
+use Rattle.ksm_pages.proofs.Writing.{can_be, nothing_gone, nowhere_seen, still_gone, viewed_gone}
 use Rattle.ksm_pages.proofs.Options.{some_mapped}
 use Rattle.ksm_pages.proofs.rows.Rows.remove.Goals as goal
 
-pub returns-in_default : goal.returns-in_default
-returns-in_default c = nothing_gone c.self.inside c.self.invariant c.args.spot.page c.in_default.ensures.told c.args.self.now c.self.view_is
+pub returns-in_default-clause-gone : goal.returns-in_default-clause-gone
+returns-in_default-clause-gone c = nothing_gone c.self.inside c.self.invariant c.args.spot.page c.in_default.ensures.told c.args.self.now c.self.view_is
 
 pub change-requires : goal.change-requires
 change-requires c =
@@ -22,8 +23,16 @@ invariant_of-self c =
     (still_gone s c.self.invariant c.in-Some.ensures.there c.remove-gone.ensures.value
     c.remove-gone.new.self c.remove-gone.ensures.updates c.remove-2.new.self c.remove-2.ensures c.state.ensures c.change.ensures)
 
-pub returns : goal.returns
-returns c =
+pub returns-clause-gone : goal.returns-clause-gone
+returns-clause-gone c =
     let s = c.self.inside in
     ap (λ order. record { held = held_in s.pass c.remove-gone.new.self order; restless = c.remove-2.new.self; pass = s.pass }) c.remove.ensures
     ∙ viewed_gone s c.self.invariant c.in-Some.ensures.there c.remove-gone.ensures.value c.remove-gone.new.self c.remove-gone.ensures.updates c.remove-2.new.self c.args.self.now c.self.view_is
+
+pub returns-in_default-clause-unlisted : goal.returns-in_default-clause-unlisted
+returns-in_default-clause-unlisted c known =
+    absurd (true≢false (sym known ∙ ap is_some (nowhere_seen c.self.inside c.self.invariant c.args.spot.page c.in_default.ensures.told c.args.self.now c.self.view_is)))
+
+pub returns-clause-unlisted : goal.returns-clause-unlisted
+returns-clause-unlisted c _ =
+    ap (λ (l : Listing). has_item c.args.spot.page l.pages) c.remove-2.ensures ∙ without_lacks c.args.spot.page c.self.inside.restless.pages
