@@ -374,7 +374,9 @@ fn interrupted_reads_are_tried_again(rt: HostRuntime) -> Result<(), Fail> {
 fn a_line_in_many_pieces(rt: HostRuntime) -> Result<(), Fail> {
     let digits = "ab".repeat(rt.alloc(), 64)?;
     let long = "a".repeat(rt.alloc(), 257)?;
-    let script = format!(in rt.alloc(); "reg 65535 4294967295 0 {digits}\nget 65535 4294967295\n{long}\n")?;
+    let script = format!(in rt.alloc();
+        "reg 65535 4294967295 0 {digits}\nget 65535 4294967295\n{long}\n"
+    )?;
     let wanted = format!(in rt.alloc(); "ok\n{digits}\nbad line 3\n")?;
     let run = played_by(&rt, rt.alloc(), 1, script.as_str().as_bytes(), None)?;
     assert_eq!(rt; run.0, Status::NotUnderstood);
