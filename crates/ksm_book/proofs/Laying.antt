@@ -202,7 +202,7 @@ same_in zero i a = refl
 same_in (suc n) zero a = refl
 same_in (suc n) (suc i) a = same_in n i a
 
-first_note : (sh : Shape) (f : ℕ) → frame_at (first_ledger sh) f ≡ blank
+pub first_note : (sh : Shape) (f : ℕ) → frame_at (first_ledger sh) f ≡ blank
 first_note sh f = same_in (frames_of sh) f blank
 
 -- pages lie lawfully as they are opened, with no rows and no dups, where the keeper has its first ledger
