@@ -7,7 +7,7 @@ pub invariant_of-result : goal.invariant_of-result
 invariant_of-result c =
     let few = frames_at_most c.args.keeper.table.shape c.requires.checked in
     let noted : (f : ℕ) → frame_at c.args.keeper.ledger f ≡ blank
-        = λ f. ap (λ (k : Ledger). frame_at k f) c.requires.new ∙ first_note c.args.keeper.table.shape f in
+    = λ f. ap (λ (k : Ledger). frame_at k f) c.requires.new ∙ first_note c.args.keeper.table.shape f in
     record {
       free = record {
         room = omega (arith, few, c.full.ensures.wide);
