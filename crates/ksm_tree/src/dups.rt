@@ -21,9 +21,11 @@ ghost use Rattle.ksm_tree.specs.Choosing.{ArePlacesToJoin, best_of, found_at, of
 ghost use Rattle.ksm_tree.specs.Choosing.{choice_of, is_behind, unless_behind};
 ghost use Rattle.ksm_tree.specs.Dups.{AreDups, MayBecomeDup, change_items, dup_at, dup_of, is_live, is_stale};
 ghost use Rattle.ksm_tree.specs.Dups.{items_in, items_of, rows_of, stands_at, with_new, without_place};
-ghost use Rattle.ksm_tree.specs.Index.{group_places};
+ghost use Rattle.ksm_tree.specs.Index.{group_places, is_in_use};
 ghost use Rattle.ksm_tree.specs.Numbered.{IsUnused, number_of};
+ghost use Rattle.ksm_tree.specs.Reserve.{KeepsReserve};
 ghost use Rattle.ksm_tree.specs.Waits.{IsAdded, IsRemoved, waiting_page};
+ghost use Rattle.ksm_tree.specs.declared.groups.TheConstants.{SPARE};
 
 use crate::choice::Choice;
 use crate::dup::{Best, Dup};
@@ -84,6 +86,7 @@ impl Dups {
           next = 0;
           waiting = [];
           numbers = [];
+          most = SPARE;
         }) }
         ensures memory { IfErr result (λ fault. fault ≡ Fault.Memory) }
     {
@@ -113,7 +116,9 @@ impl Dups {
     #[inline(always)]
     pub fn group(&mut self, guess: u32, tree: u32, bytes: &PageBytes) -> Result<u32, Fault>
         ensures numbered { IfOk result (λ number. number_of tree bytes.now self.new.numbers ≡ Some number) }
-        ensures kept { self.new ≡ record self.old { numbers = self.new.numbers } }
+        ensures kept { self.new ≡ record self.old { numbers = self.new.numbers; most = self.new.most } }
+        ensures reserve { KeepsReserve (is_in_use self.new) tree bytes.now self.old.numbers self.new.numbers
+            self.old.most self.new.most }
         ensures memory { IfErr result (λ fault. fault ≡ Fault.Memory) }
         ensures lawful { AreDups self.old }
     {
@@ -272,8 +277,9 @@ impl Dups {
           }) self.old.dups;
           next = self.old.next + 1;
           numbers = self.new.numbers;
+          most = self.new.most;
         }) }
-        ensures kept { OnErr result (self.new ≡ record self.old { numbers = self.new.numbers }) }
+        ensures kept { OnErr result (self.new ≡ record self.old { numbers = self.new.numbers; most = self.new.most }) }
         ensures memory { IfErr result (λ fault. fault ≡ Fault.Memory) }
     {
         let group = self.group(NO_NUMBER, tree, bytes)?;
