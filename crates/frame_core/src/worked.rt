@@ -1,15 +1,17 @@
 //! Worked runs: what the trace of a run tells of holders, named words and words read.
-ghost use Rattle.std.specs.Prelude.{◌≡◌, true, false, [], ◌∷◌, ◌++◌, Some, None};
+ghost use Rattle.std.specs.Prelude.{◌≡◌, ◌+◌, true, false, [], ◌∷◌, ◌++◌, Some, None};
 ghost use Rattle.ksm_base.specs.declared.limits.TheConstants.{PLACE_SPAN};
 ghost use Rattle.ksm_base.specs.declared.page.TheConstants.{PAGE_WORDS};
 ghost use Rattle.frame_core.specs.declared.event.Event.TheVariants.{Reader, Keeper};
-ghost use Rattle.frame_core.specs.declared.event.KeeperStep.TheVariants.{Reap, Put, Raise, Open, Add, Sub, Publish, Withdraw, Freeze, Word};
+ghost use Rattle.frame_core.specs.declared.event.KeeperStep.TheVariants.{Reap, Put, Raise, Open, Add, Sub, Publish, Replace, Withdraw, Freeze, Word};
 ghost use Rattle.frame_core.specs.declared.event.ReaderStep.TheVariants.{LoadPlace, LoadFrame, Exchange, Leave, LoadWord};
+ghost use Rattle.frame_core.specs.declared.frame.Kind.TheVariants.{Stable};
+ghost use Rattle.frame_core.specs.Ledger.{frame_at, named_at};
 ghost use Rattle.frame_core.specs.Safe.{IsSafe, GivenUnheld};
 ghost use Rattle.frame_core.specs.Seat.{aim_at};
 ghost use Rattle.frame_core.specs.Steps.{step};
-ghost use Rattle.frame_core.specs.Trace.{run_of, life_of, holders, named_word, words_read, given_since, HoldsRightly};
-ghost use Rattle.frame_core.specs.Worked.{least, trace_of, IsRefused, opened, dying, published, begins, two_lives, held, taken, and_then, taken_and_writable, two_frames, named_and_private};
+ghost use Rattle.frame_core.specs.Trace.{run_of, life_of, holders, named_word, place_loaded, words_read, given_since, HoldsRightly};
+ghost use Rattle.frame_core.specs.Worked.{least, trace_of, IsRefused, IsRefusedOfTwo, opened, dying, published, begins, two_lives, held, taken, and_then, taken_and_writable, two_frames, named_and_private, given_up_and_private, replaced, with_two};
 
 /// Two lives in one word: the exchange fails though the count is the one that was loaded, so nobody holds the frame in its second life,
 /// which was named nowhere.
@@ -68,8 +70,29 @@ pub fn places_that_refuse_the_keeper()
     ensures unopened { IsRefused [] (Keeper (Publish 0 0)) × IsRefused (Keeper (Raise 0) ∷ []) (Keeper (Publish 0 0)) }
     ensures dying { IsRefused dying (Keeper (Publish 0 0)) }
     ensures live { IsRefused published (Keeper (Publish 0 0)) × IsRefused published (Keeper (Withdraw 0)) }
-    ensures live_beside { step two_frames (run_of two_frames named_and_private).state (Keeper (Publish 0 1)) ≡ None }
-    ensures empty_beside { ¬ (step two_frames (run_of two_frames named_and_private).state (Keeper (Publish 1 1)) ≡ None) }
+    ensures live_beside { IsRefusedOfTwo named_and_private (Keeper (Publish 0 1)) }
+    ensures empty_beside { ¬ IsRefusedOfTwo named_and_private (Keeper (Publish 1 1)) }
+{}
+
+/// What the keeper may not replace: a place or a frame outside the table, by a frame that is not private, at a place that names nothing or a
+/// frame that was given up. A place that is live it may.
+pub fn places_that_are_not_replaced()
+    ensures place { IsRefusedOfTwo named_and_private (Keeper (Replace 2 1)) }
+    ensures frame { IsRefusedOfTwo named_and_private (Keeper (Replace 0 2)) }
+    ensures stable { IsRefusedOfTwo named_and_private (Keeper (Replace 0 0)) }
+    ensures unopened { IsRefusedOfTwo published (Keeper (Replace 0 1)) × IsRefusedOfTwo (published ++ Keeper (Raise 1) ∷ []) (Keeper (Replace 0 1)) }
+    ensures empty { IsRefusedOfTwo named_and_private (Keeper (Replace 1 1)) }
+    ensures given_up { IsRefusedOfTwo given_up_and_private (Keeper (Replace 0 1)) × ¬ IsRefusedOfTwo given_up_and_private (Keeper (Publish 0 1)) }
+    ensures live { ¬ IsRefusedOfTwo named_and_private (Keeper (Replace 0 1)) }
+{}
+
+/// A place that is replaced names the new frame, which is stable with the words stored to it; the old frame stays as it was, and is named no more.
+pub fn a_place_that_is_replaced()
+    ensures named { named_at (with_two replaced).state.ledger 0 ≡ Some record { frame = 1; generation = 1 } }
+    ensures stable { (frame_at (with_two replaced).state.ledger 1).kind ≡ Stable }
+    ensures old { frame_at (with_two replaced).state.ledger 0 ≡ frame_at (with_two published).state.ledger 0 }
+    ensures words { (named_word 1 1 0 (with_two replaced).trace ≡ Some 9) × (named_word 1 1 0 (with_two named_and_private).trace ≡ None) }
+    ensures found { place_loaded 0 (with_two (replaced ++ Reader 0 (LoadPlace 0) ∷ [])).trace ≡ Some (0, PLACE_SPAN + 1) }
 {}
 
 /// What lies outside the table: a frame, a place, a word or a seat that it does not have.
