@@ -1,6 +1,6 @@
 -- Worked runs of the least table, one frame, one place and one seat: what is told from their traces. Own.
-use Rattle.std.specs.Prelude.{◌≡◌, ℕ, List, [], ◌∷◌, ◌++◌, Some, None}
-use Rattle.frame_core.specs.Terms.{Shape, Event, Reader, Keeper, LoadPlace, LoadFrame, Exchange, LoadWord, Put, Raise, Open, Add, Sub, Reap, Publish, Replace, Private, Ledger}
+use Rattle.std.specs.Prelude.{◌≡◌, ℕ, List, [], ◌∷◌, ◌++◌, replicate, Some, None}
+use Rattle.frame_core.specs.Terms.{Shape, Event, Reader, Keeper, LoadPlace, LoadFrame, Exchange, LoadWord, Put, Raise, Open, Add, Sub, Reap, Publish, Replace, Private, Stable, Ledger, ReaderStep, COUNT_SPAN, PLACE_SPAN, PAGE_WORDS}
 use Rattle.frame_core.specs.Steps.{step}
 use Rattle.frame_core.specs.Trace.{Entry, History, run_of}
 
@@ -81,3 +81,24 @@ with_two events = run_of two_frames events
 -- after these events of two frames this one is not allowed
 abbrev pub IsRefusedOfTwo : List Event → Event → Type 0
 IsRefusedOfTwo events e = step two_frames (with_two events).state e ≡ None
+
+-- a log: the place 0 named the frame 0 in its life 1, and the frame's word was this
+abbrev pub loads : ℕ → List (ReaderStep × ℕ)
+loads word = (LoadPlace 0, PLACE_SPAN) ∷ (LoadFrame, word) ∷ []
+
+-- the frame 0 is stable in this life, and the place 0 names that; its count is this, and this was done
+abbrev pub live_with : ℕ → ℕ → List Entry → History
+live_with generation count trace = record {
+  state = record (run_of least []).state {
+    ledger = record {
+      frames = record { kind = Stable; base = 2; generation = generation; content = replicate PAGE_WORDS 0 } ∷ [];
+      places = Some record { frame = 0; generation = generation } ∷ [];
+    };
+    counts = count ∷ [];
+  };
+  trace = trace;
+}
+
+-- the seat 0 found that the frame, which the place had named in its life 1, had no reference
+abbrev pub found_unreferenced : List Entry
+found_unreferenced = record { event = Reader 0 LoadFrame; word = COUNT_SPAN } ∷ record { event = Reader 0 (LoadPlace 0); word = PLACE_SPAN } ∷ []
