@@ -9,7 +9,7 @@ ghost use Rattle.frame_core.specs.declared.event.ReaderStep.TheVariants as reade
 ghost use Rattle.frame_core.specs.declared.seat.Aim.{Aim};
 ghost use Rattle.frame_core.specs.declared.seat.Phase.TheVariants.{Idle, Placed, Counted, Held};
 ghost use Rattle.frame_core.specs.Ledger.{frame_at};
-ghost use Rattle.frame_core.specs.State.{place_word, frame_word};
+ghost use Rattle.frame_core.specs.State.{frame_word};
 ghost use Rattle.frame_core.specs.Words.{frame_word_at, page_at, content_at, words_for};
 ghost use Rattle.frame_table.specs.Keeping.{Keeps, MayKeep, word_of_frame};
 ghost use Rattle.frame_table.specs.Reading.{IsHolder, StepsNow};
