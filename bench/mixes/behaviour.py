@@ -18,7 +18,8 @@ from mixes import Page
 
 TOP = os.path.dirname(os.path.dirname(os.path.dirname(os.path.abspath(__file__))))
 sys.path.insert(0, TOP)
-from measure_lib import choosing, excerpt, processes, program, savings, units  # pylint: disable=wrong-import-position
+from measure_lib import choosing, excerpt, processes, program  # pylint: disable=wrong-import-position
+from measure_lib import savings, units, whole  # pylint: disable=wrong-import-position
 from measure_lib.census import Census, Content, census_of  # pylint: disable=wrong-import-position
 from measure_lib.estimate import Estimate, Met  # pylint: disable=wrong-import-position
 from measure_lib.look import Look  # pylint: disable=wrong-import-position
@@ -283,6 +284,40 @@ def excerpts_on_nodes() -> str:
             "and two wrong formulas are found, one of them for large contents alone")
 
 
+def laid(child: int, other: int) -> dict[str, object]:
+    """What the proved book counts of all pages of two children."""
+    run = measure("--mergeable", "--book", "--json", "--program", excerpt.PROGRAM, str(child), str(other))
+    assert run.returncode == 0, run.stderr
+    return json.loads(run.stdout)["checked"]
+
+
+def all_pages() -> str:
+    """All pages are laid before the proved book, more than it has frames, and counted alike; where they leave more
+    frames in use than it has, it is said and an excerpt laid; a formula that is wrong is found."""
+    if not excerpt.is_built():
+        return "all pages before the proved book: not tried, since ksmbook is not built"
+    contents = [Page(i % 300) for i in range(1400)]
+    child, other, large = holding(contents), holding(contents[200:900]), holding([Page(i) for i in range(1400)])
+    told, beyond = laid(child, other), laid(child, large)
+    assert told["pages"] == 2100 and told["settings"] == 6 and told["unfit"] == 2, told
+    rows = {(row["max_page_sharing"], row["use_zero_pages"]): row["counted"] for row in told["laid"]}
+    assert rows[256, 1] == {"shared": 299, "sharing": 1794, "unshared": 0, "ksm_zero_pages": 7}, rows
+    assert not beyond["laid"] and "frames" in beyond["why_not_all"] and 0 < beyond["pages"] <= 240, beyond
+    look, right = Look(chosen(child), only_marked=True), savings.Saving.add
+    look.once(Meanwhile(lambda: None))
+    savings.Saving.add = lambda told, copies, *more: right(told, copies + (copies == 5), *more)
+    try:
+        whole.check(look, census_of(look, [], 256), excerpt.PROGRAM, lambda _: None)
+        raise AssertionError("a wrong formula was not found")
+    except Trouble as trouble:
+        assert trouble.status == NOT_AS_PROVED
+    finally:
+        savings.Saving.add = right
+        for each in child, other, large:
+            end(each)
+    return "2,100 pages are laid before the proved book on 1,024 frames, and counted alike; a wrong formula is found"
+
+
 def is_of_kernel(pid: int) -> bool:
     """Tells whether a process is there and a thread of the kernel."""
     try:
@@ -394,5 +429,6 @@ def how_numbers_are_written() -> str:
 
 
 ALL = [chosen_by_names, pinned_pages, interrupted, bounds_of_few_blocks, over_time, how_numbers_are_written,
-       excerpts_on_nodes, one_that_ends, one_that_ended_before, one_that_grows, pages_that_change, frames_of_a_fork,
+       excerpts_on_nodes, all_pages,
+       one_that_ends, one_that_ended_before, one_that_grows, pages_that_change, frames_of_a_fork,
        without_permission, statuses, nothing_of_contents]
