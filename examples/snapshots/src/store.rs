@@ -1,7 +1,7 @@
 //! The store: images of memory, page by page, and each content of a page once. A book decides which pages share.
 
 use ksmbook::{Book, Command, Error, GuestPage, Page, Shape};
-use std::collections::{BTreeMap, HashMap};
+use std::collections::{BTreeMap, HashMap, HashSet};
 use std::fmt;
 use std::sync::{Arc, Mutex, MutexGuard, PoisonError, RwLock};
 
@@ -57,6 +57,19 @@ pub struct Stat {
     pub sharing: u64,
     /// Empty pages.
     pub zero: u64,
+}
+
+/// What the store has of an image.
+#[derive(Clone, Debug, PartialEq, Eq)]
+pub struct Listed {
+    /// Its name.
+    pub name: String,
+    /// Its pages.
+    pub pages: u64,
+    /// Those that are empty.
+    pub zero: u64,
+    /// Contents that no other image has: what would go with it.
+    pub alone: u64,
 }
 
 // The words by which a book tells contents apart; an empty page has those that it knows as the zero page.
@@ -224,6 +237,32 @@ impl Store {
         let image = self.image(name)?;
         let shard = *image.shards.get(page as usize).ok_or(Fault::Unknown)?;
         locked(&self.shards[shard as usize]).read(GuestPage { guest: image.guest, page })
+    }
+
+    // The words of each page of an image.
+    fn words_of(&self, image: &Image) -> Result<Vec<Page>, Fault> {
+        let read = |(shard, page): (&u32, u32)| {
+            locked(&self.shards[*shard as usize]).book.read(GuestPage { guest: image.guest, page }).ok_or(Fault::Unknown)
+        };
+        image.shards.iter().zip(0..).map(read).collect()
+    }
+
+    /// The images by name, with what the store has of each. Nobody may take one out meanwhile.
+    pub fn list(&self) -> Result<Vec<Listed>, Fault> {
+        let images = self.images.read().unwrap_or_else(PoisonError::into_inner);
+        let mut having: HashMap<Page, u64> = HashMap::new();
+        let mut listed = Vec::new();
+        for (name, image) in images.iter() {
+            let words = self.words_of(image)?;
+            let zero = words.iter().filter(|words| **words == [0; 8]).count() as u64;
+            let contents: HashSet<Page> = words.into_iter().filter(|words| *words != [0; 8]).collect();
+            for words in &contents {
+                *having.entry(*words).or_default() += 1;
+            }
+            listed.push((Listed { name: name.clone(), pages: image.shards.len() as u64, zero, alone: 0 }, contents));
+        }
+        let alone = |contents: HashSet<Page>| contents.iter().filter(|words| having[*words] == 1).count() as u64;
+        Ok(listed.into_iter().map(|(image, contents)| Listed { alone: alone(contents), ..image }).collect())
     }
 
     /// What the store has.
