@@ -30,7 +30,8 @@
  *   - the other pointers point to as much as is said here, none of it part of a handle; none of two pointers in a call is the same;
  *   - no call is made from a signal handler, or in the child of a fork of a program with threads.
  *
- * Link libksmbook: `pkg-config --cflags --libs ksmbook` where it is installed.
+ * Link libksmbook: `pkg-config --cflags --libs ksmbook` where it is installed; or libksmbook-host, of which a table is as large as a host's memory:
+ * `pkg-config --cflags --libs ksmbook-host`. A program links one of them.
  *
  * The ABI: KSM_VERSION_MAJOR is in the name of the shared library. Within one major version no number, type or call changes its meaning or its
  * layout; a minor version may add calls and numbers, so treat a number that you do not know by its range: below 10 done, from 10 on refused.
@@ -79,11 +80,19 @@ typedef struct ksm_shared { uint64_t inside[32]; } ksm_shared;
 /* How many words a page has. */
 #define KSM_PAGE_WORDS 8
 
-/* The limits of a table, and how many references of its keeper a frame has at most. */
-#define KSM_MOST_NODES 4
-#define KSM_MOST_FRAMES_PER_NODE 256
-#define KSM_MOST_PASSES 16
-#define KSM_MOST_LIVES ((uint64_t)1 << 40)
+/* The limits of a table, and how many references of its keeper a frame has at most. There are two libraries of these calls: libksmbook, and
+   libksmbook-host of a host's size. Their ABI is the same; KSM_HOST, which `pkg-config --cflags ksmbook-host` defines, is for the limits alone. */
+#if defined(KSM_HOST)
+#define KSM_MOST_NODES 64 /* of libksmbook-host */
+#define KSM_MOST_FRAMES_PER_NODE 1048576 /* of libksmbook-host */
+#define KSM_MOST_PASSES 256 /* of libksmbook-host */
+#define KSM_MOST_LIVES ((uint64_t)1 << 36) /* of libksmbook-host */
+#else
+#define KSM_MOST_NODES 4 /* of libksmbook */
+#define KSM_MOST_FRAMES_PER_NODE 256 /* of libksmbook */
+#define KSM_MOST_PASSES 16 /* of libksmbook */
+#define KSM_MOST_LIVES ((uint64_t)1 << 40) /* of libksmbook */
+#endif
 #define KSM_MOST_TRIES 64
 #define KSM_MOST_REFERENCES 1024
 

@@ -29,6 +29,21 @@ pub struct Shape {
     pub tries: u32,
 }
 
+/// The limits of libksmbook-host.
+#[cfg(feature = "host")]
+impl Shape {
+    /// How many nodes a table has at most.
+    pub const MOST_NODES: u32 = 64;
+    /// How many frames a node has at most.
+    pub const MOST_FRAMES_PER_NODE: u32 = 1_048_576;
+    /// How many passes a table has at most.
+    pub const MOST_PASSES: u32 = 256;
+    /// How many times a frame is given at most.
+    pub const MOST_LIVES: u64 = 1 << 36;
+}
+
+/// The limits of libksmbook; those of the feature `host` are larger.
+#[cfg(not(feature = "host"))]
 impl Shape {
     /// How many nodes a table has at most.
     pub const MOST_NODES: u32 = 4;
@@ -38,6 +53,9 @@ impl Shape {
     pub const MOST_PASSES: u32 = 16;
     /// How many times a frame is given at most.
     pub const MOST_LIVES: u64 = 1 << 40;
+}
+
+impl Shape {
     /// How many exchanges a lookup makes at most.
     pub const MOST_TRIES: u32 = 64;
     /// How many references on one frame are the keeper's at most, and so how many pages are merged into one.
