@@ -187,6 +187,8 @@ uint32_t ksm_reap_all(ksm_table *table, uint32_t *frames, size_t *count) {
  *
  * The row of counters that was published last is rows[newest % 2]. The next one is written to the other copy, and told by its number behind that. So
  * a row that is read between two looks at one number is whole: its copy is not written before a later number was told. Numbers only grow.
+ * Each store releases and each load acquires: who reads a word of a later row sees the number before that row at its second look, and who reads a
+ * number sees its row.
  */
 #define COUNTERS (sizeof(ksm_counters) / sizeof(uint64_t))
 
@@ -215,14 +217,22 @@ static uint32_t unlocked(shared *s, uint32_t answer) {
     return answer;
 }
 
+static uint64_t loaded(const _Atomic uint64_t *word) {
+    return atomic_load_explicit(word, memory_order_acquire);
+}
+
+static void store(_Atomic uint64_t *word, uint64_t value) {
+    atomic_store_explicit(word, value, memory_order_release);
+}
+
 static void publish(shared *s) {
     ksm_counters counters;
-    uint64_t row[COUNTERS], next = atomic_load(&s->newest) + 1;
+    uint64_t row[COUNTERS], next = loaded(&s->newest) + 1;
     (void)!ksm_book_counters(&s->book, &counters);
     memcpy(row, &counters, sizeof row);
     for (size_t i = 0; i < COUNTERS; i++)
-        atomic_store(&s->rows[next % 2][i], row[i]);
-    atomic_store(&s->newest, next);
+        store(&s->rows[next % 2][i], row[i]);
+    store(&s->newest, next);
 }
 
 uint32_t ksm_shared_counters(ksm_shared *book, ksm_counters *counters) {
@@ -231,12 +241,12 @@ uint32_t ksm_shared_counters(ksm_shared *book, ksm_counters *counters) {
     shared *s = inside(book);
     if (!atomic_load(&s->is_open))
         return KSM_CLOSED;
-    uint64_t row[COUNTERS], number, newest = atomic_load(&s->newest);
+    uint64_t row[COUNTERS], number, newest = loaded(&s->newest);
     do {
         number = newest;
         for (size_t i = 0; i < COUNTERS; i++)
-            row[i] = atomic_load(&s->rows[number % 2][i]);
-        newest = atomic_load(&s->newest);
+            row[i] = loaded(&s->rows[number % 2][i]);
+        newest = loaded(&s->newest);
     } while (newest != number);
     memcpy(counters, row, sizeof row);
     return KSM_DONE;
