@@ -11,10 +11,11 @@ pub const PAGE: usize = 4096;
 /// The bytes of a page.
 pub type Bytes = [u8; PAGE];
 
-/// How many contents a book is to have at most: each takes a frame, of which it has 1,024, and a page that is new takes
-/// one until it is merged.
-const CONTENTS: usize = 640;
 const NODES: u32 = 4;
+/// How many frames a node of a book has: several books, each with its own lock, serve several threads better than one.
+const FRAMES_PER_NODE: u32 = if Shape::MOST_FRAMES_PER_NODE < 8192 { Shape::MOST_FRAMES_PER_NODE } else { 8192 };
+/// How many contents a book is to have at most: each takes a frame, and a page that is new takes one until it is merged.
+const CONTENTS: usize = (NODES * FRAMES_PER_NODE) as usize * 5 / 8;
 
 /// Why a call of the store was refused.
 #[derive(Debug)]
@@ -105,7 +106,7 @@ struct Shard {
 
 impl Shard {
     fn open() -> Result<Shard, Error> {
-        let mut book = Book::open(Shape { nodes: NODES, frames_per_node: 256, passes: 1, ..Shape::SMALL })?;
+        let mut book = Book::open(Shape { nodes: NODES, frames_per_node: FRAMES_PER_NODE, passes: 1, ..Shape::SMALL })?;
         for knob in [Command::SetLimit(1024), Command::SetZeroPages(1), Command::SetRun(1)] {
             book.apply(knob)?;
         }
