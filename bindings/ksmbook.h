@@ -63,7 +63,7 @@ extern "C" {
 typedef struct ksm_table { void *at, *passes; uint32_t lock, unused; } ksm_table;
 typedef struct ksm_pass { void *at, *none; uint32_t lock, unused; } ksm_pass;
 
-/* A shared book; the same of it. */
+/* A shared book. Not open where all is zero either, and what is inside is the library's. */
 typedef struct ksm_shared { uint64_t inside[32]; } ksm_shared;
 
 /* A handle that is not open, as an expression. */
