@@ -1,5 +1,6 @@
 /*
- * What stands before the proved calls of ksmbook.h: each pointer is tested for NULL, tables get their numbers, and the passes of a table their lock.
+ * What stands before the proved calls of ksmbook.h: each pointer is tested for NULL, tables get their numbers, the passes of a table their lock,
+ * and a shared book its own.
  *
  * The calls of crates/ksm_ffi have the header's names, but that release/library gives them the prefix `proved_` as it joins both to one library.
  * A handle is there one pointer, which a proved call may take out of its place for the time of the call. So a table has two: that of its keeper
@@ -7,7 +8,10 @@
  */
 #include "ksmbook.h"
 
+#include <pthread.h>
 #include <sched.h>
+#include <stdatomic.h>
+#include <string.h>
 
 typedef struct handle { void *at; } handle;
 
@@ -176,6 +180,216 @@ uint32_t ksm_reap_all(ksm_table *table, uint32_t *frames, size_t *count) {
         frames[left++] = frame;
     }
     *count = left;
+    return answer;
+}
+
+/*
+ * A shared book.
+ *
+ * The row of counters that was published last is rows[newest % 2]. The next one is written to the other copy, and told by its number behind that. So
+ * a row that is read between two looks at one number is whole: its copy is not written before a later number was told. Numbers only grow.
+ * Each store releases and each load acquires: who reads a word of a later row sees the number before that row at its second look, and who reads a
+ * number sees its row.
+ */
+#define COUNTERS (sizeof(ksm_counters) / sizeof(uint64_t))
+
+typedef struct shared {
+    ksm_table book; /* in a call by who has the lock, but for its passes */
+    pthread_mutex_t lock; /* all zero, it is free: PTHREAD_MUTEX_INITIALIZER of Linux */
+    uint32_t places; /* changes while no pass is out */
+    _Atomic uint32_t is_open;
+    _Atomic uint64_t newest, rows[2][COUNTERS];
+} shared;
+
+_Static_assert(sizeof(shared) <= sizeof(ksm_shared) && _Alignof(shared) <= _Alignof(ksm_shared), "a shared book has room in its handle");
+
+static shared *inside(ksm_shared *book) {
+    return (shared *)(void *)book;
+}
+
+static shared *locked(ksm_shared *book) {
+    shared *s = inside(book);
+    pthread_mutex_lock(&s->lock);
+    return s;
+}
+
+static uint32_t unlocked(shared *s, uint32_t answer) {
+    pthread_mutex_unlock(&s->lock);
+    return answer;
+}
+
+static uint64_t loaded(const _Atomic uint64_t *word) {
+    return atomic_load_explicit(word, memory_order_acquire);
+}
+
+static void store(_Atomic uint64_t *word, uint64_t value) {
+    atomic_store_explicit(word, value, memory_order_release);
+}
+
+static void publish(shared *s) {
+    ksm_counters counters;
+    uint64_t row[COUNTERS], next = loaded(&s->newest) + 1;
+    (void)!ksm_book_counters(&s->book, &counters);
+    memcpy(row, &counters, sizeof row);
+    for (size_t i = 0; i < COUNTERS; i++)
+        store(&s->rows[next % 2][i], row[i]);
+    store(&s->newest, next);
+}
+
+uint32_t ksm_shared_counters(ksm_shared *book, ksm_counters *counters) {
+    if (book == NULL || counters == NULL)
+        return KSM_NULL;
+    shared *s = inside(book);
+    if (!atomic_load(&s->is_open))
+        return KSM_CLOSED;
+    uint64_t row[COUNTERS], number, newest = loaded(&s->newest);
+    do {
+        number = newest;
+        for (size_t i = 0; i < COUNTERS; i++)
+            row[i] = loaded(&s->rows[number % 2][i]);
+        newest = loaded(&s->newest);
+    } while (newest != number);
+    memcpy(counters, row, sizeof row);
+    return KSM_DONE;
+}
+
+/* Passes are opened meanwhile by threads that have the lock of the passes alone, so an opening has that too. */
+static uint32_t shared_open(ksm_shared *book, uint32_t nodes, uint32_t frames_per_node, uint32_t passes, uint64_t last_generation, uint32_t tries,
+                            _Bool keeps) {
+    if (book == NULL)
+        return KSM_NULL;
+    shared *s = locked(book);
+    lock(&s->book.lock);
+    uint32_t answer = book_open(&s->book, nodes, frames_per_node, passes, last_generation, tries, keeps);
+    if (answer == KSM_DONE)
+        s->places = nodes * frames_per_node;
+    unlock(&s->book.lock);
+    if (answer == KSM_DONE) {
+        publish(s);
+        atomic_store(&s->is_open, 1);
+    }
+    return unlocked(s, answer);
+}
+
+uint32_t ksm_shared_open(ksm_shared *book, uint32_t nodes, uint32_t frames_per_node, uint32_t passes, uint64_t last_generation, uint32_t tries) {
+    return shared_open(book, nodes, frames_per_node, passes, last_generation, tries, 0);
+}
+
+uint32_t ksm_shared_open_kept(ksm_shared *book, uint32_t nodes, uint32_t frames_per_node, uint32_t passes, uint64_t last_generation, uint32_t tries) {
+    return shared_open(book, nodes, frames_per_node, passes, last_generation, tries, 1);
+}
+
+uint32_t ksm_shared_close(ksm_shared *book) {
+    if (book == NULL)
+        return KSM_NULL;
+    shared *s = locked(book);
+    uint32_t answer = ksm_table_close(&s->book);
+    if (answer == KSM_DONE)
+        atomic_store(&s->is_open, 0);
+    return unlocked(s, answer);
+}
+
+uint32_t ksm_shared_pass_open(ksm_shared *book, ksm_pass *pass) {
+    return book == NULL ? (uint32_t)KSM_NULL : ksm_pass_open(&inside(book)->book, pass);
+}
+
+uint32_t ksm_shared_pass_close(ksm_shared *book, ksm_pass *pass) {
+    return book == NULL ? (uint32_t)KSM_NULL : ksm_pass_close(&inside(book)->book, pass);
+}
+
+uint32_t ksm_shared_apply(ksm_shared *book, const ksm_command *command, ksm_made *made) {
+    if (book == NULL)
+        return KSM_NULL;
+    shared *s = locked(book);
+    uint32_t answer = ksm_book_apply(&s->book, command, made);
+    if (answer == KSM_DONE)
+        publish(s);
+    return unlocked(s, answer);
+}
+
+/* The other calls: under the lock that of the book, which tests the other pointers. */
+#define LOCKED(name, parameters, call, ...) \
+    uint32_t name parameters { \
+        if (book == NULL) \
+            return KSM_NULL; \
+        shared *s = locked(book); \
+        return unlocked(s, call(&s->book, __VA_ARGS__)); \
+    }
+
+LOCKED(ksm_shared_read, (ksm_shared *book, uint16_t guest, uint32_t page, uint64_t bytes[8]), ksm_book_read, guest, page, bytes)
+LOCKED(ksm_shared_ticket, (ksm_shared *book, uint16_t guest, uint32_t page, uint32_t *place), ksm_book_ticket, guest, page, place)
+LOCKED(ksm_shared_mappers, (ksm_shared *book, uint32_t place, uint64_t *pages, size_t room, uint64_t *count), ksm_book_mappers, place, pages, room,
+       count)
+LOCKED(ksm_shared_entries, (ksm_shared *book, uint64_t *count), ksm_book_entries, count)
+LOCKED(ksm_shared_entry, (ksm_shared *book, uint64_t number, ksm_command *command, uint32_t *answer, ksm_made *made), ksm_book_entry, number, command,
+       answer, made)
+
+/* An audit: the next place that nobody has drawn, and the workers. */
+typedef struct audit {
+    _Atomic uint64_t next;
+    uint64_t places;
+    ksm_row *rows;
+} audit;
+
+typedef struct worker {
+    audit *of;
+    ksm_pass pass;
+    pthread_t thread;
+} worker;
+
+static ksm_row looked_up(ksm_pass *pass, uint32_t place) {
+    ksm_row row = {0};
+    uint32_t where;
+    row.answer = ksm_find(pass, place);
+    if (row.answer == KSM_DONE) {
+        (void)!ksm_held(pass, &where, &row.frame, &row.life);
+        (void)!ksm_words(pass, row.words);
+        (void)!ksm_leave(pass);
+    }
+    return row;
+}
+
+static void *work(void *given) {
+    worker *w = given;
+    audit *of = w->of;
+    for (uint64_t place = atomic_fetch_add(&of->next, 1); place < of->places; place = atomic_fetch_add(&of->next, 1))
+        of->rows[place] = looked_up(&w->pass, (uint32_t)place);
+    return NULL;
+}
+
+/* Begins the work of each from the second on, in a thread of its own, and does that of the first here. */
+static void work_all(worker *workers, uint32_t count) {
+    uint32_t begun = 1;
+    while (begun < count && pthread_create(&workers[begun].thread, NULL, work, &workers[begun]) == 0)
+        begun++;
+    work(&workers[0]);
+    while (begun > 1)
+        pthread_join(workers[--begun].thread, NULL);
+}
+
+uint32_t ksm_shared_audit(ksm_shared *book, uint32_t threads, ksm_row *rows, size_t room, uint64_t *count) {
+    if (book == NULL || count == NULL || (rows == NULL && room > 0))
+        return KSM_NULL;
+    shared *s = inside(book);
+    audit of = {0};
+    worker workers[KSM_MOST_PASSES];
+    uint32_t out = 0, answer = threads == 0 || threads > KSM_MOST_PASSES ? KSM_SHAPE : KSM_DONE;
+    while (answer == KSM_DONE && out < threads) {
+        workers[out] = (worker){.of = &of, .pass = KSM_PASS_NONE};
+        answer = ksm_pass_open(&s->book, &workers[out].pass);
+        out += answer == KSM_DONE;
+    }
+    if (answer == KSM_DONE) {
+        /* A pass is out, so the book is open and stays so. */
+        *count = of.places = s->places;
+        of.rows = rows;
+        if (room < of.places)
+            answer = KSM_RANGE;
+        else
+            work_all(workers, threads);
+    }
+    while (out > 0)
+        (void)!ksm_pass_close(&s->book, &workers[--out].pass);
     return answer;
 }
 

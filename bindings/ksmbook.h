@@ -12,22 +12,26 @@
  * A frame is FREE, FILLING, PRIVATE, STABLE, DYING or RETIRED; each call below says where it is allowed.
  *
  * Or a BOOK keeps the frames: the pages of guests, of which those that read the same are merged (ksm_book_open, below). Its handle is that of
- * its table: passes are taken out of it, and it is closed, by the same calls; of the keeper's calls it allows none (KSM_KIND).
+ * its table: passes are taken out of it, and it is closed, by the same calls; of the keeper's calls it allows none (KSM_KIND). A SHARED BOOK
+ * (ksm_shared_open) is a book with a lock of its own, for several threads.
  *
  * What the calls promise is proved of the code that does them (crates/ksm_ffi); ksmbook.c, which stands before it, is read and tested: it tests
- * each pointer for NULL, draws the numbers by which tables tell their passes apart, takes the lock of a table's passes, and has the texts.
- * Each condition of a call is tested, and answered by a number. A call writes to its other pointers with KSM_DONE alone, but for two calls of a
- * book and ksm_reap_all, which say so; with any other number all is as it was there. A NULL is refused, as KSM_NULL, in each call.
+ * each pointer for NULL, draws the numbers by which tables tell their passes apart, takes the lock of a table's passes, has the texts, and what a
+ * shared book adds to a book.
+ * Each condition of a call is tested, and answered by a number. A call writes to its other pointers with KSM_DONE alone, but where it says
+ * otherwise; with any other number all is as it was there. A NULL is refused, as KSM_NULL, in each call.
  * What nothing tests, and you must keep:
- *   - a handle was set to KSM_TABLE_NONE or KSM_PASS_NONE before its first call, is no copy of another, and only these calls change it. It stays
- *     where it is while it is open;
+ *   - a handle was set to KSM_TABLE_NONE, KSM_PASS_NONE or KSM_SHARED_NONE before its first call, is no copy of another, and only these calls
+ *     change it. It stays where it is while it is open;
  *   - a handle is in one call at a time, but that any thread may open and close passes of a table at any time (ksm_pass_open, ksm_pass_close),
- *     also while another thread is in a call with the table. Else it may go from one thread to another where you order that (a lock, a thread's
- *     start or join, or an atomic of sequential consistency). So each reader thread has a pass of its own, and one thread at a time has the table;
+ *     also while another thread is in a call with the table, and that a shared book may be in any calls at once. Else it may go from one thread
+ *     to another where you order that (a lock, a thread's start or join, or an atomic of sequential consistency). So each reader thread has a pass
+ *     of its own, and one thread at a time has the table;
  *   - the other pointers point to as much as is said here, none of it part of a handle; none of two pointers in a call is the same;
  *   - no call is made from a signal handler, or in the child of a fork of a program with threads.
  *
- * Link libksmbook: `pkg-config --cflags --libs ksmbook` where it is installed.
+ * Link libksmbook: `pkg-config --cflags --libs ksmbook` where it is installed; or libksmbook-host, of which a table is as large as a host's memory:
+ * `pkg-config --cflags --libs ksmbook-host`. A program links one of them.
  *
  * The ABI: KSM_VERSION_MAJOR is in the name of the shared library. Within one major version no number, type or call changes its meaning or its
  * layout; a minor version may add calls and numbers, so treat a number that you do not know by its range: below 10 done, from 10 on refused.
@@ -59,23 +63,36 @@ extern "C" {
 typedef struct ksm_table { void *at, *passes; uint32_t lock, unused; } ksm_table;
 typedef struct ksm_pass { void *at, *none; uint32_t lock, unused; } ksm_pass;
 
+/* A shared book. Not open where all is zero either, and what is inside is the library's. */
+typedef struct ksm_shared { uint64_t inside[32]; } ksm_shared;
+
 /* A handle that is not open, as an expression. */
 #if defined(__cplusplus)
 #define KSM_TABLE_NONE (ksm_table{nullptr, nullptr, 0, 0})
 #define KSM_PASS_NONE (ksm_pass{nullptr, nullptr, 0, 0})
+#define KSM_SHARED_NONE (ksm_shared{{0}})
 #else
 #define KSM_TABLE_NONE ((ksm_table){NULL, NULL, 0, 0})
 #define KSM_PASS_NONE ((ksm_pass){NULL, NULL, 0, 0})
+#define KSM_SHARED_NONE ((ksm_shared){{0}})
 #endif
 
 /* How many words a page has. */
 #define KSM_PAGE_WORDS 8
 
-/* The limits of a table, and how many references of its keeper a frame has at most. */
-#define KSM_MOST_NODES 4
-#define KSM_MOST_FRAMES_PER_NODE 256
-#define KSM_MOST_PASSES 16
-#define KSM_MOST_LIVES ((uint64_t)1 << 40)
+/* The limits of a table, and how many references of its keeper a frame has at most. There are two libraries of these calls: libksmbook, and
+   libksmbook-host of a host's size. Their ABI is the same; KSM_HOST, which `pkg-config --cflags ksmbook-host` defines, is for the limits alone. */
+#if defined(KSM_HOST)
+#define KSM_MOST_NODES 64 /* of libksmbook-host */
+#define KSM_MOST_FRAMES_PER_NODE 1048576 /* of libksmbook-host */
+#define KSM_MOST_PASSES 256 /* of libksmbook-host */
+#define KSM_MOST_LIVES ((uint64_t)1 << 36) /* of libksmbook-host */
+#else
+#define KSM_MOST_NODES 4 /* of libksmbook */
+#define KSM_MOST_FRAMES_PER_NODE 256 /* of libksmbook */
+#define KSM_MOST_PASSES 16 /* of libksmbook */
+#define KSM_MOST_LIVES ((uint64_t)1 << 40) /* of libksmbook */
+#endif
 #define KSM_MOST_TRIES 64
 #define KSM_MOST_REFERENCES 1024
 
@@ -263,6 +280,47 @@ KSM_CALL ksm_book_mappers(ksm_table *book, uint32_t place, uint64_t *pages, size
 KSM_CALL ksm_book_counters(ksm_table *book, ksm_counters *counters);
 KSM_CALL ksm_book_entries(ksm_table *book, uint64_t *count);
 KSM_CALL ksm_book_entry(ksm_table *book, uint64_t number, ksm_command *command, uint32_t *answer, ksm_made *made);
+
+/* How an audit's lookup of a place ended, KSM_DONE to KSM_BUSY; and with KSM_DONE what was held, else zeroes. */
+typedef struct ksm_row {
+    uint32_t answer;
+    uint32_t frame;
+    uint64_t life;
+    uint64_t words[8];
+} ksm_row;
+
+/*
+ * A shared book: a book with a lock. Any thread may make any of these calls at any time, also while others do; what comes after the close is
+ * answered KSM_CLOSED. Each but the openings may answer KSM_CLOSED.
+ *
+ * ksm_shared_open and ksm_shared_open_kept open it, as ksm_book_open and ksm_book_open_kept do. KSM_DONE, KSM_OPEN, KSM_SHAPE, KSM_MEMORY.
+ * ksm_shared_close closes it where every pass is back, as ksm_table_close does. KSM_DONE, KSM_PASSES_OUT.
+ * ksm_shared_pass_open and ksm_shared_pass_close open and close its passes, as ksm_pass_open and ksm_pass_close do, and take no other lock than
+ * these. What a pass does takes none.
+ * ksm_shared_apply, _read, _ticket, _mappers, _entries and _entry are the calls of a book of these names, one after another under the lock of the
+ * book, a mutex: who finds it taken sleeps. So each is done at one moment between its beginning and its end.
+ * ksm_shared_counters tells the counters that the last command left, and takes no lock: all are of one moment, which is no earlier than that of any
+ * that this thread was told before, nor than the end of a command that came before this call. It reads again only where another command
+ * ended meanwhile. KSM_DONE.
+ * ksm_shared_audit looks each place up once, by so many threads, 1 to KSM_MOST_PASSES, of which the caller's is one; each has a pass of the book
+ * for the time of the call, and draws its next place from one counter. It takes no other lock than that of the passes. rows[p] is how the lookup of
+ * place p ended, and *count how many rows there are, as many as places. Where a thread can't be made, those that are there do its work. KSM_DONE;
+ * KSM_RANGE, which writes *count alone, where `room` is smaller; KSM_SHAPE, KSM_NO_PASS, KSM_MEMORY. `rows` points to `room` rows; it may be
+ * NULL where `room` is 0.
+ */
+KSM_CALL ksm_shared_open(ksm_shared *book, uint32_t nodes, uint32_t frames_per_node, uint32_t passes, uint64_t last_generation, uint32_t tries);
+KSM_CALL ksm_shared_open_kept(ksm_shared *book, uint32_t nodes, uint32_t frames_per_node, uint32_t passes, uint64_t last_generation, uint32_t tries);
+KSM_CALL ksm_shared_close(ksm_shared *book);
+KSM_CALL ksm_shared_pass_open(ksm_shared *book, ksm_pass *pass);
+KSM_CALL ksm_shared_pass_close(ksm_shared *book, ksm_pass *pass);
+KSM_CALL ksm_shared_apply(ksm_shared *book, const ksm_command *command, ksm_made *made);
+KSM_CALL ksm_shared_read(ksm_shared *book, uint16_t guest, uint32_t page, uint64_t bytes[8]);
+KSM_CALL ksm_shared_ticket(ksm_shared *book, uint16_t guest, uint32_t page, uint32_t *place);
+KSM_CALL ksm_shared_mappers(ksm_shared *book, uint32_t place, uint64_t *pages, size_t room, uint64_t *count);
+KSM_CALL ksm_shared_counters(ksm_shared *book, ksm_counters *counters);
+KSM_CALL ksm_shared_audit(ksm_shared *book, uint32_t threads, ksm_row *rows, size_t room, uint64_t *count);
+KSM_CALL ksm_shared_entries(ksm_shared *book, uint64_t *count);
+KSM_CALL ksm_shared_entry(ksm_shared *book, uint64_t number, ksm_command *command, uint32_t *answer, ksm_made *made);
 
 /*
  * A pass. Each of these may answer KSM_CLOSED or KSM_KIND. The three lookups are for a pass that holds nothing (KSM_HOLDING), of a place that

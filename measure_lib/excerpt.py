@@ -29,7 +29,17 @@ TOP = os.path.dirname(os.path.dirname(os.path.abspath(__file__)))
 # ksmbook, where a checkout builds it, or where the package has it
 PROGRAMS = [os.path.join(TOP, "crates", "ksm_tool", "out", "ksm_tool"),
             os.path.join(os.path.dirname(os.path.dirname(TOP)), "bin", "ksmbook")]
-PROGRAM = next((path for path in PROGRAMS if os.access(path, os.X_OK)), PROGRAMS[0])
+# the same of a host's size, which has room for all pages
+HOST_PROGRAMS = [os.path.join(TOP, "release", "out", "host", "ksmbook-host"),
+                 os.path.join(os.path.dirname(os.path.dirname(TOP)), "bin", "ksmbook-host")]
+
+
+def built(paths: list[str]) -> str | None:
+    """The first of these programs that is there."""
+    return next((path for path in paths if os.access(path, os.X_OK)), None)
+
+
+PROGRAM = built(PROGRAMS) or PROGRAMS[0]
 # a table of ksmbook: nodes, and frames of each. Pages leave some over: while all are unmerged, a frame serves pages
 # of its node and of others until the last of them has its own, so of several nodes less than half is used
 MOST_NODES, FRAMES, ROOM_ALONE, ROOM = 4, 256, 240, 120

@@ -32,7 +32,7 @@ examples:
 
 statuses:
   0  measured             3  the report could not be written
-  1  nothing to measure,  4  the proved book counts an excerpt otherwise
+  1  nothing to measure,  4  the proved book counts otherwise
      or not allowed       130  interrupted before a twentieth was read
   2  wrong options
 
@@ -107,6 +107,10 @@ def add_report(made: argparse.ArgumentParser) -> None:
     told.add_argument("--log", metavar="FILE", help="add a line of JSON to FILE each time; --html draws them all")
     told.add_argument("--script", metavar="FILE", help="write the excerpt for the proved book to FILE")
     told.add_argument("--no-check", action="store_true", help="do not have the proved book count an excerpt")
+    told.add_argument("--book", action="store_true",
+                      help="have the proved book merge all pages with each setting, not an excerpt")
+    told.add_argument("--program", metavar="FILE", help="the proved book's program (ksmbook, and with --book the "
+                                                        "one of a host's size where it is there)")
 
 
 def parser() -> argparse.ArgumentParser:
@@ -137,6 +141,8 @@ def parsed(words: list[str]) -> argparse.Namespace:
         made.error("--all takes no PID and no other choice beside it")
     if options.again and options.sample:
         made.error("--sample takes no --again beside it")
+    if options.book and (options.sample or options.no_check):
+        made.error("--book takes no --sample and no --no-check beside it")
     if options.rows < 1 or (options.workers is not None and not 0 < options.workers <= 128):
         made.error("--rows and --workers want a number above 0, --workers one up to 128")
     return options

@@ -5,7 +5,7 @@ import os
 import sys
 import time
 
-from . import choosing, excerpt, series, text
+from . import choosing, excerpt, series, text, whole
 from .called import IS_CHECKOUT, KSMBOOK, NAME
 from .html_page import as_html
 from .json_report import as_json
@@ -68,10 +68,32 @@ def check(report: Report, look: Look, options: argparse.Namespace) -> Checked:
         say(f"{KSMBOOK} {' '.join(taken.options())} < {options.script}")
     if options.no_check:
         return Checked(why_not="--no-check was given")
+    excerpt.PROGRAM = options.program or excerpt.PROGRAM
+    if options.book:
+        return check_all(report, look, taken, options)
     if not excerpt.is_built():
         return Checked(why_not="ksmbook is not built here (./ksmbook --nodes 1 --frames 1 </dev/null "
                                "proves and builds it)" if IS_CHECKOUT else "there is no ksmbook beside it")
     return excerpt.check(taken)
+
+
+def check_all(report: Report, look: Look, taken: excerpt.Excerpt, options: argparse.Namespace) -> Checked:
+    """Has the proved book merge all pages; where it has no room for them, the excerpt."""
+    program = options.program or excerpt.built([*excerpt.HOST_PROGRAMS, *excerpt.PROGRAMS])
+    try:
+        if not program:
+            raise whole.NoRoom("there is no proved book here (release/host makes one of a host's size)")
+        if look.is_interrupted:
+            raise whole.NoRoom("the reading was interrupted")
+        return whole.check(look, report.census, program, say)
+    except KeyboardInterrupt:
+        why = "it was interrupted"
+    except whole.NoRoom as no_room:
+        why = str(no_room)
+    say(f"not all pages are laid: {why}")
+    checked = excerpt.check(taken) if excerpt.is_built() else Checked(why_not="ksmbook is not built here")
+    checked.why_not_all = why
+    return checked
 
 
 def write(path: str, what: str) -> None:

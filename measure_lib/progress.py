@@ -47,6 +47,10 @@ class Progress:
         return (f"[{'#' * round(BAR * part):.<{BAR}}] {100 * part:3.0f}%  {done * PAGE / MEGABYTE:,.0f} MB"
                 f"  {speed:,.0f} MB/s  {left}  {name[:NAME]}")
 
+    def seconds(self) -> float:
+        """The seconds since the beginning."""
+        return time.monotonic() - self.begun
+
     def wait(self, seconds: float, is_stopped=lambda: False) -> None:
         """Waits between two looks."""
         end = time.monotonic() + seconds

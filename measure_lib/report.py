@@ -28,14 +28,29 @@ class Effort:
 
 
 @dataclasses.dataclass
+class Laid:
+    """A setting with which the proved book merged all pages, what it counts then, and what is counted here."""
+    max_page_sharing: int
+    use_zero_pages: int
+    merge_across_nodes: int
+    counted: dict[str, int]
+    here: dict[str, int]
+
+
+@dataclasses.dataclass
 class Checked:
     """The excerpt that the proved book counted: its pages and settings, those that two further limits were tried
-    with, and the contents told apart; or why there was none."""
+    with, and the contents told apart; or why there was none. Or all pages, with a row for each setting, the frames of
+    the book, and how many settings wanted more; or why these were not laid."""
     pages: int = 0
     apart: int = 0
     settings: int = 0
     large: int = 0
     why_not: str = ""
+    laid: list[Laid] = dataclasses.field(default_factory=list)
+    frames: int = 0
+    unfit: int = 0
+    why_not_all: str = ""
 
 
 @dataclasses.dataclass

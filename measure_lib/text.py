@@ -141,13 +141,30 @@ def then_what(report: Report) -> list[str]:
     return [*lines, *(wrapped(sentence) for sentence in words.then_what(report))]
 
 
+def laid(report: Report) -> list[str]:
+    """What the proved book counts of all pages, and below it what is counted here, setting by setting."""
+    of = report.checked
+    if not of.laid:
+        return []
+    lines = [f"THE PROVED BOOK, of {of.pages:,} pages",
+             f"{'max_page_':>9}{'use_zero_':>11}{'merge_across_':>14}{'pages_':>12}{'pages_':>12}{'pages_':>11}"
+             f"{'ksm_zero_':>11}",
+             f"{'sharing':>9}{'pages':>11}{'nodes':>14}{'shared':>12}{'sharing':>12}{'unshared':>11}{'pages':>11}"]
+    for row in of.laid:
+        knobs = f"{row.max_page_sharing:>9,}{row.use_zero_pages:>11}{row.merge_across_nodes:>14}"
+        for head, counters in (knobs, row.counted), (f"{'counted here':>34}", row.here):
+            shared, sharing, unshared, zeroes = counters.values()
+            lines.append(f"{head:<34}{shared:>12,}{sharing:>12,}{unshared:>11,}{zeroes:>11,}")
+    return lines
+
+
 def sections(report: Report) -> list[list[str]]:
     """The parts of the text; those without a line are left out."""
     return [[words.system(report)], [wrapped(sentence) for sentence in words.answer(report)],
             [wrapped(sentence) for sentence in words.warnings(report)], settings(report), by_node(report),
             processes(report),
             matrix(report) if len(report.shown) > 1 else [], heaviest(report) if report.census.heaviest else [],
-            left_out(report) if words.left_out(report) else [], then_what(report),
+            left_out(report) if words.left_out(report) else [], laid(report), then_what(report),
             [wrapped(sentence) for sentence in words.notes(report)]]
 
 

@@ -7,7 +7,7 @@ from . import advice
 from .called import DOCUMENT, MEASURE
 from .census import Heavy
 from .figures import CUT, INTERRUPTED, SAMPLE, Figure
-from .report import Report
+from .report import Checked, Report
 from .savings import Saving
 from .units import MEGABYTE, PAGE, as_megabytes, as_time, megabytes, one_decimal, percent
 
@@ -209,8 +209,18 @@ def how_to(report: Report) -> list[str]:
 
 
 def checked(report: Report) -> str:
-    """What the proved book said to the excerpt."""
+    """What the proved book said to all pages, or to the excerpt."""
     of = report.checked
+    if of.laid:
+        more = f" {of.unfit} more settings want more frames than it has." * (of.unfit > 0)
+        return (f"The proved book (ksmbook) merged all {of.pages:,} pages with each of {of.settings} settings, on "
+                f"{of.frames:,} frames: its counters are those of the formulas.{more}")
+    all_ = f"Not all pages were laid before the proved book: {of.why_not_all}. " if of.why_not_all else ""
+    return all_ + checked_excerpt(of)
+
+
+def checked_excerpt(of: Checked) -> str:
+    """What the proved book said to the excerpt."""
     if of.why_not:
         return f"No excerpt was checked: {of.why_not}."
     large = f", and contents of up to {of.large:,} pages, where the limits 256 and 1,024 bind" if of.large else ""

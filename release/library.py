@@ -1,10 +1,12 @@
 #!/usr/bin/env python3
-"""The packages of the library: libksmbook1, libksmbook-dev, and the crate of Rust, which `release/build` makes with those of the program.
+"""The packages of the library: libksmbook1, libksmbook-host1, libksmbook-dev, and the crate of Rust, which `release/build` makes with those of the
+program.
 
   release/library.py manual     prints the manual page of the header
 
-libksmbook1 has the shared library; libksmbook-dev the header, the static library, ksmbook.pc, the manual page and the
-examples; ksmbook-VERSION.crate is for Cargo, and carries the library for x86-64.
+libksmbook1 has the shared library, and libksmbook-host1 that of a host's size, where release/host has made it
+(bindings/out/libksmbook-host.a); libksmbook-dev the header, the static libraries, ksmbook.pc and ksmbook-host.pc, the
+manual page and the examples; ksmbook-VERSION.crate is for Cargo, and carries the libraries for x86-64.
 """
 
 import re
@@ -17,8 +19,10 @@ TOP = Path(__file__).resolve().parent.parent
 BUILT = TOP / "bindings" / "out"
 HEADER = TOP / "bindings" / "ksmbook.h"
 TRIPLET = "x86_64-linux-gnu"
+# The libraries, each with the flags of pkg-config for its limits, and what its description begins with.
+SIZES = {"ksmbook": ("", ""), "ksmbook-host": (" -DKSM_HOST", ", of a host's size")}
 SHARED_DESCRIPTION = """\
- table of pages that threads look up without a lock, proved correct
+ table of pages that threads look up without a lock, proved correct{size}
  A frame that a reader holds keeps its words and its life until the reader
  leaves it, in every interleaving of threads, which is proved of the code; and
  a book of pages that are merged. This package has the shared library.
@@ -34,12 +38,12 @@ prefix=/usr
 includedir=${{prefix}}/include
 libdir=${{prefix}}/lib/{triplet}
 
-Name: ksmbook
-Description: a table of pages that threads look up without a lock, and a book of merged pages, proved correct
+Name: {name}
+Description: a table of pages that threads look up without a lock, and a book of merged pages, proved correct{size}
 Version: {version}
-Libs: -L${{libdir}} -lksmbook
+Libs: -L${{libdir}} -l{name}
 Libs.private: -pthread
-Cflags: -I${{includedir}}
+Cflags: -I${{includedir}}{flags}
 """
 EXAMPLES_README = """\
 # Examples of libksmbook
@@ -52,8 +56,12 @@ EXAMPLES_README = """\
 | crowd.c | four threads look pages up while the keeper moves them |
 | blocks.c | blocks of 4 KiB outside the table, freed once their frame is reaped |
 | book.c | a book of merged pages beside a plain array (link it with -Wl,--wrap=malloc) |
+| shared.c | a shared book under eight threads, beside a model |
+| host.c | a book as large as the library allows, while threads look its pages up |
 | numbers.c | reaches each number of the header (link it with -Wl,--wrap=malloc) |
 | misuse.c | random calls, right and wrong, beside a model |
+
+With `ksmbook-host` in the place of `ksmbook` each is linked to the library of a host's size.
 """
 
 
@@ -135,18 +143,24 @@ def needed(path):
     return ".".join(map(str, max((int(major), int(minor)) for major, minor in found)))
 
 
-def shared_package(build, commit, work, output):
-    """libksmbook1."""
-    root, version = work / "shared", build.told("cat", str(TOP / "VERSION"))
+def built():
+    """The libraries that there are: the second is made by release/host alone."""
+    return [name for name in SIZES if (BUILT / f"lib{name}.a").exists()]
+
+
+def shared_package(build, commit, work, output, name):
+    """libksmbook1, or libksmbook-host1."""
+    root, version = work / name, build.told("cat", str(TOP / "VERSION"))
     major = version.split(".", maxsplit=1)[0]
-    package, place = f"libksmbook{major}", root / "usr" / "lib" / TRIPLET
+    package, place = f"lib{name}{major}", root / "usr" / "lib" / TRIPLET
     place.mkdir(parents=True)
-    shutil.copy(BUILT / f"libksmbook.so.{version}", place)
-    (place / f"libksmbook.so.{major}").symlink_to(f"libksmbook.so.{version}")
+    shutil.copy(BUILT / f"lib{name}.so.{version}", place)
+    (place / f"lib{name}.so.{major}").symlink_to(f"lib{name}.so.{version}")
     documents(build, commit, root, package)
-    fields = f"Depends: libc6 (>= {needed(BUILT / f'libksmbook.so.{version}')})\nSection: libs\n"
-    build.put(root / "DEBIAN" / "control", control(commit, root, package, fields, SHARED_DESCRIPTION).encode())
-    build.put(root / "DEBIAN" / "shlibs", f"libksmbook {major} {package} (>= {version}~)\n".encode())
+    fields = f"Depends: libc6 (>= {needed(BUILT / f'lib{name}.so.{version}')})\nSection: libs\n"
+    description = SHARED_DESCRIPTION.format(size=SIZES[name][1])
+    build.put(root / "DEBIAN" / "control", control(commit, root, package, fields, description).encode())
+    build.put(root / "DEBIAN" / "shlibs", f"lib{name} {major} {package} (>= {version}~)\n".encode())
     build.put(root / "DEBIAN" / "triggers", b"activate-noawait ldconfig\n")
     return build.pack_deb(commit, root, output / f"{package}_{commit.version}_amd64.deb")
 
@@ -157,16 +171,20 @@ def dev_package(build, commit, work, output):
     major = version.split(".", maxsplit=1)[0]
     place = root / "usr" / "lib" / TRIPLET
     build.put(root / "usr" / "include" / "ksmbook.h", HEADER.read_bytes())
-    build.put(place / "libksmbook.a", (BUILT / "libksmbook.a").read_bytes())
-    (place / "libksmbook.so").symlink_to(f"libksmbook.so.{major}")
-    build.put(place / "pkgconfig" / "ksmbook.pc", PKG_CONFIG.format(triplet=TRIPLET, version=version).encode())
+    for name in built():
+        flags, size = SIZES[name]
+        build.put(place / f"lib{name}.a", (BUILT / f"lib{name}.a").read_bytes())
+        (place / f"lib{name}.so").symlink_to(f"lib{name}.so.{major}")
+        told = PKG_CONFIG.format(triplet=TRIPLET, version=version, name=name, flags=flags, size=size)
+        build.put(place / "pkgconfig" / f"{name}.pc", told.encode())
     build.put_packed(root / "usr" / "share" / "man" / "man3" / "ksmbook.h.3", ("\n".join(manual()) + "\n").encode())
     share = documents(build, commit, root, "libksmbook-dev")
     build.put(share / "LIBRARY.md", (TOP / "docs" / "LIBRARY.md").read_bytes())
     build.put(share / "examples" / "README.md", EXAMPLES_README.encode())
     for name in commit.below("bindings/c"):
         build.put(share / "examples" / Path(name).name, (TOP / name).read_bytes())
-    fields = f"Depends: libksmbook{major} (= {commit.version}), libc6-dev\nSection: libdevel\n"
+    depends = ", ".join(f"lib{name}{major} (= {commit.version})" for name in built())
+    fields = f"Depends: {depends}, libc6-dev\nSection: libdevel\n"
     build.put(root / "DEBIAN" / "control", control(commit, root, "libksmbook-dev", fields, DEV_DESCRIPTION).encode())
     return build.pack_deb(commit, root, output / f"libksmbook-dev_{commit.version}_amd64.deb")
 
@@ -181,7 +199,8 @@ def crate_package(build, _, work, output):
 def packages(build, commit, work, output):
     """All of them, over the library as it was proved. `build` is release/build, for what it makes of every package."""
     build.told(str(TOP / "release" / "join"))
-    return [make(build, commit, work, output) for make in (shared_package, dev_package, crate_package)]
+    shared = [shared_package(build, commit, work, output, name) for name in built()]
+    return [*shared, *(make(build, commit, work, output) for make in (dev_package, crate_package))]
 
 
 def main():

@@ -1,5 +1,7 @@
 """What `measure` does where something comes between, each as a function that fails by an assertion."""
 
+import collections
+import itertools
 import json
 import mmap
 import os
@@ -11,6 +13,7 @@ import subprocess
 import sys
 import tempfile
 import time
+import types
 from collections.abc import Callable
 
 import holder
@@ -18,10 +21,12 @@ from mixes import Page
 
 TOP = os.path.dirname(os.path.dirname(os.path.dirname(os.path.abspath(__file__))))
 sys.path.insert(0, TOP)
-from measure_lib import choosing, excerpt, processes, program, savings, units  # pylint: disable=wrong-import-position
+from measure_lib import choosing, excerpt, processes, program  # pylint: disable=wrong-import-position
+from measure_lib import savings, units, whole  # pylint: disable=wrong-import-position
 from measure_lib.census import Census, Content, census_of  # pylint: disable=wrong-import-position
 from measure_lib.estimate import Estimate, Met  # pylint: disable=wrong-import-position
 from measure_lib.look import Look  # pylint: disable=wrong-import-position
+from measure_lib.piles import Pile, block_of, tag_of  # pylint: disable=wrong-import-position
 from measure_lib.trouble import NOT_AS_PROVED, Ended, Trouble  # pylint: disable=wrong-import-position
 
 MEASURE = os.path.join(TOP, "measure")
@@ -283,6 +288,70 @@ def excerpts_on_nodes() -> str:
             "and two wrong formulas are found, one of them for large contents alone")
 
 
+def met_on_nodes(nodes: int) -> tuple[types.SimpleNamespace, Census]:
+    """A look that met pages of chance of three processes on so many nodes, and their census."""
+    chance, own, contents = random.Random(nodes), Pile(), collections.defaultdict(Content)
+    for owner, node in itertools.product(range(3), range(nodes)):
+        digests = [chance.randrange(90) for _ in range(120)]
+        own.digests.extend(digests)
+        own.tags.append(tag_of(owner, node))
+        own.ends.append(len(own.digests))
+        for digest in digests:
+            contents[digest].add(owner, node, 1)
+    census = Census([])
+    for digest, content in contents.items():
+        census.add(content, is_zero=digest == 0)
+    return types.SimpleNamespace(
+        piles=1, nodes=list(range(nodes)), reader=types.SimpleNamespace(zeroes=0), zeroed={}, owner_of=block_of,
+        pile=lambda kind, _: [own if kind == "own" else Pile()], zeroes=lambda _: collections.Counter(),
+        pages_by_node=lambda: dict.fromkeys(range(nodes), 360)), census
+
+
+def all_pages_on_nodes() -> str:
+    """All pages of two to four nodes are laid where they lie, merged across nodes and on each by itself."""
+    if not excerpt.is_built():
+        return "all pages on nodes: not tried, since ksmbook is not built"
+    told = [whole.check(*met_on_nodes(nodes), excerpt.PROGRAM, lambda _: None) for nodes in (2, 3, 4)]
+    assert [of.pages for of in told] == [720, 1080, 1440] and all(of.laid for of in told), told
+    assert all({row.merge_across_nodes for row in of.laid} == {0, 1} for of in told), told
+    return (f"all pages on two to four nodes are laid before the book, with {[of.settings for of in told]} settings, "
+            "and counted alike")
+
+
+def laid(child: int, other: int) -> dict[str, object]:
+    """What the proved book counts of all pages of two children."""
+    run = measure("--mergeable", "--book", "--json", "--program", excerpt.PROGRAM, str(child), str(other))
+    assert run.returncode == 0, run.stderr
+    return json.loads(run.stdout)["checked"]
+
+
+def all_pages() -> str:
+    """All pages are laid before the proved book, more than it has frames, and counted alike; where they leave more
+    frames in use than it has, it is said and an excerpt laid; a formula that is wrong is found."""
+    if not excerpt.is_built():
+        return "all pages before the proved book: not tried, since ksmbook is not built"
+    contents = [Page(i % 300) for i in range(1400)]
+    child, other, large = holding(contents), holding(contents[200:900]), holding([Page(i) for i in range(1400)])
+    told, beyond = laid(child, other), laid(child, large)
+    assert told["pages"] == 2100 and told["settings"] == 6 and told["unfit"] == 2, told
+    rows = {(row["max_page_sharing"], row["use_zero_pages"]): row["counted"] for row in told["laid"]}
+    assert rows[256, 1] == {"shared": 299, "sharing": 1794, "unshared": 0, "ksm_zero_pages": 7}, rows
+    assert not beyond["laid"] and "frames" in beyond["why_not_all"] and 0 < beyond["pages"] <= 240, beyond
+    look, right = Look(chosen(child), only_marked=True), savings.Saving.add
+    look.once(Meanwhile(lambda: None))
+    savings.Saving.add = lambda told, copies, *more: right(told, copies + (copies == 5), *more)
+    try:
+        whole.check(look, census_of(look, [], 256), excerpt.PROGRAM, lambda _: None)
+        raise AssertionError("a wrong formula was not found")
+    except Trouble as trouble:
+        assert trouble.status == NOT_AS_PROVED
+    finally:
+        savings.Saving.add = right
+        for each in child, other, large:
+            end(each)
+    return "2,100 pages are laid before the proved book on 1,024 frames, and counted alike; a wrong formula is found"
+
+
 def is_of_kernel(pid: int) -> bool:
     """Tells whether a process is there and a thread of the kernel."""
     try:
@@ -394,5 +463,6 @@ def how_numbers_are_written() -> str:
 
 
 ALL = [chosen_by_names, pinned_pages, interrupted, bounds_of_few_blocks, over_time, how_numbers_are_written,
-       excerpts_on_nodes, one_that_ends, one_that_ended_before, one_that_grows, pages_that_change, frames_of_a_fork,
+       excerpts_on_nodes, all_pages, all_pages_on_nodes,
+       one_that_ends, one_that_ended_before, one_that_grows, pages_that_change, frames_of_a_fork,
        without_permission, statuses, nothing_of_contents]

@@ -18,6 +18,20 @@
 #define WORDS 512
 #define MOST_READERS (KSM_MOST_PASSES - 1)
 
+/*
+ * ThreadSanitizer does not see the proved code. These lines tell it what the header promises, and no more: a find comes after the publication of the
+ * frame that it holds, and a reap that is done after each leave. So it sees a block that is freed or read at any other time.
+ */
+#if defined(__SANITIZE_THREAD__)
+void __tsan_acquire(void *address);
+void __tsan_release(void *address);
+#define COMES_AFTER(block) __tsan_acquire((void *)(uintptr_t)(block))
+#define COMES_BEFORE(block) __tsan_release((void *)(uintptr_t)(block))
+#else
+#define COMES_AFTER(block) ((void)(block))
+#define COMES_BEFORE(block) ((void)(block))
+#endif
+
 static ksm_table table; /* all zero: not open */
 static atomic_int done;
 static _Atomic uint64_t written[KEYS];
@@ -62,7 +76,9 @@ static void *read_blocks(void *arg) {
             r->again++;
         must(answer, "ksm_find");
         must(ksm_word(&pass, 0, &at), "ksm_word");
+        COMES_AFTER(at);
         r->wrong += !is_block((const uint64_t *)(uintptr_t)at, key, least);
+        COMES_BEFORE(at);
         must(ksm_leave(&pass), "ksm_leave");
         r->reads++;
     }
@@ -82,6 +98,7 @@ static void reap(void) {
         must(answer, "ksm_reap_all");
     for (; dying_count > left; dying_count--) {
         uint32_t frame = dying[dying_count - 1];
+        COMES_AFTER(blocks[frame]);
         free(blocks[frame]);
         unused[unused_count++] = frame;
     }
@@ -92,6 +109,7 @@ static void put(uint32_t key, uint64_t version) {
         reap();
     uint32_t frame = unused[--unused_count];
     blocks[frame] = block_of(key, version);
+    COMES_BEFORE(blocks[frame]);
     must(ksm_raise(&table, frame), "ksm_raise");
     must(ksm_put(&table, frame, 0, (uint64_t)(uintptr_t)blocks[frame]), "ksm_put");
     must(ksm_open_frame(&table, frame), "ksm_open_frame");

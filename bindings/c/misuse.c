@@ -1,9 +1,9 @@
 /*
  * Random calls, right and wrong, beside a model that is written from the header alone: misuse [CALLS [SEED]].
  *
- * CALLS (1,000,000) calls of every export, by one thread, on three tables, a book and eight passes: with NULL in the place of each pointer, with
- * handles that are closed, closed twice, of another table or of another kind, with frames, places and words that there are not, in states that
- * do not allow the call, and with passes that are lost while they are out. Each answer has to be the model's, and what a call tells too; what a
+ * CALLS (1,000,000) calls of every export, by one thread, on three tables, a book, a shared book and eight passes: with NULL in the place of each
+ * pointer, with handles that are closed, closed twice, of another table or of another kind, with frames, places and words that there are not, in
+ * states that do not allow the call, and with passes that are lost while they are out. Each answer has to be the model's, and what a call tells too; what a
  * refused call was to write has to be as it was. There is memory for everything, so KSM_MEMORY is wrong anywhere.
  * Prints how often each number was answered, and ends with 1 at the first that is not the model's.
  */
@@ -496,6 +496,141 @@ static void of_book(void) {
         is(ksm_book_open_kept(NULL, 1, 1, 1, 1, 1), KSM_NULL, "ksm_book_open_kept");
 }
 
+/* The calls of a shared book, open or closed, of two passes and four pages; with a table's pass in the place of its own, and with NULL. */
+#define SHARED_FRAMES 6
+#define SHARED_PASSES 2
+
+static struct {
+    ksm_shared handle;
+    int open, known[4];
+    uint64_t words[4];
+    ksm_pass passes[SHARED_PASSES + 1];
+    uint32_t out;
+} shared;
+
+static void open_shared(void) {
+    uint32_t frames = drawn(4) ? SHARED_FRAMES : KSM_MOST_FRAMES_PER_NODE + 1, wanted;
+    wanted = shared.open ? KSM_OPEN : frames > KSM_MOST_FRAMES_PER_NODE ? KSM_SHAPE : KSM_DONE;
+    if (drawn(2))
+        is(ksm_shared_open(&shared.handle, 1, frames, SHARED_PASSES, LIVES, 1), wanted, "ksm_shared_open");
+    else
+        is(ksm_shared_open_kept(&shared.handle, 1, frames, SHARED_PASSES, LIVES, 1), wanted, "ksm_shared_open_kept");
+    if (wanted == KSM_DONE) {
+        shared.open = 1;
+        memset(shared.known, 0, sizeof shared.known);
+    }
+}
+
+static void close_shared(void) {
+    uint32_t wanted = !shared.open ? KSM_CLOSED : shared.out > 0 ? KSM_PASSES_OUT : KSM_DONE;
+    is(ksm_shared_close(&shared.handle), wanted, "ksm_shared_close");
+    if (wanted != KSM_DONE)
+        return;
+    shared.open = 0;
+    is(ksm_shared_close(&shared.handle), KSM_CLOSED, "ksm_shared_close");
+}
+
+static void shared_pass(void) {
+    pass *p = &passes[drawn(PASSES)];
+    ksm_pass *own = &shared.passes[drawn(SHARED_PASSES + 1)];
+    uint32_t wanted;
+    if (drawn(4) == 0) {
+        wanted = p->of == NULL || !shared.open ? KSM_CLOSED : KSM_OTHER;
+        is(ksm_shared_pass_close(&shared.handle, &p->handle), wanted, "ksm_shared_pass_close");
+    } else if (drawn(2)) {
+        wanted = own->at ? KSM_OPEN : !shared.open ? KSM_CLOSED : shared.out == SHARED_PASSES ? KSM_NO_PASS : KSM_DONE;
+        is(ksm_shared_pass_open(&shared.handle, own), wanted, "ksm_shared_pass_open");
+        shared.out += wanted == KSM_DONE;
+    } else {
+        wanted = own->at ? KSM_DONE : KSM_CLOSED;
+        is(ksm_shared_pass_close(&shared.handle, own), wanted, "ksm_shared_pass_close");
+        shared.out -= wanted == KSM_DONE;
+    }
+}
+
+static void shared_page(void) {
+    uint32_t page = drawn(4), at = 77;
+    uint64_t bytes[KSM_PAGE_WORDS] = {77}, count = 77, pages[1];
+    ksm_command command = {0};
+    ksm_made made = {77, 77, 77};
+    uint32_t is_there = !shared.open ? KSM_CLOSED : shared.known[page] ? KSM_DONE : KSM_NOTHING, wanted = !shared.open ? KSM_CLOSED : KSM_DONE;
+    command.kind = shared.known[page] ? KSM_STORE : KSM_REGISTER;
+    command.page = page;
+    for (size_t i = 0; i < KSM_PAGE_WORDS; i++)
+        command.bytes[i] = state;
+    is(ksm_shared_read(&shared.handle, 0, page, bytes), is_there, "ksm_shared_read");
+    same(bytes[0] == (is_there == KSM_DONE ? shared.words[page] : 77), "ksm_shared_read reads otherwise");
+    is(ksm_shared_apply(&shared.handle, &command, &made), wanted, "ksm_shared_apply");
+    same(made.count == (shared.open ? 0 : 77), "ksm_shared_apply made something else");
+    shared.known[page] |= shared.open;
+    shared.words[page] = state;
+    command.kind = 15;
+    is(ksm_shared_apply(&shared.handle, &command, &made), shared.open ? KSM_COMMAND : KSM_CLOSED, "ksm_shared_apply");
+    is(ksm_shared_ticket(&shared.handle, 0, page, &at), shared.open ? KSM_NOTHING : KSM_CLOSED, "ksm_shared_ticket");
+    is(ksm_shared_mappers(&shared.handle, page, pages, 1, &count), shared.open ? KSM_NOTHING : KSM_CLOSED, "ksm_shared_mappers");
+    is(ksm_shared_entries(&shared.handle, &count), wanted, "ksm_shared_entries");
+    same(shared.open ? count > 0 : count == 77, "ksm_shared_entries tells otherwise");
+    is(ksm_shared_entry(&shared.handle, UINT64_MAX, &command, &at, &made), shared.open ? KSM_NOTHING : KSM_CLOSED, "ksm_shared_entry");
+}
+
+static void count_shared(void) {
+    uint32_t threads = drawn(4), room = SHARED_FRAMES - drawn(2), wanted;
+    uint64_t count = 77;
+    ksm_row rows[SHARED_FRAMES];
+    ksm_counters counters = {77, 77, 77, 77, 77, 77, 77, 77};
+    is(ksm_shared_counters(&shared.handle, &counters), shared.open ? KSM_DONE : KSM_CLOSED, "ksm_shared_counters");
+    uint64_t known = 0;
+    for (int page = 0; page < 4; page++)
+        known += shared.known[page] != 0;
+    same(counters.volatile_pages == (shared.open ? known : 77), "ksm_shared_counters counts otherwise");
+    wanted = threads == 0                           ? KSM_SHAPE
+             : !shared.open                         ? KSM_CLOSED
+             : shared.out + threads > SHARED_PASSES ? KSM_NO_PASS
+             : room < SHARED_FRAMES                 ? KSM_RANGE
+                                                    : KSM_DONE;
+    is(ksm_shared_audit(&shared.handle, threads, rows, room, &count), wanted, "ksm_shared_audit");
+    same(count == (wanted == KSM_DONE || wanted == KSM_RANGE ? SHARED_FRAMES : 77), "ksm_shared_audit counts otherwise");
+    for (int place = 0; wanted == KSM_DONE && place < SHARED_FRAMES; place++)
+        same(rows[place].answer == KSM_VACANT && rows[place].life == 0, "ksm_shared_audit finds otherwise");
+}
+
+static void shared_nulls(void) {
+    ksm_command command = {0};
+    ksm_made made;
+    uint64_t count;
+    uint32_t at;
+    is(ksm_shared_open(NULL, 1, 1, 1, 1, 1), KSM_NULL, "ksm_shared_open");
+    is(ksm_shared_close(NULL), KSM_NULL, "ksm_shared_close");
+    is(ksm_shared_pass_open(NULL, &shared.passes[0]), KSM_NULL, "ksm_shared_pass_open");
+    is(ksm_shared_pass_close(&shared.handle, NULL), KSM_NULL, "ksm_shared_pass_close");
+    is(ksm_shared_apply(&shared.handle, NULL, &made), KSM_NULL, "ksm_shared_apply");
+    is(ksm_shared_apply(NULL, &command, &made), KSM_NULL, "ksm_shared_apply");
+    is(ksm_shared_read(&shared.handle, 0, 0, NULL), KSM_NULL, "ksm_shared_read");
+    is(ksm_shared_ticket(&shared.handle, 0, 0, NULL), KSM_NULL, "ksm_shared_ticket");
+    is(ksm_shared_mappers(&shared.handle, 0, NULL, 1, &count), KSM_NULL, "ksm_shared_mappers");
+    is(ksm_shared_counters(&shared.handle, NULL), KSM_NULL, "ksm_shared_counters");
+    is(ksm_shared_audit(&shared.handle, 1, NULL, 1, &count), KSM_NULL, "ksm_shared_audit");
+    is(ksm_shared_audit(NULL, 1, NULL, 0, &count), KSM_NULL, "ksm_shared_audit");
+    is(ksm_shared_entries(&shared.handle, NULL), KSM_NULL, "ksm_shared_entries");
+    is(ksm_shared_entry(&shared.handle, 0, &command, &at, NULL), KSM_NULL, "ksm_shared_entry");
+}
+
+static void of_shared(void) {
+    uint32_t n = drawn(40);
+    if (n < 2)
+        close_shared();
+    else if (n < 8)
+        open_shared();
+    else if (n < 16)
+        shared_pass();
+    else if (n < 28)
+        shared_page();
+    else if (n < 38)
+        count_shared();
+    else
+        shared_nulls();
+}
+
 static void open_the_book(void) {
     book = KSM_TABLE_NONE;
     is(ksm_book_open(&book, 1, 0, 1, 1, 1), KSM_SHAPE, "ksm_book_open");
@@ -525,6 +660,12 @@ static void close_all(void) {
             is(ksm_table_close(&t->handle), t->out > 0 ? KSM_PASSES_OUT : KSM_DONE, "ksm_table_close");
     is(ksm_table_close(&book), KSM_DONE, "ksm_table_close");
     is(ksm_table_close(&book), KSM_CLOSED, "ksm_table_close");
+    for (ksm_pass *own = shared.passes; own <= shared.passes + SHARED_PASSES; own++) {
+        uint32_t wanted = own->at ? KSM_DONE : KSM_CLOSED;
+        is(ksm_shared_pass_close(&shared.handle, own), wanted, "ksm_shared_pass_close");
+    }
+    shared.out = 0;
+    close_shared();
 }
 
 /* A table of which all passes were lost is given up, so that others are opened in its place. */
@@ -568,10 +709,12 @@ int main(int argc, char **argv) {
             tell();
         else if (n < 88)
             look();
-        else if (n < 97)
+        else if (n < 96)
             hold();
-        else
+        else if (n < 98)
             of_book();
+        else
+            of_shared();
     }
     close_all();
     for (uint32_t n = 0; n < NUMBERS; n++)

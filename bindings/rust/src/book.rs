@@ -57,7 +57,7 @@ pub enum Command {
 
 impl Command {
     // What the library tells of a command that it was given.
-    fn of(request: &Request) -> Command {
+    pub(crate) fn of(request: &Request) -> Command {
         let Request { guest, page, visits, node, value, bytes, kind } = *request;
         let page = GuestPage { guest, page };
         match kind {
@@ -79,7 +79,7 @@ impl Command {
         }
     }
 
-    fn request(self) -> Request {
+    pub(crate) fn request(self) -> Request {
         let none = Request::default();
         let of = |kind, page: GuestPage| Request { kind, guest: page.guest, page: page.page, ..none };
         let valued = |kind, value| Request { kind, value, ..none };
@@ -158,16 +158,33 @@ pub struct Book {
 }
 
 // Whether there was something to tell.
-fn told<T>(answer: u32, value: T) -> Option<T> {
+pub(crate) fn told<T>(answer: u32, value: T) -> Option<T> {
     (answer == raw::DONE).then_some(value)
 }
 
 // What a command was answered.
-fn answered(answer: u32, made: &Made) -> Result<Reply> {
+pub(crate) fn answered(answer: u32, made: &Made) -> Result<Reply> {
     match answer {
         raw::DONE => Ok(Reply { count: made.count, stop: (made.stop != 0).then(|| Error::of(made.stop, made.node)) }),
         answer => Err(Error::of(answer, made.node)),
     }
+}
+
+// The pages that a call tells to a slice, with their number; once more where the slice was too short, and none where there is nothing to tell.
+pub(crate) fn mappers(mut call: impl FnMut(&mut [u64], &mut u64) -> u32) -> Result<Option<Vec<GuestPage>>> {
+    let (mut pages, mut count) = (vec![0; 16], 0);
+    let mut answer = call(&mut pages, &mut count);
+    while answer == raw::RANGE {
+        pages.resize(usize::try_from(count).unwrap_or(usize::MAX), 0);
+        answer = call(&mut pages, &mut count);
+    }
+    if answer == raw::NOTHING {
+        return Ok(None);
+    }
+    done(answer)?;
+    pages.truncate(usize::try_from(count).unwrap_or(usize::MAX));
+    let pages = pages.into_iter().map(|page| GuestPage { guest: (page >> 32) as u16, page: page as u32 });
+    Ok(Some(pages.collect()))
 }
 
 impl Book {
@@ -217,13 +234,13 @@ impl Book {
     ///
     /// [`Error::NoPass`] where all are out; [`Error::Memory`].
     pub fn pass(&self) -> Result<Pass> {
-        Pass::of(&self.shared)
+        Pass::of(self.shared.clone())
     }
 
     /// What takes passes out of this book's table, and may go to any thread.
     #[must_use]
     pub fn passes(&self) -> Passes {
-        Passes::of(&self.shared)
+        Passes::of(self.shared.clone())
     }
 
     /// Does a command, and answers what it did.
@@ -261,24 +278,8 @@ impl Book {
     ///
     /// [`Error::Memory`].
     pub fn mappers(&mut self, place: u32) -> Result<Option<Vec<GuestPage>>> {
-        let (mut pages, mut count) = (vec![0; 16], 0);
-        let mut answer = self.mappers_to(place, &mut pages, &mut count);
-        if answer == raw::RANGE {
-            pages.resize(usize::try_from(count).unwrap_or(usize::MAX), 0);
-            answer = self.mappers_to(place, &mut pages, &mut count);
-        }
-        if answer == raw::NOTHING {
-            return Ok(None);
-        }
-        done(answer)?;
-        pages.truncate(usize::try_from(count).unwrap_or(usize::MAX));
-        let pages = pages.into_iter().map(|page| GuestPage { guest: (page >> 32) as u16, page: page as u32 });
-        Ok(Some(pages.collect()))
-    }
-
-    fn mappers_to(&mut self, place: u32, pages: &mut [u64], count: &mut u64) -> u32 {
         // SAFETY: as above.
-        unsafe { raw::ksm_book_mappers(self.shared.handle(), place, pages.as_mut_ptr(), pages.len(), count) }
+        mappers(|pages, count| unsafe { raw::ksm_book_mappers(self.shared.handle(), place, pages.as_mut_ptr(), pages.len(), count) })
     }
 
     /// The counters, as they are now.

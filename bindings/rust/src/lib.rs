@@ -1,4 +1,5 @@
-//! Pages that one thread keeps, and that other threads look up without a lock; a [`Cache`] over them; and a book of pages that are merged ([`Book`]).
+//! Pages that one thread keeps, and that other threads look up without a lock; a [`Cache`] over them; and a book of pages that are merged, for one
+//! thread ([`Book`]) or several ([`SharedBook`]).
 //!
 //! A [`Table`] has frames and places, as many of each. A frame has a [`Page`], and a life: how many times it was given. The keeper, who has the
 //! table, gives frames and names them at places; readers, who have a [`Pass`] each, look places up and hold the frames that they name. While a
@@ -38,6 +39,7 @@ mod error;
 mod pass;
 mod raw;
 mod shared;
+mod shared_book;
 mod table;
 
 pub use book::{Book, Command, Counters, GuestPage, Reply};
@@ -46,6 +48,7 @@ pub use cache::{Cache, Reader, Value};
 pub use error::{Error, Result};
 pub use pass::{Found, FoundEqual, Gone, Hold, OwnedHold, Pass, Told};
 pub use shared::Shape;
+pub use shared_book::{Audited, SharedBook};
 pub use table::{Frame, Kind, Passes, Table};
 
 /// How many words a page has.

@@ -2,7 +2,7 @@
 
 use crate::error::{Error, Result, done};
 use crate::raw::{self, Handle};
-use crate::shared::Shared;
+use crate::shared::Home;
 use crate::{PAGE_WORDS, Page};
 use alloc::sync::Arc;
 use core::cell::UnsafeCell;
@@ -75,7 +75,7 @@ pub struct Pass {
     // What was read of the frame that is held, if `is_read`.
     page: UnsafeCell<Page>,
     is_read: UnsafeCell<bool>,
-    shared: Arc<Shared>,
+    home: Arc<dyn Home>,
 }
 
 // SAFETY: the archive's handle is proved to be one that may go to another thread.
@@ -89,7 +89,7 @@ impl fmt::Debug for Pass {
 
 // Why a lookup found nothing, by a number from 1 to 4.
 #[inline]
-fn why(answer: u32) -> Gone {
+pub(crate) fn why(answer: u32) -> Gone {
     match answer {
         raw::VACANT => Gone::Vacant,
         raw::ZERO => Gone::Zero,
@@ -102,14 +102,14 @@ fn why(answer: u32) -> Gone {
 }
 
 impl Pass {
-    pub(crate) fn of(shared: &Arc<Shared>) -> Result<Pass> {
+    pub(crate) fn of(home: Arc<dyn Home>) -> Result<Pass> {
         let mut handle = Handle::NONE;
-        shared.pass(&mut handle)?;
+        done(home.open_pass(&mut handle))?;
         Ok(Pass {
             handle: UnsafeCell::new(handle),
             page: UnsafeCell::new([0; PAGE_WORDS]),
             is_read: UnsafeCell::new(false),
-            shared: Arc::clone(shared),
+            home,
         })
     }
 
@@ -261,8 +261,7 @@ impl Pass {
 impl Drop for Pass {
     fn drop(&mut self) {
         self.give_back();
-        // SAFETY: the handle is this pass's own, and is of this table.
-        let answer = unsafe { raw::ksm_pass_close(self.shared.handle(), self.handle.get_mut()) };
+        let answer = self.home.close_pass(self.handle.get_mut());
         debug_assert!(done(answer).is_ok(), "a pass comes back to its table");
     }
 }

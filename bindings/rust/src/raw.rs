@@ -73,6 +73,27 @@ pub struct Made {
     pub node: u32,
 }
 
+/// How an audit's lookup of a place ended.
+#[repr(C)]
+#[derive(Clone, Copy, Default)]
+pub struct Row {
+    pub answer: u32,
+    pub frame: u32,
+    pub life: u64,
+    pub words: [u64; 8],
+}
+
+/// A shared book.
+#[repr(C)]
+pub struct SharedHandle {
+    inside: [u64; 32],
+}
+
+impl SharedHandle {
+    /// One that is not open.
+    pub const NONE: SharedHandle = SharedHandle { inside: [0; 32] };
+}
+
 /// A table, a book or a pass.
 #[repr(C)]
 pub struct Handle {
@@ -122,4 +143,17 @@ extern "C" {
     pub fn ksm_book_counters(book: *mut Handle, counters: *mut Counters) -> u32;
     pub fn ksm_book_entries(book: *mut Handle, count: *mut u64) -> u32;
     pub fn ksm_book_entry(book: *mut Handle, number: u64, command: *mut Request, answer: *mut u32, made: *mut Made) -> u32;
+    pub fn ksm_shared_open(book: *mut SharedHandle, nodes: u32, frames_per_node: u32, passes: u32, last_generation: u64, tries: u32) -> u32;
+    pub fn ksm_shared_open_kept(book: *mut SharedHandle, nodes: u32, frames_per_node: u32, passes: u32, last_generation: u64, tries: u32) -> u32;
+    pub fn ksm_shared_close(book: *mut SharedHandle) -> u32;
+    pub fn ksm_shared_pass_open(book: *mut SharedHandle, pass: *mut Handle) -> u32;
+    pub fn ksm_shared_pass_close(book: *mut SharedHandle, pass: *mut Handle) -> u32;
+    pub fn ksm_shared_apply(book: *mut SharedHandle, command: *const Request, made: *mut Made) -> u32;
+    pub fn ksm_shared_read(book: *mut SharedHandle, guest: u16, page: u32, bytes: *mut u64) -> u32;
+    pub fn ksm_shared_ticket(book: *mut SharedHandle, guest: u16, page: u32, place: *mut u32) -> u32;
+    pub fn ksm_shared_mappers(book: *mut SharedHandle, place: u32, pages: *mut u64, room: usize, count: *mut u64) -> u32;
+    pub fn ksm_shared_counters(book: *mut SharedHandle, counters: *mut Counters) -> u32;
+    pub fn ksm_shared_audit(book: *mut SharedHandle, threads: u32, rows: *mut Row, room: usize, count: *mut u64) -> u32;
+    pub fn ksm_shared_entries(book: *mut SharedHandle, count: *mut u64) -> u32;
+    pub fn ksm_shared_entry(book: *mut SharedHandle, number: u64, command: *mut Request, answer: *mut u32, made: *mut Made) -> u32;
 }

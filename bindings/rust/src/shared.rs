@@ -4,6 +4,7 @@ use crate::error::{Result, done};
 use crate::raw::{self, Handle};
 use alloc::sync::Arc;
 use core::cell::UnsafeCell;
+use core::fmt::Debug;
 
 /// The sizes of a table.
 ///
@@ -28,6 +29,21 @@ pub struct Shape {
     pub tries: u32,
 }
 
+/// The limits of libksmbook-host.
+#[cfg(feature = "host")]
+impl Shape {
+    /// How many nodes a table has at most.
+    pub const MOST_NODES: u32 = 64;
+    /// How many frames a node has at most.
+    pub const MOST_FRAMES_PER_NODE: u32 = 1_048_576;
+    /// How many passes a table has at most.
+    pub const MOST_PASSES: u32 = 256;
+    /// How many times a frame is given at most.
+    pub const MOST_LIVES: u64 = 1 << 36;
+}
+
+/// The limits of libksmbook; those of the feature `host` are larger.
+#[cfg(not(feature = "host"))]
 impl Shape {
     /// How many nodes a table has at most.
     pub const MOST_NODES: u32 = 4;
@@ -37,6 +53,9 @@ impl Shape {
     pub const MOST_PASSES: u32 = 16;
     /// How many times a frame is given at most.
     pub const MOST_LIVES: u64 = 1 << 40;
+}
+
+impl Shape {
     /// How many exchanges a lookup makes at most.
     pub const MOST_TRIES: u32 = 64;
     /// How many references on one frame are the keeper's at most, and so how many pages are merged into one.
@@ -59,7 +78,16 @@ impl Default for Shape {
     }
 }
 
-/// A table that is open. It is closed when its keeper and all of its passes are gone.
+/// Where passes are taken and come back to, by any thread. It is closed when its keeper and all of its passes are gone.
+pub(crate) trait Home: Send + Sync + Debug {
+    /// Opens a pass that is not open, by the library's call.
+    fn open_pass(&self, pass: &mut Handle) -> u32;
+
+    /// Closes a pass of this home.
+    fn close_pass(&self, pass: &mut Handle) -> u32;
+}
+
+/// A table or a book that is open.
 #[derive(Debug)]
 pub(crate) struct Shared {
     handle: UnsafeCell<Handle>,
@@ -88,16 +116,22 @@ impl Shared {
         self.handle.get()
     }
 
-    /// Takes a pass out.
-    pub fn pass(&self, pass: &mut Handle) -> Result<()> {
-        // SAFETY: any thread may, and the pass is the caller's.
-        done(unsafe { raw::ksm_pass_open(self.handle(), pass) })
-    }
-
     /// Closes what is open, for the keeper, if all passes are back.
     pub fn close(&self) -> Result<()> {
         // SAFETY: the keeper calls, or nobody else has it.
         done(unsafe { raw::ksm_table_close(self.handle()) })
+    }
+}
+
+impl Home for Shared {
+    fn open_pass(&self, pass: &mut Handle) -> u32 {
+        // SAFETY: any thread may, and the pass is the caller's.
+        unsafe { raw::ksm_pass_open(self.handle(), pass) }
+    }
+
+    fn close_pass(&self, pass: &mut Handle) -> u32 {
+        // SAFETY: the same.
+        unsafe { raw::ksm_pass_close(self.handle(), pass) }
     }
 }
 

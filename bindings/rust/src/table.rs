@@ -3,7 +3,7 @@
 use crate::error::{Error, Result, done, done_or_used};
 use crate::pass::Pass;
 use crate::raw;
-use crate::shared::{Shape, Shared};
+use crate::shared::{Home, Shape, Shared};
 use crate::Page;
 use alloc::sync::Arc;
 
@@ -47,12 +47,12 @@ pub struct Table {
 /// Takes passes out of a table or a book, from any thread, also while another has the table.
 #[derive(Clone, Debug)]
 pub struct Passes {
-    shared: Arc<Shared>,
+    home: Arc<dyn Home>,
 }
 
 impl Passes {
-    pub(crate) fn of(shared: &Arc<Shared>) -> Passes {
-        Passes { shared: Arc::clone(shared) }
+    pub(crate) fn of(home: Arc<dyn Home>) -> Passes {
+        Passes { home }
     }
 
     /// Takes a pass out.
@@ -61,7 +61,7 @@ impl Passes {
     ///
     /// [`Error::NoPass`] where all are out, or the table was closed; [`Error::Memory`].
     pub fn take(&self) -> Result<Pass> {
-        Pass::of(&self.shared)
+        Pass::of(Arc::clone(&self.home))
     }
 }
 
@@ -90,13 +90,13 @@ impl Table {
     ///
     /// [`Error::NoPass`] where all are out; [`Error::Memory`].
     pub fn pass(&self) -> Result<Pass> {
-        Pass::of(&self.shared)
+        Pass::of(self.shared.clone())
     }
 
     /// What takes passes out of this table, and may go to any thread.
     #[must_use]
     pub fn passes(&self) -> Passes {
-        Passes::of(&self.shared)
+        Passes::of(self.shared.clone())
     }
 
     /// Gives a free frame its next life: it is [`Kind::Filling`] then.

@@ -2,6 +2,7 @@
 
 use ksmbook::{Book, Command, Error, Found, GuestPage, Pass, Reply, Shape};
 use std::collections::BTreeMap;
+use std::sync::atomic::{AtomicBool, AtomicU64, Ordering};
 
 const NONE: Option<Error> = None;
 
@@ -58,44 +59,55 @@ fn what_is_refused() {
     assert_eq!(apply(&mut book, Command::SetLimit(1)), Some(Error::BadValue));
 }
 
-// Looks each place up so many times, and answers how many lookups found a frame. The words of each have to be those of one frame.
-fn look(pass: &mut Pass, rounds: u32) -> u64 {
-    let mut found = 0;
-    for place in (0..rounds).flat_map(|_| 0..16) {
-        let Found::Held(words) = pass.look_up(place).unwrap() else { continue };
-        assert!(words.iter().all(|word| *word == words[0]), "words of two frames: {words:?}");
-        found += 1;
+// Looks each place up until it is told, and counts the lookups that found a frame. The words of each have to be those of one frame.
+fn look(pass: &mut Pass, found: &AtomicU64, done: &AtomicBool) {
+    while !done.load(Ordering::SeqCst) {
+        for place in 0..16 {
+            let Found::Held(words) = pass.look_up(place).unwrap() else { continue };
+            assert!(words.iter().all(|word| *word == words[0]), "words of two frames: {words:?}");
+            found.fetch_add(1, Ordering::SeqCst);
+        }
     }
-    found
 }
 
 // Each store breaks sharing, each scan merges again, and the dup moves where nobody holds it.
+fn store_and_move(book: &mut Book, n: u32) {
+    let of = page(0, n % 8);
+    match book.apply(Command::Store { page: of, bytes: [u64::from(n / 64); 8] }) {
+        Ok(_) | Err(Error::NoFrame(0)) => {}
+        refused => panic!("{refused:?}"),
+    }
+    assert_eq!(book.apply(Command::Scan { visits: 16 }).map(|reply| reply.stop), Ok(NONE));
+    let Some(place) = book.ticket(of) else { return };
+    match book.apply(Command::MoveDup { place, node: 0 }) {
+        Ok(_) | Err(Error::InUse | Error::NoFrame(0)) => {}
+        refused => panic!("{refused:?}"),
+    }
+}
+
+// It goes on for 5,000 rounds, and until a reader has found a frame.
 #[test]
 fn readers_look_merged_frames_up_beside_the_book() {
     let mut book = Book::open(Shape::SMALL).unwrap();
     let mut passes: Vec<Pass> = (0..4).map(|_| book.pass().unwrap()).collect();
+    let (found, done) = (AtomicU64::new(0), AtomicBool::new(false));
     for n in 0..8 {
-        assert_eq!(book.apply(register(page(0, n), 0, 1)), done(0));
+        book.apply(register(page(0, n), 0, 1)).unwrap();
     }
     book.apply(Command::SetRun(1)).unwrap();
-    let found: u64 = std::thread::scope(|scope| {
-        let readers: Vec<_> = passes.iter_mut().map(|pass| scope.spawn(|| look(pass, 20000))).collect();
-        for n in 0..5000 {
-            let of = page(0, n % 8);
-            match book.apply(Command::Store { page: of, bytes: [u64::from(n / 64); 8] }) {
-                Ok(_) | Err(Error::NoFrame(0)) => {}
-                refused => panic!("{refused:?}"),
-            }
-            assert_eq!(book.apply(Command::Scan { visits: 16 }).map(|reply| reply.stop), Ok(NONE));
-            let Some(place) = book.ticket(of) else { continue };
-            match book.apply(Command::MoveDup { place, node: 0 }) {
-                Ok(_) | Err(Error::InUse | Error::NoFrame(0)) => {}
-                refused => panic!("{refused:?}"),
-            }
+    std::thread::scope(|scope| {
+        for pass in &mut passes {
+            scope.spawn(|| look(pass, &found, &done));
         }
-        readers.into_iter().map(|reader| reader.join().unwrap()).sum()
+        for n in 0.. {
+            assert!(n < 50_000_000, "no lookup found a frame");
+            if n >= 5000 && found.load(Ordering::SeqCst) > 0 {
+                break;
+            }
+            store_and_move(&mut book, n);
+        }
+        done.store(true, Ordering::SeqCst);
     });
-    assert!(found > 0, "no lookup found a frame");
     drop(passes);
     book.close().unwrap();
 }

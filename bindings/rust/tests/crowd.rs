@@ -2,7 +2,7 @@
 //! KSMBOOK_LOOKUPS says how many lookups are made in all (4,000,000).
 
 use ksmbook::{Found, Kind, PAGE_WORDS, Page, Pass, Shape, Table};
-use std::sync::atomic::{AtomicUsize, Ordering};
+use std::sync::atomic::{AtomicBool, AtomicUsize, Ordering};
 
 const READERS: usize = 4;
 const PLACES: u32 = 24;
@@ -36,8 +36,8 @@ fn read(pass: &mut Pass, lookups: u64, first: u32) -> u64 {
     held
 }
 
-// Gives each place in turn a new frame, until nobody reads.
-fn keep(table: &mut Table, reading: &AtomicUsize, frames: u32) -> u64 {
+// Gives each place in turn a new frame, until nobody reads. `begun` is told once each has one.
+fn keep(table: &mut Table, reading: &AtomicUsize, begun: &AtomicBool, frames: u32) -> u64 {
     let (mut at, mut place, mut moves) = ([None; PLACES as usize], 0, 0);
     while reading.load(Ordering::SeqCst) > 0 {
         for frame in 0..frames {
@@ -53,6 +53,7 @@ fn keep(table: &mut Table, reading: &AtomicUsize, frames: u32) -> u64 {
             }
             table.publish(place, frame).unwrap();
             moves += 1;
+            begun.store(moves >= u64::from(PLACES), Ordering::SeqCst);
         }
     }
     moves
@@ -63,21 +64,24 @@ fn four_threads_and_a_keeper() {
     let lookups = std::env::var("KSMBOOK_LOOKUPS").map_or(4_000_000, |told| told.parse().unwrap());
     let mut table = Table::open(Shape { nodes: 4, frames_per_node: 8, ..Shape::SMALL }).unwrap();
     let mut passes: Vec<Pass> = (0..READERS).map(|_| table.pass().unwrap()).collect();
-    let reading = AtomicUsize::new(READERS);
+    let (reading, begun) = (AtomicUsize::new(READERS), AtomicBool::new(false));
     let (held, moves) = std::thread::scope(|scope| {
         let readers: Vec<_> = passes
             .iter_mut()
             .enumerate()
             .map(|(i, pass)| {
-                let reading = &reading;
+                let (reading, begun) = (&reading, &begun);
                 scope.spawn(move || {
+                    while !begun.load(Ordering::SeqCst) {
+                        std::thread::yield_now();
+                    }
                     let held = read(pass, lookups / READERS as u64, i as u32 * 5);
                     reading.fetch_sub(1, Ordering::SeqCst);
                     held
                 })
             })
             .collect();
-        let moves = keep(&mut table, &reading, 32);
+        let moves = keep(&mut table, &reading, &begun, 32);
         (readers.into_iter().map(|reader| reader.join().unwrap()).sum::<u64>(), moves)
     });
     drop(passes);

@@ -1,36 +1,38 @@
 //! Memory images of guests in one store, each content once; images come and go while others are read by several threads, and each is read back
 //! byte for byte.
 //!
-//!   snapshots [--readers N] [--contents N] FILE ..
+//!   snapshots [--readers N] [--contents N] [--json] FILE ..
 //!
 //! Each FILE is an image. They go in one after another, and each second one goes out and in again, while N threads (4) read pages of those that are
-//! there and compare them with the files. Then all are compared, and what is saved is printed. The store is opened for N contents, as many as the
-//! files have pages if none is given.
+//! there and compare them with the files. Then all are listed and compared, and what is saved is printed, with --json as one line of JSON. The store
+//! is opened for N contents, as many as the files have pages if none is given.
 
 mod store;
 
 use std::error::Error;
 use std::sync::atomic::{AtomicBool, AtomicU64, Ordering};
-use store::{Bytes, Fault, PAGE, Stat, Store};
+use store::{Bytes, Fault, Listed, PAGE, Stat, Store};
 
 struct Options {
     readers: usize,
     contents: Option<usize>,
+    is_json: bool,
     files: Vec<String>,
 }
 
 fn options() -> Result<Options, Box<dyn Error>> {
-    let mut options = Options { readers: 4, contents: None, files: Vec::new() };
+    let mut options = Options { readers: 4, contents: None, is_json: false, files: Vec::new() };
     let mut words = std::env::args().skip(1);
     while let Some(word) = words.next() {
         match word.as_str() {
             "--readers" => options.readers = words.next().ok_or("--readers wants a number")?.parse()?,
             "--contents" => options.contents = Some(words.next().ok_or("--contents wants a number")?.parse()?),
+            "--json" => options.is_json = true,
             _ => options.files.push(word),
         }
     }
     if options.files.is_empty() {
-        return Err("snapshots [--readers N] [--contents N] FILE ..".into());
+        return Err("snapshots [--readers N] [--contents N] [--json] FILE ..".into());
     }
     Ok(options)
 }
@@ -92,11 +94,57 @@ fn megabytes(pages: u64) -> f64 {
     (pages * PAGE as u64) as f64 / 1e6
 }
 
-fn print(stat: Stat, reads: u64) {
-    let Stat { pages, contents, sharing, zero } = stat;
+// How many bytes of this process are in memory.
+fn resident() -> u64 {
+    let told = std::fs::read_to_string("/proc/self/statm").unwrap_or_default();
+    told.split_whitespace().nth(1).and_then(|pages| pages.parse::<u64>().ok()).unwrap_or(0) * 4096
+}
+
+/// What was stored, what the store took beside the files, and how many pages were read by how many threads.
+struct Told {
+    images: Vec<Listed>,
+    stat: Stat,
+    bytes: u64,
+    reads: u64,
+    readers: usize,
+}
+
+fn print(told: &Told) {
+    let Stat { pages, contents, sharing, zero } = told.stat;
+    for image in &told.images {
+        println!("{}: {} pages, {} of them empty, {} contents of its own", image.name, image.pages, image.zero, image.alone);
+    }
     println!("{pages} pages, {:.1} MB: {contents} contents, {:.1} MB, and {zero} empty pages", megabytes(pages), megabytes(contents));
-    println!("the books share {sharing} pages: {:.1} MB are saved, {:.1} with the empty ones", megabytes(sharing), megabytes(sharing + zero));
-    println!("{reads} pages were read while images came and went, and all again in the end: each as it was");
+    println!("the store takes {:.1} MB in all; the books share {sharing} pages: {:.1} MB are saved, {:.1} with the empty ones",
+        told.bytes as f64 / 1e6, megabytes(sharing), megabytes(sharing + zero));
+    println!("{} pages were read by {} threads while images came and went, and all again in the end: each as it was", told.reads, told.readers);
+}
+
+// A text between quotes, as JSON has it.
+fn quoted(text: &str) -> String {
+    let escaped = |letter: char| match letter {
+        '"' | '\\' => format!("\\{letter}"),
+        letter if letter < ' ' => format!("\\u{:04x}", u32::from(letter)),
+        letter => letter.to_string(),
+    };
+    format!("\"{}\"", text.chars().map(escaped).collect::<String>())
+}
+
+fn print_json(told: &Told) {
+    let Stat { pages, contents, sharing, zero } = told.stat;
+    let images: Vec<String> = told
+        .images
+        .iter()
+        .map(|of| format!("{{\"name\": {}, \"pages\": {}, \"zero\": {}, \"alone\": {}}}", quoted(&of.name), of.pages, of.zero, of.alone))
+        .collect();
+    println!(
+        "{{\"images\": [{}], \"pages\": {pages}, \"contents\": {contents}, \"sharing\": {sharing}, \"zero\": {zero}, \"bytes\": {}, \
+         \"reads\": {}, \"readers\": {}}}",
+        images.join(", "),
+        told.bytes,
+        told.reads,
+        told.readers
+    );
 }
 
 fn main() -> Result<(), Box<dyn Error>> {
@@ -107,6 +155,7 @@ fn main() -> Result<(), Box<dyn Error>> {
         .map(|name| Ok(Given { name: name.clone(), bytes: std::fs::read(name)? }))
         .collect::<Result<Vec<Given>, std::io::Error>>()?;
     let pages: usize = given.iter().map(|image| image.pages() as usize).sum();
+    let before = resident();
     let store = Store::open(options.contents.unwrap_or(pages))?;
     let changes: Vec<AtomicU64> = given.iter().map(|_| AtomicU64::new(0)).collect();
     let (done, reads) = (AtomicBool::new(false), AtomicU64::new(0));
@@ -120,13 +169,20 @@ fn main() -> Result<(), Box<dyn Error>> {
         ended
     })
     .map_err(|fault| fault.to_string())?;
+    let bytes = resident().saturating_sub(before);
     for image in &given {
         for page in 0..image.pages() {
             let bytes = store.read(&image.name, page).map_err(|fault| fault.to_string())?;
             assert!(image.is_page(page, &bytes), "page {page} of {} is not as it was", image.name);
         }
     }
-    print(store.stat(), reads.load(Ordering::Relaxed));
+    let images = store.list().map_err(|fault| fault.to_string())?;
+    let told = Told { images, stat: store.stat(), bytes, reads: reads.load(Ordering::Relaxed), readers: options.readers };
+    if options.is_json {
+        print_json(&told);
+    } else {
+        print(&told);
+    }
     for image in &given {
         store.remove(&image.name).map_err(|fault| fault.to_string())?;
     }

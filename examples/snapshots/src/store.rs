@@ -1,7 +1,7 @@
 //! The store: images of memory, page by page, and each content of a page once. A book decides which pages share.
 
 use ksmbook::{Book, Command, Error, GuestPage, Page, Shape};
-use std::collections::{BTreeMap, HashMap};
+use std::collections::{BTreeMap, HashMap, HashSet};
 use std::fmt;
 use std::sync::{Arc, Mutex, MutexGuard, PoisonError, RwLock};
 
@@ -11,10 +11,11 @@ pub const PAGE: usize = 4096;
 /// The bytes of a page.
 pub type Bytes = [u8; PAGE];
 
-/// How many contents a book is to have at most: each takes a frame, of which it has 1,024, and a page that is new takes
-/// one until it is merged.
-const CONTENTS: usize = 640;
 const NODES: u32 = 4;
+/// How many frames a node of a book has: several books, each with its own lock, serve several threads better than one.
+const FRAMES_PER_NODE: u32 = if Shape::MOST_FRAMES_PER_NODE < 8192 { Shape::MOST_FRAMES_PER_NODE } else { 8192 };
+/// How many contents a book is to have at most: each takes a frame, and a page that is new takes one until it is merged.
+const CONTENTS: usize = (NODES * FRAMES_PER_NODE) as usize * 5 / 8;
 
 /// Why a call of the store was refused.
 #[derive(Debug)]
@@ -59,6 +60,19 @@ pub struct Stat {
     pub zero: u64,
 }
 
+/// What the store has of an image.
+#[derive(Clone, Debug, PartialEq, Eq)]
+pub struct Listed {
+    /// Its name.
+    pub name: String,
+    /// Its pages.
+    pub pages: u64,
+    /// Those that are empty.
+    pub zero: u64,
+    /// Contents that no other image has: what would go with it.
+    pub alone: u64,
+}
+
 // The words by which a book tells contents apart; an empty page has those that it knows as the zero page.
 fn digest(bytes: &Bytes) -> Page {
     if bytes.iter().all(|byte| *byte == 0) {
@@ -92,7 +106,7 @@ struct Shard {
 
 impl Shard {
     fn open() -> Result<Shard, Error> {
-        let mut book = Book::open(Shape { nodes: NODES, frames_per_node: 256, passes: 1, ..Shape::SMALL })?;
+        let mut book = Book::open(Shape { nodes: NODES, frames_per_node: FRAMES_PER_NODE, passes: 1, ..Shape::SMALL })?;
         for knob in [Command::SetLimit(1024), Command::SetZeroPages(1), Command::SetRun(1)] {
             book.apply(knob)?;
         }
@@ -224,6 +238,32 @@ impl Store {
         let image = self.image(name)?;
         let shard = *image.shards.get(page as usize).ok_or(Fault::Unknown)?;
         locked(&self.shards[shard as usize]).read(GuestPage { guest: image.guest, page })
+    }
+
+    // The words of each page of an image.
+    fn words_of(&self, image: &Image) -> Result<Vec<Page>, Fault> {
+        let read = |(shard, page): (&u32, u32)| {
+            locked(&self.shards[*shard as usize]).book.read(GuestPage { guest: image.guest, page }).ok_or(Fault::Unknown)
+        };
+        image.shards.iter().zip(0..).map(read).collect()
+    }
+
+    /// The images by name, with what the store has of each. Nobody may take one out meanwhile.
+    pub fn list(&self) -> Result<Vec<Listed>, Fault> {
+        let images = self.images.read().unwrap_or_else(PoisonError::into_inner);
+        let mut having: HashMap<Page, u64> = HashMap::new();
+        let mut listed = Vec::new();
+        for (name, image) in images.iter() {
+            let words = self.words_of(image)?;
+            let zero = words.iter().filter(|words| **words == [0; 8]).count() as u64;
+            let contents: HashSet<Page> = words.into_iter().filter(|words| *words != [0; 8]).collect();
+            for words in &contents {
+                *having.entry(*words).or_default() += 1;
+            }
+            listed.push((Listed { name: name.clone(), pages: image.shards.len() as u64, zero, alone: 0 }, contents));
+        }
+        let alone = |contents: HashSet<Page>| contents.iter().filter(|words| having[*words] == 1).count() as u64;
+        Ok(listed.into_iter().map(|(image, contents)| Listed { alone: alone(contents), ..image }).collect())
     }
 
     /// What the store has.
