@@ -5,7 +5,8 @@
 //! guess: it is compared before it is believed.
 //!
 //! A group keeps its number when nothing stands in it any more, until there are 4,096 groups more than there were after
-//! the last sweep: then all such groups go. A page waits as long as the pass goes on whose number stands beside it, so
+//! the last sweep, or twice as many if that is more: then all such groups go, so a sweep costs each new group a few
+//! steps. A page waits as long as the pass goes on whose number stands beside it, so
 //! when a pass begins none waits. How many groups are chains is kept beside them, so the counters of chains are read.
 ghost use Rattle.std.specs.Prelude.{◌≡◌, ◌≢◌, ◌⊎◌, ℕ, ◌+◌, ◌<◌, ◌==◌, ◌&&◌, List, [], Some, None, IfErr, IfOk};
 ghost use Rattle.std.specs.Prelude.{IsTrue, OnOk, OnErr, bytes_eq, false, is_some, length, true, option_copied};
@@ -29,7 +30,7 @@ use std::collections::BTreeMap;
 /// Where the caller remembers no number.
 pub const NO_NUMBER: u32 = u32::MAX;
 
-/// So many groups may come until those in which nothing stands are dropped.
+/// So many groups may come, or as many as there are if these are more, until those in which nothing stands are dropped.
 pub const SPARE: usize = 4_096;
 
 /// A group: the places of its dups, in ascending order, and the page that waited there last, with the number of the
@@ -227,7 +228,8 @@ impl Groups {
         for number in 0..self.groups.capacity() {
             self.drop_idle(number);
         }
-        self.most = self.numbers.len().saturating_add(SPARE);
+        let left = self.numbers.len();
+        self.most = left.saturating_add(left.max(SPARE));
     }
 
     // The group with a number goes, if there is one and nothing stands in it.
