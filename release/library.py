@@ -4,7 +4,8 @@
   release/library.py manual     prints the manual page of the header
 
 libksmbook1 has the shared library; libksmbook-dev the header, the static library, ksmbook.pc, the manual page and the
-examples; ksmbook-VERSION.crate is for Cargo, and carries the library for x86-64.
+examples; ksmbook-VERSION.crate is for Cargo, and carries the library for x86-64. ksmbook-host-VERSION-x86_64.tar.gz has the
+program, the header, both libraries and the crate in a host's size, as release/host built them.
 """
 
 import re
@@ -15,6 +16,7 @@ from pathlib import Path
 
 TOP = Path(__file__).resolve().parent.parent
 BUILT = TOP / "bindings" / "out"
+HOST = TOP / "release" / "out" / "host"
 HEADER = TOP / "bindings" / "ksmbook.h"
 TRIPLET = "x86_64-linux-gnu"
 SHARED_DESCRIPTION = """\
@@ -178,10 +180,24 @@ def crate_package(build, _, work, output):
     return Path(shutil.copy(made, output))
 
 
+def host_archive(build, commit, work, output):
+    """The program and the library in a host's size, of release/host."""
+    name = f"ksmbook-host-{commit.version}-x86_64"
+    root, version = work / name, build.told("cat", str(TOP / "VERSION"))
+    build.put(root / "bin" / "ksmbook-host", b"")
+    build.told("objcopy", "--strip-all", str(HOST / "ksmbook-host"), str(root / "bin" / "ksmbook-host"))
+    build.put(root / "include" / "ksmbook.h", (HOST / "bindings" / "ksmbook.h").read_bytes())
+    for file in ("libksmbook.a", f"libksmbook.so.{version}"):
+        build.put(root / "lib" / file, (HOST / "bindings" / "out" / file).read_bytes())
+    build.told(str(HOST / "release" / "crate"), str(root / "crate"))
+    build.put(root / "copyright", copyright_of().encode())
+    return build.pack_archive(commit, work, name, output)
+
+
 def packages(build, commit, work, output):
     """All of them, over the library as it was proved. `build` is release/build, for what it makes of every package."""
     build.told(str(TOP / "release" / "join"))
-    return [make(build, commit, work, output) for make in (shared_package, dev_package, crate_package)]
+    return [make(build, commit, work, output) for make in (shared_package, dev_package, crate_package, host_archive)]
 
 
 def main():
