@@ -94,7 +94,7 @@ impl Dups {
         Ok(Dups {
             alloc,
             slots: Slots::open(alloc, places)?,
-            index: Index::new(alloc),
+            index: Index::new(alloc, places),
             group_at: vec![in alloc; NO_NUMBER; places as usize]?,
             next: 0,
             limit: Knobs::DEFAULT.max_page_sharing,

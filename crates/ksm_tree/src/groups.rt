@@ -5,7 +5,7 @@
 //! guess: it is compared before it is believed.
 //!
 //! A group keeps its number when nothing stands in it any more, until there are 4,096 groups more than there were after
-//! the last sweep, or twice as many if that is more: then all such groups go, so a sweep costs each new group a few
+//! the last sweep, in a large table four for each place: then all such groups go, so a sweep costs each new group a few
 //! steps. A page waits as long as the pass goes on whose number stands beside it, so
 //! when a pass begins none waits. How many groups are chains is kept beside them, so the counters of chains are read.
 ghost use Rattle.std.specs.Prelude.{◌≡◌, ◌≢◌, ℕ, ◌<◌, List, [], Some, None, IfErr, IfOk};
@@ -29,7 +29,8 @@ use std::collections::BTreeMap;
 /// Where the caller remembers no number.
 pub const NO_NUMBER: u32 = u32::MAX;
 
-// So many groups may come, or as many as there are if these are more, until those in which nothing stands are dropped.
+// So many groups may come until those in which nothing stands are dropped, or four for each place if these are more: the
+// pages and the dups of a table need two for each, and find theirs again in most passes.
 const SPARE: usize = 4_096;
 
 /// A group: the places of its dups, in ascending order, and the page that waited there last, with the number of the
@@ -49,8 +50,9 @@ pub struct Groups {
     groups: Slab<Group>,
     pub totals: Totals,
     pass: u64,
-    // With how many groups those go in which nothing stands.
+    // With how many groups those go in which nothing stands, and how many more than are left then.
     most: usize,
+    spare: usize,
     recent: Guesses,
     ghost lawful: { AreGroups numbers.entries groups pass },
 }
@@ -59,13 +61,14 @@ impl Groups {
     ghost use Rattle.ksm_tree.specs.Groups.{IsCounted, IsCountedAnew, IsMoved};
     ghost use Rattle.ksm_tree.specs.Groups.{SameChains, SameWaits, chain_in, waiting_in};
 
-    /// No groups.
-    pub fn new(alloc: Global) -> Groups
+    /// No groups, in a table with so many places.
+    pub fn new(alloc: Global, places: u32) -> Groups
         ensures chains { (t : ℕ) (b : List ℕ) → chain_in t b result ≡ [] }
         ensures totals { result.totals ≡ record { chains = 0; dups = 0; longest = 0 } }
         ensures waiting { waiting_in result ≡ [] }
         ensures numbers { result.numbers.entries ≡ [] }
     {
+        let spare = SPARE.max(4 * places as usize);
         Groups {
             numbers: BTreeMap::new(alloc),
             groups: Slab::new(alloc),
@@ -75,7 +78,8 @@ impl Groups {
                 longest: 0,
             },
             pass: 1,
-            most: SPARE,
+            most: spare,
+            spare,
             recent: Guesses::new(alloc, SLOTS),
         }
     }
@@ -204,8 +208,7 @@ impl Groups {
         for number in 0..self.groups.capacity() {
             self.drop_idle(number);
         }
-        let left = self.groups.len();
-        self.most = left.saturating_add(left.max(SPARE));
+        self.most = self.groups.len().saturating_add(self.spare);
     }
 
     // The group with a number goes, if there is one and nothing stands in it.

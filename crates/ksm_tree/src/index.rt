@@ -21,7 +21,7 @@ impl Index {
     ghost use Rattle.ksm_tree.specs.Index.{IsEntered, LeadTheSame, place_of, places_of};
 
     /// An index of no dups.
-    pub fn new(alloc: Global) -> Index
+    pub fn new(alloc: Global, places: u32) -> Index
         ensures numbers { (q : ℕ) → place_of q result ≡ None }
         ensures groups { (t : ℕ) (b : List ℕ) → places_of t b result ≡ [] }
         ensures totals { result.groups.totals ≡ record { chains = 0; dups = 0; longest = 0 } }
@@ -30,7 +30,7 @@ impl Index {
     {
         Index {
             numbers: HashMap::new(alloc),
-            groups: Groups::new(alloc),
+            groups: Groups::new(alloc, places),
         }
     }
 
