@@ -7,6 +7,7 @@ program.
 libksmbook1 has the shared library, and libksmbook-host1 that of a host's size, where release/host has made it
 (bindings/out/libksmbook-host.a); libksmbook-dev the header, the static libraries, ksmbook.pc and ksmbook-host.pc, the
 manual page and the examples; ksmbook-VERSION.crate is for Cargo, and carries the libraries for x86-64.
+ksmbook-host-VERSION-x86_64.tar.gz has the program of a host's size, where release/host built it.
 """
 
 import re
@@ -17,6 +18,7 @@ from pathlib import Path
 
 TOP = Path(__file__).resolve().parent.parent
 BUILT = TOP / "bindings" / "out"
+HOST = TOP / "release" / "out" / "host"
 HEADER = TOP / "bindings" / "ksmbook.h"
 TRIPLET = "x86_64-linux-gnu"
 # The libraries, each with the flags of pkg-config for its limits, and what its description begins with.
@@ -196,11 +198,25 @@ def crate_package(build, _, work, output):
     return Path(shutil.copy(made, output))
 
 
+def host_archive(build, commit, work, output):
+    """The program and the library in a host's size, of release/host."""
+    name = f"ksmbook-host-{commit.version}-x86_64"
+    root, version = work / name, build.told("cat", str(TOP / "VERSION"))
+    build.put(root / "bin" / "ksmbook-host", b"")
+    build.told("objcopy", "--strip-all", str(HOST / "ksmbook-host"), str(root / "bin" / "ksmbook-host"))
+    build.put(root / "include" / "ksmbook.h", (HOST / "bindings" / "ksmbook.h").read_bytes())
+    for file in ("libksmbook.a", f"libksmbook.so.{version}"):
+        build.put(root / "lib" / file, (HOST / "bindings" / "out" / file).read_bytes())
+    build.told(str(HOST / "release" / "crate"), str(root / "crate"))
+    build.put(root / "copyright", copyright_of().encode())
+    return build.pack_archive(commit, work, name, output)
+
+
 def packages(build, commit, work, output):
     """All of them, over the library as it was proved. `build` is release/build, for what it makes of every package."""
     build.told(str(TOP / "release" / "join"))
     shared = [shared_package(build, commit, work, output, name) for name in built()]
-    return [*shared, *(make(build, commit, work, output) for make in (dev_package, crate_package))]
+    return [*shared, *(make(build, commit, work, output) for make in (dev_package, crate_package, host_archive))]
 
 
 def main():

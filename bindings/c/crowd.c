@@ -13,9 +13,12 @@
 #include <stdio.h>
 #include <stdlib.h>
 
+/* How large the table is; a build may set others. PLACES is no multiple of 5 or 7, and less than FRAMES. */
+#ifndef READERS
 #define READERS 4
 #define FRAMES 32
 #define PLACES 24
+#endif
 
 typedef struct reader {
     ksm_pass pass;
@@ -30,7 +33,7 @@ static atomic_int reading = 0, begun = 0;
 
 /* Word i of the page in this frame and life. */
 static uint64_t word_of(uint64_t frame, uint64_t life, uint64_t i) {
-    return (life << 20 | frame << 8 | i) * 0x9E3779B97F4A7C15u;
+    return (life << 32 | frame << 4 | i) * 0x9E3779B97F4A7C15u;
 }
 
 static int is_of(const uint64_t *words, uint64_t frame, uint64_t life) {
@@ -43,7 +46,7 @@ static int is_of(const uint64_t *words, uint64_t frame, uint64_t life) {
 /* Which frame and life the first word tells, by the inverse of the factor. */
 static int is_one_life(const uint64_t *words) {
     uint64_t told = words[0] * 0xF1DE83E19937733Du;
-    return is_of(words, told >> 8 & 0xFFF, told >> 20);
+    return is_of(words, told >> 4 & 0xFFFFFFF, told >> 32);
 }
 
 /* A hold of several calls: its words are read twice, and compared with what it tells of itself. */
@@ -114,7 +117,7 @@ int main(int argc, char **argv) {
     ksm_table table = KSM_TABLE_NONE;
     reader readers[READERS] = {0};
     pthread_t threads[READERS];
-    int at[PLACES];
+    static int at[PLACES];
     uint64_t moves = 0, frozen = 0, wrong = 0, found[KSM_USED + 1] = {0};
 
     must(ksm_table_open(&table, 4, FRAMES / 4, READERS, KSM_MOST_LIVES, KSM_MOST_TRIES), "ksm_table_open");

@@ -1,10 +1,10 @@
 -- The groups: the dups of one tree and one content (mm/ksm: a chain links the copies of one content),
 -- and the page that waits there.
 use Rattle.std.specs.Prelude.{◌≡◌, ℕ, ◌+◌, ◌≤◌, Bool, true, ◌&&◌, ◌||◌, ◌==◌, nat_lt, List, [], Option, Some, None, is_some}
-use Rattle.std.specs.Prelude.{bytes_eq, filter_map, length, max, if◌then◌else◌}
+use Rattle.std.specs.Prelude.{bytes_eq, filter_map, length, if◌then◌else◌}
 use Rattle.slab.specs.Slab.{get}
 use Rattle.ksm_tree.specs.declared.groups.Groups.{Groups}
-use Rattle.ksm_tree.specs.declared.groups.TheConstants.{SPARE}
+use Rattle.ksm_tree.specs.declared.groups.TheConstants.{MOST_SPARE}
 use Rattle.ksm_tree.specs.Grouping.{places_in, waits_in}
 use Rattle.ksm_tree.specs.Numbered.{number_of}
 use Rattle.ksm_tree.specs.Totals.{IsRegrouped, Tells}
@@ -29,12 +29,12 @@ abbrev pub is_used_in : Groups → ℕ → List ℕ → Bool
 is_used_in groups tree bytes =
     nat_lt 0 (length (chain_in tree bytes groups)) || is_some (waiting_page tree bytes (waiting_in groups))
 
--- every content that has a number is in use, and there may be as many more as have one, or as the reserve has
+-- every content that has a number is in use, and at most so many more may get one as the reserve has
 pub record IsSwept (groups : Groups) : Type 0 where
   pub used : (tree : ℕ) (bytes : List ℕ) → is_some (number_of tree bytes groups.numbers.entries) ≡ true
       → is_used_in groups tree bytes ≡ true
   pub least : length groups.numbers.entries ≤ groups.most
-  pub most : groups.most ≤ length groups.numbers.entries + max (length groups.numbers.entries) SPARE
+  pub most : groups.most ≤ length groups.numbers.entries + MOST_SPARE
 
 -- the same contents have numbers, and as many may have one
 abbrev pub IsAsWas : Groups → Groups → Type 0

@@ -25,7 +25,7 @@ ghost use Rattle.ksm_tree.specs.Index.{group_places, is_in_use};
 ghost use Rattle.ksm_tree.specs.Numbered.{IsUnused, number_of};
 ghost use Rattle.ksm_tree.specs.Reserve.{KeepsReserve};
 ghost use Rattle.ksm_tree.specs.Waits.{IsAdded, IsRemoved, waiting_page};
-ghost use Rattle.ksm_tree.specs.declared.groups.TheConstants.{SPARE};
+ghost use Rattle.ksm_tree.specs.declared.groups.TheConstants.{MOST_SPARE};
 
 use crate::choice::Choice;
 use crate::dup::{Best, Dup};
@@ -90,14 +90,15 @@ impl Dups {
           next = 0;
           waiting = [];
           numbers = [];
-          most = SPARE;
+          most = dups.most;
         }) }
+        ensures room { IfOk result (λ dups. dups.most ≤ MOST_SPARE) }
         ensures memory { IfErr result (λ fault. fault ≡ Fault.Memory) }
     {
         Ok(Dups {
             alloc,
             slots: Slots::open(alloc, places)?,
-            index: Index::new(alloc),
+            index: Index::new(alloc, places),
             group_at: vec![in alloc; NO_NUMBER; places as usize]?,
             next: 0,
             limit: Knobs::DEFAULT.max_page_sharing,

@@ -5,10 +5,10 @@
 //! guess: it is compared before it is believed.
 //!
 //! A group keeps its number when nothing stands in it any more, until there are 4,096 groups more than there were after
-//! the last sweep, or twice as many if that is more: then all such groups go, so a sweep costs each new group a few
+//! the last sweep, in a large table four for each place: then all such groups go, so a sweep costs each new group a few
 //! steps. A page waits as long as the pass goes on whose number stands beside it, so
 //! when a pass begins none waits. How many groups are chains is kept beside them, so the counters of chains are read.
-ghost use Rattle.std.specs.Prelude.{◌≡◌, ◌≢◌, ◌⊎◌, ℕ, ◌+◌, ◌<◌, ◌==◌, ◌&&◌, List, [], Some, None, IfErr, IfOk};
+ghost use Rattle.std.specs.Prelude.{◌≡◌, ◌≢◌, ◌⊎◌, ℕ, ◌+◌, ◌<◌, ◌≤◌, ◌==◌, ◌&&◌, List, [], Some, None, IfErr, IfOk};
 ghost use Rattle.std.specs.Prelude.{IsTrue, OnOk, OnErr, bytes_eq, false, is_some, length, true, option_copied};
 ghost use Rattle.std.specs.Option.{ForSome, unwrap_or};
 ghost use Rattle.slab.specs.Slab.{get};
@@ -17,12 +17,14 @@ ghost use Rattle.ksm_tree.specs.Numbered.{IsUnused, number_of};
 ghost use Rattle.ksm_tree.specs.Places.{with_place, without};
 ghost use Rattle.ksm_tree.specs.Reserve.{KeepsReserve};
 ghost use Rattle.ksm_tree.specs.Waits.{IsAdded, IsRemoved, waiting_page};
+ghost use Rattle.ksm_base.specs.declared.limits.TheConstants.{MOST_FRAMES as most_frames};
+ghost use Rattle.ksm_tree.specs.declared.groups.TheConstants.{MOST_SPARE as most_spare};
 
 use crate::content::{Content, SLOTS, slot_of};
 use crate::guesses::Guesses;
 use crate::places::Places;
 use crate::totals::Totals;
-use ksm_base::{Fault, GuestPage, PageBytes};
+use ksm_base::{Fault, GuestPage, MOST_FRAMES, PageBytes};
 use slab::Slab;
 use std::alloc::Global;
 use std::collections::BTreeMap;
@@ -30,8 +32,12 @@ use std::collections::BTreeMap;
 /// Where the caller remembers no number.
 pub const NO_NUMBER: u32 = u32::MAX;
 
-/// So many groups may come, or as many as there are if these are more, until those in which nothing stands are dropped.
+/// So many groups may come until those in which nothing stands are dropped, or four for each place if these are more: the
+/// pages and the dups of a table need two for each, and find theirs again in most passes.
 pub const SPARE: usize = 4_096;
+
+/// So many at most.
+pub const MOST_SPARE: usize = SPARE + 4 * MOST_FRAMES as usize;
 
 /// A group: the places of its dups, in ascending order, and the page that waited there last, with the number of the
 /// pass in which it did. Where the page waits no more that number is 0.
@@ -50,24 +56,29 @@ pub struct Groups {
     groups: Slab<Group>,
     pub totals: Totals,
     pass: u64,
-    // So many groups there may be: before one more comes those go in which nothing stands.
+    // So many groups there may be: before one more comes those go in which nothing stands. And how many more than are left
+    // then.
     most: usize,
+    spare: usize,
     recent: Guesses,
     ghost lawful: { AreGroups numbers.entries groups pass },
+    ghost bounded: { spare ≤ most_spare },
 }
 
 impl Groups {
     ghost use Rattle.ksm_tree.specs.Groups.{IsCounted, IsCountedAnew, IsMoved};
     ghost use Rattle.ksm_tree.specs.Groups.{IsAsWas, IsSwept, SameChains, SameWaits, chain_in, is_used_in, waiting_in};
 
-    /// No groups.
-    pub fn new(alloc: Global) -> Groups
+    /// No groups, in a table with so many places.
+    pub fn new(alloc: Global, places: u32) -> Groups
+        requires { places ≤ most_frames }
         ensures chains { (t : ℕ) (b : List ℕ) → chain_in t b result ≡ [] }
         ensures totals { result.totals ≡ record { chains = 0; dups = 0; longest = 0 } }
         ensures waiting { waiting_in result ≡ [] }
         ensures numbers { result.numbers.entries ≡ [] }
-        ensures most { result.most ≡ SPARE }
+        ensures most { result.most ≤ most_spare }
     {
+        let spare = SPARE.max(4 * places as usize);
         Groups {
             numbers: BTreeMap::new(alloc),
             groups: Slab::new(alloc),
@@ -77,7 +88,8 @@ impl Groups {
                 longest: 0,
             },
             pass: 1,
-            most: SPARE,
+            most: spare,
+            spare,
             recent: Guesses::new(alloc, SLOTS),
         }
     }
@@ -228,8 +240,7 @@ impl Groups {
         for number in 0..self.groups.capacity() {
             self.drop_idle(number);
         }
-        let left = self.numbers.len();
-        self.most = left.saturating_add(left.max(SPARE));
+        self.most = self.numbers.len().saturating_add(self.spare);
     }
 
     // The group with a number goes, if there is one and nothing stands in it.

@@ -1,10 +1,11 @@
 //! The index that finds dups by number and by content. It keeps places and no dups, so each dup lies in one slot only.
-ghost use Rattle.std.specs.Prelude.{◌≡◌, ℕ, List, [], ◌&&◌, ◌==◌, not, None, IfErr};
+ghost use Rattle.std.specs.Prelude.{◌≡◌, ℕ, ◌≤◌, List, [], ◌&&◌, ◌==◌, not, None, IfErr};
 ghost use Rattle.std.specs.Prelude.{OnErr, OnOk, bytes_eq, is_some, true, if◌then◌else◌};
 ghost use Rattle.ksm_tree.specs.Groups.{IsCounted, IsCountedAnew, IsMoved, SameWaits, waiting_in};
 ghost use Rattle.ksm_tree.specs.Numbered.{number_of};
 ghost use Rattle.ksm_tree.specs.Places.{without};
-ghost use Rattle.ksm_tree.specs.declared.groups.TheConstants.{SPARE};
+ghost use Rattle.ksm_base.specs.declared.limits.TheConstants.{MOST_FRAMES};
+ghost use Rattle.ksm_tree.specs.declared.groups.TheConstants.{MOST_SPARE};
 
 use crate::groups::Groups;
 use ksm_base::{DupRow, Fault};
@@ -22,17 +23,18 @@ impl Index {
     ghost use Rattle.ksm_tree.specs.Index.{IsEntered, LeadTheSame, place_of, places_of};
 
     /// An index of no dups.
-    pub fn new(alloc: Global) -> Index
+    pub fn new(alloc: Global, places: u32) -> Index
+        requires { places ≤ MOST_FRAMES }
         ensures numbers { (q : ℕ) → place_of q result ≡ None }
         ensures groups { (t : ℕ) (b : List ℕ) → places_of t b result ≡ [] }
         ensures totals { result.groups.totals ≡ record { chains = 0; dups = 0; longest = 0 } }
         ensures waiting { waiting_in result.groups ≡ [] }
         ensures contents { result.groups.numbers.entries ≡ [] }
-        ensures most { result.groups.most ≡ SPARE }
+        ensures most { result.groups.most ≤ MOST_SPARE }
     {
         Index {
             numbers: HashMap::new(alloc),
-            groups: Groups::new(alloc),
+            groups: Groups::new(alloc, places),
         }
     }
 

@@ -35,7 +35,7 @@ impl Waiting {
     {
         Waiting {
             alloc,
-            groups: Groups::new(alloc),
+            groups: Groups::new(alloc, 0),
         }
     }
 

@@ -10,7 +10,7 @@ invariant_of-self c =
     let s = c.args.self.now in
     let now : Group = record c.in-Some-get_mut.group.now { places = c.reserve.new.self } in
     let stood = c.in-Some-get_mut.ensures.value in
-    record { lawful = rewritten s c.in-Some.number _ now stood refl (s.lawful.passes c.in-Some.number _ (sym stood)) }
+    record { lawful = rewritten s c.in-Some.number _ now stood refl (s.lawful.passes c.in-Some.number _ (sym stood)); bounded = s.bounded }
 
 pub returns-in_err-reserve-clause-waits : goal.returns-in_err-reserve-clause-waits
 returns-in_err-reserve-clause-waits c =
@@ -22,7 +22,7 @@ invariant_of-self-2 c =
     let s = c.args.self.now in
     let now : Group = record c.in-Some-get_mut.group.now { places = c.insert.new.self } in
     let stood = c.in-Some-get_mut.ensures.value in
-    record { lawful = rewritten s c.in-Some.number _ now stood refl (s.lawful.passes c.in-Some.number _ (sym stood)) }
+    record { lawful = rewritten s c.in-Some.number _ now stood refl (s.lawful.passes c.in-Some.number _ (sym stood)); bounded = s.bounded }
 
 pub returns-clause-added : goal.returns-clause-added
 returns-clause-added c =

@@ -8,6 +8,7 @@ invariant_of-self c =
     record {
       lawful = gone_groups s.numbers c.remove.new.self s.pass s.groups c.try_remove.new.self s.lawful c.in-Some.group.content c.args.number None None
           c.remove.ensures.updates c.try_remove.ensures.updates (c.if-not-is_idle.ensures.idle refl) (refl, refl) c.in-Some.group c.in-Some.ensures.value refl refl refl;
+      bounded = s.bounded;
     }
 
 pub returns-in-Some-clause-chains : goal.returns-in-Some-clause-chains

@@ -26,7 +26,7 @@ entered c =
     c.in_ok-insert.ensures.updates fills refl refl c.new.ensures.none
 
 pub invariant_of-self-2 : goal.invariant_of-self-2
-invariant_of-self-2 c = record { lawful = (entered (goal.at.invariant_of-self-2 c).After-insert_reserved).lawful }
+invariant_of-self-2 c = record { lawful = (entered (goal.at.invariant_of-self-2 c).After-insert_reserved).lawful; bounded = c.args.self.now.bounded }
 
 pub returns-clause-chains : goal.returns-clause-chains
 returns-clause-chains c = record { chains = (entered (goal.at.returns-clause-chains c).After-insert_reserved).chains; totals = refl }

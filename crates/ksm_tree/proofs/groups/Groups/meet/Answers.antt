@@ -19,7 +19,7 @@ returns-then-group-self-clause-added c t b is t' b' =
 pub invariant_of-self-in-Some : goal.invariant_of-self-in-Some
 invariant_of-self-in-Some c =
     let s = c.args.self.now in
-    record { lawful = rewritten s c.args.number _ (record c.in-Some.group.now { page = c.args.page; pass = s.pass }) c.in-Some.ensures.value refl (omega arith) }
+    record { lawful = rewritten s c.args.number _ (record c.in-Some.group.now { page = c.args.page; pass = s.pass }) c.in-Some.ensures.value refl (omega arith); bounded = s.bounded }
 
 pub returns-else-group-self-clause-met : goal.returns-else-group-self-clause-met
 returns-else-group-self-clause-met c t b is =

@@ -7,7 +7,7 @@ invariant_of-self c =
     let s = c.args.self.now in
     let now : Group = record c.in-Some-get_mut.group.now { places = c.remove.new.self } in
     let stood = c.in-Some-get_mut.ensures.value in
-    record { lawful = rewritten s c.in-Some.number _ now stood refl (s.lawful.passes c.in-Some.number _ (sym stood)) }
+    record { lawful = rewritten s c.in-Some.number _ now stood refl (s.lawful.passes c.in-Some.number _ (sym stood)); bounded = s.bounded }
 
 pub returns-in-Some-get_mut-clause-removed : goal.returns-in-Some-get_mut-clause-removed
 returns-in-Some-get_mut-clause-removed c =

@@ -4,7 +4,7 @@ use Rattle.ksm_tree.proofs.groups.Groups.stop_waiting.Goals as goal
 
 pub invariant_of-self : goal.invariant_of-self
 invariant_of-self c =
-    record { lawful = rewritten c.args.self.now c.in-Some.number _ (record c.in-Some-get_mut.group.now { pass = 0 }) c.in-Some-get_mut.ensures.value refl (omega arith) }
+    record { lawful = rewritten c.args.self.now c.in-Some.number _ (record c.in-Some-get_mut.group.now { pass = 0 }) c.in-Some-get_mut.ensures.value refl (omega arith); bounded = c.args.self.now.bounded }
 
 pub returns-in-Some-get_mut-clause-removed : goal.returns-in-Some-get_mut-clause-removed
 returns-in-Some-get_mut-clause-removed c t b =

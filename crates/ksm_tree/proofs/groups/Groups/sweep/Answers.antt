@@ -9,6 +9,6 @@ returns-clause-swept c =
       used = all_used s s.lawful (λ n has.
           let inside = within_slots s.groups n has in
           c.loop-number.invariant.3 n (omega (arith, inside, c.capacity-number-end.ensures.slots, c.loop-number.invariant.2, c.loop-number-test.false)) has);
-      least = omega (arith, c.len-left.ensures.len, c.max.ensures, c.saturating_add-self.ensures, c.len-left.ensures.small);
-      most = omega (arith, c.len-left.ensures.len, c.max.ensures, c.saturating_add-self.ensures, c.len-left.ensures.small);
+      least = omega (arith, s.bounded, c.len.ensures.len, c.saturating_add-self.ensures, c.len.ensures.small);
+      most = omega (arith, s.bounded, c.len.ensures.len, c.saturating_add-self.ensures, c.len.ensures.small);
     }
