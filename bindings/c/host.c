@@ -165,7 +165,10 @@ static void lay(void) {
     scan(page_count);
     begin();
     scan(page_count);
-    END("visit", page_count);
+    END("waits", page_count);
+    begin();
+    scan(2 * page_count);
+    END("visit", 2 * page_count);
     is(counters().unshared, page_count, "pages that wait");
 }
 
