@@ -7,7 +7,7 @@
  * end and its words do not change. No lookup and no call of the keeper takes a lock or waits.
  *
  * One thread at a time is the KEEPER, by the table's handle. It gives a frame its next life (ksm_raise), fills it (ksm_put), opens it
- * (ksm_open_frame) and names it at a place (ksm_publish). To take it back it gives its references back (ksm_sub, or ksm_freeze at once if no
+ * (ksm_open_frame) and names it at a place (ksm_publish, ksm_replace). To take it back it gives its references back (ksm_sub, or ksm_freeze at once if no
  * reader has one) and then reaps it (ksm_reap), which it may try as often as it likes until the last reader has left.
  * A frame is FREE, FILLING, PRIVATE, STABLE, DYING or RETIRED; each call below says where it is allowed.
  *
@@ -178,8 +178,11 @@ uint32_t ksm_version(void);
  * left happens before what you do after the reap (both are steps of sequential consistency on one word). So what a frame's words point to may
  * be freed or used again then, and not before. The same holds of a freeze that answers KSM_DONE.
  *
- * A place that is named anew: publish the new frame after the last reference on the old one is given back (ksm_sub or ksm_freeze, whichever
- * frees the place), and reap that when you like. Between the two steps a reader finds the place gone (KSM_ZERO), and never a wrong page.
+ * A place that is named anew: ksm_replace names the new frame by one step, so a reader finds the old one or the new one, and the place is never
+ * empty (KSM_VACANT). Just after it give the references on the old frame back (ksm_sub or ksm_freeze), and reap that when you like. A reader whom
+ * this overtakes within its lookup may find the old frame gone (KSM_ZERO, KSM_LIFE): the place names another by then, so it looks the place up
+ * again, and it has to look once more only where a whole replacement came between. ksm_publish wants the last reference on the old frame given
+ * back first: between the two steps each reader finds the place gone. With neither does a reader find a wrong page.
  *
  * ksm_reap_all reaps each of frames[0 .. *count], in that order. Those that stay are moved to the front, in their order, and *count says how
  * many they are; those that were reaped stand behind them. KSM_DONE where none stays; KSM_USED where readers hold all that stay; else the first
@@ -190,6 +193,9 @@ KSM_CALL ksm_put(ksm_table *table, uint32_t frame, size_t i, uint64_t word);    
 KSM_CALL ksm_open_frame(ksm_table *table, uint32_t frame);                        /* FILLING: one reference; PRIVATE then */
 KSM_CALL ksm_publish(ksm_table *table, uint32_t place, uint32_t frame);           /* PRIVATE: STABLE then. Not where the place names a
                                                                                      frame that is STABLE in the life named */
+KSM_CALL ksm_replace(ksm_table *table, uint32_t place, uint32_t frame);           /* PRIVATE: STABLE then. Only where the place names a
+                                                                                     frame that is STABLE in the life named: that one
+                                                                                     stays as it is, and is named there no more */
 KSM_CALL ksm_withdraw(ksm_table *table, uint32_t place);                          /* empties the place; not where it names such a frame */
 KSM_CALL ksm_add(ksm_table *table, uint32_t frame);                               /* from 1 to KSM_MOST_REFERENCES - 1 of the keeper: one more */
 KSM_CALL ksm_sub(ksm_table *table, uint32_t frame);                               /* from 1 on: one less; with the last, DYING then */

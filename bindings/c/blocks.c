@@ -61,7 +61,7 @@ static int is_block(const uint64_t *block, uint64_t key, uint64_t least) {
 }
 
 typedef struct reader {
-    uint64_t reads, gone, wrong;
+    uint64_t reads, again, wrong;
 } reader;
 
 static void *read_blocks(void *arg) {
@@ -70,11 +70,11 @@ static void *read_blocks(void *arg) {
     must(ksm_pass_open(&table, &pass), "ksm_pass_open");
     for (uint32_t key = 0; !atomic_load(&done); key = (key + 7) % KEYS) {
         uint64_t least = atomic_load(&written[key]), at = 0;
-        /* Between the end of the old frame and the name of the new one the place is told gone. */
-        if (ksm_find(&pass, key) != KSM_DONE) {
-            r->gone++;
-            continue;
-        }
+        uint32_t answer;
+        /* Whom a replacement overtook looks again; no place is ever empty. */
+        while ((answer = ksm_find(&pass, key)) == KSM_ZERO || answer == KSM_LIFE || answer == KSM_BUSY)
+            r->again++;
+        must(answer, "ksm_find");
         must(ksm_word(&pass, 0, &at), "ksm_word");
         COMES_AFTER(at);
         r->wrong += !is_block((const uint64_t *)(uintptr_t)at, key, least);
@@ -113,11 +113,13 @@ static void put(uint32_t key, uint64_t version) {
     must(ksm_raise(&table, frame), "ksm_raise");
     must(ksm_put(&table, frame, 0, (uint64_t)(uintptr_t)blocks[frame]), "ksm_put");
     must(ksm_open_frame(&table, frame), "ksm_open_frame");
-    if (version > 0) {
+    if (version == 0) {
+        must(ksm_publish(&table, key, frame), "ksm_publish");
+    } else {
+        must(ksm_replace(&table, key, frame), "ksm_replace");
         must(ksm_sub(&table, frame_of[key]), "ksm_sub");
         dying[dying_count++] = frame_of[key];
     }
-    must(ksm_publish(&table, key, frame), "ksm_publish");
     frame_of[key] = frame;
     atomic_store(&written[key], version);
 }
@@ -145,7 +147,7 @@ int main(int argc, char **argv) {
     for (int i = 0; i < readers; i++) {
         pthread_join(threads[i], NULL);
         all.reads += found[i].reads;
-        all.gone += found[i].gone;
+        all.again += found[i].again;
         all.wrong += found[i].wrong;
     }
     reap();
@@ -154,7 +156,7 @@ int main(int argc, char **argv) {
         free(blocks[frame_of[key]]);
     }
     must(ksm_table_close(&table), "ksm_table_close");
-    printf("%llu blocks read by %d threads, %llu gone for a moment, %llu replaced, %llu wrong\n", (unsigned long long)all.reads, readers,
-           (unsigned long long)all.gone, (unsigned long long)writes, (unsigned long long)all.wrong);
+    printf("%llu blocks read by %d threads, %llu looked up again, %llu replaced, %llu wrong\n", (unsigned long long)all.reads, readers,
+           (unsigned long long)all.again, (unsigned long long)writes, (unsigned long long)all.wrong);
     return all.wrong != 0;
 }

@@ -49,7 +49,7 @@ typedef struct pass {
 static table tables[TABLES];
 static pass passes[PASSES];
 static ksm_table book;
-static uint64_t answered[NUMBERS], lost, call;
+static uint64_t answered[NUMBERS], lost, replaced, call;
 static uint64_t state = 1;
 
 static uint32_t drawn(uint32_t below) {
@@ -201,7 +201,7 @@ static void lose_pass(void) {
     lost++;
 }
 
-/* Whether a place may be named anew or emptied. */
+/* Whether a place may be named or emptied; where it may not, it may be replaced. */
 static int is_loose(const table *t, uint32_t at) {
     const place *p = &t->places[at];
     return !p->named || t->frames[p->frame].kind != KSM_FRAME_STABLE || t->frames[p->frame].life != p->life;
@@ -210,7 +210,7 @@ static int is_loose(const table *t, uint32_t at) {
 /* The calls of the keeper: a frame or place, which there may not be. */
 static void keep(void) {
     table *t;
-    uint32_t refused, f = drawn(FRAMES + 1), at = drawn(FRAMES + 1), wanted, n = drawn(9);
+    uint32_t refused, f = drawn(FRAMES + 1), at = drawn(FRAMES + 1), wanted, n = drawn(10);
     size_t i = drawn(KSM_PAGE_WORDS + 1);
     uint64_t word = state;
     ksm_table *handle = some_table(&t, &refused);
@@ -244,6 +244,15 @@ static void keep(void) {
         if (!refused && wanted == KSM_DONE) {
             x->kind = KSM_FRAME_STABLE;
             t->places[at] = (place){1, f, x->life};
+        }
+        break;
+    case 8:
+        wanted = !is_frame || !is_place ? KSM_RANGE : kind != KSM_FRAME_PRIVATE || is_loose(t, at) ? KSM_STATE : KSM_DONE;
+        is(ksm_replace(handle, at, f), refused ? refused : wanted, "ksm_replace");
+        if (!refused && wanted == KSM_DONE) {
+            x->kind = KSM_FRAME_STABLE;
+            t->places[at] = (place){1, f, x->life};
+            replaced++;
         }
         break;
     case 4:
@@ -711,6 +720,7 @@ int main(int argc, char **argv) {
     for (uint32_t n = 0; n < NUMBERS; n++)
         if (answered[n])
             printf("%10llu  %2u %s\n", (unsigned long long)answered[n], n, ksm_strerror(n));
-    printf("%llu random calls, %llu passes lost: each answer is the model's\n", (unsigned long long)calls, (unsigned long long)lost);
+    printf("%llu random calls, %llu places replaced, %llu passes lost: each answer is the model's\n", (unsigned long long)calls,
+           (unsigned long long)replaced, (unsigned long long)lost);
     return 0;
 }

@@ -73,6 +73,7 @@ static void nulls(void) {
     ANSWERS(KSM_NULL, ksm_put(NULL, 0, 0, 0));
     ANSWERS(KSM_NULL, ksm_open_frame(NULL, 0));
     ANSWERS(KSM_NULL, ksm_publish(NULL, 0, 0));
+    ANSWERS(KSM_NULL, ksm_replace(NULL, 0, 0));
     ANSWERS(KSM_NULL, ksm_withdraw(NULL, 0));
     ANSWERS(KSM_NULL, ksm_add(NULL, 0));
     ANSWERS(KSM_NULL, ksm_sub(NULL, 0));
@@ -106,6 +107,7 @@ static void closed_and_kinds(void) {
     ANSWERS(KSM_CLOSED, ksm_put(&none, 0, 0, 0));
     ANSWERS(KSM_CLOSED, ksm_open_frame(&none, 0));
     ANSWERS(KSM_CLOSED, ksm_publish(&none, 0, 0));
+    ANSWERS(KSM_CLOSED, ksm_replace(&none, 0, 0));
     ANSWERS(KSM_CLOSED, ksm_withdraw(&none, 0));
     ANSWERS(KSM_CLOSED, ksm_add(&none, 0));
     ANSWERS(KSM_CLOSED, ksm_sub(&none, 0));
@@ -135,6 +137,7 @@ static void closed_and_kinds(void) {
     ANSWERS(KSM_KIND, ksm_put(wrong_table, 0, 0, 0));
     ANSWERS(KSM_KIND, ksm_open_frame(wrong_table, 0));
     ANSWERS(KSM_KIND, ksm_publish(wrong_table, 0, 0));
+    ANSWERS(KSM_KIND, ksm_replace(wrong_table, 0, 0));
     ANSWERS(KSM_KIND, ksm_withdraw(wrong_table, 0));
     ANSWERS(KSM_KIND, ksm_add(wrong_table, 0));
     ANSWERS(KSM_KIND, ksm_sub(wrong_table, 0));
@@ -236,6 +239,8 @@ static void lives_and_lookups(void) {
     ANSWERS(KSM_RANGE, ksm_open_frame(&table, 4));
     ANSWERS(KSM_RANGE, ksm_publish(&table, 4, 0));
     ANSWERS(KSM_RANGE, ksm_publish(&table, 0, 4));
+    ANSWERS(KSM_RANGE, ksm_replace(&table, 4, 0));
+    ANSWERS(KSM_RANGE, ksm_replace(&table, 0, 4));
     ANSWERS(KSM_RANGE, ksm_withdraw(&table, 4));
     ANSWERS(KSM_RANGE, ksm_add(&table, 4));
     ANSWERS(KSM_RANGE, ksm_sub(&table, 4));
@@ -322,6 +327,47 @@ static void lives_and_lookups(void) {
     ANSWERS(KSM_DONE, ksm_table_close(&table));
 }
 
+/* A place that is replaced: the new frame is found there, the old one is held as long as a reader likes. */
+static void replaced(void) {
+    ksm_table table = KSM_TABLE_NONE;
+    ksm_pass pass = KSM_PASS_NONE;
+    uint64_t word = 0, life = 0;
+    uint32_t place = 0, frame = 0;
+    ANSWERS(KSM_DONE, ksm_table_open(&table, 1, 3, 1, 2, 1));
+    ANSWERS(KSM_DONE, ksm_pass_open(&table, &pass));
+    give(&table, 0);
+    ANSWERS(KSM_STATE, ksm_replace(&table, 1, 0)); /* the place is empty */
+    ANSWERS(KSM_DONE, ksm_publish(&table, 1, 0));
+    ANSWERS(KSM_STATE, ksm_replace(&table, 1, 0)); /* the frame is stable */
+    ANSWERS(KSM_STATE, ksm_replace(&table, 1, 1)); /* the frame is free */
+    give(&table, 1);
+    ANSWERS(KSM_STATE, ksm_publish(&table, 1, 1));
+    ANSWERS(KSM_DONE, ksm_find(&pass, 1));
+    ANSWERS(KSM_DONE, ksm_replace(&table, 1, 1));
+    is_frame(&table, 0, KSM_FRAME_STABLE, 1, 1);
+    is_frame(&table, 1, KSM_FRAME_STABLE, 1, 1);
+    ANSWERS(KSM_DONE, ksm_sub(&table, 0));
+    ANSWERS(KSM_USED, ksm_reap(&table, 0));
+    ANSWERS(KSM_DONE, ksm_word(&pass, 7, &word));
+    ANSWERS(KSM_DONE, ksm_leave(&pass));
+    ANSWERS(KSM_DONE, ksm_reap(&table, 0));
+    ANSWERS(KSM_DONE, ksm_find(&pass, 1));
+    ANSWERS(KSM_DONE, ksm_held(&pass, &place, &frame, &life));
+    if (word != 8 || place != 1 || frame != 1 || life != 1)
+        answers(99, 0, "what is held at a place that was replaced");
+    ANSWERS(KSM_DONE, ksm_leave(&pass));
+    /* What was given up is not replaced, but named anew. */
+    ANSWERS(KSM_DONE, ksm_freeze(&table, 1));
+    give(&table, 2);
+    ANSWERS(KSM_STATE, ksm_replace(&table, 1, 2));
+    ANSWERS(KSM_ZERO, ksm_find(&pass, 1));
+    ANSWERS(KSM_DONE, ksm_publish(&table, 1, 2));
+    ANSWERS(KSM_DONE, ksm_find_equal(&pass, 1, PAGE));
+    ANSWERS(KSM_DONE, ksm_leave(&pass));
+    ANSWERS(KSM_DONE, ksm_pass_close(&table, &pass));
+    ANSWERS(KSM_DONE, ksm_table_close(&table));
+}
+
 /* With one exchange a lookup, a second reader of the same frame makes some lookups busy. */
 static atomic_int stop;
 
@@ -361,6 +407,7 @@ int main(int argc, char **argv) {
     closed_and_kinds();
     shapes_and_memory();
     lives_and_lookups();
+    replaced();
     if (!quick)
         busy();
     for (uint32_t n = 0; n <= KSM_NULL; n++)

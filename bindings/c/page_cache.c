@@ -2,7 +2,8 @@
  * A page cache: one writer replaces pages while four readers look them up, and each answer is compared with a plain map: page_cache [WRITES].
  *
  * The map says how many times each page was written. A reader looks there before and after its lookup: the version that it read has to be one of
- * those between, and its words those of that version. Ends with 1 if anything was wrong.
+ * those between, and its words those of that version; and it finds one each time, though pages are replaced all the while. Ends with 1 if anything
+ * was wrong.
  */
 #include "ksmbook.h"
 
@@ -54,8 +55,15 @@ static void *read_pages(void *arg) {
     while (!atomic_load(&done_writing)) {
         key = (key + 37) % KEYS;
         uint64_t before = written(key);
-        if (ksm_look_up(&r->pass, key, words) != KSM_DONE)
+        uint32_t answer;
+        /* Whom a replacement overtook looks again; no place is ever empty. */
+        do
+            answer = ksm_look_up(&r->pass, key, words);
+        while (answer == KSM_ZERO || answer == KSM_LIFE || answer == KSM_BUSY);
+        if (answer != KSM_DONE) {
+            r->wrong++;
             continue;
+        }
         /* The writer may have published one page that the map does not say yet. */
         uint64_t after = written(key) + 1;
         page_of(page, key, words[1]);
@@ -85,7 +93,7 @@ static uint32_t free_frame(void) {
     return unused[--unused_count];
 }
 
-/* Readers see the page before or this one, and for a moment in between neither. */
+/* Readers see the page before or this one. */
 static void write_page(uint32_t key, uint64_t version) {
     uint64_t page[KSM_PAGE_WORDS];
     uint32_t frame = free_frame();
@@ -94,11 +102,13 @@ static void write_page(uint32_t key, uint64_t version) {
     for (size_t i = 0; i < KSM_PAGE_WORDS; i++)
         must(ksm_put(&table, frame, i, page[i]), "ksm_put");
     must(ksm_open_frame(&table, frame), "ksm_open_frame");
-    if (frame_of[key] >= 0) {
+    if (frame_of[key] < 0) {
+        must(ksm_publish(&table, key, frame), "ksm_publish");
+    } else {
+        must(ksm_replace(&table, key, frame), "ksm_replace");
         must(ksm_sub(&table, (uint32_t)frame_of[key]), "ksm_sub");
         dying[dying_count++] = (uint32_t)frame_of[key];
     }
-    must(ksm_publish(&table, key, frame), "ksm_publish");
     frame_of[key] = (int)frame;
     pthread_mutex_lock(&map_lock);
     map[key] = version;

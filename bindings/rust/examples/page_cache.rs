@@ -3,7 +3,7 @@
 //! The map says how many times each page was written. A reader looks there before and after its lookup: the version that it read has to be
 //! one of those between, and its words those of that version.
 
-use ksmbook::{Error, Found, Kind, Page, Pass, Shape, Table};
+use ksmbook::{Error, Found, Gone, Kind, Page, Pass, Shape, Table};
 use std::collections::HashMap;
 use std::sync::Mutex;
 use std::sync::atomic::{AtomicBool, Ordering};
@@ -44,30 +44,40 @@ impl Cache {
         }
     }
 
-    // Readers see the page before or this one, and for a moment in between neither.
+    // Readers see the page before or this one.
     fn write(&mut self, key: u32, page: &Page) -> Result<(), Error> {
         let frame = self.free_frame()?;
         self.table.give(frame, page)?;
-        if let Some(old) = self.frame_of.insert(key, frame) {
-            self.table.sub(old)?;
-            self.dying.push(old);
+        match self.frame_of.insert(key, frame) {
+            None => self.table.publish(key, frame),
+            Some(old) => {
+                self.table.replace(key, frame)?;
+                self.table.sub(old)?;
+                self.dying.push(old);
+                Ok(())
+            }
         }
-        self.table.publish(key, frame)
     }
 }
 
-fn read(pass: &mut Pass, key: u32, map: &Mutex<HashMap<u32, u64>>) -> bool {
+// Whom a replacement overtook looks again; no place is ever empty.
+fn look_up(pass: &mut Pass, key: u32) -> Page {
+    loop {
+        match pass.look_up(key).expect("a key of the cache") {
+            Found::Held(found) => return found,
+            Found::Gone(why) => assert_ne!(why, Gone::Vacant, "a page that is replaced is never gone"),
+        }
+    }
+}
+
+fn read(pass: &mut Pass, key: u32, map: &Mutex<HashMap<u32, u64>>) {
     let written = || map.lock().unwrap()[&key];
     let before = written();
-    let found = match pass.look_up(key).expect("a key of the cache") {
-        Found::Held(found) => found,
-        Found::Gone(_) => return false,
-    };
+    let found = look_up(pass, key);
     // The writer may have published one page that the map does not say yet.
     let after = written() + 1;
     assert_eq!(found, page(key, found[1]), "words of two pages");
     assert!((before..=after).contains(&found[1]), "version {} of {key}, between {before} and {after}", found[1]);
-    true
 }
 
 fn main() -> Result<(), Error> {
@@ -82,10 +92,11 @@ fn main() -> Result<(), Error> {
         for (reader, pass) in (0u32..).zip(&mut passes) {
             let (map, done, hits) = (&map, &done, &hits);
             scope.spawn(move || {
-                let (mut key, mut found) = (reader, 0);
+                let (mut key, mut found) = (reader, 0u64);
                 while !done.load(Ordering::SeqCst) {
                     key = (key + 37) % KEYS;
-                    found += u64::from(read(pass, key, map));
+                    read(pass, key, map);
+                    found += 1;
                 }
                 *hits.lock().unwrap() += found;
             });

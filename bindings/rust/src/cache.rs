@@ -1,7 +1,7 @@
 //! Values of any size by number, which threads read without a lock while others replace them.
 
 use crate::error::{Error, Result};
-use crate::pass::{Hold, Pass};
+use crate::pass::{Gone, Hold, Pass};
 use crate::shared::Shape;
 use crate::table::{Passes, Table};
 use crate::{PAGE_WORDS, Page};
@@ -12,21 +12,21 @@ use alloc::vec::Vec;
 use core::fmt;
 use core::ops::Deref;
 use core::ptr::NonNull;
-use core::sync::atomic::{AtomicU8, Ordering};
+use core::sync::atomic::{AtomicBool, Ordering};
 use std::sync::{Mutex, MutexGuard, PoisonError};
 
-/// The most keys that a cache has: a key takes two places of the largest table.
-const MOST_KEYS: u32 = Shape::MOST_NODES * Shape::MOST_FRAMES_PER_NODE / 2;
-/// Where a key's value is: at neither of its places.
-const NOWHERE: u8 = 2;
+/// The most frames and places that a table has.
+const MOST_FRAMES: u32 = Shape::MOST_NODES * Shape::MOST_FRAMES_PER_NODE;
+/// The most keys that a cache has: each has a place, and the value that replaces another wants one frame more.
+const MOST_KEYS: u32 = MOST_FRAMES - 1;
 
 /// Values of type `T` by number. A reader takes no lock, and finds the value before or the value after a replacement, never neither; what it found
 /// it may read for as long as it likes, and the value is dropped when its last reader has left. What changes the cache takes its one lock.
 ///
-/// A value lies in a block of its own, to which a word of a frame points. A key has two places: a new value is named at the one that is empty,
-/// then the key is told to be there, and then the old value's frame gives its reference up. A reader that finds that the frame it was sent to has
-/// gone asks where the key is anew. So it finds nothing only where the key has no value, and looks again only where a whole replacement came
-/// between.
+/// A value lies in a block of its own, to which a word of a frame points, and a key is a place. A new value's frame replaces the old one there by
+/// one step ([`Table::replace`]), and then the old one gives its reference up. So a reader finds the place empty only where the key has no value.
+/// One that finds the frame gone which the place named was overtaken, unless the value was taken away: it looks the place up again, which names
+/// another frame by then, and so it looks again only where a whole replacement came between.
 ///
 /// ```
 /// use ksmbook::Cache;
@@ -47,8 +47,8 @@ pub struct Cache<T> {
 }
 
 struct Inner<T> {
-    // Which of its two places a key is at, or NOWHERE.
-    side: Box<[AtomicU8]>,
+    // Whether a key has a value: told after its place is named, and taken back before the frame there is given up.
+    filled: Box<[AtomicBool]>,
     passes: Passes,
     keeper: Mutex<Keeper<T>>,
 }
@@ -74,7 +74,7 @@ impl<T> Clone for Cache<T> {
 
 impl<T> fmt::Debug for Cache<T> {
     fn fmt(&self, f: &mut fmt::Formatter<'_>) -> fmt::Result {
-        f.debug_struct("Cache").field("keys", &self.inner.side.len()).finish_non_exhaustive()
+        f.debug_struct("Cache").field("keys", &self.inner.filled.len()).finish_non_exhaustive()
     }
 }
 
@@ -121,8 +121,9 @@ fn page_of<T>(block: NonNull<T>) -> Page {
 }
 
 impl<T: Send + Sync> Cache<T> {
-    /// Opens a cache for keys below `keys` (1 to half of the largest table's frames), without values, for as many readers
-    /// at a time (1 to [`Shape::MOST_PASSES`]).
+    /// Opens a cache for keys below `keys` (1 to 1,023: one less than the largest table's frames), without values, for as many readers at a time
+    /// (1 to [`Shape::MOST_PASSES`]). It has two frames for each key as far as there are so many: the more keys, the fewer old values may be read
+    /// still before [`Cache::put`] is refused.
     ///
     /// # Errors
     ///
@@ -131,9 +132,9 @@ impl<T: Send + Sync> Cache<T> {
         if keys == 0 || keys > MOST_KEYS {
             return Err(Error::Shape);
         }
-        let places = 2 * keys;
-        let nodes = (places + Shape::MOST_FRAMES_PER_NODE - 1) / Shape::MOST_FRAMES_PER_NODE;
-        let frames_per_node = (places + nodes - 1) / nodes;
+        let wanted = MOST_FRAMES.min(2 * keys);
+        let nodes = (wanted + Shape::MOST_FRAMES_PER_NODE - 1) / Shape::MOST_FRAMES_PER_NODE;
+        let frames_per_node = (wanted + nodes - 1) / nodes;
         let table = Table::open(Shape { nodes, frames_per_node, passes: readers, ..Shape::SMALL })?;
         let frames = nodes * frames_per_node;
         let keeper = Keeper {
@@ -143,8 +144,8 @@ impl<T: Send + Sync> Cache<T> {
             dying: Vec::new(),
             table,
         };
-        let side = (0..keys).map(|_| AtomicU8::new(NOWHERE)).collect();
-        Ok(Cache { inner: Arc::new(Inner { side, passes: keeper.table.passes(), keeper: Mutex::new(keeper) }) })
+        let filled = (0..keys).map(|_| AtomicBool::new(false)).collect();
+        Ok(Cache { inner: Arc::new(Inner { filled, passes: keeper.table.passes(), keeper: Mutex::new(keeper) }) })
     }
 
     /// What reads the cache, from any thread.
@@ -161,8 +162,8 @@ impl<T: Send + Sync> Cache<T> {
         self.inner.keeper.lock().unwrap_or_else(PoisonError::into_inner)
     }
 
-    fn side(&self, key: u32) -> Result<&AtomicU8> {
-        self.inner.side.get(key as usize).ok_or(Error::Range)
+    fn filled(&self, key: u32) -> Result<&AtomicBool> {
+        self.inner.filled.get(key as usize).ok_or(Error::Range)
     }
 
     /// Gives a key a value. The one before is dropped once its last reader has left, by what next changes the cache.
@@ -172,10 +173,10 @@ impl<T: Send + Sync> Cache<T> {
     /// [`Error::Range`] where there is no such key; [`Error::Full`] where readers hold so many old values that no frame is left. The value is
     /// dropped then, and the cache is as it was.
     pub fn put(&self, key: u32, value: T) -> Result<()> {
-        let side = self.side(key)?;
+        let filled = self.filled(key)?;
         let mut keeper = self.keeper();
         let gone = keeper.collect()?;
-        let answer = keeper.put(key, side, value);
+        let answer = keeper.put(key, filled, value);
         // Values are dropped where no lock is held, since their code may call the cache.
         drop(keeper);
         drop(gone);
@@ -189,10 +190,9 @@ impl<T: Send + Sync> Cache<T> {
     ///
     /// [`Error::Range`] where there is no such key.
     pub fn remove(&self, key: u32) -> Result<bool> {
-        let side = self.side(key)?;
+        let filled = self.filled(key)?;
         let mut keeper = self.keeper();
-        side.store(NOWHERE, Ordering::SeqCst);
-        let had = keeper.retire(key, None)?;
+        let had = keeper.remove(key, filled)?;
         let gone = keeper.collect()?;
         drop(keeper);
         drop(gone);
@@ -221,30 +221,42 @@ impl<T> Keeper<T> {
         Ok(gone)
     }
 
-    fn put(&mut self, key: u32, side: &AtomicU8, value: T) -> core::result::Result<(), (Error, T)> {
+    fn put(&mut self, key: u32, filled: &AtomicBool, value: T) -> core::result::Result<(), (Error, T)> {
         let frame = match self.free.pop() {
             Some(frame) => frame,
             None => return Err((Error::Full, value)),
         };
         let block = NonNull::from(Box::leak(Box::new(value)));
         self.block_of[frame as usize] = Some(block);
-        let next = u8::from(side.load(Ordering::SeqCst) == 0);
-        let named = self.table.give(frame, &page_of(block)).and_then(|()| self.table.publish(2 * key + u32::from(next), frame));
-        debug_assert_eq!(named, Ok(()), "the frame was free, and the key's other place is empty");
-        side.store(next, Ordering::SeqCst);
-        let retired = self.retire(key, Some(frame));
-        debug_assert!(retired.is_ok(), "the frame of a value has a reference");
+        let old = self.frame_of[key as usize].replace(frame);
+        let given = self.table.give(frame, &page_of(block));
+        let named = given.and_then(|()| if old.is_some() { self.table.replace(key, frame) } else { self.table.publish(key, frame) });
+        debug_assert_eq!(named, Ok(()), "the frame was free, and the place names the key's value, if it has one");
+        filled.store(true, Ordering::SeqCst);
+        if let Some(old) = old {
+            let retired = self.retire(old);
+            debug_assert_eq!(retired, Ok(()), "the frame of a value has a reference");
+        }
         Ok(())
     }
 
-    // The key's frame gives its reference up, if there is one, and another is the key's. Tells whether there was one.
-    fn retire(&mut self, key: u32, next: Option<u32>) -> Result<bool> {
-        let old = core::mem::replace(&mut self.frame_of[key as usize], next);
-        if let Some(old) = old {
-            self.table.sub(old)?;
-            self.dying.push(old);
-        }
-        Ok(old.is_some())
+    // Takes a key's value away, if it has one, and tells whether it had.
+    fn remove(&mut self, key: u32, filled: &AtomicBool) -> Result<bool> {
+        let old = match self.frame_of[key as usize].take() {
+            Some(old) => old,
+            None => return Ok(false),
+        };
+        filled.store(false, Ordering::SeqCst);
+        self.retire(old)?;
+        self.table.withdraw(key)?;
+        Ok(true)
+    }
+
+    // A value's frame gives its reference up, and waits for its readers.
+    fn retire(&mut self, old: u32) -> Result<()> {
+        self.table.sub(old)?;
+        self.dying.push(old);
+        Ok(())
     }
 }
 
@@ -268,14 +280,14 @@ impl<T: Send + Sync> Reader<T> {
     // Holds the frame of a key's value, if it has one.
     #[inline]
     fn find(&mut self, key: u32) -> Result<bool> {
-        let side = self.cache.inner.side.get(key as usize).ok_or(Error::Range)?;
+        let filled = self.cache.inner.filled.get(key as usize).ok_or(Error::Range)?;
         loop {
-            let at = side.load(Ordering::SeqCst);
-            if at == NOWHERE {
-                return Ok(false);
-            }
-            if self.pass.holds(2 * key + u32::from(at))? {
-                return Ok(true);
+            match self.pass.hold_at(key)? {
+                None => return Ok(true),
+                Some(Gone::Vacant) => return Ok(false),
+                // A key that has a value was replaced, and names another by now; else the value was taken away.
+                Some(_) if filled.load(Ordering::SeqCst) => {}
+                Some(_) => return Ok(false),
             }
         }
     }
@@ -311,13 +323,13 @@ impl<T: Send + Sync> Reader<T> {
     pub fn get_or_fill(&mut self, key: u32, make: impl FnOnce() -> T) -> Result<Value<'_, T>> {
         if !self.find(key)? {
             let cache = self.cache.clone();
-            let side = cache.side(key)?;
+            let filled = cache.filled(key)?;
             let mut keeper = cache.keeper();
             let gone = keeper.collect()?;
             let mut answer = Ok(());
             // Somebody else may have put one; and nobody takes away what is put here before it is found.
             if !self.find(key)? {
-                answer = keeper.put(key, side, make());
+                answer = keeper.put(key, filled, make());
                 self.find(key)?;
             }
             drop(keeper);

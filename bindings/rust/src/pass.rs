@@ -220,11 +220,14 @@ impl Pass {
         Ok(if answer == raw::DONE { None } else { Some(why(answer)) })
     }
 
-    // Looks a place up, and tells whether a frame is held then; `held` is the hold.
+    // Looks a place up. Where it answers no reason, a frame is held then; `held` is the hold.
     #[cfg(feature = "std")]
     #[inline]
-    pub(crate) fn holds(&mut self, place: u32) -> Result<bool> {
-        Ok(self.find_number(place)? == raw::DONE)
+    pub(crate) fn hold_at(&mut self, place: u32) -> Result<Option<Gone>> {
+        Ok(match self.find_number(place)? {
+            raw::DONE => None,
+            answer => Some(why(answer)),
+        })
     }
 
     #[cfg(feature = "std")]

@@ -118,6 +118,7 @@ extern "C" {
     pub fn ksm_put(table: *mut Handle, frame: u32, i: usize, word: u64) -> u32;
     pub fn ksm_open_frame(table: *mut Handle, frame: u32) -> u32;
     pub fn ksm_publish(table: *mut Handle, place: u32, frame: u32) -> u32;
+    pub fn ksm_replace(table: *mut Handle, place: u32, frame: u32) -> u32;
     pub fn ksm_withdraw(table: *mut Handle, place: u32) -> u32;
     pub fn ksm_add(table: *mut Handle, frame: u32) -> u32;
     pub fn ksm_sub(table: *mut Handle, frame: u32) -> u32;

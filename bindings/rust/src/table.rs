@@ -152,6 +152,19 @@ impl Table {
         done(unsafe { raw::ksm_publish(self.shared.handle(), place, frame) })
     }
 
+    /// Names a private frame at a place in place of the one that it names, by one step: a reader finds the one frame or the other, and never an
+    /// empty place. The new one is [`Kind::Stable`] then. The old one is as it was, and named there no more: give its references back just after,
+    /// by [`Table::sub`] or [`Table::freeze`]. A lookup that this overtakes may answer [`Gone::Zero`](crate::Gone::Zero) or
+    /// [`Gone::Life`](crate::Gone::Life); who looks the place up again finds another frame.
+    ///
+    /// # Errors
+    ///
+    /// [`Error::Range`]; [`Error::State`] where the frame is not private, or the place does not name a frame that is stable in the life named.
+    pub fn replace(&mut self, place: u32, frame: u32) -> Result<()> {
+        // SAFETY: as above.
+        done(unsafe { raw::ksm_replace(self.shared.handle(), place, frame) })
+    }
+
     /// Empties a place.
     ///
     /// # Errors

@@ -43,7 +43,7 @@ fn a_value_lives_as_long_as_it_is_read() {
 #[test]
 fn what_is_refused() {
     assert_eq!(Cache::<u8>::open(0, 1).err(), Some(Error::Shape));
-    assert_eq!(Cache::<u8>::open(513, 1).err(), Some(Error::Shape));
+    assert_eq!(Cache::<u8>::open(1024, 1).err(), Some(Error::Shape));
     assert_eq!(Cache::<u8>::open(1, 17).err(), Some(Error::Shape));
     let cache = Cache::open(1, 2).unwrap();
     let (mut one, mut other) = (cache.reader().unwrap(), cache.reader().unwrap());
@@ -61,17 +61,53 @@ fn what_is_refused() {
 
 #[test]
 fn the_largest_cache() {
-    let keys = Shape::MOST_NODES * Shape::MOST_FRAMES_PER_NODE / 2;
+    let keys = Shape::MOST_NODES * Shape::MOST_FRAMES_PER_NODE - 1;
     let cache = Cache::open(keys, Shape::MOST_PASSES).unwrap();
     let mut reader = cache.reader().unwrap();
     for round in 0..3u32 {
         for key in 0..keys {
-            cache.put(key, round * 1000 + key).unwrap();
+            cache.put(key, round * 2000 + key).unwrap();
         }
     }
     for key in 0..keys {
-        assert_eq!(*reader.get(key).unwrap().unwrap(), 2000 + key);
+        assert_eq!(*reader.get(key).unwrap().unwrap(), 4000 + key);
     }
+}
+
+// One key is filled and emptied again and again under three readers: each finds a value that was put, or none, and never waits.
+#[test]
+fn a_key_that_is_emptied_is_found_empty() {
+    let cache = Cache::open(2, 4).unwrap();
+    let done = AtomicBool::new(false);
+    let (found, none) = std::thread::scope(|scope| {
+        let readers: Vec<_> = (0..3)
+            .map(|_| {
+                scope.spawn(|| {
+                    let (mut reader, mut last, mut found, mut none) = (cache.reader().unwrap(), 0, 0u64, 0u64);
+                    while !done.load(Ordering::SeqCst) {
+                        match reader.get(1).unwrap() {
+                            Some(value) => {
+                                assert!(*value >= last && *value % 2 == 1, "{} after {last}", *value);
+                                (last, found) = (*value, found + 1);
+                            }
+                            None => none += 1,
+                        }
+                    }
+                    (found, none)
+                })
+            })
+            .collect();
+        for round in 0..50_000u64 {
+            while cache.put(1, 2 * round + 1) == Err(Error::Full) {
+                std::thread::yield_now();
+            }
+            assert_eq!(cache.remove(1), Ok(true));
+        }
+        done.store(true, Ordering::SeqCst);
+        readers.into_iter().map(|reader| reader.join().unwrap()).fold((0, 0), |sum, one| (sum.0 + one.0, sum.1 + one.1))
+    });
+    assert!(cache.reader().unwrap().get(1).unwrap().is_none());
+    println!("{found} found, {none} found empty");
 }
 
 #[test]

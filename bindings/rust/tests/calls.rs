@@ -87,6 +87,32 @@ fn a_frame_through_its_lives() {
 }
 
 #[test]
+fn a_place_is_replaced() {
+    let (mut table, mut pass) = open();
+    let other = [9; 8];
+    table.give(0, &PAGE).unwrap();
+    table.give(1, &other).unwrap();
+    assert_eq!((table.replace(16, 0), table.replace(3, 16)), (Err(Error::Range), Err(Error::Range)));
+    // The place names nothing; then the frame is not private.
+    assert_eq!(table.replace(3, 0), Err(Error::State));
+    table.publish(3, 0).unwrap();
+    assert_eq!((table.replace(3, 0), table.publish(3, 1)), (Err(Error::State), Err(Error::State)));
+    let hold = pass.find(3).unwrap().held().unwrap();
+    table.replace(3, 1).unwrap();
+    assert_eq!(table.frame(0), Ok(Frame { kind: Kind::Stable, references: 1, life: 1 }));
+    assert_eq!(table.frame(1), Ok(Frame { kind: Kind::Stable, references: 1, life: 1 }));
+    table.sub(0).unwrap();
+    assert_eq!((table.reap(0), hold.words()), (Ok(false), PAGE));
+    hold.leave();
+    assert_eq!((table.reap(0), pass.look_up(3)), (Ok(true), Ok(Found::Held(other))));
+    // A frame that was given up is not replaced, but named anew.
+    table.sub(1).unwrap();
+    table.give(0, &PAGE).unwrap();
+    assert_eq!((table.replace(3, 0), table.publish(3, 0)), (Err(Error::State), Ok(())));
+    assert_eq!(pass.look_up(3), Ok(Found::Held(PAGE)));
+}
+
+#[test]
 fn frames_are_reaped_together() {
     let (mut table, mut pass) = open();
     for frame in 0..4 {

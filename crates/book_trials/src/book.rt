@@ -7,7 +7,9 @@ use frame_table::{Found, FrameTable, Pass};
 use ksm_base::Command::{
     Drop, Mergeable, MoveDup, MovePage, Prune, Register, Scan, SetAcross, SetLimit, SetRun, Store,
 };
-use ksm_base::{Command, Counters, Fault, GuestPage, PAGE_WORDS, PageBytes, Reply, Shape};
+use ksm_base::{
+    Command, Counters, Fault, GuestPage, PAGE_WORDS, PLACE_SPAN, PageBytes, Reply, Shape,
+};
 use ksm_book::{Book, Journal};
 use std::alloc::Global;
 use std::process::Abort;
@@ -227,7 +229,7 @@ fn held_dup_moves_once_it_is_left(rt: HostRuntime) -> Result<(), Fail> {
     let closed = table.close(book.close(), passes);
     assert_eq!(rt; (closed.generation(0), closed.count(0)), (1, 0));
     assert_eq!(rt; (closed.generation(1), closed.count(1)), (2, 2));
-    assert_eq!(rt; closed.place(0), 2 * 1024 + 1);
+    assert_eq!(rt; closed.place(0), 2 * PLACE_SPAN + 1);
     Ok(())
 }
 

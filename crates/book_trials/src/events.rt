@@ -1,7 +1,7 @@
 //! The frame core by worked events: one frame in two lives.
 
 use frame_core::{Core, Event, KeeperStep, Kind, Phase, ReaderStep, Step, run};
-use ksm_base::Shape;
+use ksm_base::{COUNT_SPAN, PLACE_SPAN, Shape};
 use std::test::*;
 
 /// One frame, one place and one seat: the least table on which a frame is given twice.
@@ -41,8 +41,8 @@ fn published() -> [(Event, Step); 6] {
             }),
             Step::Done(0),
         ),
-        (keeper(KeeperStep::Open(0)), Step::Done(65536)),
-        (keeper(KeeperStep::Add(0)), Step::Done(65537)),
+        (keeper(KeeperStep::Open(0)), Step::Done(COUNT_SPAN)),
+        (keeper(KeeperStep::Add(0)), Step::Done(COUNT_SPAN + 1)),
         (
             keeper(KeeperStep::Publish { place: 0, frame: 0 }),
             Step::Done(0),
@@ -59,91 +59,91 @@ fn second_life() -> [Seen; 15] {
     [
         (
             reader(ReaderStep::LoadPlace(0)),
-            Step::Done(1024),
+            Step::Done(PLACE_SPAN),
             Kind::Stable,
             "placed",
         ),
         (
             reader(ReaderStep::LoadFrame),
-            Step::Done(65538),
+            Step::Done(COUNT_SPAN + 2),
             Kind::Stable,
             "counted",
         ),
         (
             keeper(KeeperStep::Sub(0)),
-            Step::Done(65538),
+            Step::Done(COUNT_SPAN + 2),
             Kind::Stable,
             "counted",
         ),
         (
             keeper(KeeperStep::Sub(0)),
-            Step::Done(65537),
+            Step::Done(COUNT_SPAN + 1),
             Kind::Dying,
             "counted",
         ),
         (
             keeper(KeeperStep::Reap(0)),
-            Step::Done(65536),
+            Step::Done(COUNT_SPAN),
             Kind::Free,
             "counted",
         ),
         (
             keeper(KeeperStep::Raise(0)),
-            Step::Done(65536),
+            Step::Done(COUNT_SPAN),
             Kind::Filling,
             "counted",
         ),
         (
             keeper(KeeperStep::Open(0)),
-            Step::Done(131072),
+            Step::Done(2 * COUNT_SPAN),
             Kind::Private,
             "counted",
         ),
         (
             keeper(KeeperStep::Add(0)),
-            Step::Done(131073),
+            Step::Done(2 * COUNT_SPAN + 1),
             Kind::Private,
             "counted",
         ),
         (
             reader(ReaderStep::Exchange),
-            Step::Done(131074),
+            Step::Done(2 * COUNT_SPAN + 2),
             Kind::Private,
             "idle",
         ),
         (
             reader(ReaderStep::LoadPlace(0)),
-            Step::Done(1024),
+            Step::Done(PLACE_SPAN),
             Kind::Private,
             "placed",
         ),
         (
             reader(ReaderStep::LoadFrame),
-            Step::Done(131074),
+            Step::Done(2 * COUNT_SPAN + 2),
             Kind::Private,
             "idle",
         ),
         (
             keeper(KeeperStep::Sub(0)),
-            Step::Done(131074),
+            Step::Done(2 * COUNT_SPAN + 2),
             Kind::Private,
             "idle",
         ),
         (
             keeper(KeeperStep::Sub(0)),
-            Step::Done(131073),
+            Step::Done(2 * COUNT_SPAN + 1),
             Kind::Dying,
             "idle",
         ),
         (
             keeper(KeeperStep::Reap(0)),
-            Step::Done(131072),
+            Step::Done(2 * COUNT_SPAN),
             Kind::Free,
             "idle",
         ),
         (
             keeper(KeeperStep::Raise(0)),
-            Step::Done(131072),
+            Step::Done(2 * COUNT_SPAN),
             Kind::Filling,
             "idle",
         ),

@@ -12,7 +12,7 @@ ghost use Rattle.frame_table.specs.Seats.{new_keeper};
 
 use frame_core::Kind;
 use frame_table::{Found, FoundEqual, FrameTable, Held, Keeper, Pass, Why};
-use ksm_base::{Fault, PAGE_WORDS, PageBytes, Shape};
+use ksm_base::{Fault, PAGE_WORDS, PLACE_SPAN, PageBytes, Shape};
 use std::alloc::Global;
 use std::test::Fail;
 use std::thread::{Threads, for_each_mut, join_mut, yield_now};
@@ -237,7 +237,7 @@ fn lookups_on_three_tables(rt: HostRuntime) -> Result<(), Fail> {
     let closed = table.close(keeper, passes);
     assert_eq!(rt; closed.count(0), 1);
     assert_eq!(rt; closed.generation(0), 2);
-    assert_eq!(rt; closed.place(0), 1024);
+    assert_eq!(rt; closed.place(0), PLACE_SPAN);
     assert_eq!(rt; closed.place(1), 0);
     Ok(())
 }

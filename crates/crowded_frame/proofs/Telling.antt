@@ -3,6 +3,8 @@ use Rattle.std.proofs.Common.{◌≡◌, ℕ, zero, suc, ap, sym, subst, ◌∙�
 use mathlib.Core.Option.{some}
 use lib.ListN.{get_elem?}
 use Rattle.frame_table.specs.Terms.{Shape, Ledger, Phase}
+use Rattle.frame_core.specs.Live.{LiveAt}
+use Rattle.frame_table.specs.Live.{IsLiveNow}
 use Rattle.frame_table.specs.Running.{RunsSafely, TellsItsPart, TellsTheKeepers}
 use Rattle.frame_table.specs.Truth.{Moment}
 use Rattle.frame_table.specs.Views.{Sat, ReaderLog, KeeperLog, IsIn, IsKeeper, log_in, order_in, ledger_in, tally_in, keeper_log}
@@ -27,3 +29,17 @@ keeper_tells sh t id me log ledger safe is known same at =
     let own = (safe.keeper sh (ledger_in me) (tally_in me) (keeper_log me) (order_in me)
     (subst (λ (j : ℕ). get_elem? t.views j ≡ some (Keeper sh (ledger_in me) (tally_in me) (keeper_log me) (order_in me))) first there)).1 in
     (safe, sym same ∙ own.log_is, sym known ∙ own.ledger_is)
+
+-- a place that the keeper's seat has as live, and that is among the views, is live at this moment
+pub live_now : (sh : Shape) (t : Moment) (id : ℕ) (me : Sat) (ledger : Ledger) (p : ℕ) → RunsSafely sh t → IsKeeper sh me → ledger_in me ≡ ledger
+    → get_elem? t.views id ≡ some me.0 → LiveAt ledger p → IsLiveNow sh t p
+live_now sh t id me ledger p safe is known at live =
+    let there : get_elem? t.views id ≡ some (Keeper sh (ledger_in me) (tally_in me) (keeper_log me) (order_in me)) = at ∙ ap (λ (m : Sat). some m.0) is in
+    let first : id ≡ 0 = (safe.keepers id _ there).0 tt in (
+      ledger_in me,
+      tally_in me,
+      keeper_log me,
+      order_in me,
+      subst (λ (j : ℕ). get_elem? t.views j ≡ some (Keeper sh (ledger_in me) (tally_in me) (keeper_log me) (order_in me))) first there,
+      subst (λ (k : Ledger). LiveAt k p) (sym known) live,
+    )

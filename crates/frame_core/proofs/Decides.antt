@@ -1,7 +1,7 @@
 -- The test of where a step of the keeper is allowed is met exactly where the ledger allows it.
 use Rattle.std.proofs.Common.{◌≡◌, ℕ, ◌-◌, ◌<◌, ◌≤◌, ◌==◌, ◌&&◌, not, ltb, leb, Bool, true, false, Option, Some, None, ap, refl}
 use Rattle.std.proofs.lemmas.Bool.{and_parts, and_from, lt-ltb, ltb-true, le-leb, leb-true, eqb-true, eq-eqb}
-use Rattle.frame_core.proofs.Names.{MOST_REFERENCES, PAGE_WORDS, Shape, frames_of, KeeperStep, Reap, Put, Raise, Open, Add, Sub, Publish, Withdraw, Freeze, Word, Kind, Free, Filling, Private, Stable, Dying, Retired, Ledger, Life, is_kind, is_writable, is_readable, is_live, may_step, frame_at, named_at, IsWritable, IsReadable, IsLoose, MayStep}
+use Rattle.frame_core.proofs.Names.{MOST_REFERENCES, PAGE_WORDS, Shape, frames_of, KeeperStep, Reap, Put, Raise, Open, Add, Sub, Publish, Replace, Withdraw, Freeze, Word, Kind, Free, Filling, Private, Stable, Dying, Retired, Ledger, Life, is_kind, is_writable, is_readable, is_live, may_step, frame_at, named_at, IsWritable, IsReadable, IsLive, IsLoose, MayStep}
 
 -- a test is met exactly where a statement is true
 abbrev pub Tests : Bool → Type 0 → Type 0
@@ -53,15 +53,17 @@ negated : (b : Bool) (P : Type 0) → Tests b P → Tests (not b) (¬ P)
 negated true P t = ((λ e. absurd (cc (e))), (λ h. absurd (h (t.0 refl))))
 negated false P t = ((λ e h. let is = t.1 h in cc (is)), (λ h. refl))
 
+live : (k : Ledger) (place : Option Life) → Tests (is_live k place) (IsLive k place)
+live k None = ((λ e. absurd (cc (e))), (λ h. absurd h))
+live k (Some life) =
+    let note = frame_at k life.frame in
+    both (is_kind Stable note.kind) (note.generation == life.generation) _ _ (kind Stable note.kind)
+    (eqb-true note.generation life.generation, eq-eqb note.generation life.generation)
+
 loose : (k : Ledger) (place : Option Life) → Tests (not (is_live k place)) (IsLoose k place)
 loose k None = ((λ e. tt), (λ h. refl))
 loose k (Some life) =
-    let note = frame_at k life.frame in
-    let kinds = is_kind Stable note.kind in
-    let same = note.generation == life.generation in
-    let live = both kinds same (note.kind ≡ Stable) (note.generation ≡ life.generation) (kind Stable note.kind)
-    (eqb-true note.generation life.generation, eq-eqb note.generation life.generation) in
-    let t = negated (kinds && same) _ live in
+    let t = negated (is_live k (Some life)) _ (live k (Some life)) in
     ((λ e is at. t.0 e (at, is)), (λ h. t.1 (λ x. h x.1 x.0)))
 
 module _ (sh : Shape) (k : Ledger) where
@@ -80,6 +82,7 @@ module _ (sh : Shape) (k : Ledger) where
   decides (Add f) = let base = (frame_at k f).base in three _ _ _ (here f) (1 ≤ base) (base ≤ MOST_REFERENCES - 1) (frame f) (at_most 1 base) (at_most base (MOST_REFERENCES - 1))
   decides (Sub f) = let base = (frame_at k f).base in both _ _ (here f) (1 ≤ base) (frame f) (at_most 1 base)
   decides (Publish p f) = four _ _ _ _ (here p) (here f) _ _ (frame p) (frame f) (kind Private (frame_at k f).kind) (loose k (named_at k p))
+  decides (Replace p f) = four _ _ _ _ (here p) (here f) _ _ (frame p) (frame f) (kind Private (frame_at k f).kind) (live k (named_at k p))
   decides (Withdraw p) = both _ _ (here p) _ (frame p) (loose k (named_at k p))
   decides (Freeze f) = both _ _ (here f) _ (frame f) (kind Stable (frame_at k f).kind)
   decides (Word f i) = three _ _ _ (here f) (i < PAGE_WORDS) _ (frame f) (below i PAGE_WORDS) (readable (frame_at k f).kind)

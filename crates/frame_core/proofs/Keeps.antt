@@ -4,7 +4,7 @@ use Rattle.std.proofs.lemmas.Bool.{eqb-true, eqb-false, eq-eqb, ne_eqb, and_part
 use Rattle.std.proofs.lemmas.Option.{same_Some, slice_get-get_or}
 use Rattle.std.proofs.lemmas.List.{length-replicate}
 use Rattle.std.proofs.lemmas.List.Folds.{sum_by-replicate}
-use Rattle.frame_core.proofs.Names.{PLACE_SPAN, PAGE_WORDS, Shape, IsShape, frames_of, Event, KeeperStep, Reap, Put, Raise, Open, Add, Sub, Publish, Withdraw, Freeze, Word, ReaderStep, LoadPlace, LoadFrame, Exchange, Leave, LoadWord, Kind, Filling, Private, Stable, Dying, Ledger, Note, Aim, Life, Phase, Idle, Placed, Counted, Held, Spent, State, place_word, life_at, frame_word, count_in, life_in, blank, first_ledger, frame_at, named_at, with_frame, MayStep, reaped, raised, opened, added, lowered, filled, shown, frozen, count_at, frame_word_of, keeper_finds, may_step, counted_up, phase_at, aim_of, nothing_known, is_referenced, may_read, reader_finds, seat_after, reader_counts, first_state, after_keeper, after_reader, only_if, step, after, Rule, FrameRule, LifeRule, IsNamed, SeatRule, MayBeNamed, MayBeHeld, KnownFits, CountFits, GenerationFits, readers_on, is_on}
+use Rattle.frame_core.proofs.Names.{PLACE_SPAN, PAGE_WORDS, Shape, IsShape, frames_of, Event, KeeperStep, Reap, Put, Raise, Open, Add, Sub, Publish, Replace, Withdraw, Freeze, Word, ReaderStep, LoadPlace, LoadFrame, Exchange, Leave, LoadWord, Kind, Filling, Private, Stable, Dying, Ledger, Note, Aim, Life, Phase, Idle, Placed, Counted, Held, Spent, State, place_word, life_at, frame_word, count_in, life_in, blank, first_ledger, frame_at, named_anew, named_at, with_frame, MayStep, reaped, raised, opened, added, lowered, filled, shown, frozen, count_at, frame_word_of, keeper_finds, may_step, counted_up, phase_at, aim_of, nothing_known, is_referenced, may_read, reader_finds, seat_after, reader_counts, first_state, after_keeper, after_reader, only_if, step, after, Rule, FrameRule, LifeRule, IsNamed, SeatRule, MayBeNamed, MayBeHeld, KnownFits, CountFits, GenerationFits, readers_on, is_on}
 use Rattle.frame_core.specs.declared.event.Event.TheVariants as event
 use Rattle.frame_core.proofs.Lists.{get_set, in_replicate, copied, count_set, count_one}
 use Rattle.frame_core.proofs.Packed.{count_packed, life_packed, parts_of_word}
@@ -49,6 +49,15 @@ module _ (sh : Shape) (s : State) (rule : Rule sh s) where
       subst (λ (x : Note). LifeRule sh x life) (sym (get_or-set_same k.frames f (shown note) blank (omega (arith, below, rule.frame_count))))
       record { inside = below; first = given.0; past = omega arith; named = λ same. tt }
 
+  -- a place that names a private frame from now on keeps the rule
+  named_keeps : (p f : ℕ) → p < frames_of sh → f < frames_of sh → (frame_at k f).kind ≡ Private
+      → Rule sh record { ledger = named_anew k p f; counts = s.counts; seats = s.seats }
+  named_keeps p f there below kind =
+      let life : Life = record { frame = f; generation = (frame_at k f).generation } in
+      place_changed sh record { ledger = with_frame k f (shown (frame_at k f)); counts = s.counts; seats = s.seats }
+      (frame_noted sh s rule f (shown (frame_at k f)) below (show_kept _ _ _ _ (rule.frames f below) kind)) p (Some life) there
+      (λ x e. subst (IsNamed sh (with_frame k f (shown (frame_at k f)))) (same_Some life x e) (named_life f below kind))
+
   -- a step of the keeper that the ledger allows keeps the rule
   pub keeper_keeps : (e : KeeperStep) → MayStep sh k e → Rule sh (after_keeper sh s e (keeper_finds s e))
   keeper_keeps (Reap f) may = reap_cases f (count_in (frame_word_of s f) == 0) may.0 may.1 refl
@@ -57,11 +66,8 @@ module _ (sh : Shape) (s : State) (rule : Rule sh s) where
   keeper_keeps (Open f) may = frame_changed sh s rule f (opened (frame_at k f)) (count_at s f + 1) may.0 (open_kept _ _ _ _ (rule.frames f may.0) may.1)
   keeper_keeps (Add f) may = frame_changed sh s rule f (added (frame_at k f)) (count_at s f + 1) may.0 (add_kept _ _ _ _ (rule.frames f may.0) may.1 may.2)
   keeper_keeps (Sub f) may = frame_changed sh s rule f (lowered (frame_at k f)) (count_at s f - 1) may.0 (sub_kept _ _ _ _ (rule.frames f may.0) may.1)
-  keeper_keeps (Publish p f) may =
-      let life : Life = record { frame = f; generation = (frame_at k f).generation } in
-      place_changed sh record { ledger = with_frame k f (shown (frame_at k f)); counts = s.counts; seats = s.seats }
-      (frame_noted sh s rule f (shown (frame_at k f)) may.1 (show_kept _ _ _ _ (rule.frames f may.1) may.2)) p (Some life) may.0
-      (λ x e. subst (IsNamed sh (with_frame k f (shown (frame_at k f)))) (same_Some life x e) (named_life f may.1 may.2))
+  keeper_keeps (Publish p f) may = named_keeps p f may.0 may.1 may.2
+  keeper_keeps (Replace p f) may = named_keeps p f may.0 may.1 may.2
   keeper_keeps (Withdraw p) may = place_changed sh s rule p None may.0 (λ life e. absurd (cc (e)))
   keeper_keeps (Freeze f) may = freeze_cases f (count_in (frame_word_of s f) == (frame_at k f).base) may.0 may.1 refl
   keeper_keeps (Word f i) may = rule

@@ -1,9 +1,9 @@
 -- The definitions of the protocol, and the values that they speak of, by their names, for proofs.
-pub use Rattle.frame_core.specs.Terms.{Add, Aim, COUNT_SPAN, Counted, Dying, Event, Exchange, FRAME_WORDS, Filling, Free, Freeze, Held, Idle, IsShape, Keeper, KeeperStep, Kind, LINE_WORDS, Leave, Ledger, Life, LoadFrame, LoadPlace, LoadWord, MOST_COUNT, MOST_FRAMES, MOST_LIVES, MOST_NODES, MOST_REFERENCES, MOST_TRIES, Note, Open, PAGE_WORDS, PLACE_SPAN, Phase, Placed, Private, Publish, Put, Raise, Reader, ReaderStep, Reap, Retired, Shape, Spent, Stable, Step, Sub, Withdraw, Word, frames_of}
+pub use Rattle.frame_core.specs.Terms.{Add, Aim, COUNT_SPAN, Counted, Dying, Event, Exchange, FRAME_WORDS, Filling, Free, Freeze, Held, Idle, IsShape, Keeper, KeeperStep, Kind, LINE_WORDS, Leave, Ledger, Life, LoadFrame, LoadPlace, LoadWord, MOST_COUNT, MOST_FRAMES, MOST_LIVES, MOST_NODES, MOST_REFERENCES, MOST_TRIES, Note, Open, PAGE_WORDS, PLACE_SPAN, Phase, Placed, Private, Publish, Put, Raise, Reader, ReaderStep, Reap, Replace, Retired, Shape, Spent, Stable, Step, Sub, Withdraw, Word, frames_of}
 pub use Rattle.frame_core.specs.Bounds.{Fits, PhaseFits, SeatFits}
 pub use Rattle.frame_core.specs.KeeperSteps.{count_at, counted_up, frame_word_of, is_kind, is_live, is_readable, is_writable, keeper_finds, may_step}
 pub use Rattle.frame_core.specs.Knowing.{ChangesOwnView, CoreView, FollowsLedger, LedgerTells}
-pub use Rattle.frame_core.specs.Ledger.{IsLoose, IsReadable, IsWritable, MayStep, added, blank, filled, first_ledger, frame_at, frozen, ledger_after, lowered, named_at, opened, raised, reaped, shown, with_frame}
+pub use Rattle.frame_core.specs.Ledger.{IsLive, IsLoose, IsReadable, IsWritable, MayStep, added, blank, filled, first_ledger, frame_at, frozen, ledger_after, lowered, named_anew, named_at, opened, raised, reaped, shown, with_frame}
 pub use Rattle.frame_core.specs.Rule.{BaseFits, CountFits, FrameRule, GenerationFits, HeldRule, IsNamed, KnownFits, LifeRule, MayBeHeld, MayBeNamed, Rule, SeatRule, is_on, readers_on}
 pub use Rattle.frame_core.specs.Safe.{GivenUnheld, IsSafe, WasUnheld}
 pub use Rattle.frame_core.specs.Seat.{aim_at, aim_of, is_referenced, may_read, nothing_known, phase_at, reader_counts, reader_finds, seat_after}

@@ -3,7 +3,7 @@ use Rattle.std.proofs.Common.{◌≡◌, ℕ, ◌+◌, ◌-◌, ◌*◌, ◌%◌
 use Rattle.std.proofs.lemmas.Bool.{eq-eqb, eqb-true, ne_eqb, cases_eq, and_parts, ltb-true}
 use Rattle.std.proofs.lemmas.List.Elements.{All-nil, All-cons}
 use Rattle.std.proofs.lemmas.Option.{same_Some, slice_get-get_or}
-use Rattle.frame_core.proofs.Names.{PLACE_SPAN, PAGE_WORDS, Shape, frames_of, Event, KeeperStep, Reap, Put, Raise, Open, Add, Sub, Publish, Withdraw, Freeze, Word, ReaderStep, LoadPlace, LoadFrame, Exchange, Leave, LoadWord, Free, Filling, Private, Dying, Retired, Ledger, Note, Life, Aim, Phase, Idle, Placed, Counted, Held, Spent, State, place_word, frame_word, count_in, life_in, blank, frame_at, named_at, with_frame, IsWritable, MayStep, reaped, raised, opened, added, lowered, filled, shown, frozen, frame_word_of, keeper_finds, may_step, phase_at, nothing_known, aim_of, is_referenced, may_read, reader_finds, seat_after, reader_counts, after_keeper, step, Entry, frame_in, Rule, IsNamed, HeldRule, SeatRule, MayBeNamed, MayBeHeld}
+use Rattle.frame_core.proofs.Names.{PLACE_SPAN, PAGE_WORDS, Shape, frames_of, Event, KeeperStep, Reap, Put, Raise, Open, Add, Sub, Publish, Replace, Withdraw, Freeze, Word, ReaderStep, LoadPlace, LoadFrame, Exchange, Leave, LoadWord, Free, Filling, Private, Dying, Retired, Ledger, Note, Life, Aim, Phase, Idle, Placed, Counted, Held, Spent, State, place_word, frame_word, count_in, life_in, blank, frame_at, named_at, with_frame, IsWritable, MayStep, reaped, raised, opened, added, lowered, filled, shown, frozen, frame_word_of, keeper_finds, may_step, phase_at, nothing_known, aim_of, is_referenced, may_read, reader_finds, seat_after, reader_counts, after_keeper, step, Entry, frame_in, Rule, IsNamed, HeldRule, SeatRule, MayBeNamed, MayBeHeld}
 use Rattle.frame_core.specs.declared.event.Event.TheVariants as event
 use Rattle.frame_core.proofs.Lists.{each_set, get_set}
 use Rattle.frame_core.proofs.Decides.{decides}
@@ -223,6 +223,7 @@ tell_keeper sh s t (Sub f) rule told may =
     let note = frame_at s.ledger f in
     tell_quiet sh s (tale_of t) rule told f (lowered note) _ may.0 (lower_quiet sh s (tale_of t) rule told note (note.base == 1))
 tell_keeper sh s t (Publish p f) rule told may = tell_publish sh s (tale_of t) rule told p f may.0 may.1 may.2
+tell_keeper sh s t (Replace p f) rule told may = tell_publish sh s (tale_of t) rule told p f may.0 may.1 may.2
 tell_keeper sh s t (Withdraw p) rule told may = tell_withdraw sh s (tale_of t) rule told p may.0
 tell_keeper sh s t (Freeze f) rule told may =
     tell_freeze sh s (tale_of t) rule told f (count_in (frame_word_of s f) == (frame_at s.ledger f).base) may.0

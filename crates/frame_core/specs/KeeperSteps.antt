@@ -1,7 +1,7 @@
 -- The keeper's steps in a state: a test of where each is allowed, the word that it finds, and the references on the frames after it.
 -- What the keeper knows after it is `ledger_after`. Source: own.
 use Rattle.std.specs.Prelude.{ℕ, ◌+◌, ◌-◌, Bool, true, false, ◌&&◌, ◌||◌, not, ◌==◌, nat_lt, nat_le, cond, List, slice_index, slice_set, Option, None, Some}
-use Rattle.frame_core.specs.Terms.{MOST_REFERENCES, PAGE_WORDS, Shape, frames_of, KeeperStep, Reap, Put, Raise, Open, Add, Sub, Publish, Withdraw, Freeze, Word, Kind, Free, Filling, Private, Stable, Dying, Retired, Ledger, Life}
+use Rattle.frame_core.specs.Terms.{MOST_REFERENCES, PAGE_WORDS, Shape, frames_of, KeeperStep, Reap, Put, Raise, Open, Add, Sub, Publish, Replace, Withdraw, Freeze, Word, Kind, Free, Filling, Private, Stable, Dying, Retired, Ledger, Life}
 use Rattle.frame_core.specs.State.{State, frame_word, count_in}
 use Rattle.frame_core.specs.Ledger.{frame_at, named_at}
 
@@ -38,6 +38,8 @@ may_step sh k (Add f) = nat_lt f (frames_of sh) && (nat_le 1 (frame_at k f).base
 may_step sh k (Sub f) = nat_lt f (frames_of sh) && nat_le 1 (frame_at k f).base
 may_step sh k (Publish p f) =
     nat_lt p (frames_of sh) && (nat_lt f (frames_of sh) && (is_kind Private (frame_at k f).kind && not (is_live k (named_at k p))))
+may_step sh k (Replace p f) =
+    nat_lt p (frames_of sh) && (nat_lt f (frames_of sh) && (is_kind Private (frame_at k f).kind && is_live k (named_at k p)))
 may_step sh k (Withdraw p) = nat_lt p (frames_of sh) && not (is_live k (named_at k p))
 may_step sh k (Freeze f) = nat_lt f (frames_of sh) && is_kind Stable (frame_at k f).kind
 may_step sh k (Word f i) = nat_lt f (frames_of sh) && (nat_lt i PAGE_WORDS && is_readable (frame_at k f).kind)
@@ -56,6 +58,7 @@ frame_word_of s f = frame_word (frame_at s.ledger f).generation (count_at s f)
 abbrev pub keeper_finds : State → KeeperStep → ℕ
 keeper_finds s (Put f i w) = 0
 keeper_finds s (Publish p f) = 0
+keeper_finds s (Replace p f) = 0
 keeper_finds s (Withdraw p) = 0
 keeper_finds s (Word f i) = slice_index (frame_at s.ledger f).content i
 keeper_finds s (Reap f) = frame_word_of s f

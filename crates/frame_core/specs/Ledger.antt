@@ -1,6 +1,6 @@
 -- What the keeper knows, where each of its steps is allowed, and what it knows after it: a function of what it knew, the step and the word found.
 use Rattle.std.specs.Prelude.{◌≡◌, ℕ, ◌+◌, ◌-◌, ◌<◌, ◌≤◌, ◌==◌, cond, replicate, slice_index_or, slice_set, Option, Some, None}
-use Rattle.frame_core.specs.Terms.{MOST_REFERENCES, PAGE_WORDS, Shape, frames_of, KeeperStep, Reap, Put, Raise, Open, Add, Sub, Publish, Withdraw, Freeze, Word, Kind, Free, Filling, Private, Stable, Dying, Retired, Ledger, Note, Life}
+use Rattle.frame_core.specs.Terms.{MOST_REFERENCES, PAGE_WORDS, Shape, frames_of, KeeperStep, Reap, Put, Raise, Open, Add, Sub, Publish, Replace, Withdraw, Freeze, Word, Kind, Free, Filling, Private, Stable, Dying, Retired, Ledger, Note, Life}
 use Rattle.frame_core.specs.State.{count_in}
 
 -- a frame that was never given
@@ -39,6 +39,11 @@ abbrev pub IsLoose : Ledger → Option Life → Type 0
 IsLoose k None = Unit {0}
 IsLoose k (Some life) = (frame_at k life.frame).generation ≡ life.generation → ¬ ((frame_at k life.frame).kind ≡ Stable)
 
+-- what a place names is a frame that is stable in the life named
+abbrev pub IsLive : Ledger → Option Life → Type 0
+IsLive k None = ⊥
+IsLive k (Some life) = ((frame_at k life.frame).kind ≡ Stable) × ((frame_at k life.frame).generation ≡ life.generation)
+
 -- ---------------------------------------------------------------- what a step at a frame makes of what is known of it
 
 -- reap, where nobody had a reference: free again, or retired after the last life
@@ -65,13 +70,20 @@ added note = record note { base = note.base + 1 }
 abbrev pub lowered : Note → Note
 lowered note = record note { kind = cond (note.base == 1) Dying note.kind; base = note.base - 1 }
 
--- publish: named at a place
+-- publish, replace: named at a place
 abbrev pub shown : Note → Note
 shown note = record note { kind = Stable }
 
 -- freeze, where the keeper's references were all
 abbrev pub frozen : Note → Note
 frozen note = record note { kind = Dying; base = 0 }
+
+-- publish, replace: the place names the frame in its life, and the frame is stable
+abbrev pub named_anew : Ledger → ℕ → ℕ → Ledger
+named_anew k p f = record {
+  frames = slice_set k.frames f (shown (frame_at k f));
+  places = slice_set k.places p (Some record { frame = f; generation = (frame_at k f).generation });
+}
 
 -- ---------------------------------------------------------------- the steps
 
@@ -85,6 +97,7 @@ module _ (sh : Shape) (k : Ledger) where
   MayStep (Add f) = (f < frames_of sh) × (1 ≤ (frame_at k f).base) × ((frame_at k f).base ≤ MOST_REFERENCES - 1)
   MayStep (Sub f) = (f < frames_of sh) × (1 ≤ (frame_at k f).base)
   MayStep (Publish p f) = (p < frames_of sh) × (f < frames_of sh) × ((frame_at k f).kind ≡ Private) × IsLoose k (named_at k p)
+  MayStep (Replace p f) = (p < frames_of sh) × (f < frames_of sh) × ((frame_at k f).kind ≡ Private) × IsLive k (named_at k p)
   MayStep (Withdraw p) = (p < frames_of sh) × IsLoose k (named_at k p)
   MayStep (Freeze f) = (f < frames_of sh) × ((frame_at k f).kind ≡ Stable)
   MayStep (Word f i) = (f < frames_of sh) × (i < PAGE_WORDS) × IsReadable (frame_at k f).kind
@@ -97,11 +110,8 @@ module _ (sh : Shape) (k : Ledger) where
   ledger_after (Open f) n = with_frame k f (opened (frame_at k f))
   ledger_after (Add f) n = with_frame k f (added (frame_at k f))
   ledger_after (Sub f) n = with_frame k f (lowered (frame_at k f))
-  ledger_after (Publish p f) n = record {
-    frames = slice_set k.frames f (shown (frame_at k f));
-    places =
-        slice_set k.places p (Some (record { frame = f; generation = (frame_at k f).generation }));
-  }
+  ledger_after (Publish p f) n = named_anew k p f
+  ledger_after (Replace p f) n = named_anew k p f
   ledger_after (Withdraw p) n = record { frames = k.frames; places = slice_set k.places p None }
   ledger_after (Freeze f) n = cond (count_in n == (frame_at k f).base) (with_frame k f (frozen (frame_at k f))) k
   ledger_after (Word f i) n = k

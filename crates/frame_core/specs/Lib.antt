@@ -8,6 +8,7 @@ pub mod Bounds
 pub mod Rule
 pub mod Trace
 pub mod Safe
+pub mod Live
 pub mod Words
 pub mod Knowing
 pub mod Worked

@@ -2,7 +2,7 @@
 pub use Rattle.frame_core.specs.declared.event.Event.{Event}
 pub use Rattle.frame_core.specs.declared.event.Event.TheVariants.{Keeper, Reader}
 pub use Rattle.frame_core.specs.declared.event.KeeperStep.{KeeperStep}
-pub use Rattle.frame_core.specs.declared.event.KeeperStep.TheVariants.{Add, Freeze, Open, Publish, Put, Raise, Reap, Sub, Withdraw, Word}
+pub use Rattle.frame_core.specs.declared.event.KeeperStep.TheVariants.{Add, Freeze, Open, Publish, Put, Raise, Reap, Replace, Sub, Withdraw, Word}
 pub use Rattle.frame_core.specs.declared.event.ReaderStep.{ReaderStep}
 pub use Rattle.frame_core.specs.declared.event.ReaderStep.TheVariants.{Exchange, Leave, LoadFrame, LoadPlace, LoadWord}
 pub use Rattle.frame_core.specs.declared.event.Step.{Step}

@@ -1,7 +1,7 @@
 -- What was done, the newest step first, and what can be told from it: lives, holders, words stored and words read. No count and no phase is read here. Source: own.
 use Rattle.std.specs.Prelude.{ℕ, ◌≡◌, ◌+◌, ◌<◌, Bool, true, false, ◌&&◌, ◌==◌, if◌then◌else◌, List, [], ◌∷◌, ◌++◌, filter, All, Option, None, Some, fold}
 use Rattle.std.specs.List.{range_with_len}
-use Rattle.frame_core.specs.Terms.{PLACE_SPAN, Shape, Event, Reader, Keeper, ReaderStep, KeeperStep, LoadPlace, LoadFrame, Exchange, Leave, LoadWord, Put, Raise, Open, Publish, Aim}
+use Rattle.frame_core.specs.Terms.{PLACE_SPAN, Shape, Event, Reader, Keeper, ReaderStep, KeeperStep, LoadPlace, LoadFrame, Exchange, Leave, LoadWord, Put, Raise, Open, Publish, Replace, Aim}
 use Rattle.frame_core.specs.State.{State, place_word, life_at}
 use Rattle.frame_core.specs.Steps.{first_state, step}
 
@@ -122,9 +122,10 @@ abbrev pub stored : ℕ → ℕ → List Entry → ℕ
 stored f i [] = 0
 stored f i (e ∷ t) = stored_after f i (stored f i t) e.event
 
--- the last value stored to the content word i of f before the keeper published f in its life g, if it did
+-- the last value stored to the content word i of f before the keeper named f at a place in its life g, if it did
 abbrev pub named_after : ℕ → ℕ → ℕ → List Entry → Option ℕ → Event → Option ℕ
 named_after f g i t before (Keeper (Publish p h)) = if h == f && life_of f t == g then Some (stored f i t) else before
+named_after f g i t before (Keeper (Replace p h)) = if h == f && life_of f t == g then Some (stored f i t) else before
 named_after f g i t before _ = before
 
 abbrev pub named_word : ℕ → ℕ → ℕ → List Entry → Option ℕ

@@ -1,6 +1,6 @@
 -- Worked runs of the least table, one frame, one place and one seat: what is told from their traces. Own.
-use Rattle.std.specs.Prelude.{◌≡◌, ℕ, List, [], ◌∷◌, ◌++◌, Some, None}
-use Rattle.frame_core.specs.Terms.{Shape, Event, Reader, Keeper, LoadPlace, LoadFrame, Exchange, LoadWord, Put, Raise, Open, Add, Sub, Reap, Publish, Private, Ledger}
+use Rattle.std.specs.Prelude.{◌≡◌, ℕ, List, [], ◌∷◌, ◌++◌, replicate, Some, None}
+use Rattle.frame_core.specs.Terms.{Shape, Event, Reader, Keeper, LoadPlace, LoadFrame, Exchange, LoadWord, Put, Raise, Open, Add, Sub, Reap, Publish, Replace, Private, Stable, Ledger, ReaderStep, COUNT_SPAN, PLACE_SPAN, PAGE_WORDS}
 use Rattle.frame_core.specs.Steps.{step}
 use Rattle.frame_core.specs.Trace.{Entry, History, run_of}
 
@@ -64,4 +64,41 @@ abbrev pub two_frames : Shape
 two_frames = record least { frames_per_node = 2 }
 
 abbrev pub named_and_private : List Event
-named_and_private = published ++ Keeper (Raise 1) ∷ Keeper (Open 1) ∷ []
+named_and_private = published ++ Keeper (Raise 1) ∷ Keeper (Put 1 0 9) ∷ Keeper (Open 1) ∷ []
+
+-- the same, but that the keeper has given the frame 0 up, which the place still names
+abbrev pub given_up_and_private : List Event
+given_up_and_private = named_and_private ++ Keeper (Sub 0) ∷ Keeper (Sub 0) ∷ []
+
+-- the place 0 names the frame 1 in place of the frame 0
+abbrev pub replaced : List Event
+replaced = named_and_private ++ Keeper (Replace 0 1) ∷ []
+
+-- what two frames and two places come to by these events
+abbrev pub with_two : List Event → History
+with_two events = run_of two_frames events
+
+-- after these events of two frames this one is not allowed
+abbrev pub IsRefusedOfTwo : List Event → Event → Type 0
+IsRefusedOfTwo events e = step two_frames (with_two events).state e ≡ None
+
+-- a log: the place 0 named the frame 0 in its life 1, and the frame's word was this
+abbrev pub loads : ℕ → List (ReaderStep × ℕ)
+loads word = (LoadPlace 0, PLACE_SPAN) ∷ (LoadFrame, word) ∷ []
+
+-- the frame 0 is stable in this life, and the place 0 names that; its count is this, and this was done
+abbrev pub live_with : ℕ → ℕ → List Entry → History
+live_with generation count trace = record {
+  state = record (run_of least []).state {
+    ledger = record {
+      frames = record { kind = Stable; base = 2; generation = generation; content = replicate PAGE_WORDS 0 } ∷ [];
+      places = Some record { frame = 0; generation = generation } ∷ [];
+    };
+    counts = count ∷ [];
+  };
+  trace = trace;
+}
+
+-- the seat 0 found that the frame, which the place had named in its life 1, had no reference
+abbrev pub found_unreferenced : List Entry
+found_unreferenced = record { event = Reader 0 LoadFrame; word = COUNT_SPAN } ∷ record { event = Reader 0 (LoadPlace 0); word = PLACE_SPAN } ∷ []

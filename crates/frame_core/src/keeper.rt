@@ -12,7 +12,8 @@ use crate::seat::Life;
 use ksm_base::{MOST_REFERENCES, PAGE_WORDS};
 
 impl Machine {
-    /// Whether the place names a frame that is stable in the life named. Such a place is not overwritten: its dup lives.
+    /// Whether the place names a frame that is stable in the life named. Such a place is only replaced, by another frame in its life: its
+    /// dup lives.
     fn is_live(&self, place: Option<Life>) -> bool
         ensures { result ≡ is_live self.now.state.ledger place }
     {
@@ -55,6 +56,12 @@ impl Machine {
                     && matches!(notes[f as usize].kind, Kind::Private)
                     && !self.is_live(self.places[place as usize])
             }
+            KeeperStep::Replace { place, frame: f } => {
+                place < count
+                    && f < count
+                    && matches!(notes[f as usize].kind, Kind::Private)
+                    && self.is_live(self.places[place as usize])
+            }
             KeeperStep::Withdraw(place) => {
                 place < count && !self.is_live(self.places[place as usize])
             }
@@ -77,7 +84,10 @@ impl Machine {
         ensures { result ≡ keeper_finds self.now.state step }
     {
         match step {
-            KeeperStep::Put { .. } | KeeperStep::Publish { .. } | KeeperStep::Withdraw(_) => 0,
+            KeeperStep::Put { .. }
+            | KeeperStep::Publish { .. }
+            | KeeperStep::Replace { .. }
+            | KeeperStep::Withdraw(_) => 0,
             KeeperStep::Word { frame, word } => self.notes[frame as usize].content[word],
             KeeperStep::Reap(frame)
             | KeeperStep::Raise(frame)
@@ -133,7 +143,7 @@ impl Machine {
                 note.base -= 1;
                 self.counts[f as usize] -= 1;
             }
-            KeeperStep::Publish { place, frame } => {
+            KeeperStep::Publish { place, frame } | KeeperStep::Replace { place, frame } => {
                 let note = &mut self.notes[frame as usize];
                 note.kind = Kind::Stable;
                 let generation = note.generation;

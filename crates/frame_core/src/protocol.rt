@@ -6,6 +6,7 @@ ghost use Rattle.frame_core.specs.Trace.{run_of};
 ghost use Rattle.frame_core.specs.Ledger.{first_ledger};
 ghost use Rattle.frame_core.specs.Knowing.{LedgerTells, ChangesOwnView};
 ghost use Rattle.frame_core.specs.Safe.{IsSafe, GivenUnheld};
+ghost use Rattle.frame_core.specs.Live.{LivePlacesAreFound};
 
 use crate::event::{Event, Step};
 use crate::frame::Kind;
@@ -92,6 +93,8 @@ pub fn run(alloc: Global, shape: Shape, events: &[Event]) -> Result<Core, Fault>
     ensures memory { IfErr result (λ fault. fault ≡ Fault.Memory) }
     // after any number of the events
     ensures safe { (n : ℕ) → IsSafe shape (run_of shape (take n events.now)) }
+    // and then a live place is not empty, and names no life that a lookup has found gone
+    ensures live { (n : ℕ) → LivePlacesAreFound (run_of shape (take n events.now)) }
     // each raise and each opening in the trace found the frame without a holder
     ensures given { GivenUnheld shape.passes (run_of shape events.now).trace }
 {

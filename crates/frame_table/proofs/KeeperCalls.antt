@@ -1,10 +1,10 @@
 -- What each step of the keeper asks of the table.
-use Rattle.std.proofs.Common.{◌≡◌, ℕ, ◌+◌, ◌-◌, ◌*◌, ◌%◌, ◌^◌, ◌<◌, ◌≤◌, Bool, true, false, cond, eqb, Some, refl, ap, sym, subst, ◌∙◌, arith}
+use Rattle.std.proofs.Common.{◌≡◌, ℕ, ◌+◌, ◌-◌, ◌*◌, ◌%◌, ◌^◌, ◌<◌, ◌≤◌, Bool, true, false, cond, eqb, refl, ap, sym, subst, ◌∙◌, arith}
 use mathlib.Core.Option.{none as unsaid}
 use prog.Atomic.{either}
 use Rattle.atomic_table.specs.Table.{step, Allows}
-use Rattle.frame_table.proofs.CoreNames.{COUNT_SPAN, FRAME_WORDS, MOST_LIVES, MOST_REFERENCES, PAGE_WORDS, PLACE_SPAN, Shape, frames_of, KeeperStep, Reap, Put, Raise, Open, Add, Sub, Publish, Withdraw, Freeze, Word, Ledger, place_word, frame_word, life_in, frame_word_at, content_at, frame_at, MayStep}
-use Rattle.frame_table.proofs.Names.{Holds, Sat, IsKeeper, shape_in, ledger_in, tally_in, keeper_log, order_in, Keeps, keeper_word, keeper_written, found_by, knows, on_frame, puts, publishes, withdraws, shows}
+use Rattle.frame_table.proofs.CoreNames.{COUNT_SPAN, FRAME_WORDS, MOST_LIVES, MOST_REFERENCES, PAGE_WORDS, PLACE_SPAN, Shape, frames_of, KeeperStep, Reap, Put, Raise, Open, Add, Sub, Publish, Replace, Withdraw, Freeze, Word, Ledger, frame_word, life_in, frame_word_at, content_at, frame_at, MayStep}
+use Rattle.frame_table.proofs.Names.{Holds, Sat, IsKeeper, shape_in, ledger_in, tally_in, keeper_log, order_in, Keeps, keeper_word, keeper_written, found_by, word_of_frame, knows, on_frame, puts, publishes, replaces, withdraws, shows}
 use Rattle.frame_table.proofs.Allowed.{turned, weaker, MayLoad, MayStore, MayExchange, MayAdd, MaySubOne, one_less_word}
 use Rattle.frame_table.proofs.KeeperMay.{keeper_may}
 
@@ -106,12 +106,18 @@ module _ (slots id : ℕ) (key sh : Shape) (me : Sat) (at : ℕ) (keeper : IsKee
       let one = same_word f i g j is may.1 below shape is' in subst (λ (x : ℕ × ℕ). Keeps (Word x.0 x.1) me n m) (λ y. (one.0 y, one.1 y)) keeps)
 
   -- the keeper may store to a place the word that names a frame which it may publish there
-  pub may_publish : (f w : ℕ) → f < PLACE_SPAN → w ≡ place_word (Some record { frame = f; generation = (frame_at k f).generation }) % 2 ^ 64
-      → MayStep sh k (Publish at f) → MayStore publishes slots id w key at me
+  pub may_publish : (f w : ℕ) → f < PLACE_SPAN → w ≡ word_of_frame k f % 2 ^ 64 → MayStep sh k (Publish at f) → MayStore publishes slots id w key at me
   may_publish f w low is may =
       let one : f ≡ w % PLACE_SPAN = omega arith in
       makes (Publish at f) (λ n. w) (λ n. publishes (step slots at w 0 unsaid) me w) refl may (λ n small told. named (frame_at k f).generation f w low told is)
       (λ n m shape keeps q at_q. subst (λ (x : ℕ × ℕ). Keeps (Publish x.0 x.1) me 0 m) (λ y. (at_q y, one y)) keeps)
+
+  -- the same to a place whose frame it may replace by that one
+  pub may_replace : (f w : ℕ) → f < PLACE_SPAN → w ≡ word_of_frame k f % 2 ^ 64 → MayStep sh k (Replace at f) → MayStore replaces slots id w key at me
+  may_replace f w low is may =
+      let one : f ≡ w % PLACE_SPAN = omega arith in
+      makes (Replace at f) (λ n. w) (λ n. replaces (step slots at w 0 unsaid) me w) refl may (λ n small told. named (frame_at k f).generation f w low told is)
+      (λ n m shape keeps q at_q. subst (λ (x : ℕ × ℕ). Keeps (Replace x.0 x.1) me 0 m) (λ y. (at_q y, one y)) keeps)
 
   -- the keeper may empty a place that is loose
   pub may_withdraw : MayStep sh k (Withdraw at) → MayStore withdraws slots id 0 key at me

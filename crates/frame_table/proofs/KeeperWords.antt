@@ -1,9 +1,9 @@
 -- A step of the keeper changes one word of the table, and is told what it found there.
 use Rattle.std.proofs.Common.{◌≡◌, ℕ, ◌+◌, ◌-◌, ◌<◌, ◌≤◌, ◌==◌, Bool, true, false, cond, eqb, set, get_or, Some, None, refl, ap, sym, subst, ◌∙◌, arith}
 use Rattle.std.proofs.lemmas.Bool.{eqb-true, eqb-false, eq-eqb, ne_eqb}
-use Rattle.frame_table.proofs.CoreNames.{COUNT_SPAN, Shape, frames_of, KeeperStep, Reap, Put, Raise, Open, Add, Sub, Publish, Withdraw, Freeze, Word, Kind, Free, Filling, Ledger, State, frame_word, count_in, words_of, frame_word_at, content_at, count_at, frame_word_of, keeper_finds, frame_at, with_frame, MayStep, reaped, filled, raised, opened, added, lowered, shown, frozen, after_keeper, Rule, CountFits, GenerationFits}
+use Rattle.frame_table.proofs.CoreNames.{COUNT_SPAN, Shape, frames_of, KeeperStep, Reap, Put, Raise, Open, Add, Sub, Publish, Replace, Withdraw, Freeze, Word, Kind, Free, Filling, Ledger, State, frame_word, count_in, words_of, frame_word_at, content_at, count_at, frame_word_of, keeper_finds, frame_at, with_frame, MayStep, reaped, filled, raised, opened, added, lowered, named_anew, shown, frozen, after_keeper, Rule, CountFits, GenerationFits}
 use Rattle.frame_core.proofs.Above.{as_it_was, base_at_most, count_at_most, life_low, count_found, life_found, word_get, content_get, word_set, note_set, content_set, place_set, words_same}
-use Rattle.frame_table.specs.Keeping.{keeper_word, keeper_written, found_by, knows}
+use Rattle.frame_table.specs.Keeping.{keeper_word, keeper_written, found_by, word_of_frame, knows}
 
 -- the word that a step leaves, what it is told, and what it knew of that
 abbrev pub OneWord : Shape → State → KeeperStep → Type 0
@@ -45,6 +45,12 @@ module _ (sh : Shape) (s : State) (rule : Rule sh s) where
   empty_word : (f : ℕ) → count_at s f ≡ 0 → frame_word_of s f ≡ frame_word (frame_at k f).generation 0
   empty_word f none = ap (frame_word (frame_at k f).generation) none
 
+  -- a store of its name to a place leaves the words of the state in which the place names the frame
+  named_anew_words : (p f : ℕ) → p < F → f < F → set (words_of s) p (word_of_frame k f) ≡ words_of (record s { ledger = named_anew k p f })
+  named_anew_words p f there below =
+      let note = shown (frame_at k f) in
+      place_set sh s rule p (Some record { frame = f; generation = (frame_at k f).generation }) (with_frame k f note).frames there (words_same sh s rule f note below refl refl)
+
   -- each step of the keeper that is allowed finds and leaves the words of the states before and after it
   pub keeper_words : (e : KeeperStep) → MayStep sh k e → OneWord sh s e
   keeper_words (Reap f) may = on_word (Reap f) (frame_word_of s f) (word_get sh s rule f may.0) (reaps f (count_in (frame_word_of s f) == 0) may.0) refl tt
@@ -69,12 +75,8 @@ module _ (sh : Shape) (s : State) (rule : Rule sh s) where
       on_word (Sub f) (frame_word_of s f) (word_get sh s rule f may.0)
       (word_set sh s rule f (frame_word_of s f - 1) (count_at s f - 1) (lowered (frame_at k f)) may.0 (omega (arith, some)) refl) refl
       (omega (arith, some, count_found sh s rule f may.0))
-  keeper_words (Publish p f) may =
-      let note = shown (frame_at k f) in (
-        place_set sh s rule p (Some record { frame = f; generation = (frame_at k f).generation }) (with_frame k f note).frames may.0 (words_same sh s rule f note may.1 refl refl),
-        refl,
-        life_low sh s rule f may.1,
-      )
+  keeper_words (Publish p f) may = (named_anew_words p f may.0 may.1, refl, life_low sh s rule f may.1)
+  keeper_words (Replace p f) may = (named_anew_words p f may.0 may.1, refl, life_low sh s rule f may.1)
   keeper_words (Withdraw p) may = (place_set sh s rule p None k.frames may.0 refl, refl, tt)
   keeper_words (Freeze f) may =
       let note = frame_at k f in

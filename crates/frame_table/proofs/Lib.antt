@@ -22,5 +22,6 @@ pub mod NoLookups
 pub mod Running
 pub mod Seatings
 pub mod TrueEntries
+pub mod Live
 pub mod Moment
 pub mod Unsafe

@@ -1,6 +1,6 @@
 -- The definitions of the table by their names, for proofs.
 pub use Rattle.frame_table.specs.Equal.{IsRead, SameHold, known_after, word_steps}
-pub use Rattle.frame_table.specs.Keeping.{Keeps, found_by, keeper_word, keeper_written, knows, on_frame, publishes, puts, shows, withdraws}
+pub use Rattle.frame_table.specs.Keeping.{word_of_frame, Keeps, found_by, keeper_word, keeper_written, knows, on_frame, publishes, replaces, puts, shows, withdraws}
 pub use Rattle.frame_table.specs.Lookup.{AllLost, GoesOn, IsAlive, IsOld, IsZero, ReadsWord, lookup_so_far, rounds}
 pub use Rattle.frame_table.specs.Named.{HeldView, PassView, TableName}
 pub use Rattle.frame_table.specs.Orders.{Begins, IsPresent, later}

@@ -2,7 +2,7 @@
 use Rattle.std.specs.Prelude.{◌≡◌, ℕ, Some, ◌+◌, ◌-◌, ◌%◌, ◌<◌, ◌≤◌, ◌==◌, cond, List, [], ◌∷◌, ◌++◌, slice_index}
 use Rattle.atomic_table.specs.Seated.{TableId}
 use Rattle.atomic_table.specs.Table.{Step}
-use Rattle.frame_table.specs.Terms.{COUNT_SPAN, FRAME_WORDS, MOST_LIVES, MOST_REFERENCES, PAGE_WORDS, PLACE_SPAN, frames_of, Event, KeeperStep, Reap, Put, Raise, Open, Add, Sub, Publish, Withdraw, Freeze, Word, Ledger}
+use Rattle.frame_table.specs.Terms.{COUNT_SPAN, FRAME_WORDS, MOST_LIVES, MOST_REFERENCES, PAGE_WORDS, PLACE_SPAN, frames_of, Event, KeeperStep, Reap, Put, Raise, Open, Add, Sub, Publish, Replace, Withdraw, Freeze, Word, Ledger}
 use Rattle.frame_core.specs.declared.event.Event.TheVariants as event
 use Rattle.frame_core.specs.State.{place_word, frame_word, count_in, life_in}
 use Rattle.frame_core.specs.Words.{frame_word_at, content_at}
@@ -22,9 +22,14 @@ keeper_word places (Open f) = frame_word_at places f
 keeper_word places (Add f) = frame_word_at places f
 keeper_word places (Sub f) = frame_word_at places f
 keeper_word places (Publish p f) = p
+keeper_word places (Replace p f) = p
 keeper_word places (Withdraw p) = p
 keeper_word places (Freeze f) = frame_word_at places f
 keeper_word places (Word f i) = content_at places f i
+
+-- the word of a place that names the frame in its present life
+abbrev pub word_of_frame : Ledger → ℕ → ℕ
+word_of_frame k f = place_word (Some record { frame = f; generation = (frame_at k f).generation })
 
 -- what a step of the keeper leaves there, where it found n
 abbrev pub keeper_written : Ledger → KeeperStep → ℕ → ℕ
@@ -33,7 +38,8 @@ keeper_written k (Raise f) n = n + COUNT_SPAN
 keeper_written k (Open f) n = n + 1
 keeper_written k (Add f) n = n + 1
 keeper_written k (Sub f) n = n - 1
-keeper_written k (Publish p f) n = place_word (Some record { frame = f; generation = (frame_at k f).generation })
+keeper_written k (Publish p f) n = word_of_frame k f
+keeper_written k (Replace p f) n = word_of_frame k f
 keeper_written k (Withdraw p) n = 0
 keeper_written k (Freeze f) n = cond (n == frame_word (frame_at k f).generation (frame_at k f).base) (frame_word (frame_at k f).generation 0) n
 keeper_written k _ n = n
@@ -42,6 +48,7 @@ keeper_written k _ n = n
 abbrev pub found_by : KeeperStep → ℕ → ℕ
 found_by (Put f i w) n = 0
 found_by (Publish p f) n = 0
+found_by (Replace p f) n = 0
 found_by (Withdraw p) n = 0
 found_by _ n = n
 
@@ -55,6 +62,7 @@ abbrev pub knows : Ledger → KeeperStep → ℕ → Type 0
 knows ledger (Raise f) n = (n ≡ frame_word (frame_at ledger f).generation 0) × ((frame_at ledger f).generation < MOST_LIVES)
 knows ledger (Open f) n = (n ≡ frame_word (frame_at ledger f).generation 0) × ((frame_at ledger f).generation ≤ MOST_LIVES)
 knows ledger (Publish p f) n = (frame_at ledger f).generation ≤ MOST_LIVES
+knows ledger (Replace p f) n = (frame_at ledger f).generation ≤ MOST_LIVES
 knows ledger (Add f) n = n < FRAME_WORDS
 knows ledger (Sub f) n = 1 ≤ count_in n
 knows ledger (Freeze f) n = (life_in n ≡ (frame_at ledger f).generation) × ((frame_at ledger f).base ≤ MOST_REFERENCES)
@@ -88,6 +96,9 @@ puts st m n m' = (f i : ℕ) → i < PAGE_WORDS → KeepsAt (Put f i st.first) s
 
 abbrev pub publishes : Step (Unit {0}) → Sat → ℕ → Sat → Type 0
 publishes st m n m' = (p : ℕ) → KeepsAt (Publish p (st.first % PLACE_SPAN)) st m 0 m'
+
+abbrev pub replaces : Step (Unit {0}) → Sat → ℕ → Sat → Type 0
+replaces st m n m' = (p : ℕ) → KeepsAt (Replace p (st.first % PLACE_SPAN)) st m 0 m'
 
 abbrev pub withdraws : Step (Unit {0}) → Sat → ℕ → Sat → Type 0
 withdraws st m n m' = (p : ℕ) → KeepsAt (Withdraw p) st m 0 m'

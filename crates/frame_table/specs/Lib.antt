@@ -16,5 +16,6 @@ pub mod Gone
 pub mod Seats
 pub mod Running
 pub mod Truth
+pub mod Live
 pub mod Moments
 pub mod Worked

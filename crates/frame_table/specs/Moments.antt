@@ -1,8 +1,8 @@
 -- Moments of a table of one frame, one place and one pass, by which the rule and the laws of a moment are tried. Own.
-use Rattle.std.specs.Prelude.{ℕ, List, [], ◌∷◌, replicate}
+use Rattle.std.specs.Prelude.{ℕ, List, [], ◌∷◌, replicate, Some}
 use Rattle.frame_table.specs.Terms.{PAGE_WORDS, Shape, Event, KeeperStep, Reader as reader_event, Keeper as keeper_event, LoadPlace, Raise, Open, Publish, Phase, Idle, Held, Filling, Ledger}
 use Rattle.frame_core.specs.Seat.{aim_at, nothing_known}
-use Rattle.frame_core.specs.State.{State}
+use Rattle.frame_core.specs.State.{State, place_word, frame_word}
 use Rattle.frame_core.specs.Trace.{History, run_of, keeper_log_of}
 use Rattle.frame_core.specs.Words.{words_of}
 use Rattle.frame_table.specs.declared.view.View.{View}
@@ -75,3 +75,14 @@ state_after events = (run_of one events).state
 -- the keeper has made one step since the opening
 abbrev pub kept : KeeperStep → Moment
 kept e = moment (keeper_event e ∷ []) (keeper_event e ∷ []) [] Idle []
+
+-- the first two words of the table: the place names this frame in this life, and the word of the frame 0 has this life and count
+abbrev pub words_with : ℕ → ℕ → ℕ → ℕ → List ℕ
+words_with frame generation life count = place_word (Some record { frame = frame; generation = generation }) ∷ frame_word life count ∷ []
+
+-- the keeper has named the frame at the place, and no pass has made a step
+abbrev pub naming : List Event
+naming = keeper_event (Raise 0) ∷ keeper_event (Open 0) ∷ keeper_event (Publish 0 0) ∷ []
+
+abbrev pub named : Moment
+named = moment naming naming [] Idle []

@@ -1,6 +1,6 @@
 //! The keeper gives frames, names them at places, and takes them back. Each call that changes something is one atomic step (own).
 ghost use Rattle.std.specs.Prelude.{◌≡◌, ◌<◌, ℕ, ◌↔◌, IsTrue, List, length, map, slice_index, slice_set};
-ghost use Rattle.frame_core.specs.declared.event.KeeperStep.TheVariants.{Reap, Put, Raise, Open, Add, Sub, Publish, Withdraw, Freeze, Word};
+ghost use Rattle.frame_core.specs.declared.event.KeeperStep.TheVariants.{Reap, Put, Raise, Open, Add, Sub, Publish, Replace, Withdraw, Freeze, Word};
 ghost use Rattle.frame_core.specs.Ledger.{frame_at};
 ghost use Rattle.frame_core.specs.State.{frame_word, count_in};
 ghost use Rattle.ksm_base.specs.Values.{frames_of};
@@ -201,6 +201,24 @@ impl Keeper {
             generation: note.generation,
         };
         table.publish_at(&mut self.seat, place, frame, name.word());
+        note.kind = Kind::Stable;
+        write_down(&mut self.frames, frame, note);
+    }
+
+    /// Names a private frame, in its life, at a place that names another which is Stable in the life named: by one store, so a lookup of
+    /// the place finds the one or the other, never nothing. The new frame is Stable then. The old one stays Stable, with the references
+    /// that the keeper has on it, and is named there no more.
+    pub fn replace(&mut self, table: &FrameTable, place: u32, frame: u32)
+        requires own { self.old.table ≡ table.now }
+        requires may { May self.old (Replace place frame) }
+        ensures { self.new ≡ did self.old (Replace place frame) 0 }
+    {
+        let mut note = self.note(frame);
+        let name = Life {
+            frame,
+            generation: note.generation,
+        };
+        table.replace_at(&mut self.seat, place, frame, name.word());
         note.kind = Kind::Stable;
         write_down(&mut self.frames, frame, note);
     }

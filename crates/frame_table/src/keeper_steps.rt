@@ -1,6 +1,6 @@
 //! What each step of the keeper tells its seat.
 ghost use Rattle.frame_core.specs.declared.event.KeeperStep.TheVariants as keeper;
-ghost use Rattle.frame_table.specs.Keeping.{on_frame, puts, publishes, withdraws, shows};
+ghost use Rattle.frame_table.specs.Keeping.{on_frame, puts, publishes, replaces, withdraws, shows};
 
 use crate::view::View;
 use atomic_table::Play;
@@ -45,6 +45,12 @@ pub(crate) struct Publish;
 
 impl Play<(), View> for Publish {
     ghost then = { publishes };
+}
+
+pub(crate) struct Replace;
+
+impl Play<(), View> for Replace {
+    ghost then = { replaces };
 }
 
 pub(crate) struct Withdraw;

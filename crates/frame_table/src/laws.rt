@@ -2,6 +2,8 @@
 ghost use Rattle.std.specs.Prelude.{ℕ, ◌≢◌, ◌+◌, ◌/◌, ◌<◌};
 ghost use Rattle.frame_core.specs.declared.frame.TheConstants.{LINE_WORDS as words_of_line};
 ghost use Rattle.frame_core.specs.Words.{frame_word_at, content_at};
+ghost use Rattle.frame_core.specs.Live.{PublishMakesLive, LiveUntilGivenUp};
+ghost use Rattle.frame_table.specs.Live.{LivePlacesAreFound, LoadsFindLives, GoneIsOvertaken, AnswersAreNoted};
 ghost use Rattle.frame_table.specs.Running.{TheTableRunsSafely};
 ghost use Rattle.frame_table.specs.Steps.{ReadersStepAsTheCore, KeeperStepsAsTheCore};
 ghost use Rattle.frame_table.specs.Truth.{ReadersLogIsTrue, KeepersLogIsTrue};
@@ -32,6 +34,22 @@ pub fn steps_are_the_cores()
 pub fn a_log_cannot_lie()
     ensures readers { ReadersLogIsTrue }
     ensures keeper { KeepersLogIsTrue }
+{}
+
+/// A place that is replaced is never found empty. A publish makes its place live, and each step of the keeper leaves it so, a replacement too,
+/// unless it gives up the frame named: by the last `sub`, or by a `freeze`. At every moment a live place is not empty, its frame is in the life
+/// named, with a reference, and no lookup of a pass in hand has found that life gone.
+///
+/// So a load of a live place finds a life, the one named last. A lookup that finds that life gone after all was overtaken: by then the place
+/// names another. And a lookup that answers `Zero` or `Generation` notes that life, so whoever asks anew at a live place finds another one: it
+/// looks again only where a whole replacement came between.
+pub fn a_replaced_place_is_never_empty()
+    ensures begins { PublishMakesLive }
+    ensures lasts { LiveUntilGivenUp }
+    ensures found { LivePlacesAreFound }
+    ensures loaded { LoadsFindLives }
+    ensures overtaken { GoneIsOvertaken }
+    ensures noted { AnswersAreNoted }
 {}
 
 /// Wherever the table begins, no two frame words lie in one line of eight words, and none in a line with a word of a page.

@@ -24,7 +24,8 @@ pub use equal::FoundEqual;
 pub use held::Held;
 pub use keeper::Keeper;
 pub use laws::{
-    a_log_cannot_lie, frame_words_lie_apart, steps_are_the_cores, the_running_table_is_safe,
+    a_log_cannot_lie, a_replaced_place_is_never_empty, frame_words_lie_apart, steps_are_the_cores,
+    the_running_table_is_safe,
 };
 pub use pass::{Found, Pass, Why};
 pub use table::FrameTable;

@@ -5,7 +5,8 @@ ghost use Rattle.frame_core.specs.Trace.{run_of};
 ghost use Rattle.frame_core.specs.Safe.{IsSafe, GivenUnheld};
 ghost use Rattle.frame_table.specs.Terms.{Shape, Idle, LoadPlace, Exchange};
 ghost use Rattle.frame_table.specs.declared.view.View.TheVariants.{Reader, Spent};
-ghost use Rattle.frame_table.specs.Moments.{one, opening, opening_with, first_keeper, first_pass, load, loaded, holder, filler, held_phase, given_back, state_after, kept};
+ghost use Rattle.frame_table.specs.Moments.{one, opening, opening_with, first_keeper, first_pass, load, loaded, holder, filler, held_phase, given_back, named, words_with, state_after, kept};
+ghost use Rattle.frame_table.specs.Live.{IsFoundAt, IsLiveNow};
 ghost use Rattle.frame_core.specs.declared.event.Event.TheVariants as event;
 ghost use Rattle.frame_core.specs.declared.event.KeeperStep.TheVariants as keeper;
 ghost use Rattle.frame_table.specs.Rule.{Holds};
@@ -51,4 +52,14 @@ pub fn entries_that_lie()
     ensures true_step { IsStep one opening (kept (keeper.Raise 0)) (event.Keeper (keeper.Raise 0)) 0 (state_after []) (state_after (event.Keeper (keeper.Raise 0) ∷ [])) }
     ensures another_find { ¬ IsStep one opening (kept (keeper.Raise 0)) (event.Keeper (keeper.Raise 0)) 5 (state_after []) (state_after (event.Keeper (keeper.Raise 0) ∷ [])) }
     ensures nothing_left { ¬ IsStep one opening opening (event.Keeper (keeper.Raise 0)) 0 (state_after []) (state_after (event.Keeper (keeper.Raise 0) ∷ [])) }
+{}
+
+/// A place that is found, one for each way in which a place is not, and a moment at which one is live.
+pub fn places_that_are_not_found()
+    ensures found { IsFoundAt one (words_with 0 1 1 1) 0 }
+    ensures empty { ¬ IsFoundAt one (words_with 0 0 0 1) 0 }
+    ensures outside { ¬ IsFoundAt one (words_with 1 1 1 1) 0 }
+    ensures unreferenced { ¬ IsFoundAt one (words_with 0 1 1 0) 0 }
+    ensures another_life { ¬ IsFoundAt one (words_with 0 1 2 1) 0 }
+    ensures live { Holds one named × IsLiveNow one named 0 × ¬ IsLiveNow one opening 0 }
 {}

@@ -9,9 +9,9 @@ ghost use Rattle.frame_core.specs.declared.event.ReaderStep.TheVariants as reade
 ghost use Rattle.frame_core.specs.declared.seat.Aim.{Aim};
 ghost use Rattle.frame_core.specs.declared.seat.Phase.TheVariants.{Idle, Placed, Counted, Held};
 ghost use Rattle.frame_core.specs.Ledger.{frame_at};
-ghost use Rattle.frame_core.specs.State.{place_word, frame_word};
+ghost use Rattle.frame_core.specs.State.{frame_word};
 ghost use Rattle.frame_core.specs.Words.{frame_word_at, page_at, content_at, words_for};
-ghost use Rattle.frame_table.specs.Keeping.{Keeps, MayKeep};
+ghost use Rattle.frame_table.specs.Keeping.{Keeps, MayKeep, word_of_frame};
 ghost use Rattle.frame_table.specs.Reading.{IsHolder, StepsNow};
 ghost use Rattle.frame_table.specs.Rule.{Holds};
 ghost use Rattle.frame_table.specs.Seats.{Opened, Ends, new_pass};
@@ -20,7 +20,9 @@ ghost use Rattle.frame_table.specs.Views.{IsIn, IsKeeper, keeps_ledger, ledger_i
 
 use crate::closed::ClosedTable;
 use crate::keeper::{Keeper, Kept};
-use crate::keeper_steps::{Add, Freeze, Open, Publish, Put, Raise, Reap, Sub, Withdraw, Word};
+use crate::keeper_steps::{
+    Add, Freeze, Open, Publish, Put, Raise, Reap, Replace, Sub, Withdraw, Word,
+};
 use crate::pass::Pass;
 use crate::permit::{Permit, Permits};
 use crate::reader_steps::{Exchange, Leave, LoadFrame, LoadPlace, LoadWord};
@@ -352,13 +354,24 @@ impl FrameTable {
 
     pub(crate) fn publish_at(&self, seat: &mut Seat<(), View>, place: u32, frame: u32, name: u64)
         requires asks { MayKeep self.now seat.old.table_id seat.old.me (keeper.Publish place frame) }
-        requires name { name ≡ place_word (Some record { frame = frame; generation = (frame_at (ledger_in seat.old.me) frame).generation }) % 2 ^ 64 }
+        requires name { name ≡ word_of_frame (ledger_in seat.old.me) frame % 2 ^ 64 }
         ensures seat { (seat.new.table_id ≡ seat.old.table_id) × (seat.new.id ≡ seat.old.id) }
         ensures step { Keeps (keeper.Publish place frame) seat.old.me 0 seat.new.me }
     {
         self.table
             .shared
             .store::<Publish>(seat, place as usize, name);
+    }
+
+    pub(crate) fn replace_at(&self, seat: &mut Seat<(), View>, place: u32, frame: u32, name: u64)
+        requires asks { MayKeep self.now seat.old.table_id seat.old.me (keeper.Replace place frame) }
+        requires name { name ≡ word_of_frame (ledger_in seat.old.me) frame % 2 ^ 64 }
+        ensures seat { (seat.new.table_id ≡ seat.old.table_id) × (seat.new.id ≡ seat.old.id) }
+        ensures step { Keeps (keeper.Replace place frame) seat.old.me 0 seat.new.me }
+    {
+        self.table
+            .shared
+            .store::<Replace>(seat, place as usize, name);
     }
 
     pub(crate) fn withdraw_at(&self, seat: &mut Seat<(), View>, place: u32)

@@ -1,7 +1,7 @@
 //! The program over memory: what its words tell, how it ends, and what a fault leaves.
 use crate::host::{Host, taken};
 use clap::Error;
-use ksm_base::Shape;
+use ksm_base::{MOST_FRAMES_PER_NODE, MOST_NODES, Shape};
 use ksm_host::{Ended, Retrying, Status, played, run_on, told};
 use ksm_options::options;
 use std::alloc::{AllocError, Global};
@@ -112,13 +112,15 @@ fn numbers_of_statuses(rt: HostRuntime) {
 /// Words that are no options end the program before its first line, and it says why, with no control byte but newlines.
 #[test]
 fn wrong_words_have_their_status(rt: HostRuntime) -> Result<(), Fail> {
+    let nodes = format!(in rt.alloc(); "ksmbook --nodes {} --frames 4", MOST_NODES + 1)?;
+    let frames = format!(in rt.alloc(); "ksmbook --nodes 1 --frames {}", MOST_FRAMES_PER_NODE + 1)?;
     let lines = [
         "ksmbook",
         "ksmbook --help",
         "ksmbook --nodes 1",
-        "ksmbook --nodes 5 --frames 4",
+        nodes.as_str(),
         "ksmbook --nodes 0 --frames 4",
-        "ksmbook --nodes 1 --frames 257",
+        frames.as_str(),
         "ksmbook --nodes 1 --frames 4 more",
         "ksmbook --nodes 1 --frames 4 --passes 2 --tries 8 --last-generation 4 more",
         "ksmbook --nodes 1 --frames 4 --nodes 1",

@@ -1,11 +1,9 @@
-//! The largest table: each kind of line, an `rmap` and an audit of 1,024 places, and more than 10,000 lines.
+//! A table of 1,024 frames: each kind of line, an `rmap` and an audit of as many places, and more than 10,000 lines.
 use crate::host::Host;
+use ksm_base::{MOST_LIVES, MOST_TRIES};
 use ksm_host::{Status, run_on};
 use std::alloc::{AllocError, Global};
 use std::test::Fail;
-
-const WORDS: &str =
-    "ksmbook --nodes 4 --frames 256 --passes 16 --tries 64 --last-generation 1099511627776 --";
 
 /// How many frames, places and pages there are.
 const FRAMES: u32 = 1024;
@@ -145,13 +143,17 @@ impl Lines {
 
 /// Nothing is refused for memory, and no status is made up, however many lines there are.
 #[test]
-fn the_largest_table(rt: HostRuntime) -> Result<(), Fail> {
+fn a_large_table(rt: HostRuntime) -> Result<(), Fail> {
     let mut lines = Lines::new(rt.alloc());
     lines.merge_all()?;
     lines.look_up()?;
     lines.part()?;
     lines.store_and_read()?;
-    let host = Host::new(rt.alloc(), WORDS, lines.script.as_str(), None);
+    let words = format!(in rt.alloc();
+        "ksmbook --nodes 4 --frames 256 --passes 16 --tries {} --last-generation {} --",
+        MOST_TRIES, MOST_LIVES
+    )?;
+    let host = Host::new(rt.alloc(), words.as_str(), lines.script.as_str(), None);
     let outcome = run_on(&host, &rt, &host);
     let (printed, said) = host.told();
     assert_eq!(rt; outcome.status(), Status::Done);

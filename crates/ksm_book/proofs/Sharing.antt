@@ -153,8 +153,8 @@ above_elsewhere place (d ∷ ds) = grind (arith, nat_tests, above_elsewhere plac
 product_most : (a b m n : ℕ) → a ≤ m → b ≤ n → a * b ≤ m * n
 product_most a b m n le le' = grind (arith, le, le')
 
--- fewer than 2^50 dups were ever made, since each spent a life of a frame
-pub spent_most : {v : PagesView} {k : KeeperView} → IsLaid v k → v.next ≤ 2 ^ 50
+-- no more dups were ever made than there are lives of all frames, since each spent one
+pub spent_most : {v : PagesView} {k : KeeperView} → IsLaid v k → v.next ≤ MOST_FRAMES * MOST_LIVES
 spent_most {v} {k} h =
     let sh : Shape = v.shape in
     let p = h.placed in

@@ -1,11 +1,35 @@
 -- Pages that leave their dups, or the zero page, one after another.
-use Rattle.ksm_book.proofs.Names.{[], All, and-true, ap, append-nil, arith, change_row, change_rows, cond-false, cond-true, cond_both, false, Fault, filter, filter-append, filter_none, find, get_or, GuestPage, HasLeft, Held, inl, InPageOrder, inr, is_next, is_of, is_shared_of, is_some, IsAlone, IsHeld, IsKnown, IsLaid, KeeperView, left_by, length, length-append, let_go, List, lying, Mapped, MayNotLeave, NoFrame, None, not, not-false, not-true, of_guest, on_its_own, Option, option_map, PagesView, refl, Resettled, ResettlesEach, Row, row_at, same_page, same_Some, shared_of, shared_state, slice_get, Some, subst, sym, take, take-append_seam, true, UnmergesTo, unshared, Unshares, ℕ, ◌&&◌, ◌++◌, ◌+◌, ◌<◌, ◌∙◌, ◌∷◌, ◌≡◌, ◌≤◌, if◌then◌else◌, Contains-append_right}
+use Rattle.ksm_book.proofs.Names.{[], All, and-true, ap, append-nil, arith, Bool, change_row, change_rows, cond-false, cond-true, cond_both, false, Fault, filter, filter-append, filter_none, find, get_or, GuestPage, HasLeft, Held, inl, InPageOrder, inr, is_next, is_of, is_shared_of, is_some, IsAlone, IsHeld, IsKnown, IsLaid, KeeperView, left_by, length, length-append, let_go, List, lying, Mapped, MayNotLeave, NoFrame, None, not, not-false, not-true, of_guest, on_its_own, Option, option_map, PagesView, refl, Resettled, ResettlesEach, Row, row_at, same_page, same_Some, shared_of, shared_state, slice_get, Some, subst, suc, sym, take, take-append_seam, true, UnmergesTo, unshared, Unshares, ℕ, ◌&&◌, ◌++◌, ◌+◌, ◌<◌, ◌∙◌, ◌∷◌, ◌≡◌, ◌≤◌, if◌then◌else◌, Contains-append_right}
+use Rattle.ksm_base.proofs.Edits.{count_more}
+use Rattle.ksm_base.specs.Counting.{mergeable_count}
 use Rattle.ksm_base.specs.declared.row.PageState.TheVariants.{Private}
+use Rattle.std.proofs.lemmas.List.Sums.{count_by-le-length}
 use Rattle.ksm_book.proofs.Along.{FitsPage, IsAlong, IsCut, along_cut, along_end, further, position}
 use Rattle.ksm_book.proofs.ByPage.{row_of_page}
 use Rattle.ksm_book.proofs.Laying.{LodgesAs, laid_changed}
 use Rattle.ksm_book.proofs.Shown.{each_does, unmerges_own}
 use Rattle.ksm_book.proofs.Singles.{alone_now, change_still, found_resettled, settled_then}
+
+-- where all rows are mergeable, none changes by becoming so
+pub stay_in_scan : (test : Row → Bool) (rows : List Row) → mergeable_count rows ≡ length rows
+    → rows ≡ change_rows test (λ r. record r { mergeable = true }) rows
+stay_in_scan test [] all = refl
+stay_in_scan test (r ∷ rows) all = by r.mergeable refl (stay_in_scan test rows)
+  where
+    one_if : Bool → ℕ
+    one_if mergeable = if mergeable then 1 else 0
+
+    sum : one_if r.mergeable + mergeable_count rows ≡ suc (length rows)
+    sum = sym (count_more (λ s. s.mergeable) r rows) ∙ all
+
+    by : (m : Bool) → r.mergeable ≡ m → (mergeable_count rows ≡ length rows → rows ≡ change_rows test (λ s. record s { mergeable = true }) rows)
+        → r ∷ rows ≡ change_rows test (λ s. record s { mergeable = true }) (r ∷ rows)
+    by true is rest =
+        let here : r ≡ (if test r then record r { mergeable = true } else r) =
+        cond_both (test r) (record r { mergeable = true }) r (λ s. r ≡ s) (λ _ i. record r { mergeable = is i }) (λ _. refl) in
+        let others = rest (omega (arith, sum, ap one_if is)) in
+        (λ i. here i ∷ others i)
+    by false is rest = let few = count_by-le-length (λ s. s.mergeable) rows in absurd (omega (arith, sum, ap one_if is, few))
 
 -- a row that is left keeps its page
 pub page_left : (guest : Option ℕ) (r : Row) → (left_by guest r).page ≡ r.page

@@ -1,6 +1,7 @@
 -- What is promised of the book and its frames between any two calls (own).
-use Rattle.std.specs.Prelude.{◌≡◌, ◌≢◌, ℕ, ◌<◌, ◌≤◌, ◌^◌, Bool, true, false, not, List, ◌++◌, map, filter}
+use Rattle.std.specs.Prelude.{◌≡◌, ◌≢◌, ℕ, ◌*◌, ◌<◌, ◌≤◌, Bool, true, false, not, List, ◌++◌, map, filter}
 use Rattle.std.specs.Prelude.{AllPairs, All, Contains, Some, None, MatchOption}
+use Rattle.ksm_base.specs.declared.limits.TheConstants.{MOST_FRAMES, MOST_LIVES}
 use Rattle.ksm_base.specs.declared.page.GuestPage.{GuestPage}
 use Rattle.ksm_base.specs.declared.shape.Shape.{Shape}
 use Rattle.ksm_base.specs.declared.row.Row.{Row}
@@ -91,6 +92,6 @@ FindsPlace b =
     (row : Row) → Contains b.rows row → shared_state row.state ≡ false
     → new_place (place_count b.shape) b.rows b.dups < place_count b.shape
 
--- the numbers of dups are small
+-- the numbers of dups are small: below that of all lives of as many frames as there may be
 abbrev pub NumbersAreSmall : BookState → Type 0
-NumbersAreSmall b = All (λ d. d.number < 2 ^ 50) b.dups
+NumbersAreSmall b = All (λ d. d.number < MOST_FRAMES * MOST_LIVES) b.dups

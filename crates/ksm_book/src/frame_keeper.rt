@@ -1,7 +1,8 @@
 //! The keeper with the sets of its free and of its dying frames, so that neither is looked for frame by frame.
 
-ghost use Rattle.std.specs.Prelude.{◌≡◌, ◌<◌, ◌≤◌, ◌*◌, ℕ, ◌↔◌, IsTrue, MatchOption, length};
+ghost use Rattle.std.specs.Prelude.{◌≡◌, ◌<◌, ◌≤◌, ◌*◌, ℕ, ◌↔◌, IfErr, IfOk, IsTrue, MatchOption, length};
 ghost use Rattle.std.specs.Prelude.{slice_index};
+ghost use Rattle.ksm_base.specs.declared.fault.Fault.TheVariants.{Memory};
 ghost use Rattle.ksm_base.specs.Values.{frames_of, IsShape};
 ghost use Rattle.frame_core.specs.declared.event.KeeperStep.TheVariants.{Reap, Put, Raise, Open, Add, Sub, Publish};
 ghost use Rattle.frame_core.specs.declared.event.KeeperStep.TheVariants.{Withdraw, Freeze, Word};
@@ -14,7 +15,9 @@ ghost use Rattle.ksm_book.specs.Steps.{free_kind, dying_kind};
 
 use frame_core::Kind;
 use frame_table::{FrameTable, Keeper};
+use ksm_base::Fault;
 use ksm_tree::NumberSet;
+use std::alloc::Global;
 use std::marker::Model;
 
 /// The keeper of the frames, with the sets of those that are free and of those that are dying. Contracts see the
@@ -66,16 +69,26 @@ fn sort(keeper: &Keeper, free: &mut NumberSet, dying: &mut NumberSet, frame: u32
 }
 
 impl FrameKeeper {
-    /// Begins with a keeper that has made no step: all frames are free, none is dying.
-    pub fn new(keeper: Keeper) -> FrameKeeper
+    /// Begins with a keeper that has made no step: all frames are free, none is dying. Refused for memory alone, it
+    /// gives the keeper back.
+    pub fn new(alloc: Global, keeper: Keeper, frames: u32) -> Result<FrameKeeper, (Keeper, Fault)>
         requires checked { IsShape keeper.table.shape }
+        requires all { frames ≡ frames_of keeper.table.shape }
         requires new { keeper.ledger ≡ first_ledger keeper.table.shape }
-        ensures { result ≡ keeper }
+        ensures begun { IfOk result (λ k. k ≡ keeper) }
+        ensures refused { IfErr result (λ e. (e.0 ≡ keeper) × (e.1 ≡ Memory)) }
     {
-        FrameKeeper {
-            keeper,
-            free: NumberSet::full(),
-            dying: NumberSet::empty(),
+        let free = match NumberSet::full(alloc, frames) {
+            Ok(free) => free,
+            Err(fault) => return Err((keeper, fault)),
+        };
+        match NumberSet::empty(alloc, frames) {
+            Ok(dying) => Ok(FrameKeeper {
+                keeper,
+                free,
+                dying,
+            }),
+            Err(fault) => Err((keeper, fault)),
         }
     }
 

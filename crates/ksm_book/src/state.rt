@@ -66,14 +66,15 @@ impl State {
         }) }
         ensures refused { IfErr result (λ e. (e.0 ≡ keeper) × (e.1 ≡ Memory)) }
     {
+        let keeper = FrameKeeper::new(alloc, keeper, shape.frames())?;
         match Pages::open(alloc, shape) {
             Ok(pages) => Ok(State {
                 pages,
-                keeper: FrameKeeper::new(keeper),
+                keeper,
                 cursor: None,
                 passes: 0,
             }),
-            Err(fault) => Err((keeper, fault)),
+            Err(fault) => Err((keeper.close(), fault)),
         }
     }
 

@@ -88,6 +88,9 @@ fn make_mergeable(pages: &mut Pages, guest: u16)
     } }
 {
     pages.lie_in_order();
+    if pages.all_mergeable() {
+        return;
+    }
     let mut last = None;
     'pages: while let Some(held) = pages.next(Some(guest), last) {
         pages.make_mergeable(held.spot);

@@ -4,7 +4,7 @@ use Rattle.ksm_base.specs.declared.page.TheConstants.{PAGE_WORDS}
 use Rattle.ksm_base.specs.declared.shape.Shape.{Shape}
 use Rattle.ksm_base.specs.Values.{frames_of}
 use Rattle.frame_core.specs.declared.event.KeeperStep.{KeeperStep}
-use Rattle.frame_core.specs.declared.event.KeeperStep.TheVariants.{Reap, Put, Raise, Open, Add, Sub, Publish, Withdraw}
+use Rattle.frame_core.specs.declared.event.KeeperStep.TheVariants.{Reap, Put, Raise, Open, Add, Sub, Publish, Replace, Withdraw}
 use Rattle.frame_core.specs.declared.event.KeeperStep.TheVariants.{Freeze, Word}
 use Rattle.frame_core.specs.declared.frame.Kind.{Kind}
 use Rattle.frame_core.specs.declared.frame.Kind.TheVariants.{Free, Filling, Private, Stable, Dying, Retired}
@@ -24,6 +24,7 @@ IsInside sh (Open f) = f < frames_of sh
 IsInside sh (Add f) = f < frames_of sh
 IsInside sh (Sub f) = f < frames_of sh
 IsInside sh (Publish p f) = (p < frames_of sh) × (f < frames_of sh)
+IsInside sh (Replace p f) = (p < frames_of sh) × (f < frames_of sh)
 IsInside sh (Withdraw p) = p < frames_of sh
 IsInside sh (Freeze f) = f < frames_of sh
 IsInside sh (Word f i) = (f < frames_of sh) × (i < PAGE_WORDS)

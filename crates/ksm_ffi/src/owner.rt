@@ -2,8 +2,8 @@
 ghost use Rattle.std.specs.Prelude.{◌≡◌, ◌≢◌, ◌<◌, ◌↔◌, IsTrue, MatchResult, length};
 ghost use Rattle.ksm_base.specs.Values.{frames_of};
 ghost use Rattle.frame_core.specs.declared.event.KeeperStep.TheVariants.{Reap, Put, Raise, Open, Add, Sub, Publish};
-ghost use Rattle.frame_core.specs.declared.event.KeeperStep.TheVariants.{Withdraw, Freeze, Word};
-ghost use Rattle.frame_core.specs.Ledger.{IsLoose, IsReadable, IsWritable, frame_at, named_at};
+ghost use Rattle.frame_core.specs.declared.event.KeeperStep.TheVariants.{Replace, Withdraw, Freeze, Word};
+ghost use Rattle.frame_core.specs.Ledger.{IsLive, IsLoose, IsReadable, IsWritable, frame_at, named_at};
 ghost use Rattle.frame_table.specs.Kept.{May};
 ghost use Rattle.frame_core.specs.declared.event.KeeperStep.{KeeperStep};
 ghost use Rattle.ksm_base.specs.declared.shape.Shape.{Shape};
@@ -74,6 +74,20 @@ fn is_loose(keeper: &Keeper, frames: u32, named: Option<Life>) -> bool
         || keeper.generation(life.frame) != life.generation
 }
 
+// Whether a place that names this may be replaced.
+fn is_live(keeper: &Keeper, frames: u32, named: Option<Life>) -> bool
+    requires frames { frames ≡ frames_of keeper.now.table.shape }
+    requires all { frames ≡ length keeper.now.ledger.frames }
+    ensures { IsTrue result ↔ IsLive keeper.now.ledger named }
+{
+    let Some(life) = named else {
+        return false;
+    };
+    life.frame < frames
+        && keeper.kind(life.frame) == Kind::Stable
+        && keeper.generation(life.frame) == life.generation
+}
+
 // The number by which a caller in C is told what a frame is used for.
 fn kind_number(kind: Kind) -> u32
     ensures { result ≡ kind_number kind }
@@ -99,7 +113,9 @@ fn is_inside(frames: u32, step: KeeperStep) -> bool
             value: _,
         }
         | KeeperStep::Word { frame, word } => frame < frames && word < PAGE_WORDS,
-        KeeperStep::Publish { place, frame } => place < frames && frame < frames,
+        KeeperStep::Publish { place, frame } | KeeperStep::Replace { place, frame } => {
+            place < frames && frame < frames
+        }
         KeeperStep::Withdraw(place) => place < frames,
         KeeperStep::Reap(frame)
         | KeeperStep::Raise(frame)
@@ -128,6 +144,14 @@ impl Owner {
         is_loose(&self.keeper, self.table.places(), named)
     }
 
+    fn is_live(&self, place: u32) -> bool
+        requires { place < frames_of self.now.table.shape }
+        ensures { IsTrue result ↔ IsLive self.now.ledger (named_at self.now.ledger place) }
+    {
+        let named = self.named[place as usize];
+        is_live(&self.keeper, self.table.places(), named)
+    }
+
     fn may(&self, step: KeeperStep) -> bool
         requires { IsInside self.now.table.shape step }
         ensures { IsTrue result ↔ May self.now step }
@@ -147,6 +171,9 @@ impl Owner {
             KeeperStep::Word { frame, word: _ } => is_readable(self.keeper.kind(frame)),
             KeeperStep::Publish { place, frame } => {
                 self.is_kind(frame, Kind::Private) && self.is_loose(place)
+            }
+            KeeperStep::Replace { place, frame } => {
+                self.is_kind(frame, Kind::Private) && self.is_live(place)
             }
             KeeperStep::Withdraw(place) => self.is_loose(place),
         }
@@ -251,6 +278,19 @@ impl Owner {
             return answer;
         }
         self.keeper.publish(&self.table, place, frame);
+        let generation = self.keeper.generation(frame);
+        self.named[place as usize] = Some(Life { frame, generation });
+        Answer::Done
+    }
+
+    /// Names a private frame at a place in place of the stable one that it names, which is as it was else.
+    pub fn replace(&mut self, place: u32, frame: u32) -> Answer
+        ensures { Keeps self.old (Replace place frame) result self.new }
+    {
+        if let Err(answer) = self.judge(KeeperStep::Replace { place, frame }) {
+            return answer;
+        }
+        self.keeper.replace(&self.table, place, frame);
         let generation = self.keeper.generation(frame);
         self.named[place as usize] = Some(Life { frame, generation });
         Answer::Done

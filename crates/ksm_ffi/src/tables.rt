@@ -2,7 +2,7 @@
 //! keeper, and one at a time those of the handle of passes; these may be two threads.
 ghost use Rattle.std.specs.Prelude.{◌≡◌, ◌≢◌, ◌<◌, ◌≤◌, OnOk};
 ghost use Rattle.frame_core.specs.declared.event.KeeperStep.TheVariants.{Reap, Put, Raise, Open, Add, Sub, Publish};
-ghost use Rattle.frame_core.specs.declared.event.KeeperStep.TheVariants.{Withdraw, Freeze};
+ghost use Rattle.frame_core.specs.declared.event.KeeperStep.TheVariants.{Replace, Withdraw, Freeze};
 ghost use Rattle.ksm_ffi.specs.Keeping.{Keeps, KeepsWord, TellsOf};
 ghost use Rattle.ksm_ffi.specs.Things.{Closes, ClosesPass, IsGivenBack, IsNewTable, JudgesBack, JudgesClose, LendsBox};
 ghost use Rattle.ksm_ffi.specs.Things.{LendsThing, MakesTable, OnTable, OpensOf, OpensPass};
@@ -260,6 +260,23 @@ pub extern "C" fn ksm_publish(alloc: Global, table: &mut Handle, place: u32, fra
     };
     let answer = match &mut *thing {
         Thing::Table(owner, _) => owner.publish(place, frame),
+        _ => Answer::Kind,
+    };
+    table.put(thing);
+    answer.number()
+}
+
+/// Names a private frame at a place in place of the stable one that it names: the new one is Stable then, and the old
+/// one as it was.
+#[unsafe(no_mangle)]
+pub extern "C" fn ksm_replace(alloc: Global, table: &mut Handle, place: u32, frame: u32) -> u32
+    ensures { OnTable (λ v a w. Keeps v (Replace place frame) a w) table.old.thing result table.new.thing }
+{
+    let Some(mut thing) = table.take(alloc) else {
+        return Answer::Closed.number();
+    };
+    let answer = match &mut *thing {
+        Thing::Table(owner, _) => owner.replace(place, frame),
         _ => Answer::Kind,
     };
     table.put(thing);

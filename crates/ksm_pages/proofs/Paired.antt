@@ -128,7 +128,7 @@ pub record CanPair (s : Inside) (p : PagesValue) (place : ℕ) (first second : G
 pub can_pair : (s : Inside) → AreLawful s → {p : PagesValue} → view_of s ≡ p → (place : ℕ) (first second : GuestPage)
     → IsOfBoth (MayPair (seen p) place) (row_at first p.rows) (row_at second p.rows) → (pass : ℕ) (one other : Entry)
     → held_at first s.rows.held ≡ Some (held_of pass one) → held_at second s.rows.held ≡ Some (held_of pass other)
-    → {later : DupsState} → later ≡ record s.dups { numbers = later.numbers }
+    → {later : DupsState} → later ≡ record s.dups { numbers = later.numbers; most = later.most }
     → CanPair (record s { dups = later }) p place first second pass one other
 can_pair s are {p = p} seen_as place first second required pass one other found also {later = later} same =
     let now = seen_numbered s later same ∙ seen_as in

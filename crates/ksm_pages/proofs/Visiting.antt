@@ -14,7 +14,7 @@ use Rattle.ksm_pages.proofs.Resting.{lies_alike, rests}
 
 -- ---------------------------------------------------------------- groups that got other numbers
 
-module _ (s : Inside) (later : DupsState) (kept : later ≡ record s.dups { numbers = later.numbers }) where
+module _ (s : Inside) (later : DupsState) (kept : later ≡ record s.dups { numbers = later.numbers; most = later.most }) where
   -- groups that got other numbers leave the pages lawful
   pub lawful_numbered : AreLawful s → AreLawful (record s { dups = later })
   lawful_numbered are =
@@ -78,7 +78,7 @@ pub record IsAsked (s : Inside) (p : PagesValue) (page : GuestPage) (e : Entry) 
 -- once groups got numbers, a page whose row a visit may change is asked with its group
 pub asked : (s : Inside) → AreLawful s → {p : PagesValue} → view_of s ≡ p → {page : GuestPage} (e : Entry)
     → held_at page s.rows.held ≡ Some (held_of s.rows.pass e)
-    → is_restless_entry e ≡ true → {later : DupsState} → later ≡ record s.dups { numbers = later.numbers }
+    → is_restless_entry e ≡ true → {later : DupsState} → later ≡ record s.dups { numbers = later.numbers; most = later.most }
     → {tree group : ℕ} → ((row : Row) → row.home ≡ e.home → tree ≡ tree_of s.knobs row) → number_of tree e.bytes later.numbers ≡ Some group
     → IsAsked (record s { dups = later }) p page e group
 asked s are seen_as e found restless {later = later} kept {group = group} in_tree numbered = record {

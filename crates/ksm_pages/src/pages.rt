@@ -109,7 +109,7 @@ impl Pages {
         let places = shape.frames();
         Ok(Pages {
             shape,
-            rows: Rows::new(alloc),
+            rows: Rows::new(alloc, places),
             dups: Dups::open(alloc, places)?,
             frames: vec![in alloc; 0; places as usize]?,
             knobs: Knobs::DEFAULT,

@@ -1,6 +1,6 @@
 //! What is read of pages: where they lie, what they hold, which comes next, and how many there are of each kind.
 
-ghost use Rattle.std.specs.Prelude.{◌≡◌, ◌≤◌, true, false, None, Some, All, find, is_some, option_map};
+ghost use Rattle.std.specs.Prelude.{◌≡◌, ◌≤◌, ◌==◌, true, false, None, Some, All, find, is_some, length, option_map};
 ghost use Rattle.std.specs.Prelude.{option_and_then, MatchOption, IfSome};
 ghost use Rattle.ksm_base.specs.Counting.{counters_from, mergeable_count};
 ghost use Rattle.ksm_base.specs.Reading.{place_of};
@@ -119,6 +119,14 @@ impl Pages {
         ensures { result ≡ mergeable_count self.now.rows }
     {
         self.rows.mergeable()
+    }
+
+    /// Whether a scan visits all pages.
+    #[inline(always)]
+    pub fn all_mergeable(&self) -> bool
+        ensures { result ≡ (mergeable_count self.now.rows == length self.now.rows) }
+    {
+        self.rows.mergeable() == self.rows.len()
     }
 
     // Where the page of a spot lies, and where it is at home.

@@ -8,6 +8,7 @@
 ghost use Rattle.std.specs.Prelude.{◌≡◌, ◌≤◌, ◌<◌, ◌^◌, true, false, [], None, Some, All, IfErr, IfOk, IfSome};
 ghost use Rattle.std.specs.Prelude.{MatchOption, OnErr, OnOk, ◌&&◌, bytes_eq, count_by, filter, find, is_some};
 ghost use Rattle.std.specs.Prelude.{length, map, not, option_map, slice_get};
+ghost use Rattle.ksm_base.specs.declared.limits.TheConstants.{MOST_FRAMES};
 ghost use Rattle.ksm_base.specs.declared.page.GuestPage.{GuestPage};
 ghost use Rattle.ksm_base.specs.declared.row.PageState.TheVariants.{Private, Waiting, Merged, Zero};
 ghost use Rattle.ksm_base.specs.Apply.{fresh_row};
@@ -23,7 +24,7 @@ use crate::ahead::Ahead;
 use crate::order::Order;
 use crate::restless::Restless;
 use crate::row::{Entry, Kind, Spot};
-use crate::slot::{SLOTS, slot_of};
+use crate::slot::{last_slot, slot_of};
 use crate::tally::Tally;
 use ksm_base::{Fault, GuestPage, PageBytes, PageState};
 use ksm_tree::Guesses;
@@ -38,6 +39,7 @@ pub struct Rows {
     order: Order,
     /// Guesses: in the slot of a page the key of the row that came last of the pages with that slot.
     keys: Guesses,
+    last_slot: u32,
     restless: Restless,
     tally: Tally,
     /// One more whenever no row waits any longer.
@@ -105,15 +107,18 @@ fn gather(entries: &Slab<Entry>, order: &Order, restless: &mut Restless)
 }
 
 impl Rows {
-    /// No rows.
-    pub fn new(alloc: Global) -> Rows
+    /// No rows, in a table with so many frames.
+    pub fn new(alloc: Global, frames: u32) -> Rows
+        requires { frames ≤ MOST_FRAMES }
         ensures held { result.held ≡ [] }
         ensures restless { result.restless ≡ record { pages = []; known = true } }
     {
+        let last_slot = last_slot(frames);
         Rows {
             entries: Slab::new(alloc),
             order: Order::new(alloc),
-            keys: Guesses::new(alloc, SLOTS as usize),
+            keys: Guesses::new(alloc, last_slot as usize + 1),
+            last_slot,
             restless: Restless::new(alloc),
             tally: Tally::NONE,
             pass: 1,
@@ -183,7 +188,7 @@ impl Rows {
     /// A guess of the key of a page's row.
     #[inline(always)]
     pub fn guess(&self, page: GuestPage) -> usize {
-        self.keys.at(slot_of(page)) as usize
+        self.keys.at(slot_of(page, self.last_slot)) as usize
     }
 
     /// The number of the pass: a row waits exactly where its number is this one, and it has a frame of its own.
@@ -280,7 +285,7 @@ impl Rows {
             mergeable: true,
             unchanged: false,
         });
-        self.keys.set(slot_of(page), key);
+        self.keys.set(slot_of(page, self.last_slot), key);
         let spot = Spot {
             page,
             key: key as usize,

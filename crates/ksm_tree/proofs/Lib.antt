@@ -19,5 +19,6 @@ pub mod Rows
 pub mod Standing
 pub mod Tied
 pub mod Ties
+pub mod Used
 pub mod Waiters
 pub mod Where

@@ -189,7 +189,7 @@ module _ (s : SlotsState) (next : ℕ) (index new : Index) (dup : Dup) (h : AreI
 pub seen_made : (s : SlotsState) (next : ℕ) (index new : Index) (dup : ℕ → Dup) (old : DupsState) → dups_seen s next index ≡ old → SameWaits index.groups new.groups
     → dups_seen (record { places = s.places; dups = with_new (dup next) s.dups }) (next + 1) new ≡ record old { dups = with_new (dup old.next) old.dups; next = old.next + 1 }
 seen_made s next index new dup old view same =
-    (λ i. record { places = s.places; dups = with_new (dup next) s.dups; next = next + 1; waiting = same.waiting i; numbers = same.numbers i })
+    (λ i. record { places = s.places; dups = with_new (dup next) s.dups; next = next + 1; waiting = same.waiting i; numbers = same.numbers i; most = same.most i })
     ∙ ap {A = DupsState} {B = DupsState} (λ o. record o { dups = with_new (dup o.next) o.dups; next = o.next + 1 }) view
 
 -- the next number is that of no dup

@@ -85,6 +85,10 @@ module _ (words : List ℕ) where
         let least = found_in_word next 0 (next * 64) (64 * length words) bit (omega arith) (omega arith) found (omega (arith, within, found.high_is)) in
         least_further ((at + 1) * 64) (next * 64) (64 * length words) (next * 64 + bit) (omega (arith, named.low_is)) none least
 
+    -- the least number of the upper set from one on is that of a word that is there
+    pub within_named : (low next : ℕ) → IsLeast upper low (64 * length upper) next → next < length words
+    within_named low next named = word_within next (word_set next named.high_is named.there)
+
     -- the upper set is right once a word is put, if it says of that whether it is 0, and of the others what it did
     pub summed_put : (w word : ℕ) (upper' : List ℕ) (there : Bool) → w < length words → there ≡ not (word == 0) → Marks upper upper' w there → IsSummed (set words w word) upper'
     summed_put w word upper' there within here marks = record {
@@ -109,19 +113,48 @@ module _ (words : List ℕ) where
     summed_less w word upper' within zero marks =
         summed_put w word upper' false within (sym (ap (λ x. not (x == 0)) zero)) marks
 
-module _ (words upper : List ℕ) (h : AreSummed words upper) where
+    -- the upper set is right where a word is put that is not 0, as the word before it
+    pub summed_some : (w word : ℕ) → w < length words → word ≢ 0 → get_or words w 0 ≢ 0 → IsSummed (set words w word) upper
+    summed_some w word within some before = record {
+      room = omega (arith, h.room, length-set words w word);
+      named = λ v low. elim (cases_eq v w) [
+        | inl same ↦ h.named v low ∙ ap not (ap (λ u. get_or words u 0 == 0) same ∙ ne_eqb (get_or words w 0) 0 before ∙ sym (ne_eqb word 0 some))
+            ∙ ap (λ x. not (x == 0)) (sym (get_or-set_same words w word 0 within) ∙ ap (λ u. get_or (set words w word) u 0) (sym same))
+        | inr apart ↦ h.named v low ∙ ap (λ x. not (x == 0)) (sym (get_or-set_other words w v word 0 apart))
+      ];
+    }
+
+module _ (most : ℕ) (words upper : List ℕ) (h : AreSummed most words upper) where
   -- the sets stay right once a bit is set in a word, and that word's number is in the upper one
-  pub stay_more : (w i : ℕ) (upper' : List ℕ) → w < length words → i < 64 → 1 < length words → Marks upper upper' w true → AreSummed (set words w (bit_or (get_or words w 0) (1 * 2 ^ i % 18446744073709551616))) upper'
+  pub stay_more : (w i : ℕ) (upper' : List ℕ) → w < length words → i < 64 → 1 < most → Marks upper upper' w true → AreSummed most (set words w (bit_or (get_or words w 0) (1 * 2 ^ i % 18446744073709551616))) upper'
   stay_more w i upper' within small many marks = record {
     fits = omega (arith, h.fits, length-set words w (bit_or (get_or words w 0) (1 * 2 ^ i % 18446744073709551616)));
+    few = omega (arith, h.few, length-set words w (bit_or (get_or words w 0) (1 * 2 ^ i % 18446744073709551616)));
     summed = λ _. summed_more words upper (h.summed many) w i upper' within small marks;
   }
 
   -- they stay right once a word is 0, and its number is not in the upper one any more
-  pub stay_less : (w word : ℕ) (upper' : List ℕ) → w < length words → word ≡ 0 → 1 < length words → Marks upper upper' w false → AreSummed (set words w word) upper'
+  pub stay_less : (w word : ℕ) (upper' : List ℕ) → w < length words → word ≡ 0 → 1 < most → Marks upper upper' w false → AreSummed most (set words w word) upper'
   stay_less w word upper' within zero many marks = record {
     fits = omega (arith, h.fits, length-set words w word);
+    few = omega (arith, h.few, length-set words w word);
     summed = λ _. summed_less words upper (h.summed many) w word upper' within zero marks;
+  }
+
+  -- they stay right whatever a word is put to, where there may be one alone
+  pub stay_alone : (w word : ℕ) → most ≤ 1 → AreSummed most (set words w word) upper
+  stay_alone w word one = record {
+    fits = omega (arith, h.fits, length-set words w word);
+    few = omega (arith, h.few, length-set words w word);
+    summed = λ two. absurd (omega (arith, one, two));
+  }
+
+  -- they stay right where a word is put that is not 0, as the word before it
+  pub stay_some : (w word : ℕ) → w < length words → word ≢ 0 → get_or words w 0 ≢ 0 → AreSummed most (set words w word) upper
+  stay_some w word within some before = record {
+    fits = omega (arith, h.fits, length-set words w word);
+    few = omega (arith, h.few, length-set words w word);
+    summed = λ two. summed_some words upper (h.summed two) w word within some before;
   }
 
 -- the numbers below a count, and then the next
@@ -147,12 +180,17 @@ zero_word k w = elim (cases_lt w k) [
 pub none_there : (k n : ℕ) → has (replicate k 0) n ≡ false
 none_there k n = ap (λ w. bit_at w (n % 64) == 1) (zero_word k (n / 64)) ∙ ap (λ b. b == 1) (bit_at-zero (n % 64))
 
+-- where one word may stand at most, a word behind another is not there
+pub alone_behind : (most at : ℕ) (words : List ℕ) → most ≤ 1 → length words ≤ most → at < length words → HasNone words ((at + 1) * 64) (64 * length words)
+alone_behind most at words one few within n from below = absurd (omega (arith, one, few, within, from, below))
+
 -- above words with all bits stands the set of the numbers of all
-pub all_summed : (k : ℕ) (upper : List ℕ) → 64 * k ≤ 2 ^ 32 → k < 64 * length upper → HasBelow upper k → AreSummed (replicate k 18446744073709551615) upper
-all_summed k upper fits room h =
+pub all_summed : (most k : ℕ) (upper : List ℕ) → k ≤ most → 64 * k ≤ 2 ^ 32 → k < 64 * length upper → HasBelow upper k → AreSummed most (replicate k 18446744073709551615) upper
+all_summed most k upper few fits room h =
     let many = length-replicate {A = ℕ} k 18446744073709551615 in
     record {
       fits = omega (arith, fits, many);
+      few = omega (arith, few, many);
       summed = λ _. record {
         room = omega (arith, room, many);
         named = λ w _. elim (cases_lt w k) [
@@ -164,13 +202,14 @@ all_summed k upper fits room h =
     }
 
 -- above words that are 0 stands the set of no number
-pub none_summed : (k : ℕ) (upper : List ℕ) → 64 * k ≤ 2 ^ 32 → k < 64 * length upper → ((w : ℕ) → has upper w ≡ false) → AreSummed (replicate k 0) upper
-none_summed k upper fits room h =
+pub none_summed : (most k : ℕ) (upper : List ℕ) → k ≤ most → 64 * k ≤ 2 ^ 32 → (1 < most → k < 64 * length upper) → ((w : ℕ) → has upper w ≡ false) → AreSummed most (replicate k 0) upper
+none_summed most k upper few fits room h =
     let many = length-replicate {A = ℕ} k 0 in
     record {
       fits = omega (arith, fits, many);
-      summed = λ _. record {
-        room = omega (arith, room, many);
+      few = omega (arith, few, many);
+      summed = λ two. record {
+        room = omega (arith, room two, many);
         named = λ w _. h w ∙ sym (ap (λ x. not (x == 0)) (zero_word k w));
       };
     }

@@ -21,7 +21,7 @@ is_one t u b c same =
     let parts = and_parts (t == u) (bytes_eq b c) same in
     λ i. content_of ((Decides-eqb t u).0 parts.0 i) ((bytes_eq-Decides b c).0 parts.1 i)
 
-are_one : (t u : ℕ) (b c : List ℕ) → content_of t b ≡ content_of u c → (t == u && bytes_eq b c) ≡ true
+pub are_one : (t u : ℕ) (b c : List ℕ) → content_of t b ≡ content_of u c → (t == u && bytes_eq b c) ≡ true
 are_one t u b c same =
     let tree : (t == u) ≡ true = (Decides-eqb t u).1 (ap (λ k. k.tree) same) in
     let bytes : bytes_eq b c ≡ true = (bytes_eq-Decides b c).1 (ap (λ k. k.bytes) same) in
@@ -76,7 +76,7 @@ given_same f g f_none g_none (x ∷ xs) (y ∷ ys) same =
     let rest = given_same f g f_none g_none xs ys (λ n. same (suc n)) in
     rw (same 0, rest) refl
 
-abbrev page_in : ℕ → Option Group → Option GuestPage
+abbrev pub page_in : ℕ → Option Group → Option GuestPage
 page_in pass slot = option_map (λ w. w.page) (waits_in pass slot)
 
 module _ (t : ℕ) (b : List ℕ) (pass : ℕ) where

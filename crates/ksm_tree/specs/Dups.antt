@@ -10,13 +10,14 @@ use Rattle.ksm_tree.specs.Numbered.{Numbers}
 use Rattle.ksm_tree.specs.Waits.{WaitingPage}
 
 -- how many places there are, the dups in the order of their places, the number of the dup that is made next,
--- the pages that wait, and the contents that have a number
+-- the pages that wait, the contents that have a number, and how many may have one until those not in use lose it
 pub record DupsState : Type 0 where
   pub places : ℕ
   pub dups : List Dup
   pub next : ℕ
   pub waiting : List WaitingPage
   pub numbers : Numbers
+  pub most : ℕ
 
 -- the dup rows alone
 abbrev pub rows_of : List Dup → List DupRow

@@ -1,5 +1,6 @@
 -- What a group has: its content, the places of its dups, and the page that waits there. (own)
-use Rattle.std.specs.Prelude.{◌≡◌, ℕ, ◌≤◌, ◌==◌, List, [], Option, Some, None, option_map, if◌then◌else◌}
+use Rattle.std.specs.Prelude.{◌≡◌, ℕ, ◌≤◌, ◌==◌, Bool, ◌||◌, nat_lt, List, [], length, Option, Some, None, is_some, option_map}
+use Rattle.std.specs.Prelude.{if◌then◌else◌}
 use Rattle.std.specs.Option.{ForSome}
 use Rattle.slab.specs.Slab.{Slab, get}
 use Rattle.ksm_tree.specs.declared.content.Content.{Content}
@@ -20,6 +21,10 @@ abbrev pub waits_in : ℕ → Option Group → Option WaitingPage
 waits_in pass None = None
 waits_in pass (Some g) =
     if g.pass == pass then Some (record { tree = g.content.tree; bytes = g.content.bytes; page = g.page }) else None
+
+-- a dup stands in a group, or a page waits there
+abbrev pub is_occupied : ℕ → Option Group → Bool
+is_occupied pass group = nat_lt 0 (length (places_in group)) || is_some (waits_in pass group)
 
 -- nothing stands in a group, or there is none
 abbrev pub IsIdle : ℕ → Option Group → Type 0

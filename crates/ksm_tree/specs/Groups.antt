@@ -1,13 +1,14 @@
 -- The groups: the dups of one tree and one content (mm/ksm: a chain links the copies of one content),
 -- and the page that waits there.
-use Rattle.std.specs.Prelude.{◌≡◌, ℕ, ◌&&◌, ◌==◌, List, [], Option, Some, None}
-use Rattle.std.specs.Prelude.{bytes_eq, filter_map, length, if◌then◌else◌}
+use Rattle.std.specs.Prelude.{◌≡◌, ℕ, ◌+◌, ◌≤◌, Bool, true, ◌&&◌, ◌||◌, ◌==◌, nat_lt, List, [], Option, Some, None, is_some}
+use Rattle.std.specs.Prelude.{bytes_eq, filter_map, length, max, if◌then◌else◌}
 use Rattle.slab.specs.Slab.{get}
 use Rattle.ksm_tree.specs.declared.groups.Groups.{Groups}
+use Rattle.ksm_tree.specs.declared.groups.TheConstants.{SPARE}
 use Rattle.ksm_tree.specs.Grouping.{places_in, waits_in}
 use Rattle.ksm_tree.specs.Numbered.{number_of}
 use Rattle.ksm_tree.specs.Totals.{IsRegrouped, Tells}
-use Rattle.ksm_tree.specs.Waits.{WaitingPage}
+use Rattle.ksm_tree.specs.Waits.{WaitingPage, waiting_page}
 
 -- what stands under a number, where there is one
 abbrev pub under : {X : Type 0} → X → (ℕ → X) → Option ℕ → X
@@ -23,15 +24,32 @@ chain_in tree bytes groups =
 abbrev pub waiting_in : Groups → List WaitingPage
 waiting_in groups = filter_map (waits_in groups.pass) groups.groups.slots
 
+-- dups of the tree and bytes are there, or a page of them waits
+abbrev pub is_used_in : Groups → ℕ → List ℕ → Bool
+is_used_in groups tree bytes =
+    nat_lt 0 (length (chain_in tree bytes groups)) || is_some (waiting_page tree bytes (waiting_in groups))
+
+-- every content that has a number is in use, and there may be as many more as have one, or as the reserve has
+pub record IsSwept (groups : Groups) : Type 0 where
+  pub used : (tree : ℕ) (bytes : List ℕ) → is_some (number_of tree bytes groups.numbers.entries) ≡ true
+      → is_used_in groups tree bytes ≡ true
+  pub least : length groups.numbers.entries ≤ groups.most
+  pub most : groups.most ≤ length groups.numbers.entries + max (length groups.numbers.entries) SPARE
+
+-- the same contents have numbers, and as many may have one
+abbrev pub IsAsWas : Groups → Groups → Type 0
+IsAsWas old new = (new.numbers.entries ≡ old.numbers.entries) × (new.most ≡ old.most)
+
 -- the chains are as they were
 pub record SameChains (old new : Groups) : Type 0 where
   pub chains : (tree : ℕ) (bytes : List ℕ) → chain_in tree bytes new ≡ chain_in tree bytes old
   pub totals : new.totals ≡ old.totals
 
--- what waits is as it was, and each content has the number that it had
+-- what waits is as it was, each content has the number that it had, and as many may have one
 pub record SameWaits (old new : Groups) : Type 0 where
   pub waiting : waiting_in new ≡ waiting_in old
   pub numbers : new.numbers.entries ≡ old.numbers.entries
+  pub most : new.most ≡ old.most
 
 -- the chains are as they were, but for a change of that of a tree and bytes
 abbrev pub IsMoved : ℕ → List ℕ → (List ℕ → List ℕ) → Groups → Groups → Type 0

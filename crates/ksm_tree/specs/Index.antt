@@ -1,6 +1,6 @@
 -- Where a dup of a number, and the dups of a tree and bytes, are found. (own)
-use Rattle.std.specs.Prelude.{◌≡◌, ℕ, ◌≤◌, Bool, ◌&&◌, ◌==◌, List, map, filter, find}
-use Rattle.std.specs.Prelude.{option_map, Option, Some, bytes_eq, nat_eq, if◌then◌else◌}
+use Rattle.std.specs.Prelude.{◌≡◌, ℕ, ◌≤◌, Bool, ◌&&◌, ◌||◌, ◌==◌, List, length, map, filter, find, nat_lt}
+use Rattle.std.specs.Prelude.{option_map, is_some, Option, Some, bytes_eq, nat_eq, if◌then◌else◌}
 use Rattle.std.specs.HashMap.{get}
 use Rattle.ksm_base.specs.declared.limits.TheConstants.{MOST_FRAMES}
 use Rattle.ksm_base.specs.declared.row.DupRow.{DupRow}
@@ -10,6 +10,7 @@ use Rattle.ksm_tree.specs.Groups.{chain_in, IsCountedAnew, IsMoved, SameChains, 
 use Rattle.ksm_tree.specs.Places.{with_place}
 use Rattle.ksm_tree.specs.Slots.{SlotsState}
 use Rattle.ksm_tree.specs.Totals.{AreTotals}
+use Rattle.ksm_tree.specs.Waits.{waiting_page}
 
 -- the place that an index has for a number, and the places that it has for a tree and bytes
 abbrev pub place_of : ℕ → Index → Option ℕ
@@ -36,7 +37,13 @@ dups_seen s next index = record {
   next = next;
   waiting = waiting_in index.groups;
   numbers = index.groups.numbers.entries;
+  most = index.groups.most;
 }
+
+-- dups of the tree and bytes are there, or a page of them waits
+abbrev pub is_in_use : DupsState → ℕ → List ℕ → Bool
+is_in_use s tree bytes =
+    nat_lt 0 (length (group_places tree bytes (rows_of s.dups))) || is_some (waiting_page tree bytes s.waiting)
 
 -- the dups are lawful, and the index finds and counts just them
 pub record AreIndexed (s : SlotsState) (next : ℕ) (index : Index) : Type 0 where

@@ -10,6 +10,7 @@ pub mod Index
 pub mod NumberSets
 pub mod Numbered
 pub mod Places
+pub mod Reserve
 pub mod Slots
 pub mod Totals
 pub mod Waits

@@ -28,10 +28,12 @@ pub record IsSummed (words upper : List ℕ) : Type 0 where
   pub room : length words < 64 * length upper
   pub named : (w : ℕ) → w < 64 * length upper → has upper w ≡ not (slice_index words w == 0)
 
--- the numbers of the words have 32 bits; the upper set is right where there are two words or more
-pub record AreSummed (words upper : List ℕ) : Type 0 where
+-- the numbers of the words have 32 bits, and the words are no more than there may be; the upper set is right where these
+-- may be two or more
+pub record AreSummed (most : ℕ) (words upper : List ℕ) : Type 0 where
   pub fits : 64 * length words ≤ 2 ^ 32
-  pub summed : 1 < length words → IsSummed words upper
+  pub few : length words ≤ most
+  pub summed : 1 < most → IsSummed words upper
 
 -- just the numbers below a count
 abbrev pub HasBelow : List ℕ → ℕ → Type 0

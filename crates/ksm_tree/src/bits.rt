@@ -1,9 +1,11 @@
 //! Sets of numbers of any height: words of bits, and above them the set of those words that are not 0. So the least
 //! number is found in a step for each height, wherever it is, and so is that there is none.
 ghost use Rattle.std.specs.Prelude.{◌≡◌, ◌≢◌, ℕ, ◌+◌, ◌*◌, ◌/◌, ◌^◌, ◌<◌, ◌≤◌, [], ◌∷◌, List, true, false, length};
-ghost use Rattle.std.specs.Prelude.{MatchOption, nat_le};
+ghost use Rattle.std.specs.Prelude.{IfErr, IfOk, MatchOption};
 ghost use Rattle.ksm_tree.specs.NumberSets.{has, HasNoBit, HasNone, IsLeast, IsLowestBit, Marks};
 
+use ksm_base::Fault;
+use std::alloc::Global;
 use std::marker::Model;
 
 /// What each height promises.
@@ -69,56 +71,61 @@ impl Bits for Word {
     }
 }
 
-/// Numbers below 64 times so many words, each by its bit: number n by bit n % 64 of word n / 64.
+/// Numbers below 64 times so many words, each by its bit: number n by bit n % 64 of word n / 64. There are at most
+/// `MOST` words; where that is one, there is nothing to be found above it.
 #[derive(Drop)]
-pub struct Words<S: Bits, const WORDS: usize> {
-    words: [u64; WORDS],
-    // The numbers of those words that are not 0. It is not kept where there is one word alone.
+pub struct Words<S: Bits, const MOST: usize> {
+    words: Vec<u64>,
+    // The numbers of those words that are not 0. It is not kept where there is one word at most.
     summary: S,
 }
 
-impl<S: Bits, const WORDS: usize> Model for Words<S, WORDS> {
+impl<S: Bits, const MOST: usize> Model for Words<S, MOST> {
     ghost use Rattle.std.specs.Prelude.{ℕ, List};
     ghost use Rattle.ksm_tree.specs.NumberSets.{AreSummed};
 
     ghost Value = { List ℕ };
 
-    ghost view = { λ w. w.words };
+    ghost view = { λ w. w.words.items };
 
-    ghost invariant = { λ w. AreSummed w.words (S.words w.summary) };
+    ghost invariant = { λ w. AreSummed MOST w.words.items (S.words w.summary) };
 }
 
-impl<S: Bits, const WORDS: usize> Words<S, WORDS> {
+impl<S: Bits, const MOST: usize> Words<S, MOST> {
     ghost use Rattle.std.specs.Prelude.{replicate};
 
-    /// No numbers.
-    pub fn empty(summary: S) -> Words<S, WORDS>
-        requires room { WORDS < 64 * length (S.words summary) }
-        requires fits { 64 * WORDS ≤ 2 ^ 32 }
+    /// No numbers, with room for those of so many words. The one fault is `Memory`.
+    pub fn empty(alloc: Global, summary: S, words: usize) -> Result<Words<S, MOST>, Fault>
+        requires few { words ≤ MOST }
+        requires fits { 64 * words ≤ 2 ^ 32 }
+        requires room { 1 < MOST → words < 64 * length (S.words summary) }
         requires none { (w : ℕ) → has (S.words summary) w ≡ false }
-        ensures { result ≡ replicate WORDS 0 }
+        ensures none { IfOk result (λ set. set ≡ replicate words 0) }
+        ensures memory { IfErr result (λ fault. fault ≡ Fault.Memory) }
     {
-        Words {
-            words: [0; WORDS],
+        Ok(Words {
+            words: vec![in alloc; 0; words]?,
             summary,
-        }
+        })
     }
 
-    /// All numbers for which there is room.
-    pub fn full(summary: S) -> Words<S, WORDS>
-        requires room { WORDS < 64 * length (S.words summary) }
-        requires fits { 64 * WORDS ≤ 2 ^ 32 }
+    /// All numbers of so many words. The one fault is `Memory`.
+    pub fn full(alloc: Global, summary: S, words: usize) -> Result<Words<S, MOST>, Fault>
+        requires few { words ≤ MOST }
+        requires fits { 64 * words ≤ 2 ^ 32 }
+        requires room { words < 64 * length (S.words summary) }
         requires none { (w : ℕ) → has (S.words summary) w ≡ false }
-        ensures { result ≡ replicate WORDS 18446744073709551615 }
+        ensures all { IfOk result (λ set. set ≡ replicate words 18446744073709551615) }
+        ensures memory { IfErr result (λ fault. fault ≡ Fault.Memory) }
     {
         let mut all = summary;
-        for at in 0..WORDS {
+        for at in 0..words {
             all.add(at as u32);
         }
-        Words {
-            words: [u64::MAX; WORDS],
+        Ok(Words {
+            words: vec![in alloc; u64::MAX; words]?,
             summary: all,
-        }
+        })
     }
 
     /// Whether a number is in the set. There is room for its bit.
@@ -130,6 +137,16 @@ impl<S: Bits, const WORDS: usize> Words<S, WORDS> {
         (self.words[number as usize / 64] >> (number % 64)) & 1 == 1
     }
 
+    // Which of the words has a number's bit. Where there is one at most that is known before the program runs.
+    #[inline(always)]
+    fn word_of(&self, number: u32) -> u32
+        requires { number < 64 * length self.now }
+        ensures { result ≡ number / 64 }
+    {
+        let _ = &self.words;
+        if MOST <= 1 { 0 } else { number / 64 }
+    }
+
     // The least number in the words behind one.
     #[inline(always)]
     fn first_behind(&self, at: u32) -> Option<u32>
@@ -137,7 +154,8 @@ impl<S: Bits, const WORDS: usize> Words<S, WORDS> {
         ensures { let end = 64 * length self.now in
             MatchOption result (HasNone self.now ((at + 1) * 64) end) (IsLeast self.now ((at + 1) * 64) end) }
     {
-        if is_alone(&self.words) {
+        let _ = &self.words;
+        if MOST <= 1 {
             return None;
         }
         let next = self.summary.first_from(at + 1)?;
@@ -145,50 +163,31 @@ impl<S: Bits, const WORDS: usize> Words<S, WORDS> {
     }
 }
 
-// Which of the words has a number's bit. Where there is one word that is known before the program runs.
-#[inline(always)]
-fn word_of(number: u32, words: &[u64]) -> u32
-    requires { number < 64 * length words.now }
-    ensures { result ≡ number / 64 }
-{
-    if is_alone(words) { 0 } else { number / 64 }
-}
-
-// Whether there is one word.
-#[inline(always)]
-fn is_alone(words: &[u64]) -> bool
-    ensures { result ≡ nat_le (length words.now) 1 }
-{
-    words.len() <= 1
-}
-
-impl<S: Bits, const WORDS: usize> Bits for Words<S, WORDS> {
+impl<S: Bits, const MOST: usize> Bits for Words<S, MOST> {
     ghost words = { λ w. w };
 
     #[inline(always)]
     fn add(&mut self, number: u32) {
-        let alone = is_alone(&self.words);
-        let at = word_of(number, &self.words);
+        let at = self.word_of(number);
         self.words[at as usize] |= 1 << (number % 64);
-        if !alone {
+        if MOST > 1 {
             self.summary.add(at);
         }
     }
 
     #[inline(always)]
     fn remove(&mut self, number: u32) {
-        let alone = is_alone(&self.words);
-        let at = word_of(number, &self.words);
+        let at = self.word_of(number);
         let left = self.words[at as usize] & !(1 << (number % 64));
         self.words[at as usize] = left;
-        if !alone && left == 0 {
+        if MOST > 1 && left == 0 {
             self.summary.remove(at);
         }
     }
 
     #[inline(always)]
     fn first_from(&self, from: u32) -> Option<u32> {
-        let at = word_of(from, &self.words);
+        let at = self.word_of(from);
         match lowest_from(self.words[at as usize], from % 64) {
             Some(bit) => Some(from / 64 * 64 + bit),
             None => self.first_behind(at),

@@ -7,8 +7,8 @@
 //! they are believed, so no call promises less where they are wrong.
 //!
 //! A page that looks for a dup to join walks along its chain, which mostly has one dup. Of a long chain most dups are
-//! full. So while there is a long one, the open places of all contents are kept, and such a page walks along these if
-//! they are fewer.
+//! full. So while there is a long one in a small table, the open places of all contents are kept, and such a page walks
+//! along these if they are fewer.
 ghost use Rattle.std.specs.Prelude.{◌≡◌, ℕ, List, ◌+◌, ◌^◌, ◌<◌, ◌≤◌, [], ◌∷◌, ◌&&◌, not, true, false};
 ghost use Rattle.std.specs.Prelude.{None, Some, count_by, filter, find, length, is_some, option_copied};
 ghost use Rattle.std.specs.Prelude.{option_map, slice_get, if◌then◌else◌, IfErr, IfOk, IsTrue, OnErr, OnOk};
@@ -21,9 +21,11 @@ ghost use Rattle.ksm_tree.specs.Choosing.{ArePlacesToJoin, best_of, found_at, of
 ghost use Rattle.ksm_tree.specs.Choosing.{choice_of, is_behind, unless_behind};
 ghost use Rattle.ksm_tree.specs.Dups.{AreDups, MayBecomeDup, change_items, dup_at, dup_of, is_live, is_stale};
 ghost use Rattle.ksm_tree.specs.Dups.{items_in, items_of, rows_of, stands_at, with_new, without_place};
-ghost use Rattle.ksm_tree.specs.Index.{group_places};
+ghost use Rattle.ksm_tree.specs.Index.{group_places, is_in_use};
 ghost use Rattle.ksm_tree.specs.Numbered.{IsUnused, number_of};
+ghost use Rattle.ksm_tree.specs.Reserve.{KeepsReserve};
 ghost use Rattle.ksm_tree.specs.Waits.{IsAdded, IsRemoved, waiting_page};
+ghost use Rattle.ksm_tree.specs.declared.groups.TheConstants.{SPARE};
 
 use crate::choice::Choice;
 use crate::dup::{Best, Dup};
@@ -31,7 +33,7 @@ use crate::groups::NO_NUMBER;
 use crate::index::Index;
 use crate::item_counts::none_open;
 use crate::slots::Slots;
-use ksm_base::{DupRow, Fault, GuestPage, Knobs, PageBytes};
+use ksm_base::{DupRow, Fault, GuestPage, Knobs, MOST_FRAMES, PageBytes};
 use ksm_rmap::Items;
 use std::alloc::Global;
 use std::marker::Model;
@@ -41,6 +43,10 @@ pub const NO_PLACE: u32 = u32::MAX;
 
 // A chain of no more dups than this is walked along as a whole.
 const SHORT_CHAIN: usize = 16;
+
+// In a table of more places than this each chain is walked along as a whole: the open places are a list, in which a place
+// that opens or closes moves those behind it.
+const FEW_PLACES: u32 = 1_024;
 
 /// The dups with their items, by place, by number, and by tree and bytes (mm/ksm, stable nodes and their chains).
 ///
@@ -84,6 +90,7 @@ impl Dups {
           next = 0;
           waiting = [];
           numbers = [];
+          most = SPARE;
         }) }
         ensures memory { IfErr result (λ fault. fault ≡ Fault.Memory) }
     {
@@ -113,7 +120,9 @@ impl Dups {
     #[inline(always)]
     pub fn group(&mut self, guess: u32, tree: u32, bytes: &PageBytes) -> Result<u32, Fault>
         ensures numbered { IfOk result (λ number. number_of tree bytes.now self.new.numbers ≡ Some number) }
-        ensures kept { self.new ≡ record self.old { numbers = self.new.numbers } }
+        ensures kept { self.new ≡ record self.old { numbers = self.new.numbers; most = self.new.most } }
+        ensures reserve { KeepsReserve (is_in_use self.new) tree bytes.now self.old.numbers self.new.numbers
+            self.old.most self.new.most }
         ensures memory { IfErr result (λ fault. fault ≡ Fault.Memory) }
         ensures lawful { AreDups self.old }
     {
@@ -272,8 +281,9 @@ impl Dups {
           }) self.old.dups;
           next = self.old.next + 1;
           numbers = self.new.numbers;
+          most = self.new.most;
         }) }
-        ensures kept { OnErr result (self.new ≡ record self.old { numbers = self.new.numbers }) }
+        ensures kept { OnErr result (self.new ≡ record self.old { numbers = self.new.numbers; most = self.new.most }) }
         ensures memory { IfErr result (λ fault. fault ≡ Fault.Memory) }
     {
         let group = self.group(NO_NUMBER, tree, bytes)?;
@@ -539,8 +549,10 @@ impl Dups {
     fn keep_open(&mut self)
         ensures { self.new ≡ self.old }
     {
+        let is_small = MOST_FRAMES <= FEW_PLACES || self.group_at.len() <= FEW_PLACES as usize;
         let is_long = self.index.groups.totals.longest > SHORT_CHAIN;
-        self.slots.keep_open(if is_long { self.limit } else { 0 });
+        self.slots
+            .keep_open(if is_small && is_long { self.limit } else { 0 });
     }
 
     // The places among which a dup to join is looked for, and whether they are those of the chain. Of a long chain the

@@ -5,15 +5,17 @@
 //! guess: it is compared before it is believed.
 //!
 //! A group keeps its number when nothing stands in it any more, until there are 4,096 groups more than there were after
-//! the last sweep: then all such groups go. A page waits as long as the pass goes on whose number stands beside it, so
+//! the last sweep, or twice as many if that is more: then all such groups go, so a sweep costs each new group a few
+//! steps. A page waits as long as the pass goes on whose number stands beside it, so
 //! when a pass begins none waits. How many groups are chains is kept beside them, so the counters of chains are read.
-ghost use Rattle.std.specs.Prelude.{◌≡◌, ◌≢◌, ℕ, ◌<◌, List, [], Some, None, IfErr, IfOk};
-ghost use Rattle.std.specs.Prelude.{IsTrue, OnOk, OnErr, is_some, length, true, option_copied};
+ghost use Rattle.std.specs.Prelude.{◌≡◌, ◌≢◌, ◌⊎◌, ℕ, ◌+◌, ◌<◌, ◌==◌, ◌&&◌, List, [], Some, None, IfErr, IfOk};
+ghost use Rattle.std.specs.Prelude.{IsTrue, OnOk, OnErr, bytes_eq, false, is_some, length, true, option_copied};
 ghost use Rattle.std.specs.Option.{ForSome, unwrap_or};
 ghost use Rattle.slab.specs.Slab.{get};
-ghost use Rattle.ksm_tree.specs.Grouping.{AreGroups, IsIdle};
+ghost use Rattle.ksm_tree.specs.Grouping.{AreGroups, IsIdle, is_occupied};
 ghost use Rattle.ksm_tree.specs.Numbered.{IsUnused, number_of};
 ghost use Rattle.ksm_tree.specs.Places.{with_place, without};
+ghost use Rattle.ksm_tree.specs.Reserve.{KeepsReserve};
 ghost use Rattle.ksm_tree.specs.Waits.{IsAdded, IsRemoved, waiting_page};
 
 use crate::content::{Content, SLOTS, slot_of};
@@ -28,8 +30,8 @@ use std::collections::BTreeMap;
 /// Where the caller remembers no number.
 pub const NO_NUMBER: u32 = u32::MAX;
 
-// So many groups may come until those in which nothing stands are dropped.
-const SPARE: usize = 4_096;
+/// So many groups may come, or as many as there are if these are more, until those in which nothing stands are dropped.
+pub const SPARE: usize = 4_096;
 
 /// A group: the places of its dups, in ascending order, and the page that waited there last, with the number of the
 /// pass in which it did. Where the page waits no more that number is 0.
@@ -48,7 +50,7 @@ pub struct Groups {
     groups: Slab<Group>,
     pub totals: Totals,
     pass: u64,
-    // With how many groups those go in which nothing stands.
+    // So many groups there may be: before one more comes those go in which nothing stands.
     most: usize,
     recent: Guesses,
     ghost lawful: { AreGroups numbers.entries groups pass },
@@ -56,7 +58,7 @@ pub struct Groups {
 
 impl Groups {
     ghost use Rattle.ksm_tree.specs.Groups.{IsCounted, IsCountedAnew, IsMoved};
-    ghost use Rattle.ksm_tree.specs.Groups.{SameChains, SameWaits, chain_in, waiting_in};
+    ghost use Rattle.ksm_tree.specs.Groups.{IsAsWas, IsSwept, SameChains, SameWaits, chain_in, is_used_in, waiting_in};
 
     /// No groups.
     pub fn new(alloc: Global) -> Groups
@@ -64,6 +66,7 @@ impl Groups {
         ensures totals { result.totals ≡ record { chains = 0; dups = 0; longest = 0 } }
         ensures waiting { waiting_in result ≡ [] }
         ensures numbers { result.numbers.entries ≡ [] }
+        ensures most { result.most ≡ SPARE }
     {
         Groups {
             numbers: BTreeMap::new(alloc),
@@ -135,6 +138,8 @@ impl Groups {
         ensures chains { SameChains self.old self.new }
         ensures waiting { waiting_in self.new ≡ waiting_in self.old }
         ensures absent { OnErr result (waiting_page tree bytes.now (waiting_in self.old) ≡ None) }
+        ensures reserve { KeepsReserve (is_used_in self.new) tree bytes.now
+            self.old.numbers.entries self.new.numbers.entries self.old.most self.new.most }
         ensures memory { IfErr result (λ fault. fault ≡ Fault.Memory) }
     {
         if self.is_of(guess, tree, bytes) {
@@ -157,14 +162,15 @@ impl Groups {
         ensures chains { SameChains self.old self.new }
         ensures waiting { waiting_in self.new ≡ waiting_in self.old }
         ensures absent { OnErr result (waiting_page tree bytes.now (waiting_in self.old) ≡ None) }
+        ensures reserve { KeepsReserve (is_used_in self.new) tree bytes.now
+            self.old.numbers.entries self.new.numbers.entries self.old.most self.new.most }
         ensures memory { IfErr result (λ fault. fault ≡ Fault.Memory) }
     {
-        if self.groups.len() >= self.most {
-            self.sweep();
-        }
+        self.make_room();
         match self.search(tree, bytes) {
             Some(number) => Ok(number),
-            None => self.enter(alloc, tree, bytes),
+            None if self.numbers.len() < self.most => self.enter(alloc, tree, bytes),
+            None => Err(Fault::Memory),
         }
     }
 
@@ -175,6 +181,13 @@ impl Groups {
         ensures chains { SameChains self.old self.new }
         ensures waiting { waiting_in self.new ≡ waiting_in self.old }
         ensures absent { OnErr result (waiting_page tree bytes.now (waiting_in self.old) ≡ None) }
+        ensures entered { IfOk result (λ _.
+            (length self.new.numbers.entries ≡ length self.old.numbers.entries + 1)
+            × ((t : ℕ) (b : List ℕ) → is_some (number_of t b self.new.numbers.entries) ≡ true
+            → (t == tree && bytes_eq b bytes.now) ≡ false
+            → is_some (number_of t b self.old.numbers.entries) ≡ true)) }
+        ensures kept { OnErr result (self.new.numbers.entries ≡ self.old.numbers.entries) }
+        ensures most { self.new.most ≡ self.old.most }
         ensures memory { IfErr result (λ fault. fault ≡ Fault.Memory) }
     {
         let content = Content {
@@ -195,21 +208,39 @@ impl Groups {
         Ok(number)
     }
 
+    // Where there are as many groups as may be, those go in which nothing stands.
+    fn make_room(&mut self)
+        ensures chains { SameChains self.old self.new }
+        ensures waiting { waiting_in self.new ≡ waiting_in self.old }
+        ensures room { IsSwept self.new ⊎ IsAsWas self.old self.new }
+    {
+        if self.numbers.len() >= self.most {
+            self.sweep();
+        }
+    }
+
     // The groups in which nothing stands go.
     fn sweep(&mut self)
         ensures chains { SameChains self.old self.new }
         ensures waiting { waiting_in self.new ≡ waiting_in self.old }
+        ensures swept { IsSwept self.new }
     {
         for number in 0..self.groups.capacity() {
             self.drop_idle(number);
         }
-        self.most = self.groups.len().saturating_add(SPARE);
+        let left = self.numbers.len();
+        self.most = left.saturating_add(left.max(SPARE));
     }
 
     // The group with a number goes, if there is one and nothing stands in it.
     fn drop_idle(&mut self, number: usize)
         ensures chains { SameChains self.old self.new }
         ensures waiting { waiting_in self.new ≡ waiting_in self.old }
+        ensures occupied { is_some (get self.new.groups number) ≡ true
+            → is_occupied self.new.pass (get self.new.groups number) ≡ true }
+        ensures others { (other : ℕ) → other ≢ number → get self.new.groups other ≡ get self.old.groups other }
+        ensures slots { length self.new.groups.slots ≡ length self.old.groups.slots }
+        ensures pass { self.new.pass ≡ self.old.pass }
     {
         if !self.is_idle(number) {
             return;
@@ -222,7 +253,9 @@ impl Groups {
     /// Whether there is a group with a number, and nothing stands in it.
     #[inline(always)]
     pub fn is_idle(&self, number: usize) -> bool
-        ensures { IsTrue result → IsIdle self.now.pass (get self.now.groups number) }
+        ensures idle { IsTrue result → IsIdle self.now.pass (get self.now.groups number) }
+        ensures occupied { result ≡ false → is_some (get self.now.groups number) ≡ true
+            → is_occupied self.now.pass (get self.now.groups number) ≡ true }
     {
         match self.groups.get(number) {
             Some(group) => group.places.is_empty() && group.pass != self.pass,
@@ -295,6 +328,7 @@ impl Groups {
         ensures none { IsUnused number self.old.numbers.entries → waiting_in self.new ≡ waiting_in self.old }
         ensures chains { SameChains self.old self.new }
         ensures numbers { self.new.numbers.entries ≡ self.old.numbers.entries }
+        ensures most { self.new.most ≡ self.old.most }
     {
         match self.groups.get_mut(number as usize) {
             Some(group) => {
@@ -315,6 +349,7 @@ impl Groups {
         ensures removed { IsRemoved tree bytes.now (waiting_in self.old) (waiting_in self.new) }
         ensures chains { SameChains self.old self.new }
         ensures numbers { self.new.numbers.entries ≡ self.old.numbers.entries }
+        ensures most { self.new.most ≡ self.old.most }
     {
         if let Some(number) = self.number(guess, tree, bytes) {
             if let Some(group) = self.groups.get_mut(number as usize) {
@@ -328,6 +363,7 @@ impl Groups {
         ensures none { waiting_in self.new ≡ [] }
         ensures chains { SameChains self.old self.new }
         ensures numbers { self.new.numbers.entries ≡ self.old.numbers.entries }
+        ensures most { self.new.most ≡ self.old.most }
     {
         if self.pass < u64::MAX {
             self.pass += 1;
@@ -342,6 +378,7 @@ impl Groups {
         ensures none { (number : ℕ) → ForSome (get self.new.groups number) (λ g. g.pass ≡ 0) }
         ensures chains { SameChains self.old self.new }
         ensures numbers { self.new.numbers.entries ≡ self.old.numbers.entries }
+        ensures most { self.new.most ≡ self.old.most }
     {
         for number in 0..self.groups.capacity() {
             self.forget_pass(number);
@@ -355,6 +392,7 @@ impl Groups {
         ensures slots { length self.new.groups.slots ≡ length self.old.groups.slots }
         ensures chains { SameChains self.old self.new }
         ensures numbers { self.new.numbers.entries ≡ self.old.numbers.entries }
+        ensures most { self.new.most ≡ self.old.most }
     {
         if let Some(group) = self.groups.get_mut(number) {
             group.pass = 0;

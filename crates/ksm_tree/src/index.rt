@@ -4,6 +4,7 @@ ghost use Rattle.std.specs.Prelude.{OnErr, OnOk, bytes_eq, is_some, true, if◌t
 ghost use Rattle.ksm_tree.specs.Groups.{IsCounted, IsCountedAnew, IsMoved, SameWaits, waiting_in};
 ghost use Rattle.ksm_tree.specs.Numbered.{number_of};
 ghost use Rattle.ksm_tree.specs.Places.{without};
+ghost use Rattle.ksm_tree.specs.declared.groups.TheConstants.{SPARE};
 
 use crate::groups::Groups;
 use ksm_base::{DupRow, Fault};
@@ -27,6 +28,7 @@ impl Index {
         ensures totals { result.groups.totals ≡ record { chains = 0; dups = 0; longest = 0 } }
         ensures waiting { waiting_in result.groups ≡ [] }
         ensures contents { result.groups.numbers.entries ≡ [] }
+        ensures most { result.groups.most ≡ SPARE }
     {
         Index {
             numbers: HashMap::new(alloc),

@@ -1,26 +1,33 @@
 //! Sets of the numbers of frames, or of places, as words of bits with as many heights above them as their limit wants.
-ghost use Rattle.std.specs.Prelude.{◌≡◌, ◌*◌, ◌<◌, ◌≤◌, ℕ, true, false, length, MatchOption};
+ghost use Rattle.std.specs.Prelude.{◌≡◌, ◌*◌, ◌<◌, ◌≤◌, ℕ, true, false, length, IfErr, IfOk, MatchOption};
 ghost use Rattle.ksm_base.specs.declared.limits.TheConstants.{MOST_FRAMES as most_frames};
+ghost use Rattle.ksm_tree.specs.declared.number_set.TheConstants.{WORDS as most_words};
 ghost use Rattle.ksm_tree.specs.NumberSets.{has, HasNone, IsLeast, Marks};
 
 use crate::bits::{Bits, Word, Words};
-use ksm_base::MOST_FRAMES;
+use ksm_base::{Fault, MOST_FRAMES};
+use std::alloc::Global;
 use std::marker::Model;
 
-// How many words there are, and how many above them; each height has room for one number more than there are words
-// below it. One word stands above all.
+// How many words there are at most, and how many above them; each height has room for one number more than there are
+// words below it. One word stands above all.
 const WORDS: usize = (MOST_FRAMES as usize + 63) / 64;
 
 const ABOVE: usize = WORDS / 64 + 1;
 
 const TOP: usize = ABOVE / 64 + 1;
 
-const _: () = prove!(TOP < 64);
+const PEAK: usize = TOP / 64 + 1;
 
-/// Numbers below `MOST_FRAMES`, each by its bit.
+const _: () = prove!(PEAK < 64);
+
+// The heights above the words.
+type Upper = Words<Words<Words<Word, PEAK>, TOP>, ABOVE>;
+
+/// Numbers below a table's number of frames, each by its bit.
 #[derive(Drop)]
 pub struct NumberSet {
-    bits: Words<Words<Words<Word, TOP>, ABOVE>, WORDS>,
+    bits: Words<Upper, WORDS>,
 }
 
 impl Model for NumberSet {
@@ -32,24 +39,30 @@ impl Model for NumberSet {
 }
 
 impl NumberSet {
-    /// All numbers below `MOST_FRAMES`.
-    pub fn full() -> NumberSet
-        ensures wide { most_frames ≤ 64 * length result }
-        ensures all { (n : ℕ) → n < most_frames → has result n ≡ true }
+    /// All numbers below a limit. The one fault is `Memory`.
+    pub fn full(alloc: Global, limit: u32) -> Result<NumberSet, Fault>
+        requires { limit ≤ most_frames }
+        ensures wide { IfOk result (λ set. limit ≤ 64 * length set) }
+        ensures all { IfOk result (λ set. (n : ℕ) → n < limit → has set n ≡ true) }
+        ensures memory { IfErr result (λ fault. fault ≡ Fault.Memory) }
     {
-        NumberSet {
-            bits: Words::full(Words::empty(Words::empty(Word::empty()))),
-        }
+        let words = words_for(limit);
+        Ok(NumberSet {
+            bits: Words::full(alloc, upper(alloc, words)?, words)?,
+        })
     }
 
-    /// No numbers, with room for all below `MOST_FRAMES`.
-    pub fn empty() -> NumberSet
-        ensures wide { most_frames ≤ 64 * length result }
-        ensures none { (n : ℕ) → n < most_frames → has result n ≡ false }
+    /// No numbers, with room for all below a limit. The one fault is `Memory`.
+    pub fn empty(alloc: Global, limit: u32) -> Result<NumberSet, Fault>
+        requires { limit ≤ most_frames }
+        ensures wide { IfOk result (λ set. limit ≤ 64 * length set) }
+        ensures none { IfOk result (λ set. (n : ℕ) → has set n ≡ false) }
+        ensures memory { IfErr result (λ fault. fault ≡ Fault.Memory) }
     {
-        NumberSet {
-            bits: Words::empty(Words::empty(Words::empty(Word::empty()))),
-        }
+        let words = words_for(limit);
+        Ok(NumberSet {
+            bits: Words::empty(alloc, upper(alloc, words)?, words)?,
+        })
     }
 
     /// Whether a number is in the set. There is room for its bit.
@@ -104,4 +117,29 @@ impl NumberSet {
         let found = self.bits.first_from(from)?;
         (found < end).then_some(found)
     }
+}
+
+// How many words the numbers below a limit want.
+fn words_for(limit: u32) -> usize
+    requires { limit ≤ most_frames }
+    ensures room { limit ≤ 64 * result }
+    ensures few { result ≤ most_words }
+{
+    (limit as usize + 63) / 64
+}
+
+// The heights above so many words, with no number. One that nothing asks for has no words. The one fault is `Memory`.
+fn upper(alloc: Global, words: usize) -> Result<Upper, Fault>
+    requires { words ≤ most_words }
+    ensures room { IfOk result (λ set. words < 64 * length set) }
+    ensures none { IfOk result (λ set. (n : ℕ) → has set n ≡ false) }
+    ensures memory { IfErr result (λ fault. fault ≡ Fault.Memory) }
+{
+    let above = words / 64 + 1;
+    let top = if ABOVE > 1 { above / 64 + 1 } else { 0 };
+    let peak = if TOP > 1 { top / 64 + 1 } else { 0 };
+    let highest = Words::empty(alloc, Word::empty(), peak)?;
+    let higher = Words::empty(alloc, highest, top)?;
+    let all = Words::empty(alloc, higher, above)?;
+    Ok(all)
 }

@@ -53,11 +53,11 @@ impl Slots {
             dups,
             counts: Counts::open(alloc, places)?,
             empty: CountedSet {
-                set: NumberSet::full(),
+                set: NumberSet::full(alloc, places)?,
                 count: room,
             },
             stale: CountedSet {
-                set: NumberSet::empty(),
+                set: NumberSet::empty(alloc, places)?,
                 count: 0,
             },
         })

@@ -5,7 +5,7 @@ ghost use Rattle.ksm_base.specs.Values.{frames_of};
 use crate::commands::{
     DONE, SHAPE, TWO_MERGED, all_done, filled, merge_two, page, register, store,
 };
-use ksm_base::{Command, Fault, Knobs, Reply};
+use ksm_base::{Command, Fault, Knobs, PLACE_SPAN, Reply};
 use ksm_shared::{GatherFault, Ksm, Naming, Parts, Share, Tally, gather};
 use std::alloc::Global;
 use std::marker::Brand;
@@ -136,7 +136,7 @@ fn one<N: Naming, R: Wait + Abort>(rt: &R, alloc: Global, parts: Parts) -> Resul
     let entries = reads(rt, alloc, &ksm, shares);
     let closed = ksm.close(rt, passes);
     assert_eq!(rt; entries?, 4);
-    assert_eq!(rt; (closed.place(0), closed.count(0)), (1024, 2));
+    assert_eq!(rt; (closed.place(0), closed.count(0)), (PLACE_SPAN, 2));
     Ok(())
 }
 
@@ -207,6 +207,6 @@ fn closing_drops_no_stale_dup(rt: HostRuntime) -> Result<(), Fail> {
     let parts = Parts::open(rt.alloc(), SHAPE, 1)?;
     let (done, place) = leave::<Brand, _>(&rt, parts)?;
     assert!(rt; done);
-    assert_eq!(rt; place, 1024);
+    assert_eq!(rt; place, PLACE_SPAN);
     Ok(())
 }

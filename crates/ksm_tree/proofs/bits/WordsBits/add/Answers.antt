@@ -1,17 +1,32 @@
-use Rattle.ksm_tree.proofs.Names.{ap, arith, length, nat_tests, ◌%◌, ◌<◌}
-use Rattle.ksm_tree.proofs.NumberBits.{marks_more, stay_more}
+use Rattle.ksm_tree.proofs.Names.{ap, AreSummed, arith, bit_or, get_or_default, length, set, subst, sym, ◌%◌, ◌*◌, ◌<◌, ◌^◌, ◌∙◌, ℕ}
+use Rattle.ksm_tree.proofs.NumberBits.{marks_more, stay_alone, stay_more}
 use Rattle.ksm_tree.proofs.bits.WordsBits.add.Goals as goal
 
 pub invariant_of-self : goal.invariant_of-self
 invariant_of-self g c =
-    let many : 1 < length c.self.inside.words = grind (arith, nat_tests, c.is_alone-alone.ensures, c.if-not-alone.true) in
-    stay_more c.self.inside.words (g.S.Bits.words c.self.inside.summary) c.self.invariant c.word_of-at.result (c.args.number % 64) _
-    (omega (arith, c.word_of-at.ensures, c.requires, ap length c.self.view_is)) (omega arith) many c.add.ensures
+    let words = c.self.inside.words.items in
+    let at = c.word_of-at.result in
+    let within : at < length words = omega (arith, c.word_of-at.ensures, c.requires, ap length c.self.view_is) in
+    let read = get_or_default words at 0 c.index_mut.result.now within ∙ sym c.index_mut.ensures.value in
+    subst (λ (word : ℕ). AreSummed g.row.MOST (set words at (bit_or word (1 * 2 ^ (c.args.number % 64) % 18446744073709551616))) (g.S.Bits.words c.add.new.self)) read
+    (stay_more g.row.MOST words (g.S.Bits.words c.self.inside.summary) c.self.invariant at (c.args.number % 64) _ within (omega arith) c.if-this-gt1.true c.add.ensures)
 
-pub returns-then-not-alone : goal.returns-then-not-alone
-returns-then-not-alone g c =
-    rw (← c.self.view_is, c.word_of-at.ensures) (marks_more c.self.inside.words c.args.number (omega (arith, c.requires, ap length c.self.view_is)))
+pub invariant_of-self-else-this-gt1 : goal.invariant_of-self-else-this-gt1
+invariant_of-self-else-this-gt1 g c =
+    stay_alone g.row.MOST c.self.inside.words.items (g.S.Bits.words c.self.inside.summary) c.self.invariant c.word_of-at.result _ c.if-this-gt1.false
 
-pub returns-else-not-alone : goal.returns-else-not-alone
-returns-else-not-alone g c =
-    rw (← c.self.view_is, c.word_of-at.ensures) (marks_more c.self.inside.words c.args.number (omega (arith, c.requires, ap length c.self.view_is)))
+pub returns-then-this-gt1 : goal.returns-then-this-gt1
+returns-then-this-gt1 g c =
+    let words = c.self.inside.words.items in
+    let at = c.word_of-at.result in
+    let within : at < length words = omega (arith, c.word_of-at.ensures, c.requires, ap length c.self.view_is) in
+    let read = get_or_default words at 0 c.index_mut.result.now within ∙ sym c.index_mut.ensures.value in
+    rw (← read, ← c.self.view_is, c.word_of-at.ensures) (marks_more words c.args.number (omega (arith, c.requires, ap length c.self.view_is)))
+
+pub returns-else-this-gt1 : goal.returns-else-this-gt1
+returns-else-this-gt1 g c =
+    let words = c.self.inside.words.items in
+    let at = c.word_of-at.result in
+    let within : at < length words = omega (arith, c.word_of-at.ensures, c.requires, ap length c.self.view_is) in
+    let read = get_or_default words at 0 c.index_mut.result.now within ∙ sym c.index_mut.ensures.value in
+    rw (← read, ← c.self.view_is, c.word_of-at.ensures) (marks_more words c.args.number (omega (arith, c.requires, ap length c.self.view_is)))

@@ -36,7 +36,7 @@ returns-clause-made c =
     elim c.match-old.branch [
       | in-Some w ↦
           let waits : SameWaits s.index.groups w.replace.new.self.groups =
-          (record { waiting = w.replace.ensures.waits.waiting ∙ c.add.ensures.waits.waiting; numbers = w.replace.ensures.waits.numbers ∙ c.add.ensures.waits.numbers }) in
+          (record { waiting = w.replace.ensures.waits.waiting ∙ c.add.ensures.waits.waiting; numbers = w.replace.ensures.waits.numbers ∙ c.add.ensures.waits.numbers; most = w.replace.ensures.waits.most ∙ c.add.ensures.waits.most }) in
           c.keep_open.ensures ∙ c.remember_group.ensures ∙ rw (c.put.ensures, w.self-inside-is, c.in_ok-items.ensures.both) (seen_made s.slots s.next s.index w.replace.new.self dup c.args.self.now c.self.view_is waits)
       | in-None w ↦ c.keep_open.ensures ∙ c.remember_group.ensures ∙ rw (c.put.ensures, w.self-inside-is, c.in_ok-items.ensures.both) (seen_made s.slots s.next s.index c.add.new.self dup c.args.self.now c.self.view_is c.add.ensures.waits)
     ]

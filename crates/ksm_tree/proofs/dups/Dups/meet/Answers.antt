@@ -6,4 +6,4 @@ returns-clause-alone c unused = c.meet.ensures.alone (rw (ap (λ d. d.numbers) c
 
 pub returns-clause-none : goal.returns-clause-none
 returns-clause-none c unused =
-    rw (c.meet.ensures.none (rw (ap (λ d. d.numbers) c.self.view_is) unused), c.meet.ensures.numbers) c.self.view_is
+    rw (c.meet.ensures.none (rw (ap (λ d. d.numbers) c.self.view_is) unused), c.meet.ensures.numbers, c.meet.ensures.most) c.self.view_is

@@ -15,7 +15,7 @@ invariant_of-self c =
 pub returns-in_err-reserve-clause-waits : goal.returns-in_err-reserve-clause-waits
 returns-in_err-reserve-clause-waits c =
     let now : Group = record c.in-Some-get_mut.group.now { places = c.reserve.new.self } in
-    record { waiting = same_waiting c.args.self.now c.in-Some.number _ now c.in-Some-get_mut.ensures.value refl refl; numbers = refl }
+    record { waiting = same_waiting c.args.self.now c.in-Some.number _ now c.in-Some-get_mut.ensures.value refl refl; numbers = refl; most = refl }
 
 pub invariant_of-self-2 : goal.invariant_of-self-2
 invariant_of-self-2 c =
@@ -33,4 +33,4 @@ returns-clause-added c =
 pub returns-clause-waits : goal.returns-clause-waits
 returns-clause-waits c =
     let now : Group = record c.in-Some-get_mut.group.now { places = c.insert.new.self } in
-    record { waiting = same_waiting c.args.self.now c.in-Some.number _ now c.in-Some-get_mut.ensures.value refl refl; numbers = refl }
+    record { waiting = same_waiting c.args.self.now c.in-Some.number _ now c.in-Some-get_mut.ensures.value refl refl; numbers = refl; most = refl }

@@ -7,14 +7,14 @@ invariant_of-self c =
     let s = c.args.self.now in
     record {
       lawful = gone_groups s.numbers c.remove.new.self s.pass s.groups c.try_remove.new.self s.lawful c.in-Some.group.content c.args.number None None
-          c.remove.ensures.updates c.try_remove.ensures.updates (c.if-not-is_idle.ensures refl) (refl, refl) c.in-Some.group c.in-Some.ensures.value refl refl refl;
+          c.remove.ensures.updates c.try_remove.ensures.updates (c.if-not-is_idle.ensures.idle refl) (refl, refl) c.in-Some.group c.in-Some.ensures.value refl refl refl;
     }
 
 pub returns-in-Some-clause-chains : goal.returns-in-Some-clause-chains
 returns-in-Some-clause-chains c =
     let s = c.args.self.now in
     let k = c.in-Some.group.content in
-    let was = c.if-not-is_idle.ensures refl in
+    let was = c.if-not-is_idle.ensures.idle refl in
     let named = (s.lawful.numbered k c.args.number).1 (ap content_in (sym c.in-Some.ensures.value)) in
     record {
       chains = idle_chains s.numbers c.remove.new.self s.pass s.groups c.try_remove.new.self s.lawful k c.args.number None None c.remove.ensures.updates c.try_remove.ensures.updates was (refl, refl)
@@ -25,4 +25,4 @@ returns-in-Some-clause-chains c =
 pub returns-in-Some-clause-waiting : goal.returns-in-Some-clause-waiting
 returns-in-Some-clause-waiting c =
     let s = c.args.self.now in
-    idle_waiting s.numbers c.remove.new.self s.pass s.groups c.try_remove.new.self s.lawful c.in-Some.group.content c.args.number None None c.remove.ensures.updates c.try_remove.ensures.updates (c.if-not-is_idle.ensures refl) (refl, refl)
+    idle_waiting s.numbers c.remove.new.self s.pass s.groups c.try_remove.new.self s.lawful c.in-Some.group.content c.args.number None None c.remove.ensures.updates c.try_remove.ensures.updates (c.if-not-is_idle.ensures.idle refl) (refl, refl)

@@ -2,6 +2,7 @@ use Rattle.ksm_tree.proofs.Names.{ap, content_of, get, Group, refl, rules, Some,
 use Rattle.slab.specs.Slab.{Updates as Fills}
 use Rattle.ksm_tree.proofs.Numbers.{on_err}
 use Rattle.ksm_tree.proofs.Standing.{Entered, entered_fresh, none_here}
+use Rattle.ksm_tree.proofs.Used.{one_more}
 use Rattle.ksm_tree.proofs.groups.Groups.enter.Goals as goal
 use Rattle.ksm_tree.proofs.groups.Groups.enter.Goals.{After-insert_reserved}
 
@@ -32,3 +33,6 @@ returns-clause-chains c = record { chains = (entered (goal.at.returns-clause-cha
 
 pub returns-clause-waiting : goal.returns-clause-waiting
 returns-clause-waiting c = (entered (goal.at.returns-clause-waiting c).After-insert_reserved).waiting
+
+pub returns-clause-entered : goal.returns-clause-entered
+returns-clause-entered c = one_more c.args.self.now.numbers c.insert.new.self c.args.tree c.args.bytes.now c.in-Ok.number c.requires c.in_ok-insert.ensures.old c.in_ok-insert.ensures.len c.in_ok-insert.ensures.updates

@@ -8,3 +8,4 @@ invariant-loop-number l =
     × (length l.self.groups.slots ≡ length l.fn.self.groups.slots)
     × SameChains l.fn.self l.self
     × (l.self.numbers.entries ≡ l.fn.self.numbers.entries)
+    × (l.self.most ≡ l.fn.self.most)

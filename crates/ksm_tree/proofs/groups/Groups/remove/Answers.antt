@@ -17,4 +17,4 @@ returns-in-Some-get_mut-clause-removed c =
 pub returns-in-Some-get_mut-clause-waits : goal.returns-in-Some-get_mut-clause-waits
 returns-in-Some-get_mut-clause-waits c =
     let now : Group = record c.in-Some-get_mut.group.now { places = c.remove.new.self } in
-    record { waiting = same_waiting c.args.self.now c.in-Some.number _ now c.in-Some-get_mut.ensures.value refl refl; numbers = refl }
+    record { waiting = same_waiting c.args.self.now c.in-Some.number _ now c.in-Some-get_mut.ensures.value refl refl; numbers = refl; most = refl }

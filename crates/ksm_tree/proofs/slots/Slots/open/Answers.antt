@@ -10,9 +10,10 @@ pub invariant_of-result : goal.invariant_of-result
 invariant_of-result c =
     let n = c.loop-place._place in
     let end : n ≡ c.args.places = omega arith in
-    rw c.loop-place.invariant (none_slots n c.in_ok-open.field-0 (record { set = c.full.result; count = c.args.places })
-    (record { set = c.empty.result; count = 0 }) (omega (arith, c.requires, end)) (c.in_ok-open.ensures.none ∙ ap (λ m. replicate m 0) (sym end))
-    c.full.ensures.wide c.full.ensures.all (sym end) c.empty.ensures.wide c.empty.ensures.none refl)
+    rw c.loop-place.invariant (none_slots n c.in_ok-open.field-0 (record { set = c.in_ok-full.field-0; count = c.args.places })
+    (record { set = c.in_ok-empty.field-0; count = 0 }) (omega (arith, c.requires, end)) (c.in_ok-open.ensures.none ∙ ap (λ m. replicate m 0) (sym end))
+    (omega (arith, end, c.in_ok-full.ensures.wide)) (λ p low. c.in_ok-full.ensures.all p (omega (arith, end, low))) (sym end)
+    (omega (arith, end, c.in_ok-empty.ensures.wide)) c.in_ok-empty.ensures.none refl)
 
 pub returns-clause-opened : goal.returns-clause-opened
 returns-clause-opened c =
