@@ -29,7 +29,7 @@ from .trouble import NOT_AS_PROVED, Trouble
 from .units import MEGABYTE, as_time
 
 # what a page takes in the book, and a frame, at most, in bytes (bench/host measures both)
-PAGE_BYTES, FRAME_BYTES = 230, 260
+PAGE_BYTES, FRAME_BYTES = 460, 350
 # the pages of a batch, and the fewest that are worth a scan
 BATCH, LEAST_BATCH = 1 << 16, 32
 DIGEST_DIGITS = 16

@@ -319,7 +319,7 @@ static void no_books(void) {
     ksm_counters counters;
     uint64_t bytes[KSM_PAGE_WORDS], count;
     uint32_t place;
-    ANSWERS(KSM_SHAPE, ksm_book_open(&none, 5, 1, 1, 1, 1));
+    ANSWERS(KSM_SHAPE, ksm_book_open(&none, KSM_MOST_NODES + 1, 1, 1, 1, 1));
     ANSWERS(KSM_CLOSED, apply(&none, given, &made));
     ANSWERS(KSM_CLOSED, ksm_book_read(&none, 0, 0, bytes));
     ANSWERS(KSM_CLOSED, ksm_book_ticket(&none, 0, 0, &place));

@@ -159,14 +159,19 @@ static void lay(void) {
     for (uint64_t page = page_count - some; page < page_count; page++)
         of_page(KSM_REGISTER, page, fresh());
     END("register", some);
-    printf("memory page %llu\n", (unsigned long long)((taken() - before) / page_count));
+    printf("memory laid %llu\n", (unsigned long long)((taken() - before) / page_count));
     valued(KSM_SET_LIMIT, 1024);
     valued(KSM_SET_RUN, 1);
     scan(page_count);
     begin();
     scan(page_count);
-    END("visit", page_count);
+    END("waits", page_count);
+    begin();
+    scan(2 * page_count);
+    END("visit", 2 * page_count);
     is(counters().unshared, page_count, "pages that wait");
+    /* With what is known of the content of each by now. */
+    printf("memory page %llu\n", (unsigned long long)((taken() - before) / page_count));
 }
 
 static void store_and_read(void) {

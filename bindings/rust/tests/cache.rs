@@ -43,8 +43,8 @@ fn a_value_lives_as_long_as_it_is_read() {
 #[test]
 fn what_is_refused() {
     assert_eq!(Cache::<u8>::open(0, 1).err(), Some(Error::Shape));
-    assert_eq!(Cache::<u8>::open(1024, 1).err(), Some(Error::Shape));
-    assert_eq!(Cache::<u8>::open(1, 17).err(), Some(Error::Shape));
+    assert_eq!(Cache::<u8>::open(Shape::MOST_NODES * Shape::MOST_FRAMES_PER_NODE, 1).err(), Some(Error::Shape));
+    assert_eq!(Cache::<u8>::open(1, Shape::MOST_PASSES + 1).err(), Some(Error::Shape));
     let cache = Cache::open(1, 2).unwrap();
     let (mut one, mut other) = (cache.reader().unwrap(), cache.reader().unwrap());
     assert_eq!((cache.put(1, 0), one.get(1).err(), cache.remove(1)), (Err(Error::Range), Some(Error::Range), Err(Error::Range)));
@@ -59,9 +59,10 @@ fn what_is_refused() {
     assert_eq!(*one.get(0).unwrap().unwrap(), 7);
 }
 
+// Of a host's size it would take all memory.
 #[test]
 fn the_largest_cache() {
-    let keys = Shape::MOST_NODES * Shape::MOST_FRAMES_PER_NODE - 1;
+    let keys = (Shape::MOST_NODES * Shape::MOST_FRAMES_PER_NODE).min(1024) - 1;
     let cache = Cache::open(keys, Shape::MOST_PASSES).unwrap();
     let mut reader = cache.reader().unwrap();
     for round in 0..3u32 {
@@ -154,12 +155,14 @@ fn a_key_that_is_replaced_is_never_empty() {
             .map(|_| {
                 scope.spawn(|| {
                     let (mut reader, mut last, mut reads) = (cache.reader().unwrap(), 0, 0);
-                    while !done.load(Ordering::SeqCst) {
+                    loop {
                         let value = *reader.get(3).unwrap().expect("never empty");
                         assert!(value >= last, "{value} after {last}");
                         (last, reads) = (value, reads + 1);
+                        if done.load(Ordering::SeqCst) {
+                            return reads;
+                        }
                     }
-                    reads
                 })
             })
             .collect();

@@ -23,7 +23,7 @@ fn held(pass: Pass, place: u32) -> OwnedHold {
 
 #[test]
 fn shapes_and_passes() {
-    assert_eq!(Table::open(Shape { nodes: 5, ..Shape::default() }).err(), Some(Error::Shape));
+    assert_eq!(Table::open(Shape { nodes: Shape::MOST_NODES + 1, ..Shape::default() }).err(), Some(Error::Shape));
     let (table, pass) = open();
     assert_eq!(table.pass().err(), Some(Error::NoPass));
     drop(pass);

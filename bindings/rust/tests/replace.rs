@@ -22,10 +22,10 @@ fn look_up(pass: &mut Pass) -> (Page, u64) {
     }
 }
 
-// Reads until all is done. Answers how often, and how many lookups were overtaken.
+// Reads once, and until all is done. Answers how often, and how many lookups were overtaken.
 fn read(pass: &mut Pass, begun: &AtomicU64, done: &AtomicBool) -> (u64, u64) {
     let (mut reads, mut overtaken, mut last) = (0, 0, 0);
-    while !done.load(Ordering::SeqCst) {
+    loop {
         let before = begun.load(Ordering::SeqCst);
         let (page, gone) = look_up(pass);
         // The last of those that had begun before may have been made behind that.
@@ -33,8 +33,10 @@ fn read(pass: &mut Pass, begun: &AtomicU64, done: &AtomicBool) -> (u64, u64) {
         assert!(gone <= between, "{gone} times gone, {between} replacements");
         assert!(page == [page[0]; PAGE_WORDS] && page[0] >= last, "{page:?} after {last}");
         (reads, overtaken, last) = (reads + 1, overtaken + gone, page[0]);
+        if done.load(Ordering::SeqCst) {
+            return (reads, overtaken);
+        }
     }
-    (reads, overtaken)
 }
 
 // Replaces the place so often; the number of each replacement is told before it is made.
