@@ -102,6 +102,9 @@ fn run_lines<M: Lane<R, W>, H: Hears<W>, N: Naming, T: Threads + Wait + Sync, R,
         → M.is_sent writer.new ⊎ EndsOpen (M.remaining reader.old) (M.remaining reader.new) }
 {
     'lines: for number in 1..u64::MAX {
+        if take_empty::<M, R, W>(reader) {
+            continue;
+        }
         if answer_at_hand::<M, N, T, R, W>(rt, reader, writer, session, hears.listens())? {
             continue;
         }
@@ -113,8 +116,8 @@ fn run_lines<M: Lane<R, W>, H: Hears<W>, N: Naming, T: Threads + Wait + Sync, R,
     Err(RunFault::Read)
 }
 
-/// Answers the next line at once, if it is at hand and has no bytes, or is one of the forms and nobody hears the reply;
-/// tells whether it did. Else nothing is read.
+/// Answers the next line at once, if it is at hand and one of the forms, and nobody hears the reply; tells whether it
+/// did. Else nothing is read.
 #[inline(always)]
 fn answer_at_hand<M: Lane<R, W>, N: Naming, T: Threads + Wait + Sync, R, W: Write>(
     rt: &T,
@@ -126,9 +129,6 @@ fn answer_at_hand<M: Lane<R, W>, N: Naming, T: Threads + Wait + Sync, R, W: Writ
     ensures { AtOnce M.remaining W.contents (reader.old, writer.old, session.old)
         (reader.new, writer.new, session.new) result }
 {
-    if take_empty::<M, R, W>(reader) {
-        return Ok(true);
-    }
     if is_heard {
         return Ok(false);
     }
@@ -208,6 +208,7 @@ fn answer_next<M: Lane<R, W>, H: Hears<W>, N: Naming, T: Threads + Wait + Sync, 
 }
 
 /// What the line that was read last, of this number, is answered; and how the run ends with it, if it does.
+#[inline(always)]
 fn reply_to_line<N: Naming, T: Threads + Wait + Sync>(
     rt: &T,
     session: &mut Session<N>,
