@@ -12,11 +12,11 @@ use Rattle.ksm_script.specs.declared.script.End.TheVariants.{AllRead, BadLine}
 use Rattle.ksm_script.specs.declared.script.RunFault.{RunFault}
 use Rattle.ksm_script.specs.declared.script.RunFault.TheVariants.{Read, Write}
 use Rattle.ksm_script.specs.Replies.{text_of}
-use Rattle.ksm_script.specs.LastLine.{EndsBad}
 use Rattle.ksm_script.specs.Script.{AnsweredAll, AnsweredLast, Runs, Streams, more}
 use Rattle.ksm_script.specs.Texts.{AppendsBroken, AppendsPart}
-use Rattle.ksm_host.specs.declared.status.Status.TheVariants.{Done, NotUnderstood}
-use Rattle.ksm_host.specs.Statuses.{bad_end, bad_line_of, status_after}
+use Rattle.ksm_host.specs.declared.status.Status.TheVariants.{Broken}
+use Rattle.ksm_host.specs.Ends.{Serves}
+use Rattle.ksm_host.specs.Statuses.{status_after}
 use Rattle.ksm_host.specs.Sent.{Replies}
 
 whole : (begun written : Option (List ℕ)) (text : List ℕ) → Appends begun written text → AppendsPart begun written text
@@ -42,12 +42,6 @@ pub kept_where_sent : {A E : Type 0} (inner : Option (List ℕ)) (buffer : List 
 kept_where_sent inner buffer written (Ok x) empty kept is =
     subst (λ (o : Option (List ℕ)). Keeps written o) (ap (λ (l : List ℕ). append_known inner l) empty ∙ append_nothing inner) kept
 kept_where_sent inner buffer written (Err e) empty kept is = absurd (cc is)
-
--- what was read ends with the bad line of which the number is told
-pub line_told : (old new : Option (List ℕ)) (line : List ℕ) (r : Result End RunFault) → EndsBad old new line r → EndsBad old new line (bad_end (bad_line_of r))
-line_told old new line (Ok (BadLine number)) h = h
-line_told old new line (Ok AllRead) h = tt
-line_told old new line (Err fault) h = tt
 
 module _ (io : Streams) (from to : ScriptState) where
   -- the replies, and what was written of them
@@ -82,34 +76,19 @@ module _ (io : Streams) (from to : ScriptState) where
     )
   ]
 
-  module _ (now : Option (List ℕ)) (ended : Result End RunFault) (sent : Bool) (runs : Runs io from to ended) (kept : sent ≡ true → Keeps io.written now) where
-    abbrev sends : Streams
-    sends = record io { written = now }
+  module _ (inner : Option (List ℕ)) (waiting : List ℕ) (kept : Keeps io.written (append_known inner waiting)) where
+    broke : (r : Result End RunFault) → Runs io from to r → Serves (record io { written = inner }) from Broken
+    broke r run = let s = stands_sent (append_known inner waiting) kept (stands_after r run) in (to, s.0, waiting, s.1, s.2)
 
-    -- where the status is `Done`, the run read all its input, and all that it wrote is sent
-    pub sent_all : status_after ended sent ≡ Done → Runs sends from to (Ok AllRead)
-    sent_all = all ended sent runs kept
-      where
-        all : (r : Result End RunFault) (s : Bool) → Runs io from to r → (s ≡ true → Keeps io.written now) → status_after r s ≡ Done → Runs sends from to (Ok AllRead)
-        all (Ok AllRead) true run k e =
-            let a = run.goes in
-            record { last = run.last; goes = (a.0, a.1, Appends-kept io.begun io.written now a.0 a.2 (k refl), a.3); given = run.given }
-        all (Ok AllRead) false run k e = absurd (cc e)
-        all (Ok (BadLine number)) true run k e = absurd (cc e)
-        all (Ok (BadLine number)) false run k e = absurd (cc e)
-        all (Err fault) s run k e = absurd (cc e)
-
-    -- where the status is `NotUnderstood`, the run ended at a bad line, and all that it wrote is sent
-    pub sent_to_bad : status_after ended sent ≡ NotUnderstood → (number : ℕ) × (bad_line_of ended ≡ Some number) × Runs sends from to (Ok (BadLine number))
-    sent_to_bad = bad ended sent runs kept
-      where
-        bad : (r : Result End RunFault) (s : Bool) → Runs io from to r → (s ≡ true → Keeps io.written now) → status_after r s ≡ NotUnderstood
-            → (number : ℕ) × (bad_line_of r ≡ Some number) × Runs sends from to (Ok (BadLine number))
-        bad (Ok (BadLine number)) true run k e =
-            let b = run.goes in
-            let appended = Appends-kept io.begun io.written now (b.0 ++ text_of (bad_line number)) b.4 (k refl) in
-            (number, refl, record { last = run.last; goes = (b.0, b.1, b.2, b.3, appended); given = run.given })
-        bad (Ok (BadLine number)) false run k e = absurd (cc e)
-        bad (Ok AllRead) true run k e = absurd (cc e)
-        bad (Ok AllRead) false run k e = absurd (cc e)
-        bad (Err fault) s run k e = absurd (cc e)
+    -- what a session came to by its run, and by whether all that it wrote is sent
+    pub serves_after : (r : Result End RunFault) (sent : Bool) → Runs io from to r → (sent ≡ true → Keeps io.written inner) → Serves (record io { written = inner }) from (status_after r sent)
+    serves_after (Ok AllRead) true run k =
+        let a = run.goes in
+        (to, record { last = run.last; goes = (a.0, a.1, Appends-kept io.begun io.written inner a.0 a.2 (k refl), a.3); given = run.given })
+    serves_after (Ok (BadLine number)) true run k =
+        let b = run.goes in
+        let appended = Appends-kept io.begun io.written inner (b.0 ++ text_of (bad_line number)) b.4 (k refl) in
+        (to, number, record { last = run.last; goes = (b.0, b.1, b.2, b.3, appended); given = run.given })
+    serves_after (Ok AllRead) false run k = broke (Ok AllRead) run
+    serves_after (Ok (BadLine number)) false run k = broke (Ok (BadLine number)) run
+    serves_after (Err fault) sent run k = broke (Err fault) run

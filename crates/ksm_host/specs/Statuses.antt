@@ -1,5 +1,5 @@
 -- The exit statuses of the program (own).
-use Rattle.std.specs.Prelude.{◌≡◌, ◌⊎◌, ℕ, Bool, true, false, Option, Some, None, Result, Ok, Err}
+use Rattle.std.specs.Prelude.{◌≡◌, ◌⊎◌, ℕ, Bool, true, false, Result, Ok, Err}
 use Rattle.clap.specs.declared.error.kind.ErrorKind.{ErrorKind}
 use Rattle.clap.specs.declared.error.kind.ErrorKind.TheVariants.{OutOfMemory}
 use Rattle.clap.specs.declared.error.Error.{Error}
@@ -24,17 +24,6 @@ status_after (Err fault) sent = Broken
 status_after (Ok end) false = Broken
 status_after (Ok AllRead) true = Done
 status_after (Ok (BadLine line)) true = NotUnderstood
-
--- the number of the bad line that a run ended at
-abbrev pub bad_line_of : Result End RunFault → Option ℕ
-bad_line_of (Ok (BadLine number)) = Some number
-bad_line_of (Ok AllRead) = None
-bad_line_of (Err fault) = None
-
--- how a run ended that has this bad line, or none
-abbrev pub bad_end : Option ℕ → Result End RunFault
-bad_end None = Ok AllRead
-bad_end (Some number) = Ok (BadLine number)
 
 -- the status where clap answers something else than a parse: want of memory, or else the words are no options
 abbrev pub status_at_options : ErrorKind → Status

@@ -10,7 +10,6 @@ mod status;
 mod telling;
 mod version;
 
-pub use answering::answer;
 pub use retrying::Retrying;
 pub use running::{Ended, played, run_on};
 pub use start::{told, words};

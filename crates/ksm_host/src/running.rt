@@ -1,15 +1,15 @@
 //! From the program's words, input and output to its end.
 ghost use Rattle.std.specs.Prelude.{◌≡◌, None, map, string_bytes};
 ghost use Rattle.std.specs.Io.Buffered.{reader_remaining, writer_contents, writer_inner};
-ghost use Rattle.ksm_host.specs.Ends.{EndsBy, EndsOn, Serves};
+ghost use Rattle.ksm_host.specs.Ends.{EndsBy, EndsOn};
 ghost use Rattle.ksm_script.specs.Script.{streams};
 
-use crate::answering::answer;
+use crate::answering::served;
 use crate::retrying::Retrying;
-use crate::said::{say_end, say_why};
+use crate::said::say_end;
 use crate::start::{opened, words};
 use crate::status::{Outcome, Status};
-use crate::telling::{Telling, tells_refusals};
+use crate::telling::tells_refusals;
 use crate::version::{asks_version, tell_version};
 use frame_table::ClosedTable;
 use ksm_script::Session;
@@ -141,29 +141,4 @@ fn unopened<O: Write + Drop>(status: Status, writer: BufWriter<O>) -> Ended<O>
         table: None,
         output,
     }
-}
-
-/// Answers the script. The writer is taken apart, so that what could not be sent is let go, and not tried again. Behind
-/// `bad line` it is said why.
-fn served<N: Naming, R: Eprint, T: Threads + Wait + Sync, I: Read, O: Write + Drop>(
-    rt: &R,
-    threads: &T,
-    tells: bool,
-    reader: &mut BufReader<I>,
-    mut writer: BufWriter<O>,
-    session: &mut Session<N>,
-) -> (Status, O)
-    ensures { Serves (streams (reader_remaining I.remaining reader.old) (reader_remaining I.remaining reader.new)
-        (writer_contents O.contents writer) (O.contents result.1)) session.old.state result.0 }
-{
-    let mut telling = Telling {
-        rt,
-        is_asked: tells,
-    };
-    let (status, bad_line) = answer(threads, reader, &mut writer, session, &mut telling);
-    let (output, _) = writer.into_parts();
-    if let (Status::NotUnderstood, Some(number)) = (status, bad_line) {
-        say_why(rt, number, session.line());
-    }
-    (status, output)
 }

@@ -1,5 +1,5 @@
 pub mod Auditing
-pub mod Blocks
+pub mod Pieces
 pub mod Hex
 pub mod Journaled
 pub mod Opened

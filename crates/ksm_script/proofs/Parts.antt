@@ -6,9 +6,10 @@ use Rattle.std.proofs.Math.Seq.{take-add}
 use Rattle.std.specs.List.{flat_map}
 use Rattle.std.specs.Io.KnownBytes.{Appends, Keeps}
 use Rattle.std.proofs.KnownBytes.{Appends-trans, Appends-kept}
-use Rattle.std.specs.Prelude.{IfErr, IsErrAnd, OnOk}
+use Rattle.std.specs.Prelude.{IsErrAnd}
 use Rattle.ksm_script.specs.declared.script.RunFault.{RunFault}
 use Rattle.ksm_script.specs.declared.script.RunFault.TheVariants.{Write}
+use Rattle.ksm_script.specs.Said.{WritesText}
 use Rattle.ksm_script.specs.Texts.{AppendsBroken, AppendsPart}
 
 -- what appended one part of a text, and then the next, appended both
@@ -63,43 +64,24 @@ pieces_part f xs i d text a b c lt is p q =
     (part_longer a c _ (flat_map f (drop (i + 1) xs)) front)
 
 -- the exit of a `?` behind which a part was written
-pub broken_off : {A : Type 0} (r : Result A RunFault) (f : RunFault) (P : Type 0) → IsErrAnd r (λ e. e ≡ f) → f ≡ Write → P → IfErr r (λ e. (e ≡ Write) × P)
-broken_off (Ok x) f P e is p = tt
-broken_off (Err d) f P e is p = (e ∙ is, p)
+pub text_broken : (r : Result (Unit {0}) RunFault) (f : RunFault) (a b : Option (List ℕ)) (text : List ℕ) → IsErrAnd r (λ e. e ≡ f) → f ≡ Write → AppendsPart a b text → WritesText a b text r
+text_broken (Ok x) f a b text e is p = absurd e
+text_broken (Err d) f a b text e is p = (tt, (e ∙ is, p))
 
--- a text was written before, and then a text whole or in part
-pub fault_after : {A : Type 0} (r : Result A RunFault) (a b c : Option (List ℕ)) (text next : List ℕ) → Appends a b text
-    → IfErr r (λ e. (e ≡ Write) × AppendsPart b c next) → IfErr r (λ e. (e ≡ Write) × AppendsPart a c (text ++ next))
-fault_after (Ok x) a b c text next p h = tt
-fault_after (Err e) a b c text next p h = (h.0, part_after a b c text next p h.1)
+-- a text was written before, and then another one
+pub text_after : (r : Result (Unit {0}) RunFault) (a b c : Option (List ℕ)) (text next : List ℕ) → Appends a b text → WritesText b c next r → WritesText a c (text ++ next) r
+text_after (Ok x) a b c text next p h = (Appends-trans a b c text next p h.0, tt)
+text_after (Err e) a b c text next p h = (tt, (h.1.0, part_after a b c text next p h.1.1))
 
--- a text was written before, and then a text whole
-pub whole_after : {A : Type 0} (r : Result A RunFault) (a b c : Option (List ℕ)) (text next : List ℕ) → Appends a b text
-    → OnOk r (Appends b c next) → OnOk r (Appends a c (text ++ next))
-whole_after (Ok x) a b c text next p h = Appends-trans a b c text next p h
-whole_after (Err e) a b c text next p h = tt
-
--- a text was written, whole or in part, that is the wanted one
-pub whole_is : {A : Type 0} (r : Result A RunFault) (a b : Option (List ℕ)) (text wanted : List ℕ) → text ≡ wanted
-    → OnOk r (Appends a b text) → OnOk r (Appends a b wanted)
-whole_is r a b text wanted e = subst (λ t. OnOk r (Appends a b t)) e
-
--- a part of one text is a part of an equal one
-pub part_is : {A : Type 0} (r : Result A RunFault) (a b : Option (List ℕ)) (text wanted : List ℕ) → text ≡ wanted
-    → IfErr r (λ e. (e ≡ Write) × AppendsPart a b text) → IfErr r (λ e. (e ≡ Write) × AppendsPart a b wanted)
-part_is r a b text wanted e = subst (λ t. IfErr r (λ f. (f ≡ Write) × AppendsPart a b t)) e
+-- the text that was written is the wanted one
+pub text_is : (r : Result (Unit {0}) RunFault) (a b : Option (List ℕ)) (text wanted : List ℕ) → text ≡ wanted → WritesText a b text r → WritesText a b wanted r
+text_is r a b text wanted e = subst (λ t. WritesText a b t r) e
 
 -- a text is its beginning, and what is behind that
 rest_is : (text : List ℕ) (n : ℕ) → take n text ++ take (length text - n) (drop n text) ≡ text
 rest_is text n = ap (λ (t : List ℕ). take n text ++ t) (take_rest text n) ∙ take-append-drop n text
 
 -- the beginning of a text was written, and then what is behind it
-pub whole_behind : {A : Type 0} (r : Result A RunFault) (a b c : Option (List ℕ)) (text : List ℕ) (n : ℕ) → Appends a b (take n text)
-    → OnOk r (Appends b c (take (length text - n) (drop n text))) → OnOk r (Appends a c text)
-whole_behind (Ok x) a b c text n p q = subst (Appends a c) (rest_is text n) (Appends-trans a b c _ _ p q)
-whole_behind (Err e) a b c text n p q = tt
-
--- the beginning of a text was written, and then a part of what is behind it
-pub part_behind : {A : Type 0} (r : Result A RunFault) (a b c : Option (List ℕ)) (text : List ℕ) (n : ℕ) → Appends a b (take n text)
-    → IfErr r (λ e. (e ≡ Write) × AppendsPart b c (take (length text - n) (drop n text))) → IfErr r (λ e. (e ≡ Write) × AppendsPart a c text)
-part_behind r a b c text n p q = part_is r a c _ text (rest_is text n) (fault_after r a b c (take n text) _ p q)
+pub text_behind : (r : Result (Unit {0}) RunFault) (a b c : Option (List ℕ)) (text : List ℕ) (n : ℕ) → Appends a b (take n text)
+    → WritesText b c (take (length text - n) (drop n text)) r → WritesText a c text r
+text_behind r a b c text n p q = text_is r a c _ text (rest_is text n) (text_after r a b c (take n text) _ p q)

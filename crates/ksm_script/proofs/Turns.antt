@@ -1,5 +1,6 @@
 -- A run goes on by one line.
-use Rattle.std.proofs.Common.{◌≡◌, ◌≢◌, ℕ, Bool, false, ◌+◌, ◌≤◌, List, [], ◌∷◌, ◌++◌, ◌⊎◌, length, Option, None, Some, Result, Ok, Err, ap, ◌∙◌, sym, subst, append_assoc, inl, inr, refl}
+use Rattle.std.proofs.Common.{◌≡◌, ◌≢◌, ℕ, Bool, true, false, ◌+◌, ◌≤◌, List, [], ◌∷◌, ◌++◌, ◌⊎◌, length, Option, None, Some, Result, Ok, Err, ap, ◌∙◌, sym, subst, append_assoc, inl, inr, refl}
+use Rattle.std.specs.Prelude.{IsErrAnd}
 use Rattle.std.specs.Io.KnownBytes.{Appends, Consumes, IsAtEnd, Keeps}
 use Rattle.std.proofs.lemmas.List.{append-nil}
 use Rattle.std.proofs.KnownBytes.{Appends-kept, Appends-nil, Appends-trans, Consumes-nil, Consumes-trans}
@@ -8,21 +9,25 @@ use Rattle.ksm_script.specs.Seen.{SessionView}
 use Rattle.ksm_lines.specs.declared.line.Line.{Line}
 use Rattle.ksm_lines.specs.declared.line.Line.TheVariants.{Empty}
 use Rattle.ksm_lines.specs.declared.line.LineFault.{LineFault}
+use Rattle.ksm_lines.specs.declared.line.LineFault.TheVariants.{Bad}
 use Rattle.ksm_script.specs.declared.reply.LineReply.{LineReply}
+use Rattle.ksm_script.specs.declared.reply.LineReply.TheVariants.{BadLine as bad_line}
+use Rattle.ksm_script.specs.Replies.{text_of}
+use Rattle.ksm_script.specs.Texts.{AppendsPart}
 use Rattle.ksm_script.specs.declared.script.End.{End}
 use Rattle.ksm_script.specs.declared.script.End.TheVariants.{AllRead, BadLine}
 use Rattle.ksm_script.specs.declared.script.RunFault.{RunFault}
 use Rattle.ksm_script.specs.declared.script.RunFault.TheVariants.{Write}
 use Rattle.ksm_script.specs.declared.input.LineEnd.{LineEnd}
 use Rattle.ksm_script.specs.declared.input.LineEnd.TheVariants.{Newline, Input, TooLong}
-use Rattle.ksm_lines.specs.Grammar.{Writes, IsNoLine}
+use Rattle.ksm_lines.specs.Grammar.{IsNoLine}
 use Rattle.ksm_script.specs.Input.{EndsAs, IsPlain}
 use Rattle.ksm_script.specs.Answering.{Answers, reply_text}
-use Rattle.ksm_script.specs.Going.{GoesOn, IsSoFar}
+use Rattle.ksm_script.specs.Going.{AtOnce, end_at, GoesOn, IsDone, IsReplied, IsSoFar}
 use Rattle.ksm_script.specs.LastLine.{EndsBad, EndsOpen}
 use Rattle.ksm_script.specs.Said.{IsSaid, ReturnsReply, WritesReply}
 use Rattle.ksm_script.specs.Takes.{TakesForm}
-use Rattle.ksm_script.specs.Script.{Answered, none, more, CarriesOut, ReadFor, AnsweredAll, AnsweredLast, IsBad, IsReadAs, AnsweredToBad, AnsweredOne, AnsweredPart, Streams, streams, Goes}
+use Rattle.ksm_script.specs.Script.{Answered, none, more, CarriesOut, ReadFor, AnsweredAll, AnsweredLast, IsBad, IsReadAs, AnsweredToBad, AnsweredOne, Streams, streams, Goes}
 use Rattle.ksm_script.proofs.Parts.{broken_after}
 
 -- a failed write is told as one
@@ -57,83 +62,68 @@ pub record IsRead (now next : Option (List ℕ)) (line : List ℕ) (end : LineEn
   pub plain : IsPlain line
   pub last : end ≡ Input → IsAtEnd next
 
--- whether a line was answered at once
-abbrev pub told_so : Bool → Result Bool RunFault
-told_so b = Ok b
-
--- the same of equal states and streams
-still : (first now same : Option (List ℕ)) (begun written kept : Option (List ℕ)) (from state after : ScriptState) (number : ℕ) → after ≡ state → same ≡ now → kept ≡ written
-    → IsSoFar first now begun written from state number → IsSoFar first same begun kept from after number
-still first now same begun written kept from state after number s r w so =
-    subst (λ (x : ScriptState). IsSoFar first same begun kept from x number) (sym s)
-    (subst (λ (x : Option (List ℕ)). IsSoFar first x begun kept from state number) (sym r)
-    (subst (λ (x : Option (List ℕ)). IsSoFar first now begun x from state number) (sym w) so))
-
--- the same where no line was answered at once
-pub not_answered : {R W : Type 0} (remaining : R → Option (List ℕ)) (contents : W → Option (List ℕ)) (first : Option (List ℕ)) (now same : R) (begun : Option (List ℕ)) (written kept : W)
-    (from : ScriptState) (state after : SessionView) (number : ℕ) (b : Bool) → (told_so b ≡ told_so false → (after ≡ state) × (same ≡ now) × (kept ≡ written)) → b ≡ false
-    → IsSoFar first (remaining now) begun (contents written) from state.state number → IsSoFar first (remaining same) begun (contents kept) from after.state number
-not_answered remaining contents first now same begun written kept from state after number b unmoved is so =
-    let is_same = unmoved (ap (λ (x : Bool). told_so x) is) in
-    still _ _ _ _ _ _ _ _ _ _ (ap (λ (v : SessionView). v.state) is_same.0) (ap remaining is_same.1) (ap contents is_same.2) so
-
--- the same after a line that was answered at once
-pub one_more : (first now later : Option (List ℕ)) (begun written wrote : Option (List ℕ)) (from state next : ScriptState) (number : ℕ) → IsSoFar first now begun written from state number
-    → AnsweredOne (streams now later written wrote) state next → IsSoFar first later begun wrote from next (number + 1)
-one_more first now later begun written wrote from state next number so one =
-    record {
-      lines = so.lines ++ (one.0 ++ 10 ∷ []);
-      text = so.text ++ reply_text one.1;
-      count = so.count + 1;
-      counted = ap (λ n. n + 1) so.counted;
-      answered = more so.answered one.0 one.1 next one.2;
-      consumed = Consumes-trans first now later so.lines (one.0 ++ 10 ∷ []) so.consumed one.3;
-      appended = Appends-trans begun written wrote so.text (reply_text one.1) so.appended one.4;
-    }
-
--- a run whose last line was answered at once, and its reply broken off
-pub one_broken : (first now later : Option (List ℕ)) (begun written wrote : Option (List ℕ)) (from state next : ScriptState) (number : ℕ) → IsSoFar first now begun written from state number
-    → AnsweredPart (streams now later written wrote) state next → Goes (streams first later begun wrote) from next (Err Write)
-one_broken first now later begun written wrote from state next number so one =
-    let consumed = Consumes-trans first now later so.lines (one.0 ++ 10 ∷ []) so.consumed one.3 in
-    inl (so.text, one.1, (so.lines, one.0, so.lines ++ (one.0 ++ 10 ∷ []), so.count, state, so.answered, one.2, inl refl, consumed), broken_after _ _ _ so.text _ so.appended one.4)
-
--- the same after a line of no bytes
-pub one_empty : (first now later : Option (List ℕ)) (begun written : Option (List ℕ)) (from state : ScriptState) (number : ℕ) → IsSoFar first now begun written from state number
-    → TakesForm Empty now later → IsSoFar first later begun written from state (number + 1)
-one_empty first now later begun written from state number so taken =
+-- a line of no bytes was answered
+pub one_empty : (now later written : Option (List ℕ)) (state : ScriptState) → TakesForm Empty now later → AnsweredOne (streams now later written written) state state
+one_empty now later written state taken =
     let carried : CarriesOut state taken.0 None state =
     record { form = Empty; plain = taken.2; short = taken.3; written = taken.1; answers = (refl, refl) } in
-    one_more first now later begun written written from state state number so (taken.0, None, carried, taken.4, Appends-nil written)
+    (taken.0, None, carried, taken.4, Appends-nil written)
 
--- the same where no line of no bytes was taken
-pub not_empty : {R : Type 0} (remaining : R → Option (List ℕ)) (first : Option (List ℕ)) (now same : R) (begun written : Option (List ℕ)) (from state : ScriptState) (number : ℕ) → same ≡ now
-    → IsSoFar first (remaining now) begun written from state number → IsSoFar first (remaining same) begun written from state number
-not_empty remaining first now same begun written from state number is so = subst (λ r. IsSoFar first (remaining r) begun written from state number) (sym is) so
+module _ {R W : Type 0} (remaining : R → Option (List ℕ)) (contents : W → Option (List ℕ)) (first begun : Option (List ℕ)) (from : ScriptState) (old new : R × W × SessionView)
+    (number : ℕ) (so : IsSoFar first (remaining old.0) begun (contents old.1) from old.2.state number) where
+  -- the same after a line that was answered at once
+  pub one_more : (b : Bool) → AtOnce remaining contents old new (Ok b) → b ≡ true → IsSoFar first (remaining new.0) begun (contents new.1) from new.2.state (number + 1)
+  one_more true one is =
+      record {
+        lines = so.lines ++ (one.0 ++ 10 ∷ []);
+        text = so.text ++ reply_text one.1;
+        count = so.count + 1;
+        counted = ap (λ n. n + 1) so.counted;
+        answered = more so.answered one.0 one.1 new.2.state one.2;
+        consumed = Consumes-trans first (remaining old.0) (remaining new.0) so.lines (one.0 ++ 10 ∷ []) so.consumed one.3;
+        appended = Appends-trans begun (contents old.1) (contents new.1) so.text (reply_text one.1) so.appended one.4;
+      }
+  one_more false one is = absurd (cc is)
 
-carried_as : (now later : Option (List ℕ)) (state next : ScriptState) (form : Line) (reply : Option LineReply) → (taken : TakesForm form now later) → Answers form state reply next
-    → CarriesOut state taken.0 reply next
-carried_as now later state next form reply taken answers = record { form = form; plain = taken.2; short = taken.3; written = taken.1; answers = answers }
+  -- the same where no line was answered at once
+  pub one_left : (b : Bool) → AtOnce remaining contents old new (Ok b) → b ≡ false → IsSoFar first (remaining new.0) begun (contents new.1) from new.2.state number
+  one_left true one is = absurd (cc is)
+  one_left false same is =
+      subst (λ (s : SessionView). IsSoFar first (remaining new.0) begun (contents new.1) from s.state number) (sym same.2)
+      (subst (λ (w : W). IsSoFar first (remaining new.0) begun (contents w) from old.2.state number) (sym same.1)
+      (subst (λ (r : R). IsSoFar first (remaining r) begun (contents old.1) from old.2.state number) (sym same.0) so))
 
-module _ {W : Type 0} (contents : W → Option (List ℕ)) (now later : Option (List ℕ)) (old new : W) (state next : ScriptState) (form : Line) (taken : TakesForm form now later) where
+  -- a run whose last line was answered at once, and its reply broken off
+  pub one_broken : (fault : RunFault) → AtOnce remaining contents old new (Err fault) → Goes (streams first (remaining new.0) begun (contents new.1)) from new.2.state (Err Write)
+  one_broken fault told =
+      let one = told.1 in
+      let consumed = Consumes-trans first (remaining old.0) (remaining new.0) so.lines (one.0 ++ 10 ∷ []) so.consumed one.3 in
+      inl (so.text, one.1, (so.lines, one.0, so.lines ++ (one.0 ++ 10 ∷ []), so.count, old.2.state, so.answered, one.2, inl refl, consumed), broken_after _ _ _ so.text _ so.appended one.4)
+
+module _ {R W : Type 0} (remaining : R → Option (List ℕ)) (contents : W → Option (List ℕ)) (now later : R) (old new : W) (from to : SessionView) (form : Line)
+    (taken : TakesForm form (remaining now) (remaining later)) where
+  carried_as : (reply : Option LineReply) → Answers form from.state reply to.state → CarriesOut from.state taken.0 reply to.state
+  carried_as reply answers = record { form = form; plain = taken.2; short = taken.3; written = taken.1; answers = answers }
+
   -- a line that was taken whole, and whose reply was written
-  pub said_one : IsSaid (WritesReply contents) (λ reply. Answers form state reply next) old new (Ok tt) → AnsweredOne (streams now later (contents old) (contents new)) state next
-  said_one (inl said) = (taken.0, Some said.0, carried_as now later state next form (Some said.0) taken said.1, taken.4, said.2.0)
+  pub said_one : IsSaid (WritesReply contents) (Answers form) from to old new (Ok tt) → AtOnce remaining contents (now, old, from) (later, new, to) (Ok true)
+  said_one (inl said) = (taken.0, Some said.0, carried_as (Some said.0) said.1, taken.4, said.2.0)
   said_one (inr quiet) =
       let same = subst (λ (w : W). Appends (contents old) (contents w) []) (sym quiet.1) (Appends-nil (contents old)) in
-      (taken.0, None, carried_as now later state next form None taken quiet.0, taken.4, same)
+      (taken.0, None, carried_as None quiet.0, taken.4, same)
 
   -- the same whose reply was broken off
-  pub said_part : (e : RunFault) → IsSaid (WritesReply contents) (λ reply. Answers form state reply next) old new (Err e)
-      → (e ≡ Write) × AnsweredPart (streams now later (contents old) (contents new)) state next
-  said_part e (inl said) = (said.2.1.0, (taken.0, said.0, carried_as now later state next form (Some said.0) taken said.1, taken.4, said.2.1.1))
-  said_part e (inr quiet) = absurd (cc quiet.2)
+  pub said_part : (r : Result Bool RunFault) (e : RunFault) → IsErrAnd r (λ f. f ≡ e) → IsSaid (WritesReply contents) (Answers form) from to old new (Err e)
+      → AtOnce remaining contents (now, old, from) (later, new, to) r
+  said_part (Ok b) e is said = absurd is
+  said_part (Err f) e is (inl said) = (is ∙ said.2.1.0, (taken.0, said.0, carried_as (Some said.0) said.1, taken.4, said.2.1.1))
+  said_part (Err f) e is (inr quiet) = absurd (cc quiet.2)
 
 -- the reply that was returned for a line, or none, is what the line is answered
-pub kept_answer : (form : Line) (state next : ScriptState) (new : Option LineReply) (r : Result (Unit {0}) RunFault) → IsSaid ReturnsReply (λ reply. Answers form state reply next) None new r
-    → Answers form state new next
-kept_answer form state next new r (inl said) = subst (λ (x : Option LineReply). Answers form state x next) (sym said.2.0) said.1
-kept_answer form state next new r (inr quiet) = subst (λ (x : Option LineReply). Answers form state x next) (sym quiet.1) quiet.0
+pub kept_answer : (form : Line) (from to : SessionView) (new : Option LineReply) (r : Result (Unit {0}) RunFault) → IsSaid ReturnsReply (Answers form) from to None new r
+    → Answers form from.state new to.state
+kept_answer form from to new r (inl said) = subst (λ (x : Option LineReply). Answers form from.state x to.state) (sym said.2.0) said.1
+kept_answer form from to new r (inr quiet) = subst (λ (x : Option LineReply). Answers form from.state x to.state) (sym quiet.1) quiet.0
 
 -- a failed write ends a run
 pub broke_on : (first now begun written : Option (List ℕ)) (from : ScriptState) (session : SessionView) (number : ℕ) (told : Result (Option End) RunFault) → told ≡ Err Write
@@ -168,6 +158,29 @@ open_behind first now later lines so (inr last) =
     let consumed = subst (λ (t : List ℕ). Consumes first later t) (sym (append_assoc lines last.0 last.1)) (Consumes-trans first now later lines (last.0 ++ last.1) so last.2) in
     inr (lines ++ last.0, last.1, consumed, last.3, last.4)
 
+abbrev pub bool_of : Bool → Bool
+bool_of b = b
+
+pub apart : bool_of false ≡ bool_of true → ⊥
+apart e = cc
+
+last_of : (end : LineEnd) → went_so (end_at end) ≡ went_so (Some AllRead) → end ≡ Input
+last_of Newline e = absurd (cc e)
+last_of Input e = refl
+last_of TooLong e = absurd (cc e)
+
+-- where a run ends with all read, the input ended with its last line
+pub replied_last : (end : LineEnd) (number : ℕ) (old new : SessionView) (reply : Option LineReply) (ended : Option End) → IsReplied end number old new reply ended
+    → went_so ended ≡ went_so (Some AllRead) → end ≡ Input
+replied_last end number old new reply ended (inl did) all = last_of end (ap went_so (sym did.1) ∙ all)
+replied_last end number old new reply ended (inr bad) all = absurd (cc (ap went_so (sym bad.2) ∙ all))
+
+abbrev some_reply : LineReply → Option LineReply
+some_reply r = Some r
+
+some_is : (a b : LineReply) → some_reply a ≡ some_reply b → a ≡ b
+some_is a b e = cc
+
 abbrev pub found : LineEnd → Result LineEnd RunFault
 found end = Ok end
 
@@ -182,12 +195,6 @@ pub ends_within : (now later : Option (List ℕ)) (line : List ℕ) (end : LineE
 ends_within now later line end read last some =
     let whole : read.bytes ≡ line = (subst (λ (e : LineEnd). EndsAs e line read.bytes) last read.ends).0 in
     ([], line, subst (λ (t : List ℕ). Consumes now later t) whole read.consumed, read.plain, λ is. some (ap length is))
-
--- a line that was carried out
-pub record IsDone (state next : ScriptState) (line : List ℕ) (end : LineEnd) (form : Line) (reply : Option LineReply) : Type 0 where
-  pub short : end ≢ TooLong
-  pub written : Writes form line
-  pub answers : Answers form state reply next
 
 not_long : (end : LineEnd) (line bytes : List ℕ) → end ≢ TooLong → EndsAs end line bytes → length line ≤ 256
 not_long Newline line bytes h e = e.1
@@ -215,26 +222,15 @@ empty_of : (line : List ℕ) → length line ≡ 0 → line ≡ []
 empty_of [] nil = refl
 empty_of (byte ∷ line) nil = absurd (cc nil)
 
--- a newline is neither the end of the input nor a byte too many
-pub newline_open : (end : LineEnd) → end ≡ Newline → (end ≢ Input) × (end ≢ TooLong)
-newline_open Newline is = ((λ e. absurd cc), (λ e. absurd cc))
-newline_open Input is = absurd cc
-newline_open TooLong is = absurd cc
-
--- a line of no bytes is carried out with no reply
-pub nothing_done : (state : ScriptState) (line : List ℕ) (end : LineEnd) → end ≢ TooLong → length line ≡ 0 → IsDone state state line end Empty None
-nothing_done state line end short nil =
-    record { short = short; written = subst (λ l. Writes Empty l) (sym (empty_of line nil)) (refl, tt); answers = (refl, refl) }
-
 module _ (first now later : Option (List ℕ)) (begun written : Option (List ℕ)) (from state : ScriptState) (number : ℕ) (line : List ℕ) (end : LineEnd)
     (so : IsSoFar first now begun written from state number) (read : IsRead now later line end) where
   consumed_then : Consumes first later (so.lines ++ read.bytes)
   consumed_then = Consumes-trans first now later so.lines read.bytes so.consumed read.consumed
 
-  module _ (next : ScriptState) (form : Line) (reply : Option LineReply) (did : IsDone state next line end form reply) where
+  module _ (next : ScriptState) (reply : Option LineReply) (did : IsDone state next line end reply) where
     carried : CarriesOut state line reply next
     carried =
-        record { form = form; plain = read.plain; short = not_long end line read.bytes did.short read.ends; written = did.written; answers = did.answers }
+        record { form = did.form; plain = read.plain; short = not_long end line read.bytes did.short read.ends; written = did.written; answers = did.answers }
 
     turned : Answered from (so.lines ++ (line ++ 10 ∷ [])) (so.text ++ reply_text reply) (so.count + 1) next
     turned = more so.answered line reply next carried
@@ -283,3 +279,38 @@ module _ (first now later : Option (List ℕ)) (begun written : Option (List ℕ
   pub ends_bad : (fault : LineFault) → IsReadAs (Err fault) end line → EndsBad first later line (Ok (BadLine 0))
   ends_bad fault bad =
       (so.lines, read.bytes, end, consumed_then, read.plain, read.ends, bad_of later end line bad read.last)
+
+module _ (first now : Option (List ℕ)) (later begun written wrote : Option (List ℕ)) (from : ScriptState) (old new : SessionView) (number : ℕ)
+    (so : IsSoFar first now begun written from old.state number) where
+  -- a line that is carried out, and whose reply is written, ends the run or has it go on
+  pub done_on : (end : LineEnd) (reply : Option LineReply) → IsRead now later old.line end → IsDone old.state new.state old.line end reply → Appends written wrote (reply_text reply)
+      → GoesOn first later begun wrote from new number (Ok (end_at end))
+  done_on Newline reply read did appended = goes_on _ _ _ _ _ _ _ _ _ _ so read _ _ did _ (λ e. absurd cc) appended
+  done_on Input reply read did appended =
+      ((so.text ++ reply_text reply, answered_all _ _ _ _ _ _ _ _ _ _ so read _ _ did, Appends-trans _ _ _ so.text _ so.appended appended, read.last refl), tt)
+  done_on TooLong reply read did appended = absurd (did.short refl)
+
+  -- a line whose reply is written, whatever it is
+  pub replied_on : (end : LineEnd) (reply : Option LineReply) (ended : Option End) → IsRead now later old.line end → IsReplied end number old new reply ended
+      → Appends written wrote (reply_text reply) → GoesOn first later begun wrote from new number (Ok ended)
+  replied_on end reply ended read (inl did) appended =
+      subst (λ (x : Option End). GoesOn first later begun wrote from new number (Ok x)) (sym did.1) (done_on end reply read did.0 appended)
+  replied_on end reply ended read (inr bad) appended =
+      let refused = answered_to_bad _ _ _ _ _ _ _ _ _ _ so read Bad bad.0 in
+      let text = subst (λ (r : Option LineReply). Appends written wrote (reply_text r)) bad.1 appended in
+      let all = Appends-trans _ _ _ so.text _ so.appended text in
+      let on : GoesOn first later begun wrote from old number (Ok (Some (BadLine number))) =
+      ((so.text, so.count, sym so.counted, refused, all), ends_bad _ _ _ _ _ _ _ _ _ _ so read Bad bad.0) in
+      subst (λ (x : Option End). GoesOn first later begun wrote from new number (Ok x)) (sym bad.2)
+      (subst (λ (s : SessionView). GoesOn first later begun wrote from s number (Ok (Some (BadLine number)))) (sym bad.3) on)
+
+  -- a line whose reply is broken off
+  pub replied_broken : (end : LineEnd) (reply : Option LineReply) (ended : Option End) → IsRead now later old.line end → IsReplied end number old new reply ended
+      → (told : LineReply) → reply ≡ Some told → AppendsPart written wrote (text_of told) → Goes (streams first later begun wrote) from new.state (Err Write)
+  replied_broken end reply ended read (inl did) told is part =
+      inl (so.text, told, answered_last _ _ _ _ _ _ _ _ _ _ so read _ _ did.0 told is, broken_after _ _ _ so.text _ so.appended part)
+  replied_broken end reply ended read (inr bad) told is part =
+      let refused = answered_to_bad _ _ _ _ _ _ _ _ _ _ so read Bad bad.0 in
+      let same : told ≡ bad_line (so.count + 1) = some_is _ _ (sym is ∙ bad.1) ∙ ap bad_line (sym so.counted) in
+      let broken = broken_after _ _ _ so.text _ so.appended (subst (λ r. AppendsPart written wrote (text_of r)) same part) in
+      subst (λ (s : SessionView). Goes (streams first later begun wrote) from s.state (Err Write)) (sym bad.3) (inr (so.text, so.count, refused, broken))

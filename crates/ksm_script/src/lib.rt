@@ -3,6 +3,7 @@
 
 mod hears;
 mod input;
+mod lane;
 mod line_text;
 mod output;
 mod pass_state;
@@ -16,9 +17,10 @@ mod worked;
 
 pub use hears::{Hears, Unheard};
 pub use input::LONGEST_LINE;
+pub use lane::{Blocks, Lane};
 pub use pass_state::PassState;
 pub use refusal::Refusal;
 pub use reply::{LineReply, write_reply};
-pub use script::{End, RunFault, run, run_buffered, run_heard};
+pub use script::{End, RunFault, run, run_heard};
 pub use session::Session;
 pub use worked::{command_lines, lookup_lines, reading_lines};

@@ -1,7 +1,5 @@
 //! Texts on a writer, whole or, at a fault, a beginning.
-ghost use Rattle.std.specs.Prelude.{◌≡◌, OnOk, IfErr};
-ghost use Rattle.std.specs.Io.KnownBytes.{Appends};
-ghost use Rattle.ksm_script.specs.Texts.{AppendsPart};
+ghost use Rattle.ksm_script.specs.Said.{WritesText};
 
 use crate::script::RunFault;
 use std::io::Write;
@@ -13,9 +11,7 @@ use std::io::Write;
 /// once.
 #[inline(always)]
 pub fn write_text<W: Write>(writer: &mut W, text: &[u8]) -> Result<(), RunFault>
-    ensures whole { OnOk result (Appends (W.contents writer.old) (W.contents writer.new) text.now) }
-    ensures fault { IfErr result (λ e. (e ≡ RunFault.Write)
-        × AppendsPart (W.contents writer.old) (W.contents writer.new) text.now) }
+    ensures { WritesText (W.contents writer.old) (W.contents writer.new) text.now result }
 {
     let Ok(count) = writer.write(text) else {
         return Err(RunFault::Write);
@@ -32,9 +28,7 @@ pub fn write_text<W: Write>(writer: &mut W, text: &[u8]) -> Result<(), RunFault>
 /// Writes a text part by part.
 #[inline(never)]
 fn write_parts<W: Write>(writer: &mut W, text: &[u8]) -> Result<(), RunFault>
-    ensures whole { OnOk result (Appends (W.contents writer.old) (W.contents writer.new) text.now) }
-    ensures fault { IfErr result (λ e. (e ≡ RunFault.Write)
-        × AppendsPart (W.contents writer.old) (W.contents writer.new) text.now) }
+    ensures { WritesText (W.contents writer.old) (W.contents writer.new) text.now result }
 {
     let mut at = 0;
     'parts: for _ in 0..u64::MAX {

@@ -1,8 +1,7 @@
 //! The replies of the language.
-ghost use Rattle.std.specs.Prelude.{◌≡◌, ◌≤◌, length, OnOk, IfErr};
+ghost use Rattle.std.specs.Prelude.{◌≤◌, length};
 ghost use Rattle.std.specs.List.{concat, flat_map};
-ghost use Rattle.std.specs.Io.KnownBytes.{Appends};
-ghost use Rattle.ksm_script.specs.Texts.{AppendsPart};
+ghost use Rattle.ksm_script.specs.Said.{WritesText};
 ghost use Rattle.ksm_audit.specs.declared.report.Row.TheVariants.{Found as found_row, Gone as gone_row};
 ghost use Rattle.ksm_script.specs.Replies.{text_of, content_line, counted_text, stopped_text, counters_text};
 ghost use Rattle.ksm_script.specs.Replies.{mapper_text, mappers_text, held_text, row_text, audit_text};
@@ -72,9 +71,7 @@ pub enum LineReply {
 /// written.
 #[inline(always)]
 pub fn write_reply<W: Write>(writer: &mut W, reply: &LineReply) -> Result<(), RunFault>
-    ensures whole { OnOk result (Appends (W.contents writer.old) (W.contents writer.new) (text_of reply.now)) }
-    ensures fault { IfErr result (λ e. (e ≡ RunFault.Write)
-        × AppendsPart (W.contents writer.old) (W.contents writer.new) (text_of reply.now)) }
+    ensures { WritesText (W.contents writer.old) (W.contents writer.new) (text_of reply.now) result }
 {
     match reply {
         LineReply::Done => write_text(writer, b"ok\n"),
@@ -107,9 +104,7 @@ pub fn write_reply<W: Write>(writer: &mut W, reply: &LineReply) -> Result<(), Ru
 
 /// Writes the content of a page, its bytes in order, two digits each.
 pub(crate) fn write_content<W: Write>(writer: &mut W, content: &PageBytes) -> Result<(), RunFault>
-    ensures whole { OnOk result (Appends (W.contents writer.old) (W.contents writer.new) (content_line content.now)) }
-    ensures fault { IfErr result (λ e. (e ≡ RunFault.Write)
-        × AppendsPart (W.contents writer.old) (W.contents writer.new) (content_line content.now)) }
+    ensures { WritesText (W.contents writer.old) (W.contents writer.new) (content_line content.now) result }
 {
     write_text(writer, digits_of_words(content).as_flattened())?;
     write_text(writer, b"\n")
@@ -124,10 +119,7 @@ fn write_count<const N: usize, W: Write>(
     count: u64,
 ) -> Result<(), RunFault>
     requires { length name.now ≤ 16 }
-    ensures whole { OnOk result
-        (Appends (W.contents writer.old) (W.contents writer.new) (counted_text name.now count)) }
-    ensures fault { IfErr result (λ e. (e ≡ RunFault.Write)
-        × AppendsPart (W.contents writer.old) (W.contents writer.new) (counted_text name.now count)) }
+    ensures { WritesText (W.contents writer.old) (W.contents writer.new) (counted_text name.now count) result }
 {
     let mut text = LineText::<SHORT_ROOM>::new();
     text.put_name("\n");
@@ -144,10 +136,7 @@ fn write_stopped<const N: usize, W: Write>(
     stop: Option<Fault>,
 ) -> Result<(), RunFault>
     requires { length name.now ≤ 16 }
-    ensures whole { OnOk result
-        (Appends (W.contents writer.old) (W.contents writer.new) (stopped_text name.now count stop)) }
-    ensures fault { IfErr result (λ e. (e ≡ RunFault.Write)
-        × AppendsPart (W.contents writer.old) (W.contents writer.new) (stopped_text name.now count stop)) }
+    ensures { WritesText (W.contents writer.old) (W.contents writer.new) (stopped_text name.now count stop) result }
 {
     let Some(fault) = stop else {
         return write_count(writer, name, count);
@@ -162,9 +151,7 @@ fn write_stopped<const N: usize, W: Write>(
 
 /// Writes the counters, each behind its name.
 fn write_counters<W: Write>(writer: &mut W, counters: &Counters) -> Result<(), RunFault>
-    ensures whole { OnOk result (Appends (W.contents writer.old) (W.contents writer.new) (counters_text counters.now)) }
-    ensures fault { IfErr result (λ e. (e ≡ RunFault.Write)
-        × AppendsPart (W.contents writer.old) (W.contents writer.new) (counters_text counters.now)) }
+    ensures { WritesText (W.contents writer.old) (W.contents writer.new) (counters_text counters.now) result }
 {
     let mut text = LineText::<COUNTERS_ROOM>::new();
     text.put_name("\n");
@@ -180,9 +167,7 @@ fn write_counters<W: Write>(writer: &mut W, counters: &Counters) -> Result<(), R
 
 /// Writes one page of a dup.
 fn write_mapper<W: Write>(writer: &mut W, page: GuestPage) -> Result<(), RunFault>
-    ensures whole { OnOk result (Appends (W.contents writer.old) (W.contents writer.new) (mapper_text page)) }
-    ensures fault { IfErr result (λ e. (e ≡ RunFault.Write)
-        × AppendsPart (W.contents writer.old) (W.contents writer.new) (mapper_text page)) }
+    ensures { WritesText (W.contents writer.old) (W.contents writer.new) (mapper_text page) result }
 {
     let mut text = LineText::<SHORT_ROOM>::new();
     text.put_named(":", u64::from(page.page));
@@ -192,10 +177,7 @@ fn write_mapper<W: Write>(writer: &mut W, page: GuestPage) -> Result<(), RunFaul
 
 /// Writes the pages of a dup, each behind a space.
 fn write_pages<W: Write>(writer: &mut W, pages: &[GuestPage]) -> Result<(), RunFault>
-    ensures whole { OnOk result
-        (Appends (W.contents writer.old) (W.contents writer.new) (flat_map mapper_text pages.now)) }
-    ensures fault { IfErr result (λ e. (e ≡ RunFault.Write)
-        × AppendsPart (W.contents writer.old) (W.contents writer.new) (flat_map mapper_text pages.now)) }
+    ensures { WritesText (W.contents writer.old) (W.contents writer.new) (flat_map mapper_text pages.now) result }
 {
     for page in pages {
         write_mapper(writer, *page)?;
@@ -205,9 +187,7 @@ fn write_pages<W: Write>(writer: &mut W, pages: &[GuestPage]) -> Result<(), RunF
 
 /// Writes the line of the pages of a dup.
 fn write_mappers<W: Write>(writer: &mut W, pages: &[GuestPage]) -> Result<(), RunFault>
-    ensures whole { OnOk result (Appends (W.contents writer.old) (W.contents writer.new) (mappers_text pages.now)) }
-    ensures fault { IfErr result (λ e. (e ≡ RunFault.Write)
-        × AppendsPart (W.contents writer.old) (W.contents writer.new) (mappers_text pages.now)) }
+    ensures { WritesText (W.contents writer.old) (W.contents writer.new) (mappers_text pages.now) result }
 {
     write_text(writer, b"rmap")?;
     write_pages(writer, pages)?;
@@ -222,10 +202,8 @@ fn write_held<const N: usize, W: Write>(
     generation: u64,
 ) -> Result<(), RunFault>
     requires { length name.now ≤ 16 }
-    ensures whole { OnOk result
-        (Appends (W.contents writer.old) (W.contents writer.new) (held_text name.now frame generation)) }
-    ensures fault { IfErr result (λ e. (e ≡ RunFault.Write)
-        × AppendsPart (W.contents writer.old) (W.contents writer.new) (held_text name.now frame generation)) }
+    ensures { WritesText (W.contents writer.old) (W.contents writer.new)
+        (held_text name.now frame generation) result }
 {
     let mut text = LineText::<SHORT_ROOM>::new();
     text.put_name("\n");
@@ -237,10 +215,8 @@ fn write_held<const N: usize, W: Write>(
 
 /// Writes what a lookup of an audit held and read.
 fn write_found<W: Write>(writer: &mut W, generation: u64, bytes: &PageBytes) -> Result<(), RunFault>
-    ensures whole { OnOk result
-        (Appends (W.contents writer.old) (W.contents writer.new) (row_text (found_row generation bytes.now))) }
-    ensures fault { IfErr result (λ e. (e ≡ RunFault.Write)
-        × AppendsPart (W.contents writer.old) (W.contents writer.new) (row_text (found_row generation bytes.now))) }
+    ensures { WritesText (W.contents writer.old) (W.contents writer.new)
+        (row_text (found_row generation bytes.now)) result }
 {
     let mut text = LineText::<FOUND_ROOM>::new();
     text.put_content(bytes);
@@ -251,9 +227,7 @@ fn write_found<W: Write>(writer: &mut W, generation: u64, bytes: &PageBytes) -> 
 
 /// Writes why a lookup of an audit held nothing.
 fn write_gone<W: Write>(writer: &mut W, why: Why) -> Result<(), RunFault>
-    ensures whole { OnOk result (Appends (W.contents writer.old) (W.contents writer.new) (row_text (gone_row why))) }
-    ensures fault { IfErr result (λ e. (e ≡ RunFault.Write)
-        × AppendsPart (W.contents writer.old) (W.contents writer.new) (row_text (gone_row why))) }
+    ensures { WritesText (W.contents writer.old) (W.contents writer.new) (row_text (gone_row why)) result }
 {
     let mut text = LineText::<SHORT_ROOM>::new();
     text.put_named(" gone:", why.number());
@@ -262,9 +236,7 @@ fn write_gone<W: Write>(writer: &mut W, why: Why) -> Result<(), RunFault>
 
 /// Writes how the lookup of one place ended.
 fn write_row<W: Write>(writer: &mut W, row: Row) -> Result<(), RunFault>
-    ensures whole { OnOk result (Appends (W.contents writer.old) (W.contents writer.new) (row_text row)) }
-    ensures fault { IfErr result (λ e. (e ≡ RunFault.Write)
-        × AppendsPart (W.contents writer.old) (W.contents writer.new) (row_text row)) }
+    ensures { WritesText (W.contents writer.old) (W.contents writer.new) (row_text row) result }
 {
     match row {
         Row::Found { generation, bytes } => write_found(writer, generation, &bytes),
@@ -275,9 +247,7 @@ fn write_row<W: Write>(writer: &mut W, row: Row) -> Result<(), RunFault>
 
 /// Writes the rows of an audit, each behind a space.
 fn write_rows<W: Write>(writer: &mut W, rows: &[Row]) -> Result<(), RunFault>
-    ensures whole { OnOk result (Appends (W.contents writer.old) (W.contents writer.new) (flat_map row_text rows.now)) }
-    ensures fault { IfErr result (λ e. (e ≡ RunFault.Write)
-        × AppendsPart (W.contents writer.old) (W.contents writer.new) (flat_map row_text rows.now)) }
+    ensures { WritesText (W.contents writer.old) (W.contents writer.new) (flat_map row_text rows.now) result }
 {
     for row in rows {
         write_row(writer, *row)?;
@@ -287,9 +257,7 @@ fn write_rows<W: Write>(writer: &mut W, rows: &[Row]) -> Result<(), RunFault>
 
 /// Writes the line of an audit.
 fn write_audit<W: Write>(writer: &mut W, rows: &[Row]) -> Result<(), RunFault>
-    ensures whole { OnOk result (Appends (W.contents writer.old) (W.contents writer.new) (audit_text rows.now)) }
-    ensures fault { IfErr result (λ e. (e ≡ RunFault.Write)
-        × AppendsPart (W.contents writer.old) (W.contents writer.new) (audit_text rows.now)) }
+    ensures { WritesText (W.contents writer.old) (W.contents writer.new) (audit_text rows.now) result }
 {
     write_text(writer, b"audit")?;
     write_rows(writer, rows)?;

@@ -1,25 +1,25 @@
 //! Runs of a session over a reader and a writer.
-ghost use Rattle.std.specs.Prelude.{◌≡◌, ◌⊎◌, [], ℕ, All, List, Ok, Option, Some, true, false, OnOk, IfErr};
-ghost use Rattle.std.specs.Io.Buffered.{reader_remaining, writer_buffer, writer_contents};
+ghost use Rattle.std.specs.Prelude.{◌≡◌, ◌⊎◌, ℕ, All, List, Ok, Option, Some, OnOk, IfErr};
 ghost use Rattle.std.specs.Io.KnownBytes.{Appends};
 ghost use Rattle.ksm_script.specs.declared.reply.LineReply.{LineReply};
 ghost use Rattle.ksm_script.specs.Answering.{reply_text};
-ghost use Rattle.ksm_script.specs.Going.{GoesOn, IsSoFar};
+ghost use Rattle.ksm_script.specs.Going.{AtOnce, GoesOn, IsReplied, IsSoFar};
 ghost use Rattle.ksm_script.specs.State.{ScriptState};
 ghost use Rattle.ksm_script.specs.Replies.{text_of};
 ghost use Rattle.ksm_script.specs.Lookups.{IsIdle};
 ghost use Rattle.ksm_script.specs.LastLine.{EndsBad, EndsOpen};
-ghost use Rattle.ksm_script.specs.Script.{AnsweredOne, AnsweredPart, Goes, IsReadAs, Runs, streams};
+ghost use Rattle.ksm_script.specs.Script.{Goes, IsReadAs, Runs, streams};
 ghost use Rattle.ksm_script.specs.Texts.{AppendsPart};
 
 use crate::hears::{Hears, Unheard};
-use crate::input::{ByBlocks, ByBytes, LineEnd, TakesLines};
+use crate::input::{LineEnd, take_empty, take_page, take_short, take_whole};
+use crate::lane::{Bytes, Lane};
 use crate::replies::{Returned, Written};
 use crate::reply::{LineReply, write_reply};
 use crate::session::Session;
 use ksm_lines::{Line, LineFault, read_line};
 use ksm_shared::Naming;
-use std::io::{BufReader, BufWriter, Read, Write};
+use std::io::{Read, Write};
 use std::sync::Wait;
 use std::thread::Threads;
 use thiserror::Error;
@@ -27,7 +27,7 @@ use thiserror::Error;
 /// Why a run broke off.
 #[derive(Clone, Copy, Debug, PartialEq, Eq, Error)]
 pub enum RunFault {
-    /// The reader failed; in [`run_buffered`] also the sending of replies before the reader waits for more input.
+    /// The reader failed, or in [`run_heard`] the sending of replies before the reader waits for more input.
     #[error("the input cannot be read, or the replies before it cannot be sent")]
     Read,
     /// The writer failed, or took no byte.
@@ -61,65 +61,34 @@ pub fn run<N: Naming, T: Threads + Wait + Sync, R: Read, W: Write>(
     ensures line { EndsBad (R.remaining reader.old) (R.remaining reader.new) session.new.line result }
     ensures idle { All IsIdle session.new.state.passes }
 {
-    let ended = run_by::<ByBytes, Unheard, N, T, R, W>(rt, reader, writer, session, &mut Unheard);
-    session.give_back();
-    ended
+    run_heard::<Bytes, Unheard, N, T, R, W>(rt, reader, writer, session, &mut Unheard)
 }
 
-/// Answers each line as [`run`] does, out of the reader's buffer.
+/// Answers each line as [`run`] does, over this lane, and has each reply heard.
 ///
 /// Before the reader waits for more input, the replies are sent; where that fails, it is a failed read. So at the end
 /// of the input all are sent, but that to a last line without a newline. At another end nothing is sent.
-pub fn run_buffered<N: Naming, T: Threads + Wait + Sync, R: Read, W: Write + Drop>(
+pub fn run_heard<M: Lane<R, W>, H: Hears<W>, N: Naming, T: Threads + Wait + Sync, R, W: Write>(
     rt: &T,
-    reader: &mut BufReader<R>,
-    writer: &mut BufWriter<W>,
-    session: &mut Session<N>,
-) -> Result<End, RunFault>
-    ensures ran { Runs (streams (reader_remaining R.remaining reader.old) (reader_remaining R.remaining reader.new)
-        (writer_contents W.contents writer.old) (writer_contents W.contents writer.new))
-        session.old.state session.new.state result }
-    ensures line { EndsBad (reader_remaining R.remaining reader.old)
-        (reader_remaining R.remaining reader.new) session.new.line result }
-    ensures idle { All IsIdle session.new.state.passes }
-    ensures sent { result ≡ Ok End.AllRead → (writer_buffer writer.new ≡ [])
-        ⊎ EndsOpen (reader_remaining R.remaining reader.old) (reader_remaining R.remaining reader.new) }
-{
-    run_heard(rt, reader, writer, session, &mut Unheard)
-}
-
-/// Answers each line as [`run_buffered`] does, and has each reply heard.
-pub fn run_heard<
-    H: Hears<BufWriter<W>>,
-    N: Naming,
-    T: Threads + Wait + Sync,
-    R: Read,
-    W: Write + Drop,
->(
-    rt: &T,
-    reader: &mut BufReader<R>,
-    writer: &mut BufWriter<W>,
+    reader: &mut R,
+    writer: &mut W,
     session: &mut Session<N>,
     hears: &mut H,
 ) -> Result<End, RunFault>
-    ensures ran { Runs (streams (reader_remaining R.remaining reader.old) (reader_remaining R.remaining reader.new)
-        (writer_contents W.contents writer.old) (writer_contents W.contents writer.new))
-        session.old.state session.new.state result }
-    ensures line { EndsBad (reader_remaining R.remaining reader.old)
-        (reader_remaining R.remaining reader.new) session.new.line result }
+    ensures ran { Runs (streams (M.remaining reader.old) (M.remaining reader.new) (W.contents writer.old)
+        (W.contents writer.new)) session.old.state session.new.state result }
+    ensures line { EndsBad (M.remaining reader.old) (M.remaining reader.new) session.new.line result }
     ensures idle { All IsIdle session.new.state.passes }
-    ensures sent { result ≡ Ok End.AllRead → (writer_buffer writer.new ≡ [])
-        ⊎ EndsOpen (reader_remaining R.remaining reader.old) (reader_remaining R.remaining reader.new) }
+    ensures sent { result ≡ Ok End.AllRead
+        → M.is_sent writer.new ⊎ EndsOpen (M.remaining reader.old) (M.remaining reader.new) }
 {
-    let ended = run_by::<ByBlocks, H, N, T, BufReader<R>, BufWriter<W>>(
-        rt, reader, writer, session, hears,
-    );
+    let ended = run_lines::<M, H, N, T, R, W>(rt, reader, writer, session, hears);
     session.give_back();
     ended
 }
 
-/// Answers each line, taken in this way, and has each reply heard.
-fn run_by<M: TakesLines<R, W>, H: Hears<W>, N: Naming, T: Threads + Wait + Sync, R, W: Write>(
+/// Answers each line, and has each reply heard. No hold is given back.
+fn run_lines<M: Lane<R, W>, H: Hears<W>, N: Naming, T: Threads + Wait + Sync, R, W: Write>(
     rt: &T,
     reader: &mut R,
     writer: &mut W,
@@ -133,10 +102,10 @@ fn run_by<M: TakesLines<R, W>, H: Hears<W>, N: Naming, T: Threads + Wait + Sync,
         → M.is_sent writer.new ⊎ EndsOpen (M.remaining reader.old) (M.remaining reader.new) }
 {
     'lines: for number in 1..u64::MAX {
-        if M::take_empty(reader) {
+        if take_empty::<M, R, W>(reader) {
             continue;
         }
-        if answer_whole::<M, N, T, R, W>(rt, reader, writer, session, hears.listens())? {
+        if answer_at_hand::<M, N, T, R, W>(rt, reader, writer, session, hears.listens())? {
             continue;
         }
         let ended = answer_next::<M, H, N, T, R, W>(rt, reader, writer, session, hears, number)?;
@@ -150,49 +119,40 @@ fn run_by<M: TakesLines<R, W>, H: Hears<W>, N: Naming, T: Threads + Wait + Sync,
 /// Answers the next line at once, if it is at hand and one of the forms, and nobody hears the reply; tells whether it
 /// did. Else nothing is read.
 #[inline(always)]
-fn answer_whole<M: TakesLines<R, W>, N: Naming, T: Threads + Wait + Sync, R, W: Write>(
+fn answer_at_hand<M: Lane<R, W>, N: Naming, T: Threads + Wait + Sync, R, W: Write>(
     rt: &T,
     reader: &mut R,
     writer: &mut W,
     session: &mut Session<N>,
     is_heard: bool,
 ) -> Result<bool, RunFault>
-    ensures answered { result ≡ Ok true → AnsweredOne (streams (M.remaining reader.old) (M.remaining reader.new)
-        (W.contents writer.old) (W.contents writer.new)) session.old.state session.new.state }
-    ensures none { result ≡ Ok false → (session.new ≡ session.old) × (reader.new ≡ reader.old)
-        × (writer.new ≡ writer.old) }
-    ensures fault { IfErr result (λ e. (e ≡ RunFault.Write) × AnsweredPart (streams (M.remaining reader.old)
-        (M.remaining reader.new) (W.contents writer.old) (W.contents writer.new)) session.old.state session.new.state) }
+    ensures { AtOnce M.remaining W.contents (reader.old, writer.old, session.old)
+        (reader.new, writer.new, session.new) result }
 {
     if is_heard {
         return Ok(false);
     }
-    let Some(line) = M::take_short(reader) else {
+    let Some(line) = take_short::<M, R, W>(reader) else {
         return answer_page::<M, N, T, R, W>(rt, reader, writer, session);
     };
     session.answer_short::<Written, T, W>(rt, line, writer)?;
     Ok(true)
 }
 
-/// Answers the next line at once, if it is at hand and one of the forms, first tried as one with a content; tells
-/// whether it did. Else nothing is read.
+/// Answers the next line at once, first tried as one with a content.
 ///
 /// It stands apart, so that a page is cleared before no short line.
 #[inline(never)]
-fn answer_page<M: TakesLines<R, W>, N: Naming, T: Threads + Wait + Sync, R, W: Write>(
+fn answer_page<M: Lane<R, W>, N: Naming, T: Threads + Wait + Sync, R, W: Write>(
     rt: &T,
     reader: &mut R,
     writer: &mut W,
     session: &mut Session<N>,
 ) -> Result<bool, RunFault>
-    ensures answered { result ≡ Ok true → AnsweredOne (streams (M.remaining reader.old) (M.remaining reader.new)
-        (W.contents writer.old) (W.contents writer.new)) session.old.state session.new.state }
-    ensures none { result ≡ Ok false → (session.new ≡ session.old) × (reader.new ≡ reader.old)
-        × (writer.new ≡ writer.old) }
-    ensures fault { IfErr result (λ e. (e ≡ RunFault.Write) × AnsweredPart (streams (M.remaining reader.old)
-        (M.remaining reader.new) (W.contents writer.old) (W.contents writer.new)) session.old.state session.new.state) }
+    ensures { AtOnce M.remaining W.contents (reader.old, writer.old, session.old)
+        (reader.new, writer.new, session.new) result }
 {
-    let Some(taken) = M::take_page(reader) else {
+    let Some(taken) = take_page::<M, R, W>(reader) else {
         return answer_any::<M, N, T, R, W>(rt, reader, writer, session);
     };
     let (line, bytes) = taken;
@@ -200,24 +160,20 @@ fn answer_page<M: TakesLines<R, W>, N: Naming, T: Threads + Wait + Sync, R, W: W
     Ok(true)
 }
 
-/// Answers the next line at once, if it is at hand and one of the forms; tells whether it did. Else nothing is read.
+/// Answers the next line at once, whatever its form.
 ///
 /// It stands apart, so that no value with room for any line is cleared before those that come by the million.
 #[inline(never)]
-fn answer_any<M: TakesLines<R, W>, N: Naming, T: Threads + Wait + Sync, R, W: Write>(
+fn answer_any<M: Lane<R, W>, N: Naming, T: Threads + Wait + Sync, R, W: Write>(
     rt: &T,
     reader: &mut R,
     writer: &mut W,
     session: &mut Session<N>,
 ) -> Result<bool, RunFault>
-    ensures answered { result ≡ Ok true → AnsweredOne (streams (M.remaining reader.old) (M.remaining reader.new)
-        (W.contents writer.old) (W.contents writer.new)) session.old.state session.new.state }
-    ensures none { result ≡ Ok false → (session.new ≡ session.old) × (reader.new ≡ reader.old)
-        × (writer.new ≡ writer.old) }
-    ensures fault { IfErr result (λ e. (e ≡ RunFault.Write) × AnsweredPart (streams (M.remaining reader.old)
-        (M.remaining reader.new) (W.contents writer.old) (W.contents writer.new)) session.old.state session.new.state) }
+    ensures { AtOnce M.remaining W.contents (reader.old, writer.old, session.old)
+        (reader.new, writer.new, session.new) result }
 {
-    let Some(line) = M::take_whole(reader) else {
+    let Some(line) = take_whole::<M, R, W>(reader) else {
         return Ok(false);
     };
     session.answer::<Written, T, W>(rt, line, writer)?;
@@ -228,7 +184,7 @@ fn answer_any<M: TakesLines<R, W>, N: Naming, T: Threads + Wait + Sync, R, W: Wr
 ///
 /// It stands apart, so that no value of its own is cleared before a line that is answered at once.
 #[inline(never)]
-fn answer_next<M: TakesLines<R, W>, H: Hears<W>, N: Naming, T: Threads + Wait + Sync, R, W: Write>(
+fn answer_next<M: Lane<R, W>, H: Hears<W>, N: Naming, T: Threads + Wait + Sync, R, W: Write>(
     rt: &T,
     reader: &mut R,
     writer: &mut W,
@@ -246,20 +202,31 @@ fn answer_next<M: TakesLines<R, W>, H: Hears<W>, N: Naming, T: Threads + Wait + 
     if end == LineEnd::Input && session.line().is_empty() {
         return Ok(Some(End::AllRead));
     }
-    if end == LineEnd::Newline && session.line().is_empty() {
-        return Ok(None);
-    }
+    let (reply, ended) = reply_to_line(rt, session, end, number);
+    write_answer(writer, hears, number, session.line(), reply)?;
+    Ok(ended)
+}
+
+/// What the line that was read last, of this number, is answered; and how the run ends with it, if it does.
+#[inline(always)]
+fn reply_to_line<N: Naming, T: Threads + Wait + Sync>(
+    rt: &T,
+    session: &mut Session<N>,
+    end: LineEnd,
+    number: u64,
+) -> (Option<LineReply>, Option<End>)
+    ensures { IsReplied end number session.old session.new result.0 result.1 }
+{
     let Ok(line) = line_of(session, end) else {
-        write_reply(writer, &LineReply::BadLine(number))?;
-        return Ok(Some(End::BadLine(number)));
+        return (Some(LineReply::BadLine(number)), Some(End::BadLine(number)));
     };
     let mut reply = None;
-    session.answer::<Returned, T, Option<LineReply>>(rt, line, &mut reply)?;
-    write_answer(writer, hears, number, session.line(), reply)?;
-    if end == LineEnd::Input {
-        return Ok(Some(End::AllRead));
-    }
-    Ok(None)
+    let _ = session.answer::<Returned, T, Option<LineReply>>(rt, line, &mut reply);
+    let ended = match end {
+        LineEnd::Input => Some(End::AllRead),
+        _ => None,
+    };
+    (reply, ended)
 }
 
 /// The line that was read last, if it is not too long and one of the forms.

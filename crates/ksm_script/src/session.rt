@@ -24,7 +24,8 @@ ghost use Rattle.ksm_script.specs.declared.input.TheConstants.{LONGEST_LINE as l
 ghost use Rattle.ksm_script.specs.Lookups.{Acts, AtPass, Audits};
 ghost use Rattle.ksm_script.specs.Said.{IsSaid};
 
-use crate::input::{LineBuffer, LineEnd, TakesLines};
+use crate::input::{LineBuffer, LineEnd, next_line};
+use crate::lane::Lane;
 use crate::pass_state::Act;
 use crate::passes::Passes;
 use crate::refusal::Refusal;
@@ -117,7 +118,7 @@ impl<N: Naming> Session<N> {
     }
 
     /// Reads the next line. It takes no memory.
-    pub(crate) fn read_next<M: TakesLines<R, W>, R, W: Write>(
+    pub(crate) fn read_next<M: Lane<R, W>, R, W: Write>(
         &mut self,
         reader: &mut R,
         writer: &mut W,
@@ -132,7 +133,7 @@ impl<N: Naming> Session<N> {
         ensures kept { Keeps (W.contents writer.old) (W.contents writer.new) }
         ensures waited { result ≡ Ok LineEnd.Input → M.is_sent writer.new }
     {
-        M::next_line(reader, writer, &mut self.line)
+        next_line::<M, R, W>(reader, writer, &mut self.line)
     }
 
     /// The bytes of the line that was read last, without its newline: of one that is too long, one byte more than a
@@ -154,8 +155,7 @@ impl<N: Naming> Session<N> {
         line: ShortLine,
         to: &mut S,
     ) -> Result<(), RunFault>
-        ensures answers { IsSaid P.takes
-            (λ reply. Answers (short_form line) self.old.state reply self.new.state) to.old to.new result }
+        ensures answers { IsSaid P.takes (Answers (short_form line)) self.old self.new to.old to.new result }
     {
         match line {
             ShortLine::Get { page } => self.tell_content::<P, R, S>(rt, page, to),
@@ -175,8 +175,7 @@ impl<N: Naming> Session<N> {
         page: GuestPage,
         to: &mut S,
     ) -> Result<(), RunFault>
-        ensures answers { IsSaid P.takes
-            (λ reply. Answers (get_line page) self.old.state reply self.new.state) to.old to.new result }
+        ensures answers { IsSaid P.takes (Answers (get_line page)) self.old self.new to.old to.new result }
     {
         match self.ksm.read(rt, &mut self.share, page) {
             None => P::reply(to, LineReply::Refused(Refusal::Book(Fault::UnknownPage))),
@@ -191,8 +190,7 @@ impl<N: Naming> Session<N> {
         page: GuestPage,
         to: &mut S,
     ) -> Result<(), RunFault>
-        ensures answers { IsSaid P.takes
-            (λ reply. Answers (ticket_line page) self.old.state reply self.new.state) to.old to.new result }
+        ensures answers { IsSaid P.takes (Answers (ticket_line page)) self.old self.new to.old to.new result }
     {
         // A page that is merged has a row, so the lock is taken once for it.
         match self.ksm.ticket(rt, &mut self.share, page) {
@@ -208,24 +206,21 @@ impl<N: Naming> Session<N> {
         place: u32,
         to: &mut S,
     ) -> Result<(), RunFault>
-        ensures answers { IsSaid P.takes
-            (λ reply. Answers (find_line pass place) self.old.state reply self.new.state) to.old to.new result }
+        ensures answers { IsSaid P.takes (Answers (find_line pass place)) self.old self.new to.old to.new result }
     {
         P::reply(to, self.act(pass, Act::Find { place }))
     }
 
     #[inline(never)]
     fn tell_held<P: Replies<S>, S>(&mut self, pass: u32, to: &mut S) -> Result<(), RunFault>
-        ensures answers { IsSaid P.takes
-            (λ reply. Answers (look_line pass) self.old.state reply self.new.state) to.old to.new result }
+        ensures answers { IsSaid P.takes (Answers (look_line pass)) self.old self.new to.old to.new result }
     {
         P::reply(to, self.act(pass, Act::Look))
     }
 
     #[inline(never)]
     fn tell_left<P: Replies<S>, S>(&mut self, pass: u32, to: &mut S) -> Result<(), RunFault>
-        ensures answers { IsSaid P.takes
-            (λ reply. Answers (leave_line pass) self.old.state reply self.new.state) to.old to.new result }
+        ensures answers { IsSaid P.takes (Answers (leave_line pass)) self.old self.new to.old to.new result }
     {
         P::reply(to, self.act(pass, Act::Leave))
     }
@@ -237,8 +232,7 @@ impl<N: Naming> Session<N> {
         visits: u32,
         to: &mut S,
     ) -> Result<(), RunFault>
-        ensures answers { IsSaid P.takes
-            (λ reply. Answers (scan_line visits) self.old.state reply self.new.state) to.old to.new result }
+        ensures answers { IsSaid P.takes (Answers (scan_line visits)) self.old self.new to.old to.new result }
     {
         self.tell_made::<P, R, S>(rt, scan_of(visits), to)
     }
@@ -249,8 +243,7 @@ impl<N: Naming> Session<N> {
         rt: &R,
         to: &mut S,
     ) -> Result<(), RunFault>
-        ensures answers { IsSaid P.takes
-            (λ reply. Answers stat_line self.old.state reply self.new.state) to.old to.new result }
+        ensures answers { IsSaid P.takes (Answers stat_line) self.old self.new to.old to.new result }
     {
         P::reply(to, self.counters(rt))
     }
@@ -264,8 +257,7 @@ impl<N: Naming> Session<N> {
         bytes: PageBytes,
         to: &mut S,
     ) -> Result<(), RunFault>
-        ensures answers { IsSaid P.takes
-            (λ reply. Answers (page_form line bytes) self.old.state reply self.new.state) to.old to.new result }
+        ensures answers { IsSaid P.takes (Answers (page_form line bytes)) self.old self.new to.old to.new result }
     {
         match line {
             PageLine::Store { page } => {
@@ -288,8 +280,7 @@ impl<N: Naming> Session<N> {
         act: Act,
         to: &mut S,
     ) -> Result<(), RunFault>
-        ensures answers { IsSaid P.takes
-            (λ reply. OnPasses (AtPass pass (Acts act)) self.old.state reply self.new.state) to.old to.new result }
+        ensures answers { IsSaid P.takes (OnPasses (AtPass pass (Acts act))) self.old self.new to.old to.new result }
     {
         P::reply(to, self.act(pass, act))
     }
@@ -301,8 +292,7 @@ impl<N: Naming> Session<N> {
         line: Line,
         to: &mut S,
     ) -> Result<(), RunFault>
-        ensures answers { IsSaid P.takes
-            (λ reply. Answers line self.old.state reply self.new.state) to.old to.new result }
+        ensures answers { IsSaid P.takes (Answers line) self.old self.new to.old to.new result }
     {
         let command = match line {
             Line::Empty => return Ok(()),
@@ -329,8 +319,7 @@ impl<N: Naming> Session<N> {
         to: &mut S,
     ) -> Result<(), RunFault>
         requires told { IsTold line }
-        ensures answers { IsSaid P.takes
-            (λ reply. Answers line self.old.state reply self.new.state) to.old to.new result }
+        ensures answers { IsSaid P.takes (Answers line) self.old self.new to.old to.new result }
     {
         match line {
             Line::Get { page } => self.tell_content::<P, R, S>(rt, page, to),
@@ -376,8 +365,7 @@ impl<N: Naming> Session<N> {
         rt: &R,
         to: &mut S,
     ) -> Result<(), RunFault>
-        ensures answers { IsSaid P.takes
-            (λ reply. Answers scan_pages_line self.old.state reply self.new.state) to.old to.new result }
+        ensures answers { IsSaid P.takes (Answers scan_pages_line) self.old self.new to.old to.new result }
     {
         let knobs = self.ksm.knobs(rt, &mut self.share);
         self.tell_made::<P, R, S>(rt, scan_of(knobs.pages_to_scan), to)
@@ -426,8 +414,7 @@ impl<N: Naming> Session<N> {
         command: Command,
         to: &mut S,
     ) -> Result<(), RunFault>
-        ensures answers { IsSaid P.takes
-            (λ reply. Commands command self.old.state reply self.new.state) to.old to.new result }
+        ensures answers { IsSaid P.takes (Commands command) self.old self.new to.old to.new result }
     {
         let answer = self.apply(rt, command);
         if let Ok(Reply::Done) = answer {

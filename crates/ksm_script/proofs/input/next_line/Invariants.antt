@@ -1,7 +1,9 @@
 use Rattle.std.proofs.Common.{◌≤◌, length}
-use Rattle.std.specs.Io.KnownBytes.{Consumes}
+use Rattle.std.specs.Io.KnownBytes.{Consumes, Keeps}
 use Rattle.ksm_script.specs.Input.{IsPlain}
 use Rattle.ksm_script.proofs.input.next_line.Given as goal
 
-abbrev pub invariant-bytes : goal.invariant-bytes
-invariant-bytes g l = IsPlain l.line × (length l.line ≤ 256) × Consumes (g.R.Read.remaining l.fn.reader) (g.R.Read.remaining l.reader) l.line
+abbrev pub invariant-turns : goal.invariant-turns
+invariant-turns g l =
+    IsPlain l.line × (length l.line ≤ 256) × Consumes (g.M.Lane.remaining l.fn.reader) (g.M.Lane.remaining l.reader) l.line
+    × (l.turn ≤ length l.line) × Keeps (g.W.Write.contents l.fn.writer) (g.W.Write.contents l.writer)

@@ -1,6 +1,6 @@
 use Rattle.std.proofs.Common.{◌≡◌, refl}
 use Rattle.ksm_script.specs.Replies.{counters_text}
-use Rattle.ksm_script.proofs.Parts.{whole_is, part_is}
+use Rattle.ksm_script.proofs.Parts.{text_is}
 use Rattle.ksm_script.proofs.reply.write_counters.Goals as goal
 
 pub returns : goal.returns
@@ -19,7 +19,4 @@ returns g c =
       c.new-text.ensures,
     )
     refl in
-    record {
-      whole = whole_is c.write_text.result _ _ _ _ text c.write_text.ensures.whole;
-      fault = part_is c.write_text.result _ _ _ _ text c.write_text.ensures.fault;
-    }
+    text_is c.write_text.result _ _ _ _ text c.write_text.ensures

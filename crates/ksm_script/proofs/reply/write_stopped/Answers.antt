@@ -1,10 +1,10 @@
 use Rattle.std.proofs.Common.{◌≡◌, refl}
 use Rattle.ksm_script.specs.Replies.{stopped_text}
-use Rattle.ksm_script.proofs.Parts.{part_is}
+use Rattle.ksm_script.proofs.Parts.{text_is}
 use Rattle.ksm_script.proofs.reply.write_stopped.Goals as goal
 
-pub returns-clause-fault : goal.returns-clause-fault
-returns-clause-fault g c =
+pub returns : goal.returns
+returns g c =
     let text : c.as_slice.result.now ≡ stopped_text c.args.name.now c.args.count c.args.stop =
     rw (
       c.in-Some.is,
@@ -18,4 +18,4 @@ returns-clause-fault g c =
       c.number.ensures,
     )
     refl in
-    part_is c.write_text.result _ _ _ _ text c.write_text.ensures.fault
+    text_is c.write_text.result _ _ _ _ text c.write_text.ensures

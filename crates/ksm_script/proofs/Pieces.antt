@@ -1,10 +1,12 @@
 -- What a reader's buffer has of a line.
-use Rattle.std.proofs.Common.{◌≡◌, ◌≢◌, ◌==◌, ℕ, ◌+◌, ◌<◌, ◌≤◌, Bool, true, false, cond, List, [], ◌∷◌, ◌++◌, Option, None, Some, length, take, drop, get_or, refl, sym, subst, ap, ◌∙◌, arith, zero-le, append_assoc, length-append, take-append-drop, take-take}
-use Rattle.std.proofs.Transfers.{drop-appended}
+use Rattle.std.proofs.Common.{◌≡◌, ◌≢◌, ◌==◌, ℕ, ◌+◌, ◌-◌, ◌<◌, ◌≤◌, Bool, true, false, cond, List, [], ◌∷◌, ◌++◌, Option, None, Some, Result, Ok, length, take, get_or, refl, sym, subst, ap, ◌∙◌, arith, zero-le, append_assoc, length-append, take-take}
+use lib.Seq.{take-append_seam}
 use Rattle.std.specs.Prelude.{if◌then◌else◌, IsTrue, ◌↔◌}
 use Rattle.std.specs.Bool.{then_some}
 use Rattle.ksm_script.specs.declared.input.LineEnd.TheVariants.{TooLong}
-use Rattle.ksm_script.specs.Takes.{Extends, Takes}
+use Rattle.ksm_lines.specs.declared.line.Line.{Line}
+use Rattle.ksm_lines.specs.Leading.{BeginsWith}
+use Rattle.ksm_script.specs.Takes.{Extends, Takes, TakesForm}
 use Rattle.std.specs.Io.KnownBytes.{Consumes, prepend_known}
 use Rattle.std.proofs.lemmas.Bool.{eq-eqb, eqb-true}
 use Rattle.std.proofs.lemmas.List.{take_more, get_or-take, get_or_default, length-take, take_min}
@@ -12,6 +14,7 @@ use Rattle.std.proofs.lemmas.List.Elements.{All-append}
 use Rattle.memchr.specs.Find.{Nowhere, Passes, is_byte}
 use Rattle.ksm_script.specs.Input.{EndsAs, IsPlain}
 use Rattle.ksm_script.specs.declared.input.LineEnd.{LineEnd}
+use Rattle.ksm_script.specs.declared.script.RunFault.{RunFault}
 use Rattle.std.proofs.KnownBytes.{Consumes-trans}
 
 -- bytes that are taken from a buffer are read; with no capacity nothing is known
@@ -26,12 +29,10 @@ taken_from n m a b buffer rest bytes room same split = rw (room, same) (go (n ==
 
 -- a buffer up to the first newline of its beginning
 pub up_to_newline : (buffer : List ℕ) (n at : ℕ) → at < length (take n buffer) → is_byte 10 (get_or (take n buffer) at 0) ≡ true
-    → buffer ≡ (take at (take n buffer) ++ 10 ∷ []) ++ drop (at + 1) buffer
+    → take (at + 1) buffer ≡ take at (take n buffer) ++ 10 ∷ []
 up_to_newline buffer n at lt found =
     let shorter : at + 1 ≤ n = omega (arith, length-take n buffer) in
-    let more : take (at + 1) buffer ≡ take at (take n buffer) ++ 10 ∷ [] =
-    sym (take-take (at + 1) n buffer shorter) ∙ take_more (take n buffer) at 0 lt ∙ ap (λ x. take at (take n buffer) ++ x ∷ []) (eqb-true _ _ found) in
-    sym (take-append-drop (at + 1) buffer) ∙ ap (λ l. l ++ drop (at + 1) buffer) more
+    sym (take-take (at + 1) n buffer shorter) ∙ take_more (take n buffer) at 0 lt ∙ ap (λ x. take at (take n buffer) ++ x ∷ []) (eqb-true _ _ found)
 
 -- a beginning in which no newline was found
 pub is_plain_before : (block : List ℕ) (at : ℕ) → at ≤ length block → Nowhere (Passes (is_byte 10) block) 0 at → IsPlain (take at block)
@@ -44,10 +45,8 @@ pub is_plain_block : (block : List ℕ) → Nowhere (Passes (is_byte 10) block) 
 is_plain_block block none = λ k d lt is. none k zero-le lt (eq-eqb _ _ (get_or_default block k 0 d lt ∙ is))
 
 -- a buffer up to the end of its beginning
-pub up_to_end : (buffer : List ℕ) (n : ℕ) → buffer ≡ take n buffer ++ drop (length (take n buffer)) buffer
-up_to_end buffer n =
-    let same : take (length (take n buffer)) buffer ≡ take n buffer = ap (λ k. take k buffer) (length-take n buffer) ∙ take_min n buffer in
-    sym (take-append-drop (length (take n buffer)) buffer) ∙ ap (λ l. l ++ drop (length (take n buffer)) buffer) same
+pub up_to_end : (buffer : List ℕ) (n : ℕ) → take (length (take n buffer)) buffer ≡ take n buffer
+up_to_end buffer n = ap (λ k. take k buffer) (length-take n buffer) ∙ take_min n buffer
 
 -- two plain pieces of a line are one
 pub plain_with : (line part : List ℕ) → IsPlain line → IsPlain part → IsPlain (line ++ part)
@@ -63,15 +62,25 @@ extends_so false before line part is full room = (is, less (λ e. let h = full.1
     less other = omega (arith, other)
 
 -- a buffer whose beginning is a line, its newline and a rest, up to that newline
-pub up_to_line : (buffer line rest : List ℕ) (n : ℕ) → take n buffer ≡ line ++ 10 ∷ rest → buffer ≡ (line ++ 10 ∷ []) ++ drop (length line + 1) buffer
+up_to_line : (buffer line rest : List ℕ) (n : ℕ) → take n buffer ≡ line ++ 10 ∷ rest → take (length line + 1) buffer ≡ line ++ 10 ∷ []
 up_to_line buffer line rest n is =
-    let whole : buffer ≡ (line ++ 10 ∷ []) ++ (rest ++ drop n buffer) =
-    sym (take-append-drop n buffer) ∙ ap (λ l. l ++ drop n buffer) (is ∙ sym (append_assoc line (10 ∷ []) rest)) ∙ append_assoc (line ++ 10 ∷ []) rest (drop n buffer) in
-    whole ∙ ap (λ l. (line ++ 10 ∷ []) ++ l) (sym (ap (drop (length line + 1)) whole ∙ behind line (rest ++ drop n buffer)))
-  where
-    behind : (line rest : List ℕ) → drop (length line + 1) ((line ++ 10 ∷ []) ++ rest) ≡ rest
-    behind line rest =
-        ap (λ n. drop n ((line ++ 10 ∷ []) ++ rest)) (sym (length-append line (10 ∷ []))) ∙ drop-appended (line ++ 10 ∷ []) ((line ++ 10 ∷ []) ++ rest) rest refl
+    let front = line ++ 10 ∷ [] in
+    let long = length-append line (10 ∷ []) in
+    let all = length-append line (10 ∷ rest) in
+    let shorter : length line + 1 ≤ n = omega (arith, length-take n buffer, ap length is, all) in
+    sym (take-take (length line + 1) n buffer shorter) ∙ ap (take (length line + 1)) (is ∙ sym (append_assoc line (10 ∷ []) rest))
+    ∙ ap (λ k. take k (front ++ rest)) (sym long) ∙ take-append_seam front rest
+
+-- the line that a buffer begins with is taken, with its newline
+pub form_taken : (form : Line) (old new : Option (List ℕ)) (buffer near rest : List ℕ) (n : ℕ) → buffer ≡ near → BeginsWith form (take n buffer) rest → n ≤ 257
+    → Consumes old new (take (length (take n buffer) - length rest) near) → TakesForm form old new
+form_taken form old new buffer near rest n same begins room consumed =
+    let line = begins.0 in
+    let is = begins.3 in
+    let long = length-append line (10 ∷ rest) in
+    let size : length (take n buffer) - length rest ≡ length line + 1 = omega (arith, ap length is, long) in
+    let short : length line ≤ 256 = omega (arith, ap length is, long, length-take n buffer) in
+    (line, begins.1, begins.2, short, subst (Consumes old new) (ap (take (length (take n buffer) - length rest)) (sym same) ∙ ap (λ k. take k buffer) size ∙ up_to_line buffer line rest n is) consumed)
 
 -- a line goes on by what is taken of it
 pub goes_on : (a b c : Option (List ℕ)) (before line : List ℕ) (told : Option LineEnd) → told ≡ None → Consumes a b before → Takes told before line b c
@@ -85,3 +94,15 @@ pub ends_so : (a b c : Option (List ℕ)) (before line : List ℕ) (told : Optio
     → Takes told before line b c → (bytes : List ℕ) × EndsAs end line bytes × Consumes a c bytes
 ends_so a b c before line told end is p q =
     let h : Takes (Some end) before line b c = subst (λ t. Takes t before line b c) is q in (before ++ h.0, h.1, Consumes-trans a b c _ _ p h.2)
+
+abbrev told : Option LineEnd → Result (Option LineEnd) RunFault
+told end = Ok end
+
+told_is : (end : Option LineEnd) → told end ≡ told None → end ≡ None
+told_is end e = cc
+
+-- a line that goes on by some bytes grows
+pub grows : (before line bytes : List ℕ) (end : Option LineEnd) → told end ≡ told None → Extends end before line bytes → 0 < length bytes → length before < length line
+grows before line bytes end is more some =
+    let h : Extends None before line bytes = subst (λ t. Extends t before line bytes) (told_is end is) more in
+    omega (arith, some, ap length h.0, length-append before bytes)

@@ -1,0 +1,10 @@
+use Rattle.std.proofs.Common.{◌++◌, take, take-append-drop, sym, ap, ◌∙◌}
+use Rattle.std.specs.Io.Buffered.{reader_buffer}
+use Rattle.ksm_script.proofs.Pieces.{taken_from}
+use Rattle.ksm_script.proofs.lane.BlocksLaneBufReaderBufWriter.consume.Goals as goal
+
+pub returns : goal.returns
+returns g c =
+    let buffer = reader_buffer c.args.reader.now in
+    let split = sym (take-append-drop c.args.count buffer) ∙ ap (λ l. take c.args.count buffer ++ l) (sym c.consume.ensures.buffer) in
+    taken_from _ _ _ _ _ _ _ c.consume.ensures.capacity (ap g.R.Read.remaining c.consume.ensures.inner) split

@@ -1,0 +1,111 @@
+//! Where a run has its lines from, and where its replies go.
+ghost use Rattle.std.specs.Prelude.{◌≡◌, ◌≤◌, ⊤, [], ℕ, List, Option, length, take, IfOk, IfErr, IfNone, OnOk};
+ghost use Rattle.std.specs.Prelude.{option_to_list};
+ghost use Rattle.std.specs.Io.Buffered.{reader_buffer, reader_remaining, writer_buffer};
+ghost use Rattle.std.specs.Io.KnownBytes.{Consumes, Keeps, IsAtEnd};
+
+use crate::script::RunFault;
+use std::io::{BufRead, BufReader, BufWriter, Read, Write};
+
+/// How a run takes bytes from a reader, while a writer has the replies. Only [`Lane::wait`] may wait for the reader, and
+/// it has to be shown a writer that has nothing unsent.
+pub trait Lane<R, W: Write> {
+    /// The bytes that the reader still gives, where they are known.
+    ghost remaining: { R → Option (List ℕ) };
+
+    /// The bytes that can be taken at once.
+    ghost near: { R → List ℕ };
+
+    /// All that the writer was given is sent.
+    ghost is_sent: { W → Type 0 };
+
+    /// The bytes that can be taken at once.
+    fn at_hand(reader: &R) -> &[u8]
+        ensures { result.now ≡ near reader.now };
+
+    /// Takes so many of them.
+    fn consume(reader: &mut R, count: usize)
+        requires { count ≤ length (near reader.old) }
+        ensures { Consumes (remaining reader.old) (remaining reader.new) (take count (near reader.old)) };
+
+    /// Sends all that the writer was given. Where that fails, nothing more can be read, so it is a failed read.
+    fn send(writer: &mut W) -> Result<(), RunFault>
+        ensures kept { Keeps (W.contents writer.old) (W.contents writer.new) }
+        ensures sent { OnOk result (is_sent writer.new) }
+        ensures fault { IfErr result (λ e. e ≡ RunFault.Read) };
+
+    /// Waits for the next byte, and takes it; none at the end of the input.
+    fn wait(reader: &mut R, writer: &W) -> Result<Option<u8>, RunFault>
+        requires sent { is_sent writer.now }
+        ensures read { IfOk result (λ r. Consumes (remaining reader.old) (remaining reader.new) (option_to_list r)) }
+        ensures end { IfOk result (λ r. IfNone r (IsAtEnd (remaining reader.new))) }
+        ensures fault { IfErr result (λ e. (e ≡ RunFault.Read) × Keeps (remaining reader.old) (remaining reader.new)) };
+}
+
+/// Reads one byte; none at the end of the input.
+fn next_byte<R: Read>(reader: &mut R) -> Result<Option<u8>, RunFault>
+    ensures read { IfOk result (λ r. Consumes (R.remaining reader.old) (R.remaining reader.new) (option_to_list r)) }
+    ensures end { IfOk result (λ r. IfNone r (IsAtEnd (R.remaining reader.new))) }
+    ensures fault { IfErr result (λ e. (e ≡ RunFault.Read) × Keeps (R.remaining reader.old) (R.remaining reader.new)) }
+{
+    let mut buffer = [0u8; 1];
+    match reader.read(&mut buffer) {
+        Ok(0) => Ok(None),
+        Ok(_) => Ok(Some(buffer[0])),
+        Err(_) => Err(RunFault::Read),
+    }
+}
+
+/// Byte by byte, from any reader, and nothing is sent: so what the run does not want is left in the reader.
+pub(crate) struct Bytes;
+
+impl<R: Read, W: Write> Lane<R, W> for Bytes {
+    ghost remaining = { R.remaining };
+
+    ghost near = { λ _. [] };
+
+    ghost is_sent = { λ _. ⊤ };
+
+    fn at_hand(_reader: &R) -> &[u8] {
+        &[]
+    }
+
+    fn consume(_reader: &mut R, _count: usize) {}
+
+    fn send(_writer: &mut W) -> Result<(), RunFault> {
+        Ok(())
+    }
+
+    fn wait(reader: &mut R, _writer: &W) -> Result<Option<u8>, RunFault> {
+        next_byte(reader)
+    }
+}
+
+/// Out of a reader's buffer, a whole line where it lies there; and out of a writer's, before the reader waits.
+pub struct Blocks;
+
+impl<R: Read, W: Write + Drop> Lane<BufReader<R>, BufWriter<W>> for Blocks {
+    ghost remaining = { reader_remaining R.remaining };
+
+    ghost near = { reader_buffer };
+
+    ghost is_sent = { λ writer. writer_buffer writer ≡ [] };
+
+    #[inline(always)]
+    fn at_hand(reader: &BufReader<R>) -> &[u8] {
+        reader.buffer()
+    }
+
+    #[inline(always)]
+    fn consume(reader: &mut BufReader<R>, count: usize) {
+        reader.consume(count);
+    }
+
+    fn send(writer: &mut BufWriter<W>) -> Result<(), RunFault> {
+        writer.flush().map_err(|_| RunFault::Read)
+    }
+
+    fn wait(reader: &mut BufReader<R>, _writer: &BufWriter<W>) -> Result<Option<u8>, RunFault> {
+        next_byte(reader)
+    }
+}
