@@ -224,7 +224,7 @@ newline_open TooLong is = absurd cc
 -- a line of no bytes is carried out with no reply
 pub nothing_done : (state : ScriptState) (line : List ℕ) (end : LineEnd) → end ≢ TooLong → length line ≡ 0 → IsDone state state line end Empty None
 nothing_done state line end short nil =
-    record { short = short; written = subst (λ l. Writes Empty l) (sym (empty_of line nil)) (refl, tt); answers = (refl, refl) }
+    record { short = short; written = subst (λ l. Writes Empty l) (sym (empty_of line nil)) (tt, refl, tt); answers = (refl, refl) }
 
 module _ (first now later : Option (List ℕ)) (begun written : Option (List ℕ)) (from state : ScriptState) (number : ℕ) (line : List ℕ) (end : LineEnd)
     (so : IsSoFar first now begun written from state number) (read : IsRead now later line end) where
