@@ -1,3 +1,1 @@
-pub mod Spaces
-pub mod Parts
 pub mod Exact

@@ -1,4 +1,3 @@
-pub mod Forms
 pub mod Refusals
 pub mod Troubles
 pub mod Sentences

@@ -6,10 +6,9 @@ use Rattle.std.specs.Str.{is_utf8}
 use Rattle.std.specs.List.{concat}
 use Rattle.ksm_base.specs.declared.page.TheConstants.{PAGE_WORDS}
 use Rattle.ksm_lines.specs.Grammar.{words_of}
-use Rattle.ksm_causes.specs.declared.part.Number as numbers
-use Rattle.ksm_causes.specs.declared.part.Number.TheVariants.{Guest, Page, Node, Place, Pass, Visits, Value}
-use Rattle.ksm_causes.specs.declared.part.Part.{Part}
-use Rattle.ksm_causes.specs.declared.part.Part.TheVariants.{Number, Content, Knob, Shown}
+use Rattle.ksm_lines.specs.declared.part.Part.{Part}
+use Rattle.ksm_lines.specs.declared.part.Part.TheVariants.{Guest, Page, Node, Place, Pass, Visits, Value}
+use Rattle.ksm_lines.specs.declared.part.Part.TheVariants.{Content, Knob, Shown}
 use Rattle.ksm_causes.specs.declared.cause.Cause.{Cause}
 use Rattle.ksm_causes.specs.declared.cause.Cause.TheVariants.{LongLine, SpaceBefore, TwoSpaces, SpaceAfter, Tab}
 use Rattle.ksm_causes.specs.declared.cause.Cause.TheVariants.{CarriageReturn, OtherByte, Comment, Capital, UnknownName}
@@ -17,22 +16,23 @@ use Rattle.ksm_causes.specs.declared.cause.Cause.TheVariants.{Missing, OneWordMo
 use Rattle.ksm_causes.specs.declared.cause.Cause.TheVariants.{TooLarge, NotHexadecimal, ContentLength, UnknownKnob}
 use Rattle.ksm_causes.specs.declared.cause.Cause.TheVariants.{UnknownShown, CounterSet}
 use Rattle.ksm_causes.specs.declared.cause.Trouble.{Trouble}
-use Rattle.ksm_causes.specs.Troubles.{most}
-
-abbrev pub number_noun : numbers.Number → List ℕ
-number_noun Guest = codes "guest"
-number_noun Page = codes "page"
-number_noun Node = codes "node"
-number_noun Place = codes "place"
-number_noun Pass = codes "pass"
-number_noun Visits = codes "number of visits"
-number_noun Value = codes "value"
 
 abbrev pub part_noun : Part → List ℕ
-part_noun (Number kind) = number_noun kind
+part_noun Guest = codes "guest"
+part_noun Page = codes "page"
+part_noun Node = codes "node"
+part_noun Place = codes "place"
+part_noun Pass = codes "pass"
+part_noun Visits = codes "number of visits"
+part_noun Value = codes "value"
 part_noun Content = codes "content"
 part_noun Knob = codes "knob"
 part_noun Shown = codes "knob"
+
+-- the largest number that may stand for a guest, a page and so on
+abbrev pub most : Part → ℕ
+most Guest = 65535
+most _ = 4294967295
 
 abbrev pub sentence_of : Cause → List ℕ
 sentence_of LongLine = codes "the line is longer than 256 bytes"
@@ -49,8 +49,8 @@ sentence_of (Missing part) = concat (codes "the " ∷ part_noun part ∷ codes "
 sentence_of OneWordMore = codes "a word more than the line has"
 sentence_of Sign = codes "a number with a sign"
 sentence_of LeadingZero = codes "a number with a leading zero"
-sentence_of (NotANumber kind) = concat (codes "a " ∷ number_noun kind ∷ codes " that is not a decimal number" ∷ [])
-sentence_of (TooLarge kind) = concat (codes "a " ∷ number_noun kind ∷ codes " above " ∷ decimal (most kind) ∷ [])
+sentence_of (NotANumber part) = concat (codes "a " ∷ part_noun part ∷ codes " that is not a decimal number" ∷ [])
+sentence_of (TooLarge part) = concat (codes "a " ∷ part_noun part ∷ codes " above " ∷ decimal (most part) ∷ [])
 sentence_of NotHexadecimal = codes "a byte of the content that is not a hexadecimal digit"
 sentence_of ContentLength = concat (codes "content of neither 2 digits nor " ∷ decimal (16 * PAGE_WORDS) ∷ [])
 sentence_of UnknownKnob = codes "no knob has this name"
@@ -81,18 +81,15 @@ hexadecimal byte = concat (codes "0x" ∷ (digit_glyph false (byte / 16) ∷ dig
 abbrev pub quote_of : Cause → List ℕ → List ℕ
 quote_of OtherByte rest = concat (codes ": " ∷ hexadecimal (slice_index rest 0) ∷ [])
 quote_of NotHexadecimal rest = concat (codes ": " ∷ text_in (take 1 rest) ∷ [])
-quote_of Capital rest = quoted_word rest
-quote_of UnknownName rest = quoted_word rest
-quote_of OneWordMore rest = quoted_word rest
-quote_of Sign rest = quoted_word rest
-quote_of LeadingZero rest = quoted_word rest
-quote_of (NotANumber kind) rest = quoted_word rest
-quote_of (TooLarge kind) rest = quoted_word rest
-quote_of ContentLength rest = quoted_word rest
-quote_of UnknownKnob rest = quoted_word rest
-quote_of UnknownShown rest = quoted_word rest
-quote_of CounterSet rest = quoted_word rest
-quote_of _ rest = []
+quote_of LongLine rest = []
+quote_of SpaceBefore rest = []
+quote_of TwoSpaces rest = []
+quote_of SpaceAfter rest = []
+quote_of Tab rest = []
+quote_of CarriageReturn rest = []
+quote_of Comment rest = []
+quote_of (Missing part) rest = []
+quote_of _ rest = quoted_word rest
 
 -- what is said of the bad line of a number
 abbrev pub bad_line_text : ℕ → List ℕ → Trouble → List ℕ

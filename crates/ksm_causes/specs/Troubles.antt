@@ -1,17 +1,14 @@
 -- Why a line is bad: of its words, read from left to right, the first that can't stand there (own).
-use Rattle.std.specs.Prelude.{ℕ, ◌+◌, Bool, true, false, not, ◌&&◌, ◌||◌, ◌==◌, nat_lt, nat_le, List, [], ◌∷◌, length}
-use Rattle.std.specs.Prelude.{drop, Option, Some, None, option_map, position, slice_index, if◌then◌else◌}
-use Rattle.std.specs.Char.{is_ascii_digit, is_ascii_graphic, is_ascii_hexdigit}
+use Rattle.std.specs.Prelude.{ℕ, ◌+◌, ◌≤◌, Bool, not, ◌&&◌, ◌||◌, ◌==◌, nat_lt, List, [], ◌∷◌, length}
+use Rattle.std.specs.Prelude.{drop, Option, Some, None, option_map, map, position, slice_index, if◌then◌else◌}
+use Rattle.std.specs.Char.{is_ascii_digit, is_ascii_graphic, is_ascii_hexdigit, to_ascii_lowercase}
 use Rattle.std.specs.List.{list_all}
 use Rattle.std.specs.Option.{is_some, option_or}
-use Rattle.ksm_lines.specs.Content.{content_of}
-use Rattle.ksm_lines.specs.Forms.{line_at}
-use Rattle.ksm_lines.specs.Grammar.{words_of}
-use Rattle.ksm_lines.specs.Reading.{number_of, knob_of, shown_of}
-use Rattle.ksm_causes.specs.declared.part.Number as numbers
-use Rattle.ksm_causes.specs.declared.part.Number.TheVariants.{Guest, Visits}
-use Rattle.ksm_causes.specs.declared.part.Part.{Part}
-use Rattle.ksm_causes.specs.declared.part.Part.TheVariants.{Number, Content, Knob, Shown}
+use Rattle.ksm_lines.specs.declared.line.Line.{Line}
+use Rattle.ksm_lines.specs.declared.part.Part.{Part}
+use Rattle.ksm_lines.specs.declared.part.Part.TheVariants.{Visits, Content, Knob, Shown}
+use Rattle.ksm_lines.specs.Grammar.{Writes, kind_of, words_of}
+use Rattle.ksm_lines.specs.Reading.{ended, line_at, parts_in, read}
 use Rattle.ksm_causes.specs.declared.cause.Cause.{Cause}
 use Rattle.ksm_causes.specs.declared.cause.Cause.TheVariants.{LongLine, SpaceBefore, TwoSpaces, SpaceAfter, Tab}
 use Rattle.ksm_causes.specs.declared.cause.Cause.TheVariants.{CarriageReturn, OtherByte, Comment, Capital, UnknownName}
@@ -19,7 +16,10 @@ use Rattle.ksm_causes.specs.declared.cause.Cause.TheVariants.{Missing, OneWordMo
 use Rattle.ksm_causes.specs.declared.cause.Cause.TheVariants.{TooLarge, NotHexadecimal, ContentLength, UnknownKnob}
 use Rattle.ksm_causes.specs.declared.cause.Cause.TheVariants.{UnknownShown, CounterSet}
 use Rattle.ksm_causes.specs.declared.cause.Trouble.{Trouble}
-use Rattle.ksm_causes.specs.Forms.{forms, parts_in, is_name, lowered}
+
+-- a line of the language: it has at most 256 bytes, and they write one of its forms
+abbrev pub IsGood : List ℕ → Type 0
+IsGood line = (length line ≤ 256) × (form : Line) × Writes form line
 
 abbrev pub at : ℕ → Cause → Trouble
 at column cause = record { column = column; cause = cause }
@@ -35,21 +35,9 @@ strange_trouble column word =
     option_map (λ i. at (column + i) (strange_cause (slice_index word i)))
     (position (λ byte. not (is_ascii_graphic byte)) word)
 
--- the largest number that may stand for a guest, a page and so on
-abbrev pub most : numbers.Number → ℕ
-most Guest = 65535
-most _ = 4294967295
-
-abbrev pub is_within : ℕ → Option ℕ → Bool
-is_within most None = false
-is_within most (Some n) = nat_le n most
-
 -- the language reads the word as this part
 abbrev pub is_read : Part → List ℕ → Bool
-is_read (Number number) word = is_within (most number) (number_of word)
-is_read Content word = is_some (content_of word)
-is_read Knob word = is_some (knob_of word)
-is_read Shown word = is_some (shown_of word)
+is_read part word = is_some (read (kind_of part) word)
 
 abbrev pub are_digits : List ℕ → Bool
 are_digits word = list_all is_ascii_digit word && nat_lt 0 (length word)
@@ -61,33 +49,36 @@ abbrev pub has_leading_zero : List ℕ → Bool
 has_leading_zero word = slice_index word 0 == 48 && nat_lt 1 (length word)
 
 -- Why a word that is not read is none: what it is not, then its form, then its range.
-abbrev pub number_cause : numbers.Number → List ℕ → Cause
-number_cause number word =
+abbrev pub number_cause : Part → List ℕ → Cause
+number_cause part word =
     if is_signed word then Sign
-    else if not (are_digits word) then NotANumber number
+    else if not (are_digits word) then NotANumber part
     else if has_leading_zero word then LeadingZero
-    else TooLarge number
+    else TooLarge part
 
 -- the first byte that is no digit, or else the length
 abbrev pub content_trouble : ℕ → Option ℕ → Trouble
 content_trouble column None = at column ContentLength
 content_trouble column (Some i) = at (column + i) NotHexadecimal
 
+abbrev pub lowered : List ℕ → List ℕ
+lowered word = map to_ascii_lowercase word
+
 abbrev pub knob_cause : List ℕ → Cause
 knob_cause word =
-    if is_some (shown_of word) then CounterSet
-    else if is_some (knob_of (lowered word)) then Capital
+    if is_read Shown word then CounterSet
+    else if is_read Knob (lowered word) then Capital
     else UnknownKnob
 
 abbrev pub shown_cause : List ℕ → Cause
-shown_cause word = if is_some (shown_of (lowered word)) then Capital else UnknownShown
+shown_cause word = if is_read Shown (lowered word) then Capital else UnknownShown
 
 -- why a word of printable bytes that is not read as this part is none
 abbrev pub part_trouble : Part → ℕ → List ℕ → Trouble
-part_trouble (Number number) column word = at column (number_cause number word)
 part_trouble Content column word = content_trouble column (position (λ byte. not (is_ascii_hexdigit byte)) word)
 part_trouble Knob column word = at column (knob_cause word)
 part_trouble Shown column word = at column (shown_cause word)
+part_trouble part column word = at column (number_cause part word)
 
 -- why a word is not this part: a byte that no line has comes first
 abbrev pub word_trouble : Part → ℕ → List ℕ → Option Trouble
@@ -97,49 +88,44 @@ word_trouble part column word =
 
 -- ---- a line; *end* is the column of the byte behind the words that were read
 
--- a number of visits may be left out, any other part not
+-- a number of visits that is the last part may be left out
 abbrev pub missing_trouble : ℕ → List Part → Option Trouble
 missing_trouble end [] = None
-missing_trouble end (Number Visits ∷ parts) = None
+missing_trouble end (Visits ∷ []) = None
 missing_trouble end (part ∷ parts) = Some (at end (Missing part))
 
 abbrev pub is_empty : List ℕ → Bool
-is_empty [] = true
-is_empty (byte ∷ bytes) = false
+is_empty word = length word == 0
 
 -- a space where a word should begin, with these words behind it
 abbrev pub space_trouble : ℕ → List (List ℕ) → Trouble
 space_trouble end words = if list_all is_empty words then at end SpaceAfter else at (end + 1) TwoSpaces
 
--- a word where the line should end
-abbrev pub more_trouble : ℕ → List ℕ → Option Trouble
-more_trouble end word = option_or (strange_trouble (end + 1) word) (Some (at (end + 1) OneWordMore))
-
 -- words that should be these parts
 abbrev pub parts_trouble : ℕ → List Part → List (List ℕ) → Option Trouble
 parts_trouble end parts [] = missing_trouble end parts
-parts_trouble end parts ([] ∷ words) = Some (space_trouble end words)
-parts_trouble end [] (word ∷ words) = more_trouble end word
+parts_trouble end [] (word ∷ words) =
+    if is_empty word then Some (space_trouble end words)
+    else option_or (strange_trouble (end + 1) word) (Some (at (end + 1) OneWordMore))
 parts_trouble end (part ∷ parts) (word ∷ words) =
-    option_or (word_trouble part (end + 1) word) (parts_trouble (end + 1 + length word) parts words)
+    if is_empty word then Some (space_trouble end words)
+    else option_or (word_trouble part (end + 1) word) (parts_trouble (end + 1 + length word) parts words)
 
 -- a first word that no line begins with
 abbrev pub name_cause : List ℕ → Cause
-name_cause name = if slice_index name 0 == 35 then Comment else if is_name (lowered name) then Capital else UnknownName
+name_cause name = if slice_index name 0 == 35 then Comment else if is_some (parts_in (lowered name)) then Capital else UnknownName
 
 abbrev pub named_trouble : Option (List Part) → List ℕ → List (List ℕ) → Option Trouble
 named_trouble (Some parts) name words = parts_trouble (length name + 1) parts words
 named_trouble None name words = option_or (strange_trouble 1 name) (Some (at 1 (name_cause name)))
 
 -- a line of no bytes is good; with words behind a first one of no bytes it begins with a space
-abbrev pub empty_trouble : List (List ℕ) → Option Trouble
-empty_trouble [] = None
-empty_trouble (word ∷ words) = Some (at 1 SpaceBefore)
-
 abbrev pub words_trouble : List (List ℕ) → Option Trouble
 words_trouble [] = None
-words_trouble ([] ∷ words) = empty_trouble words
-words_trouble (name ∷ words) = named_trouble (parts_in forms name) name words
+words_trouble (name ∷ words) =
+    if not (is_empty name) then named_trouble (parts_in name) name words
+    else if is_some (ended words) then None
+    else Some (at 1 SpaceBefore)
 
 -- a line that is too long is that before all else, and one that the language reads is good
 abbrev pub trouble_of : List ℕ → Option Trouble

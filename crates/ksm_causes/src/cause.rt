@@ -2,7 +2,7 @@
 ghost use Rattle.std.specs.Prelude.{◌≡◌};
 ghost use Rattle.ksm_causes.specs.Troubles.{at};
 
-use crate::part::{Number, Part};
+use ksm_lines::Part;
 
 /// Why a line is bad. Each bad line has one cause (own).
 #[derive(Clone, Copy)]
@@ -36,9 +36,9 @@ pub enum Cause {
     /// A number of two digits or more that begins with 0.
     LeadingZero,
     /// A word that is no decimal number.
-    NotANumber(Number),
+    NotANumber(Part),
     /// A number that is larger than one of its kind may be.
-    TooLarge(Number),
+    TooLarge(Part),
     /// A byte of a content that is no hexadecimal digit.
     NotHexadecimal,
     /// A content of neither 2 digits nor those of a page.

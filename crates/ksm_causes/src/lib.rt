@@ -3,13 +3,11 @@
 
 mod cause;
 mod line;
-mod part;
 mod refused;
 mod said;
 mod word;
 
 pub use cause::{Cause, Trouble};
 pub use line::cause_of;
-pub use part::{Number, Part};
 pub use refused::Refused;
 pub use said::BadLine;

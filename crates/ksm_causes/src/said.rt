@@ -1,15 +1,13 @@
 //! What is said of a bad line.
 ghost use Rattle.std.specs.Prelude.{◌≡◌, ◌-◌, IfSome, IfNone, Some, drop, take, slice_index};
 ghost use Rattle.ksm_lines.specs.Grammar.{words_of};
-ghost use Rattle.ksm_causes.specs.Forms.{IsGood};
-ghost use Rattle.ksm_causes.specs.Sentences.{bad_line_text, first_word, hexadecimal, number_noun, part_noun, quote_of};
+ghost use Rattle.ksm_causes.specs.Sentences.{bad_line_text, first_word, hexadecimal, most, part_noun, quote_of};
 ghost use Rattle.ksm_causes.specs.Sentences.{quoted_word, sentence_of, shortened, text_in};
-ghost use Rattle.ksm_causes.specs.Troubles.{trouble_of};
+ghost use Rattle.ksm_causes.specs.Troubles.{IsGood, trouble_of};
 
 use crate::cause::{Cause, Trouble};
 use crate::line::cause_of;
-use crate::part::{Number, Part};
-use ksm_lines::{PAGE_DIGITS, cut};
+use ksm_lines::{PAGE_DIGITS, Part, cut};
 use std::fmt::{self, Display, Formatter, Write};
 
 /// A word that is quoted is cut behind so many bytes.
@@ -65,68 +63,67 @@ fn from_column(line: &[u8], column: usize) -> &[u8]
     &line[at..]
 }
 
-impl Display for Number {
-    ghost output = { λ number. Some (number_noun number) };
-
-    fn fmt<W: Write>(&self, f: &mut Formatter<W>) -> fmt::Result {
-        f.write_str(match self {
-            Number::Guest => "guest",
-            Number::Page => "page",
-            Number::Node => "node",
-            Number::Place => "place",
-            Number::Pass => "pass",
-            Number::Visits => "number of visits",
-            Number::Value => "value",
-        })
-    }
-}
-
-impl Display for Part {
-    ghost output = { λ part. Some (part_noun part) };
-
-    fn fmt<W: Write>(&self, f: &mut Formatter<W>) -> fmt::Result {
-        match self {
-            Part::Number(number) => write!(f, "{number}"),
-            Part::Content => f.write_str("content"),
-            Part::Knob | Part::Shown => f.write_str("knob"),
-        }
-    }
-}
-
 impl Display for Cause {
     ghost output = { λ cause. Some (sentence_of cause) };
 
     fn fmt<W: Write>(&self, f: &mut Formatter<W>) -> fmt::Result {
-        match *self {
-            Cause::LongLine => f.write_str("the line is longer than 256 bytes"),
-            Cause::SpaceBefore => f.write_str("a space before the first word"),
-            Cause::TwoSpaces => f.write_str("two spaces between words"),
-            Cause::SpaceAfter => f.write_str("a space after the last word"),
-            Cause::Tab => f.write_str("a tab, where words are separated by one space"),
-            Cause::CarriageReturn => {
-                f.write_str("a carriage return, where a line ends at a newline alone")
-            }
-            Cause::OtherByte => f.write_str("a byte that no line has"),
-            Cause::Comment => f.write_str("a comment, which the language does not have"),
-            Cause::Capital => f.write_str("a capital letter in a name"),
-            Cause::UnknownName => f.write_str("no line begins with this word"),
-            Cause::Missing(part) => write!(f, "the {part} is missing"),
-            Cause::OneWordMore => f.write_str("a word more than the line has"),
-            Cause::Sign => f.write_str("a number with a sign"),
-            Cause::LeadingZero => f.write_str("a number with a leading zero"),
-            Cause::NotANumber(number) => write!(f, "a {number} that is not a decimal number"),
-            Cause::TooLarge(number) => {
-                let most = number.most();
-                write!(f, "a {number} above {most}")
-            }
-            Cause::NotHexadecimal => {
-                f.write_str("a byte of the content that is not a hexadecimal digit")
-            }
-            Cause::ContentLength => write!(f, "content of neither 2 digits nor {PAGE_DIGITS}"),
-            Cause::UnknownKnob => f.write_str("no knob has this name"),
-            Cause::UnknownShown => f.write_str("no knob or counter is shown by this name"),
-            Cause::CounterSet => f.write_str("a counter, which is shown and never set"),
-        }
+        f.write_str(match *self {
+            Cause::Missing(part) => return write!(f, "the {} is missing", noun(part)),
+            Cause::NotANumber(part) => return write!(
+                f,
+                "a {} that is not a decimal number",
+                noun(part)
+            ),
+            Cause::TooLarge(part) => return write!(f, "a {} above {}", noun(part), most(part)),
+            Cause::ContentLength => return write!(
+                f,
+                "content of neither 2 digits nor {PAGE_DIGITS}"
+            ),
+            Cause::LongLine => "the line is longer than 256 bytes",
+            Cause::SpaceBefore => "a space before the first word",
+            Cause::TwoSpaces => "two spaces between words",
+            Cause::SpaceAfter => "a space after the last word",
+            Cause::Tab => "a tab, where words are separated by one space",
+            Cause::CarriageReturn => "a carriage return, where a line ends at a newline alone",
+            Cause::OtherByte => "a byte that no line has",
+            Cause::Comment => "a comment, which the language does not have",
+            Cause::Capital => "a capital letter in a name",
+            Cause::UnknownName => "no line begins with this word",
+            Cause::OneWordMore => "a word more than the line has",
+            Cause::Sign => "a number with a sign",
+            Cause::LeadingZero => "a number with a leading zero",
+            Cause::NotHexadecimal => "a byte of the content that is not a hexadecimal digit",
+            Cause::UnknownKnob => "no knob has this name",
+            Cause::UnknownShown => "no knob or counter is shown by this name",
+            Cause::CounterSet => "a counter, which is shown and never set",
+        })
+    }
+}
+
+/// What a part is called.
+fn noun(part: Part) -> &'static str
+    ensures { result.now ≡ part_noun part }
+{
+    match part {
+        Part::Guest => "guest",
+        Part::Page => "page",
+        Part::Node => "node",
+        Part::Place => "place",
+        Part::Pass => "pass",
+        Part::Visits => "number of visits",
+        Part::Value => "value",
+        Part::Content => "content",
+        Part::Knob | Part::Shown => "knob",
+    }
+}
+
+/// The largest number that may stand there.
+fn most(part: Part) -> u32
+    ensures { result ≡ most part }
+{
+    match part {
+        Part::Guest => 65535,
+        _ => u32::MAX,
     }
 }
 
@@ -143,29 +140,17 @@ impl Display for Quote<'_> {
     fn fmt<W: Write>(&self, f: &mut Formatter<W>) -> fmt::Result {
         let rest = self.rest;
         match self.cause {
-            Cause::OtherByte => {
-                let byte = Hexadecimal(first_byte(rest));
-                write!(f, ": {byte}")
-            }
-            Cause::NotHexadecimal => {
-                let byte = text_in(front(rest, 1));
-                write!(f, ": {byte}")
-            }
-            Cause::Capital
-            | Cause::UnknownName
-            | Cause::OneWordMore
-            | Cause::Sign
-            | Cause::LeadingZero
-            | Cause::NotANumber(_)
-            | Cause::TooLarge(_)
-            | Cause::ContentLength
-            | Cause::UnknownKnob
-            | Cause::UnknownShown
-            | Cause::CounterSet => {
-                let word = Word(cut(rest).0);
-                write!(f, ": {word}")
-            }
-            _ => Ok(()),
+            Cause::OtherByte => write!(f, ": {}", Hexadecimal(first_byte(rest))),
+            Cause::NotHexadecimal => write!(f, ": {}", text_in(front(rest, 1))),
+            Cause::LongLine
+            | Cause::SpaceBefore
+            | Cause::TwoSpaces
+            | Cause::SpaceAfter
+            | Cause::Tab
+            | Cause::CarriageReturn
+            | Cause::Comment
+            | Cause::Missing(_) => Ok(()),
+            _ => write!(f, ": {}", Word(cut(rest).0)),
         }
     }
 }

@@ -1,27 +1,15 @@
 //! Why a word can't stand where it stands.
-ghost use Rattle.std.specs.Prelude.{◌≡◌, ◌+◌, ◌<◌, ◌≤◌, not, length, position, bytes_eq, IfSome};
+ghost use Rattle.std.specs.Prelude.{◌≡◌, ◌+◌, ◌<◌, ◌≤◌, not, length, position, IfSome};
 ghost use Rattle.std.specs.Char.{is_ascii_digit, is_ascii_graphic, is_ascii_hexdigit};
 ghost use Rattle.std.specs.List.{list_all};
-ghost use Rattle.std.specs.Option.{is_some};
-ghost use Rattle.ksm_lines.specs.Content.{content_of};
-ghost use Rattle.ksm_lines.specs.Reading.{number_of, knob_of, shown_of};
-ghost use Rattle.ksm_causes.specs.declared.part.Part.TheVariants.{Content as content};
-ghost use Rattle.ksm_causes.specs.Forms.{lowered};
-ghost use Rattle.ksm_causes.specs.Troubles.{are_digits, is_signed, is_read, is_within, has_leading_zero, strange_cause};
+ghost use Rattle.ksm_lines.specs.declared.part.Part.TheVariants.{Content as content};
+ghost use Rattle.ksm_causes.specs.Troubles.{are_digits, is_signed, has_leading_zero, strange_cause, lowered};
 ghost use Rattle.ksm_causes.specs.Troubles.{strange_trouble, number_cause, knob_cause, shown_cause, part_trouble};
 ghost use Rattle.ksm_causes.specs.Troubles.{word_trouble, name_cause};
 
 use crate::cause::{Cause, Trouble};
-use crate::part::{Number, Part, parts_of};
-use ksm_lines::{content_in, knob_named, number_in, shown_named};
+use ksm_lines::{Part, is_read, parts_of};
 use ksm_script::LONGEST_LINE;
-
-/// Whether a word is this name.
-pub(crate) fn is(word: &[u8], name: &str) -> bool
-    ensures { result ≡ bytes_eq word.now name.now }
-{
-    word == name.as_bytes()
-}
 
 /// The first byte of a word that stands in no word of any line.
 pub(crate) fn strange_byte(column: usize, word: &[u8]) -> Option<Trouble>
@@ -61,80 +49,32 @@ pub(crate) fn word_trouble(part: Part, column: usize, word: &[u8]) -> Option<Tro
     strange_byte(column, word).or(Some(part_trouble(part, column, word)))
 }
 
-/// Whether the language reads a word as this part.
-fn is_read(part: Part, word: &[u8]) -> bool
-    ensures { result ≡ is_read part word.now }
-{
-    match part {
-        Part::Number(number) => is_number(number.most(), word),
-        Part::Content => is_content(word),
-        Part::Knob => is_knob(word),
-        Part::Shown => is_shown(word),
-    }
-}
-
-fn is_number(most: u32, word: &[u8]) -> bool
-    ensures { result ≡ is_within most (number_of word.now) }
-{
-    match number_in(word) {
-        Ok(number) => number <= most,
-        Err(_) => false,
-    }
-}
-
-fn is_content(word: &[u8]) -> bool
-    ensures { result ≡ is_some (content_of word.now) }
-{
-    match content_in(word) {
-        Ok(_) => true,
-        Err(_) => false,
-    }
-}
-
-fn is_knob(word: &[u8]) -> bool
-    ensures { result ≡ is_some (knob_of word.now) }
-{
-    match knob_named(word) {
-        Ok(_) => true,
-        Err(_) => false,
-    }
-}
-
-fn is_shown(word: &[u8]) -> bool
-    ensures { result ≡ is_some (shown_of word.now) }
-{
-    match shown_named(word) {
-        Ok(_) => true,
-        Err(_) => false,
-    }
-}
-
 fn part_trouble(part: Part, column: usize, word: &[u8]) -> Trouble
     requires fits { column + length word.now ≤ LONGEST_LINE + 1 }
     requires short { length word.now ≤ LONGEST_LINE }
     ensures { result ≡ part_trouble part column word.now }
 {
     match part {
-        Part::Number(number) => Trouble::new(column, number_cause(number, word)),
         Part::Content => content_trouble(column, word),
         Part::Knob => Trouble::new(column, knob_cause(word)),
         Part::Shown => Trouble::new(column, shown_cause(word)),
+        _ => Trouble::new(column, number_cause(part, word)),
     }
 }
 
-fn number_cause(number: Number, word: &[u8]) -> Cause
-    ensures { result ≡ number_cause number word.now }
+fn number_cause(part: Part, word: &[u8]) -> Cause
+    ensures { result ≡ number_cause part word.now }
 {
     if is_signed(word) {
         return Cause::Sign;
     }
     if !are_digits(word) {
-        return Cause::NotANumber(number);
+        return Cause::NotANumber(part);
     }
     if has_leading_zero(word) {
         return Cause::LeadingZero;
     }
-    Cause::TooLarge(number)
+    Cause::TooLarge(part)
 }
 
 fn is_signed(word: &[u8]) -> bool
@@ -185,11 +125,11 @@ fn knob_cause(word: &[u8]) -> Cause
     requires { length word.now ≤ LONGEST_LINE }
     ensures { result ≡ knob_cause word.now }
 {
-    if is_shown(word) {
+    if is_read(Part::Shown, word) {
         return Cause::CounterSet;
     }
     let mut room = [0; LONGEST_LINE];
-    if is_knob(lowered(word, &mut room)) {
+    if is_read(Part::Knob, lowered(word, &mut room)) {
         return Cause::Capital;
     }
     Cause::UnknownKnob
@@ -200,7 +140,7 @@ fn shown_cause(word: &[u8]) -> Cause
     ensures { result ≡ shown_cause word.now }
 {
     let mut room = [0; LONGEST_LINE];
-    if is_shown(lowered(word, &mut room)) {
+    if is_read(Part::Shown, lowered(word, &mut room)) {
         return Cause::Capital;
     }
     Cause::UnknownShown

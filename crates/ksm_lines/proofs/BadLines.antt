@@ -1,11 +1,11 @@
 -- The worked lines hold.
-use Rattle.ksm_lines.proofs.Names.{BadLines, codes, IsNoLine, Line, line_at, List, None, Option, refl, sym, words_of, ℕ, ◌∙◌, ◌≡◌}
+use Rattle.ksm_lines.proofs.Names.{[], BadLines, codes, IsNoLine, Line, line_at, List, None, Option, refl, sym, words_of, ℕ, ◌∙◌, ◌≡◌}
 use Rattle.ksm_lines.specs.declared.line.Line.TheVariants as lines
 use Rattle.ksm_lines.proofs.Lines.{line_again, line_takes}
 
 -- what is not read as a line is written by none
 none_writes : (bytes : List ℕ) → (let none : Option Line = None in line_at (words_of bytes) ≡ none) → IsNoLine bytes
-none_writes bytes e form written = cc (sym e ∙ (line_again form).finds (words_of bytes) written)
+none_writes bytes e form written = cc (sym e ∙ line_again form (words_of bytes) written)
 
 -- the bad lines of the worked list are no lines, and the good ones are
 pub bad_lines : BadLines
@@ -17,8 +17,8 @@ bad_lines = record {
   odd_digits = none_writes (codes "put 0 0 b") refl;
   no_place = none_writes (codes "find 0") refl;
   one_more = none_writes (codes "audit 0") refl;
-  empty = λ no_line. no_line lines.Empty (refl, tt);
-  stat = λ no_line. no_line lines.Stat (refl, tt);
-  find = λ no_line. no_line (lines.Find 0 0) (line_takes (words_of (codes "find 0 0")) (lines.Find 0 0) refl);
-  audit = λ no_line. no_line lines.Audit (refl, tt);
+  empty = λ no_line. no_line lines.Empty (line_takes lines.Empty (words_of []) refl);
+  stat = λ no_line. no_line lines.Stat (line_takes lines.Stat (words_of (codes "stat")) refl);
+  find = λ no_line. no_line (lines.Find 0 0) (line_takes (lines.Find 0 0) (words_of (codes "find 0 0")) refl);
+  audit = λ no_line. no_line lines.Audit (line_takes lines.Audit (words_of (codes "audit")) refl);
 }

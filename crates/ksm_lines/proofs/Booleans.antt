@@ -1,5 +1,5 @@
 -- What tests say of their parts.
-use Rattle.std.proofs.Common.{◌≡◌, Bool, true, false, ◌&&◌, cond, Option, Some, None, refl}
+use Rattle.std.proofs.Common.{◌≡◌, Bool, true, false, not, ◌||◌, cond, Option, Some, None, refl}
 
 -- a value where a test passes, and none where the test fails
 abbrev pub chosen : {A : Type 0} → Bool → A → Option A
@@ -10,12 +10,7 @@ pub is_chosen : {A : Type 0} (b : Bool) (n i : A) → chosen b n ≡ Some i → 
 is_chosen true n i e = (refl, cc)
 is_chosen false n i e = absurd cc
 
--- where both tests pass, the first does
-pub first_true : (a b : Bool) → (a && b) ≡ true → a ≡ true
-first_true true b e = refl
-first_true false b e = absurd cc
-
--- where both tests pass, the second does
-pub second_true : (a b : Bool) → (a && b) ≡ true → b ≡ true
-second_true true b e = e
-second_true false b e = absurd cc
+-- where a test passes, what it implies does
+pub implied : (a b : Bool) → a ≡ true → (not a || b) ≡ true → b ≡ true
+implied true b e h = h
+implied false b e h = absurd cc

@@ -1,5 +1,6 @@
 -- The values of hexadecimal digits.
-use Rattle.ksm_lines.proofs.Names.{and_parts, arith, Bool, cases_lt, digit_or_none, DIGIT_VALUES, eqb, eqb-true, false, hex_value, inl, inr, lt-ltb, ltb, not, refl, slice_index, suc, true, zero, ℕ, ◌&&◌, ◌<◌, ◌==◌, ◌||◌, ◌∙◌, ◌≡◌}
+use Rattle.ksm_lines.proofs.Names.{and_parts, arith, Bool, cases_lt, digit_or_none, DIGIT_VALUES, eqb, eqb-true, hex_value, inl, inr, lt-ltb, ltb, not, refl, slice_index, suc, true, zero, ℕ, ◌&&◌, ◌<◌, ◌==◌, ◌||◌, ◌∙◌, ◌≡◌}
+use Rattle.ksm_lines.proofs.Booleans.{implied}
 
 -- a test of all numbers below n
 abbrev pub passes_below : (ℕ → Bool) → ℕ → Bool
@@ -23,8 +24,4 @@ value_of byte lt = eqb-true _ _ (passes_at (λ byte. slice_index DIGIT_VALUES by
 -- a small value in the table is the digit's
 pub small_value : {value : ℕ} (byte : ℕ) → byte < 256 → value ≡ digit_or_none byte → value < 16 → value ≡ hex_value byte
 small_value byte lt is small =
-    is ∙ eqb-true _ _ (later (ltb (digit_or_none byte) 16) _ (lt-ltb _ _ (omega (arith, is, small))) (passes_at (λ b. not (ltb (digit_or_none b) 16) || eqb (digit_or_none b) (hex_value b)) 256 byte refl lt))
-  where
-    later : (a b : Bool) → a ≡ true → (not a || b) ≡ true → b ≡ true
-    later true b e h = h
-    later false b e h = absurd cc
+    is ∙ eqb-true _ _ (implied (ltb (digit_or_none byte) 16) _ (lt-ltb _ _ (omega (arith, is, small))) (passes_at (λ b. not (ltb (digit_or_none b) 16) || eqb (digit_or_none b) (hex_value b)) 256 byte refl lt))

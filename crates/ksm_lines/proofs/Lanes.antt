@@ -1,13 +1,13 @@
 -- Digits, many at once.
-use Rattle.ksm_lines.proofs.Names.{[], and_parts, ap, ap₂, arith, bitmask_splat, Bool, byte_at, cond, digits_of_word, Each1, eqb, eqb-true, false, Fits, get_or, get_or-chunk, get_or-map, get_or_append_left, hex_value, is_ascii_hexdigit, is_small, length, length-chunk, List, list_all, list_all-append, list_all-map, lt-ltb, ltb, ltb-false, ltb-true, map, mask_l, ne_eqb, not, pair_in, range_with_len, refl, replicate, sel_l, splat_is_map, suc, sym, take, take-add, take_all, top, true, zero, zip2, zip2_of_maps, ℕ, ◌%◌, ◌&&◌, ◌*◌, ◌++◌, ◌+◌, ◌<◌, ◌^◌, ◌||◌, ◌∙◌, ◌∷◌, ◌≡◌, ◌≤◌}
+use Rattle.ksm_lines.proofs.Names.{[], and_parts, ap, ap₂, arith, bitmask_splat, Bool, byte_at, cond, digits_of_word, Each1, eqb, eqb-true, false, Fits, get_or, get_or-chunk, get_or-map, get_or_append_left, hex_value, is_ascii_hexdigit, is_small, length, length-chunk, List, list_all, list_all-append, list_all-map, lt-ltb, ltb, ltb-false, ltb-true, map, map-id, mask_l, ne_eqb, not, pair_in, range_with_len, refl, replicate, sel_l, splat_is_map, suc, sym, take, take-add, take_all, top, true, zero, zip2, zip2_of_maps, zip2_splat, zip2_splat_left, ℕ, ◌%◌, ◌&&◌, ◌*◌, ◌++◌, ◌+◌, ◌<◌, ◌^◌, ◌||◌, ◌∙◌, ◌∷◌, ◌≡◌, ◌≤◌}
 use Rattle.std.proofs.Common.{w8}
+use Rattle.ksm_lines.proofs.Booleans.{implied}
 use Rattle.ksm_lines.proofs.Front.{passes_in}
 use Rattle.ksm_lines.proofs.Hex.{passes_below, passes_at}
 
 -- a list is what the map that changes nothing makes of it
 pub itself : (v : List ℕ) → v ≡ map (λ x. x) v
-itself [] = refl
-itself (x ∷ xs) = ap (λ r. x ∷ r) (itself xs)
+itself v = sym (map-id v)
 
 -- an operation on two vectors computed lane by lane from v is computed lane by lane from v
 pub joined : (h : ℕ → ℕ → ℕ) (f g : ℕ → ℕ) (v : List ℕ) {a b : List ℕ} → a ≡ map f v → b ≡ map g v → zip2 h a b ≡ map (λ x. h (f x) (g x)) v
@@ -74,28 +74,19 @@ pub values_of_digits : (f : ℕ → ℕ) (v : List ℕ) {a : List ℕ} → a ≡
     → passes_below (λ k. not (is_ascii_hexdigit k) || eqb (f k) (hex_value k)) 256 ≡ true → list_all is_ascii_hexdigit v ≡ true → a ≡ map hex_value v
 values_of_digits f v is fits all digits = is ∙ of v fits digits
   where
-    later : (a b : Bool) → a ≡ true → (not a || b) ≡ true → b ≡ true
-    later true b e h = h
-    later false b e h = absurd cc
-
     of : (v : List ℕ) → Each1 (Fits w8) v → list_all is_ascii_hexdigit v ≡ true → map f v ≡ map hex_value v
     of [] h e = refl
     of (x ∷ xs) h e =
         let parts = and_parts (is_ascii_hexdigit x) (list_all is_ascii_hexdigit xs) e in
         let told = passes_at (λ k. not (is_ascii_hexdigit k) || eqb (f k) (hex_value k)) 256 x all h.0.fits in
-        ap₂ (λ y ys. y ∷ ys) (eqb-true _ _ (later (is_ascii_hexdigit x) _ parts.0 told)) (of xs h.1 parts.1)
-
-flipped : {A B C : Type 0} (f : A → B → C) (xs : List A) (ys : List B) → zip2 f xs ys ≡ zip2 (λ b a. f a b) ys xs
-flipped f [] [] = refl
-flipped f [] (y ∷ ys) = refl
-flipped f (x ∷ xs) [] = refl
-flipped f (x ∷ xs) (y ∷ ys) = ap (λ r. f x y ∷ r) (flipped f xs ys)
+        ap₂ (λ y ys. y ∷ ys) (eqb-true _ _ (implied (is_ascii_hexdigit x) _ parts.0 told)) (of xs h.1 parts.1)
 
 -- a bit of the mask of values above 15 is set exactly where not all values are small
 pub none_above : (v : List ℕ) → length v ≡ 16 → Each1 (Fits w8) v
     → not (eqb (mask_l (map (top 7) (zip2 (λ a b. cond (ltb a b) 255 0) (replicate 16 15) v)) % 2 ^ 64) 0) ≡ not (list_all is_small v)
 none_above v long fits =
-    ap (λ l. not (eqb (mask_l (map (top 7) l) % 2 ^ 64) 0)) (flipped (λ (a b : ℕ). cond (ltb a b) 255 0) (replicate 16 15) v)
+    let above = λ (a b : ℕ). cond (ltb a b) 255 0 in
+    ap (λ l. not (eqb (mask_l (map (top 7) l) % 2 ^ 64) 0)) (zip2_splat_left above 15 16 v long ∙ sym (zip2_splat (λ b a. above a b) v 16 15 long))
     ∙ ap (λ m. not (eqb m 0)) (bitmask_splat w8 (λ a b. ltb b a) v 16 15 long (omega arith))
     ∙ ap not (none_set (λ x. ltb 15 x) v ∙ same_test (λ x. not (ltb 15 x)) is_small v fits refl)
 

@@ -4,9 +4,7 @@ pub mod Words
 pub mod Numbers
 pub mod Hex
 pub mod Lanes
-pub mod Alone
 pub mod Front
 pub mod Parted
-pub mod Fields
 pub mod Lines
 pub mod BadLines

@@ -1,140 +1,159 @@
 -- Bytes are read as a line exactly where they write it.
-use Rattle.ksm_lines.proofs.Names.{[], alone, ap, AreWritten, Audit, bytes_eq, bytes_eq-Decides, codes, cond, content, content_of, Drop, Empty, Equal, Err, false, Find, Form, forms, Get, Gives, guest, guest_of, IfOk, knob_name, Leave, Line, line_at, LineFault, List, Look, Mappers, Mergeable, MoveDup, MovePage, name, named_line, number, number_of, Ok, Option, option_map, Part, parts_of, Prune, refl, Register, Result, Scan, scan_at, ScanPages, Set, Show, shown_name, shown_of, Some, Stat, Store, subst, sym, Ticket, true, Unmerge, ℕ, ◌∙◌, ◌∷◌, ◌≡◌}
-use Rattle.ksm_lines.proofs.Fields.{some_is, none_some, guest_read, number_read, knob_read, shown_read, number_written, guest_written, knob_written, shown_written}
-use Rattle.ksm_lines.proofs.Fields.{Finds, end_finds, field_finds, page_finds, last_finds, word_finds, page_alone_finds}
-use Rattle.ksm_lines.proofs.Fields.{Tells, end_tells, field_tells, page_tells, last_tells, word_tells, page_alone_tells}
+use Rattle.ksm_lines.proofs.Names.{IfErr, Bool, eqb, list_all, not, ap, AreWritten, arith, bytes_eq, bytes_eq-Decides, cond, content, Err, Form, form_in, Gives, guest, IfOk, IsLine, IsOf, IsWritten, Kind, kind_of, knob, Knob, knob_name, knob_of, left_out, Line, line_at, line_of, LineFault, List, made, MaxPageSharing, MergeAcrossNodes, named_in, None, number, OfKnob, Ok, Option, option_map, PagesToScan, Part, read, refl, Result, Run, Shown, shown, shown_name, shown_of, Some, sym, Told, true, false, UseZeroPages, Values, values, visits, ZeroPages, ℕ, [], ◌>>=◌, ◌^◌, ◌∙◌, ◌∷◌, ◌≡◌}
+use Rattle.ksm_lines.proofs.Numbers.{number_takes, number_again}
 
--- ---- what writes a line is read
+-- values that are there and equal are equal
+pub some_is : {A : Type 0} (x y : A) → Some x ≡ Some y → x ≡ y
+some_is x y e = cc
 
--- a name, and the words that a form reads behind it
-named_finds : (text : List ℕ) (read : List (List ℕ) → Option Line) (parts : List Part) (line : Line) → ((words : List (List ℕ)) → line_at (text ∷ words) ≡ read words)
-    → Finds read parts line → Finds line_at (name text ∷ parts) line
-named_finds text read parts line is later = record { finds = go }
+-- where more was made of what was read, it was read
+pub bound : {A B : Type 0} (o : Option A) (then : A → Option B) (b : B) → (o >>= then) ≡ Some b → (a : A) × (o ≡ Some a) × (then a ≡ Some b)
+bound None then b e = absurd cc
+bound (Some a) then b e = (a, refl, e)
+
+-- ---- one word
+
+-- the name of a knob is read as that knob
+knob_read : (named : Knob) → knob_of (knob_name named) ≡ Some named
+knob_read Run = refl
+knob_read PagesToScan = refl
+knob_read MergeAcrossNodes = refl
+knob_read MaxPageSharing = refl
+knob_read UseZeroPages = refl
+
+-- the name of what is shown is read as that
+shown_read : (named : Shown) → shown_of (shown_name named) ≡ Some named
+shown_read (OfKnob Run) = refl
+shown_read (OfKnob PagesToScan) = refl
+shown_read (OfKnob MergeAcrossNodes) = refl
+shown_read (OfKnob MaxPageSharing) = refl
+shown_read (OfKnob UseZeroPages) = refl
+shown_read ZeroPages = refl
+
+-- the word that writes what is told is read as that
+pub word_read : (kind : Kind) (told : Told kind) (word : List ℕ) → IsWritten kind told word → read kind word ≡ Some told
+word_read guest n word h = rw (h.1, number_again (2 ^ 16) n (omega arith) h.0) refl
+word_read number n word h = rw (h.1, number_again (2 ^ 32) n (omega arith) h.0) refl
+word_read visits told word h = rw (h.3, h.1, number_again (2 ^ 32) h.0 (omega arith) h.2) refl
+word_read content page word h = h
+word_read knob named word h = ap knob_of h ∙ knob_read named
+word_read shown named word h = ap shown_of h ∙ shown_read named
+
+-- what is found by its name has that name
+pub name_is : {A : Type 0} (name_of : A → List ℕ) (all : List A) (name : List ℕ) (found : A) → named_in name_of all name ≡ Some found → name ≡ name_of found
+name_is name_of [] name found e = absurd cc
+name_is name_of (x ∷ xs) name found e =
+    elim (bytes_eq name (name_of x)) as (λ b. (b ≡ true → name ≡ name_of x) → cond b (Some x) (named_in name_of xs name) ≡ Some found → name ≡ name_of found) [
+      | true ↦ λ same h. same refl ∙ ap name_of (some_is x found h)
+      | false ↦ λ same h. name_is name_of xs name found h
+    ] (bytes_eq-Decides name (name_of x)).0 e
+
+knob_is : (named : Knob) (word : List ℕ) → knob_of word ≡ Some named → word ≡ knob_name named
+knob_is named word e = name_is knob_name (Run ∷ PagesToScan ∷ MergeAcrossNodes ∷ MaxPageSharing ∷ UseZeroPages ∷ []) word named e
+
+shown_is : (named : Shown) (word : List ℕ) → shown_of word ≡ Some named → word ≡ shown_name named
+shown_is named word e =
+    elim (bytes_eq word (shown_name ZeroPages)) as (λ b. (b ≡ true → word ≡ shown_name ZeroPages) → cond b (Some ZeroPages) (option_map OfKnob (knob_of word)) ≡ Some named → word ≡ shown_name named) [
+      | true ↦ λ same h. same refl ∙ ap shown_name (some_is ZeroPages named h)
+      | false ↦ λ same h. go (knob_of word) refl h
+    ] (bytes_eq-Decides word (shown_name ZeroPages)).0 e
   where
-    go : (words : List (List ℕ)) → AreWritten (name text ∷ parts) words → line_at words ≡ Some line
-    go [] h = absurd h
-    go (w ∷ ws) h = ap (λ (t : List ℕ). line_at (t ∷ ws)) h.0 ∙ is ws ∙ later.finds ws h.1
+    go : (o : Option Knob) → knob_of word ≡ o → option_map OfKnob o ≡ Some named → word ≡ shown_name named
+    go None is h = absurd cc
+    go (Some found) is h = knob_is found word is ∙ ap shown_name (some_is (OfKnob found) named h)
 
-scan_finds : (visits : ℕ) → Finds scan_at (number visits ∷ []) (Scan visits)
-scan_finds visits = record { finds = go }
+abbrev pub no_space : ℕ → Bool
+no_space byte = not (eqb byte 32)
+
+-- a word with a space is not shown
+pub not_shown : (word : List ℕ) → list_all no_space word ≡ false → shown_of word ≡ None
+not_shown word e = go (shown_of word) refl
   where
-    go : (words : List (List ℕ)) → AreWritten (number visits ∷ []) words → scan_at words ≡ Some (Scan visits)
-    go [] h = absurd h
-    go (w ∷ ws) h = (word_finds number_of Scan (number visits) visits (number_read visits)).finds (w ∷ ws) h
+    plain : (named : Shown) → list_all no_space (shown_name named) ≡ true
+    plain (OfKnob Run) = refl
+    plain (OfKnob PagesToScan) = refl
+    plain (OfKnob MergeAcrossNodes) = refl
+    plain (OfKnob MaxPageSharing) = refl
+    plain (OfKnob UseZeroPages) = refl
+    plain ZeroPages = refl
 
-scan_pages_finds : Finds scan_at [] ScanPages
-scan_pages_finds = record { finds = go }
+    go : (o : Option Shown) → shown_of word ≡ o → o ≡ None
+    go None is = refl
+    go (Some named) is = absurd (cc (sym e ∙ ap (list_all no_space) (shown_is named word is) ∙ plain named))
+
+-- a word that is read writes what it tells
+pub word_written : (kind : Kind) (told : Told kind) (word : List ℕ) → read kind word ≡ Some told → IsWritten kind told word
+word_written guest n word e = number_takes (2 ^ 16) word n (omega arith) e
+word_written number n word e = number_takes (2 ^ 32) word n (omega arith) e
+word_written visits told word e =
+    let n = bound (read number word) (λ n. Some (Some n)) told e in
+    let is = number_takes (2 ^ 32) word n.0 (omega arith) n.1 in
+    (n.0, sym (some_is (Some n.0) told n.2), is.0, is.1)
+word_written content page word e = e
+word_written knob named word e = knob_is named word e
+word_written shown named word e = shown_is named word e
+
+-- ---- the words of a line
+
+-- words that write values are read as these
+pub values_read : (parts : List Part) (told : Values parts) (words : List (List ℕ)) → AreWritten parts told words → values parts words ≡ Some told
+values_read [] told [] h = refl
+values_read [] told (w ∷ ws) h = absurd h
+values_read (part ∷ parts) told [] h = rw (h.0, values_read parts told.1 [] h.1) refl
+values_read (part ∷ parts) told (w ∷ ws) h = rw (word_read (kind_of part) told.0 w h.0, values_read parts told.1 ws h.1) refl
+
+step : {A B : Type 0} (o : Option A) (words : List (List ℕ)) (later : List (List ℕ) → Option B) (told : A × B)
+    → (let first : Option (A × List (List ℕ)) = o >>= (λ a. Some (a, words)) in first >>= λ next. later next.1 >>= λ b. Some (next.0, b)) ≡ Some told → (o ≡ Some told.0) × (later words ≡ Some told.1)
+step None words later told e = absurd cc
+step {A = A} {B = B} (Some a) words later told e =
+    let pair = λ (b : B). let both : A × B = (a, b) in Some both in
+    let b = bound (later words) pair told e in
+    let same : (a, b.0) ≡ told = some_is (a, b.0) told b.2 in
+    (ap (λ (t : A × B). Some t.0) same, b.1 ∙ ap (λ (t : A × B). Some t.1) same)
+
+-- words that are read as values write these
+pub values_written : (parts : List Part) (told : Values parts) (words : List (List ℕ)) → values parts words ≡ Some told → AreWritten parts told words
+values_written [] told [] e = tt
+values_written [] told (w ∷ ws) e = absurd cc
+values_written (part ∷ parts) told [] e =
+    let both = step (left_out (kind_of part)) [] (values parts) told e in (both.0, values_written parts told.1 [] both.1)
+values_written (part ∷ parts) told (w ∷ ws) e =
+    let both = step (read (kind_of part) w) ws (values parts) told e in
+    (word_written (kind_of part) told.0 w both.0, values_written parts told.1 ws both.1)
+
+-- words are read as the line that they are
+pub line_again : (line : Line) (words : List (List ℕ)) → IsLine line words → line_at words ≡ Some line
+line_again line [] h = absurd h
+line_again line (name ∷ words) h = of (form_in name) h
   where
-    go : (words : List (List ℕ)) → AreWritten [] words → scan_at words ≡ Some ScanPages
-    go [] h = refl
-    go (w ∷ ws) h = absurd h
+    of : (o : Option Form) → IsOf line o words → (o >>= λ form. line_of form words) ≡ Some line
+    of None h = absurd h
+    of (Some form) h = rw (values_read form.1 h.0 words h.2) (ap (λ (l : Line). Some l) h.1)
 
-number_finds : (text : List ℕ) (make : ℕ → Line) (n : ℕ) → ((words : List (List ℕ)) → line_at (text ∷ words) ≡ option_map make (alone number_of words))
-    → Finds line_at (name text ∷ number n ∷ []) (make n)
-number_finds text make n is = named_finds text _ _ (make n) is (word_finds number_of make (number n) n (number_read n))
-
--- the words that a line writes are read as that line
-pub line_again : (line : Line) → Finds line_at (parts_of line) line
-line_again Empty = named_finds [] _ _ _ (λ ws. refl) (end_finds _)
-line_again (Register page node bytes) =
-    named_finds (codes "reg") _ _ _ (λ ws. refl) (page_finds _ page _ _ (field_finds _ _ _ node _ _ (number_read node) (last_finds content_of (Register page node) _ bytes (λ w h. h))))
-line_again (Drop page) = named_finds (codes "drop") _ _ _ (λ ws. refl) (page_alone_finds Drop page)
-line_again (Store page bytes) = named_finds (codes "put") _ _ _ (λ ws. refl) (page_finds _ page _ _ (last_finds content_of (Store page) _ bytes (λ w h. h)))
-line_again (Get page) = named_finds (codes "get") _ _ _ (λ ws. refl) (page_alone_finds Get page)
-line_again (Ticket page) = named_finds (codes "ticket") _ _ _ (λ ws. refl) (page_alone_finds Ticket page)
-line_again (Mappers place) = number_finds (codes "rmap") Mappers place (λ ws. refl)
-line_again ScanPages = named_finds (codes "scan") _ _ _ (λ ws. refl) scan_pages_finds
-line_again (Scan visits) = named_finds (codes "scan") _ _ _ (λ ws. refl) (scan_finds visits)
-line_again Prune = named_finds (codes "prune") _ _ _ (λ ws. refl) (end_finds _)
-line_again (Unmerge owner) = named_finds (codes "unmerge") _ _ _ (λ ws. refl) (word_finds guest_of Unmerge _ owner (guest_read owner))
-line_again (Mergeable owner) = named_finds (codes "mergeable") _ _ _ (λ ws. refl) (word_finds guest_of Mergeable _ owner (guest_read owner))
-line_again (MovePage page node) = named_finds (codes "move") _ _ _ (λ ws. refl) (page_finds _ page _ _ (last_finds number_of (MovePage page) _ node (number_read node)))
-line_again (MoveDup place node) =
-    named_finds (codes "movedup") _ _ _ (λ ws. refl) (field_finds _ _ _ place _ _ (number_read place) (last_finds number_of (MoveDup place) _ node (number_read node)))
-line_again (Set knob value) =
-    named_finds (codes "set") _ _ _ (λ ws. refl) (field_finds _ _ _ knob _ _ (knob_read knob) (last_finds number_of (Set knob) _ value (number_read value)))
-line_again (Show shown) = named_finds (codes "show") _ _ _ (λ ws. refl) (word_finds shown_of Show _ shown (shown_read shown))
-line_again Stat = named_finds (codes "stat") _ _ _ (λ ws. refl) (end_finds _)
-line_again (Find pass place) =
-    named_finds (codes "find") _ _ _ (λ ws. refl) (field_finds _ _ _ pass _ _ (number_read pass) (last_finds number_of (Find pass) _ place (number_read place)))
-line_again (Equal pass place bytes) =
-    named_finds (codes "equal") _ _ _ (λ ws. refl)
-    (field_finds _ _ _ pass _ _ (number_read pass) (field_finds _ _ _ place _ _ (number_read place) (last_finds content_of (Equal pass place) _ bytes (λ w h. h))))
-line_again (Look pass) = number_finds (codes "look") Look pass (λ ws. refl)
-line_again (Leave pass) = number_finds (codes "leave") Leave pass (λ ws. refl)
-line_again Audit = named_finds (codes "audit") _ _ _ (λ ws. refl) (end_finds _)
-
--- ---- what is read is written
-
--- the words that a form reads behind its name
-abbrev Takes : Form → Type 0
-Takes form = Tells form.1 (λ parts. name form.0 ∷ parts)
-
-abbrev AllTake : List Form → Type 0
-AllTake [] = Unit {0}
-AllTake (form ∷ later) = Takes form × AllTake later
-
-also : {A B : Type 0} → A → B → A × B
-also a b = (a, b)
-
-scan_takes : Takes (codes "scan", scan_at)
-scan_takes [] line e = end_tells ScanPages _ refl [] line e
-scan_takes (word ∷ words) line e = word_tells number_of number Scan _ number_written (λ a. refl) (word ∷ words) line e
-
-number_takes : (text : List ℕ) (make : ℕ → Line) → ((n : ℕ) → parts_of (make n) ≡ name text ∷ number n ∷ []) → Takes (text, λ words. option_map make (alone number_of words))
-number_takes text make is = word_tells number_of number make _ number_written is
-
-guest_takes : (text : List ℕ) (make : ℕ → Line) → ((n : ℕ) → parts_of (make n) ≡ name text ∷ guest n ∷ []) → Takes (text, λ words. option_map make (alone guest_of words))
-guest_takes text make is = word_tells guest_of guest make _ guest_written is
-
--- what each form reads behind its name is what its line is made of
-all_take : AllTake forms
-all_take =
-    also (end_tells Empty _ refl) (
-    also (page_tells _ _ (λ page. field_tells _ number _ _ number_written (λ node. last_tells content_of content (Register page node) _ (λ a w h. h) (λ a. refl)))) (
-    also (page_alone_tells Drop _ (λ page. refl)) (
-    also (page_tells _ _ (λ page. last_tells content_of content (Store page) _ (λ a w h. h) (λ a. refl))) (
-    also (page_alone_tells Get _ (λ page. refl)) (
-    also (page_alone_tells Ticket _ (λ page. refl)) (
-    also (number_takes (codes "rmap") Mappers (λ n. refl)) (
-    also scan_takes (
-    also (end_tells Prune _ refl) (
-    also (guest_takes (codes "unmerge") Unmerge (λ n. refl)) (
-    also (guest_takes (codes "mergeable") Mergeable (λ n. refl)) (
-    also (page_tells _ _ (λ page. last_tells number_of number (MovePage page) _ number_written (λ a. refl))) (
-    also (field_tells _ number _ _ number_written (λ place. last_tells number_of number (MoveDup place) _ number_written (λ a. refl))) (
-    also (field_tells _ (λ knob. name (knob_name knob)) _ _ knob_written (λ knob. last_tells number_of number (Set knob) _ number_written (λ a. refl))) (
-    also (word_tells shown_of (λ shown. name (shown_name shown)) Show _ shown_written (λ a. refl)) (
-    also (end_tells Stat _ refl) (
-    also (field_tells _ number _ _ number_written (λ pass. last_tells number_of number (Find pass) _ number_written (λ a. refl))) (
-    also (field_tells _ number _ _ number_written
-    (λ pass. field_tells _ number _ _ number_written (λ place. last_tells content_of content (Equal pass place) _ (λ a w h. h) (λ a. refl)))) (
-    also (number_takes (codes "look") Look (λ n. refl)) (
-    also (number_takes (codes "leave") Leave (λ n. refl)) (
-    also (end_tells Audit _ refl) tt))))))))))))))))))))
-
-named_takes : (later : List Form) (text : List ℕ) (words : List (List ℕ)) (line : Line) → AllTake later
-    → named_line later text words ≡ Some line → AreWritten (parts_of line) (text ∷ words)
-named_takes [] text words line all e = absurd (none_some line e)
-named_takes (form ∷ later) text words line all e =
-    elim (bytes_eq text form.0) as (λ b. (b ≡ true → text ≡ form.0) → cond b (form.1 words) (named_line later text words) ≡ Some line → AreWritten (parts_of line) (text ∷ words)) [
-      | true ↦ λ same h. let told = all.0 words line h in subst (λ (parts : List Part). AreWritten parts (text ∷ words)) (sym told.1) (same refl, told.2)
-      | false ↦ λ same h. named_takes later text words line all.1 h
-    ] (bytes_eq-Decides text form.0).0 e
-
--- words that are read as a line write that line
-pub line_takes : (words : List (List ℕ)) (line : Line) → line_at words ≡ Some line → AreWritten (parts_of line) words
-line_takes [] line e = absurd (none_some line e)
-line_takes (text ∷ words) line e = named_takes forms text words line all_take e
+-- words that are read as a line are that line
+pub line_takes : (line : Line) (words : List (List ℕ)) → line_at words ≡ Some line → IsLine line words
+line_takes line [] e = absurd cc
+line_takes line (name ∷ words) e = of (form_in name) e
+  where
+    of : (o : Option Form) → (o >>= λ form. line_of form words) ≡ Some line → IsOf line o words
+    of None e = absurd cc
+    of (Some form) e =
+        let told = bound (values form.1 words) (λ told. Some (made form.1 form.2 told)) line e in
+        (told.0, some_is _ _ told.2, values_written form.1 told.0 words told.1)
 
 -- ---- both, of a call
 
--- a reader that gives what the words are read as gives a line that the words write
-pub given_written : (r : Result Line LineFault) (words : List (List ℕ)) → Gives r (line_at words) → IfOk r (λ line. AreWritten (parts_of line) words)
-given_written (Ok line) words h = line_takes words line h
+-- a reader that gives what the words are read as gives the line that they are
+pub given_written : (r : Result Line LineFault) (words : List (List ℕ)) → Gives r (line_at words) → IfOk r (λ line. IsLine line words)
+given_written (Ok line) words h = line_takes line words h
 given_written (Err f) words h = tt
 
--- a reader that gives what the words are read as gives each line that the words write
-pub written_given : (r : Result Line LineFault) (words : List (List ℕ)) → Gives r (line_at words) → (line : Line) → AreWritten (parts_of line) words → r ≡ Ok line
-written_given (Ok found) words h line w = ap (λ (l : Line). Ok l) (some_is found line (sym h ∙ (line_again line).finds words w))
-written_given (Err f) words h line w = absurd (none_some line (sym h ∙ (line_again line).finds words w))
+-- and each line that they are
+pub written_given : (r : Result Line LineFault) (words : List (List ℕ)) → Gives r (line_at words) → (line : Line) → IsLine line words → r ≡ Ok line
+written_given (Ok found) words h line w = ap (λ (l : Line). Ok l) (some_is found line (sym h ∙ line_again line words w))
+written_given (Err f) words h line w = absurd (cc (sym h ∙ line_again line words w))
+
+-- and where it gives none, they are none
+pub none_given : (r : Result Line LineFault) (words : List (List ℕ)) → Gives r (line_at words) → IfErr r (λ fault. (line : Line) → ¬ (IsLine line words))
+none_given (Ok found) words h = tt
+none_given (Err f) words h = λ line w. cc (sym h ∙ line_again line words w)

@@ -1,6 +1,6 @@
 -- A word is read as a number exactly where it is the number's decimal text.
-use Rattle.ksm_lines.proofs.Names.{ap, ap₂, arith, Bool, cases_lt, decimal, decimal-digits_value, decimal_digit, decimal_nonempty, digit_value, digits_decimal, digits_of, digits_value, digits_value-decimal, digits_value-take-le, digits_value_more, eq-eqb, eqb, eqb-true, false, first_decimal, get_or, inl, inr, is_ascii_digit, is_plain, IsHigh, IsNumeralModel, IsReadTo, le-ltb, length, List, list_all, list_all_more, lt-ltb, ltb, ltb-true, None, not, number_below, numerals_by_value, refl, rules, Some, subst, sym, take, take_all, true, ℕ, ◌&&◌, ◌*◌, ◌+◌, ◌-◌, ◌<◌, ◌^◌, ◌||◌, ◌∙◌, ◌≡◌, ◌≤◌}
-use Rattle.ksm_lines.proofs.Booleans.{chosen, is_chosen, first_true, second_true}
+use Rattle.ksm_lines.proofs.Names.{and_parts, ap, ap₂, arith, Bool, cases_lt, decimal, decimal-digits_value, decimal_digit, decimal_nonempty, digit_value, digits_decimal, digits_value, digits_value-decimal, digits_value_more, eq-eqb, eqb, eqb-true, false, first_decimal, get_or, inl, inr, is_ascii_digit, is_plain, IsHigh, IsNumeralModel, IsReadTo, le-ltb, length, List, list_all, list_all_more, lt-ltb, ltb, ltb-true, not, number_below, numerals_by_value, refl, rules, Some, subst, sym, take, true, ℕ, ◌&&◌, ◌*◌, ◌+◌, ◌-◌, ◌<◌, ◌^◌, ◌||◌, ◌∙◌, ◌≡◌, ◌≤◌}
+use Rattle.ksm_lines.proofs.Booleans.{implied, is_chosen}
 
 -- the test for decimal digits and the value of a text of digits are a model of numerals
 pub own : IsNumeralModel (λ word. list_all is_ascii_digit word ≡ true) (digits_value 10)
@@ -12,34 +12,20 @@ pub record IsPlain (word : List ℕ) : Type 0 where
   pub long : 0 < length word
   pub no_zero : get_or word 0 0 ≡ 48 → length word ≡ 1
 
-zero_alone : (a b : Bool) → (not a || b) ≡ true → a ≡ true → b ≡ true
-zero_alone true b e h = e
-zero_alone false b e h = absurd cc
-
 -- a word that tests as plain has digits alone, and no zero before another digit
 pub plain_parts : (word : List ℕ) → is_plain word ≡ true → IsPlain word
 plain_parts word e =
-    let digits_long = first_true (list_all is_ascii_digit word && ltb 0 (length word)) _ e in
-    let zero = second_true (list_all is_ascii_digit word && ltb 0 (length word)) _ e in
+    let tests = and_parts (list_all is_ascii_digit word && ltb 0 (length word)) _ e in
+    let both = and_parts (list_all is_ascii_digit word) _ tests.0 in
     record {
-      digits = first_true (list_all is_ascii_digit word) _ digits_long;
-      long = ltb-true _ _ (second_true (list_all is_ascii_digit word) _ digits_long);
-      no_zero = λ h. eqb-true _ _ (zero_alone (eqb (get_or word 0 0) 48) _ zero (eq-eqb _ _ h));
+      digits = both.0;
+      long = ltb-true _ _ both.1;
+      no_zero = λ h. eqb-true _ _ (implied (eqb (get_or word 0 0) 48) _ (eq-eqb _ _ h) tests.1);
     }
 
 not_zero : (a b : Bool) → (a ≡ true → b ≡ true) → (not a || b) ≡ true
 not_zero true b h = h refl
 not_zero false b h = refl
-
--- a word whose first digits write 2 ^ 32 or more has no value as digits
-pub no_digits_high : (word : List ℕ) (i value : ℕ) → value ≡ digits_value 10 (take i word) → 2 ^ 32 ≤ value → digits_of word ≡ None
-no_digits_high word i value is high =
-    let all : 2 ^ 32 ≤ digits_value 10 word = omega (arith, digits_value-take-le 10 word i (omega arith)) in
-    rw (le-ltb _ _ all) (neither (list_all is_ascii_digit word))
-  where
-    neither : (b : Bool) → chosen (b && false) (digits_value 10 word) ≡ None
-    neither true = refl
-    neither false = refl
 
 digit_value_of : (c : ℕ) → 48 ≤ c → c ≤ 57 → digit_value c ≡ c - 48
 digit_value_of c low high = let less : c < 58 = omega arith in rw (le-ltb _ _ low, lt-ltb _ _ less) refl
@@ -59,27 +45,16 @@ module _ (word : List ℕ) (i value digit : ℕ) (lt : i < length word) (low : 4
   pub high_more : is_ascii_digit (get_or word i 0) ≡ true → 2 ^ 32 ≤ value * 10 + digit → IsHigh word
   high_more digits high = (i + 1, omega arith, list_all_more is_ascii_digit word i 0 lt ∙ ap₂ (λ a b. a && b) read.0 digits, subst (λ n. 2 ^ 32 ≤ n) value_more high)
 
--- what is read up to the word's end is its number
-pub digits_whole : (word : List ℕ) (i value : ℕ) → length word ≤ i → IsReadTo i word value → digits_of word ≡ Some value
-digits_whole word i value whole read =
-    let all : take i word ≡ word = take_all i word whole in
-    let digits : list_all is_ascii_digit word ≡ true = ap (list_all is_ascii_digit) (sym all) ∙ read.0 in
-    let is : digits_value 10 word ≡ value = ap (digits_value 10) (sym all) ∙ sym read.1 in
-    let small : ltb value (2 ^ 32) ≡ true = lt-ltb _ _ read.2 in
-    rw (digits, is, small) refl
-
 -- ---- the number's decimal text
-
-below_all : (n limit : ℕ) → n < limit → limit ≤ 2 ^ 64 → n < 2 ^ 64
-below_all n limit lt small = omega arith
 
 -- a word that is read as a number is that number's decimal, below the limit
 pub number_takes : (limit : ℕ) (word : List ℕ) (n : ℕ) → limit ≤ 2 ^ 64 → number_below limit word ≡ Some n → (n < limit) × (word ≡ decimal n)
 number_takes limit word n small e =
     let is = is_chosen (is_plain word && ltb (digits_value 10 word) limit) (digits_value 10 word) n e in
-    let plain = plain_parts word (first_true _ _ is.0) in
-    let lt : digits_value 10 word < limit = ltb-true _ _ (second_true _ _ is.0) in
-    let wide : digits_value 10 word < 2 ^ 64 = below_all (digits_value 10 word) limit lt small in
+    let both = and_parts (is_plain word) _ is.0 in
+    let plain = plain_parts word both.0 in
+    let lt : digits_value 10 word < limit = ltb-true _ _ both.1 in
+    let wide : digits_value 10 word < 2 ^ 64 = omega arith in
     let text = decimal-digits_value own word plain.digits plain.long plain.no_zero wide in
     (subst (λ k. k < limit) (sym is.1) lt, sym text ∙ ap decimal (sym is.1))
 

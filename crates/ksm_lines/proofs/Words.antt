@@ -1,67 +1,117 @@
 -- Words, parted at each space.
-use Rattle.ksm_lines.proofs.Names.{[], alone, ap, Bool, cond, drop, ended, false, length, List, list_all, list_all_at, ltb-true, None, onto_first, Option, passes_at_first, position, position_from, position_from-zero, position_or_len, refl, slice_split, slice_split_first, Some, sym, take, take_rest, true, ℕ, ◌+◌, ◌-◌, ◌<◌, ◌>>=◌, ◌∙◌, ◌∷◌, ◌≡◌}
+use Rattle.ksm_lines.proofs.Names.{[], ◌≢◌, guest, is_ascii_digit, number, subst, after_first, arith, All, All-weaker, AllPass-from_list_all, ap, before_first, Bool, cases_lt, drop, ended, eqb, eqb-true, fails_before_first, Err, false, get_or, Gives, GivesLast, inl, inr, is_ok, is_some, kind_of, length, LineFault, List, list_all, list_all_at, lt-ltb, ltb-true, None, ne_eqb, Ok, Option, Part, passes_at_first, position, position_or_len, read, refl, Result, slice_split_first, slice_split_none, Some, sym, take, take_rest, true, values, words_of, ℕ, ◌+◌, ◌-◌, ◌<◌, ◌>>=◌, ◌∙◌, ◌∷◌, ◌≡◌}
+use Rattle.ksm_lines.proofs.Names.parts
 use Rattle.ksm_lines.proofs.Booleans.{is_chosen}
 
--- a text that is split has a first part
-pub split_part : {X : Type 0} (p : X → Bool) (xs : List X) → (first : List X) × (rest : List (List X)) × (slice_split p xs ≡ first ∷ rest)
-split_part p [] = ([], [], refl)
-split_part {X = X} p (x ∷ xs) =
-    let later = split_part p xs in
-    elim (p x) as (λ b. (first : List X) × (rest : List (List X)) × (cond b ([] ∷ slice_split p xs) (onto_first x (slice_split p xs)) ≡ first ∷ rest)) [
-      | true ↦ ([], slice_split p xs, refl)
-      | false ↦ (x ∷ later.0, later.1, ap (onto_first x) later.2)
+abbrev pub is_space : ℕ → Bool
+is_space byte = eqb byte 32
+
+-- a byte that passes a test is none that fails it
+pub other : (p : ℕ → Bool) (out byte : ℕ) → p out ≡ false → p byte ≡ true → eqb byte out ≡ false
+other p out byte fails passes = ne_eqb byte out (λ is. cc (sym passes ∙ ap p is ∙ fails))
+
+-- what follows of each byte that passes a test is true of all bytes of a text that do
+pub each : (p : ℕ → Bool) (P : ℕ → Type 0) (text : List ℕ) → ((byte : ℕ) → p byte ≡ true → P byte) → list_all p text ≡ true → All P text
+each p P text is passes = All-weaker (λ byte. p byte ≡ true) P is text (AllPass-from_list_all p text passes)
+
+-- a text is one word, or its first word ends at a space
+pub by_space : {P : Type 0} (text : List ℕ)
+    → (position_or_len is_space text < length text → words_of text ≡ before_first is_space text ∷ words_of (after_first is_space text) → P)
+    → (words_of text ≡ text ∷ [] → P) → P
+by_space text some none =
+    elim (cases_lt (position_or_len is_space text) (length text)) [
+      | inl lt ↦ some lt (slice_split_first is_space text 0 lt)
+      | inr le ↦ none (slice_split_none is_space text (λ k d lt. fails_before_first is_space text k d (omega arith)))
     ]
 
--- a text that is split has at least one word
-pub not_ended : (p : ℕ → Bool) (text : List ℕ) → ended (slice_split p text) ≡ None
-not_ended p text = let part = split_part p text in ap ended part.2
+-- a text has a first word
+pub split_part : (text : List ℕ) → (first : List ℕ) × (rest : List (List ℕ)) × (words_of text ≡ first ∷ rest)
+split_part text = by_space text (λ lt is. (before_first is_space text, words_of (after_first is_space text), is)) (λ is. (text, [], is))
+
+-- a text has at least one word
+pub not_ended : (text : List ℕ) → ended (words_of text) ≡ None
+not_ended text = ap ended (split_part text).2
 
 -- where a space is found, the words are what stands before the space, and the words of what is behind
-pub cut_at : (p : ℕ → Bool) (text : List ℕ) (at : ℕ) → position p text ≡ Some at
-    → slice_split p text ≡ take at text ∷ slice_split p (take (length text - (at + 1)) (drop (at + 1) text))
-cut_at p text at e =
+pub cut_at : (text : List ℕ) (at : ℕ) → position is_space text ≡ Some at
+    → words_of text ≡ take at text ∷ words_of (take (length text - (at + 1)) (drop (at + 1) text))
+cut_at text at e =
     let is = is_chosen _ _ _ e in
-    let lt : position_or_len p text < length text = ltb-true _ _ is.0 in
-    let behind : take (length text - (at + 1)) (drop (at + 1) text) ≡ drop (at + 1) text = take_rest text (at + 1) in
-    rw (behind, is.1) (slice_split_first p text 0 lt)
-
-one_word : (p : ℕ → Bool) (text : List ℕ) (i : ℕ) → position_from p i text ≡ None → slice_split p text ≡ text ∷ []
-one_word p [] i e = refl
-one_word p (x ∷ xs) i e =
-    elim (p x) as (λ b. cond b (Some i) (position_from p (i + 1) xs) ≡ None → cond b ([] ∷ slice_split p xs) (onto_first x (slice_split p xs)) ≡ (x ∷ xs) ∷ []) [
-      | true ↦ λ h. absurd cc
-      | false ↦ λ h. ap (onto_first x) (one_word p xs (i + 1) h)
-    ] e
+    rw (take_rest text (at + 1), is.1) (slice_split_first is_space text 0 (ltb-true _ _ is.0))
 
 -- where no space is found, the whole text is the one word
-pub cut_none : (p : ℕ → Bool) (text : List ℕ) → position p text ≡ None → slice_split p text ≡ text ∷ []
-cut_none p text e = one_word p text 0 (sym (position_from-zero p text) ∙ e)
+pub cut_none : (text : List ℕ) → position is_space text ≡ None → words_of text ≡ text ∷ []
+cut_none text e =
+    by_space text (λ lt is. let found : position is_space text ≡ Some (position_or_len is_space text) = rw (lt-ltb _ _ lt) refl in absurd (cc (sym e ∙ found)))
+    (λ is. is)
 
--- ---- the last word
+-- a value with nothing behind it
+abbrev pub alone : {A : Type 0} → Option A → Option (A × Unit {0})
+alone None = None
+alone (Some a) = Some (a, tt)
 
-alone_one : {A : Type 0} (read : List ℕ → Option A) (word : List ℕ) → alone read (word ∷ []) ≡ read word
-alone_one read word = of (read word)
+-- the first of a text's values, where no word is left behind
+abbrev ends : {A : Type 0} → Option (A × List (List ℕ)) → Option (A × Unit {0})
+ends first = first >>= λ next. ended next.1 >>= λ end. Some (next.0, end)
+
+-- what is read as the last word of a text is read of the text, where no word with a space is read
+pub last_text : (part : Part) (test : ℕ → Bool) (text : List ℕ) → test 32 ≡ false → ((word : List ℕ) → list_all test word ≡ false → read (kind_of part) word ≡ None)
+    → values (part ∷ []) (words_of text) ≡ alone (read (kind_of part) text)
+last_text part test text space none =
+    by_space text (λ lt is.
+    let first : is_space (get_or text (position_or_len is_space text) 0) ≡ true = passes_at_first is_space text 0 lt in
+    let unread = none text (list_all_at test text (position_or_len is_space text) 0 lt (ap test (eqb-true _ 32 first) ∙ space)) in
+    ap (values (part ∷ [])) is ∙ more (read (kind_of part) (before_first is_space text)) _ (not_ended (after_first is_space text)) ∙ sym (ap (λ o. alone o) unread))
+    (λ is. ap (values (part ∷ [])) is ∙ one (read (kind_of part) text))
   where
-    of : {A : Type 0} (o : Option A) → (let one : Option (A × List (List ℕ)) = o >>= (λ value. Some (value, [])) in one >>= λ value. ended value.1 >>= λ end. Some value.0) ≡ o
-    of None = refl
-    of (Some x) = refl
+    one : {A : Type 0} (o : Option A) → ends (o >>= λ told. Some (told, [])) ≡ alone o
+    one None = refl
+    one (Some a) = refl
 
-alone_more : {A : Type 0} (read : List ℕ → Option A) (word : List ℕ) (words : List (List ℕ)) → ended words ≡ None → alone read (word ∷ words) ≡ None
-alone_more read word words e = of (read word)
-  where
-    of : {A : Type 0} (o : Option A) → (let more : Option (A × List (List ℕ)) = o >>= (λ value. Some (value, words)) in more >>= λ value. ended value.1 >>= λ end. Some value.0) ≡ None
-    of None = refl
-    of (Some x) = rw e refl
+    more : {A : Type 0} (o : Option A) (words : List (List ℕ)) → ended words ≡ None → ends (o >>= λ told. Some (told, words)) ≡ None
+    more None words e = refl
+    more (Some a) words e = rw e refl
 
--- what is read alone of a text's words is what is read of the text, where no text with a space is read
-pub alone_text : {A : Type 0} (read : List ℕ → Option A) (test p : ℕ → Bool) (text : List ℕ) → ((word : List ℕ) → list_all test word ≡ false → read word ≡ None)
-    → ((byte : ℕ) → p byte ≡ true → test byte ≡ false) → alone read (slice_split p text) ≡ read text
-alone_text read test p text none space = go (position p text) refl
+-- a call that gives what is read of a text gives what is read as its last word
+pub gives_last : {A : Type 0} (r : Result A LineFault) (o : Option A) → Gives r o → GivesLast r (alone o)
+gives_last (Ok a) o h = rw h refl
+gives_last (Err e) o h = rw h refl
+
+-- ---- whether a word is read as a part, told by a call
+
+pub is_given : {A : Type 0} (r : Result A LineFault) (o : Option A) → Gives r o → is_ok r ≡ is_some o
+is_given (Ok a) o h = rw h refl
+is_given (Err e) o h = rw h refl
+
+is_last : {A : Type 0} (r : Result A LineFault) (o : Option A) → GivesLast r (alone o) → is_ok r ≡ is_some o
+is_last (Ok a) (Some b) h = refl
+is_last (Ok a) None h = absurd cc
+is_last (Err e) (Some b) h = absurd cc
+is_last (Err e) None h = refl
+
+pub is_guest : (text : List ℕ) (r : Result ℕ LineFault) → GivesLast r (values (parts.Guest ∷ []) (words_of text)) → is_ok r ≡ is_some (read guest text)
+is_guest text r h = is_last r _ (subst (GivesLast r) (last_text parts.Guest is_ascii_digit text refl (λ word e. rw e refl)) h)
+
+-- of a number that is no guest's
+pub is_number : (part : Part) (text : List ℕ) (r : Result ℕ LineFault) → part ≢ parts.Guest → part ≢ parts.Content → part ≢ parts.Knob → part ≢ parts.Shown
+    → GivesLast r (values (parts.Page ∷ []) (words_of text)) → is_ok r ≡ is_some (read (kind_of part) text)
+is_number part text r not_guest not_content not_knob not_shown h = of part not_guest not_content not_knob not_shown
   where
-    go : (o : Option ℕ) → position p text ≡ o → alone read (slice_split p text) ≡ read text
-    go None e = ap (alone read) (cut_none p text e) ∙ alone_one read text
-    go (Some k) e =
-        let is = is_chosen _ _ _ e in
-        let lt : position_or_len p text < length text = ltb-true _ _ is.0 in
-        ap (alone read) (cut_at p text k e) ∙ alone_more read _ _ (not_ended p _)
-        ∙ sym (none text (list_all_at test text (position_or_len p text) 0 lt (space _ (passes_at_first p text 0 lt))))
+    is : is_ok r ≡ is_some (read number text)
+    is = is_last r _ (subst (GivesLast r) (last_text parts.Page is_ascii_digit text refl (λ word e. rw e refl)) h)
+
+    same : (o : Option ℕ) → is_some o ≡ is_some (o >>= λ n. Some (Some n))
+    same None = refl
+    same (Some n) = refl
+
+    of : (part : Part) → part ≢ parts.Guest → part ≢ parts.Content → part ≢ parts.Knob → part ≢ parts.Shown → is_ok r ≡ is_some (read (kind_of part) text)
+    of parts.Guest a b c d = absurd (a refl)
+    of parts.Content a b c d = absurd (b refl)
+    of parts.Knob a b c d = absurd (c refl)
+    of parts.Shown a b c d = absurd (d refl)
+    of parts.Page a b c d = is
+    of parts.Node a b c d = is
+    of parts.Place a b c d = is
+    of parts.Pass a b c d = is
+    of parts.Value a b c d = is
+    of parts.Visits a b c d = is ∙ same (read number text)

@@ -1,14 +1,8 @@
 -- Digits that are read from left to right.
-use Rattle.std.specs.Prelude.{◌≡◌, ℕ, ◌^◌, ◌<◌, ◌≤◌, ◌&&◌, true, nat_lt, take, length, List, Option, Some, None}
-use Rattle.std.specs.Prelude.{if◌then◌else◌}
+use Rattle.std.specs.Prelude.{◌≡◌, ℕ, ◌^◌, ◌<◌, ◌≤◌, true, take, length, List}
 use Rattle.std.specs.Char.{is_ascii_digit}
 use Rattle.std.specs.List.{list_all}
 use Rattle.std.specs.Str.Parse.{digits_value}
-
--- the number of decimal digits, leading zeros and no digits at all included
-abbrev pub digits_of : List ℕ → Option ℕ
-digits_of word =
-    if list_all is_ascii_digit word && nat_lt (digits_value 10 word) (2 ^ 32) then Some (digits_value 10 word) else None
 
 -- the first digits of a text write a number of 32 bits
 abbrev pub IsReadTo : ℕ → List ℕ → ℕ → Type 0

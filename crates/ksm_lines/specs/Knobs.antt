@@ -1,5 +1,5 @@
 -- The knobs, and what else is shown, by their names (admin-guide/mm/ksm).
-use Rattle.std.specs.Prelude.{ℕ, List, codes}
+use Rattle.std.specs.Prelude.{ℕ, List, [], ◌∷◌, Option, Some, None, option_map, codes, bytes_eq, if◌then◌else◌}
 use Rattle.ksm_base.specs.declared.command.Command.{Command}
 use Rattle.ksm_base.specs.declared.command.Command.TheVariants.{SetRun, SetPagesToScan, SetAcross, SetLimit}
 use Rattle.ksm_base.specs.declared.command.Command.TheVariants.{SetZeroPages}
@@ -24,6 +24,19 @@ knob_name UseZeroPages = codes "use_zero_pages"
 abbrev pub shown_name : Shown → List ℕ
 shown_name (OfKnob knob) = knob_name knob
 shown_name ZeroPages = codes "ksm_zero_pages"
+
+-- the first of some things that has a name
+abbrev pub named_in : {A : Type 0} → (A → List ℕ) → List A → List ℕ → Option A
+named_in name_of [] name = None
+named_in name_of (x ∷ xs) name = if bytes_eq name (name_of x) then Some x else named_in name_of xs name
+
+-- a knob by its name
+abbrev pub knob_of : List ℕ → Option Knob
+knob_of = named_in knob_name (Run ∷ PagesToScan ∷ MergeAcrossNodes ∷ MaxPageSharing ∷ UseZeroPages ∷ [])
+
+-- what is shown, by its name
+abbrev pub shown_of : List ℕ → Option Shown
+shown_of name = if bytes_eq name (shown_name ZeroPages) then Some ZeroPages else option_map OfKnob (knob_of name)
 
 -- the command that sets a knob
 abbrev pub setting : Knob → ℕ → Command

@@ -3,6 +3,5 @@ pub mod Knobs
 pub mod Grammar
 pub mod Reading
 pub mod Digits
-pub mod Forms
 pub mod Leading
 pub mod Worked

@@ -1,15 +1,16 @@
 //! The fields of a line: its words, read one by one.
-ghost use Rattle.std.specs.Prelude.{◌≡◌, ◌+◌, ◌*◌, ◌<◌, ◌≤◌, ◌↔◌, ◌==◌, ◌∷◌, ◌++◌, ◌&&◌, map, not, false, true, length};
+ghost use Rattle.std.specs.Prelude.{◌≡◌, ◌+◌, ◌*◌, ◌<◌, ◌≤◌, ◌↔◌, ◌==◌, [], ◌∷◌, ◌++◌, ◌&&◌, map, not, false, true, length};
 ghost use Rattle.std.specs.Prelude.{take, slice_index, None, IsSome, IsTrue, IfSome, IfOk, IfErr, bytes_eq, position};
 ghost use Rattle.std.specs.Char.{is_ascii_digit, is_ascii_hexdigit};
 ghost use Rattle.std.specs.List.{list_all, range_with_len};
 ghost use Rattle.std.specs.Int.{w32, w64, from_le_bytes, to_le_bytes};
 ghost use Rattle.ksm_lines.specs.Content.{AreValues, digit_or_none, is_small, byte_at, pair_in, page_of_digits};
 ghost use Rattle.ksm_lines.specs.Content.{content_of};
-ghost use Rattle.ksm_lines.specs.Grammar.{words_of};
-ghost use Rattle.ksm_lines.specs.Digits.{digits_of, IsReadTo, IsHigh};
-ghost use Rattle.ksm_lines.specs.Reading.{Gives, GivesField, words_left, field, guest_of, number_of, page_at, alone};
-ghost use Rattle.ksm_lines.specs.Reading.{page_alone, knob_of, shown_of, ended, left_length};
+ghost use Rattle.ksm_lines.specs.Grammar.{words_of, guest as guest_kind, number as number_kind, knob as knob_kind};
+ghost use Rattle.ksm_lines.specs.Digits.{IsReadTo, IsHigh};
+ghost use Rattle.ksm_lines.specs.Reading.{Gives, GivesField, GivesLast, GivesPage, words_left, left_length};
+ghost use Rattle.ksm_lines.specs.Reading.{field, values, ended};
+ghost use Rattle.ksm_lines.specs.declared.part.Part.TheVariants as parts;
 
 use crate::knob::{Knob, Shown, knob_named, shown_named};
 use crate::line::LineFault;
@@ -82,11 +83,20 @@ pub fn behind_name<'a, const N: usize>(text: &'a [u8], name: &[u8; N]) -> Option
     Some(&text[N..])
 }
 
-/// Whether a word is this name.
-pub fn is(word: &[u8], name: &str) -> bool
+/// Whether a word is this name. The first byte that differs ends it.
+#[inline(always)]
+pub fn is<const N: usize>(word: &[u8], name: &[u8; N]) -> bool
     ensures { result ≡ bytes_eq word.now name.now }
 {
-    word == name.as_bytes()
+    if word.len() != N {
+        return false;
+    }
+    for i in 0..N {
+        if word[i] != name[i] {
+            return false;
+        }
+    }
+    true
 }
 
 /// Nothing, where no word is left.
@@ -96,17 +106,6 @@ pub fn ended(left: Option<&[u8]>) -> Result<(), LineFault>
     match left {
         None => Ok(()),
         Some(_) => Err(LineFault::Bad),
-    }
-}
-
-/// The number that a word writes in decimal digits without leading zeros.
-pub fn number_in(word: &[u8]) -> Result<u32, LineFault>
-    ensures { Gives result (number_of word.now) }
-{
-    match word {
-        [] => Err(LineFault::Bad),
-        [b'0', _, ..] => Err(LineFault::Bad),
-        _ => digits_in(word),
     }
 }
 
@@ -132,26 +131,13 @@ pub fn digits_at(text: &[u8]) -> Result<(u32, usize), LineFault>
     Ok((value as u32, text.len()))
 }
 
-/// The number that decimal digits write, leading zeros included.
-fn digits_in(word: &[u8]) -> Result<u32, LineFault>
-    ensures { Gives result (digits_of word.now) }
-{
-    let Ok((number, end)) = digits_at(word) else {
-        return Err(LineFault::Bad);
-    };
-    if end != word.len() {
-        return Err(LineFault::Bad);
-    }
-    Ok(number)
-}
-
 /// What is left behind the digits at the front of a text, where they are its first word.
 fn behind(text: &[u8], end: usize) -> Result<Option<&[u8]>, LineFault>
     requires inside { end ≤ length text.now }
     requires digits { list_all is_ascii_digit (take end text.now) ≡ true }
     requires stops { end < length text.now → is_ascii_digit (slice_index text.now end) ≡ false }
     ensures words { IfOk result (λ left. words_of text.now ≡ take end text.now ∷ words_left left) }
-    ensures odd { IfErr result (λ e. field number_of (words_of text.now) ≡ None) }
+    ensures odd { IfErr result (λ e. field number_kind (words_of text.now) ≡ None) }
 {
     if end == text.len() {
         return Ok(None);
@@ -165,7 +151,7 @@ fn behind(text: &[u8], end: usize) -> Result<Option<&[u8]>, LineFault>
 /// The next word as a number.
 #[inline(always)]
 pub fn number(left: Option<&[u8]>) -> Result<(u32, Option<&[u8]>), LineFault>
-    ensures { GivesField result (field number_of (words_left left.entry)) }
+    ensures { GivesField result (field number_kind (words_left left.entry)) }
 {
     let Some(text) = left else {
         return Err(LineFault::Bad);
@@ -183,7 +169,7 @@ pub fn number(left: Option<&[u8]>) -> Result<(u32, Option<&[u8]>), LineFault>
 /// The next word as the number of a guest.
 #[inline(always)]
 pub fn guest(left: Option<&[u8]>) -> Result<(u16, Option<&[u8]>), LineFault>
-    ensures { GivesField result (field guest_of (words_left left.entry)) }
+    ensures { GivesField result (field guest_kind (words_left left.entry)) }
 {
     let (number, left) = number(left)?;
     match u16::try_from(number) {
@@ -192,29 +178,18 @@ pub fn guest(left: Option<&[u8]>) -> Result<(u16, Option<&[u8]>), LineFault>
     }
 }
 
-/// The next two words as a page.
-#[inline(always)]
-pub fn page(left: Option<&[u8]>) -> Result<(GuestPage, Option<&[u8]>), LineFault>
-    ensures { GivesField result (page_at (words_left left.entry)) }
-{
-    let (guest, left) = guest(left)?;
-    let (page, left) = number(left)?;
-    Ok((GuestPage { guest, page }, left))
-}
-
 /// The last word as a number.
 pub fn number_alone(left: Option<&[u8]>) -> Result<u32, LineFault>
-    ensures { Gives result (alone number_of (words_left left.entry)) }
+    ensures { GivesLast result (values (parts.Page ∷ []) (words_left left.entry)) }
 {
-    let Some(text) = left else {
-        return Err(LineFault::Bad);
-    };
-    number_in(text)
+    let (number, left) = number(left)?;
+    ended(left)?;
+    Ok(number)
 }
 
 /// The last word as the number of a guest.
 pub fn guest_alone(left: Option<&[u8]>) -> Result<u16, LineFault>
-    ensures { Gives result (alone guest_of (words_left left.entry)) }
+    ensures { GivesLast result (values (parts.Guest ∷ []) (words_left left.entry)) }
 {
     match u16::try_from(number_alone(left)?) {
         Ok(guest) => Ok(guest),
@@ -224,7 +199,7 @@ pub fn guest_alone(left: Option<&[u8]>) -> Result<u16, LineFault>
 
 /// The last two words as a page.
 pub fn page_alone(left: Option<&[u8]>) -> Result<GuestPage, LineFault>
-    ensures { Gives result (page_alone (words_left left.entry)) }
+    ensures { GivesPage result (values (parts.Guest ∷ parts.Page ∷ []) (words_left left.entry)) }
 {
     let (guest, left) = guest(left)?;
     let page = number_alone(left)?;
@@ -233,7 +208,7 @@ pub fn page_alone(left: Option<&[u8]>) -> Result<GuestPage, LineFault>
 
 /// The next word as a knob.
 pub fn knob(left: Option<&[u8]>) -> Result<(Knob, Option<&[u8]>), LineFault>
-    ensures { GivesField result (field knob_of (words_left left.entry)) }
+    ensures { GivesField result (field knob_kind (words_left left.entry)) }
 {
     let (word, left) = cut(left.ok_or(LineFault::Bad)?);
     Ok((knob_named(word)?, left))
@@ -241,12 +216,12 @@ pub fn knob(left: Option<&[u8]>) -> Result<(Knob, Option<&[u8]>), LineFault>
 
 /// The last word as what is shown.
 pub fn shown_alone(left: Option<&[u8]>) -> Result<Shown, LineFault>
-    ensures { Gives result (alone shown_of (words_left left.entry)) }
+    ensures { GivesLast result (values (parts.Shown ∷ []) (words_left left.entry)) }
 {
-    let (word, left) = cut(left.ok_or(LineFault::Bad)?);
-    let shown = shown_named(word)?;
-    ended(left)?;
-    Ok(shown)
+    let Some(text) = left else {
+        return Err(LineFault::Bad);
+    };
+    shown_named(text)
 }
 
 /// The byte that two digits write, where they are digits.
@@ -348,7 +323,7 @@ pub fn content_in(word: &[u8]) -> Result<PageBytes, LineFault>
 
 /// The last word as the content of a page.
 pub fn content_alone(left: Option<&[u8]>) -> Result<PageBytes, LineFault>
-    ensures { Gives result (alone content_of (words_left left.entry)) }
+    ensures { GivesLast result (values (parts.Content ∷ []) (words_left left.entry)) }
 {
     let Some(text) = left else {
         return Err(LineFault::Bad);

@@ -1,7 +1,7 @@
 //! The knobs by their names.
 ghost use Rattle.std.specs.Prelude.{◌≡◌};
-ghost use Rattle.ksm_lines.specs.Knobs.{setting, value_in};
-ghost use Rattle.ksm_lines.specs.Reading.{Gives, knob_of, shown_of};
+ghost use Rattle.ksm_lines.specs.Knobs.{setting, value_in, knob_of, shown_of};
+ghost use Rattle.ksm_lines.specs.Reading.{Gives};
 
 use crate::field::is;
 use crate::line::LineFault;
@@ -63,18 +63,13 @@ impl Knob {
 pub fn knob_named(word: &[u8]) -> Result<Knob, LineFault>
     ensures { Gives result (knob_of word.now) }
 {
-    if is(word, "run") {
-        Ok(Knob::Run)
-    } else if is(word, "pages_to_scan") {
-        Ok(Knob::PagesToScan)
-    } else if is(word, "merge_across_nodes") {
-        Ok(Knob::MergeAcrossNodes)
-    } else if is(word, "max_page_sharing") {
-        Ok(Knob::MaxPageSharing)
-    } else if is(word, "use_zero_pages") {
-        Ok(Knob::UseZeroPages)
-    } else {
-        Err(LineFault::Bad)
+    match word {
+        _ if is(word, b"run") => Ok(Knob::Run),
+        _ if is(word, b"pages_to_scan") => Ok(Knob::PagesToScan),
+        _ if is(word, b"merge_across_nodes") => Ok(Knob::MergeAcrossNodes),
+        _ if is(word, b"max_page_sharing") => Ok(Knob::MaxPageSharing),
+        _ if is(word, b"use_zero_pages") => Ok(Knob::UseZeroPages),
+        _ => Err(LineFault::Bad),
     }
 }
 
@@ -82,7 +77,7 @@ pub fn knob_named(word: &[u8]) -> Result<Knob, LineFault>
 pub fn shown_named(word: &[u8]) -> Result<Shown, LineFault>
     ensures { Gives result (shown_of word.now) }
 {
-    if is(word, "ksm_zero_pages") {
+    if is(word, b"ksm_zero_pages") {
         return Ok(Shown::ZeroPages);
     }
     Ok(Shown::Knob(knob_named(word)?))

@@ -54,27 +54,32 @@ pub fn leading_short_line(text: &[u8]) -> Option<(ShortLine, &[u8])>
     // Only a hint: each form reads its own name.
     let front = first_four(text);
     if front == first_four(b"get ") {
-        return get(text);
+        let (page, left) = page_to(behind_name(text, b"get ")?, b'\n')?;
+        return Some((ShortLine::Get { page }, left));
     }
     if front == first_four(b"ticket ") {
-        return ticket(text);
+        let (page, left) = page_to(behind_name(text, b"ticket ")?, b'\n')?;
+        return Some((ShortLine::Ticket { page }, left));
     }
     if front == first_four(b"find ") {
-        return find(text);
+        let (pass, left) = number_to(behind_name(text, b"find ")?, b' ')?;
+        let (place, left) = number_to(left, b'\n')?;
+        return Some((ShortLine::Find { pass, place }, left));
     }
     if front == first_four(b"look ") {
-        return look(text);
+        let (pass, left) = number_to(behind_name(text, b"look ")?, b'\n')?;
+        return Some((ShortLine::Look { pass }, left));
     }
     if front == first_four(b"leave ") {
-        return leave(text);
+        let (pass, left) = number_to(behind_name(text, b"leave ")?, b'\n')?;
+        return Some((ShortLine::Leave { pass }, left));
     }
     if front == first_four(b"scan ") {
-        return scan(text);
+        let (visits, left) = number_to(behind_name(text, b"scan ")?, b'\n')?;
+        return Some((ShortLine::Scan { visits }, left));
     }
-    if front == first_four(b"stat\n") {
-        return stat(text);
-    }
-    None
+    let left = behind_name(text, b"stat\n")?;
+    Some((ShortLine::Stat, left))
 }
 
 /// The line with a content at the front of a text, its content, and what is behind its newline.
@@ -96,69 +101,6 @@ pub fn leading_page_line(text: &[u8]) -> Option<(PageLine, PageBytes, &[u8])>
         return register(text);
     }
     None
-}
-
-#[inline(always)]
-fn get(text: &[u8]) -> Option<(ShortLine, &[u8])>
-    ensures { IfSome result (λ r. BeginsWith (short_form r.0) text.now r.1.now) }
-{
-    let left = behind_name(text, b"get ")?;
-    let (page, left) = page_to(left, b'\n')?;
-    Some((ShortLine::Get { page }, left))
-}
-
-#[inline(always)]
-fn ticket(text: &[u8]) -> Option<(ShortLine, &[u8])>
-    ensures { IfSome result (λ r. BeginsWith (short_form r.0) text.now r.1.now) }
-{
-    let left = behind_name(text, b"ticket ")?;
-    let (page, left) = page_to(left, b'\n')?;
-    Some((ShortLine::Ticket { page }, left))
-}
-
-#[inline(always)]
-fn find(text: &[u8]) -> Option<(ShortLine, &[u8])>
-    ensures { IfSome result (λ r. BeginsWith (short_form r.0) text.now r.1.now) }
-{
-    let left = behind_name(text, b"find ")?;
-    let (pass, left) = number_to(left, b' ')?;
-    let (place, left) = number_to(left, b'\n')?;
-    Some((ShortLine::Find { pass, place }, left))
-}
-
-#[inline(always)]
-fn look(text: &[u8]) -> Option<(ShortLine, &[u8])>
-    ensures { IfSome result (λ r. BeginsWith (short_form r.0) text.now r.1.now) }
-{
-    let left = behind_name(text, b"look ")?;
-    let (pass, left) = number_to(left, b'\n')?;
-    Some((ShortLine::Look { pass }, left))
-}
-
-#[inline(always)]
-fn leave(text: &[u8]) -> Option<(ShortLine, &[u8])>
-    ensures { IfSome result (λ r. BeginsWith (short_form r.0) text.now r.1.now) }
-{
-    let left = behind_name(text, b"leave ")?;
-    let (pass, left) = number_to(left, b'\n')?;
-    Some((ShortLine::Leave { pass }, left))
-}
-
-#[inline(always)]
-fn scan(text: &[u8]) -> Option<(ShortLine, &[u8])>
-    ensures { IfSome result (λ r. BeginsWith (short_form r.0) text.now r.1.now) }
-{
-    let left = behind_name(text, b"scan ")?;
-    let (visits, left) = number_to(left, b'\n')?;
-    Some((ShortLine::Scan { visits }, left))
-}
-
-#[inline(always)]
-fn stat(text: &[u8]) -> Option<(ShortLine, &[u8])>
-    ensures { IfSome result (λ r. BeginsWith (short_form r.0) text.now r.1.now) }
-{
-    let left = behind_name(text, b"stat\n")?;
-    Some((ShortLine::Stat, left))
 }
 
 #[inline(always)]

@@ -5,10 +5,12 @@ mod field;
 mod knob;
 mod leading;
 mod line;
+mod part;
 mod worked;
 
-pub use field::{PAGE_DIGITS, content_in, cut, number_in};
-pub use knob::{Knob, Shown, knob_named, shown_named};
+pub use field::{PAGE_DIGITS, cut, ended};
+pub use knob::{Knob, Shown};
 pub use leading::{PageLine, ShortLine, leading_page_line, leading_short_line};
 pub use line::{Line, LineFault, read_line};
+pub use part::{Part, is_read, parts_of};
 pub use worked::bad_lines;

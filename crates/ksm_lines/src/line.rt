@@ -1,14 +1,11 @@
 //! The lines of the language.
-ghost use Rattle.std.specs.Prelude.{◌≡◌, IfOk, Ok};
+ghost use Rattle.std.specs.Prelude.{◌≡◌, IfErr, IfOk, Ok, codes};
 ghost use Rattle.ksm_lines.specs.declared.line.Line.{Line};
-ghost use Rattle.ksm_lines.specs.Grammar.{Writes, words_of};
-ghost use Rattle.ksm_lines.specs.Reading.{Gives, words_left};
-ghost use Rattle.ksm_lines.specs.Forms.{forms, managing_forms, look_up_forms, line_at, named_line, name_alone};
-ghost use Rattle.ksm_lines.specs.Forms.{register_at, store_at, scan_at, move_page_at, move_dup_at, set_at, find_at};
-ghost use Rattle.ksm_lines.specs.Forms.{equal_at};
+ghost use Rattle.ksm_lines.specs.Grammar.{IsNoLine, Writes, words_of};
+ghost use Rattle.ksm_lines.specs.Reading.{Gives, words_left, line_at, named_line};
 
 use crate::field::{
-    content_alone, cut, ended, guest_alone, is, knob, number, number_alone, page, page_alone,
+    content_alone, cut, ended, guest, guest_alone, is, knob, number, number_alone, page_alone,
     shown_alone,
 };
 use crate::knob::{Knob, Shown};
@@ -120,6 +117,7 @@ pub fn read_line(bytes: &[u8]) -> Result<Line, LineFault>
     ensures found { Gives result (line_at (words_of bytes.now)) }
     ensures written { IfOk result (λ line. Writes line bytes.now) }
     ensures read { (line : Line) → Writes line bytes.now → result ≡ Ok line }
+    ensures none { IfErr result (λ fault. IsNoLine bytes.now) }
 {
     told_line(bytes)
 }
@@ -134,100 +132,57 @@ fn told_line(bytes: &[u8]) -> Result<Line, LineFault>
 
 /// The line that begins with a name.
 fn named(name: &[u8], left: Option<&[u8]>) -> Result<Line, LineFault>
-    ensures { Gives result (named_line forms name.now (words_left left.entry)) }
+    ensures { Gives result (named_line name.now (words_left left.entry)) }
 {
-    if is(name, "put") {
-        store(left)
-    } else if is(name, "get") {
-        page_alone(left).map(|page| Line::Get { page })
-    } else if is(name, "reg") {
-        register(left)
-    } else if is(name, "drop") {
-        page_alone(left).map(|page| Line::Drop { page })
-    } else if is(name, "") {
-        alone(Line::Empty, left)
-    } else if is(name, "ticket") {
-        page_alone(left).map(|page| Line::Ticket { page })
-    } else if is(name, "rmap") {
-        number_alone(left).map(|place| Line::Mappers { place })
-    } else {
-        managing(name, left)
+    match name {
+        _ if is(name, b"put") => store(left),
+        _ if is(name, b"get") => page_alone(left).map(|page| Line::Get { page }),
+        _ if is(name, b"reg") => register(left),
+        _ if is(name, b"drop") => page_alone(left).map(|page| Line::Drop { page }),
+        _ if is(name, b"") => ended(left).map(|()| Line::Empty),
+        _ if is(name, b"ticket") => page_alone(left).map(|page| Line::Ticket { page }),
+        _ if is(name, b"rmap") => number_alone(left).map(|place| Line::Mappers { place }),
+        _ if is(name, b"scan") => scan(left),
+        _ if is(name, b"prune") => ended(left).map(|()| Line::Prune),
+        _ if is(name, b"unmerge") => guest_alone(left).map(|guest| Line::Unmerge { guest }),
+        _ if is(name, b"mergeable") => guest_alone(left).map(|guest| Line::Mergeable { guest }),
+        _ if is(name, b"move") => move_page(left),
+        _ if is(name, b"movedup") => move_dup(left),
+        _ if is(name, b"set") => set(left),
+        _ if is(name, b"show") => shown_alone(left).map(|shown| Line::Show { shown }),
+        _ if is(name, b"stat") => ended(left).map(|()| Line::Stat),
+        _ if is(name, b"find") => find(left),
+        _ if is(name, b"equal") => equal(left),
+        _ if is(name, b"look") => number_alone(left).map(|pass| Line::Look { pass }),
+        _ if is(name, b"leave") => number_alone(left).map(|pass| Line::Leave { pass }),
+        _ if is(name, b"audit") => ended(left).map(|()| Line::Audit),
+        _ => Err(LineFault::Bad),
     }
-}
-
-/// The line of the scan, of guests, moves, settings and counters, or of the passes, that begins with a name.
-fn managing(name: &[u8], left: Option<&[u8]>) -> Result<Line, LineFault>
-    ensures { Gives result (named_line managing_forms name.now (words_left left.entry)) }
-{
-    if is(name, "scan") {
-        scan(left)
-    } else if is(name, "prune") {
-        alone(Line::Prune, left)
-    } else if is(name, "unmerge") {
-        guest_alone(left).map(|guest| Line::Unmerge { guest })
-    } else if is(name, "mergeable") {
-        guest_alone(left).map(|guest| Line::Mergeable { guest })
-    } else if is(name, "move") {
-        move_page(left)
-    } else if is(name, "movedup") {
-        move_dup(left)
-    } else if is(name, "set") {
-        set(left)
-    } else if is(name, "show") {
-        shown_alone(left).map(|shown| Line::Show { shown })
-    } else if is(name, "stat") {
-        alone(Line::Stat, left)
-    } else {
-        looking_up(name, left)
-    }
-}
-
-/// The line of the passes that begins with a name.
-fn looking_up(name: &[u8], left: Option<&[u8]>) -> Result<Line, LineFault>
-    ensures { Gives result (named_line look_up_forms name.now (words_left left.entry)) }
-{
-    if is(name, "find") {
-        find(left)
-    } else if is(name, "equal") {
-        equal(left)
-    } else if is(name, "look") {
-        number_alone(left).map(|pass| Line::Look { pass })
-    } else if is(name, "leave") {
-        number_alone(left).map(|pass| Line::Leave { pass })
-    } else if is(name, "audit") {
-        alone(Line::Audit, left)
-    } else {
-        Err(LineFault::Bad)
-    }
-}
-
-/// A line that is its name alone.
-fn alone(line: Line, left: Option<&[u8]>) -> Result<Line, LineFault>
-    ensures { Gives result (name_alone line (words_left left.entry)) }
-{
-    ended(left)?;
-    Ok(line)
 }
 
 fn register(left: Option<&[u8]>) -> Result<Line, LineFault>
-    ensures { Gives result (register_at (words_left left.entry)) }
+    ensures { Gives result (named_line (codes "reg") (words_left left.entry)) }
 {
-    let (page, left) = page(left)?;
+    let (guest, left) = guest(left)?;
+    let (page, left) = number(left)?;
     let (node, left) = number(left)?;
     let bytes = content_alone(left)?;
+    let page = GuestPage { guest, page };
     Ok(Line::Register { page, node, bytes })
 }
 
 fn store(left: Option<&[u8]>) -> Result<Line, LineFault>
-    ensures { Gives result (store_at (words_left left.entry)) }
+    ensures { Gives result (named_line (codes "put") (words_left left.entry)) }
 {
-    let (page, left) = page(left)?;
+    let (guest, left) = guest(left)?;
+    let (page, left) = number(left)?;
     let bytes = content_alone(left)?;
+    let page = GuestPage { guest, page };
     Ok(Line::Store { page, bytes })
 }
 
 fn scan(left: Option<&[u8]>) -> Result<Line, LineFault>
-    ensures { Gives result (scan_at (words_left left.entry)) }
+    ensures { Gives result (named_line (codes "scan") (words_left left.entry)) }
 {
     match ended(left) {
         Ok(()) => Ok(Line::ScanPages),
@@ -236,15 +191,17 @@ fn scan(left: Option<&[u8]>) -> Result<Line, LineFault>
 }
 
 fn move_page(left: Option<&[u8]>) -> Result<Line, LineFault>
-    ensures { Gives result (move_page_at (words_left left.entry)) }
+    ensures { Gives result (named_line (codes "move") (words_left left.entry)) }
 {
-    let (page, left) = page(left)?;
+    let (guest, left) = guest(left)?;
+    let (page, left) = number(left)?;
     let node = number_alone(left)?;
+    let page = GuestPage { guest, page };
     Ok(Line::MovePage { page, node })
 }
 
 fn move_dup(left: Option<&[u8]>) -> Result<Line, LineFault>
-    ensures { Gives result (move_dup_at (words_left left.entry)) }
+    ensures { Gives result (named_line (codes "movedup") (words_left left.entry)) }
 {
     let (place, left) = number(left)?;
     let node = number_alone(left)?;
@@ -252,7 +209,7 @@ fn move_dup(left: Option<&[u8]>) -> Result<Line, LineFault>
 }
 
 fn set(left: Option<&[u8]>) -> Result<Line, LineFault>
-    ensures { Gives result (set_at (words_left left.entry)) }
+    ensures { Gives result (named_line (codes "set") (words_left left.entry)) }
 {
     let (knob, left) = knob(left)?;
     let value = number_alone(left)?;
@@ -260,7 +217,7 @@ fn set(left: Option<&[u8]>) -> Result<Line, LineFault>
 }
 
 fn find(left: Option<&[u8]>) -> Result<Line, LineFault>
-    ensures { Gives result (find_at (words_left left.entry)) }
+    ensures { Gives result (named_line (codes "find") (words_left left.entry)) }
 {
     let (pass, left) = number(left)?;
     let place = number_alone(left)?;
@@ -268,7 +225,7 @@ fn find(left: Option<&[u8]>) -> Result<Line, LineFault>
 }
 
 fn equal(left: Option<&[u8]>) -> Result<Line, LineFault>
-    ensures { Gives result (equal_at (words_left left.entry)) }
+    ensures { Gives result (named_line (codes "equal") (words_left left.entry)) }
 {
     let (pass, left) = number(left)?;
     let (place, left) = number(left)?;

@@ -1,5 +1,5 @@
 use Rattle.std.proofs.Common.{arith, take}
-use Rattle.ksm_lines.proofs.Parted.{parted_at}
+use Rattle.ksm_lines.proofs.Front.{parted_at}
 use Rattle.ksm_lines.proofs.leading.content_of_length.Goals as goal
 
 pub returns-in-Ok : goal.returns-in-Ok

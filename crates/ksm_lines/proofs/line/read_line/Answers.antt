@@ -1,5 +1,5 @@
 use Rattle.ksm_lines.specs.Grammar.{words_of}
-use Rattle.ksm_lines.proofs.Lines.{given_written, written_given}
+use Rattle.ksm_lines.proofs.Lines.{given_written, none_given, written_given}
 use Rattle.ksm_lines.proofs.line.read_line.Goals as goal
 
 pub returns-clause-written : goal.returns-clause-written
@@ -7,3 +7,6 @@ returns-clause-written c = given_written c.told_line.result (words_of c.args.byt
 
 pub returns-clause-read : goal.returns-clause-read
 returns-clause-read c = written_given c.told_line.result (words_of c.args.bytes.now) c.told_line.ensures
+
+pub returns-clause-none : goal.returns-clause-none
+returns-clause-none c = none_given c.told_line.result (words_of c.args.bytes.now) c.told_line.ensures
