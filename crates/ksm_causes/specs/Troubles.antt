@@ -113,7 +113,10 @@ parts_trouble end (part ∷ parts) (word ∷ words) =
 
 -- a first word that no line begins with
 abbrev pub name_cause : List ℕ → Cause
-name_cause name = if slice_index name 0 == 35 then Comment else if is_some (parts_in (lowered name)) then Capital else UnknownName
+name_cause name =
+    if slice_index name 0 == 35 then Comment
+    else if is_some (parts_in (lowered name)) then Capital
+    else UnknownName
 
 abbrev pub named_trouble : Option (List Part) → List ℕ → List (List ℕ) → Option Trouble
 named_trouble (Some parts) name words = parts_trouble (length name + 1) parts words

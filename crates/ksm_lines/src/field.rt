@@ -1,6 +1,6 @@
 //! The fields of a line: its words, read one by one.
-ghost use Rattle.std.specs.Prelude.{◌≡◌, ◌+◌, ◌*◌, ◌<◌, ◌≤◌, ◌↔◌, ◌==◌, [], ◌∷◌, ◌++◌, ◌&&◌, map, not, false, true, length};
-ghost use Rattle.std.specs.Prelude.{take, slice_index, None, IsSome, IsTrue, IfSome, IfOk, IfErr, bytes_eq, position};
+ghost use Rattle.std.specs.Prelude.{◌≡◌, ◌+◌, ◌*◌, ◌<◌, ◌≤◌, ◌↔◌, ◌==◌, [], ◌∷◌, ◌++◌, ◌&&◌, map, not, false, true};
+ghost use Rattle.std.specs.Prelude.{length, take, slice_index, None, IsSome, IfSome, IfOk, IfErr, bytes_eq, position};
 ghost use Rattle.std.specs.Char.{is_ascii_digit, is_ascii_hexdigit};
 ghost use Rattle.std.specs.List.{list_all, range_with_len};
 ghost use Rattle.std.specs.Int.{w32, w64, from_le_bytes, to_le_bytes};
