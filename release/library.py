@@ -212,9 +212,19 @@ def host_archive(build, commit, work, output):
     return build.pack_archive(commit, work, name, output)
 
 
+def join_host(build):
+    """The library of a host's size beside the other, where release/host has proved it; an older one goes."""
+    for old in BUILT.glob("libksmbook-host*"):
+        old.unlink()
+    archive = HOST / "crates" / "ksm_ffi" / "out" / "libksm_ffi.a"
+    if archive.exists():
+        build.told(str(TOP / "release" / "join"), "--host", str(archive))
+
+
 def packages(build, commit, work, output):
     """All of them, over the library as it was proved. `build` is release/build, for what it makes of every package."""
     build.told(str(TOP / "release" / "join"))
+    join_host(build)
     shared = [shared_package(build, commit, work, output, name) for name in built()]
     return [*shared, *(make(build, commit, work, output) for make in (dev_package, crate_package, host_archive))]
 

@@ -35,7 +35,7 @@ impl Shape {
     /// How many nodes a table has at most.
     pub const MOST_NODES: u32 = 64;
     /// How many frames a node has at most.
-    pub const MOST_FRAMES_PER_NODE: u32 = 1_048_576;
+    pub const MOST_FRAMES_PER_NODE: u32 = 1048576;
     /// How many passes a table has at most.
     pub const MOST_PASSES: u32 = 256;
     /// How many times a frame is given at most.
