@@ -1,13 +1,15 @@
 -- What a reader's buffer has of a line.
-use Rattle.std.proofs.Common.{◌≡◌, ◌≢◌, ◌==◌, ℕ, ◌+◌, ◌-◌, ◌<◌, ◌≤◌, Bool, true, false, cond, List, [], ◌∷◌, ◌++◌, Option, None, Some, Result, Ok, length, take, get_or, refl, sym, subst, ap, ◌∙◌, arith, zero-le, append_assoc, length-append, take-take}
+use Rattle.std.proofs.Common.{◌≡◌, ◌≢◌, ◌==◌, ℕ, ◌+◌, ◌-◌, ◌<◌, ◌≤◌, Bool, true, false, cond, List, [], ◌∷◌, ◌++◌, Option, None, Some, Result, Ok, Err, length, take, get_or, refl, sym, subst, ap, ◌∙◌, arith, zero-le, append_assoc, length-append, take-take}
 use lib.Seq.{take-append_seam}
-use Rattle.std.specs.Prelude.{if◌then◌else◌, IsTrue, ◌↔◌}
+use Rattle.std.specs.Prelude.{if◌then◌else◌, IsErrAnd, IsTrue, ◌↔◌}
 use Rattle.std.specs.Bool.{then_some}
 use Rattle.ksm_script.specs.declared.input.LineEnd.TheVariants.{TooLong}
 use Rattle.ksm_lines.specs.declared.line.Line.{Line}
 use Rattle.ksm_lines.specs.Leading.{BeginsWith}
-use Rattle.ksm_script.specs.Takes.{Extends, Takes, TakesForm}
-use Rattle.std.specs.Io.KnownBytes.{Consumes, prepend_known}
+use Rattle.ksm_script.specs.declared.script.RunFault.TheVariants.{Read, Write}
+use Rattle.ksm_script.specs.Dialogue.{Dialogue, Talks, silent, took, waited}
+use Rattle.ksm_script.specs.Takes.{Came, Extends, Takes, TakesForm, Took}
+use Rattle.std.specs.Io.KnownBytes.{Consumes, Keeps, prepend_known}
 use Rattle.std.proofs.lemmas.Bool.{eq-eqb, eqb-true}
 use Rattle.std.proofs.lemmas.List.{take_more, get_or-take, get_or_default, length-take, take_min}
 use Rattle.std.proofs.lemmas.List.Elements.{All-append}
@@ -15,7 +17,7 @@ use Rattle.memchr.specs.Find.{Nowhere, Passes, is_byte}
 use Rattle.ksm_script.specs.Input.{EndsAs, IsPlain}
 use Rattle.ksm_script.specs.declared.input.LineEnd.{LineEnd}
 use Rattle.ksm_script.specs.declared.script.RunFault.{RunFault}
-use Rattle.std.proofs.KnownBytes.{Consumes-trans}
+use Rattle.std.proofs.KnownBytes.{Consumes-nil, Consumes-trans, Keeps-refl}
 
 -- bytes that are taken from a buffer are read; with no capacity nothing is known
 pub taken_from : (n m : ℕ) (a b : Option (List ℕ)) (buffer rest bytes : List ℕ) → m ≡ n → b ≡ a → buffer ≡ bytes ++ rest
@@ -72,30 +74,66 @@ up_to_line buffer line rest n is =
     ∙ ap (λ k. take k (front ++ rest)) (sym long) ∙ take-append_seam front rest
 
 -- the line that a buffer begins with is taken, with its newline
-pub form_taken : (form : Line) (old new : Option (List ℕ)) (buffer near rest : List ℕ) (n : ℕ) → buffer ≡ near → BeginsWith form (take n buffer) rest → n ≤ 257
-    → Consumes old new (take (length (take n buffer) - length rest) near) → TakesForm form old new
-form_taken form old new buffer near rest n same begins room consumed =
+pub form_taken : (form : Line) (Took : List ℕ → Type 0) (buffer near rest : List ℕ) (n : ℕ) → buffer ≡ near → BeginsWith form (take n buffer) rest → n ≤ 257
+    → Took (take (length (take n buffer) - length rest) near) → TakesForm form Took
+form_taken form Took buffer near rest n same begins room consumed =
     let line = begins.0 in
     let is = begins.3 in
     let long = length-append line (10 ∷ rest) in
     let size : length (take n buffer) - length rest ≡ length line + 1 = omega (arith, ap length is, long) in
     let short : length line ≤ 256 = omega (arith, ap length is, long, length-take n buffer) in
-    (line, begins.1, begins.2, short, subst (Consumes old new) (ap (take (length (take n buffer) - length rest)) (sym same) ∙ ap (λ k. take k buffer) size ∙ up_to_line buffer line rest n is) consumed)
+    (line, begins.1, begins.2, short, subst Took (ap (take (length (take n buffer) - length rest)) (sym same) ∙ ap (λ k. take k buffer) size ∙ up_to_line buffer line rest n is) consumed)
 
 -- a line goes on by what is taken of it
-pub goes_on : (a b c : Option (List ℕ)) (before line : List ℕ) (told : Option LineEnd) → told ≡ None → Consumes a b before → Takes told before line b c
-    → (length line ≤ 256) × Consumes a c line
-goes_on a b c before line told is p q =
-    let h : Takes None before line b c = subst (λ t. Takes t before line b c) is q in
-    (h.1.1, subst (Consumes a c) (sym h.1.0) (Consumes-trans a b c _ _ p h.2))
+pub goes_on : (Whole Took : List ℕ → Type 0) (before line : List ℕ) (told : Option LineEnd) → told ≡ None → ((bytes : List ℕ) → Took bytes → Whole (before ++ bytes))
+    → Takes told before line Took → (length line ≤ 256) × Whole line
+goes_on Whole Took before line told is more q =
+    let h : Takes None before line Took = subst (λ t. Takes t before line Took) is q in (h.1.1, subst Whole (sym h.1.0) (more h.0 h.2))
+
+-- a line that goes on is no shorter
+pub longer : (Took : List ℕ → Type 0) (before line : List ℕ) (told : Option LineEnd) → told ≡ None → Takes told before line Took → length before ≤ length line
+longer Took before line told is q =
+    let h : Takes None before line Took = subst (λ t. Takes t before line Took) is q in omega (arith, ap length h.1.0, length-append before h.0)
 
 -- a line ends by what is taken of it
-pub ends_so : (a b c : Option (List ℕ)) (before line : List ℕ) (told : Option LineEnd) (end : LineEnd) → told ≡ Some end → Consumes a b before
-    → Takes told before line b c → (bytes : List ℕ) × EndsAs end line bytes × Consumes a c bytes
-ends_so a b c before line told end is p q =
-    let h : Takes (Some end) before line b c = subst (λ t. Takes t before line b c) is q in (before ++ h.0, h.1, Consumes-trans a b c _ _ p h.2)
+pub ends_so : (Whole Took : List ℕ → Type 0) (before line : List ℕ) (told : Option LineEnd) (end : LineEnd) → told ≡ Some end → ((bytes : List ℕ) → Took bytes → Whole (before ++ bytes))
+    → Takes told before line Took → (bytes : List ℕ) × EndsAs end line bytes × Whole bytes
+ends_so Whole Took before line told end is more q =
+    let h : Takes (Some end) before line Took = subst (λ t. Takes t before line Took) is q in (before ++ h.0, h.1, more h.0 h.2)
 
-abbrev told : Option LineEnd → Result (Option LineEnd) RunFault
+module _ {R W : Type 0} (remaining : R → Option (List ℕ)) (takes : R → R → List ℕ → Type 0) (waits : W → R → R → Option (List ℕ) → Type 0) (May : List ℕ → W → Type 0) (first : R) where
+  -- what was read of a reader, and by which dialogue
+  abbrev pub IsTalked : R → List ℕ → Type 0
+  IsTalked now bytes = Consumes (remaining first) (remaining now) bytes × Dialogue takes waits May first now bytes
+
+  -- more bytes are taken that were at hand
+  pub took_more : (now next : R) (before : List ℕ) → IsTalked now before → (bytes : List ℕ) → Took remaining takes now next bytes → IsTalked next (before ++ bytes)
+  took_more now next before so bytes more = (Consumes-trans _ _ _ before bytes so.0 more.0, took so.1 bytes more.1)
+
+  -- more bytes came that were waited for
+  pub came_more : (now next : R) (before : List ℕ) (writer : W) → May before writer → IsTalked now before → (bytes : List ℕ) → Came remaining waits writer now next bytes
+      → IsTalked next (before ++ bytes)
+  came_more now next before writer may so bytes more = (Consumes-trans _ _ _ before bytes so.0 more.0, waited so.1 writer may bytes more.1)
+
+  -- nothing is read of a line that is just begun
+  pub nothing_talked : (contents : W → Option (List ℕ)) (writer : W) (line : List ℕ) → line ≡ []
+      → IsPlain line × (length line ≤ 256) × IsTalked first line × (0 ≤ length line) × Keeps (contents writer) (contents writer)
+  nothing_talked contents writer line none =
+      subst (λ (l : List ℕ). IsPlain l × (length l ≤ 256) × IsTalked first l × (0 ≤ length l) × Keeps (contents writer) (contents writer)) (sym none)
+      ((λ k d lt is. absurd (omega (arith, lt))), omega arith, (Consumes-nil (remaining first), silent), omega arith, Keeps-refl (contents writer))
+
+-- a fault is told on
+pub talks_fault : {R W A : Type 0} (B : Type 0) (takes : R → R → List ℕ → Type 0) (waits : W → R → R → Option (List ℕ) → Type 0) (fails : W → Type 0) (May : List ℕ → W → Type 0) (first last : R) (writer : W)
+    (r : Result A RunFault) (e : RunFault) → IsErrAnd r (λ f. f ≡ e) → Talks {A = B} takes waits fails May first last writer (Err e) → Talks takes waits fails May first last writer r
+talks_fault B takes waits fails May first last writer (Ok x) e is talk = absurd is
+talks_fault {R} {W} {A} B takes waits fails May first last writer (Err f) e is talk =
+    subst (λ (x : RunFault). Talks {A = A} takes waits fails May first last writer (Err x)) (sym is) (same e talk)
+  where
+    same : (e : RunFault) → Talks {A = B} takes waits fails May first last writer (Err e) → Talks {A = A} takes waits fails May first last writer (Err e)
+    same Read talk = talk
+    same Write talk = talk
+
+abbrev pub told : Option LineEnd → Result (Option LineEnd) RunFault
 told end = Ok end
 
 told_is : (end : Option LineEnd) → told end ≡ told None → end ≡ None

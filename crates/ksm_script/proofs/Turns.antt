@@ -17,7 +17,7 @@ use Rattle.ksm_script.specs.Texts.{AppendsPart}
 use Rattle.ksm_script.specs.declared.script.End.{End}
 use Rattle.ksm_script.specs.declared.script.End.TheVariants.{AllRead, BadLine}
 use Rattle.ksm_script.specs.declared.script.RunFault.{RunFault}
-use Rattle.ksm_script.specs.declared.script.RunFault.TheVariants.{Write}
+use Rattle.ksm_script.specs.declared.script.RunFault.TheVariants.{Read, Write}
 use Rattle.ksm_script.specs.declared.input.LineEnd.{LineEnd}
 use Rattle.ksm_script.specs.declared.input.LineEnd.TheVariants.{Newline, Input, TooLong}
 use Rattle.ksm_lines.specs.Grammar.{IsNoLine}
@@ -26,97 +26,163 @@ use Rattle.ksm_script.specs.Answering.{Answers, reply_text}
 use Rattle.ksm_script.specs.Going.{AtOnce, end_at, GoesOn, IsDone, IsReplied, IsSoFar}
 use Rattle.ksm_script.specs.LastLine.{EndsBad, EndsOpen}
 use Rattle.ksm_script.specs.Said.{IsSaid, ReturnsReply, WritesReply}
-use Rattle.ksm_script.specs.Takes.{TakesForm}
-use Rattle.ksm_script.specs.Script.{Answered, none, more, CarriesOut, ReadFor, AnsweredAll, AnsweredLast, IsBad, IsReadAs, AnsweredToBad, AnsweredOne, Streams, streams, Goes}
+use Rattle.ksm_script.specs.Dialogue.{Dialogue, HasReplied, IsWithin, Talks, silent, took, waited}
+use Rattle.ksm_script.specs.Takes.{TakesForm, Took}
+use Rattle.ksm_script.specs.Script.{Answered, none, more, CarriesOut, ReadFor, AnsweredAll, AnsweredLast, IsBad, IsReadAs, AnsweredToBad, Streams, streams, Goes}
 use Rattle.ksm_script.proofs.Parts.{broken_after}
 
 -- a failed write is told as one
 pub broke : (io : Streams) (from to : ScriptState) (told : Result End RunFault) → told ≡ Err Write → Goes io from to (Err Write) → Goes io from to told
 broke io from to told is h = subst (λ (r : Result End RunFault). Goes io from to r) (sym is) h
 
+-- a fault of a run's last line ends the run
+pub goes_fault : (io : Streams) (from to : ScriptState) (told : Result End RunFault) (e : RunFault) → IsErrAnd told (λ f. f ≡ e) → Goes io from to (Err e) → Goes io from to told
+goes_fault io from to (Ok x) e is h = absurd is
+goes_fault io from to (Err f) e is h = subst (λ (x : RunFault). Goes io from to (Err x)) (sym is) h
+
 -- before the first line, nothing was read and nothing written
-pub nothing_yet : (reader writer : Option (List ℕ)) (state : ScriptState) → IsSoFar reader reader writer writer state state 1
+pub nothing_yet : (reader writer : Option (List ℕ)) (state : ScriptState) → IsSoFar [] reader reader writer writer state state 1
 nothing_yet reader writer state =
-    record { lines = []; text = []; count = 0; counted = refl; answered = none; consumed = Consumes-nil reader; appended = Appends-nil writer }
+    record { text = []; count = 0; counted = refl; answered = none; consumed = Consumes-nil reader; appended = Appends-nil writer }
 
 -- the same after a line was read
-pub in_state : (first now : Option (List ℕ)) (begun written kept : Option (List ℕ)) (from state same : ScriptState) (number : ℕ) → same ≡ state
-    → Keeps written kept → IsSoFar first now begun written from state number → IsSoFar first now begun kept from same number
-in_state first now begun written kept from state same number e k s =
+pub in_state : (lines : List ℕ) (first now : Option (List ℕ)) (begun written kept : Option (List ℕ)) (from state same : ScriptState) (number : ℕ) → same ≡ state
+    → Keeps written kept → IsSoFar lines first now begun written from state number → IsSoFar lines first now begun kept from same number
+in_state lines first now begun written kept from state same number e k s =
     let stays : Appends begun kept s.text = Appends-kept begun written kept s.text s.appended k in
     record {
-      lines = s.lines;
       text = s.text;
       count = s.count;
       counted = s.counted;
-      answered = subst (λ (b : ScriptState). Answered from s.lines s.text s.count b) (sym e) s.answered;
+      answered = subst (λ (b : ScriptState). Answered from lines s.text s.count b) (sym e) s.answered;
       consumed = s.consumed;
       appended = stays;
     }
 
 -- a line as it was read, which ended so
-pub record IsRead (now next : Option (List ℕ)) (line : List ℕ) (end : LineEnd) : Type 0 where
+pub record IsRead (Talk : List ℕ → Type 0) (now next : Option (List ℕ)) (line : List ℕ) (end : LineEnd) : Type 0 where
   pub bytes : List ℕ
+  pub talk : Talk bytes
   pub ends : EndsAs end line bytes
   pub consumed : Consumes now next bytes
   pub plain : IsPlain line
   pub last : end ≡ Input → IsAtEnd next
 
 -- a line of no bytes was answered
-pub one_empty : (now later written : Option (List ℕ)) (state : ScriptState) → TakesForm Empty now later → AnsweredOne (streams now later written written) state state
-one_empty now later written state taken =
+pub one_empty : {R W : Type 0} (remaining : R → Option (List ℕ)) (takes : R → R → List ℕ → Type 0) (contents : W → Option (List ℕ)) (now later : R) (writer : W) (session : SessionView)
+    → TakesForm Empty (Took remaining takes now later) → AtOnce remaining takes contents (now, writer, session) (later, writer, session) (Ok true)
+one_empty remaining takes contents now later writer session taken =
+    let state = session.state in
     let carried : CarriesOut state taken.0 None state =
     record { form = Empty; plain = taken.2; short = taken.3; written = taken.1; answers = (refl, refl) } in
-    (taken.0, None, carried, taken.4, Appends-nil written)
+    ((taken.0, None, carried, taken.4.0, Appends-nil (contents writer)), taken.4.1)
 
-module _ {R W : Type 0} (remaining : R → Option (List ℕ)) (contents : W → Option (List ℕ)) (first begun : Option (List ℕ)) (from : ScriptState) (old new : R × W × SessionView)
-    (number : ℕ) (so : IsSoFar first (remaining old.0) begun (contents old.1) from old.2.state number) where
-  -- the same after a line that was answered at once
-  pub one_more : (b : Bool) → AtOnce remaining contents old new (Ok b) → b ≡ true → IsSoFar first (remaining new.0) begun (contents new.1) from new.2.state (number + 1)
-  one_more true one is =
-      record {
-        lines = so.lines ++ (one.0 ++ 10 ∷ []);
-        text = so.text ++ reply_text one.1;
-        count = so.count + 1;
-        counted = ap (λ n. n + 1) so.counted;
-        answered = more so.answered one.0 one.1 new.2.state one.2;
-        consumed = Consumes-trans first (remaining old.0) (remaining new.0) so.lines (one.0 ++ 10 ∷ []) so.consumed one.3;
-        appended = Appends-trans begun (contents old.1) (contents new.1) so.text (reply_text one.1) so.appended one.4;
-      }
-  one_more false one is = absurd (cc is)
+module _ {R W : Type 0} (remaining : R → Option (List ℕ)) (takes : R → R → List ℕ → Type 0) (waits : W → R → R → Option (List ℕ) → Type 0) (is_sent : W → Type 0)
+    (contents : W → Option (List ℕ)) (first : R) (begun : Option (List ℕ)) (from : ScriptState) where
+  abbrev pub Replied : List ℕ → W → Type 0
+  Replied = HasReplied is_sent contents begun from
 
-  -- the same where no line was answered at once
-  pub one_left : (b : Bool) → AtOnce remaining contents old new (Ok b) → b ≡ false → IsSoFar first (remaining new.0) begun (contents new.1) from new.2.state number
-  one_left true one is = absurd (cc is)
-  one_left false same is =
-      subst (λ (s : SessionView). IsSoFar first (remaining new.0) begun (contents new.1) from s.state number) (sym same.2)
-      (subst (λ (w : W). IsSoFar first (remaining new.0) begun (contents w) from old.2.state number) (sym same.1)
-      (subst (λ (r : R). IsSoFar first (remaining r) begun (contents old.1) from old.2.state number) (sym same.0) so))
+  -- where a run is before the line of a number, and by which dialogue it came there
+  abbrev pub IsAt : R → W → ScriptState → ℕ → Type 0
+  IsAt now written state number =
+      (lines : List ℕ) × IsSoFar lines (remaining first) (remaining now) begun (contents written) from state number × Dialogue takes waits Replied first now lines
 
-  -- a run whose last line was answered at once, and its reply broken off
-  pub one_broken : (fault : RunFault) → AtOnce remaining contents old new (Err fault) → Goes (streams first (remaining new.0) begun (contents new.1)) from new.2.state (Err Write)
-  one_broken fault told =
-      let one = told.1 in
-      let consumed = Consumes-trans first (remaining old.0) (remaining new.0) so.lines (one.0 ++ 10 ∷ []) so.consumed one.3 in
-      inl (so.text, one.1, (so.lines, one.0, so.lines ++ (one.0 ++ 10 ∷ []), so.count, old.2.state, so.answered, one.2, inl refl, consumed), broken_after _ _ _ so.text _ so.appended one.4)
+  -- a dialogue goes on by that of one line
+  join : (Within : List ℕ → W → Type 0) (now : R) (lines : List ℕ) → ((before : List ℕ) (writer : W) → Within before writer → Replied (lines ++ before) writer)
+      → Dialogue takes waits Replied first now lines → (next : R) (bytes : List ℕ) → Dialogue takes waits Within now next bytes → Dialogue takes waits Replied first next (lines ++ bytes)
+  join Within now lines may so next bytes silent = subst (Dialogue takes waits Replied first now) (sym (append-nil lines)) so
+  join Within now lines may so next bytes (took {now = mid} {before = before} talk part taken) =
+      subst (Dialogue takes waits Replied first next) (append_assoc lines before part) (took (join Within now lines may so mid before talk) part taken)
+  join Within now lines may so next bytes (waited {now = mid} {before = before} talk writer allowed part came) =
+      subst (Dialogue takes waits Replied first next) (append_assoc lines before part) (waited (join Within now lines may so mid before talk) writer (may before writer allowed) part came)
 
-module _ {R W : Type 0} (remaining : R → Option (List ℕ)) (contents : W → Option (List ℕ)) (now later : R) (old new : W) (from to : SessionView) (form : Line)
-    (taken : TakesForm form (remaining now) (remaining later)) where
+  -- within a line, the replies to the lines before it are sent
+  replied_within : (now : R) (written : W) (state : ScriptState) (number : ℕ) (at : IsAt now written state number) (before : List ℕ) (writer : W)
+      → IsWithin is_sent contents written before writer → Replied (at.0 ++ before) writer
+  replied_within now written state number at before writer within =
+      let so = at.1 in
+      let stays = Appends-kept begun (contents written) (contents writer) so.text so.appended within.1 in
+      (at.0, before, so.text, so.count, state, refl, within.0, so.answered, stays, within.2)
+
+  -- the dialogue of a run by that of its last line
+  pub talks_on : {A : Type 0} (fails : W → Type 0) (now next : R) (written writer : W) (state : ScriptState) (number : ℕ) → IsAt now written state number → (r : Result A RunFault)
+      → Talks takes waits fails (IsWithin is_sent contents written) now next writer r → Talks takes waits fails Replied first next writer r
+  talks_on fails now next written writer state number at (Ok x) talk =
+      (at.0 ++ talk.0, join _ now at.0 (replied_within now written state number at) at.2 next talk.0 talk.1)
+  talks_on fails now next written writer state number at (Err Write) talk =
+      (at.0 ++ talk.0, join _ now at.0 (replied_within now written state number at) at.2 next talk.0 talk.1)
+  talks_on fails now next written writer state number at (Err Read) (inl failed) =
+      let may = replied_within now written state number at in
+      inl (at.0 ++ failed.0, failed.1, failed.2, join _ now at.0 may at.2 failed.1 failed.0 failed.3, may failed.0 failed.2 failed.4, failed.5)
+  talks_on fails now next written writer state number at (Err Read) (inr unsent) =
+      inr (unsent.0, at.0 ++ unsent.1, join _ now at.0 (replied_within now written state number at) at.2 next unsent.1 unsent.2)
+
+  -- behind a line that was read
+  pub went_on : (now next : R) (written wrote : W) (state : ScriptState) (number : ℕ) (session : SessionView) (at : IsAt now written state number)
+      → GoesOn (Dialogue takes waits (IsWithin is_sent contents written) now next) at.0 (remaining first) (remaining next) begun (contents wrote) from session number (Ok None)
+      → IsAt next wrote session.state (number + 1)
+  went_on now next written wrote state number session at on =
+      (at.0 ++ on.0, on.1, join _ now at.0 (replied_within now written state number at) at.2 next on.0 on.2)
+
+  -- a dialogue that a failed write ended
+  pub talks_broke : {A : Type 0} (fails : W → Type 0) (next : R) (writer : W) (r : Result A RunFault) → r ≡ Err Write → ((bytes : List ℕ) × Dialogue takes waits Replied first next bytes)
+      → Talks takes waits fails Replied first next writer r
+  talks_broke fails next writer r is talk = subst (λ q. Talks takes waits fails Replied first next writer q) (sym is) talk
+
+  module _ (old new : R × W × SessionView) (number : ℕ) (at : IsAt old.0 old.1 old.2.state number) where
+    -- behind a line that was answered at once
+    pub one_more : (b : Bool) → AtOnce remaining takes contents old new (Ok b) → b ≡ true → IsAt new.0 new.1 new.2.state (number + 1)
+    one_more true told is =
+        let so = at.1 in
+        let one = told.0 in (
+          at.0 ++ (one.0 ++ 10 ∷ []),
+          record {
+            text = so.text ++ reply_text one.1;
+            count = so.count + 1;
+            counted = ap (λ n. n + 1) so.counted;
+            answered = more so.answered one.0 one.1 new.2.state one.2;
+            consumed = Consumes-trans (remaining first) (remaining old.0) (remaining new.0) at.0 (one.0 ++ 10 ∷ []) so.consumed one.3;
+            appended = Appends-trans begun (contents old.1) (contents new.1) so.text (reply_text one.1) so.appended one.4;
+          },
+          took at.2 (one.0 ++ 10 ∷ []) told.1,
+        )
+    one_more false told is = absurd (cc is)
+
+    -- where no line was answered at once
+    pub one_left : (b : Bool) → AtOnce remaining takes contents old new (Ok b) → b ≡ false → IsAt new.0 new.1 new.2.state number
+    one_left true told is = absurd (cc is)
+    one_left false same is =
+        subst (λ (s : SessionView). IsAt new.0 new.1 s.state number) (sym same.2)
+        (subst (λ (w : W). IsAt new.0 w old.2.state number) (sym same.1) (subst (λ (r : R). IsAt r old.1 old.2.state number) (sym same.0) at))
+
+    -- a run whose last line was answered at once, and its reply broken off
+    pub one_broken : (fault : RunFault) → AtOnce remaining takes contents old new (Err fault)
+        → Goes (streams (remaining first) (remaining new.0) begun (contents new.1)) from new.2.state (Err Write) × ((bytes : List ℕ) × Dialogue takes waits Replied first new.0 bytes)
+    one_broken fault told =
+        let so = at.1 in
+        let one = told.1 in
+        let consumed = Consumes-trans (remaining first) (remaining old.0) (remaining new.0) at.0 (one.0 ++ 10 ∷ []) so.consumed one.3 in (
+          inl (so.text, one.1, (at.0, one.0, at.0 ++ (one.0 ++ 10 ∷ []), so.count, old.2.state, so.answered, one.2, inl refl, consumed), broken_after _ _ _ so.text _ so.appended one.4),
+          (at.0 ++ (one.0 ++ 10 ∷ []), took at.2 (one.0 ++ 10 ∷ []) told.2),
+        )
+
+module _ {R W : Type 0} (remaining : R → Option (List ℕ)) (takes : R → R → List ℕ → Type 0) (contents : W → Option (List ℕ)) (now later : R) (old new : W) (from to : SessionView) (form : Line)
+    (taken : TakesForm form (Took remaining takes now later)) where
   carried_as : (reply : Option LineReply) → Answers form from.state reply to.state → CarriesOut from.state taken.0 reply to.state
   carried_as reply answers = record { form = form; plain = taken.2; short = taken.3; written = taken.1; answers = answers }
 
   -- a line that was taken whole, and whose reply was written
-  pub said_one : IsSaid (WritesReply contents) (Answers form) from to old new (Ok tt) → AtOnce remaining contents (now, old, from) (later, new, to) (Ok true)
-  said_one (inl said) = (taken.0, Some said.0, carried_as (Some said.0) said.1, taken.4, said.2.0)
+  pub said_one : IsSaid (WritesReply contents) (Answers form) from to old new (Ok tt) → AtOnce remaining takes contents (now, old, from) (later, new, to) (Ok true)
+  said_one (inl said) = ((taken.0, Some said.0, carried_as (Some said.0) said.1, taken.4.0, said.2.0), taken.4.1)
   said_one (inr quiet) =
       let same = subst (λ (w : W). Appends (contents old) (contents w) []) (sym quiet.1) (Appends-nil (contents old)) in
-      (taken.0, None, carried_as None quiet.0, taken.4, same)
+      ((taken.0, None, carried_as None quiet.0, taken.4.0, same), taken.4.1)
 
   -- the same whose reply was broken off
   pub said_part : (r : Result Bool RunFault) (e : RunFault) → IsErrAnd r (λ f. f ≡ e) → IsSaid (WritesReply contents) (Answers form) from to old new (Err e)
-      → AtOnce remaining contents (now, old, from) (later, new, to) r
+      → AtOnce remaining takes contents (now, old, from) (later, new, to) r
   said_part (Ok b) e is said = absurd is
-  said_part (Err f) e is (inl said) = (is ∙ said.2.1.0, (taken.0, said.0, carried_as (Some said.0) said.1, taken.4, said.2.1.1))
+  said_part (Err f) e is (inl said) = (is ∙ said.2.1.0, (taken.0, said.0, carried_as (Some said.0) said.1, taken.4.0, said.2.1.1), taken.4.1)
   said_part (Err f) e is (inr quiet) = absurd (cc quiet.2)
 
 -- the reply that was returned for a line, or none, is what the line is answered
@@ -126,19 +192,20 @@ kept_answer form from to new r (inl said) = subst (λ (x : Option LineReply). An
 kept_answer form from to new r (inr quiet) = subst (λ (x : Option LineReply). Answers form from.state x to.state) (sym quiet.1) quiet.0
 
 -- a failed write ends a run
-pub broke_on : (first now begun written : Option (List ℕ)) (from : ScriptState) (session : SessionView) (number : ℕ) (told : Result (Option End) RunFault) → told ≡ Err Write
-    → Goes (streams first now begun written) from session.state (Err Write) → GoesOn first now begun written from session number told
-broke_on first now begun written from session number told is h = subst (λ (r : Result (Option End) RunFault). GoesOn first now begun written from session number r) (sym is) h
+pub broke_on : (Line : List ℕ → Type 0) (lines : List ℕ) (first now begun written : Option (List ℕ)) (from : ScriptState) (session : SessionView) (number : ℕ) (told : Result (Option End) RunFault)
+    → told ≡ Err Write → Goes (streams first now begun written) from session.state (Err Write) → GoesOn Line lines first now begun written from session number told
+broke_on Line lines first now begun written from session number told is h =
+    subst (λ (r : Result (Option End) RunFault). GoesOn Line lines first now begun written from session number r) (sym is) h
 
 -- a run that goes on behind a line
-pub goes_behind : (first now begun written : Option (List ℕ)) (from : ScriptState) (session : SessionView) (number : ℕ) (x : Option End) → x ≡ None
-    → GoesOn first now begun written from session number (Ok x) → IsSoFar first now begun written from session.state (number + 1)
-goes_behind first now begun written from session number x is on = subst (λ (y : Option End). GoesOn first now begun written from session number (Ok y)) is on
+pub goes_behind : (Line : List ℕ → Type 0) (lines : List ℕ) (first now begun written : Option (List ℕ)) (from : ScriptState) (session : SessionView) (number : ℕ) (x : Option End) → x ≡ None
+    → GoesOn Line lines first now begun written from session number (Ok x) → GoesOn Line lines first now begun written from session number (Ok None)
+goes_behind Line lines first now begun written from session number x is on = subst (λ (y : Option End). GoesOn Line lines first now begun written from session number (Ok y)) is on
 
 -- a run that ends with a line
-pub goes_to_end : (first now begun written : Option (List ℕ)) (from : ScriptState) (session : SessionView) (number : ℕ) (x : Option End) (end : End) → x ≡ Some end
-    → GoesOn first now begun written from session number (Ok x) → Goes (streams first now begun written) from session.state (Ok end) × EndsBad first now session.line (Ok end)
-goes_to_end first now begun written from session number x end is on = subst (λ (y : Option End). GoesOn first now begun written from session number (Ok y)) is on
+pub goes_to_end : (Line : List ℕ → Type 0) (lines : List ℕ) (first now begun written : Option (List ℕ)) (from : ScriptState) (session : SessionView) (number : ℕ) (x : Option End) (end : End)
+    → x ≡ Some end → GoesOn Line lines first now begun written from session number (Ok x) → Goes (streams first now begun written) from session.state (Ok end) × EndsBad first now session.line (Ok end)
+goes_to_end Line lines first now begun written from session number x end is on = subst (λ (y : Option End). GoesOn Line lines first now begun written from session number (Ok y)) is on
 
 -- a run ends so, or goes on
 abbrev ended_so : End → Result End RunFault
@@ -185,14 +252,14 @@ abbrev pub found : LineEnd → Result LineEnd RunFault
 found end = Ok end
 
 -- a plain line that was taken from the input was read
-pub read_as : (now next : Option (List ℕ)) (line : List ℕ) (end : LineEnd) → ((bytes : List ℕ) × EndsAs end line bytes × Consumes now next bytes) → IsPlain line
-    → (found end ≡ found Input → IsAtEnd next) → IsRead now next line end
-read_as now next line end read plain last =
-    record { bytes = read.0; ends = read.1; consumed = read.2; plain = plain; last = λ e. last (ap (λ (x : LineEnd). found x) e) }
+pub read_as : (Line : List ℕ → Type 0) (now next : Option (List ℕ)) (line : List ℕ) (end : LineEnd) → ((bytes : List ℕ) × EndsAs end line bytes × Consumes now next bytes × Line bytes) → IsPlain line
+    → (found end ≡ found Input → IsAtEnd next) → IsRead Line now next line end
+read_as Line now next line end read plain last =
+    record { bytes = read.0; talk = read.3; ends = read.1; consumed = read.2; plain = plain; last = λ e. last (ap (λ (x : LineEnd). found x) e) }
 
 -- a line of some bytes that the end of the input ended
-pub ends_within : (now later : Option (List ℕ)) (line : List ℕ) (end : LineEnd) → IsRead now later line end → end ≡ Input → length line ≢ 0 → EndsOpen now later
-ends_within now later line end read last some =
+pub ends_within : (Line : List ℕ → Type 0) (now later : Option (List ℕ)) (line : List ℕ) (end : LineEnd) → IsRead Line now later line end → end ≡ Input → length line ≢ 0 → EndsOpen now later
+ends_within Line now later line end read last some =
     let whole : read.bytes ≡ line = (subst (λ (e : LineEnd). EndsAs e line read.bytes) last read.ends).0 in
     ([], line, subst (λ (t : List ℕ). Consumes now later t) whole read.consumed, read.plain, λ is. some (ap length is))
 
@@ -222,43 +289,43 @@ empty_of : (line : List ℕ) → length line ≡ 0 → line ≡ []
 empty_of [] nil = refl
 empty_of (byte ∷ line) nil = absurd (cc nil)
 
-module _ (first now later : Option (List ℕ)) (begun written : Option (List ℕ)) (from state : ScriptState) (number : ℕ) (line : List ℕ) (end : LineEnd)
-    (so : IsSoFar first now begun written from state number) (read : IsRead now later line end) where
-  consumed_then : Consumes first later (so.lines ++ read.bytes)
-  consumed_then = Consumes-trans first now later so.lines read.bytes so.consumed read.consumed
+module _ (Line : List ℕ → Type 0) (lines : List ℕ) (first now later : Option (List ℕ)) (begun written : Option (List ℕ)) (from state : ScriptState) (number : ℕ) (line : List ℕ) (end : LineEnd)
+    (so : IsSoFar lines first now begun written from state number) (read : IsRead Line now later line end) where
+  consumed_then : Consumes first later (lines ++ read.bytes)
+  consumed_then = Consumes-trans first now later lines read.bytes so.consumed read.consumed
 
   module _ (next : ScriptState) (reply : Option LineReply) (did : IsDone state next line end reply) where
     carried : CarriesOut state line reply next
     carried =
         record { form = did.form; plain = read.plain; short = not_long end line read.bytes did.short read.ends; written = did.written; answers = did.answers }
 
-    turned : Answered from (so.lines ++ (line ++ 10 ∷ [])) (so.text ++ reply_text reply) (so.count + 1) next
+    turned : Answered from (lines ++ (line ++ 10 ∷ [])) (so.text ++ reply_text reply) (so.count + 1) next
     turned = more so.answered line reply next carried
 
-    ended_by : ReadFor (so.lines ++ (line ++ 10 ∷ [])) (so.lines ++ read.bytes) later
-    ended_by = read_for later end so.lines line read.bytes did.short read.ends read.last
+    ended_by : ReadFor (lines ++ (line ++ 10 ∷ [])) (lines ++ read.bytes) later
+    ended_by = read_for later end lines line read.bytes did.short read.ends read.last
 
     -- once the line is carried out, all lines that were read are answered
     pub answered_all : AnsweredAll first later from next (so.text ++ reply_text reply)
     answered_all =
-        (so.lines ++ (line ++ 10 ∷ []), so.lines ++ read.bytes, so.count + 1, turned, ended_by, consumed_then)
+        (lines ++ (line ++ 10 ∷ []), lines ++ read.bytes, so.count + 1, turned, ended_by, consumed_then)
 
     -- the same where the line has this reply
     pub answered_last : (told : LineReply) → reply ≡ Some told → AnsweredLast first later from next so.text told
     answered_last told is =
         let last = subst (λ (r : Option LineReply). CarriesOut state line r next) is carried in
-        (so.lines, line, so.lines ++ read.bytes, so.count, state, so.answered, last, ended_by, consumed_then)
+        (lines, line, lines ++ read.bytes, so.count, state, so.answered, last, ended_by, consumed_then)
 
     -- once its reply is written, the run goes on behind a line that did not end at the end of the input
-    pub goes_on : (wrote : Option (List ℕ)) → end ≢ Input → Appends written wrote (reply_text reply) → IsSoFar first later begun wrote from next (number + 1)
+    pub goes_on : (wrote : Option (List ℕ)) → end ≢ Input → Appends written wrote (reply_text reply) → IsSoFar (lines ++ read.bytes) first later begun wrote from next (number + 1)
     goes_on wrote open_end appended =
+        let whole = whole_line end line read.bytes did.short open_end read.ends in
         record {
-          lines = so.lines ++ (line ++ 10 ∷ []);
           text = so.text ++ reply_text reply;
           count = so.count + 1;
           counted = ap (λ n. n + 1) so.counted;
-          answered = turned;
-          consumed = subst (λ (t : List ℕ). Consumes first later (so.lines ++ t)) (whole_line end line read.bytes did.short open_end read.ends) consumed_then;
+          answered = subst (λ (t : List ℕ). Answered from (lines ++ t) (so.text ++ reply_text reply) (so.count + 1) next) (sym whole) turned;
+          consumed = consumed_then;
           appended = Appends-trans begun written wrote so.text (reply_text reply) so.appended appended;
         }
 
@@ -267,50 +334,50 @@ module _ (first now later : Option (List ℕ)) (begun written : Option (List ℕ
   all_read last nil =
       let empty : line ≡ [] = empty_of line nil in
       let nothing : read.bytes ≡ [] = (subst (λ (e : LineEnd). EndsAs e line read.bytes) last read.ends).0 ∙ empty in
-      let all : so.lines ++ read.bytes ≡ so.lines = ap (λ (t : List ℕ). so.lines ++ t) nothing ∙ append-nil so.lines in
-      (so.lines, so.lines, so.count, so.answered, inl refl, subst (λ (t : List ℕ). Consumes first later t) all consumed_then)
+      let all : lines ++ read.bytes ≡ lines = ap (λ (t : List ℕ). lines ++ t) nothing ∙ append-nil lines in
+      (lines, lines, so.count, so.answered, inl refl, subst (λ (t : List ℕ). Consumes first later t) all consumed_then)
 
   -- where the line is bad, the lines before it are answered, and the bad line is read
   pub answered_to_bad : (fault : LineFault) → IsReadAs (Err fault) end line → AnsweredToBad first later from state so.text so.count
   answered_to_bad fault bad =
-      (line, read.bytes, end, (so.lines, so.answered, consumed_then), read.plain, read.ends, bad_of later end line bad read.last)
+      (line, read.bytes, end, (lines, so.answered, consumed_then), read.plain, read.ends, bad_of later end line bad read.last)
 
   -- what was read ends with the bad line, whatever its number
   pub ends_bad : (fault : LineFault) → IsReadAs (Err fault) end line → EndsBad first later line (Ok (BadLine 0))
   ends_bad fault bad =
-      (so.lines, read.bytes, end, consumed_then, read.plain, read.ends, bad_of later end line bad read.last)
+      (lines, read.bytes, end, consumed_then, read.plain, read.ends, bad_of later end line bad read.last)
 
-module _ (first now : Option (List ℕ)) (later begun written wrote : Option (List ℕ)) (from : ScriptState) (old new : SessionView) (number : ℕ)
-    (so : IsSoFar first now begun written from old.state number) where
+module _ (Line : List ℕ → Type 0) (lines : List ℕ) (first now : Option (List ℕ)) (later begun written wrote : Option (List ℕ)) (from : ScriptState) (old new : SessionView) (number : ℕ)
+    (so : IsSoFar lines first now begun written from old.state number) where
   -- a line that is carried out, and whose reply is written, ends the run or has it go on
-  pub done_on : (end : LineEnd) (reply : Option LineReply) → IsRead now later old.line end → IsDone old.state new.state old.line end reply → Appends written wrote (reply_text reply)
-      → GoesOn first later begun wrote from new number (Ok (end_at end))
-  done_on Newline reply read did appended = goes_on _ _ _ _ _ _ _ _ _ _ so read _ _ did _ (λ e. absurd cc) appended
+  pub done_on : (end : LineEnd) (reply : Option LineReply) → IsRead Line now later old.line end → IsDone old.state new.state old.line end reply → Appends written wrote (reply_text reply)
+      → GoesOn Line lines first later begun wrote from new number (Ok (end_at end))
+  done_on Newline reply read did appended = (read.bytes, goes_on _ _ _ _ _ _ _ _ _ _ _ _ so read _ _ did _ (λ e. absurd cc) appended, read.talk)
   done_on Input reply read did appended =
-      ((so.text ++ reply_text reply, answered_all _ _ _ _ _ _ _ _ _ _ so read _ _ did, Appends-trans _ _ _ so.text _ so.appended appended, read.last refl), tt)
+      ((so.text ++ reply_text reply, answered_all _ _ _ _ _ _ _ _ _ _ _ _ so read _ _ did, Appends-trans _ _ _ so.text _ so.appended appended, read.last refl), tt)
   done_on TooLong reply read did appended = absurd (did.short refl)
 
   -- a line whose reply is written, whatever it is
-  pub replied_on : (end : LineEnd) (reply : Option LineReply) (ended : Option End) → IsRead now later old.line end → IsReplied end number old new reply ended
-      → Appends written wrote (reply_text reply) → GoesOn first later begun wrote from new number (Ok ended)
+  pub replied_on : (end : LineEnd) (reply : Option LineReply) (ended : Option End) → IsRead Line now later old.line end → IsReplied end number old new reply ended
+      → Appends written wrote (reply_text reply) → GoesOn Line lines first later begun wrote from new number (Ok ended)
   replied_on end reply ended read (inl did) appended =
-      subst (λ (x : Option End). GoesOn first later begun wrote from new number (Ok x)) (sym did.1) (done_on end reply read did.0 appended)
+      subst (λ (x : Option End). GoesOn Line lines first later begun wrote from new number (Ok x)) (sym did.1) (done_on end reply read did.0 appended)
   replied_on end reply ended read (inr bad) appended =
-      let refused = answered_to_bad _ _ _ _ _ _ _ _ _ _ so read Bad bad.0 in
+      let refused = answered_to_bad _ _ _ _ _ _ _ _ _ _ _ _ so read Bad bad.0 in
       let text = subst (λ (r : Option LineReply). Appends written wrote (reply_text r)) bad.1 appended in
       let all = Appends-trans _ _ _ so.text _ so.appended text in
-      let on : GoesOn first later begun wrote from old number (Ok (Some (BadLine number))) =
-      ((so.text, so.count, sym so.counted, refused, all), ends_bad _ _ _ _ _ _ _ _ _ _ so read Bad bad.0) in
-      subst (λ (x : Option End). GoesOn first later begun wrote from new number (Ok x)) (sym bad.2)
-      (subst (λ (s : SessionView). GoesOn first later begun wrote from s number (Ok (Some (BadLine number)))) (sym bad.3) on)
+      let on : GoesOn Line lines first later begun wrote from old number (Ok (Some (BadLine number))) =
+      ((so.text, so.count, sym so.counted, refused, all), ends_bad _ _ _ _ _ _ _ _ _ _ _ _ so read Bad bad.0) in
+      subst (λ (x : Option End). GoesOn Line lines first later begun wrote from new number (Ok x)) (sym bad.2)
+      (subst (λ (s : SessionView). GoesOn Line lines first later begun wrote from s number (Ok (Some (BadLine number)))) (sym bad.3) on)
 
   -- a line whose reply is broken off
-  pub replied_broken : (end : LineEnd) (reply : Option LineReply) (ended : Option End) → IsRead now later old.line end → IsReplied end number old new reply ended
+  pub replied_broken : (end : LineEnd) (reply : Option LineReply) (ended : Option End) → IsRead Line now later old.line end → IsReplied end number old new reply ended
       → (told : LineReply) → reply ≡ Some told → AppendsPart written wrote (text_of told) → Goes (streams first later begun wrote) from new.state (Err Write)
   replied_broken end reply ended read (inl did) told is part =
-      inl (so.text, told, answered_last _ _ _ _ _ _ _ _ _ _ so read _ _ did.0 told is, broken_after _ _ _ so.text _ so.appended part)
+      inl (so.text, told, answered_last _ _ _ _ _ _ _ _ _ _ _ _ so read _ _ did.0 told is, broken_after _ _ _ so.text _ so.appended part)
   replied_broken end reply ended read (inr bad) told is part =
-      let refused = answered_to_bad _ _ _ _ _ _ _ _ _ _ so read Bad bad.0 in
+      let refused = answered_to_bad _ _ _ _ _ _ _ _ _ _ _ _ so read Bad bad.0 in
       let same : told ≡ bad_line (so.count + 1) = some_is _ _ (sym is ∙ bad.1) ∙ ap bad_line (sym so.counted) in
       let broken = broken_after _ _ _ so.text _ so.appended (subst (λ r. AppendsPart written wrote (text_of r)) same part) in
       subst (λ (s : SessionView). Goes (streams first later begun wrote) from s.state (Err Write)) (sym bad.3) (inr (so.text, so.count, refused, broken))

@@ -1,5 +1,5 @@
 -- How a run goes on by a line (own).
-use Rattle.std.specs.Prelude.{◌≡◌, ◌≢◌, ◌⊎◌, ℕ, ◌+◌, List, Option, Some, None, Result, Ok, Err, Bool, true, false}
+use Rattle.std.specs.Prelude.{◌≡◌, ◌≢◌, ◌⊎◌, ℕ, ◌+◌, List, [], ◌∷◌, ◌++◌, Option, Some, None, Result, Ok, Err, Bool, true, false}
 use Rattle.std.specs.Io.KnownBytes.{Appends, Consumes}
 use Rattle.ksm_script.specs.declared.script.End.{End}
 use Rattle.ksm_script.specs.declared.script.RunFault.{RunFault}
@@ -19,18 +19,19 @@ use Rattle.ksm_script.specs.State.{ScriptState}
 
 -- A line was taken and answered at once, or nothing was done, by what was told; at a fault a beginning of the reply is
 -- written. A reader with a writer and a session stands before and after.
-abbrev pub AtOnce : {R W : Type 0} → (R → Option (List ℕ)) → (W → Option (List ℕ)) → (R × W × SessionView)
-    → (R × W × SessionView) → Result Bool RunFault → Type 0
-AtOnce remaining contents old new (Ok true) = AnsweredOne
-    (streams (remaining old.0) (remaining new.0) (contents old.1) (contents new.1)) old.2.state new.2.state
-AtOnce remaining contents old new (Ok false) = (new.0 ≡ old.0) × (new.1 ≡ old.1) × (new.2 ≡ old.2)
-AtOnce remaining contents old new (Err fault) = (fault ≡ Write) × AnsweredPart
-    (streams (remaining old.0) (remaining new.0) (contents old.1) (contents new.1)) old.2.state new.2.state
+abbrev pub AtOnce : {R W : Type 0} → (R → Option (List ℕ)) → (R → R → List ℕ → Type 0) → (W → Option (List ℕ))
+    → (R × W × SessionView) → (R × W × SessionView) → Result Bool RunFault → Type 0
+AtOnce remaining takes contents old new (Ok true) = (one : AnsweredOne
+    (streams (remaining old.0) (remaining new.0) (contents old.1) (contents new.1)) old.2.state new.2.state)
+    × takes old.0 new.0 (one.0 ++ 10 ∷ [])
+AtOnce remaining takes contents old new (Ok false) = (new.0 ≡ old.0) × (new.1 ≡ old.1) × (new.2 ≡ old.2)
+AtOnce remaining takes contents old new (Err fault) = (fault ≡ Write) × (one : AnsweredPart
+    (streams (remaining old.0) (remaining new.0) (contents old.1) (contents new.1)) old.2.state new.2.state)
+    × takes old.0 new.0 (one.0 ++ 10 ∷ [])
 
--- what a run read, did and wrote before the line of a number
-pub record IsSoFar (first now : Option (List ℕ)) (begun written : Option (List ℕ)) (from state : ScriptState)
-    (number : ℕ) : Type 0 where
-  pub lines : List ℕ
+-- what a run read (these lines), did and wrote before the line of a number
+pub record IsSoFar (lines : List ℕ) (first now : Option (List ℕ)) (begun written : Option (List ℕ))
+    (from state : ScriptState) (number : ℕ) : Type 0 where
   pub text : List ℕ
   pub count : ℕ
   pub counted : count + 1 ≡ number
@@ -38,14 +39,14 @@ pub record IsSoFar (first now : Option (List ℕ)) (begun written : Option (List
   pub consumed : Consumes first now lines
   pub appended : Appends begun written text
 
--- what it read, did and wrote with that line: it goes on behind it, or ends there
-abbrev pub GoesOn : Option (List ℕ) → Option (List ℕ) → Option (List ℕ) → Option (List ℕ) → ScriptState → SessionView
-    → ℕ → Result (Option End) RunFault → Type 0
-GoesOn first now begun written from session number (Ok None) =
-    IsSoFar first now begun written from session.state (number + 1)
-GoesOn first now begun written from session number (Ok (Some end)) =
+-- What it read, did and wrote with that line: it goes on behind it, whose bytes were read so, or ends there
+abbrev pub GoesOn : (List ℕ → Type 0) → List ℕ → Option (List ℕ) → Option (List ℕ) → Option (List ℕ)
+    → Option (List ℕ) → ScriptState → SessionView → ℕ → Result (Option End) RunFault → Type 0
+GoesOn IsRead lines first now begun written from session number (Ok None) =
+    (bytes : List ℕ) × IsSoFar (lines ++ bytes) first now begun written from session.state (number + 1) × IsRead bytes
+GoesOn IsRead lines first now begun written from session number (Ok (Some end)) =
     Goes (streams first now begun written) from session.state (Ok end) × EndsBad first now session.line (Ok end)
-GoesOn first now begun written from session number (Err fault) =
+GoesOn IsRead lines first now begun written from session number (Err fault) =
     Goes (streams first now begun written) from session.state (Err fault)
 
 -- a line that was read, and so ended, is carried out with this reply

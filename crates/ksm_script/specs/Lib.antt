@@ -10,5 +10,6 @@ pub mod Script
 pub mod Seen
 pub mod Worked
 pub mod LastLine
+pub mod Dialogue
 pub mod Going
 pub mod Said

@@ -11,11 +11,21 @@ abbrev pub Extends : Option LineEnd → List ℕ → List ℕ → List ℕ → T
 Extends None before line bytes = (line ≡ before ++ bytes) × (length line ≤ 256)
 Extends (Some end) before line bytes = EndsAs end line (before ++ bytes)
 
--- these bytes are read
-abbrev pub Takes : Option LineEnd → List ℕ → List ℕ → Option (List ℕ) → Option (List ℕ) → Type 0
-Takes end before line old new = (bytes : List ℕ) × Extends end before line bytes × Consumes old new bytes
+-- these bytes are read, in such a way
+abbrev pub Takes : Option LineEnd → List ℕ → List ℕ → (List ℕ → Type 0) → Type 0
+Takes end before line Took = (bytes : List ℕ) × Extends end before line bytes × Took bytes
 
--- a whole line is read that writes this form
-abbrev pub TakesForm : Line → Option (List ℕ) → Option (List ℕ) → Type 0
-TakesForm form old new =
-    (line : List ℕ) × Writes form line × IsPlain line × (length line ≤ 256) × Consumes old new (line ++ 10 ∷ [])
+-- a whole line is read, in such a way, that writes this form
+abbrev pub TakesForm : Line → (List ℕ → Type 0) → Type 0
+TakesForm form Took =
+    (line : List ℕ) × Writes form line × IsPlain line × (length line ≤ 256) × Took (line ++ 10 ∷ [])
+
+-- bytes are taken that were at hand
+abbrev pub Took : {R : Type 0} → (R → Option (List ℕ)) → (R → R → List ℕ → Type 0) → R → R → List ℕ → Type 0
+Took remaining takes old new bytes = Consumes (remaining old) (remaining new) bytes × takes old new bytes
+
+-- bytes are taken that were waited for
+abbrev pub Came : {R W : Type 0} → (R → Option (List ℕ)) → (W → R → R → Option (List ℕ) → Type 0) → W → R → R → List ℕ
+    → Type 0
+Came remaining waits writer old new bytes =
+    Consumes (remaining old) (remaining new) bytes × waits writer old new (Some bytes)

@@ -1,9 +1,10 @@
 //! Lines from a reader.
-ghost use Rattle.std.specs.Prelude.{◌≡◌, ◌≢◌, ◌+◌, ◌≤◌, ◌++◌, ◌<◌, [], ℕ, List, Some, Ok, true, false};
+ghost use Rattle.std.specs.Prelude.{◌≡◌, ◌≢◌, ◌+◌, ◌≤◌, ◌++◌, ◌<◌, [], ℕ, List, None, Some, Ok, true, false};
 ghost use Rattle.std.specs.Prelude.{length, take, IfOk, IfErr, IfNone, IfSome, IsTrue, ◌↔◌};
 ghost use Rattle.std.specs.Io.KnownBytes.{Consumes, Keeps, IsAtEnd};
 ghost use Rattle.ksm_lines.specs.Leading.{short_form, page_form};
-ghost use Rattle.ksm_script.specs.Takes.{Extends, Takes, TakesForm};
+ghost use Rattle.ksm_script.specs.Dialogue.{Dialogue, IsWithin, Talks};
+ghost use Rattle.ksm_script.specs.Takes.{Came, Extends, Takes, TakesForm, Took};
 ghost use Rattle.ksm_script.specs.Input.{EndsAs, IsPlain};
 
 use crate::lane::Lane;
@@ -128,7 +129,7 @@ impl LineBuffer {
 /// Takes the newline of a line of no bytes, if that is next at hand; tells whether it did. Else nothing is taken.
 #[inline(always)]
 pub(crate) fn take_empty<M: Lane<R, W>, R, W: Write>(reader: &mut R) -> bool
-    ensures taken { result ≡ true → TakesForm Line.Empty (M.remaining reader.old) (M.remaining reader.new) }
+    ensures taken { result ≡ true → TakesForm Line.Empty (Took M.remaining M.takes reader.old reader.new) }
     ensures none { result ≡ false → reader.new ≡ reader.old }
 {
     let [b'\n', ..] = M::at_hand(reader) else {
@@ -143,7 +144,7 @@ pub(crate) fn take_empty<M: Lane<R, W>, R, W: Write>(reader: &mut R) -> bool
 #[inline(always)]
 pub(crate) fn take_short<M: Lane<R, W>, R, W: Write>(reader: &mut R) -> Option<ShortLine>
     ensures taken { IfSome result
-        (λ line. TakesForm (short_form line) (M.remaining reader.old) (M.remaining reader.new)) }
+        (λ line. TakesForm (short_form line) (Took M.remaining M.takes reader.old reader.new)) }
     ensures none { IfNone result (reader.new ≡ reader.old) }
 {
     let bytes = M::at_hand(reader);
@@ -161,7 +162,7 @@ pub(crate) fn take_short<M: Lane<R, W>, R, W: Write>(reader: &mut R) -> Option<S
 #[inline(always)]
 pub(crate) fn take_page<M: Lane<R, W>, R, W: Write>(reader: &mut R) -> Option<(PageLine, PageBytes)>
     ensures taken { IfSome result
-        (λ r. TakesForm (page_form r.0 r.1) (M.remaining reader.old) (M.remaining reader.new)) }
+        (λ r. TakesForm (page_form r.0 r.1) (Took M.remaining M.takes reader.old reader.new)) }
     ensures none { IfNone result (reader.new ≡ reader.old) }
 {
     let bytes = M::at_hand(reader);
@@ -175,7 +176,7 @@ pub(crate) fn take_page<M: Lane<R, W>, R, W: Write>(reader: &mut R) -> Option<(P
 /// Takes the line that is whole at hand, read where it lies, if it is one of the forms. Else nothing is taken.
 pub(crate) fn take_whole<M: Lane<R, W>, R, W: Write>(reader: &mut R) -> Option<Line>
     ensures taken { IfSome result
-        (λ form. TakesForm form (M.remaining reader.old) (M.remaining reader.new)) }
+        (λ form. TakesForm form (Took M.remaining M.takes reader.old reader.new)) }
     ensures none { IfNone result (reader.new ≡ reader.old) }
 {
     let bytes = M::at_hand(reader);
@@ -198,7 +199,10 @@ pub(crate) fn next_line<M: Lane<R, W>, R, W: Write>(
     line: &mut LineBuffer,
 ) -> Result<LineEnd, RunFault>
     ensures read { IfOk result (λ end. (bytes : List ℕ) × EndsAs end line.new bytes
-        × Consumes (M.remaining reader.old) (M.remaining reader.new) bytes) }
+        × Consumes (M.remaining reader.old) (M.remaining reader.new) bytes
+        × Dialogue M.takes M.waits (IsWithin M.is_sent W.contents writer.old) reader.old reader.new bytes) }
+    ensures talks { Talks M.takes M.waits M.fails (IsWithin M.is_sent W.contents writer.old)
+        reader.old reader.new writer.new result }
     ensures plain { IsPlain line.new }
     ensures end { result ≡ Ok LineEnd.Input → IsAtEnd (M.remaining reader.new) }
     ensures fault { IfErr result (λ e. (e ≡ RunFault.Read) × (length line.new ≤ LONGEST_LINE)
@@ -223,7 +227,7 @@ pub(crate) fn next_line<M: Lane<R, W>, R, W: Write>(
 fn take_block<M: Lane<R, W>, R, W: Write>(reader: &mut R, line: &mut LineBuffer) -> Option<LineEnd>
     requires plain { IsPlain line.old }
     requires room { length line.old ≤ LONGEST_LINE }
-    ensures taken { Takes result line.old line.new (M.remaining reader.old) (M.remaining reader.new) }
+    ensures taken { Takes result line.old line.new (Took M.remaining M.takes reader.old reader.new) }
     ensures plain { IsPlain line.new }
     ensures end { result ≢ Some LineEnd.Input }
 {
@@ -241,12 +245,13 @@ fn take_byte<M: Lane<R, W>, R, W: Write>(
     requires sent { M.is_sent writer.now }
     requires plain { IsPlain line.old }
     requires room { length line.old ≤ LONGEST_LINE }
-    ensures taken { IfOk result (λ end. Takes end line.old line.new (M.remaining reader.old) (M.remaining reader.new)) }
+    ensures taken { IfOk result
+        (λ end. Takes end line.old line.new (Came M.remaining M.waits writer.now reader.old reader.new)) }
     ensures grows { result ≡ Ok None → length line.old < length line.new }
     ensures plain { IsPlain line.new }
     ensures end { result ≡ Ok (Some LineEnd.Input) → IsAtEnd (M.remaining reader.new) }
     ensures fault { IfErr result (λ e. (e ≡ RunFault.Read) × (line.new ≡ line.old)
-        × Keeps (M.remaining reader.old) (M.remaining reader.new)) }
+        × Keeps (M.remaining reader.old) (M.remaining reader.new) × M.waits writer.now reader.old reader.new None) }
 {
     let Some(byte) = M::wait(reader, writer)? else {
         return Ok(Some(LineEnd::Input));

@@ -3,6 +3,7 @@ ghost use Rattle.std.specs.Prelude.{◌≡◌, ◌≤◌, ⊤, [], ℕ, List, Op
 ghost use Rattle.std.specs.Prelude.{option_to_list};
 ghost use Rattle.std.specs.Io.Buffered.{reader_buffer, reader_remaining, writer_buffer};
 ghost use Rattle.std.specs.Io.KnownBytes.{Consumes, Keeps, IsAtEnd};
+ghost use Rattle.ksm_script.specs.Dialogue.{given, Gives};
 
 use crate::script::RunFault;
 use std::io::{BufRead, BufReader, BufWriter, Read, Write};
@@ -19,6 +20,15 @@ pub trait Lane<R, W: Write> {
     /// All that the writer was given is sent.
     ghost is_sent: { W → Type 0 };
 
+    /// The last sending failed.
+    ghost fails: { W → Type 0 };
+
+    /// What a call that took bytes at hand did to the reader.
+    ghost takes: { R → R → List ℕ → Type 0 };
+
+    /// What a wait did to the reader, by the writer that it was shown and the bytes that it gave; none where it failed.
+    ghost waits: { W → R → R → Option (List ℕ) → Type 0 };
+
     /// The bytes that can be taken at once.
     fn at_hand(reader: &R) -> &[u8]
         ensures { result.now ≡ near reader.now };
@@ -26,17 +36,19 @@ pub trait Lane<R, W: Write> {
     /// Takes so many of them.
     fn consume(reader: &mut R, count: usize)
         requires { count ≤ length (near reader.old) }
-        ensures { Consumes (remaining reader.old) (remaining reader.new) (take count (near reader.old)) };
+        ensures bytes { Consumes (remaining reader.old) (remaining reader.new) (take count (near reader.old)) }
+        ensures took { takes reader.old reader.new (take count (near reader.old)) };
 
     /// Sends all that the writer was given. Where that fails, nothing more can be read, so it is a failed read.
     fn send(writer: &mut W) -> Result<(), RunFault>
         ensures kept { Keeps (W.contents writer.old) (W.contents writer.new) }
         ensures sent { OnOk result (is_sent writer.new) }
-        ensures fault { IfErr result (λ e. e ≡ RunFault.Read) };
+        ensures fault { IfErr result (λ e. (e ≡ RunFault.Read) × fails writer.new) };
 
     /// Waits for the next byte, and takes it; none at the end of the input.
     fn wait(reader: &mut R, writer: &W) -> Result<Option<u8>, RunFault>
         requires sent { is_sent writer.now }
+        ensures waited { waits writer.now reader.old reader.new (given result) }
         ensures read { IfOk result (λ r. Consumes (remaining reader.old) (remaining reader.new) (option_to_list r)) }
         ensures end { IfOk result (λ r. IfNone r (IsAtEnd (remaining reader.new))) }
         ensures fault { IfErr result (λ e. (e ≡ RunFault.Read) × Keeps (remaining reader.old) (remaining reader.new)) };
@@ -66,6 +78,12 @@ impl<R: Read, W: Write> Lane<R, W> for Bytes {
 
     ghost is_sent = { λ _. ⊤ };
 
+    ghost fails = { λ _. ⊤ };
+
+    ghost takes = { λ old new bytes. bytes ≡ [] };
+
+    ghost waits = { λ writer old new given. Gives (R.remaining old) (R.remaining new) given };
+
     fn at_hand(_reader: &R) -> &[u8] {
         &[]
     }
@@ -90,6 +108,12 @@ impl<R: Read, W: Write + Drop> Lane<BufReader<R>, BufWriter<W>> for Blocks {
     ghost near = { reader_buffer };
 
     ghost is_sent = { λ writer. writer_buffer writer ≡ [] };
+
+    ghost fails = { λ _. ⊤ };
+
+    ghost takes = { λ old new bytes. Consumes (reader_remaining R.remaining old) (reader_remaining R.remaining new) bytes };
+
+    ghost waits = { λ writer old new given. Gives (reader_remaining R.remaining old) (reader_remaining R.remaining new) given };
 
     #[inline(always)]
     fn at_hand(reader: &BufReader<R>) -> &[u8] {

@@ -3,6 +3,7 @@ ghost use Rattle.std.specs.Prelude.{◌≡◌, ◌⊎◌, ℕ, All, List, Ok, Op
 ghost use Rattle.std.specs.Io.KnownBytes.{Appends};
 ghost use Rattle.ksm_script.specs.declared.reply.LineReply.{LineReply};
 ghost use Rattle.ksm_script.specs.Answering.{reply_text};
+ghost use Rattle.ksm_script.specs.Dialogue.{Dialogue, IsWithin, RunTalks, Talks};
 ghost use Rattle.ksm_script.specs.Going.{AtOnce, GoesOn, IsReplied, IsSoFar};
 ghost use Rattle.ksm_script.specs.State.{ScriptState};
 ghost use Rattle.ksm_script.specs.Replies.{text_of};
@@ -66,7 +67,8 @@ pub fn run<N: Naming, T: Threads + Wait + Sync, R: Read, W: Write>(
 
 /// Answers each line as [`run`] does, over this lane, and has each reply heard.
 ///
-/// Before the reader waits for more input, the replies are sent; where that fails, it is a failed read. So at the end
+/// Whenever the reader may wait for more input, the replies to all whole lines that it gave are sent; where the sending
+/// fails, it is a failed read. A failed read is told only where a wait or a sending failed, or after 2^64 - 2 lines. So at the end
 /// of the input all are sent, but that to a last line without a newline. At another end nothing is sent.
 pub fn run_heard<M: Lane<R, W>, H: Hears<W>, N: Naming, T: Threads + Wait + Sync, R, W: Write>(
     rt: &T,
@@ -79,6 +81,8 @@ pub fn run_heard<M: Lane<R, W>, H: Hears<W>, N: Naming, T: Threads + Wait + Sync
         (W.contents writer.new)) session.old.state session.new.state result }
     ensures line { EndsBad (M.remaining reader.old) (M.remaining reader.new) session.new.line result }
     ensures idle { All IsIdle session.new.state.passes }
+    ensures talks { RunTalks M.takes M.waits M.fails M.is_sent W.contents session.old.state reader.old reader.new
+        writer.old writer.new result }
     ensures sent { result ≡ Ok End.AllRead
         → M.is_sent writer.new ⊎ EndsOpen (M.remaining reader.old) (M.remaining reader.new) }
 {
@@ -98,6 +102,8 @@ fn run_lines<M: Lane<R, W>, H: Hears<W>, N: Naming, T: Threads + Wait + Sync, R,
     ensures goes { Goes (streams (M.remaining reader.old) (M.remaining reader.new) (W.contents writer.old)
         (W.contents writer.new)) session.old.state session.new.state result }
     ensures line { EndsBad (M.remaining reader.old) (M.remaining reader.new) session.new.line result }
+    ensures talks { RunTalks M.takes M.waits M.fails M.is_sent W.contents session.old.state reader.old reader.new
+        writer.old writer.new result }
     ensures sent { result ≡ Ok End.AllRead
         → M.is_sent writer.new ⊎ EndsOpen (M.remaining reader.old) (M.remaining reader.new) }
 {
@@ -126,7 +132,7 @@ fn answer_at_hand<M: Lane<R, W>, N: Naming, T: Threads + Wait + Sync, R, W: Writ
     session: &mut Session<N>,
     is_heard: bool,
 ) -> Result<bool, RunFault>
-    ensures { AtOnce M.remaining W.contents (reader.old, writer.old, session.old)
+    ensures { AtOnce M.remaining M.takes W.contents (reader.old, writer.old, session.old)
         (reader.new, writer.new, session.new) result }
 {
     if is_heard {
@@ -149,7 +155,7 @@ fn answer_page<M: Lane<R, W>, N: Naming, T: Threads + Wait + Sync, R, W: Write>(
     writer: &mut W,
     session: &mut Session<N>,
 ) -> Result<bool, RunFault>
-    ensures { AtOnce M.remaining W.contents (reader.old, writer.old, session.old)
+    ensures { AtOnce M.remaining M.takes W.contents (reader.old, writer.old, session.old)
         (reader.new, writer.new, session.new) result }
 {
     let Some(taken) = take_page::<M, R, W>(reader) else {
@@ -170,7 +176,7 @@ fn answer_any<M: Lane<R, W>, N: Naming, T: Threads + Wait + Sync, R, W: Write>(
     writer: &mut W,
     session: &mut Session<N>,
 ) -> Result<bool, RunFault>
-    ensures { AtOnce M.remaining W.contents (reader.old, writer.old, session.old)
+    ensures { AtOnce M.remaining M.takes W.contents (reader.old, writer.old, session.old)
         (reader.new, writer.new, session.new) result }
 {
     let Some(line) = take_whole::<M, R, W>(reader) else {
@@ -192,9 +198,12 @@ fn answer_next<M: Lane<R, W>, H: Hears<W>, N: Naming, T: Threads + Wait + Sync, 
     hears: &mut H,
     number: u64,
 ) -> Result<Option<End>, RunFault>
-    ensures on { (first begun : Option (List ℕ)) → (from : ScriptState)
-        → IsSoFar first (M.remaining reader.old) begun (W.contents writer.old) from session.old.state number
-        → GoesOn first (M.remaining reader.new) begun (W.contents writer.new) from session.new number result }
+    ensures on { (lines : List ℕ) → (first begun : Option (List ℕ)) → (from : ScriptState)
+        → IsSoFar lines first (M.remaining reader.old) begun (W.contents writer.old) from session.old.state number
+        → GoesOn (Dialogue M.takes M.waits (IsWithin M.is_sent W.contents writer.old) reader.old reader.new)
+        lines first (M.remaining reader.new) begun (W.contents writer.new) from session.new number result }
+    ensures talks { Talks M.takes M.waits M.fails (IsWithin M.is_sent W.contents writer.old)
+        reader.old reader.new writer.new result }
     ensures sent { result ≡ Ok (Some End.AllRead)
         → M.is_sent writer.new ⊎ EndsOpen (M.remaining reader.old) (M.remaining reader.new) }
 {

@@ -19,6 +19,7 @@ ghost use Rattle.ksm_shared.specs.Locked.{EndsLawfully};
 ghost use Rattle.ksm_script.specs.declared.pass_state.PassState.TheVariants.{Idle as idle_state};
 ghost use Rattle.ksm_script.specs.Answering.{Answers, IsTold, AllGivenBack, OnPasses, Commands, IsMappers, reply_to};
 ghost use Rattle.ksm_script.specs.Answering.{ticket_reply};
+ghost use Rattle.ksm_script.specs.Dialogue.{Dialogue, IsWithin, Talks};
 ghost use Rattle.ksm_script.specs.Input.{EndsAs, IsPlain};
 ghost use Rattle.ksm_script.specs.declared.input.TheConstants.{LONGEST_LINE as longest_line};
 ghost use Rattle.ksm_script.specs.Lookups.{Acts, AtPass, Audits};
@@ -125,7 +126,10 @@ impl<N: Naming> Session<N> {
     ) -> Result<LineEnd, RunFault>
         ensures state { self.new.state ≡ self.old.state }
         ensures read { IfOk result (λ end. (bytes : List ℕ) × EndsAs end self.new.line bytes
-            × Consumes (M.remaining reader.old) (M.remaining reader.new) bytes) }
+            × Consumes (M.remaining reader.old) (M.remaining reader.new) bytes
+            × Dialogue M.takes M.waits (IsWithin M.is_sent W.contents writer.old) reader.old reader.new bytes) }
+        ensures talks { Talks M.takes M.waits M.fails (IsWithin M.is_sent W.contents writer.old)
+            reader.old reader.new writer.new result }
         ensures plain { IsPlain self.new.line }
         ensures end { result ≡ Ok LineEnd.Input → IsAtEnd (M.remaining reader.new) }
         ensures fault { IfErr result (λ e. (e ≡ RunFault.Read) × (length self.new.line ≤ longest_line)

@@ -1,6 +1,6 @@
 use Rattle.std.proofs.Common.{◌≤◌, ◌+◌, length, take, sym, ap, subst, ◌∙◌, arith}
 use Rattle.std.proofs.lemmas.List.{length-take}
-use Rattle.std.specs.Io.KnownBytes.{Consumes}
+use Rattle.ksm_script.specs.Takes.{Took}
 use Rattle.ksm_script.proofs.Pieces.{up_to_newline, is_plain_before}
 use Rattle.ksm_script.proofs.input.take_whole.Goals as goal
 
@@ -12,4 +12,4 @@ returns-clause-taken g c =
     let found = c.in-Some.ensures in
     let line = ap (take (end + 1)) (sym c.at_hand-bytes.ensures) ∙ up_to_newline buffer n end found.0.high found.1 in
     let short : length (take end (take n buffer)) ≤ 256 = omega (arith, length-take end (take n buffer), length-take n buffer, found.0.high) in
-    (take end (take n buffer), c.in-Ok.ensures.written, is_plain_before _ end (omega (arith, found.0.high)) found.0.before, short, subst (Consumes _ _) line c.consume.ensures)
+    (take end (take n buffer), c.in-Ok.ensures.written, is_plain_before _ end (omega (arith, found.0.high)) found.0.before, short, subst (Took g.M.Lane.remaining g.M.Lane.takes c.args.reader.now c.consume.new.reader) line (c.consume.ensures.bytes, c.consume.ensures.took))
