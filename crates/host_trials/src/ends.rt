@@ -4,6 +4,7 @@ use clap::Error;
 use ksm_base::{MOST_FRAMES_PER_NODE, MOST_NODES, Shape};
 use ksm_host::{Ended, Retrying, Status, played, run_on, told};
 use ksm_options::options;
+use ksm_script::Blocks;
 use std::alloc::{AllocError, Global};
 use std::io::{self, BufReader, BufWriter, ErrorKind, Read, Write};
 use std::process::ExitCode;
@@ -299,7 +300,7 @@ fn played_by<T: Threads + Wait + Sync, I: Read + Drop>(
     };
     let mut reader = BufReader::with_capacity(alloc, block, input)?;
     let writer = BufWriter::with_capacity(alloc, block, output)?;
-    let Ended { status, output, .. } = played(
+    let Ended { status, output, .. } = played::<Blocks, Host<'_>, T, BufReader<I>, FailsOnce>(
         &host,
         threads,
         words.as_slice(),

@@ -34,16 +34,17 @@ Serves io from Broken =
     × AppendsPart io.begun (append_known io.written waiting) text
 Serves io from NoMemory = ⊥
 
--- a session on these parts was served to its end and its table closed; or memory was refused before it
-abbrev pub EndsOn : PartsId → Streams → Status → Option ClosedView → Type 0
-EndsOn parts io status None = status ≡ NoMemory
-EndsOn parts io status (Some table) = (table.shape ≡ parts.frames.shape) × EndsLawfully parts table
-    × (from : ScriptState) × IsFresh parts from × Serves io from status
+-- a session on these parts was served to its end, by such a dialogue, and its table closed; or memory was refused
+-- before it
+abbrev pub EndsOn : PartsId → Streams → (ScriptState → Type 0) → Status → Option ClosedView → Type 0
+EndsOn parts io HasTalked status None = status ≡ NoMemory
+EndsOn parts io HasTalked status (Some table) = (table.shape ≡ parts.frames.shape) × EndsLawfully parts table
+    × (from : ScriptState) × IsFresh parts from × Serves io from status × HasTalked from
 
 -- the session was on a table of the shape that the words tell; or there was none, for want of memory or as the words
 -- tell no shape
-abbrev pub EndsBy : List Text → Streams → Status → Option ClosedView → Type 0
-EndsBy words io status None =
+abbrev pub EndsBy : List Text → Streams → (ScriptState → Type 0) → Status → Option ClosedView → Type 0
+EndsBy words io HasTalked status None =
     (status ≡ NoMemory) ⊎ ((status ≡ NotUnderstood) × ((given : List Given) → Tells words given → ⊥))
-EndsBy words io status (Some table) =
-    (parts : PartsId) × IsToldBy words parts.frames.shape × EndsOn parts io status (Some table)
+EndsBy words io HasTalked status (Some table) =
+    (parts : PartsId) × IsToldBy words parts.frames.shape × EndsOn parts io HasTalked status (Some table)

@@ -1,37 +1,47 @@
 //! The answers to a script, sent to their end.
 ghost use Rattle.std.specs.Prelude.{◌≡◌, IsTrue};
-ghost use Rattle.std.specs.Io.Buffered.{reader_remaining, writer_contents, writer_inner};
+ghost use Rattle.std.specs.Io.Buffered.{writer_contents, writer_inner};
 ghost use Rattle.std.specs.Io.KnownBytes.{Keeps};
+ghost use Rattle.ksm_script.specs.Dialogue.{HasTalked};
 ghost use Rattle.ksm_script.specs.Script.{streams};
 ghost use Rattle.ksm_host.specs.Ends.{Serves};
 
 use crate::said::say_why;
 use crate::status::Status;
 use crate::telling::Telling;
-use ksm_script::{Blocks, End, RunFault, Session, run_heard};
+use ksm_script::{End, Lane, RunFault, Session, run_heard};
 use ksm_shared::Naming;
-use std::io::{BufReader, BufWriter, Read, Write};
+use std::io::{BufWriter, Write};
 use std::sync::Wait;
 use std::thread::Threads;
 
 /// Answers the script that the reader holds, and sends the replies. The writer is taken apart, so that what could not be
 /// sent is let go, and not tried again. Behind `bad line` it is said why.
-pub(crate) fn served<N: Naming, R: Eprint, T: Threads + Wait + Sync, I: Read, O: Write + Drop>(
+pub(crate) fn served<
+    M: Lane<I, BufWriter<O>>,
+    N: Naming,
+    R: Eprint,
+    T: Threads + Wait + Sync,
+    I,
+    O: Write + Drop,
+>(
     rt: &R,
     threads: &T,
     tells: bool,
-    reader: &mut BufReader<I>,
+    reader: &mut I,
     mut writer: BufWriter<O>,
     session: &mut Session<N>,
 ) -> (Status, O)
-    ensures { Serves (streams (reader_remaining I.remaining reader.old) (reader_remaining I.remaining reader.new)
+    ensures serves { Serves (streams (M.remaining reader.old) (M.remaining reader.new)
         (writer_contents O.contents writer) (O.contents result.1)) session.old.state result.0 }
+    ensures talks { HasTalked M.takes M.waits M.is_sent (writer_contents O.contents)
+        (writer_contents O.contents writer) reader.old reader.new session.old.state }
 {
     let mut telling = Telling {
         rt,
         is_asked: tells,
     };
-    let ended = run_heard::<Blocks, Telling<R>, N, T, BufReader<I>, BufWriter<O>>(
+    let ended = run_heard::<M, Telling<R>, N, T, I, BufWriter<O>>(
         threads,
         reader,
         &mut writer,

@@ -1,7 +1,8 @@
 //! From the program's words, input and output to its end.
 ghost use Rattle.std.specs.Prelude.{◌≡◌, None, map, string_bytes};
-ghost use Rattle.std.specs.Io.Buffered.{reader_remaining, writer_contents, writer_inner};
+ghost use Rattle.std.specs.Io.Buffered.{writer_contents, writer_inner};
 ghost use Rattle.ksm_host.specs.Ends.{EndsBy, EndsOn};
+ghost use Rattle.ksm_script.specs.Dialogue.{HasTalked};
 ghost use Rattle.ksm_script.specs.Script.{streams};
 
 use crate::answering::served;
@@ -12,9 +13,9 @@ use crate::status::{Outcome, Status};
 use crate::telling::tells_refusals;
 use crate::version::{asks_version, tell_version};
 use frame_table::ClosedTable;
-use ksm_script::Session;
+use ksm_script::{Blocks, Lane, Session};
 use ksm_shared::{Naming, Parts};
-use std::io::{self, BufReader, BufWriter, IsTerminal, Read, Write};
+use std::io::{self, BufReader, BufWriter, IsTerminal, Printer, Write};
 use std::marker::Brand;
 use std::rt::Env;
 use std::sync::Wait;
@@ -69,59 +70,76 @@ fn ended_on<R: Env + Input + Print + Eprint + AllocGlobal, T: Threads + Wait + S
         return Status::NoMemory;
     };
     let tells = tells_refusals(rt, errors);
-    played(rt, threads, words, tells, &mut reader, writer).status
+    let ended = played::<Blocks, R, T, BufReader<Retrying<R::Reader>>, Printer<'_, R>>(
+        rt,
+        threads,
+        words,
+        tells,
+        &mut reader,
+        writer,
+    );
+    ended.status
 }
 
 /// The program over its words, its input and its output: it opens the book that the words tell, answers the script, and
 /// closes the book. Where it `tells` refusals, each is told in words on standard error too.
 ///
 /// Without a table in what is left, no line was read and nothing was sent: memory was refused, or the words tell no
-/// shape.
-pub fn played<R: Eprint + AllocGlobal, T: Threads + Wait + Sync, I: Read, O: Write + Drop>(
+/// shape. Whenever the reader may wait, the replies to all whole lines that it gave are sent.
+pub fn played<
+    M: Lane<I, BufWriter<O>>,
+    R: Eprint + AllocGlobal,
+    T: Threads + Wait + Sync,
+    I,
+    O: Write + Drop,
+>(
     rt: &R,
     threads: &T,
     words: &[String],
     tells: bool,
-    reader: &mut BufReader<I>,
+    reader: &mut I,
     writer: BufWriter<O>,
 ) -> Ended<O>
     ensures ends { EndsBy (map string_bytes words.now)
-        (streams (reader_remaining I.remaining reader.old) (reader_remaining I.remaining reader.new)
-        (writer_contents O.contents writer) (O.contents result.output)) result.status result.table }
+        (streams (M.remaining reader.old) (M.remaining reader.new) (writer_contents O.contents writer)
+        (O.contents result.output)) (HasTalked M.takes M.waits M.is_sent (writer_contents O.contents)
+        (writer_contents O.contents writer) reader.old reader.new) result.status result.table }
     ensures untouched { result.table ≡ None → (result.output ≡ writer_inner writer) × (reader.new ≡ reader.old) }
 {
     match opened(rt, words) {
-        Ok(parts) => in_session::<Brand, R, T, I, O>(rt, threads, parts, tells, reader, writer),
+        Ok(parts) => in_session::<M, Brand, R, T, I, O>(rt, threads, parts, tells, reader, writer),
         Err(status) => unopened(status, writer),
     }
 }
 
 /// Opens a session on the parts, which get their name here, answers the script, and closes it.
 fn in_session<
+    M: Lane<I, BufWriter<O>>,
     N: Naming,
     R: Eprint + AllocGlobal,
     T: Threads + Wait + Sync,
-    I: Read,
+    I,
     O: Write + Drop,
->(
-    rt: &R,
-    threads: &T,
-    parts: Parts,
-    tells: bool,
-    reader: &mut BufReader<I>,
-    writer: BufWriter<O>,
-) -> Ended<O>
+>(rt: &R, threads: &T, parts: Parts, tells: bool, reader: &mut I, writer: BufWriter<O>) -> Ended<O>
     requires name { parts ≡ N.parts }
     requires alone { parts.callers ≡ 1 }
     ensures ends { EndsOn N.parts
-        (streams (reader_remaining I.remaining reader.old) (reader_remaining I.remaining reader.new)
-        (writer_contents O.contents writer) (O.contents result.output)) result.status result.table }
+        (streams (M.remaining reader.old) (M.remaining reader.new) (writer_contents O.contents writer)
+        (O.contents result.output)) (HasTalked M.takes M.waits M.is_sent (writer_contents O.contents)
+        (writer_contents O.contents writer) reader.old reader.new) result.status result.table }
     ensures untouched { result.table ≡ None → (result.output ≡ writer_inner writer) × (reader.new ≡ reader.old) }
 {
     let Ok(mut session) = Session::<N>::open(rt.alloc(), parts) else {
         return unopened(Status::NoMemory, writer);
     };
-    let (status, output) = served(rt, threads, tells, reader, writer, &mut session);
+    let (status, output) = served::<M, N, R, T, I, O>(
+        rt,
+        threads,
+        tells,
+        reader,
+        writer,
+        &mut session,
+    );
     Ended {
         status,
         table: Some(session.close(threads)),
