@@ -226,7 +226,10 @@ def packages(build, commit, work, output):
     build.told(str(TOP / "release" / "join"))
     join_host(build)
     shared = [shared_package(build, commit, work, output, name) for name in built()]
-    return [*shared, *(make(build, commit, work, output) for make in (dev_package, crate_package, host_archive))]
+    others = [dev_package, crate_package]
+    if (HOST / "ksmbook-host").exists():
+        others.append(host_archive)
+    return [*shared, *(make(build, commit, work, output) for make in others)]
 
 
 def main():
