@@ -1,5 +1,5 @@
 -- The index over dups: what it finds, and how it stays with a change of items and with a dup that goes.
-use Rattle.ksm_tree.proofs.Names.{[], All, All-filter, All-weaker, AllPairs-filter, ap, AreIndexed, arith, Bool, bytes_eq, cases_Bool, change_at, change_items, content_in, content_of, Dup, dup_at, dup_of, DupRow, dups_seen, DupsState, eqb-true, false, false≢true, filter, find, find_nothing, find_passes, get, get_or, Group, group_places, GuestPage, has_number, if◌then◌else◌, in_group, Index, inl, InPlaceOrder, inr, is_some, items_in, IsRegrouped, length, List, nat_tests, None, none-some, not, number_of, Option, option_map, pairs_head, pairs_tail, place_of, places_in, places_of, refl, row_place, rows_of, same_Some, SlotsState, Some, stands_at, sym, Tells, true, under, without, without_place, ℕ, ◌&&◌, ◌<◌, ◌==◌, ◌∙◌, ◌∷◌, ◌≡◌}
+use Rattle.ksm_tree.proofs.Names.{[], All, All-filter, All-weaker, AllPairs-filter, ap, AreIndexed, arith, Bool, bytes_eq, cases_Bool, change_at, change_items, content_in, content_of, Dup, dup_at, dup_of, DupRow, dups_seen, DupsState, eqb-true, false, false≢true, filter, find, find_nothing, find_passes, get, get_or, Group, group_places, GuestPage, has_number, if◌then◌else◌, in_group, Index, inl, InPlaceOrder, inr, is_some, items_in, IsRegrouped, length, List, nat_tests, None, none-some, not, number_of, Option, option_map, pairs_head, pairs_tail, place_of, places_in, places_of, refl, row_place, rows_of, same_Some, SlotsState, Some, stands_at, sym, Tells, true, under, without, without_place, ℕ, ◌&&◌, ◌<◌, ◌==◌, ◌∙◌, ◌∷◌, ◌≡◌, subst, LeadTheSame}
 use Rattle.ksm_tree.proofs.Alike.{chosen, find_alike}
 use Rattle.ksm_tree.proofs.Grouped.{chains_kept, dups_kept, more_there, totals_moved, totals_tell}
 use Rattle.ksm_tree.proofs.Keys.{own_group, self_group}
@@ -37,8 +37,8 @@ module _ (s : SlotsState) (next : ℕ) (index : Index) (h : AreIndexed s next in
   indexed_place q = h.numbered q ∙ row_placed q s.dups
 
   -- a change of items changes no row, and so nothing of the index
-  pub stays_indexed : (p : ℕ) (f : List GuestPage → List GuestPage) → AreIndexed (record { places = s.places; dups = change_at p f s.dups }) next index
-  stays_indexed p f =
+  pub stays_indexed : (p : ℕ) (f : List GuestPage → List GuestPage) (ready : Bool) → AreIndexed (record { places = s.places; dups = change_at p f s.dups; ready = ready }) next index
+  stays_indexed p f ready =
       let same = rows_changed p f s.dups in
       record {
         few = h.few;
@@ -51,6 +51,21 @@ module _ (s : SlotsState) (next : ℕ) (index : Index) (h : AreIndexed s next in
         numbered = λ q. h.numbered q ∙ ap (row_place q) (sym same);
         grouped = λ t b. h.grouped t b ∙ ap (group_places t b) (sym same);
       }
+
+-- whether room for one more dup is taken tells nothing of the index
+pub room_indexed : (s t : SlotsState) (next : ℕ) (index : Index) → t ≡ record s { ready = t.ready } → AreIndexed s next index → AreIndexed t next index
+room_indexed s t next index is h =
+    subst (λ u. AreIndexed u next index) (sym is) (record { few = h.few; lawful = h.lawful; numbered = h.numbered; counted = h.counted; grouped = h.grouped })
+
+-- an index that leads as another does finds the same dups
+pub led_indexed : (s : SlotsState) (next : ℕ) (index new : Index) → LeadTheSame index new → AreIndexed s next index → AreIndexed s next new
+led_indexed s next index new same h = record {
+  few = h.few;
+  lawful = record { in_place_order = h.lawful.in_place_order; places_below = h.lawful.places_below; numbers_below = h.lawful.numbers_below };
+  numbered = λ q. same.numbers q ∙ h.numbered q;
+  counted = rw same.groups.totals h.counted;
+  grouped = λ t b. same.groups.chains t b ∙ h.grouped t b;
+}
 
 -- where callers are told the place of a number
 module _ (q p : ℕ) (s : SlotsState) (next : ℕ) (index : Index) (seen : DupsState) (h : AreIndexed s next index) (view : dups_seen s next index ≡ seen) (is : Some p ≡ option_map (λ d. d.row.place) (dup_of q seen.dups)) where
@@ -67,8 +82,8 @@ module _ (q p : ℕ) (s : SlotsState) (next : ℕ) (index : Index) (seen : DupsS
       ap items_in (sym (placed_found q p s.dups h.lawful.in_place_order is_inside)) ∙ ap (λ v. items_in (dup_of q v.dups)) view
 
   -- a change of the items at that place is seen as a change of the number's items
-  pub told_changed : (f : List GuestPage → List GuestPage) → dups_seen (record { places = s.places; dups = change_at p f s.dups }) next index ≡ record seen { dups = change_items q f seen.dups }
-  told_changed f =
+  pub told_changed : (f : List GuestPage → List GuestPage) (ready : Bool) → dups_seen (record { places = s.places; dups = change_at p f s.dups; ready = ready }) next index ≡ record seen { dups = change_items q f seen.dups }
+  told_changed f ready =
       let changed = number_place_changed q p f s.dups h.lawful.in_place_order (row_placed q s.dups ∙ sym is_inside) in
       (λ i. record (dups_seen s next index) { dups = sym changed i })
       ∙ ap {A = DupsState} {B = DupsState} (λ v. record v { dups = change_items q f v.dups }) view
@@ -113,9 +128,9 @@ cond_if true x y z yes_case no_case = yes_case refl
 cond_if false x y z yes_case no_case = no_case refl
 
 -- where a dup goes from its place and from the index, the index stays right
-pub gone_indexed : (s : SlotsState) (next : ℕ) (index new : Index) (p : ℕ) (d : Dup) → AreIndexed s next index → dup_at p s.dups ≡ Some d → d.row.place ≡ p → ((q : ℕ) → place_of q new ≡ (if q == d.row.number then None else place_of q index)) → ((t : ℕ) (b : List ℕ) → places_of t b new ≡ (if t == d.row.tree && bytes_eq b d.row.bytes then without d.row.place (places_of t b index) else places_of t b index))
-    → IsRegrouped (length (places_of d.row.tree d.row.bytes index)) (length (places_of d.row.tree d.row.bytes new)) index.groups.totals new.groups.totals → AreIndexed (record { places = s.places; dups = without_place p s.dups }) next new
-gone_indexed s next index new p d h found at numbers groups regrouped =
+pub gone_indexed : (s : SlotsState) (next : ℕ) (index new : Index) (p : ℕ) (d : Dup) (ready : Bool) → AreIndexed s next index → dup_at p s.dups ≡ Some d → d.row.place ≡ p → ((q : ℕ) → place_of q new ≡ (if q == d.row.number then None else place_of q index)) → ((t : ℕ) (b : List ℕ) → places_of t b new ≡ (if t == d.row.tree && bytes_eq b d.row.bytes then without d.row.place (places_of t b index) else places_of t b index))
+    → IsRegrouped (length (places_of d.row.tree d.row.bytes index)) (length (places_of d.row.tree d.row.bytes new)) index.groups.totals new.groups.totals → AreIndexed (record { places = s.places; dups = without_place p s.dups; ready = ready }) next new
+gone_indexed s next index new p d ready h found at numbers groups regrouped =
     let rows = rows_of s.dups in
     let left = rows_without p s.dups in
     let t = d.row.tree in

@@ -16,6 +16,7 @@ pub mod Opened
 pub mod Openings
 pub mod PlaceSets
 pub mod Rows
+pub mod Shelved
 pub mod Standing
 pub mod Tied
 pub mod Ties

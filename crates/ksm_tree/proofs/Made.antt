@@ -23,8 +23,8 @@ module _ (s : SlotsState) (next : ℕ) (index new : Index) (dup : Dup) (h : AreI
   fresh : All (λ r. r.number < dup.row.number) (rows_of s.dups)
   fresh = rw number h.lawful.numbers_below
 
-  lawful_new : AreDups (dups_seen (record { places = s.places; dups = with_new dup s.dups }) (next + 1) new)
-  lawful_new =
+  lawful_new : (ready : Bool) → AreDups (dups_seen (record { places = s.places; dups = with_new dup s.dups; ready = ready }) (next + 1) new)
+  lawful_new ready =
       let rows = rows_of s.dups in
       let is = rows_new dup s.dups in
       record {
@@ -35,9 +35,9 @@ module _ (s : SlotsState) (next : ℕ) (index new : Index) (dup : Dup) (h : AreI
       }
 
   -- the index is right once a new dup stands at a place that was empty
-  pub fresh_indexed : None ≡ dup_at dup.row.place s.dups → IsEntered dup.row index new
-      → AreIndexed (record { places = s.places; dups = with_new dup s.dups }) (next + 1) new
-  fresh_indexed none entered =
+  pub fresh_indexed : (ready : Bool) → None ≡ dup_at dup.row.place s.dups → IsEntered dup.row index new
+      → AreIndexed (record { places = s.places; dups = with_new dup s.dups; ready = ready }) (next + 1) new
+  fresh_indexed ready none entered =
       let rows = rows_of s.dups in
       let p = dup.row.place in
       let apart = find_none (λ r. r.place == p) rows (row_at_place p s.dups None (sym none)) in
@@ -56,7 +56,7 @@ module _ (s : SlotsState) (next : ℕ) (index new : Index) (dup : Dup) (h : AreI
       record {
         few = h.few;
         counted = subst (λ l. AreTotals l new.groups.totals) (sym (rows_new dup s.dups)) counted;
-        lawful = lawful_new;
+        lawful = lawful_new ready;
         numbered = λ q.
             entered.numbers q
             ∙ ap (λ v. if q == dup.row.number then Some p else v) (h.numbered q ∙ ap (row_place q) (sym kept))
@@ -129,13 +129,13 @@ module _ (s : SlotsState) (next : ℕ) (index new : Index) (dup : Dup) (h : AreI
       index.groups.totals mid.groups.totals (rw (← h.grouped r.tree r.bytes, ← joined_own mid entered) entered.totals) (length (places_of old.row.tree old.row.bytes index)) few.0 few.1 (told s next index h old.row.tree old.row.bytes))
 
   -- the index is right once a new dup stands at the place of a dup that goes
-  pub taken_indexed : (mid : Index) (old : Dup) → Some old ≡ dup_at dup.row.place s.dups
+  pub taken_indexed : (ready : Bool) (mid : Index) (old : Dup) → Some old ≡ dup_at dup.row.place s.dups
       → IsEntered dup.row index mid
       → ((q : ℕ) → place_of q new ≡ (if q == old.row.number then None else place_of q mid))
       → ((t : ℕ) (b : List ℕ) → places_of t b new ≡ (if (t == old.row.tree && bytes_eq b old.row.bytes) && not (t == dup.row.tree && bytes_eq b dup.row.bytes) then without old.row.place (places_of t b mid) else places_of t b mid))
       → IsCountedAnew old.row.tree old.row.bytes mid.groups new.groups
-      → AreIndexed (record { places = s.places; dups = with_new dup s.dups }) (next + 1) new
-  taken_indexed mid old found entered left_numbers left_groups left =
+      → AreIndexed (record { places = s.places; dups = with_new dup s.dups; ready = ready }) (next + 1) new
+  taken_indexed ready mid old found entered left_numbers left_groups left =
       let rows = rows_of s.dups in
       let p = dup.row.place in
       let at = found_stands p s.dups old (sym found) in
@@ -174,7 +174,7 @@ module _ (s : SlotsState) (next : ℕ) (index new : Index) (dup : Dup) (h : AreI
       record {
         few = h.few;
         counted = subst (λ l. AreTotals l new.groups.totals) (sym (rows_new dup s.dups)) counted;
-        lawful = lawful_new;
+        lawful = lawful_new ready;
         numbered = λ q.
             left_numbers q
             ∙ ap (λ v. if q == old.row.number then None else v) (entered.numbers q ∙ ap (λ v. if q == dup.row.number then Some p else v) (h.numbered q))
@@ -186,9 +186,9 @@ module _ (s : SlotsState) (next : ℕ) (index new : Index) (dup : Dup) (h : AreI
       }
 
 -- once a dup is made, callers see that dup among the others, and the next number one higher
-pub seen_made : (s : SlotsState) (next : ℕ) (index new : Index) (dup : ℕ → Dup) (old : DupsState) → dups_seen s next index ≡ old → SameWaits index.groups new.groups
-    → dups_seen (record { places = s.places; dups = with_new (dup next) s.dups }) (next + 1) new ≡ record old { dups = with_new (dup old.next) old.dups; next = old.next + 1 }
-seen_made s next index new dup old view same =
+pub seen_made : (s : SlotsState) (next : ℕ) (index new : Index) (dup : ℕ → Dup) (ready : Bool) (old : DupsState) → dups_seen s next index ≡ old → SameWaits index.groups new.groups
+    → dups_seen (record { places = s.places; dups = with_new (dup next) s.dups; ready = ready }) (next + 1) new ≡ record old { dups = with_new (dup old.next) old.dups; next = old.next + 1 }
+seen_made s next index new dup ready old view same =
     (λ i. record { places = s.places; dups = with_new (dup next) s.dups; next = next + 1; waiting = same.waiting i; numbers = same.numbers i; most = same.most i })
     ∙ ap {A = DupsState} {B = DupsState} (λ o. record o { dups = with_new (dup o.next) o.dups; next = o.next + 1 }) view
 

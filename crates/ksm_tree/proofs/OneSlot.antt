@@ -1,5 +1,5 @@
 -- What a change of one slot does to the dups and to the places whose slots pass a test.
-use Rattle.ksm_tree.proofs.Names.{[], absent_kept, All, All-cons, All-weaker, ap, ArePlaced, AreSlots, arith, Bool, change_at, comes_before, count_in, Dup, dup_at, empty_from, empty_place, false, false≢true, filter, filter_all, filter_none, find, find_nothing, get_or, get_or-map, get_or_default, GuestPage, has_item, is_empty_slot, is_live, is_some, is_stale, is_stale_slot, items_in, length, length-append, length-map, length-set, List, map, map-set, nat_lt, nat_tests, None, none-some, none_found, not, Option, option_map, pages_ordered, present, refl, rows_of, same_page, same_Some, set, set-get_or, slots_seen, SlotsState, Some, stands_at, suc, sym, true, with_item, with_new, without_item, without_place, zero, ℕ, ◌+◌, ◌<◌, ◌==◌, ◌∙◌, ◌∷◌, ◌≡◌, ◌≤◌, CountedSet, HasNone, IsLeast, IsMarked, IsSetOf, MatchOption, true≢false}
+use Rattle.ksm_tree.proofs.Names.{[], absent_kept, All, All-cons, All-weaker, ap, ArePlaced, AreSlots, arith, Bool, change_at, change_items_of, change_slot, comes_before, count_in, Dup, dup_at, empty_from, empty_place, false, false≢true, filter, filter_all, filter_none, find, find_nothing, get_or, get_or-map, GuestPage, has_item, if◌then◌else◌, is_empty_slot, is_live, is_some, is_stale, is_stale_slot, items_in, length, length-append, length-map, length-set, List, map, map-set, nat_lt, nat_tests, None, none-some, none_found, not, Option, option_map, pages_ordered, present, refl, rows_of, same_page, same_Some, set, set-get_or, ShelfState, slots_seen, SlotsState, Some, stands_at, suc, sym, true, with_item, with_new, without_item, without_place, zero, ℕ, ◌+◌, ◌<◌, ◌==◌, ◌∙◌, ◌∷◌, ◌≡◌, ◌≤◌, CountedSet, HasNone, IsLeast, IsMarked, IsSetOf, MatchOption, true≢false}
 use Rattle.ksm_tree.proofs.Alike.{change_none}
 use Rattle.ksm_tree.proofs.PlaceSets.{set_kept, set_marked}
 
@@ -193,12 +193,20 @@ slots_put slots counts empty stale empty' stale' dup n within is live h no_more 
     }
 
 -- a dup put into its slot is seen among the others
-pub seen_put : (slots : List (Option Dup)) (state : SlotsState) (dup : Dup) → slots_seen slots ≡ state → dup.row.place < state.places → ArePlaced 0 slots → slots_seen (set slots dup.row.place (Some dup)) ≡ record { places = state.places; dups = with_new dup state.dups }
-seen_put slots state dup seen place placed =
+pub seen_put : (old new : ShelfState) (state : SlotsState) (dup : Dup) → slots_seen old ≡ state → dup.row.place < state.places → ArePlaced 0 old.slots → new.slots ≡ set old.slots dup.row.place (Some dup) → slots_seen new ≡ record state { dups = with_new dup state.dups; ready = new.ready }
+seen_put old new state dup seen place placed is =
     let p = dup.row.place in
-    let within : p < length slots = omega (arith, ap (λ s. s.places) seen, place) in
-    (λ i. record { places = length-set slots p (Some dup) i; dups = slot_put 0 p p slots dup (omega arith) refl within placed i })
-    ∙ ap (λ s. record { places = s.places; dups = with_new dup s.dups }) seen
+    let within : p < length old.slots = omega (arith, ap (λ s. s.places) seen, place) in
+    (λ i. record { places = length (is i); dups = present (is i); ready = new.ready })
+    ∙ (λ i. record { places = length-set old.slots p (Some dup) i; dups = slot_put 0 p p old.slots dup (omega arith) refl within placed i; ready = new.ready })
+    ∙ ap (λ s. record { places = s.places; dups = with_new dup s.dups; ready = new.ready }) seen
+
+-- a slot that is emptied is seen as the dups without that of its place
+pub seen_emptied : (p : ℕ) (old new : ShelfState) (state : SlotsState) → slots_seen old ≡ state → ArePlaced 0 old.slots → new.slots ≡ set old.slots p None → slots_seen new ≡ record state { dups = without_place p state.dups; ready = new.ready }
+seen_emptied p old new state seen placed is =
+    (λ i. record { places = length (is i); dups = present (is i); ready = new.ready })
+    ∙ (λ i. record { places = length-set old.slots p None i; dups = slot_emptied 0 p p old.slots (omega arith) placed i; ready = new.ready })
+    ∙ ap (λ s. record { places = s.places; dups = without_place p s.dups; ready = new.ready }) seen
 
 filled_within : (p : ℕ) (slots : List (Option Dup)) → is_some (get_or slots p None) ≡ true → p < length slots
 filled_within p [] filled = absurd (false≢true filled)
@@ -224,11 +232,6 @@ pub known_within : (p : ℕ) (slots : List (Option Dup)) → ArePlaced 0 slots �
 known_within p slots placed known =
     let here : is_some (get_or slots p None) ≡ true = rw (← slot_found 0 p p slots (omega arith) placed) known in
     filled_within p slots here
-
--- what is read from a slot of a place is the dup found at that place
-pub read_dup : (p : ℕ) (slots : List (Option Dup)) (r : Option Dup) → ArePlaced 0 slots → p < length slots → r ≡ get_or slots p r → dup_at p (present slots) ≡ r
-read_dup p slots r placed within read =
-    slot_found 0 p p slots (omega arith) placed ∙ get_or_default slots p None r within ∙ sym read
 
 -- the slots are right once one is emptied
 pub slots_cleared : (p : ℕ) (slots : List (Option Dup)) (counts : List ℕ) (empty stale empty' stale' : CountedSet) → p < length slots → AreSlots slots counts empty stale → IsMarked empty empty' p true → IsMarked stale stale' p false → AreSlots (set slots p None) (set counts p 0) empty' stale'
@@ -277,11 +280,6 @@ module _ (p : ℕ) (slots : List (Option Dup)) (counts : List ℕ) (empty stale 
       ap (set slots p) ((λ i. Some (record d { items = same i })) ∙ sym filled) ∙ set-get_or slots p None in
       rw whole h
 
--- a dup read from the slot of a place where a dup is found is the one in that slot
-pub slot_read : (p : ℕ) (slots : List (Option Dup)) (r : Option Dup) (d : Dup) → ArePlaced 0 slots → is_some (dup_at p (present slots)) ≡ true → r ≡ get_or slots p r → r ≡ Some d → get_or slots p None ≡ Some d
-slot_read p slots r d placed known read is =
-    get_or_default slots p None r (known_within p slots placed known) ∙ sym read ∙ is
-
 -- a dup that got an item is not stale
 pub grown_not_stale : (page : GuestPage) (pages : List GuestPage) → (length (with_item page pages) == 0) ≡ false
 grown_not_stale page pages =
@@ -299,32 +297,50 @@ pub record HoldsDup (p : ℕ) (slots : List (Option Dup)) (s : SlotsState) (d : 
   pub filled : get_or slots p None ≡ Some d
   pub items : items_in (dup_at p s.dups) ≡ d.items
 
-module _ (p : ℕ) (slots : List (Option Dup)) (s : SlotsState) (view : slots_seen slots ≡ s) (placed : ArePlaced 0 slots) where
-  -- a place where a dup is seen has a slot
-  pub seen_within : is_some (dup_at p s.dups) ≡ true → p < length slots
-  seen_within known = known_within p slots placed (rw (ap (λ t. t.dups) view) known)
+-- a slot that is not empty has a dup
+some_dup : (o : Option Dup) → is_some o ≡ true → (d : Dup) × (o ≡ Some d)
+some_dup None none = absurd (false≢true none)
+some_dup (Some d) some = (d, refl)
+
+module _ (p : ℕ) (shelf : ShelfState) (s : SlotsState) (view : slots_seen shelf ≡ s) (placed : ArePlaced 0 shelf.slots) where
+  -- the dup seen at a place is what its slot holds
+  pub seen_slot : dup_at p s.dups ≡ get_or shelf.slots p None
+  seen_slot = ap (λ t. dup_at p t.dups) (sym view) ∙ slot_found 0 p p shelf.slots (omega arith) placed
 
   -- the slot of a place where a dup is seen is not empty
-  pub slot_not_none : (r : Option Dup) → is_some (dup_at p s.dups) ≡ true → r ≡ get_or slots p r → r ≡ None → ⊥
-  slot_not_none r known read is =
-      let here = ap (λ t. dup_at p t.dups) (sym view) ∙ read_dup p slots r placed (seen_within known) read ∙ is in
-      false≢true (ap is_some (sym here) ∙ known)
+  pub slot_filled : is_some (dup_at p s.dups) ≡ true → is_some (get_or shelf.slots p None) ≡ true
+  slot_filled known = ap is_some (sym seen_slot) ∙ known
 
-  -- a dup read from the slot of a place where a dup is seen is the dup of that place
-  pub holds_dup : (r : Option Dup) (d : Dup) → is_some (dup_at p s.dups) ≡ true → r ≡ get_or slots p r → r ≡ Some d → HoldsDup p slots s d
-  holds_dup r d known read is =
-      let filled = slot_read p slots r d placed (rw (ap (λ t. t.dups) view) known) read is in
-      record {
-        within = seen_within known;
-        filled = filled;
-        items = ap (λ t. items_in (dup_at p t.dups)) (sym view) ∙ ap items_in (slot_found 0 p p slots (omega arith) placed ∙ filled);
-      }
+  -- a place where a dup is seen has a slot
+  pub seen_within : is_some (dup_at p s.dups) ≡ true → p < length shelf.slots
+  seen_within known = filled_within p shelf.slots (slot_filled known)
+
+  -- the slot of a place where a dup is seen holds it
+  pub holds_dup : is_some (dup_at p s.dups) ≡ true → (d : Dup) × HoldsDup p shelf.slots s d
+  holds_dup known =
+      let it = some_dup (get_or shelf.slots p None) (slot_filled known) in
+      (it.0, record { within = seen_within known; filled = it.1; items = ap items_in seen_slot ∙ ap items_in it.1 })
+
+-- a change of the items in a slot, written as that of the dup there
+pub changed_dup : (p : ℕ) (f : List GuestPage → List GuestPage) (slots : List (Option Dup)) (d : Dup) → get_or slots p None ≡ Some d → change_slot p f slots ≡ set slots p (Some (record d { items = f d.items }))
+changed_dup p f slots d filled = ap (λ o. set slots p (option_map (change_items_of f) o)) filled
 
 -- a change of the items in a slot is seen as that change of the dup at its place
-pub view_changed : (p : ℕ) (slots : List (Option Dup)) (s : SlotsState) (d : Dup) (f : List GuestPage → List GuestPage) → slots_seen slots ≡ s → ArePlaced 0 slots → get_or slots p None ≡ Some d → slots_seen (set slots p (Some (record d { items = f d.items }))) ≡ record { places = s.places; dups = change_at p f s.dups }
-view_changed p slots s d f view placed filled =
-    (λ i. record { places = length-set slots p (Some (record d { items = f d.items })) i; dups = slot_changed 0 p p slots d f (omega arith) filled placed i })
-    ∙ ap (λ t. record { places = t.places; dups = change_at p f t.dups }) view
+pub view_changed : (p : ℕ) (old new : ShelfState) (s : SlotsState) (d : Dup) (f : List GuestPage → List GuestPage) → slots_seen old ≡ s → ArePlaced 0 old.slots → get_or old.slots p None ≡ Some d → new.slots ≡ change_slot p f old.slots → slots_seen new ≡ record s { dups = change_at p f s.dups; ready = new.ready }
+view_changed p old new s d f view placed filled is =
+    let now = is ∙ changed_dup p f old.slots d filled in
+    (λ i. record { places = length (now i); dups = present (now i); ready = new.ready })
+    ∙ (λ i. record { places = length-set old.slots p (Some (record d { items = f d.items })) i; dups = slot_changed 0 p p old.slots d f (omega arith) filled placed i; ready = new.ready })
+    ∙ ap (λ t. record { places = t.places; dups = change_at p f t.dups; ready = new.ready }) view
+
+-- what is told of items that may have been left
+pub told_some : (b : Bool) (left n : ℕ) → Some left ≡ (if b then Some n else None) → (true ≡ b) × (left ≡ n)
+told_some true left n is = (refl, same_Some left n is)
+told_some false left n is = absurd (none-some left (sym is))
+
+pub told_none : (b : Bool) (n : ℕ) → None ≡ (if b then Some n else None) → false ≡ b
+told_none true n is = absurd (none-some n is)
+told_none false n is = refl
 
 items_not_none : (page : GuestPage) (pages : List GuestPage) → true ≡ has_item page pages → (length pages == 0) ≡ false
 items_not_none page [] found = absurd (false≢true (sym found))

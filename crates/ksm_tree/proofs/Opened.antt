@@ -1,5 +1,5 @@
 -- Slots that are all empty.
-use Rattle.ksm_tree.proofs.Names.{[], ap, ArePlaced, AreSlots, arith, Bool, cond, count_by, count_in, count_more, CountedSet, Dup, false, get_or-replicate, has, is_empty_slot, is_stale_slot, IsSetOf, length, List, map, MOST_FRAMES, None, Option, present, refl, replicate, slots_seen, suc, suc-mul, sym, true, zero, zero-mul, ℕ, ◌*◌, ◌<◌, ◌∙◌, ◌∷◌, ◌≡◌, ◌≤◌}
+use Rattle.ksm_tree.proofs.Names.{[], ap, ArePlaced, AreSlots, arith, Bool, cond, count_by, count_in, count_more, CountedSet, Dup, false, get_or-replicate, has, is_empty_slot, is_stale_slot, IsSetOf, length, List, map, MOST_FRAMES, None, Option, present, refl, replicate, ShelfState, slots_seen, suc, suc-mul, sym, true, zero, zero-mul, ℕ, ◌*◌, ◌<◌, ◌∙◌, ◌∷◌, ◌≡◌, ◌≤◌}
 use Rattle.std.proofs.lemmas.List.{length-replicate}
 
 -- a list of n empty slots
@@ -33,8 +33,10 @@ none_set test n places wide each count =
     }
 
 -- in empty slots no dup is seen
-pub none_seen : (n : ℕ) → slots_seen (none_of n) ≡ record { places = n; dups = [] }
-none_seen n i = record { places = length-replicate {A = Option Dup} n None i; dups = none_present n i }
+pub none_seen : (n : ℕ) (shelf : ShelfState) → shelf.slots ≡ none_of n → slots_seen shelf ≡ record { places = n; dups = []; ready = shelf.ready }
+none_seen n shelf is =
+    (λ i. record { places = length (is i); dups = present (is i); ready = shelf.ready })
+    ∙ (λ i. record { places = length-replicate {A = Option Dup} n None i; dups = none_present n i; ready = shelf.ready })
 
 none_counted : (n : ℕ) → replicate n 0 ≡ map count_in (none_of n)
 none_counted zero = refl

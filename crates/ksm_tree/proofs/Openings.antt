@@ -27,9 +27,14 @@ none_open limit k zero = refl
 none_open limit k (suc n) = let rest = none_open limit (suc k) n in grind (arith, nat_tests, rest)
 
 -- counts of empty places have no open place
-pub counts_begun : (limit n : ℕ) (places : SmallVec ℕ) → places.items ≡ [] → n ≤ places.capacity → AreCounts limit (replicate n 0) places
+pub counts_begun : (limit n : ℕ) (places : SmallVec ℕ) → places.items ≡ [] → (1 ≤ limit → n ≤ places.capacity) → AreCounts limit (replicate n 0) places
 counts_begun limit n places none room =
     record { opens = none ∙ sym (none_open limit 0 n); room = rw length-replicate room }
+
+-- by the limit 0 no place is open
+pub none_kept : (k : ℕ) (counts : List ℕ) → places_where (is_open 0) k counts ≡ []
+none_kept k [] = refl
+none_kept k (n ∷ counts) = let rest = none_kept (suc k) counts in grind (arith, nat_tests, rest)
 
 -- by the limit 0 a place is open with no count, so any two counts are alike
 pub never_open : (limit n m : ℕ) → limit ≡ 0 → is_open limit n ≡ is_open limit m
@@ -51,10 +56,10 @@ counts_closed limit p n counts places places' within closes left room h =
     record { opens = left ∙ ap (without p) h.opens ∙ sym (where_without (is_open limit) 0 p p counts n (omega arith) within closes); room = rw (length-set, room) h.room }
 
 -- where one place is not open, there is room among the open places for one more
-pub opens_with_room : (limit p : ℕ) (counts : List ℕ) (places : SmallVec ℕ) → p < length counts → is_open limit (get_or counts p 0) ≡ false → AreCounts limit counts places → length places.items + 1 ≤ places.capacity
-opens_with_room limit p counts places within closed h =
+pub opens_with_room : (limit p : ℕ) (counts : List ℕ) (places : SmallVec ℕ) → p < length counts → is_open limit (get_or counts p 0) ≡ false → 1 ≤ limit → AreCounts limit counts places → length places.items + 1 ≤ places.capacity
+opens_with_room limit p counts places within closed kept h =
     let room = where_room (is_open limit) 0 0 p counts within closed in
-    omega (arith, room, ap length h.opens, h.room)
+    omega (arith, room, ap length h.opens, h.room kept)
 
 -- the open places of slots are those of the open dups in them
 pub open_seen : (limit k : ℕ) (slots : List (Option Dup)) → ArePlaced k slots → places_where (is_open limit) k (map count_in slots) ≡ places_open limit (present slots)

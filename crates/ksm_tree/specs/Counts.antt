@@ -11,7 +11,7 @@ abbrev pub places_where : {X : Type 0} → (X → Bool) → ℕ → List X → L
 places_where test k [] = []
 places_where test k (x ∷ xs) = if test x then k ∷ places_where test (suc k) xs else places_where test (suc k) xs
 
--- the open places are known, with room for all
+-- the open places are known, with room for all if they are kept: by the limit 0 none is open
 pub record AreCounts (limit : ℕ) (counts : List ℕ) (places : SmallVec ℕ) : Type 0 where
   pub opens : places.items ≡ places_where (is_open limit) 0 counts
-  pub room : length counts ≤ places.capacity
+  pub room : 1 ≤ limit → length counts ≤ places.capacity

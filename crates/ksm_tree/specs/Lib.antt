@@ -11,6 +11,7 @@ pub mod NumberSets
 pub mod Numbered
 pub mod Places
 pub mod Reserve
+pub mod Shelf
 pub mod Slots
 pub mod Totals
 pub mod Waits

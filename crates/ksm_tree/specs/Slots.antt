@@ -7,11 +7,13 @@ use Rattle.ksm_tree.specs.declared.dup.Dup.{Dup}
 use Rattle.ksm_tree.specs.declared.counted_set.CountedSet.{CountedSet}
 use Rattle.ksm_tree.specs.Dups.{stands_at, items_in, is_stale}
 use Rattle.ksm_tree.specs.NumberSets.{has}
+use Rattle.ksm_tree.specs.Shelf.{ShelfState}
 
--- how many places there are, and the dups in the order of their places
+-- how many places there are, the dups in the order of their places, and whether room for one more is taken
 pub record SlotsState : Type 0 where
   pub places : ℕ
   pub dups : List Dup
+  pub ready : Bool
 
 -- the dups of the slots
 abbrev pub present : List (Option Dup) → List Dup
@@ -19,8 +21,8 @@ present [] = []
 present (None ∷ slots) = present slots
 present (Some d ∷ slots) = d ∷ present slots
 
-abbrev pub slots_seen : List (Option Dup) → SlotsState
-slots_seen slots = record { places = length slots; dups = present slots }
+abbrev pub slots_seen : ShelfState → SlotsState
+slots_seen s = record { places = length s.slots; dups = present s.slots; ready = s.ready }
 
 abbrev pub is_empty_slot : Option Dup → Bool
 is_empty_slot None = true

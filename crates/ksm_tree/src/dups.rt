@@ -33,7 +33,7 @@ use crate::groups::NO_NUMBER;
 use crate::index::Index;
 use crate::item_counts::none_open;
 use crate::slots::Slots;
-use ksm_base::{DupRow, Fault, GuestPage, Knobs, MOST_FRAMES, PageBytes};
+use ksm_base::{DupRow, Fault, GuestPage, Knobs, PageBytes};
 use ksm_rmap::Items;
 use std::alloc::Global;
 use std::marker::Model;
@@ -44,9 +44,9 @@ pub const NO_PLACE: u32 = u32::MAX;
 // A chain of no more dups than this is walked along as a whole.
 const SHORT_CHAIN: usize = 16;
 
-// In a table of more places than this each chain is walked along as a whole: the open places are a list, in which a place
-// that opens or closes moves those behind it.
-const FEW_PLACES: u32 = 1_024;
+/// In a table of more places than this each chain is walked along as a whole: the open places are a list, in which a
+/// place that opens or closes moves those behind it.
+pub const FEW_PLACES: usize = 1_024;
 
 /// The dups with their items, by place, by number, and by tree and bytes (mm/ksm, stable nodes and their chains).
 ///
@@ -55,15 +55,12 @@ const FEW_PLACES: u32 = 1_024;
 /// two where it is remembered here alone; else a search among the contents that are known, in a number of steps in the
 /// order of the logarithm of how many there are. `best` and `best_of` also walk along the chain, or, where a chain is
 /// long, along the dups of all contents that are not full, if these are fewer.
-/// The counts are kept, so nothing is counted when they are read. Room for every place is taken at the start, so only a
-/// group, a new dup and a new item may want memory.
+/// The counts are kept, so nothing is counted when they are read. A group, a new dup and a new item may want memory.
 #[derive(Drop)]
 pub struct Dups {
     alloc: Global,
     slots: Slots,
     index: Index,
-    // The number of the group of the dup at each place, as it was when the dup came: a guess.
-    group_at: Vec<u32>,
     next: u64,
     limit: u32,
 }
@@ -99,7 +96,6 @@ impl Dups {
             alloc,
             slots: Slots::open(alloc, places)?,
             index: Index::new(alloc, places),
-            group_at: vec![in alloc; NO_NUMBER; places as usize]?,
             next: 0,
             limit: Knobs::DEFAULT.max_page_sharing,
         })
@@ -326,16 +322,16 @@ impl Dups {
             },
             items,
         };
-        let left = self.group_at(place);
+        self.slots.reserve()?;
+        let left = self.slots.group_at(place);
         let old = self.slots.at(place);
         self.index.add(group, &dup.row)?;
         match old {
             Some(old) => self.index.replace(left, &old.row, &dup.row),
             None => {}
         }
-        self.slots.put(dup);
+        self.slots.put(dup, group);
         self.next += 1;
-        self.remember_group(place, group);
         self.keep_open();
         Ok(number)
     }
@@ -483,7 +479,7 @@ impl Dups {
         requires { is_some (find (λ d. stands_at place d && is_stale d) self.old.dups) ≡ true }
         ensures { self.new ≡ record self.old { dups = without_place place self.old.dups } }
     {
-        let group = self.group_at(place);
+        let group = self.slots.group_at(place);
         match self.slots.at(place) {
             Some(dup) => self.index.remove(group, &dup.row),
             None => unreachable!(),
@@ -529,31 +525,12 @@ impl Dups {
         self.keep_open();
     }
 
-    // A guess of the number of the group of the dup at a place. Nothing is promised of it.
-    fn group_at(&self, place: u32) -> u32 {
-        match self.group_at.get(place as usize) {
-            Some(group) => *group,
-            None => NO_NUMBER,
-        }
-    }
-
-    fn remember_group(&mut self, place: u32, group: u32)
-        ensures { self.new ≡ self.old }
-    {
-        let place = place as usize;
-        if place < self.group_at.len() {
-            self.group_at[place] = group;
-        }
-    }
-
     // Keeps the open places while a chain is long, and drops them once none is: nobody asks for them then.
     fn keep_open(&mut self)
         ensures { self.new ≡ self.old }
     {
-        let is_small = MOST_FRAMES <= FEW_PLACES || self.group_at.len() <= FEW_PLACES as usize;
         let is_long = self.index.groups.totals.longest > SHORT_CHAIN;
-        self.slots
-            .keep_open(if is_small && is_long { self.limit } else { 0 });
+        self.slots.keep_open(if is_long { self.limit } else { 0 });
     }
 
     // The places among which a dup to join is looked for, and whether they are those of the chain. Of a long chain the

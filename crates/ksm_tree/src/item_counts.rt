@@ -10,6 +10,7 @@ ghost use Rattle.std.specs.List.{list_all};
 ghost use Rattle.ksm_base.specs.declared.limits.TheConstants.{MOST_FRAMES};
 ghost use Rattle.ksm_tree.specs.Counts.{is_open as is_open_count, places_where};
 
+use crate::dups::FEW_PLACES;
 use crate::places::Places;
 use ksm_base::Fault;
 use std::alloc::Global;
@@ -37,7 +38,8 @@ impl Model for Counts {
 }
 
 impl Counts {
-    /// No items at so many places, with room for each of them among the open ones. The one fault is `Memory`.
+    /// No items at so many places, with room for each of them among the open ones if they are few. The one fault is
+    /// `Memory`.
     pub fn open(alloc: Global, places: u32) -> Result<Counts, Fault>
         ensures none { IfOk result (λ counts. counts ≡ replicate places 0) }
         ensures memory { IfErr result (λ fault. fault ≡ Fault.Memory) }
@@ -46,7 +48,7 @@ impl Counts {
         Ok(Counts {
             each: vec![in alloc; 0; room]?,
             limit: 0,
-            open_at: Places::with_room(alloc, room)?,
+            open_at: Places::with_room(alloc, if room <= FEW_PLACES { room } else { 0 })?,
         })
     }
 
@@ -67,7 +69,8 @@ impl Counts {
         Some(self.open_at.list.as_slice())
     }
 
-    /// The open places are kept from now on by this limit. By the limit 0 no place is open, and nothing has to be kept.
+    /// The open places are kept from now on by this limit, if there is room for all. By the limit 0 no place is open,
+    /// and nothing has to be kept.
     pub fn keep_open(&mut self, limit: u32)
         requires { length self.old ≤ MOST_FRAMES }
         ensures { self.new ≡ self.old }
@@ -75,8 +78,13 @@ impl Counts {
         if limit == self.limit {
             return;
         }
-        self.limit = limit;
-        open_anew(limit, self.each.as_slice(), &mut self.open_at);
+        if limit == 0 {
+            self.limit = 0;
+            self.open_at.clear();
+        } else if self.each.len() <= self.open_at.room() {
+            self.limit = limit;
+            open_anew(limit, self.each.as_slice(), &mut self.open_at);
+        }
     }
 
     /// Sets how many items there are at a place.

@@ -14,6 +14,7 @@ mod item_counts;
 pub mod laws;
 mod number_set;
 mod places;
+mod shelf;
 mod slots;
 mod totals;
 mod waiting;

@@ -39,6 +39,13 @@ impl Places {
         })
     }
 
+    /// How many places there is room for.
+    pub fn room(&self) -> usize
+        ensures { result ≡ self.now.list.capacity }
+    {
+        self.list.capacity()
+    }
+
     /// Whether no place is there.
     pub fn is_empty(&self) -> bool
         ensures { result ≡ (length self.now.list.items == 0) }

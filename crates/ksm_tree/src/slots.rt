@@ -1,5 +1,4 @@
-//! The dups by their places, a slot for each: a place leads to its dup in one step, and room for all of them is taken
-//! once.
+//! The dups by their places, a slot for each: a place leads to its dup in two steps, and an empty one takes few bytes.
 ghost use Rattle.std.specs.Prelude.{◌≡◌, ℕ, ◌<◌, ◌≤◌, [], true, false, None, Some};
 ghost use Rattle.std.specs.Prelude.{count_by, find, length, option_copied, option_map};
 ghost use Rattle.std.specs.Prelude.{is_some, slice_index_or, IfErr, IfOk, IfSome, OnErr, OnOk};
@@ -14,6 +13,7 @@ use crate::counted_set::CountedSet;
 use crate::dup::Dup;
 use crate::item_counts::Counts;
 use crate::number_set::NumberSet;
+use crate::shelf::Shelf;
 use ksm_base::{Fault, GuestPage};
 use std::alloc::Global;
 use std::marker::Model;
@@ -21,7 +21,7 @@ use std::marker::Model;
 /// The dups by place, with how many items each has, the places that no dup has and those of the stale dups.
 #[derive(Drop)]
 pub struct Slots {
-    dups: Vec<Option<Dup>>,
+    dups: Shelf,
     counts: Counts,
     empty: CountedSet,
     stale: CountedSet,
@@ -32,29 +32,24 @@ impl Model for Slots {
 
     ghost Value = { SlotsState };
 
-    ghost view = { λ s. slots_seen s.dups.items };
+    ghost view = { λ s. slots_seen s.dups };
 
-    ghost invariant = { λ s. AreSlots s.dups.items s.counts s.empty s.stale };
+    ghost invariant = { λ s. AreSlots s.dups.slots s.counts s.empty s.stale };
 }
 
 impl Slots {
     /// So many empty places. The one fault is `Memory`.
     pub fn open(alloc: Global, places: u32) -> Result<Slots, Fault>
         requires { places ≤ MOST_FRAMES }
-        ensures opened { IfOk result (λ slots. slots ≡ record { places = places; dups = [] }) }
+        ensures opened { IfOk result (λ slots. slots ≡ record { places = places; dups = []; ready = slots.ready }) }
         ensures memory { IfErr result (λ fault. fault ≡ Fault.Memory) }
     {
-        let room = places as usize;
-        let mut dups = Vec::with_capacity(alloc, room)?;
-        for _place in 0..places {
-            dups.push(None)?;
-        }
         Ok(Slots {
-            dups,
+            dups: Shelf::open(alloc, places)?,
             counts: Counts::open(alloc, places)?,
             empty: CountedSet {
                 set: NumberSet::full(alloc, places)?,
-                count: room,
+                count: places as usize,
             },
             stale: CountedSet {
                 set: NumberSet::empty(alloc, places)?,
@@ -67,10 +62,12 @@ impl Slots {
     pub fn at(&self, place: u32) -> Option<&Dup>
         ensures { option_copied result ≡ dup_at place self.now.dups }
     {
-        match self.dups.get(place as usize) {
-            Some(slot) => slot.as_ref(),
-            None => None,
-        }
+        self.dups.at(place)
+    }
+
+    /// A guess of the number of the group of the dup at a place. Nothing is promised of it.
+    pub fn group_at(&self, place: u32) -> u32 {
+        self.dups.group_at(place)
     }
 
     /// How many items the dup at each place has: 0 where no dup stands.
@@ -124,15 +121,26 @@ impl Slots {
         self.stale.count
     }
 
-    /// A dup with items takes its place, in the stead of one that stood there.
-    pub fn put(&mut self, dup: Dup)
+    /// Takes room for one more dup. The one fault is `Memory`, and then nothing changes.
+    pub fn reserve(&mut self) -> Result<(), Fault>
+        ensures kept { self.new ≡ record self.old { ready = self.new.ready } }
+        ensures ready { OnOk result (self.new.ready ≡ true) }
+        ensures memory { IfErr result (λ fault. fault ≡ Fault.Memory) }
+    {
+        self.dups.reserve()
+    }
+
+    /// A dup with items takes its place, in the stead of one that stood there, with a guess of its group's number. Room
+    /// for it is taken.
+    pub fn put(&mut self, dup: Dup, group: u32)
         requires place { dup.row.place < self.old.places }
         requires live { is_live dup ≡ true }
-        ensures { self.new ≡ record { places = self.old.places; dups = with_new dup self.old.dups } }
+        requires ready { self.old.ready ≡ true }
+        ensures { self.new ≡ record self.old { dups = with_new dup self.old.dups; ready = self.new.ready } }
     {
         let place = dup.row.place;
         self.counts.set(place, dup.items.len() as u32);
-        self.dups[place as usize] = Some(dup);
+        self.dups.put(dup, group);
         self.empty.remove(place);
         self.stale.remove(place);
     }
@@ -140,10 +148,10 @@ impl Slots {
     /// The dup at a place goes.
     pub fn clear(&mut self, place: u32)
         requires { is_some (dup_at place self.old.dups) ≡ true }
-        ensures { self.new ≡ record { places = self.old.places; dups = without_place place self.old.dups } }
+        ensures { self.new ≡ record self.old { dups = without_place place self.old.dups; ready = self.new.ready } }
     {
         self.counts.set(place, 0);
-        self.dups[place as usize] = None;
+        self.dups.clear(place);
         self.stale.remove(place);
         self.empty.add(place);
     }
@@ -153,48 +161,38 @@ impl Slots {
         requires known { is_some (dup_at place self.old.dups) ≡ true }
         requires fewer { length (items_in (dup_at place self.old.dups)) < MOST_REFERENCES }
         requires absent { has_item page (items_in (dup_at place self.old.dups)) ≡ false }
-        ensures added { OnOk result (self.new ≡ record {
-          places = self.old.places;
+        ensures added { OnOk result (self.new ≡ record self.old {
           dups = change_at place (with_item page) self.old.dups;
+          ready = self.new.ready;
         }) }
-        ensures kept { OnErr result (self.new ≡ self.old) }
+        ensures kept { OnErr result (self.new ≡ record self.old { ready = self.new.ready }) }
         ensures memory { IfErr result (λ fault. fault ≡ Fault.Memory) }
     {
-        match &mut self.dups[place as usize] {
-            Some(dup) => {
-                dup.items.add(page)?;
-                let count = dup.items.len() as u32;
-                self.counts.set(place, count);
-                if count == 1 {
-                    self.stale.remove(place);
-                }
-                Ok(())
-            }
-            None => unreachable!(),
+        let count = self.dups.add_item(place, page)?;
+        self.counts.set(place, count);
+        if count == 1 {
+            self.stale.remove(place);
         }
+        Ok(())
     }
 
     /// A page is no item of the dup at a place any more.
     #[inline(always)]
     pub fn remove_item(&mut self, place: u32, page: GuestPage)
         requires { is_some (dup_at place self.old.dups) ≡ true }
-        ensures { self.new ≡ record {
-          places = self.old.places;
+        ensures { self.new ≡ record self.old {
           dups = change_at place (without_item page) self.old.dups;
+          ready = self.new.ready;
         } }
     {
-        match &mut self.dups[place as usize] {
-            Some(dup) => {
-                if !dup.items.remove(page) {
-                    return;
-                }
-                let left = dup.items.len() as u32;
+        match self.dups.remove_item(place, page) {
+            Some(left) => {
                 self.counts.set(place, left);
                 if left == 0 {
                     self.stale.add(place);
                 }
             }
-            None => unreachable!(),
+            None => {}
         }
     }
 }

@@ -1,5 +1,5 @@
 use Rattle.ksm_tree.proofs.Names.{ap, dups_seen, with_item, ◌∙◌}
-use Rattle.ksm_tree.proofs.Indexed.{stays_indexed, told_changed, told_items, told_there}
+use Rattle.ksm_tree.proofs.Indexed.{room_indexed, stays_indexed, told_changed, told_items, told_there}
 use Rattle.ksm_tree.proofs.dups.Dups.join_at.Goals as goal
 
 pub add_item-requires-clause-known : goal.add_item-requires-clause-known
@@ -17,11 +17,15 @@ add_item-requires-clause-absent c =
     let s = c.self.inside in
     rw (told_items c.args.dup c.in-Some.place s.slots s.next s.index c.args.self.now c.self.invariant c.self.view_is c.in-Some.ensures) c.requires.absent
 
+pub invariant_of-self : goal.invariant_of-self
+invariant_of-self c =
+    room_indexed c.self.inside.slots c.add_item.new.self c.self.inside.next c.self.inside.index c.in_err-add_item-in-Some.ensures.kept c.self.invariant
+
 pub invariant_of-self-in-Some : goal.invariant_of-self-in-Some
-invariant_of-self-in-Some c = rw c.in_ok-add_item-in-Some.ensures.added (stays_indexed c.self.inside.slots c.self.inside.next c.self.inside.index c.self.invariant c.in-Some.place (with_item c.args.page))
+invariant_of-self-in-Some c = rw c.in_ok-add_item-in-Some.ensures.added (stays_indexed c.self.inside.slots c.self.inside.next c.self.inside.index c.self.invariant c.in-Some.place (with_item c.args.page) _)
 
 pub returns-clause-joined : goal.returns-clause-joined
 returns-clause-joined c =
     let s = c.self.inside in
     ap (λ slots. dups_seen slots s.next s.index) c.in_ok-add_item-in-Some.ensures.added
-    ∙ told_changed c.args.dup c.in-Some.place s.slots s.next s.index c.args.self.now c.self.invariant c.self.view_is c.in-Some.ensures (with_item c.args.page)
+    ∙ told_changed c.args.dup c.in-Some.place s.slots s.next s.index c.args.self.now c.self.invariant c.self.view_is c.in-Some.ensures (with_item c.args.page) c.add_item.new.self.ready

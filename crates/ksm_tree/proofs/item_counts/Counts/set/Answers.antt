@@ -7,7 +7,7 @@ insert-requires c =
     let within : c.args.place < length c.self.inside.each.items = omega (arith, c.requires, ap length c.self.view_is) in
     let read = get_or_default c.self.inside.each.items c.args.place 0 c.index.result.now within ∙ sym c.index.ensures in
     let closed = ap (is_open c.self.inside.limit) read ∙ sym c.is_open-was_open.ensures ∙ differ _ _ c.if-opens-was_open.false c.if-opens.true in
-    opens_with_room c.self.inside.limit c.args.place c.self.inside.each.items c.self.inside.open_at.list within closed c.self.invariant
+    opens_with_room c.self.inside.limit c.args.place c.self.inside.each.items c.self.inside.open_at.list within closed (omega (arith, c.if-self-eq0.false)) c.self.invariant
 
 pub invariant_of-self : goal.invariant_of-self
 invariant_of-self c =

@@ -1,65 +1,59 @@
-use Rattle.ksm_tree.proofs.Names.{ap, arith, false, is_stale_slot, length, sym, with_item, ◌∙◌, ◌≡◌}
-use Rattle.ksm_tree.proofs.OneSlot.{count_within, HoldsDup, holds_dup, seen_within, slot_not_none, grown_not_stale, slots_kept, slots_marked, view_changed, was_live}
+use Rattle.ksm_tree.proofs.Names.{ap, false, is_stale_slot, items_in, length, sym, with_item, ◌∙◌, ◌≡◌}
+use Rattle.ksm_tree.proofs.OneSlot.{changed_dup, count_within, grown_not_stale, holds_dup, seen_slot, seen_within, slot_filled, slots_kept, slots_marked, view_changed, was_live}
 use Rattle.ksm_tree.proofs.PlaceSets.{may_be_marked}
 use Rattle.ksm_tree.proofs.slots.Slots.add_item.Goals as goal
-use Rattle.ksm_tree.proofs.slots.Slots.add_item.Goals.{In-Some}
 
-pub index_mut-requires : goal.index_mut-requires
-index_mut-requires c =
-    omega (arith, seen_within c.args.place c.self.inside.dups.items c.args.self.now c.self.view_is c.self.invariant.placed c.requires.known, c.self.inside.dups.ok.0)
+pub add_item-requires-clause-known : goal.add_item-requires-clause-known
+add_item-requires-clause-known c = slot_filled c.args.place c.self.inside.dups c.args.self.now c.self.view_is c.self.invariant.placed c.requires.known
+
+pub add_item-requires-clause-fewer : goal.add_item-requires-clause-fewer
+add_item-requires-clause-fewer c = rw (← seen_slot c.args.place c.self.inside.dups c.args.self.now c.self.view_is c.self.invariant.placed) c.requires.fewer
+
+pub add_item-requires-clause-absent : goal.add_item-requires-clause-absent
+add_item-requires-clause-absent c = rw (← seen_slot c.args.place c.self.inside.dups c.args.self.now c.self.view_is c.self.invariant.placed) c.requires.absent
 
 pub set-requires : goal.set-requires
 set-requires c =
-    let within = seen_within c.args.place c.self.inside.dups.items c.args.self.now c.self.view_is c.self.invariant.placed c.requires.known in
-    omega (arith, count_within c.args.place c.self.inside.dups.items c.self.inside.counts c.self.invariant.counted within)
-
-pub unreachable-requires : goal.unreachable-requires
-unreachable-requires c =
-    slot_not_none c.args.place c.self.inside.dups.items c.args.self.now c.self.view_is c.self.invariant.placed c.index_mut.result.now c.requires.known
-    c.index_mut.ensures.value c.in-None.is
-
-here : (c : In-Some) → HoldsDup c.args.place c.self.inside.dups.items c.args.self.now c.in-Some.dup
-here c =
-    holds_dup c.args.place c.self.inside.dups.items c.args.self.now c.self.view_is c.self.invariant.placed c.index_mut.result.now c.in-Some.dup c.requires.known
-    c.index_mut.ensures.value c.in-Some.is
-
-pub add-requires-clause-fewer : goal.add-requires-clause-fewer
-add-requires-clause-fewer c = rw (← (here (goal.at.add-requires-clause-fewer c).In-Some).items) c.requires.fewer
-
-pub add-requires-clause-absent : goal.add-requires-clause-absent
-add-requires-clause-absent c = rw (← (here (goal.at.add-requires-clause-absent c).In-Some).items) c.requires.absent
+    count_within c.args.place c.self.inside.dups.slots c.self.inside.counts c.self.invariant.counted
+    (seen_within c.args.place c.self.inside.dups c.args.self.now c.self.view_is c.self.invariant.placed c.requires.known)
 
 pub remove-requires : goal.remove-requires
 remove-requires c =
     let s = c.self.inside in
-    let within = (here (goal.at.remove-requires c).In-Some).within in
-    may_be_marked is_stale_slot s.dups.items s.stale c.args.place c.self.invariant.stales c.self.invariant.few within
+    may_be_marked is_stale_slot s.dups.slots s.stale c.args.place c.self.invariant.stales c.self.invariant.few
+    (seen_within c.args.place c.self.inside.dups c.args.self.now c.self.view_is c.self.invariant.placed c.requires.known)
 
 pub invariant_of-self-then-count-eq1 : goal.invariant_of-self-then-count-eq1
 invariant_of-self-then-count-eq1 c =
     let s = c.self.inside in
-    let here = here (goal.at.invariant_of-self-then-count-eq1 c).In-Some in
-    let count : c.len-count.result ≡ length (with_item c.args.page c.in-Some.dup.items) = c.len-count.ensures.count ∙ ap length c.in_ok-add-in-Some.ensures.added in
-    rw (c.in_ok-add-in-Some.ensures.added, c.set.ensures) (slots_marked c.args.place s.dups.items s.counts s.empty s.stale c.in-Some.dup
-    (with_item c.args.page) here.within c.self.invariant here.filled c.len-count.result c.remove.new.self false count
-    (grown_not_stale c.args.page c.in-Some.dup.items) c.remove.ensures)
+    let held = holds_dup c.args.place c.self.inside.dups c.args.self.now c.self.view_is c.self.invariant.placed c.requires.known in
+    let count : c.in_ok-count.count ≡ length (with_item c.args.page held.0.items) =
+    c.in_ok-count.ensures.count ∙ ap (λ o. length (with_item c.args.page (items_in o))) held.1.filled in
+    rw (c.in_ok-count.ensures.added ∙ changed_dup c.args.place (with_item c.args.page) s.dups.slots held.0 held.1.filled, c.set.ensures)
+    (slots_marked c.args.place s.dups.slots s.counts s.empty s.stale held.0
+    (with_item c.args.page) held.1.within c.self.invariant held.1.filled c.in_ok-count.count c.remove.new.self false count
+    (grown_not_stale c.args.page held.0.items) c.remove.ensures)
 
 pub invariant_of-self-else-count-eq1 : goal.invariant_of-self-else-count-eq1
 invariant_of-self-else-count-eq1 c =
     let s = c.self.inside in
-    let here = here (goal.at.invariant_of-self-else-count-eq1 c).In-Some in
-    let count : c.len-count.result ≡ length (with_item c.args.page c.in-Some.dup.items) = c.len-count.ensures.count ∙ ap length c.in_ok-add-in-Some.ensures.added in
-    let live = was_live c.args.page c.in-Some.dup.items (λ one. c.if-count-eq1.false (count ∙ one)) in
-    rw (c.in_ok-add-in-Some.ensures.added, c.set.ensures) (slots_kept c.args.place s.dups.items s.counts s.empty s.stale c.in-Some.dup
-    (with_item c.args.page) here.within c.self.invariant here.filled c.len-count.result count
-    (grown_not_stale c.args.page c.in-Some.dup.items ∙ sym live))
+    let held = holds_dup c.args.place c.self.inside.dups c.args.self.now c.self.view_is c.self.invariant.placed c.requires.known in
+    let count : c.in_ok-count.count ≡ length (with_item c.args.page held.0.items) =
+    c.in_ok-count.ensures.count ∙ ap (λ o. length (with_item c.args.page (items_in o))) held.1.filled in
+    let live = was_live c.args.page held.0.items (λ one. c.if-count-eq1.false (count ∙ one)) in
+    rw (c.in_ok-count.ensures.added ∙ changed_dup c.args.place (with_item c.args.page) s.dups.slots held.0 held.1.filled, c.set.ensures)
+    (slots_kept c.args.place s.dups.slots s.counts s.empty s.stale held.0
+    (with_item c.args.page) held.1.within c.self.invariant held.1.filled c.in_ok-count.count count
+    (grown_not_stale c.args.page held.0.items ∙ sym live))
 
 pub returns-then-count-eq1-clause-added : goal.returns-then-count-eq1-clause-added
 returns-then-count-eq1-clause-added c =
-    rw c.in_ok-add-in-Some.ensures.added (view_changed c.args.place c.self.inside.dups.items c.args.self.now c.in-Some.dup (with_item c.args.page)
-    c.self.view_is c.self.invariant.placed (here (goal.at.returns-then-count-eq1-clause-added c).In-Some).filled)
+    let held = holds_dup c.args.place c.self.inside.dups c.args.self.now c.self.view_is c.self.invariant.placed c.requires.known in
+    view_changed c.args.place c.self.inside.dups c.add_item.new.self c.args.self.now held.0 (with_item c.args.page) c.self.view_is c.self.invariant.placed
+    held.1.filled c.in_ok-count.ensures.added
 
 pub returns-else-count-eq1-clause-added : goal.returns-else-count-eq1-clause-added
 returns-else-count-eq1-clause-added c =
-    rw c.in_ok-add-in-Some.ensures.added (view_changed c.args.place c.self.inside.dups.items c.args.self.now c.in-Some.dup (with_item c.args.page)
-    c.self.view_is c.self.invariant.placed (here (goal.at.returns-else-count-eq1-clause-added c).In-Some).filled)
+    let held = holds_dup c.args.place c.self.inside.dups c.args.self.now c.self.view_is c.self.invariant.placed c.requires.known in
+    view_changed c.args.place c.self.inside.dups c.add_item.new.self c.args.self.now held.0 (with_item c.args.page) c.self.view_is c.self.invariant.placed
+    held.1.filled c.in_ok-count.ensures.added

@@ -1,0 +1,58 @@
+use Rattle.ksm_tree.proofs.Names.{ap, arith, refl, get_or, Kept, length, sym, Updates-with_value, without_item, ◌∙◌, ◌≡◌, None, items_in, rules}
+use Rattle.ksm_tree.proofs.Shelved.{changed, filled_key, items_there, key_read, not_none}
+use Rattle.ksm_tree.proofs.shelf.Shelf.remove_item.Goals as goal
+use Rattle.ksm_tree.proofs.shelf.Shelf.remove_item.Goals.{In-Some}
+
+pub index-key-requires : goal.index-key-requires
+index-key-requires c =
+    omega (arith, filled_key c.args.place c.self.inside.keys.items c.self.inside.dups c.args.self.now c.self.view_is c.requires, c.self.inside.keys.ok.0)
+
+pub unreachable-requires : goal.unreachable-requires
+unreachable-requires c =
+    not_none c.args.place c.self.inside.keys.items c.self.inside.dups c.args.self.now c.self.view_is c.index-key.result.now
+    (key_read c.args.place c.self.inside.keys.items c.self.inside.dups c.args.self.now c.self.view_is c.index-key.result.now c.index-key.ensures c.requires)
+    c.requires c.in-None.ensures.value
+
+-- the key is that of the place
+read : (c : In-Some) → c.index-key.result.now ≡ get_or c.self.inside.keys.items c.args.place 0
+read c =
+    key_read c.args.place c.self.inside.keys.items c.self.inside.dups c.args.self.now c.self.view_is c.index-key.result.now c.index-key.ensures c.requires
+
+-- the items at the place are those of the dup
+items : (c : In-Some) → items_in (get_or c.args.self.now.slots c.args.place None) ≡ c.in-Some.kept.now.dup.items
+items c =
+    items_there c.args.place c.self.inside.keys.items c.self.inside.dups c.args.self.now c.self.view_is c.index-key.result.now c.in-Some.kept.now
+    (read c) c.requires c.in-Some.ensures.value
+
+pub returns-then-not-remove-clause-removed : goal.returns-then-not-remove-clause-removed
+returns-then-not-remove-clause-removed c =
+    let was = c.in-Some.kept.now in
+    let now : Kept = record { dup = record { row = was.dup.row; items = c.remove.new.self }; group = was.group } in
+    let old = c.self.inside.dups in
+    let key = c.index-key.result.now in
+    changed c.args.place key c.self.inside.keys.items old _ c.args.self.now c.self.view_is was now (without_item c.args.page)
+    (read (goal.at.returns-then-not-remove-clause-removed c).In-Some) c.requires (sym c.in-Some.ensures.value)
+    (λ i. record { row = was.dup.row; items = c.remove.ensures.removed i })
+    (Updates-with_value old key now (search rules))
+
+pub returns-then-not-remove-clause-count : goal.returns-then-not-remove-clause-count
+returns-then-not-remove-clause-count c =
+    let none = c.if-not-remove.ensures.found in
+    rw (items (goal.at.returns-then-not-remove-clause-count c).In-Some, ← none) refl
+
+pub returns-clause-removed : goal.returns-clause-removed
+returns-clause-removed c =
+    let was = c.in-Some.kept.now in
+    let now : Kept = record { dup = record { row = was.dup.row; items = c.remove.new.self }; group = was.group } in
+    let old = c.self.inside.dups in
+    let key = c.index-key.result.now in
+    changed c.args.place key c.self.inside.keys.items old _ c.args.self.now c.self.view_is was now (without_item c.args.page)
+    (read (goal.at.returns-clause-removed c).In-Some) c.requires (sym c.in-Some.ensures.value)
+    (λ i. record { row = was.dup.row; items = c.remove.ensures.removed i })
+    (Updates-with_value old key now (search rules))
+
+pub returns-clause-count : goal.returns-clause-count
+returns-clause-count c =
+    let found = c.if-not-remove.ensures.found in
+    let count = c.len.ensures.count ∙ ap length c.remove.ensures.removed in
+    rw (items (goal.at.returns-clause-count c).In-Some, ← found, count) refl
