@@ -58,7 +58,7 @@ last_stands page [] = (page, refl)
 last_stands page (next ∷ pages) = last_stands next pages
 
 -- rows that settled are settled
-settled_twice : (rows : List Row) → map settled (map settled rows) ≡ map settled rows
+pub settled_twice : (rows : List Row) → map settled (map settled rows) ≡ map settled rows
 settled_twice rows = map_mapped settled settled settled rows (λ i d lt t. record (get_or rows i d) { state = same (get_or rows i d).state t })
   where
     same : (s : PageState) → settled_state (settled_state s) ≡ settled_state s

@@ -14,16 +14,16 @@ pub use Rattle.frame_table.specs.Kept.{did, May}
 pub use Rattle.frame_table.specs.Named.{KeeperView}
 pub use Rattle.ksm_base.proofs.Edits.{count_more, count_none, counts_one, find_all, find_none, find_nothing, find_passes, none_counted}
 pub use Rattle.ksm_base.proofs.Orders.{all_with_dup, all_with_row, each_has_number, filter_none, one_of_each_page, one_of_each_place, ordered_change, ordered_filter, ordered_map, ordered_with, pairs_append, pairs_cross, pairs_head, pairs_tail}
-pub use Rattle.ksm_base.proofs.Pages.{after_differs, before_differs, before_irrefl, before_trans, not_both, one_before, same_page_eq, same_page_refl}
+pub use Rattle.ksm_base.proofs.Pages.{after_differs, before_differs, before_irrefl, before_trans, not_both, one_before, same_page_eq, same_page_refl, same_page_sym}
 pub use Rattle.ksm_base.proofs.RowCounts.{change_none, count_with_row, count_without_page, each_at_page, filter_all}
-pub use Rattle.ksm_base.proofs.SoundCounts.{joined_count}
-pub use Rattle.ksm_base.proofs.SoundEdits.{no_dup_lives}
+pub use Rattle.ksm_base.proofs.SoundCounts.{joined_count, not_an_item}
+pub use Rattle.ksm_base.proofs.SoundEdits.{no_dup_lives, sound_changed, waiting_not_private}
 pub use Rattle.ksm_base.proofs.SoundItems.{dup_of_item, home_of_item}
 pub use Rattle.ksm_base.proofs.SoundKnobs.{none_shared, sound_set_across, sound_set_limit}
-pub use Rattle.ksm_base.proofs.SoundPair.{IsFree, new_place_free, next_is_new, waits_tells, WaitsFor}
-pub use Rattle.ksm_base.proofs.SoundScan.{sound_none_waiting, sound_row_visited}
+pub use Rattle.ksm_base.proofs.SoundPair.{IsFree, new_place_free, next_is_new, tells_waits, waits_tells, WaitsFor}
+pub use Rattle.ksm_base.proofs.SoundScan.{settled_calmer, sound_none_waiting, sound_row_visited}
 pub use Rattle.ksm_base.proofs.SoundSteps.{sound_after, sound_opening}
-pub use Rattle.ksm_base.proofs.SoundVisit.{best_dup_has_room, IsJoined}
+pub use Rattle.ksm_base.proofs.SoundVisit.{all_changed, best_dup_has_room, IsJoined, sound_waiting}
 pub use Rattle.ksm_base.proofs.Visits.{rowwise_visits}
 pub use Rattle.ksm_base.specs.Answers.{Answer, every_row, IsAnswerUnless, IsScanned, IsUnmerged, shared_rows}
 pub use Rattle.ksm_base.specs.Apply.{effect, fresh_row, is_before, let_go, moved, scan_stopped, stored, unshare_stopped, unshared}
@@ -34,7 +34,7 @@ pub use Rattle.ksm_base.specs.Rows.{change_row, change_rows, comes_before, dup_n
 pub use Rattle.ksm_base.specs.Sound.{IsDupOf, IsSound}
 pub use Rattle.ksm_base.specs.State.{BookState, default_knobs, pass_ended, place_count, tree_of, with_none_waiting}
 pub use Rattle.ksm_base.specs.Values.{frames_of, IsShape}
-pub use Rattle.ksm_base.specs.Visit.{after_cursor, best_dup, empty_from, handled, is_best, is_for_zero, new_place, next_row, paired, partner, pass_begun, pass_ended_at_last, place_or, row_visited, stayed, visit, visit_begun, visit_of, visits, waits_for}
+pub use Rattle.ksm_base.specs.Visit.{after_cursor, best_dup, empty_from, handled, is_best, is_for_zero, is_no_rival, is_no_worse, made_dup, may_join, new_place, next_row, paired, partner, pass_begun, pass_ended_at_last, place_or, row_visited, stayed, visit, visit_begun, visit_of, visits, waits_for}
 pub use Rattle.ksm_base.specs.declared.command.Command.{Command}
 pub use Rattle.ksm_base.specs.declared.command.Command.TheVariants.{Drop, Mergeable, MoveDup, MovePage, Prune, Register, Scan, SetAcross, SetLimit, SetPagesToScan, SetRun, SetZeroPages, Store, Unmerge}
 pub use Rattle.ksm_base.specs.declared.fault.Fault.{Fault}
@@ -51,7 +51,9 @@ pub use Rattle.ksm_base.specs.declared.row.PageState.TheVariants.{Merged, Waitin
 pub use Rattle.ksm_base.specs.declared.row.Row.{Row}
 pub use Rattle.ksm_base.specs.declared.shape.Shape.{Shape}
 pub use Rattle.ksm_book.specs.Carried.{CarriedOut, IsCarried, JournaledBook, UnmergesTo}
-pub use Rattle.ksm_book.specs.Commands.{Deed, dup_frame, emptying, Finds, FindsHeld, FindsNone, frame_found, frame_number, frame_on, handling, idle, instead, joining, leaving, Mapped, mounting, Moves, pairing, Performs, Provides, pruning, Resettles, ResettlesEach, rewriting, row_visiting, scanning, staying, then_doing, visiting, visiting_of, withdrawing}
+pub use Rattle.ksm_book.specs.Commands.{Deed, dup_frame, emptying, Finds, FindsHeld, FindsNone, founding, frame_found, frame_number, frame_on, handling, idle, instead, joining, leaving, Mapped, mounting, Moves, pairing, Performs, Provides, pruning, Resettles, ResettlesEach, rewriting, row_visiting, scanning, staying, then_doing, visiting, visiting_of, withdrawing}
+pub use Rattle.ksm_book.specs.Due.{AreDue, comes_later, due_row_visited, due_visited, due_visits, hidden, hidden_from, IsDueNoMore, taken_over, takes_over, waits_on}
+pub use Rattle.ksm_book.specs.DuePass.{part_before, part_visited, ReachedBefore, StaysBefore, StopsDue, StopsInPart, TakesOverFrom}
 pub use Rattle.ksm_book.specs.Folded.{begun, IsBeside, IsStill, last_of, mergeable_pages, next_visited, page_visited, pages_ahead, pages_visited, pass_at, restless_at, restless_row, visited, visits_beside}
 pub use Rattle.ksm_tree.specs.NumberSets.{has, Marks}
 pub use Rattle.ksm_book.specs.FrameSets.{AreSets, IsSetOf, NoneOf}
@@ -84,19 +86,20 @@ pub use Rattle.std.proofs.Math.Dec.{eqb}
 pub use Rattle.std.proofs.Math.ListN.{drop_of_length-le}
 pub use Rattle.std.proofs.Math.Nat.{mul_comm}
 pub use Rattle.std.proofs.Math.Seq.{take-append_seam}
-pub use Rattle.std.proofs.lemmas.Bool.{and_parts, and_right, both_ways, cases_Bool, cases_eq, cases_lt, cond-false, cond-true, cond_both, eqb-true, lt-ltb, ltb-true, ne_eqb, not-false, not-true}
+pub use Rattle.std.proofs.lemmas.Bool.{and_from, and_parts, and_right, both_ways, cases_Bool, cases_eq, cases_lt, cond-false, cond-true, cond_both, eqb-true, lt-ltb, ltb-true, ne_eqb, not-false, not-true, not_from_false, or_cases, or_parts}
 pub use Rattle.std.proofs.lemmas.Bool.Decides.{nat_tests}
 pub use Rattle.std.proofs.lemmas.List.{append_cancel_left, drop-append-le, drop_more, get_or-drop, get_or-map, get_or-take, get_or_default, get_or_past, length-append, length-drop, length-map, length-replicate, length-take, length-take-le, map-append, replicate-append-replicate, set-get_or, set-set, take-append-drop, take_more}
 pub use Rattle.std.proofs.lemmas.List.Elements.{All-append, All-cons, All-contains_itself, All-filter, All-head, All-map, All-tail, All-weaker, Contains-append_left, Contains-append_right, Contains-push, filter-append, filter_passes}
 pub use Rattle.std.proofs.lemmas.List.Folds.{find-append, list_any_at, list_any_none, map_fixed}
 pub use Rattle.std.proofs.lemmas.List.FromFn.{get_or-range_with_len, length-range_with_len}
 pub use Rattle.std.proofs.lemmas.List.Kept.{AllPairs-cons, AllPairs-filter}
-pub use Rattle.std.proofs.lemmas.List.Sums.{count_by-le-length, length-filter, sum_by-cons, sum_by-le, sum_by-set}
+pub use Rattle.std.proofs.lemmas.List.Sums.{count_by-le-length, length-filter, list_all-from_AllPass, sum_by-cons, sum_by-le, sum_by-set}
 pub use Rattle.std.proofs.lemmas.Map.Keys.{IsDistinct-from_apart}
 pub use Rattle.std.proofs.lemmas.Map.Steps.{length-le_from_distinct_below}
 pub use Rattle.std.proofs.lemmas.Map.Views.{any-filter_same, Contains-from_any}
 pub use Rattle.std.proofs.lemmas.Nat.{div-mul-add}
 pub use Rattle.std.proofs.lemmas.Option.{get_or_from_slice_get, same_Some, slice_get-get_or, slice_get-map, slice_get_past, slice_get_within}
-pub use Rattle.std.specs.List.{list_any, range_with_len, sum_by}
+pub use Rattle.std.proofs.lemmas.Slice.Eq.{bytes_eq-Decides}
+pub use Rattle.std.specs.List.{list_all, list_any, range_with_len, sum_by}
 pub use Rattle.std.specs.Option.{option_or}
-pub use Rattle.std.specs.Prelude.{All, AllPairs, Contains, count_by, filter, find, IfErr, IfSome, if◌then◌else◌, is_none, is_some, MatchBool, MatchOption, max, min, nat_le, nat_lt, not, option_map, Result, slice_get, slice_index, ⊤, ◌&&◌, ◌==◌, ◌||◌}
+pub use Rattle.std.specs.Prelude.{All, AllPairs, bytes_eq, Contains, count_by, filter, find, IfErr, IfSome, if◌then◌else◌, is_none, is_some, MatchBool, MatchOption, max, min, nat_le, nat_lt, not, option_map, Result, slice_get, slice_index, ⊤, ◌&&◌, ◌==◌, ◌||◌}

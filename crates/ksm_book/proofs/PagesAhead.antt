@@ -1,5 +1,6 @@
 -- Ascending lists of pages: their parts before and behind a page, by test and by index; and each is known by what it has.
 use Rattle.ksm_book.proofs.Names.{[], after_cursor, All, All-cons, All-filter, All-head, and_right, any-filter_same, ap, AreAscending, arith, before_differs, before_irrefl, before_trans, Bool, cases_Bool, cases_lt, comes_before, Contains-from_any, drop, drop-append-le, drop_of_length-le, false, filter, filter_all, filter_none, from_to, get_or, get_or-drop, get_or-take, get_or_from_slice_get, GuestPage, has_item, inl, inr, last_of, length, length-drop, length-take, length-take-le, List, list_any_none, max, None, not, not_both, one_before, Option, pairs_head, pairs_tail, refl, same_page, same_page_eq, same_page_refl, same_Some, slice_get, slice_get-get_or, slice_get_within, Some, subst, suc, sym, take, take_more, true, true≢false, up_to, zero, ℕ, ◌&&◌, ◌++◌, ◌+◌, ◌-◌, ◌<◌, ◌||◌, ◌∙◌, ◌∷◌, ◌≡◌, ◌≤◌, filter_mapped, if◌then◌else◌}
+use Rattle.std.proofs.Common.{ap₂}
 use Rattle.std.proofs.lemmas.List.{map-id}
 
 -- the first page comes before the second
@@ -56,7 +57,8 @@ up_to_down (Some last) p q before is = let after = before_trans last p q in grin
 pub before_down : (page : GuestPage) → GoesDown (λ p. comes_before p page)
 before_down page p q before is = before_trans p q page before is
 
-filter_same : {X : Type 0} (t u : X → Bool) (xs : List X) → All (λ x. t x ≡ u x) xs → filter t xs ≡ filter u xs
+-- tests that agree on each of a list pick the same
+pub filter_same : {X : Type 0} (t u : X → Bool) (xs : List X) → All (λ x. t x ≡ u x) xs → filter t xs ≡ filter u xs
 filter_same t u xs same = ap (filter t) (sym (map-id xs)) ∙ filter_mapped (λ x. x) t u xs same ∙ map-id (filter u xs)
 
 module _ (t : GuestPage → Bool) (down : GoesDown t) where
@@ -76,6 +78,20 @@ module _ (t : GuestPage → Bool) (down : GoesDown t) where
         | inl passes ↦ let rest = take_down pages (pairs_tail Before p pages rise) in grind (arith, passes, rest)
         | inr fails ↦
             let none = filter_none t (p ∷ pages) (none_pass p pages rise fails) in ap (λ l. take (length l) (p ∷ pages)) none ∙ sym none
+      ]
+
+  -- the list is those that pass, and behind them those that fail
+  pub parted : (pages : List GuestPage) → AreAscending pages → pages ≡ filter t pages ++ filter (λ p. not (t p)) pages
+  parted [] rise = refl
+  parted (p ∷ pages) rise =
+      let fail : GuestPage → Bool = λ q. not (t q) in
+      elim (cases_Bool (t p)) [
+        | inl passes ↦
+            ap (λ l. p ∷ l) (parted pages (pairs_tail Before p pages rise))
+            ∙ sym (ap₂ (λ some more. some ++ more) (filter_in t p pages passes) (filter_out fail p pages (ap not passes)))
+        | inr fails ↦
+            let all = none_pass p pages rise fails in
+            sym (ap₂ (λ some more. some ++ more) (filter_none t (p ∷ pages) all) (filter_all fail (p ∷ pages) (λ k d lt. ap not (all k d lt))))
       ]
 
   -- in an ascending list, the pages behind a cursor that pass a test that goes down stand between two counts

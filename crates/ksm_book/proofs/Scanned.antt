@@ -75,7 +75,7 @@ pub was_restless : (old new : List Row) → Goes old new → (page : GuestPage) 
 was_restless old new goes page restless = let calm = goes.calm page in grind (arith, calm, restless)
 
 -- scans visit a restless page
-restless_mergeable : (page : GuestPage) (rows : List Row) → restless_at page rows ≡ true → has_item page (mergeable_pages rows) ≡ true
+pub restless_mergeable : (page : GuestPage) (rows : List Row) → restless_at page rows ≡ true → has_item page (mergeable_pages rows) ≡ true
 restless_mergeable page [] is = absurd (true≢false (sym is))
 restless_mergeable page (r ∷ rows) is = let rest = restless_mergeable page rows in grind (arith, is, rest)
 

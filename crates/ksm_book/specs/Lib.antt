@@ -11,4 +11,6 @@ pub mod Promised
 pub mod Unmerged
 pub mod Worked
 pub mod Folded
+pub mod Due
 pub mod Scanned
+pub mod DuePass

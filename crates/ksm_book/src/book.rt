@@ -1,7 +1,7 @@
 //! The book of page sharing: its commands, the pages as they are read, the counters and the journal. Each command is
 //! carried out on the `State`, and then entered in the journal, whose memory was taken before the first step.
 
-ghost use Rattle.std.specs.Prelude.{◌≡◌, ◌≤◌, [], Some, IfOk, IfErr, IfSome, IsSome, option_map};
+ghost use Rattle.std.specs.Prelude.{◌≡◌, ◌≤◌, [], true, Some, IfOk, IfErr, IfSome, IsSome, option_map};
 ghost use Rattle.ksm_base.specs.Answers.{IsAnswerOrMemory};
 ghost use Rattle.ksm_base.specs.Apply.{after};
 ghost use Rattle.ksm_base.specs.Counting.{counters_of};
@@ -12,6 +12,7 @@ ghost use Rattle.ksm_base.specs.State.{opening};
 ghost use Rattle.ksm_base.specs.Values.{IsShape};
 ghost use Rattle.frame_core.specs.Ledger.{first_ledger};
 ghost use Rattle.ksm_book.specs.Carried.{CarriedOut, IsCarried, unjournaled};
+ghost use Rattle.ksm_book.specs.Due.{AreDue};
 ghost use Rattle.ksm_pages.specs.Paged.{nowhere};
 ghost use Rattle.ksm_book.specs.Laid.{LoadsIf};
 ghost use Rattle.ksm_base.specs.Sound.{IsSound};
@@ -19,6 +20,7 @@ ghost use Rattle.ksm_book.specs.Keeping.{spent};
 ghost use Rattle.ksm_book.specs.Whole.{view_of};
 ghost use Rattle.ksm_book.specs.Promised.{FindsPlace, LieOn, NumbersAreSmall};
 
+use crate::due::Due;
 use crate::state::State;
 use frame_table::{FrameTable, Keeper};
 use ksm_base::laws::a_journal_goes_on;
@@ -37,12 +39,15 @@ use std::marker::Model;
 /// The journal is legal: it leads from the opening book to the state as it is.
 pub struct Book {
     state: State,
+    due: Due,
     journal: Journal,
 }
 
 impl Model for Book {
+    ghost use Rattle.std.specs.Prelude.{◌≡◌, true};
     ghost use Rattle.ksm_base.specs.Journal.{IsLegal};
     ghost use Rattle.ksm_book.specs.Carried.{JournaledBook};
+    ghost use Rattle.ksm_book.specs.Due.{AreDue};
 
     ghost Value = { JournaledBook };
 
@@ -54,7 +59,8 @@ impl Model for Book {
       is_kept = b.journal.is_kept;
     } };
 
-    ghost invariant = { λ b. IsLegal b.state.keeper.table.shape b.journal.entries b.state.state };
+    ghost invariant = { λ b. IsLegal b.state.keeper.table.shape b.journal.entries b.state.state
+        × (b.due.known ≡ true → AreDue b.state.state b.due.pages) };
 }
 
 impl Book {
@@ -81,6 +87,7 @@ impl Book {
     {
         Ok(Book {
             state: State::open(alloc, keeper, shape)?,
+            due: Due::new(alloc),
             journal,
         })
     }
@@ -98,7 +105,7 @@ impl Book {
     {
         a_journal_goes_on();
         self.journal.reserve()?;
-        let answer = carry_out(&mut self.state, table, command);
+        let answer = carry_out(&mut self.state, &mut self.due, table, command);
         match answer {
             Err(Fault::Memory) => {}
             _ => self.journal.add(command, answer),
@@ -187,22 +194,36 @@ impl Book {
     pub fn close(self) -> Keeper
         ensures { result ≡ self.keeper }
     {
-        let Book { state, journal: _ } = self;
+        let Book {
+            state,
+            due: _due,
+            journal: _,
+        } = self;
         state.close()
     }
 }
 
-/// Carries a command out on the state.
+/// Carries a command out on the state. Of most it is not known then which pages are due.
 #[inline(always)]
-fn carry_out(state: &mut State, table: &FrameTable, command: Command) -> Result<Reply, Fault>
+fn carry_out(
+    state: &mut State,
+    due: &mut Due,
+    table: &FrameTable,
+    command: Command,
+) -> Result<Reply, Fault>
     requires own { state.old.keeper.table ≡ table.now }
-    ensures { IsCarried (view_of state.old) (view_of state.new) command result }
+    requires due { due.old.known ≡ true → AreDue state.old.state due.old.pages }
+    ensures carried { IsCarried (view_of state.old) (view_of state.new) command result }
+    ensures due { due.new.known ≡ true → AreDue state.new.state due.new.pages }
 {
+    if !matches!(command, Command::Store { .. } | Command::Scan { .. }) {
+        due.forget();
+    }
     match command {
         Command::Register { page, node, bytes } => state.register(table, page, node, bytes),
         Command::Drop { page } => state.drop_page(table, page),
-        Command::Store { page, bytes } => state.store(table, page, bytes),
-        Command::Scan { visits } => state.scan(table, visits),
+        Command::Store { page, bytes } => state.store(table, due, page, bytes),
+        Command::Scan { visits } => state.scan(table, due, visits),
         Command::Prune => state.prune(table),
         Command::Unmerge { guest } => state.unmerge(table, guest),
         Command::Mergeable { guest } => state.mergeable(guest),

@@ -2,6 +2,8 @@
 #![tactic(auto)]
 
 mod book;
+mod due;
+mod due_pass;
 mod frame_keeper;
 mod frames;
 mod knobs;

@@ -2,9 +2,11 @@
 //!
 //! Only restless pages are visited: those that a visit may change. They are listed in order. Where the visits end is
 //! asked first (`ahead`), so those in between need no look. And where a whole pass changed nothing but which rows wait,
-//! the passes that would repeat it are counted and not made.
+//! the passes that would repeat it are counted and not made; from then on a whole pass visits only what is due
+//! (`due_pass.rt`).
 
-ghost use Rattle.std.specs.Prelude.{◌≡◌, ◌&&◌, ◌+◌, ◌-◌, ◌<◌, ◌≤◌, true, not, Some, filter, length, slice_get};
+ghost use Rattle.std.specs.Prelude.{◌≡◌, ◌&&◌, ◌+◌, ◌-◌, ◌<◌, ◌≤◌, [], true, not, None, Some, drop, filter};
+ghost use Rattle.std.specs.Prelude.{length, slice_get};
 ghost use Rattle.std.specs.Prelude.{Err, OnOk, OnErr, IfOk, IfErr};
 ghost use Rattle.ksm_base.specs.declared.fault.Fault.TheVariants.{Memory};
 ghost use Rattle.ksm_base.specs.declared.page.GuestPage.{GuestPage};
@@ -12,12 +14,15 @@ ghost use Rattle.ksm_base.specs.Rows.{InPageOrder};
 ghost use Rattle.ksm_base.specs.State.{with_none_waiting};
 ghost use Rattle.ksm_base.specs.Visit.{after_cursor, pass_begun, pass_ended_at_last};
 ghost use Rattle.ksm_book.specs.Carried.{IsCarried};
-ghost use Rattle.ksm_book.specs.Folded.{begun, last_of, mergeable_pages, pages_ahead, pages_visited};
+ghost use Rattle.ksm_book.specs.Due.{AreDue};
+ghost use Rattle.ksm_book.specs.DuePass.{StopsInPart, part_visited};
+ghost use Rattle.ksm_book.specs.Folded.{last_of, mergeable_pages, pages_ahead, pages_visited};
 ghost use Rattle.ksm_book.specs.Scanned.{Comes, EndsAt, GoesOn, HasScanned, HasVisited, ListsAll, StopsAt, StopsBefore};
 ghost use Rattle.ksm_book.specs.Scanned.{StopsShort, ahead_before, ahead_up_to, doing, from_to, is_nowhere};
 ghost use Rattle.ksm_book.specs.Scanned.{is_quiet, last_visited, passes_ended, up_to};
 ghost use Rattle.ksm_book.specs.Whole.{view_of};
 
+use crate::due::Due;
 use crate::state::State;
 use crate::visiting::Visited;
 use frame_table::FrameTable;
@@ -168,7 +173,7 @@ impl State {
         }
     }
 
-    fn cursor(&self) -> Option<GuestPage>
+    pub(crate) fn cursor(&self) -> Option<GuestPage>
         ensures { result ≡ self.now.state.cursor }
     {
         self.cursor
@@ -183,6 +188,9 @@ impl State {
         ensures restless { self.new.restless ≡ self.old.restless }
         ensures visited { IfOk result (λ made. HasVisited self.old self.new
             (λ s. pages_visited doing s (from_to first end self.old.restless.pages)) made.quiet) }
+        ensures due { IfOk result (λ made. made.quiet ≡ true → first ≤ end
+            → AreDue self.old.state (drop first self.old.restless.pages)
+            → AreDue self.new.state (drop end self.old.restless.pages)) }
         ensures stopped { IfErr result (λ at. StopsAt self.old self.new first end at) }
     {
         let mut made = Made {
@@ -212,6 +220,8 @@ impl State {
         ensures known { self.new.restless.known ≡ true }
         ensures visited { IfOk result (λ quiet. HasVisited self.old self.new
             (λ s. pages_visited doing s (ahead_up_to last s.0)) quiet) }
+        ensures due { IfOk result (λ quiet. quiet ≡ true → self.old.state.cursor ≡ None → last ≡ None
+            → AreDue self.new.state []) }
         ensures stopped { IfErr result (λ page. StopsBefore self.old self.new last page) }
     {
         self.lies_in_order();
@@ -255,37 +265,67 @@ impl State {
         }
     }
 
-    // Does what comes before a visit: a pass may end and the next begin. Says where so many visits end.
-    fn begin(&mut self, most: u64) -> Ahead
-        requires { 1 ≤ most }
-        ensures own { self.new.keeper.table ≡ self.old.keeper.table }
-        ensures comes { Comes self.old self.new begun }
-        ensures ahead { EndsAt (pages_ahead self.new.state) most result }
-        ensures some { 1 ≤ length (mergeable_pages self.old.state.rows) → 1 ≤ length (pages_ahead self.new.state) }
-        ensures restless { self.new.restless ≡ self.old.restless }
+    // Whether the pages ahead up to the last one, or all of them, are those of a whole pass.
+    fn is_whole(&self, last: Option<GuestPage>) -> bool
+        ensures { result ≡ true → (self.now.state.cursor ≡ None) × (last ≡ None) }
     {
-        let ahead = self.close_pass(most);
+        self.cursor().is_none() && last.is_none()
+    }
+
+    // Visits the pages ahead up to the last one, or all of them, where a pass begins or goes on. A whole pass visits
+    // only what is due, where that is known; and where one changed nothing but which rows wait, nothing is due. Says
+    // whether that was so. Where memory is refused, tells the page that was not visited.
+    fn visit_part(
+        &mut self,
+        table: &FrameTable,
+        due: &mut Due,
+        last: Option<GuestPage>,
+    ) -> Result<bool, GuestPage>
+        requires own { self.old.keeper.table ≡ table.now }
+        requires known { self.old.restless.known ≡ true }
+        requires due { due.old.known ≡ true → AreDue self.old.state due.old.pages }
+        ensures own { self.new.keeper.table ≡ self.old.keeper.table }
+        ensures known { self.new.restless.known ≡ true }
+        ensures visited { IfOk result (λ quiet. HasVisited self.old self.new (part_visited last) quiet) }
+        ensures due { due.new.known ≡ true → AreDue self.new.state due.new.pages }
+        ensures stopped { IfErr result (λ page. StopsInPart self.old self.new last page) }
+    {
+        let whole = self.is_whole(last);
+        if whole && due.is_known() {
+            return self.pass_over_due(table, due);
+        }
+        due.forget();
         self.begin_pass();
-        ahead
+        match self.visit_up_to(table, last) {
+            Ok(quiet) => {
+                if whole && quiet {
+                    due.begin(self.listed_len() / 8);
+                }
+                Ok(quiet)
+            }
+            Err(page) => Err(page),
+        }
     }
 
     // Makes at least one visit, and `most` at most, all of one pass. Where that is a whole pass that changed nothing
     // but which rows wait, those that would repeat it are counted too. Where memory is refused, tells how many visits
     // were made.
-    fn go_on(&mut self, table: &FrameTable, most: u64) -> Result<u64, u64>
+    fn go_on(&mut self, table: &FrameTable, due: &mut Due, most: u64) -> Result<u64, u64>
         requires own { self.old.keeper.table ≡ table.now }
         requires most { 1 ≤ most }
         requires some { 1 ≤ length (mergeable_pages self.old.state.rows) }
         requires known { self.old.restless.known ≡ true }
+        requires due { due.old.known ≡ true → AreDue self.old.state due.old.pages }
         ensures own { self.new.keeper.table ≡ self.old.keeper.table }
         ensures known { self.new.restless.known ≡ true }
+        ensures due { due.new.known ≡ true → AreDue self.new.state due.new.pages }
         ensures made { IfOk result (λ made. GoesOn self.old self.new most made) }
         ensures stopped { IfErr result (λ made. StopsShort self.old self.new most made) }
     {
         self.lies_in_order();
-        let ahead = self.begin(most);
+        let ahead = self.close_pass(most);
         let whole = self.cursor().is_none();
-        match self.visit_up_to(table, last(ahead)) {
+        match self.visit_part(table, due, last(ahead)) {
             Ok(quiet) => match ahead {
                 Ahead::At(page) => {
                     self.set_cursor(Some(page));
@@ -320,16 +360,18 @@ impl State {
     }
 
     // Makes visits, of pages that there are. The one fault is `Memory`: then no more is done than what the reply tells.
-    fn visits(&mut self, table: &FrameTable, count: u64) -> Reply
+    fn visits(&mut self, table: &FrameTable, due: &mut Due, count: u64) -> Reply
         requires own { self.old.keeper.table ≡ table.now }
         requires some { 1 ≤ length (mergeable_pages self.old.state.rows) }
         requires known { self.old.restless.known ≡ true }
+        requires due { due.old.known ≡ true → AreDue self.old.state due.old.pages }
         ensures own { self.new.keeper.table ≡ self.old.keeper.table }
+        ensures due { due.new.known ≡ true → AreDue self.new.state due.new.pages }
         ensures scanned { HasScanned self.old self.new count result }
     {
         let mut done = 0;
         while done < count {
-            match self.go_on(table, count - done) {
+            match self.go_on(table, due, count - done) {
                 Ok(visits) => done += visits,
                 Err(made) => {
                     return Reply::Scanned {
@@ -364,9 +406,11 @@ impl State {
 
     /// Makes visits.
     #[inline(never)]
-    pub fn scan(&mut self, table: &FrameTable, count: u64) -> Result<Reply, Fault>
+    pub fn scan(&mut self, table: &FrameTable, due: &mut Due, count: u64) -> Result<Reply, Fault>
         requires own { self.old.keeper.table ≡ table.now }
-        ensures { IsCarried (view_of self.old) (view_of self.new) (Command.Scan count) result }
+        requires due { due.old.known ≡ true → AreDue self.old.state due.old.pages }
+        ensures carried { IsCarried (view_of self.old) (view_of self.new) (Command.Scan count) result }
+        ensures due { due.new.known ≡ true → AreDue self.new.state due.new.pages }
     {
         if self.pages.knobs().run != 1 {
             return Err(Fault::NotRunning);
@@ -378,6 +422,6 @@ impl State {
             });
         }
         self.list_restless()?;
-        Ok(self.visits(table, count))
+        Ok(self.visits(table, due, count))
     }
 }

@@ -1,9 +1,11 @@
 //! The state of the book, and the commands on single pages, with `prune` and `mergeable`. Each tests its refusals in
 //! the order of the definitions, and then changes the pages and their frames.
 
-ghost use Rattle.std.specs.Prelude.{◌≡◌, ◌≤◌, [], IfOk, IfErr, IsSome, option_map};
+ghost use Rattle.std.specs.Prelude.{◌≡◌, ◌≤◌, ℕ, List, [], true, IfOk, IfErr, IsSome, option_map};
 ghost use Rattle.ksm_base.specs.Values.{IsShape};
 ghost use Rattle.ksm_base.specs.State.{opening};
+ghost use Rattle.ksm_base.specs.Apply.{stored};
+ghost use Rattle.ksm_base.specs.Rows.{change_row};
 ghost use Rattle.ksm_base.specs.Counting.{counters_of};
 ghost use Rattle.ksm_base.specs.Reading.{bytes_of, mappers_of, ticket_of};
 ghost use Rattle.ksm_base.specs.declared.fault.Fault.TheVariants.{Memory};
@@ -11,18 +13,20 @@ ghost use Rattle.ksm_base.specs.Refusals.{is_known};
 ghost use Rattle.ksm_base.specs.Sound.{IsSound};
 ghost use Rattle.frame_core.specs.Ledger.{first_ledger};
 ghost use Rattle.ksm_book.specs.Carried.{IsCarried};
+ghost use Rattle.ksm_book.specs.Due.{AreDue};
 ghost use Rattle.ksm_book.specs.Whole.{view_of};
 ghost use Rattle.ksm_book.specs.Keeping.{spent};
 ghost use Rattle.ksm_book.specs.Laid.{LoadsIf};
-ghost use Rattle.ksm_pages.specs.Paged.{nowhere};
+ghost use Rattle.ksm_pages.specs.Paged.{IsAlone, nowhere};
 ghost use Rattle.ksm_book.specs.Promised.{FindsPlace, LieOn, NumbersAreSmall};
 
+use crate::due::Due;
 use crate::frame_keeper::FrameKeeper;
 use crate::frames::{is_used_up, known_frame, load, release_if, take_frame, write};
 use crate::settling::{drop_stale, resettle};
 use frame_table::{FrameTable, Keeper};
 use ksm_base::{Command, Counters, Fault, GuestPage, Knobs, PageBytes, Reply, Shape};
-use ksm_pages::Pages;
+use ksm_pages::{Pages, Spot};
 use std::alloc::Global;
 use std::marker::Model;
 
@@ -148,20 +152,25 @@ impl State {
         Ok(Reply::Done)
     }
 
-    /// Stores bytes to a page: in place where it has a frame of its own, else in a copy on its home.
+    /// Stores bytes to a page: in place where it has a frame of its own, else in a copy on its home. A page that waited
+    /// is due then. Where one was merged or Zero, it is no longer known which pages are.
     pub fn store(
         &mut self,
         table: &FrameTable,
+        due: &mut Due,
         page: GuestPage,
         bytes: PageBytes,
     ) -> Result<Reply, Fault>
         requires own { self.old.keeper.table ≡ table.now }
-        ensures { IsCarried (view_of self.old) (view_of self.new) (Command.Store page bytes) result }
+        requires due { due.old.known ≡ true → AreDue self.old.state due.old.pages }
+        ensures carried { IsCarried (view_of self.old) (view_of self.new) (Command.Store page bytes) result }
+        ensures due { due.new.known ≡ true → AreDue self.new.state due.new.pages }
     {
         let Some(held) = self.pages.held(page) else {
             return Err(Fault::UnknownPage);
         };
         if held.shared {
+            due.forget();
             if let Err(fault) = resettle(
                 &mut self.pages,
                 &mut self.keeper,
@@ -175,10 +184,28 @@ impl State {
             self.pages.store(held.spot, &bytes);
             return Ok(Reply::Done);
         }
+        self.note_store(due, held.spot);
         let frame = known_frame(held.frame);
         write(&mut self.keeper, table, frame, bytes);
         self.pages.store(held.spot, &bytes);
         Ok(Reply::Done)
+    }
+
+    // Bytes are about to be stored to a page with a frame of its own. If it waits, it is due from now on.
+    #[inline(always)]
+    fn note_store(&self, due: &mut Due, spot: Spot)
+        requires own { IsAlone spot.page self.now.state.rows }
+        requires due { due.old.known ≡ true → AreDue self.now.state due.old.pages }
+        ensures { due.new.known ≡ true → (bytes : List ℕ) → AreDue (record self.now.state {
+          rows = change_row spot.page (stored bytes) self.now.state.rows;
+        }) due.new.pages }
+    {
+        if !due.is_known() {
+            return;
+        }
+        if self.pages.waits(spot) {
+            due.add(spot);
+        }
     }
 
     /// Drops a page: its row goes, and so does its reference on a frame.

@@ -2,6 +2,7 @@
 
 ghost use Rattle.std.specs.Prelude.{◌≡◌, true, false, OnOk, OnErr, IfOk, MatchOption};
 ghost use Rattle.ksm_base.specs.Rows.{row_at};
+ghost use Rattle.ksm_book.specs.Due.{IsDueNoMore};
 ghost use Rattle.ksm_book.specs.Folded.{page_visited, restless_at};
 ghost use Rattle.ksm_book.specs.Scanned.{Comes, IsForZero, MayJoin, MeetsPage, StaysStill, VisitsPage, doing};
 ghost use Rattle.ksm_book.specs.Scanned.{is_quiet};
@@ -39,6 +40,8 @@ impl State {
         ensures comes { OnOk result (Comes self.old self.new (λ s. page_visited doing s spot.page)) }
         ensures quiet { IfOk result (λ visited. is_quiet visited ≡ true
             → StaysStill self.old (λ s. page_visited doing s spot.page)) }
+        ensures due { IfOk result (λ visited. is_quiet visited ≡ true
+            → IsDueNoMore spot.page self.old.state self.new.state) }
         ensures restless { self.new.restless ≡ self.old.restless }
         ensures refused { OnErr result (Comes self.old self.new (λ s. s)) }
         ensures refused_row { OnErr result (restless_at spot.page self.new.state.rows ≡ true) }
@@ -58,6 +61,8 @@ impl State {
         ensures comes { OnOk result (Comes self.old self.new (λ s. page_visited doing s spot.page)) }
         ensures quiet { IfOk result (λ visited. is_quiet visited ≡ true
             → StaysStill self.old (λ s. page_visited doing s spot.page)) }
+        ensures due { IfOk result (λ visited. is_quiet visited ≡ true
+            → IsDueNoMore spot.page self.old.state self.new.state) }
         ensures restless { self.new.restless ≡ self.old.restless }
         ensures refused { OnErr result (Comes self.old self.new (λ s. s)) }
         ensures refused_row { OnErr result (restless_at spot.page self.new.state.rows ≡ true) }
@@ -83,7 +88,7 @@ impl State {
     }
 
     // A page joins the best dup that it may join.
-    fn join(&mut self, table: &FrameTable, spot: Spot, best: Best) -> Result<(), Fault>
+    pub(crate) fn join(&mut self, table: &FrameTable, spot: Spot, best: Best) -> Result<(), Fault>
         requires own { self.old.keeper.table ≡ table.now }
         requires row { MatchOption (row_at spot.page self.old.state.rows) (true ≡ false)
             (MayJoin self.old.state best) }
@@ -100,7 +105,7 @@ impl State {
     }
 
     // A page of zeroes becomes Zero.
-    fn become_zero(&mut self, table: &FrameTable, spot: Spot)
+    pub(crate) fn become_zero(&mut self, table: &FrameTable, spot: Spot)
         requires own { self.old.keeper.table ≡ table.now }
         requires row { MatchOption (row_at spot.page self.old.state.rows) (true ≡ false) (IsForZero self.old.state) }
         ensures own { self.new.keeper.table ≡ self.old.keeper.table }
@@ -112,7 +117,12 @@ impl State {
     }
 
     // A page makes a dup with the one that waits for it.
-    fn pair(&mut self, table: &FrameTable, other: GuestPage, spot: Spot) -> Result<(), Fault>
+    pub(crate) fn pair(
+        &mut self,
+        table: &FrameTable,
+        other: GuestPage,
+        spot: Spot,
+    ) -> Result<(), Fault>
         requires own { self.old.keeper.table ≡ table.now }
         requires row { MatchOption (row_at spot.page self.old.state.rows) (true ≡ false)
             (MeetsPage self.old.state other) }

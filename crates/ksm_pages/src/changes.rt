@@ -152,6 +152,15 @@ impl Pages {
         self.rows.set_mergeable(spot, false);
     }
 
+    /// A page with a frame of its own waits no more, if it did.
+    pub fn stop_waiting(&mut self, spot: Spot)
+        requires { IsAlone spot.page self.old.rows }
+        ensures { seen self.new ≡ record (seen self.old) { rows = change_row spot.page on_its_own self.old.rows } }
+    {
+        leave(&mut self.dups, &self.frames, &self.knobs, &self.rows, spot);
+        self.rows.stop_waiting(spot);
+    }
+
     /// No page waits any more: those that did are Private.
     pub fn settle_all(&mut self)
         ensures { seen self.new ≡ record (seen self.old) { rows = map as_settled self.old.rows } }

@@ -4,7 +4,7 @@ ghost use Rattle.std.specs.Prelude.{◌≡◌, ◌≤◌, ◌==◌, true, false,
 ghost use Rattle.std.specs.Prelude.{option_and_then, MatchOption, IfSome};
 ghost use Rattle.ksm_base.specs.Counting.{counters_from, mergeable_count};
 ghost use Rattle.ksm_base.specs.Reading.{place_of};
-ghost use Rattle.ksm_base.specs.Rows.{row_at, private_state};
+ghost use Rattle.ksm_base.specs.Rows.{row_at, private_state, waiting_state};
 ghost use Rattle.ksm_base.specs.Visit.{after_cursor};
 ghost use Rattle.ksm_base.specs.declared.row.Row.{Row};
 ghost use Rattle.ksm_pages.specs.Paged.{IsHeld, IsKnown, is_next, of_guest, seen};
@@ -12,7 +12,7 @@ ghost use Rattle.ksm_pages.specs.Paged.{IsHeld, IsKnown, is_next, of_guest, seen
 use crate::lying::{frame_of, place_of};
 use crate::pages::{Held, Pages};
 use crate::row::{Kind, Spot};
-use ksm_base::{Counters, GuestPage, PageBytes};
+use ksm_base::{Counters, GuestPage, PageBytes, PageState};
 
 /// The cursor behind which the rows of a guest begin, or go on.
 fn start_of(guest: Option<u16>, cursor: Option<GuestPage>) -> Option<GuestPage>
@@ -60,6 +60,22 @@ impl Pages {
         match self.rows.find(spot) {
             Some(entry) => entry.bytes,
             None => unreachable!(),
+        }
+    }
+
+    /// Whether a page waits.
+    #[inline(always)]
+    pub fn waits(&self, spot: Spot) -> bool
+        ensures { MatchOption (row_at spot.page self.now.rows) (result ≡ false) (λ r. result ≡ waiting_state r.state) }
+    {
+        let Some(entry) = self.rows.find(spot) else {
+            return false;
+        };
+        match entry.state(self.rows.pass()) {
+            PageState::Waiting => true,
+            PageState::Private => false,
+            PageState::Merged(_) => false,
+            PageState::Zero => false,
         }
     }
 

@@ -1,4 +1,4 @@
-use Rattle.ksm_book.proofs.Names.{ap, IsCarried, Done, find_all, is_some, IsLaid, KeeperView, length, Ok, PAGE_WORDS, PagesView, refl, Resettled, rules, same_page, seen, Store, stored, subst, sym, ◌<◌, ◌∙◌, ◌≡◌}
+use Rattle.ksm_book.proofs.Names.{ap, AreDue, BookValue, change_row, IsAlone, IsCarried, Done, find_all, is_some, IsLaid, KeeperView, length, Ok, PAGE_WORDS, PagesView, refl, Resettled, rules, same_page, seen, Store, stored, subst, state_of, sym, ◌<◌, ◌∙◌, ◌≡◌}
 use Rattle.ksm_book.proofs.Laying.{has_frame, laid_written, own_framed}
 use Rattle.ksm_book.proofs.Shown.{resettles_own}
 use Rattle.ksm_book.proofs.Singles.{alone_now, book, carried_so, own_ready, sound_carried, store_copied, store_written, row_held, Carries, found_resettled}
@@ -28,8 +28,8 @@ module _ (c : goal.After-store-2) where
       (seen c.store-2.new.self) c.known_frame-frame.result c.store-2.ensures (sym c.in-Some.ensures.shared ∙ c.if-held.false)
       (ap (seen c.self.inside.pages).frame c.in-Some.ensures.spot ∙ sym c.in-Some.ensures.frame ∙ c.known_frame-frame.ensures) c.write.ensures.wrote
 
-pub returns : goal.returns
-returns c = carried_so c.self.view_is (ap (λ q. Store q c.args.bytes) c.in-Some.ensures.spot) (written c)
+pub returns-clause-carried : goal.returns-clause-carried
+returns-clause-carried c = carried_so c.self.view_is (ap (λ q. Store q c.args.bytes) c.in-Some.ensures.spot) (written c)
 
 pub invariant_of-self-2 : goal.invariant_of-self-2
 invariant_of-self-2 c =
@@ -59,8 +59,22 @@ copied c =
     (subst (λ n. Resettled (seen c.self.inside.pages) (seen c.resettle.new.pages) c.self.inside.keeper c.resettle.new.keeper c.in-Some.held.spot.page n c.args.bytes) c.in-Some.ensures.home c.in_default-resettle.ensures.resettled)
     c.store.ensures (sym c.in-Some.ensures.shared ∙ c.if-held.true)
 
-pub returns-then-held : goal.returns-then-held
-returns-then-held c = carried_so c.self.view_is (ap (λ q. Store q c.args.bytes) c.in-Some.ensures.spot) (copied c).0
+pub returns-then-held-clause-carried : goal.returns-then-held-clause-carried
+returns-then-held-clause-carried c = carried_so c.self.view_is (ap (λ q. Store q c.args.bytes) c.in-Some.ensures.spot) (copied c).0
 
 pub invariant_of-self-then-held : goal.invariant_of-self-then-held
 invariant_of-self-then-held c = (sound_carried c.self.invariant.0 (copied c).0, (copied c).1)
+
+pub note_store-requires-clause-own : goal.note_store-requires-clause-own
+note_store-requires-clause-own c =
+    subst (λ (v : BookValue). IsAlone c.in-Some.held.spot.page v.state.rows) c.self.view_is
+    (alone_now c.self.inside.pages.rows c.in-Some.held.spot.page c.in-Some.ensures.row (row_held c.in-Some.ensures)
+    (sym c.in-Some.ensures.shared ∙ c.if-held.false))
+
+-- what is due stays so
+pub returns-clause-due : goal.returns-clause-due
+returns-clause-due c = λ known.
+    let pages = c.note_store.new.due.pages in
+    subst (λ (x : PagesView). AreDue (state_of x c.self.inside.cursor c.self.inside.passes) pages) (sym c.store-2.ensures)
+    (subst (λ (v : BookValue). AreDue (record v.state { rows = change_row c.in-Some.held.spot.page (stored c.args.bytes) v.state.rows }) pages)
+    (sym c.self.view_is) (c.note_store.ensures known c.args.bytes))

@@ -1,9 +1,10 @@
-use Rattle.ksm_book.proofs.Names.{true, ap, BookState, BookValue, Comes, doing, FindsAt, IsStill, page_visited, refl, seen, subst, view_of, ◌∙◌, ◌≡◌}
+use Rattle.ksm_book.proofs.Names.{true, ap, BookState, BookValue, Comes, doing, FindsAt, IsDueNoMore, IsStill, page_visited, refl, seen, state_of, subst, view_of, ◌∙◌, ◌≡◌}
 use Rattle.std.specs.Prelude.{IfOk, OnErr, OnOk}
 use Rattle.ksm_book.specs.Commands.{Deed}
 use Rattle.ksm_book.specs.Scanned.{Reached, is_quiet}
 use Rattle.ksm_pages.specs.declared.pages.Find.TheVariants as finds
 use Rattle.ksm_book.specs.contracts.state.State.{the_view}
+use Rattle.ksm_book.proofs.DueVisits.{gone_due, waits_due}
 use Rattle.ksm_book.proofs.PageVisits.{finds_it, waits_leads, waits_quiet}
 use Rattle.ksm_book.proofs.RowVisits.{Meets}
 use Rattle.ksm_book.proofs.state.State.visit.Goals as goal
@@ -39,3 +40,19 @@ returns-in-Nothing-clause-quiet c =
 pub returns-in-Nothing-clause-refused : goal.returns-in-Nothing-clause-refused
 returns-in-Nothing-clause-refused c =
     subst (λ (v : BookValue). OnErr c.visit_any.result (Comes v c.visit_any.new.self (λ s. s))) (as_before (goal.at.returns-in-Nothing-clause-refused c).After-visit_any) c.visit_any.ensures.refused
+
+pub returns-in-Gone-clause-due : goal.returns-in-Gone-clause-due
+returns-in-Gone-clause-due c = λ _.
+    let s = c.self.inside in
+    subst (λ (v : BookValue). IsDueNoMore c.args.spot.page v.state (state_of (seen c.glance.new.self) s.cursor s.passes)) c.self.view_is
+    (gone_due (seen s.pages) (seen c.glance.new.self) s.cursor s.passes c.args.spot.page c.self.invariant.0.rows_rise
+    (c.glance.ensures.gone c.in-Gone.is))
+
+pub returns-in-Waits-clause-due : goal.returns-in-Waits-clause-due
+returns-in-Waits-clause-due c = λ _. waits_due (met (goal.at.returns-in-Waits-clause-due c).In-Waits)
+
+pub returns-in-Nothing-clause-due : goal.returns-in-Nothing-clause-due
+returns-in-Nothing-clause-due c =
+    subst (λ (v : BookValue). IfOk c.visit_any.result (λ visited. is_quiet visited ≡ true
+    → IsDueNoMore c.args.spot.page v.state c.visit_any.new.self.state))
+    (as_before (goal.at.returns-in-Nothing-clause-due c).After-visit_any) c.visit_any.ensures.due

@@ -1,5 +1,7 @@
-use Rattle.ksm_book.proofs.Names.{ap, BookState, Find, FindsAt, doing, Dup, IsLaid, IsSound, IsStill, page_visited, PagesView, Partner, seen, state_of, subst, sym, view_of, ◌≡◌}
+use Rattle.ksm_book.proofs.Names.{ap, BookState, BookValue, Find, FindsAt, doing, Dup, IsDueNoMore, IsLaid, IsSound, IsStill, page_visited, PagesView, Partner, seen, state_of, subst, sym, view_of, ◌≡◌}
 use Rattle.ksm_pages.specs.declared.pages.Find.TheVariants as finds
+use Rattle.ksm_pages.specs.Paged.{Finds}
+use Rattle.ksm_book.proofs.DueVisits.{gone_due, waits_due}
 use Rattle.ksm_book.proofs.PageVisits.{changed_leads, finds_it, shared_comes, waits_leads, waits_quiet}
 use Rattle.ksm_book.proofs.RowVisits.{Meets}
 use Rattle.ksm_book.proofs.state.State.visit_any.Goals as goal
@@ -49,3 +51,15 @@ pub returns-in_ok-pair-in-Partner-clause-comes : goal.returns-in_ok-pair-in-Part
 returns-in_ok-pair-in-Partner-clause-comes c =
     let met = met_by ((goal.at.returns-in_ok-pair-in-Partner-clause-comes c).In_ok-found) (Partner c.in-Partner.other) (λ e. cc) c.in-Partner.is in
     shared_comes c.args.self.now c.pair.new.self met met.so.0 (seen c.visit.new.self) met.so.5 c.in_ok-pair-in-Partner.ensures.visited
+
+pub returns-in-Gone-clause-due : goal.returns-in-Gone-clause-due
+returns-in-Gone-clause-due c = λ _.
+    let s = c.self.inside in
+    let found : Finds (seen s.pages) (seen c.visit.new.self) c.args.spot.page finds.Gone =
+    subst (Finds (seen s.pages) (seen c.visit.new.self) c.args.spot.page) c.in-Gone.is c.in_ok-found.ensures.found in
+    subst (λ (v : BookValue). IsDueNoMore c.args.spot.page v.state (state_of (seen c.visit.new.self) s.cursor s.passes)) c.self.view_is
+    (gone_due (seen s.pages) (seen c.visit.new.self) s.cursor s.passes c.args.spot.page c.self.invariant.0.rows_rise found)
+
+pub returns-in-Waits-clause-due : goal.returns-in-Waits-clause-due
+returns-in-Waits-clause-due c = λ _.
+    waits_due (met_by ((goal.at.returns-in-Waits-clause-due c).In_ok-found) finds.Waits (λ e. cc) c.in-Waits.is)

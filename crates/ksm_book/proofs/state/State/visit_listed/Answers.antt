@@ -1,4 +1,4 @@
-use Rattle.ksm_book.proofs.Names.{[], and_parts, ap, arith, rules, BookState, Deed, doing, from_to, IsStill, Listing, page_visited, pages_visited, Reached, slice_get, Some, subst, sym, ◌++◌, ◌+◌, ◌∙◌, ◌∷◌, ◌≡◌}
+use Rattle.ksm_book.proofs.Names.{[], and_parts, ap, AreDue, arith, rules, BookState, Deed, doing, drop, drop_more, from_to, get_or_from_slice_get, GuestPage, IsStill, Listing, page_visited, pages_visited, Reached, slice_get, slice_get_within, Some, subst, sym, ◌++◌, ◌+◌, ◌∙◌, ◌∷◌, ◌≡◌}
 use Rattle.ksm_book.specs.Scanned.{is_quiet}
 use Rattle.ksm_book.proofs.Folded.{still_on, visited_more}
 use Rattle.ksm_book.proofs.PagesAhead.{from_to_end, from_to_more}
@@ -26,6 +26,14 @@ loop-at-preserved c =
           (c.in-Ok.ensures.quiet both.1 from (pages_visited doing s pages)
           (c.loop-at.invariant.2 from s before))),
       c.visit.ensures.own ∙ c.loop-at.invariant.4,
+      λ quiet was.
+          let both = and_parts c.loop-at.made.quiet (is_quiet c.in-Ok.visited) (sym c.and-made.ensures ∙ quiet) in
+          let within = slice_get_within all c.loop-at.at page stands in
+          let cut : drop c.loop-at.at all ≡ page ∷ drop (c.loop-at.at + 1) all =
+          drop_more all c.loop-at.at page within
+          ∙ ap (λ (p : GuestPage). p ∷ drop (c.loop-at.at + 1) all) (get_or_from_slice_get all c.loop-at.at page page stands) in
+          c.in-Ok.ensures.due both.1 (drop (c.loop-at.at + 1) all)
+          (subst (AreDue c.loop-at.self.state) cut (c.loop-at.invariant.5 both.0 was)),
     )
 
 -- the pages between, once the loop is over
@@ -52,3 +60,8 @@ returns-in-Err-clause-stopped c =
       comes = λ from s before. c.in-Err.ensures.refused from (pages_visited doing s done) (c.loop-at.invariant.2 from s before);
       restless = search rules;
     }
+
+pub returns-clause-due : goal.returns-clause-due
+returns-clause-due c = λ quiet least was.
+    let over : c.loop-at.at ≡ c.args.end = omega (arith, least, c.loop-at-test.false, c.loop-at.invariant.0) in
+    subst (λ n. AreDue c.loop-at.self.state (drop n c.args.self.now.restless.pages)) over (c.loop-at.invariant.5 quiet was)

@@ -1,4 +1,5 @@
-use Rattle.ksm_book.proofs.Names.{ap, arith, BookState, Bool, comes_before, Deed, doing, filter, from_to, GuestPage, IsStill, length, length-take-le, Listing, pages_ahead, pages_visited, Reached, restless_at, slice_get, slice_get_within, Some, subst, sym, true, up_to, ℕ, ◌∙◌, ◌≡◌}
+use Rattle.ksm_book.proofs.Names.{[], after_cursor, ap, AreDue, arith, BookState, Bool, comes_before, Deed, doing, drop, filter, filter_all, filter_none, from_to, GuestPage, IsStill, length, length-take-le, List, Listing, None, not, pages_ahead, pages_visited, Reached, refl, restless_at, slice_get, slice_get_within, Some, subst, sym, true, up_to, ℕ, ◌∙◌, ◌∷◌, ◌≡◌}
+use Rattle.ksm_book.proofs.DueVisits.{listed_due}
 use Rattle.ksm_book.proofs.Folded.{pages_go}
 use Rattle.ksm_book.proofs.PagesAhead.{GoesDown, before_down, place_splits, up_to_down}
 use Rattle.ksm_book.proofs.Reached.{comes_to, first}
@@ -60,3 +61,27 @@ returns-in-Err-clause-stopped c =
           (before_down page) c.in-Err.at many s before.0)
           (stopped.comes from s before);
     }
+
+pub returns-in-Ok-clause-due : goal.returns-in-Ok-clause-due
+returns-in-Ok-clause-due c = λ quiet start none.
+    let v = c.args.self.now in
+    let pages = v.restless.pages in
+    let first : c.listed_up_to-first.result ≡ 0 =
+    c.listed_up_to-first.ensures
+    ∙ ap (λ o. length (filter (λ p. not (after_cursor o p)) pages)) (c.cursor.ensures ∙ start)
+    ∙ ap length (filter_none (λ p. not (after_cursor None p)) pages (λ k d lt. refl)) in
+    let end : c.listed_to-end.result ≡ length pages =
+    c.listed_to-end.ensures.many ∙ ap (λ o. length (filter (up_to o) pages)) none
+    ∙ ap length (filter_all (up_to None) pages (λ k d lt. refl)) in
+    let was : AreDue v.state (drop c.listed_up_to-first.result pages) =
+    subst (λ n. AreDue v.state (drop n pages)) (sym first)
+    (listed_due v.state pages c.lies_in_order.ensures.rise (c.lies_in_order.ensures.listed c.requires.known)) in
+    let now : AreDue c.visit_listed.new.self.state [] =
+    subst (AreDue c.visit_listed.new.self.state) (ap (λ n. drop n pages) end ∙ drop_all pages)
+    (c.in-Ok.ensures.due quiet (omega (arith, first)) was) in
+    subst (λ (b : BookState). AreDue b [])
+    (sym (comes_to c.visit_listed.new.self c.drop_over.new.self (λ s. s) c.drop_over.ensures.comes)) now
+  where
+    drop_all : (pages : List GuestPage) → drop (length pages) pages ≡ []
+    drop_all [] = refl
+    drop_all (page ∷ pages) = drop_all pages

@@ -21,6 +21,7 @@ loop-done-preserved c =
           subst (Reached from c.go_on.new.self) (sym (beside_on doing n k (n + k) s refl))
           (c.in-Ok.ensures.made.comes from (visits_beside doing n s) (c.loop-done.invariant.2 from s before)),
       c.go_on.ensures.own ∙ c.loop-done.invariant.3,
+      c.go_on.ensures.due,
     )
 
 pub returns-in-Err-clause-scanned : goal.returns-in-Err-clause-scanned

@@ -1,0 +1,146 @@
+-- The pages that are due, as they are kept: which there are once one came or went, and the first behind a cursor.
+use Rattle.ksm_book.proofs.Names.{[], after_cursor, All, All-cons, All-map, any-filter_same, ap, arith, before_irrefl, Bool, cases_Bool, comes_before, Err, false, filter, find, get_or, GuestPage, has_item, inl, inr, is_some, List, list_any, map, MatchOption, nat_tests, None, not, not_both, Ok, Option, pages_ordered, pairs_head, pairs_tail, refl, Result, same_page, same_page_eq, same_page_refl, Some, subst, sym, true, true≢false, ◌&&◌, ◌++◌, ◌||◌, ◌∙◌, ◌∷◌, ◌≡◌, if◌then◌else◌}
+use Rattle.std.proofs.Common.{ap₂}
+use Rattle.std.specs.Prelude.{OnErr, OnOk}
+use Rattle.ksm_pages.specs.declared.named.Named.{Named}
+use Rattle.ksm_pages.specs.Ordered.{AreAscending, is_of, with_named, without_named}
+use Rattle.ksm_rmap.proofs.Ordered.{with_rises, without_rises}
+
+-- the pages that are kept
+abbrev pub pages_in : List Named → List GuestPage
+pages_in order = map (λ n. n.page) order
+
+any_named : (x : GuestPage) (order : List Named)
+    → has_item x (pages_in order) ≡ list_any (λ m. same_page m.page x) order
+any_named x [] = refl
+any_named x (m ∷ order) = ap (λ b. same_page m.page x || b) (any_named x order)
+
+-- a page is there exactly where a search finds it
+pub has_found : (x : GuestPage) (order : List Named) → has_item x (pages_in order) ≡ is_some (find (is_of x) order)
+has_found x [] = refl
+has_found x (m ∷ order) = let rest = has_found x order in grind (arith, rest)
+
+joined : (x : GuestPage) (some more : List Named)
+    → has_item x (pages_in (some ++ more)) ≡ (has_item x (pages_in some) || has_item x (pages_in more))
+joined x [] more = refl
+joined x (m ∷ some) more = let rest = joined x some more in grind (arith, rest)
+
+picked : (u : GuestPage → Bool) (x : GuestPage) (order : List Named)
+    → has_item x (pages_in (filter (λ m. u m.page) order)) ≡ (u x && has_item x (pages_in order))
+picked u x order =
+    any_named x (filter (λ m. u m.page) order)
+    ∙ any-filter_same (λ (m : Named). same_page m.page x) (λ m. u m.page) (u x)
+    (λ m is. ap u (same_page_eq m.page x is)) order
+    ∙ ap (λ b. u x && b) (sym (any_named x order))
+
+-- a page that is put in is there, and the others as before
+pub has_put : (n : Named) (order : List Named) (x : GuestPage)
+    → has_item x (pages_in (with_named n order)) ≡ (same_page n.page x || has_item x (pages_in order))
+has_put n order x =
+    let low = picked (λ p. comes_before p n.page) x order in
+    let high = picked (λ p. comes_before n.page p) x order in
+    joined x (filter (λ m. comes_before m.page n.page) order) (n ∷ filter (λ m. comes_before n.page m.page) order)
+    ∙ ap₂ (λ b d. b || (same_page n.page x || d)) low high
+    ∙ (let h = has_item x (pages_in order) in let q = n.page in grind (arith, nat_tests))
+
+-- a page that is taken out is there no more, and the others as before
+pub has_taken : (page : GuestPage) (order : List Named) (x : GuestPage)
+    → has_item x (pages_in (without_named page order)) ≡ (has_item x (pages_in order) && not (same_page page x))
+has_taken page order x =
+    picked (λ p. not (same_page p page)) x order
+    ∙ (let h = has_item x (pages_in order) in grind (arith, nat_tests))
+
+-- the pages stay in order with a page put in
+pub put_rises : (n : Named) (order : List Named) → AreAscending order → AreAscending (with_named n order)
+put_rises n order rise = with_rises pages_ordered (λ (m : Named). m.page) n.page n order refl rise
+
+-- and with a page taken out
+pub taken_rises : (page : GuestPage) (order : List Named) → AreAscending order
+    → AreAscending (without_named page order)
+taken_rises page order rise = without_rises pages_ordered (λ (m : Named). m.page) page order rise
+
+-- a page that is there is so with itself put in
+pub has_already : (page : GuestPage) (pages : List GuestPage) → has_item page pages ≡ true
+    → (x : GuestPage) → has_item x pages ≡ (same_page page x || has_item x pages)
+has_already page pages has x = elim (cases_Bool (same_page page x)) [
+  | inl same ↦
+      subst (λ p. has_item p pages ≡ true) (same_page_eq page x same) has
+      ∙ sym (ap (λ b. b || has_item x pages) same)
+  | inr other ↦ sym (ap (λ b. b || has_item x pages) other)
+]
+
+-- the pages stay in order where one is put in, or memory was refused
+pub inserted_rises : {T E : Type 0} (r : Result T E) (n : Named) (old new : List Named) → AreAscending old
+    → OnOk r (new ≡ with_named n old) → OnErr r (new ≡ old) → AreAscending new
+inserted_rises (Ok u) n old new rise added kept = subst AreAscending (sym added) (put_rises n old rise)
+inserted_rises (Err e) n old new rise added kept = subst AreAscending (sym kept) rise
+
+-- where one was put in, it is there, and the others as before
+pub inserted_has : {T E : Type 0} (r : Result T E) (n : Named) (old new : List Named) (pages : List GuestPage)
+    → pages_in old ≡ pages → OnOk r (new ≡ with_named n old)
+    → OnOk r ((x : GuestPage) → has_item x (pages_in new) ≡ (same_page n.page x || has_item x pages))
+inserted_has (Ok u) n old new pages same added = λ x.
+    ap (λ o. has_item x (pages_in o)) added ∙ has_put n old x ∙ ap (λ l. same_page n.page x || has_item x l) same
+inserted_has (Err e) n old new pages same added = tt
+
+-- what is told of the first page behind a cursor
+abbrev pub IsFirst : Option GuestPage → List GuestPage → GuestPage → Type 0
+IsFirst cursor pages page =
+    (has_item page pages ≡ true) × (after_cursor cursor page ≡ true)
+    × All (λ p. after_cursor cursor p ≡ true → comes_before p page ≡ false) pages
+
+-- what is told of what is found behind a cursor: it is the first page there; where nothing is found, none is there
+abbrev pub TellsFirst : Option GuestPage → List GuestPage → Option Named → Type 0
+TellsFirst cursor pages found =
+    MatchOption found (All (λ p. after_cursor cursor p ≡ false) pages) (λ n. IsFirst cursor pages n.page)
+
+module _ (cursor : Option GuestPage) where
+  abbrev behind : Named → Bool
+  behind n = after_cursor cursor n.page
+
+  module _ (m : Named) (order : List Named) (rise : AreAscending (m ∷ order)) where
+    there : has_item m.page (pages_in (m ∷ order)) ≡ true
+    there = ap (λ b. b || has_item m.page (pages_in order)) (same_page_refl m.page)
+
+    head : All (λ (n : Named). comes_before m.page n.page ≡ true) order
+    head = pairs_head (λ (a b : Named). comes_before a.page b.page ≡ true) m order rise
+
+    later : All (λ p. after_cursor cursor p ≡ true → comes_before p m.page ≡ false) (pages_in order)
+    later =
+        All-map (λ p. after_cursor cursor p ≡ true → comes_before p m.page ≡ false) (λ (n : Named). n.page) order
+        (λ k d lt _. not_both m.page (get_or order k d).page (head k d lt))
+
+    -- a page behind the cursor that stands first is the first there
+    here : after_cursor cursor m.page ≡ true → IsFirst cursor (pages_in (m ∷ order)) m.page
+    here is = (
+      there,
+      is,
+      All-cons (λ p. after_cursor cursor p ≡ true → comes_before p m.page ≡ false) m.page (pages_in order)
+          (λ _. before_irrefl m.page) later,
+    )
+
+    -- one that is not behind it is passed over
+    over : after_cursor cursor m.page ≡ false → (o : Option Named) → TellsFirst cursor (pages_in order) o
+        → TellsFirst cursor (pages_in (m ∷ order)) o
+    over not_yet None none = All-cons (λ p. after_cursor cursor p ≡ false) m.page (pages_in order) not_yet none
+    over not_yet (Some n) (has, after, first) = (
+      (let own = same_page m.page n.page in grind (arith, has)),
+      after,
+      All-cons (λ p. after_cursor cursor p ≡ true → comes_before p n.page ≡ false) m.page (pages_in order)
+          (λ is. absurd (true≢false (sym is ∙ not_yet))) first,
+    )
+
+    is_found : (b : Bool) → behind m ≡ b → find behind (m ∷ order) ≡ (if b then Some m else find behind order)
+    is_found b is = ap (λ z. if z then Some m else find behind order) is
+
+  -- a search in pages in order finds the first page behind the cursor, if there is one
+  pub first_found : (order : List Named) → AreAscending order → TellsFirst cursor (pages_in order) (find behind order)
+  first_found [] rise = λ k d lt. absurd (omega arith)
+  first_found (m ∷ order) rise = elim (cases_Bool (behind m)) [
+    | inl is ↦
+        subst (TellsFirst cursor (pages_in (m ∷ order))) (sym (is_found m order rise true is)) (here m order rise is)
+    | inr not_yet ↦
+        let rest = first_found order (pairs_tail (λ a b. comes_before a.page b.page ≡ true) m order rise) in
+        subst (TellsFirst cursor (pages_in (m ∷ order))) (sym (is_found m order rise false not_yet))
+        (over m order rise not_yet (find behind order) rest)
+  ]

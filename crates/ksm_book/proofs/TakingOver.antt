@@ -1,0 +1,174 @@
+-- A page waits in the stead of one further on: what becomes of the book, and which pages are due then.
+use Rattle.ksm_book.proofs.Names.{All, and_from, ap, AreDue, arith, before_differs, BookState, BookValue, both_ways, cases_Bool, change_row, change_rows, Comes, comes_before, comes_later, cond_both, Deed, doing, due_row_visited, due_visited, each_at_page, false, find_all, find_passes, get_or, GuestPage, has_item, hidden_from, idle, inl, inr, is_restless, IsAlone, IsSound, List, map_alike, map_mapped, MatchOption, not, not_both, or_cases, page_visited, PageState, partner, Reached, refl, Row, row_at, same_page, same_page_eq, same_page_refl, same_page_sym, settled, shared_state, Some, StaysBefore, subst, sym, taken_over, takes_over, TakesOverFrom, true, view_of, visited, Waiting, waiting_state, waits_for, WaitsFor, waits_tells, Merged, Zero, ◌&&◌, ◌∙◌, ◌∷◌, ◌≡◌, ◌||◌, if◌then◌else◌}
+use Rattle.ksm_base.specs.declared.row.PageState.TheVariants.{Private}
+use Rattle.ksm_book.proofs.ByPage.{found_page, row_of_page}
+use Rattle.ksm_book.proofs.DueAlike.{freed, freed_found, one_waits, settled_once, taken_is, takes_tells}
+use Rattle.ksm_book.proofs.DueKept.{more_due, taken_due}
+use Rattle.ksm_book.proofs.Reached.{comes_to}
+use Rattle.ksm_book.proofs.RowVisits.{filled_by}
+
+-- in a sound book the row of a page is to wait in the stead of that of another page
+pub record Takes (b : BookState) (page other : GuestPage) : Type 0 where
+  pub sound : IsSound b
+  -- the row of the page
+  pub row : Row
+  pub found : row_at page b.rows ≡ Some row
+  pub restless : is_restless row ≡ true
+  pub takes : takes_over b row ≡ true
+  -- the row that waits for it
+  pub waiter : Row
+  pub waits : partner b.knobs b.rows row ≡ Some waiter
+  pub is : other ≡ waiter.page
+
+-- where that is told of the row of a page, it is so
+pub takes_from : (b : BookState) (page other : GuestPage) → IsSound b
+    → MatchOption (row_at page b.rows) (true ≡ false) (TakesOverFrom b other) → Takes b page other
+takes_from b page other sound told =
+    let at = filled_by (TakesOverFrom b other) (row_at page b.rows) told in
+    let met = filled_by (λ w. other ≡ w.page) (partner b.knobs b.rows at.0) at.2.2 in
+    record {
+      sound = sound;
+      row = at.0;
+      found = at.1;
+      restless = at.2.0;
+      takes = at.2.1;
+      waiter = met.0;
+      waits = met.1;
+      is = met.2;
+    }
+
+-- a row that waits has a frame of its own
+waits_alone : (state : PageState) → waiting_state state ≡ true → shared_state state ≡ false
+waits_alone Waiting is = refl
+waits_alone Private is = cc
+waits_alone (Merged d) is = cc
+waits_alone Zero is = cc
+
+module _ {b : BookState} {page other : GuestPage} (at : Takes b page other) where
+  page_is : at.row.page ≡ page
+  page_is = found_page page b.rows at.row at.found
+
+  there : row_at at.row.page b.rows ≡ Some at.row
+  there = ap (λ p. row_at p b.rows) page_is ∙ at.found
+
+  passes : waits_for b.knobs at.row at.waiter ≡ true
+  passes = find_passes (waits_for b.knobs at.row) b.rows at.waiter at.waits
+
+  tells : WaitsFor b.knobs at.row at.waiter
+  tells = waits_tells b.knobs at.row at.waiter passes
+
+  -- the row that waits is found at the other page
+  pub waits_at : row_at other b.rows ≡ Some at.waiter
+  waits_at = ap (λ q. row_at q b.rows) at.is
+      ∙ find_all (waits_for b.knobs at.row) (λ r. row_at r.page b.rows ≡ Some r) b.rows at.waiter at.waits
+      (each_at_page b.rows at.sound.rows_rise)
+
+  -- it has a frame of its own
+  pub other_alone : IsAlone other b.rows
+  other_alone = subst (λ o. MatchOption o (true ≡ false) (λ r. shared_state r.state ≡ false)) (sym waits_at)
+      (waits_alone at.waiter.state tells.state)
+
+  later : comes_before page other ≡ true
+  later = (λ t. comes_before (sym page_is t) (at.is t)) ∙ sym (ap (comes_later at.row.page) at.waits)
+      ∙ (takes_tells b at.row at.takes).further
+
+  -- the rows of the other page are those that wait for the row
+  agree : All (λ r. same_page r.page other ≡ waits_for b.knobs at.row r) b.rows
+  agree k d lt = let r = get_or b.rows k d in elim (cases_Bool (same_page r.page other)) [
+    | inl same ↦ same ∙ sym (subst (λ x. waits_for b.knobs at.row x ≡ true)
+        (sym (row_of_page other b.rows at.waiter at.sound.rows_rise waits_at k d lt same)) passes)
+    | inr apart ↦ elim (cases_Bool (waits_for b.knobs at.row r)) [
+      | inl waits ↦ absurd (both_ways (same_page r.page other) apart
+          (ap (λ p. same_page p other) (one_waits b at.row at.waiter at.sound at.waits k d lt waits ∙ sym at.is) ∙ same_page_refl other))
+      | inr none ↦ apart ∙ sym none
+    ]
+  ]
+
+  freed_rows : change_row other settled b.rows ≡ change_rows (waits_for b.knobs at.row) settled b.rows
+  freed_rows = map_alike (λ r. if same_page r.page other then settled r else r)
+      (λ r. if waits_for b.knobs at.row r then settled r else r) b.rows
+      (λ k d lt. let r = get_or b.rows k d in ap (λ z. if z then settled r else r) (agree k d lt))
+
+  -- the visit of the page, as one that is due, has its row wait in the stead of the other one
+  due_is : (deed : Deed) → due_visited doing (b, deed) page ≡ (taken_over b at.row, deed)
+  due_is deed =
+      ap (due_row_visited doing (b, deed)) at.found
+      ∙ ap (λ z. if z then (taken_over b at.row, deed) else visited doing (b, deed) (Some at.row))
+      (and_from (is_restless at.row) (takes_over b at.row) at.restless at.takes)
+
+  -- so does the visit of the definitions once the other one waits no more
+  then_is : (deed : Deed)
+      → page_visited doing (record b { rows = change_row other settled b.rows }, deed) page ≡ (taken_over b at.row, deed)
+  then_is deed =
+      (λ t. page_visited doing (record b { rows = freed_rows t }, deed) page)
+      ∙ ap (visited doing (freed b at.row, deed))
+      (ap (λ p. row_at p (freed b at.row).rows) (sym page_is) ∙ freed_found b at.row there)
+      ∙ taken_is b at.row there at.restless (takes_tells b at.row at.takes) deed
+
+-- the other row waits no more
+abbrev pub once_freed : GuestPage → BookState × Deed → BookState × Deed
+once_freed other s = (record s.0 { rows = change_row other settled s.0.rows }, s.1)
+
+module _ (v m w : BookValue) {page other : GuestPage} (at : Takes v.state page other) (first : Comes v m (once_freed other)) where
+  -- where the page was visited once the other one waited no more, that is the visit of what is due
+  pub taken_comes : Comes m w (λ s. page_visited doing s page) → Comes v w (λ s. due_visited doing s page)
+  taken_comes visits = λ from s before.
+      subst (Reached from w) (
+      (λ t. page_visited doing (once_freed other (sym before.0 t, s.1)) page) ∙ then_is at s.1 ∙ sym (due_is at s.1)
+      ∙ (λ t. due_visited doing (before.0 t, s.1) page))
+      (visits from (once_freed other s) (first from s before))
+
+  -- where that visit was refused, nothing changed but which rows from the page on wait
+  pub taken_refused : Comes m w (λ s. s) → StaysBefore page v w
+  taken_refused none = λ from s before.
+      let reached = none from (once_freed other s) (first from s before) in
+      (ap (hidden_from page) reached.0 ∙ (λ t. record s.0 { rows = still s.0.rows t }), reached.1)
+    where
+      hides : Row → Row
+      hides r = if not (comes_before r.page page) then settled r else r
+
+      behind : (r : Row) → same_page r.page other ≡ true → not (comes_before r.page page) ≡ true
+      behind r same = ap (λ p. not (comes_before p page)) (same_page_eq r.page other same)
+          ∙ ap not (not_both page other (later at))
+
+      again : (r : Row) → same_page r.page other ≡ true → hides (settled r) ≡ hides r
+      again r same =
+          ap (λ z. if z then settled (settled r) else settled r) (behind r same) ∙ settled_once r
+          ∙ sym (ap (λ z. if z then settled r else r) (behind r same))
+
+      still : (rows : List Row)
+          → change_rows (λ r. not (comes_before r.page page)) settled (change_row other settled rows)
+          ≡ change_rows (λ r. not (comes_before r.page page)) settled rows
+      still rows = map_mapped hides (λ r. if same_page r.page other then settled r else r) hides rows
+          (λ k d lt. let r = get_or rows k d in
+          cond_both (same_page r.page other) (settled r) r (λ x. hides x ≡ hides r) (again r) (λ _. refl))
+
+  module _ (old more new : List GuestPage)
+      (added : (p : GuestPage) → has_item p more ≡ (same_page other p || has_item p old))
+      (gone : (p : GuestPage) → has_item p new ≡ (has_item p more && not (same_page page p))) where
+    kept : (p : GuestPage) → has_item p old ≡ true → has_item p (page ∷ new) ≡ true
+    kept p is = let one = added p in let two = gone p in grind (arith, is, one, two)
+
+    same_kept : (p : GuestPage) → same_page other p ≡ true → has_item p new ≡ true
+    same_kept p same =
+        let one = added p in
+        let two = gone p in
+        let apart : same_page page p ≡ false =
+        ap (same_page page) (sym (same_page_eq other p same)) ∙ same_page_sym page other ∙ before_differs page other (later at) in
+        grind (arith, same, one, two, apart)
+
+    other_kept : (p : GuestPage) → has_item p (at.waiter.page ∷ new) ≡ true → has_item p new ≡ true
+    other_kept p is = elim (or_cases (same_page at.waiter.page p) (has_item p new) is) [
+      | inl same ↦ same_kept p (ap (λ q. same_page q p) at.is ∙ same)
+      | inr among ↦ among
+    ]
+
+    -- the other page is due then, and the first one no longer
+    pub taken_leaves : Comes m w (λ s. page_visited doing s page) → AreDue v.state old → AreDue w.state new
+    taken_leaves visits due =
+        let state : w.state ≡ taken_over v.state at.row =
+        comes_to v w (λ s. due_visited doing s page) (taken_comes visits) ∙ (λ t. (due_is at (idle (view_of v).frame) t).0) in
+        subst (λ (b : BookState). AreDue b new) (sym state)
+        (more_due (taken_over v.state at.row) (at.waiter.page ∷ new) new other_kept
+        (taken_due v.state at.row at.waiter new at.sound (there at) at.restless at.takes at.waits
+        (subst (λ p. AreDue v.state (p ∷ new)) (sym (page_is at)) (more_due v.state old (page ∷ new) kept due))))

@@ -1,0 +1,28 @@
+use Rattle.ksm_book.proofs.Names.{ap, AreDue, Listing, part_visited, subst, sym, ◌∙◌}
+use Rattle.ksm_book.specs.Scanned.{HasVisited}
+use Rattle.ksm_book.proofs.DueSteps.{begun_cursor, part_stopped, part_visits}
+use Rattle.ksm_book.proofs.state.State.visit_part.Goals as goal
+use Rattle.ksm_book.proofs.state.State.visit_part.Goals.{In-Ok}
+
+visits : (c : In-Ok) → HasVisited c.args.self.now c.visit_up_to.new.self (part_visited c.args.last) c.in-Ok.quiet
+visits c =
+    part_visits c.args.self.now c.begin_pass.new.self c.begin_pass.ensures.comes c.visit_up_to.new.self c.args.last c.in-Ok.quiet
+    c.in-Ok.ensures.visited
+
+pub returns-then-quiet-clause-visited : goal.returns-then-quiet-clause-visited
+returns-then-quiet-clause-visited c = visits (goal.at.returns-then-quiet-clause-visited c).In-Ok
+
+pub returns-else-whole-2-clause-visited : goal.returns-else-whole-2-clause-visited
+returns-else-whole-2-clause-visited c = visits (goal.at.returns-else-whole-2-clause-visited c).In-Ok
+
+pub returns-then-quiet-clause-due : goal.returns-then-quiet-clause-due
+returns-then-quiet-clause-due c = λ _.
+    let whole = c.is_whole-whole.ensures c.if-whole-2.true in
+    subst (AreDue c.visit_up_to.new.self.state) (sym (ap (λ (l : Listing). l.pages) c.begin.ensures))
+    (c.in-Ok.ensures.due c.if-quiet.true
+    (begun_cursor c.args.self.now c.begin_pass.new.self c.begin_pass.ensures.comes ∙ whole.0) whole.1)
+
+pub returns-in-Err-clause-stopped : goal.returns-in-Err-clause-stopped
+returns-in-Err-clause-stopped c =
+    part_stopped c.args.self.now c.begin_pass.new.self c.begin_pass.ensures.comes c.visit_up_to.new.self c.args.last c.in-Err.page
+    c.in-Err.ensures.stopped

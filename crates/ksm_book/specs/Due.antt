@@ -1,0 +1,65 @@
+-- Passes that visit only the pages that are due: what waits, and would wait again, is left as it is (own).
+use Rattle.std.specs.Prelude.{◌≡◌, Bool, true, false, not, ◌&&◌, All, List, ◌∷◌, fold, Option, Some, None, is_none}
+use Rattle.std.specs.Prelude.{if◌then◌else◌}
+use Rattle.ksm_base.specs.declared.page.GuestPage.{GuestPage}
+use Rattle.ksm_base.specs.declared.row.PageState.TheVariants.{Waiting}
+use Rattle.ksm_base.specs.declared.row.Row.{Row}
+use Rattle.ksm_base.specs.Rows.{change_row, change_rows, comes_before, row_at, settled, waiting_state}
+use Rattle.ksm_base.specs.State.{BookState}
+use Rattle.ksm_base.specs.Visit.{best_dup, is_for_zero, partner, waits_for}
+use Rattle.ksm_rmap.specs.Items.{has_item}
+use Rattle.ksm_pages.specs.Paged.{is_restless}
+use Rattle.ksm_book.specs.Folded.{visited}
+
+-- the book as it is where no row of these pages waits
+abbrev pub hidden : List GuestPage → BookState → BookState
+hidden pages b = record b { rows = change_rows (λ r. has_item r.page pages) settled b.rows }
+
+-- a row that waits would wait again: its bytes have stayed, they do not merge with the zero page, and no dup is there that
+-- it may join
+abbrev pub waits_on : BookState → Row → Bool
+waits_on b r =
+    waiting_state r.state && r.unchanged && not (is_for_zero b.knobs r) && is_none (best_dup b.knobs b.rows b.dups r)
+
+-- each row that a visit may change is of one of these pages, or waits on
+abbrev pub AreDue : BookState → List GuestPage → Type 0
+AreDue b pages = All (λ r. is_restless r ≡ true → has_item r.page pages ≡ false → waits_on b r ≡ true) b.rows
+
+-- there is a row, and it comes after the page
+abbrev pub comes_later : GuestPage → Option Row → Bool
+comes_later page None = false
+comes_later page (Some w) = comes_before page w.page
+
+-- a row is to wait, and one further on waits for it, which the pass has not come to
+abbrev pub takes_over : BookState → Row → Bool
+takes_over b row =
+    is_none (best_dup b.knobs b.rows b.dups row) && row.unchanged && not (is_for_zero b.knobs row)
+    && comes_later row.page (partner b.knobs b.rows row)
+
+-- it waits in the stead of that one
+abbrev pub taken_over : BookState → Row → BookState
+taken_over b row = record b {
+  rows = change_row row.page (λ r. record r { state = Waiting }) (change_rows (waits_for b.knobs row) settled b.rows);
+}
+
+-- the book, and what was done beside, after the visit of a row where rows further on still wait
+abbrev pub due_row_visited : {X : Type 0} → (BookState → X → Row → X) → BookState × X → Option Row → BookState × X
+due_row_visited step s None = s
+due_row_visited step s (Some row) =
+    if is_restless row && takes_over s.0 row then (taken_over s.0 row, s.1) else visited step s (Some row)
+
+-- the same for the row of a page
+abbrev pub due_visited : {X : Type 0} → (BookState → X → Row → X) → BookState × X → GuestPage → BookState × X
+due_visited step s page = due_row_visited step s (row_at page s.0.rows)
+
+-- the same for the rows of some pages, one after another
+abbrev pub due_visits : {X : Type 0} → (BookState → X → Row → X) → BookState × X → List GuestPage → BookState × X
+due_visits step s pages = fold (due_visited step) s pages
+
+-- where the page was due, it is so no longer, and every other page is due as it was
+abbrev pub IsDueNoMore : GuestPage → BookState → BookState → Type 0
+IsDueNoMore page old new = (pages : List GuestPage) → AreDue old (page ∷ pages) → AreDue new pages
+
+-- the book as it is where no row from a page on waits
+abbrev pub hidden_from : GuestPage → BookState → BookState
+hidden_from page b = record b { rows = change_rows (λ r. not (comes_before r.page page)) settled b.rows }

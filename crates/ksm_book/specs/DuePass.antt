@@ -1,0 +1,52 @@
+-- What a pass over the pages that are due comes to (own).
+use Rattle.std.specs.Prelude.{◌≡◌, true, false, MatchOption, Option}
+use Rattle.ksm_base.specs.declared.page.GuestPage.{GuestPage}
+use Rattle.ksm_base.specs.State.{BookState}
+use Rattle.ksm_rmap.specs.Items.{has_item}
+use Rattle.ksm_book.specs.Commands.{Deed, Performs}
+use Rattle.ksm_base.specs.declared.row.Row.{Row}
+use Rattle.ksm_base.specs.Visit.{partner, pass_begun}
+use Rattle.ksm_pages.specs.Paged.{is_restless}
+use Rattle.ksm_book.specs.Due.{due_visits, hidden_from, takes_over}
+use Rattle.ksm_book.specs.Folded.{pages_ahead, pages_visited}
+use Rattle.ksm_book.specs.Scanned.{Comes, Reached, ahead_before, ahead_up_to, doing, up_to}
+use Rattle.ksm_book.specs.Whole.{BookValue, mapped, view_of}
+
+-- from the one to the other it came to this book, but for which rows from a page on wait, and this was done to the frames
+abbrev pub ReachedBefore : GuestPage → BookValue → BookValue → BookState × Deed → Type 0
+ReachedBefore page old new s =
+    (hidden_from page new.state ≡ hidden_from page s.0) × Performs (mapped (view_of old)) (mapped (view_of new)) s.1
+
+-- the visits of the pages ahead up to the last one, or of all of them, where a pass begins or goes on
+abbrev pub part_visited : Option GuestPage → BookState × Deed → BookState × Deed
+part_visited last s = let t : BookState × Deed = (pass_begun s.0, s.1) in pages_visited doing t (ahead_up_to last t.0)
+
+-- those of the pages ahead that come before one
+abbrev pub part_before : GuestPage → BookState × Deed → BookState × Deed
+part_before page s = let t : BookState × Deed = (pass_begun s.0, s.1) in pages_visited doing t (ahead_before page t.0)
+
+-- the visits of such a part stopped before a page
+pub record StopsInPart (old new : BookValue) (last : Option GuestPage) (page : GuestPage) : Type 0 where
+  -- it is one of them
+  pub within : up_to last page ≡ true
+  pub ahead : has_item page (pages_ahead old.state) ≡ true
+  -- those before it were visited
+  pub comes : Comes old new (part_before page)
+
+-- whatever was reached before, nothing changed but which rows from a page on wait
+abbrev pub StaysBefore : GuestPage → BookValue → BookValue → Type 0
+StaysBefore page old new = (from : BookValue) (s : BookState × Deed) → Reached from old s → ReachedBefore page from new s
+
+-- the visits of the pages that are due stopped before a page
+pub record StopsDue (old new : BookValue) (page : GuestPage) : Type 0 where
+  -- it is one of those ahead
+  pub ahead : has_item page (pages_ahead old.state) ≡ true
+  -- those before it were visited, but for rows from it on that may wait still
+  pub comes : (from : BookValue) (s : BookState × Deed) → Reached from old s
+      → ReachedBefore page from new (due_visits doing s (ahead_before page s.0))
+
+-- a row that a visit may change is to wait in the stead of that of a page
+abbrev pub TakesOverFrom : BookState → GuestPage → Row → Type 0
+TakesOverFrom b page r =
+    (is_restless r ≡ true) × (takes_over b r ≡ true)
+    × MatchOption (partner b.knobs b.rows r) (true ≡ false) (λ w. page ≡ w.page)

@@ -1,0 +1,168 @@
+//! A whole pass that visits only the pages that are due. What waits from the last pass on, and would wait again,
+//! waits on.
+//!
+//! While such a pass goes on, rows further on still wait, which the definitions have Private until the pass comes to
+//! them. So a page with which one of these would make a dup waits in its stead, and that one is due. Where memory stops
+//! the pass, the rows that it has not come to wait no more.
+
+ghost use Rattle.std.specs.Prelude.{◌≡◌, true, false, None, IfErr, IfOk, MatchOption, OnErr, OnOk};
+ghost use Rattle.ksm_base.specs.Rows.{change_row, row_at, settled};
+ghost use Rattle.ksm_rmap.specs.Items.{has_item};
+ghost use Rattle.ksm_pages.specs.Paged.{IsAlone};
+ghost use Rattle.ksm_book.specs.Due.{AreDue, due_visited, due_visits, hidden_from};
+ghost use Rattle.ksm_book.specs.DuePass.{StaysBefore, StopsDue, StopsInPart, TakesOverFrom};
+ghost use Rattle.ksm_book.specs.DuePass.{part_visited};
+ghost use Rattle.ksm_book.specs.Folded.{pages_ahead, restless_at};
+ghost use Rattle.ksm_book.specs.Scanned.{Comes, HasVisited, doing};
+
+use crate::due::Due;
+use crate::state::State;
+use frame_table::FrameTable;
+use ksm_base::{Fault, GuestPage};
+use ksm_pages::{Find, Spot};
+
+impl State {
+    /// Makes a whole pass, which begins now, over the pages that are due. Says whether none was, so that the pass
+    /// changed nothing but which rows wait. Where memory is refused, tells the page that was not visited.
+    pub fn pass_over_due(&mut self, table: &FrameTable, due: &mut Due) -> Result<bool, GuestPage>
+        requires own { self.old.keeper.table ≡ table.now }
+        requires known { due.old.known ≡ true }
+        requires due { AreDue self.old.state due.old.pages }
+        requires start { self.old.state.cursor ≡ None }
+        ensures own { self.new.keeper.table ≡ self.old.keeper.table }
+        ensures restless { self.new.restless ≡ self.old.restless }
+        ensures visited { IfOk result (λ quiet. HasVisited self.old self.new (part_visited None) quiet) }
+        ensures due { due.new.known ≡ true → AreDue self.new.state due.new.pages }
+        ensures stopped { IfErr result (λ page. StopsInPart self.old self.new None page) }
+    {
+        self.lies_lawfully();
+        let quiet = due.is_empty();
+        match self.visit_all_due(table, due) {
+            Ok(()) => Ok(quiet),
+            Err(page) => {
+                due.forget();
+                self.hide_from(page);
+                Err(page)
+            }
+        }
+    }
+
+    // Visits all pages that are due, where a pass begins. Where memory is refused, tells the page that was not visited.
+    fn visit_all_due(&mut self, table: &FrameTable, due: &mut Due) -> Result<(), GuestPage>
+        requires own { self.old.keeper.table ≡ table.now }
+        requires known { due.old.known ≡ true }
+        requires due { AreDue self.old.state due.old.pages }
+        requires start { self.old.state.cursor ≡ None }
+        ensures own { self.new.keeper.table ≡ self.old.keeper.table }
+        ensures known { due.new.known ≡ true }
+        ensures restless { self.new.restless ≡ self.old.restless }
+        ensures visited { OnOk result (Comes self.old self.new (λ s. due_visits doing s (pages_ahead s.0))) }
+        ensures due { OnOk result (AreDue self.new.state due.new.pages) }
+        ensures stopped { IfErr result (λ page. StopsDue self.old self.new page) }
+    {
+        self.lies_lawfully();
+        let mut last = None;
+        while let Some(spot) = due.after(last) {
+            match self.visit_due(table, due, spot) {
+                Ok(()) => last = Some(spot.page),
+                Err(_) => return Err(spot.page),
+            }
+        }
+        Ok(())
+    }
+
+    // Visits a page that is due. Then it is so no longer, but where the next pass has to visit it too. Where memory is
+    // refused, nothing changes but that a row further on may wait no more.
+    fn visit_due(&mut self, table: &FrameTable, due: &mut Due, spot: Spot) -> Result<(), Fault>
+        requires own { self.old.keeper.table ≡ table.now }
+        requires known { due.old.known ≡ true }
+        requires is_due { has_item spot.page due.old.pages ≡ true }
+        requires due { AreDue self.old.state due.old.pages }
+        ensures own { self.new.keeper.table ≡ self.old.keeper.table }
+        ensures known { due.new.known ≡ true }
+        ensures restless { self.new.restless ≡ self.old.restless }
+        ensures comes { OnOk result (Comes self.old self.new (λ s. due_visited doing s spot.page)) }
+        ensures due { OnOk result (AreDue self.new.state due.new.pages) }
+        ensures refused { OnErr result (StaysBefore spot.page self.old self.new) }
+        ensures refused_row { OnErr result (restless_at spot.page self.old.state.rows ≡ true) }
+    {
+        self.lies_lawfully();
+        match self.pages.visit(spot)? {
+            Find::Gone | Find::Waits => due.remove(spot.page),
+            Find::Changed => {}
+            Find::Dup(best) => {
+                self.join(table, spot, best)?;
+                due.remove(spot.page);
+            }
+            Find::Zero => {
+                self.become_zero(table, spot);
+                due.remove(spot.page);
+            }
+            Find::Partner(other) if other.comes_before(spot.page) => {
+                self.pair(table, other, spot)?;
+                due.remove(spot.page);
+            }
+            Find::Partner(other) => self.take_over(table, due, spot, other)?,
+        }
+        Ok(())
+    }
+
+    // A page waits in the stead of one further on, which is due from now on. Where memory is refused, nothing changes
+    // but that the one further on may wait no more.
+    fn take_over(
+        &mut self,
+        table: &FrameTable,
+        due: &mut Due,
+        spot: Spot,
+        other: GuestPage,
+    ) -> Result<(), Fault>
+        requires own { self.old.keeper.table ≡ table.now }
+        requires known { due.old.known ≡ true }
+        requires is_due { has_item spot.page due.old.pages ≡ true }
+        requires due { AreDue self.old.state due.old.pages }
+        requires takes { MatchOption (row_at spot.page self.old.state.rows) (true ≡ false)
+            (TakesOverFrom self.old.state other) }
+        ensures own { self.new.keeper.table ≡ self.old.keeper.table }
+        ensures known { due.new.known ≡ true }
+        ensures restless { self.new.restless ≡ self.old.restless }
+        ensures comes { OnOk result (Comes self.old self.new (λ s. due_visited doing s spot.page)) }
+        ensures due { OnOk result (AreDue self.new.state due.new.pages) }
+        ensures refused { OnErr result (StaysBefore spot.page self.old self.new) }
+    {
+        let Some(held) = self.pages.held(other) else {
+            unreachable!()
+        };
+        due.insert(held.spot)?;
+        self.stop_waiting(held.spot);
+        self.visit(table, spot)?;
+        due.remove(spot.page);
+        Ok(())
+    }
+
+    // A page with a frame of its own waits no more.
+    fn stop_waiting(&mut self, spot: Spot)
+        requires { IsAlone spot.page self.old.state.rows }
+        ensures own { self.new.keeper.table ≡ self.old.keeper.table }
+        ensures comes { Comes self.old self.new
+            (λ s. (record s.0 { rows = change_row spot.page settled s.0.rows }, s.1)) }
+        ensures restless { self.new.restless ≡ self.old.restless }
+    {
+        self.pages.stop_waiting(spot);
+    }
+
+    // No row from a page on waits any more.
+    fn hide_from(&mut self, page: GuestPage)
+        ensures own { self.new.keeper.table ≡ self.old.keeper.table }
+        ensures comes { Comes self.old self.new (λ s. (hidden_from page s.0, s.1)) }
+        ensures restless { self.new.restless ≡ self.old.restless }
+    {
+        self.lies_lawfully();
+        let mut last = None;
+        'pages: while let Some(held) = self.pages.next(None, last) {
+            if !held.shared && !held.spot.page.comes_before(page) {
+                self.stop_waiting(held.spot);
+            }
+            last = Some(held.spot.page);
+        }
+    }
+}
