@@ -26,6 +26,14 @@ picked m f g v {b = b} {c = c} p q r = ap (λ a. sel_l (map (top 7) a) b c) p �
     of [] = refl
     of (x ∷ xs) = ap (λ r. cond (top 7 (m x)) (f x) (g x) ∷ r) (of xs)
 
+-- what one function computed of each byte is what another computes, where both agree on all bytes
+pub agrees : (f g : ℕ → ℕ) (v : List ℕ) {a : List ℕ} → a ≡ map f v → Each1 (Fits w8) v → passes_below (λ k. eqb (f k) (g k)) 256 ≡ true → a ≡ map g v
+agrees f g v p fits all = p ∙ of v fits
+  where
+    of : (v : List ℕ) → Each1 (Fits w8) v → map f v ≡ map g v
+    of [] h = refl
+    of (x ∷ xs) h = ap₂ (λ y ys. y ∷ ys) (eqb-true _ _ (passes_at (λ k. eqb (f k) (g k)) 256 x all h.0.fits)) (of xs h.1)
+
 -- no bit of a mask is set exactly where no lane passes the test
 pub none_set : (p : ℕ → Bool) (v : List ℕ) → eqb (mask_l (map p v)) 0 ≡ list_all (λ x. not (p x)) v
 none_set p [] = refl
