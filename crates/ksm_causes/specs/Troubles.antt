@@ -10,11 +10,7 @@ use Rattle.ksm_lines.specs.declared.part.Part.TheVariants.{Visits, Content, Knob
 use Rattle.ksm_lines.specs.Grammar.{Writes, kind_of, words_of}
 use Rattle.ksm_lines.specs.Reading.{ended, line_at, parts_in, read}
 use Rattle.ksm_causes.specs.declared.cause.Cause.{Cause}
-use Rattle.ksm_causes.specs.declared.cause.Cause.TheVariants.{LongLine, SpaceBefore, TwoSpaces, SpaceAfter, Tab}
-use Rattle.ksm_causes.specs.declared.cause.Cause.TheVariants.{CarriageReturn, OtherByte, Comment, Capital, UnknownName}
-use Rattle.ksm_causes.specs.declared.cause.Cause.TheVariants.{Missing, OneWordMore, Sign, LeadingZero, NotANumber}
-use Rattle.ksm_causes.specs.declared.cause.Cause.TheVariants.{TooLarge, NotHexadecimal, ContentLength, UnknownKnob}
-use Rattle.ksm_causes.specs.declared.cause.Cause.TheVariants.{UnknownShown, CounterSet}
+use Rattle.ksm_causes.specs.declared.cause.Cause.TheVariants as causes
 use Rattle.ksm_causes.specs.declared.cause.Trouble.{Trouble}
 
 -- a line of the language: it has at most 256 bytes, and they write one of its forms
@@ -27,7 +23,7 @@ at column cause = record { column = column; cause = cause }
 -- ---- a word, at the column of its first byte
 
 abbrev pub strange_cause : ℕ → Cause
-strange_cause byte = if byte == 9 then Tab else if byte == 13 then CarriageReturn else OtherByte
+strange_cause byte = if byte == 9 then causes.Tab else if byte == 13 then causes.CarriageReturn else causes.OtherByte
 
 -- the first byte that stands in no word of any line
 abbrev pub strange_trouble : ℕ → List ℕ → Option Trouble
@@ -51,27 +47,27 @@ has_leading_zero word = slice_index word 0 == 48 && nat_lt 1 (length word)
 -- Why a word that is not read is none: what it is not, then its form, then its range.
 abbrev pub number_cause : Part → List ℕ → Cause
 number_cause part word =
-    if is_signed word then Sign
-    else if not (are_digits word) then NotANumber part
-    else if has_leading_zero word then LeadingZero
-    else TooLarge part
+    if is_signed word then causes.Sign
+    else if not (are_digits word) then causes.NotANumber part
+    else if has_leading_zero word then causes.LeadingZero
+    else causes.TooLarge part
 
 -- the first byte that is no digit, or else the length
 abbrev pub content_trouble : ℕ → Option ℕ → Trouble
-content_trouble column None = at column ContentLength
-content_trouble column (Some i) = at (column + i) NotHexadecimal
+content_trouble column None = at column causes.ContentLength
+content_trouble column (Some i) = at (column + i) causes.NotHexadecimal
 
 abbrev pub lowered : List ℕ → List ℕ
 lowered word = map to_ascii_lowercase word
 
 abbrev pub knob_cause : List ℕ → Cause
 knob_cause word =
-    if is_read Shown word then CounterSet
-    else if is_read Knob (lowered word) then Capital
-    else UnknownKnob
+    if is_read Shown word then causes.CounterSet
+    else if is_read Knob (lowered word) then causes.Capital
+    else causes.UnknownKnob
 
 abbrev pub shown_cause : List ℕ → Cause
-shown_cause word = if is_read Shown (lowered word) then Capital else UnknownShown
+shown_cause word = if is_read Shown (lowered word) then causes.Capital else causes.UnknownShown
 
 -- why a word of printable bytes that is not read as this part is none
 abbrev pub part_trouble : Part → ℕ → List ℕ → Trouble
@@ -92,21 +88,21 @@ word_trouble part column word =
 abbrev pub missing_trouble : ℕ → List Part → Option Trouble
 missing_trouble end [] = None
 missing_trouble end (Visits ∷ []) = None
-missing_trouble end (part ∷ parts) = Some (at end (Missing part))
+missing_trouble end (part ∷ parts) = Some (at end (causes.Missing part))
 
 abbrev pub is_empty : List ℕ → Bool
 is_empty word = length word == 0
 
 -- a space where a word should begin, with these words behind it
 abbrev pub space_trouble : ℕ → List (List ℕ) → Trouble
-space_trouble end words = if list_all is_empty words then at end SpaceAfter else at (end + 1) TwoSpaces
+space_trouble end words = if list_all is_empty words then at end causes.SpaceAfter else at (end + 1) causes.TwoSpaces
 
 -- words that should be these parts
 abbrev pub parts_trouble : ℕ → List Part → List (List ℕ) → Option Trouble
 parts_trouble end parts [] = missing_trouble end parts
 parts_trouble end [] (word ∷ words) =
     if is_empty word then Some (space_trouble end words)
-    else option_or (strange_trouble (end + 1) word) (Some (at (end + 1) OneWordMore))
+    else option_or (strange_trouble (end + 1) word) (Some (at (end + 1) causes.OneWordMore))
 parts_trouble end (part ∷ parts) (word ∷ words) =
     if is_empty word then Some (space_trouble end words)
     else option_or (word_trouble part (end + 1) word) (parts_trouble (end + 1 + length word) parts words)
@@ -114,9 +110,9 @@ parts_trouble end (part ∷ parts) (word ∷ words) =
 -- a first word that no line begins with
 abbrev pub name_cause : List ℕ → Cause
 name_cause name =
-    if slice_index name 0 == 35 then Comment
-    else if is_some (parts_in (lowered name)) then Capital
-    else UnknownName
+    if slice_index name 0 == 35 then causes.Comment
+    else if is_some (parts_in (lowered name)) then causes.Capital
+    else causes.UnknownName
 
 abbrev pub named_trouble : Option (List Part) → List ℕ → List (List ℕ) → Option Trouble
 named_trouble (Some parts) name words = parts_trouble (length name + 1) parts words
@@ -128,11 +124,11 @@ words_trouble [] = None
 words_trouble (name ∷ words) =
     if not (is_empty name) then named_trouble (parts_in name) name words
     else if is_some (ended words) then None
-    else Some (at 1 SpaceBefore)
+    else Some (at 1 causes.SpaceBefore)
 
 -- a line that is too long is that before all else, and one that the language reads is good
 abbrev pub trouble_of : List ℕ → Option Trouble
 trouble_of line =
-    if nat_lt 256 (length line) then Some (at 257 LongLine)
+    if nat_lt 256 (length line) then Some (at 257 causes.LongLine)
     else if is_some (line_at (words_of line)) then None
     else words_trouble (words_of line)

@@ -1,23 +1,5 @@
 -- What a run wrote is a beginning of the replies to what it read.
-use Rattle.std.proofs.Common.{◌≡◌, ℕ, ◌+◌, ◌++◌, List, [], ◌∷◌, Option, None, Some, Result, Ok, Err, Bool, true, false, refl, ap, subst, ◌∙◌, append_assoc, inl, inr}
-use Rattle.std.specs.Prelude.{OnOk, is_ok}
-use Rattle.std.proofs.lemmas.List.{append-nil}
-use Rattle.std.specs.Io.KnownBytes.{Appends, Keeps, append_known}
-use Rattle.std.proofs.KnownBytes.{Appends-kept}
-use Rattle.ksm_script.specs.State.{ScriptState}
-use Rattle.ksm_script.specs.declared.reply.LineReply.{LineReply}
-use Rattle.ksm_script.specs.declared.reply.LineReply.TheVariants.{BadLine as bad_line}
-use Rattle.ksm_script.specs.declared.script.End.{End}
-use Rattle.ksm_script.specs.declared.script.End.TheVariants.{AllRead, BadLine}
-use Rattle.ksm_script.specs.declared.script.RunFault.{RunFault}
-use Rattle.ksm_script.specs.declared.script.RunFault.TheVariants.{Read, Write}
-use Rattle.ksm_script.specs.Replies.{text_of}
-use Rattle.ksm_script.specs.Script.{AnsweredAll, AnsweredLast, Runs, Streams, more}
-use Rattle.ksm_script.specs.Texts.{AppendsBroken, AppendsPart}
-use Rattle.ksm_host.specs.declared.status.Status.TheVariants.{Broken}
-use Rattle.ksm_host.specs.Ends.{Serves}
-use Rattle.ksm_host.specs.Statuses.{status_after}
-use Rattle.ksm_host.specs.Sent.{Replies}
+use Rattle.ksm_host.proofs.Names.{[], AllRead, AnsweredAll, AnsweredLast, ap, append-nil, append_assoc, append_known, Appends, Appends-kept, AppendsBroken, AppendsPart, bad_line, BadLine, Bool, Broken, End, Err, false, inl, inr, Keeps, LineReply, List, more, None, Ok, Option, Read, refl, Replies, Result, RunFault, Runs, ScriptState, Serves, Some, status_after, Streams, subst, text_of, true, Write, ℕ, ◌++◌, ◌+◌, ◌∙◌, ◌∷◌, ◌≡◌}
 
 whole : (begun written : Option (List ℕ)) (text : List ℕ) → Appends begun written text → AppendsPart begun written text
 whole begun written text h = (text, [], append-nil text, h)
@@ -36,12 +18,10 @@ append_nothing : (known : Option (List ℕ)) → append_known known [] ≡ known
 append_nothing None = refl
 append_nothing (Some bytes) = ap (λ (l : List ℕ). let o : Option (List ℕ) = Some l in o) (append-nil bytes)
 
--- where the sending did not fail, all that was written is sent
-pub kept_where_sent : {A E : Type 0} (inner : Option (List ℕ)) (buffer : List ℕ) (written : Option (List ℕ)) (r : Result A E) → OnOk r (buffer ≡ [])
-    → Keeps written (append_known inner buffer) → is_ok r ≡ true → Keeps written inner
-kept_where_sent inner buffer written (Ok x) empty kept is =
+-- where nothing is left in the buffer, all that was written is sent
+pub kept_where_sent : (inner : Option (List ℕ)) (buffer : List ℕ) (written : Option (List ℕ)) → Keeps written (append_known inner buffer) → buffer ≡ [] → Keeps written inner
+kept_where_sent inner buffer written kept empty =
     subst (λ (o : Option (List ℕ)). Keeps written o) (ap (λ (l : List ℕ). append_known inner l) empty ∙ append_nothing inner) kept
-kept_where_sent inner buffer written (Err e) empty kept is = absurd (cc is)
 
 module _ (io : Streams) (from to : ScriptState) where
   -- the replies, and what was written of them

@@ -1,8 +1,7 @@
 //! From the program's words, input and output to its end.
 ghost use Rattle.std.specs.Prelude.{◌≡◌, None, map, string_bytes};
-ghost use Rattle.std.specs.Io.Buffered.{writer_contents, writer_inner};
-ghost use Rattle.ksm_host.specs.Ends.{EndsBy, EndsOn};
-ghost use Rattle.ksm_script.specs.Dialogue.{HasTalked};
+ghost use Rattle.std.specs.Io.Buffered.{writer_buffer, writer_contents, writer_inner};
+ghost use Rattle.ksm_host.specs.Ends.{Empties, EndsBy, EndsOn, HasTalked};
 ghost use Rattle.ksm_script.specs.Script.{streams};
 
 use crate::answering::served;
@@ -85,7 +84,8 @@ fn ended_on<R: Env + Input + Print + Eprint + AllocGlobal, T: Threads + Wait + S
 /// closes the book. Where it `tells` refusals, each is told in words on standard error too.
 ///
 /// Without a table in what is left, no line was read and nothing was sent: memory was refused, or the words tell no
-/// shape. Whenever the reader may wait, the replies to all whole lines that it gave are sent.
+/// shape. Whenever the reader may wait, the replies to all whole lines that it gave are sent. The end is told as broken
+/// only where a wait or a call on the writer failed, or after 2^64 - 2 lines.
 pub fn played<
     M: Lane<I, BufWriter<O>>,
     R: Eprint + AllocGlobal,
@@ -100,10 +100,11 @@ pub fn played<
     reader: &mut I,
     writer: BufWriter<O>,
 ) -> Ended<O>
+    requires empties { Empties M.is_sent writer_buffer }
     ensures ends { EndsBy (map string_bytes words.now)
         (streams (M.remaining reader.old) (M.remaining reader.new) (writer_contents O.contents writer)
-        (O.contents result.output)) (HasTalked M.takes M.waits M.is_sent (writer_contents O.contents)
-        (writer_contents O.contents writer) reader.old reader.new) result.status result.table }
+        (O.contents result.output)) (HasTalked M.takes M.waits M.fails M.is_sent (writer_contents O.contents)
+        reader.old reader.new writer) result.status result.table }
     ensures untouched { result.table ≡ None → (result.output ≡ writer_inner writer) × (reader.new ≡ reader.old) }
 {
     match opened(rt, words) {
@@ -123,10 +124,11 @@ fn in_session<
 >(rt: &R, threads: &T, parts: Parts, tells: bool, reader: &mut I, writer: BufWriter<O>) -> Ended<O>
     requires name { parts ≡ N.parts }
     requires alone { parts.callers ≡ 1 }
+    requires empties { Empties M.is_sent writer_buffer }
     ensures ends { EndsOn N.parts
         (streams (M.remaining reader.old) (M.remaining reader.new) (writer_contents O.contents writer)
-        (O.contents result.output)) (HasTalked M.takes M.waits M.is_sent (writer_contents O.contents)
-        (writer_contents O.contents writer) reader.old reader.new) result.status result.table }
+        (O.contents result.output)) (HasTalked M.takes M.waits M.fails M.is_sent (writer_contents O.contents)
+        reader.old reader.new writer) result.status result.table }
     ensures untouched { result.table ≡ None → (result.output ≡ writer_inner writer) × (reader.new ≡ reader.old) }
 {
     let Ok(mut session) = Session::<N>::open(rt.alloc(), parts) else {

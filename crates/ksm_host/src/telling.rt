@@ -1,7 +1,7 @@
 //! Refusals in words, on standard error.
 use ksm_causes::Refused;
-use ksm_script::{Hears, LineReply, RunFault};
-use std::io::{BufWriter, IsTerminal, Write};
+use ksm_script::{Hears, LineReply, RunFault, Sends};
+use std::io::{IsTerminal, Write};
 use std::rt::Env;
 
 /// The variable that asks for refusals in words.
@@ -26,14 +26,14 @@ pub(crate) struct Telling<'a, R> {
     pub(crate) is_asked: bool,
 }
 
-impl<R: Eprint, O: Write + Drop> Hears<BufWriter<O>> for Telling<'_, R> {
+impl<R: Eprint, M: Sends<W>, W: Write> Hears<M, W> for Telling<'_, R> {
     fn listens(&self) -> bool {
         self.is_asked
     }
 
     fn hear(
         &mut self,
-        writer: &mut BufWriter<O>,
+        writer: &mut W,
         number: u64,
         line: &[u8],
         reply: &LineReply,
@@ -44,7 +44,7 @@ impl<R: Eprint, O: Write + Drop> Hears<BufWriter<O>> for Telling<'_, R> {
         let Some(refused) = Refused::of(number, line, reply) else {
             return Ok(());
         };
-        if writer.flush().is_err() {
+        if !M::send(writer) {
             return Err(RunFault::Write);
         }
         let _ = self.rt.eprint(refused);

@@ -119,13 +119,6 @@ pub fn read_line(bytes: &[u8]) -> Result<Line, LineFault>
     ensures read { (line : Line) → Writes line bytes.now → result ≡ Ok line }
     ensures none { IfErr result (λ fault. IsNoLine bytes.now) }
 {
-    told_line(bytes)
-}
-
-/// The line that the bytes are, told by its first word.
-fn told_line(bytes: &[u8]) -> Result<Line, LineFault>
-    ensures { Gives result (line_at (words_of bytes.now)) }
-{
     let (name, left) = cut(bytes);
     named(name, left)
 }

@@ -1,14 +1,5 @@
 -- What an audit by some passes replies.
-use Rattle.std.proofs.Common.{◌≡◌, ◌≢◌, ◌==◌, ℕ, false, List, [], ◌∷◌, length, sym, ap, ◌∙◌, subst}
-use Rattle.std.specs.Prelude.{All}
-use Rattle.std.proofs.lemmas.List.Elements.{All-head}
-use Rattle.frame_table.specs.Named.{PassView, TableName}
-use Rattle.ksm_base.specs.declared.fault.Fault.TheVariants.{Memory}
-use Rattle.ksm_audit.specs.declared.report.Row.{Row}
-use Rattle.ksm_audit.specs.Answered.{Audited}
-use Rattle.ksm_script.specs.declared.refusal.Refusal.TheVariants.{Book}
-use Rattle.ksm_script.specs.declared.reply.LineReply.TheVariants.{Audit, Refused}
-use Rattle.ksm_script.specs.Lookups.{AuditedBy}
+use Rattle.ksm_script.proofs.Names.{[], All, All-head, ap, Audit, Audited, AuditedBy, Book, false, length, List, Memory, PassView, Refused, Row, subst, sym, TableName, ℕ, ◌==◌, ◌∙◌, ◌∷◌, ◌≡◌, ◌≢◌}
 
 -- passes that are told not to be none are some
 some : (n : ℕ) → false ≡ (n == 0) → n ≢ 0

@@ -1,13 +1,5 @@
 -- Bytes in hexadecimal digits, many at once.
-use Rattle.std.proofs.Common.{◌≡◌, ◌∙◌, ℕ, zero, suc, ◌/◌, ◌%◌, ◌<◌, All, eqb, true, false, List, [], ◌∷◌, ◌++◌, map, Fits, w8, w64, refl, sym, ap, ap₂, subst, arith}
-use Rattle.std.proofs.lemmas.Bool.{eqb-true}
-use Rattle.std.proofs.lemmas.List.Folds.{flat_map-map}
-use Rattle.std.specs.Fmt.{digit_glyph}
-use Rattle.std.specs.Int.{to_le_bytes}
-use Rattle.std.specs.List.{flat_map}
-use lib.Lanes.{Each1, pick_l}
-use Rattle.ksm_lines.proofs.Hex.{passes_below, passes_at}
-use Rattle.ksm_script.specs.Texts.{byte_digits, content_text, word_digits}
+use Rattle.ksm_script.proofs.Names.{[], All, ap, ap₂, arith, byte_digits, content_text, digit_glyph, Each1, eqb, eqb-true, false, Fits, flat_map, flat_map-map, List, map, passes_at, passes_below, pick_l, refl, subst, suc, sym, to_le_bytes, true, w64, w8, word_digits, zero, ℕ, ◌%◌, ◌++◌, ◌/◌, ◌<◌, ◌∙◌, ◌∷◌, ◌≡◌}
 
 -- what was computed of each of these values is another function of it, where the two agree on all values below a number
 pub agrees_below : (n : ℕ) (f g : ℕ → ℕ) (v : List ℕ) {a : List ℕ} → a ≡ map f v → All (λ x. x < n) v → passes_below (λ k. eqb (f k) (g k)) n ≡ true → a ≡ map g v

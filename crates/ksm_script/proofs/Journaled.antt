@@ -1,19 +1,5 @@
 -- A command of one caller is a step of the script's state.
-use Rattle.std.proofs.Common.{◌≡◌, ◌∙◌, ◌++◌, List, Some, ap, sym, refl}
-use Rattle.std.proofs.lemmas.List.{append-nil}
-use Rattle.ksm_base.specs.declared.command.Command.{Command}
-use Rattle.ksm_base.specs.Answers.{Answer}
-use Rattle.ksm_base.specs.Journal.{journal_after}
-use Rattle.ksm_shared.specs.declared.seen.Caller.{Caller}
-use Rattle.ksm_shared.specs.declared.seen.Owned.{Owned}
-use Rattle.ksm_shared.specs.Locked.{SeesOn, StepsAlone, made_by}
-use Rattle.ksm_shared.specs.Named.{PartsId}
-use Rattle.ksm_shared.specs.Seen.{entries}
-use Rattle.ksm_shared.proofs.Extended.{new_journal}
-use Rattle.ksm_script.specs.declared.pass_state.PassState.{PassState}
-use Rattle.ksm_script.specs.Answering.{Commands, reply_to}
-use Rattle.ksm_script.specs.Seen.{script_of}
-use Rattle.ksm_script.specs.State.{ScriptState}
+use Rattle.ksm_script.proofs.Names.{Answer, ap, append-nil, Caller, Command, Commands, entries, journal_after, List, made_by, new_journal, Owned, PartsId, PassState, refl, reply_to, script_of, ScriptState, SeesOn, Some, StepsAlone, sym, ◌++◌, ◌∙◌, ◌≡◌}
 
 module _ (parts : PartsId) (old new : Caller) (c : Command) (r : Answer) (one : parts.callers ≡ 1) (sees : SeesOn parts old new (made_by old.number c r)) where
   -- nothing of anybody else comes in between

@@ -1,3 +1,4 @@
+pub mod Names
 pub mod Auditing
 pub mod Pieces
 pub mod Hex

@@ -1,16 +1,5 @@
 -- What a session opens with.
-use Rattle.std.proofs.Common.{◌≡◌, ℕ, List, [], ◌∷◌, ◌++◌, length, get_or, refl, sym, ap, ap₂, ◌∙◌, subst, arith, length-append}
-use Rattle.std.specs.Prelude.{All, replicate}
-use Rattle.std.proofs.lemmas.List.{length-replicate}
-use Rattle.std.proofs.lemmas.List.Elements.{All-replicate}
-use Rattle.frame_table.specs.Named.{PassView, TableName}
-use Rattle.frame_table.specs.Seats.{new_pass}
-use Rattle.ksm_shared.specs.declared.seen.Caller.{Caller}
-use Rattle.ksm_shared.specs.Locked.{fresh}
-use Rattle.ksm_shared.specs.Seen.{caller}
-use Rattle.ksm_script.specs.declared.pass_state.PassState.{PassState}
-use Rattle.ksm_script.specs.declared.pass_state.PassState.TheVariants.{Idle}
-use Rattle.ksm_script.specs.Lookups.{table_of}
+use Rattle.ksm_script.proofs.Names.{[], All, All-replicate, ap, ap₂, arith, Caller, caller, fresh, get_or, Idle, length, length-append, length-replicate, List, new_pass, PassState, PassView, refl, replicate, subst, sym, table_of, TableName, ℕ, ◌++◌, ◌∙◌, ◌∷◌, ◌≡◌}
 
 -- a book of one caller has one share
 pub one_share : (n : ℕ) (shares : List Caller) → n ≡ 1 → shares ≡ fresh n → length shares ≡ 1

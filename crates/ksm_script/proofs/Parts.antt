@@ -1,16 +1,5 @@
 -- A text that is written in parts.
-use Rattle.std.proofs.Common.{ℕ, ◌+◌, ◌-◌, List, length, Option, take, drop, sym, subst, take-append-drop, get_or, ◌<◌, ◌++◌, ◌≡◌, ap, ◌∙◌, append_assoc, ◌∷◌, [], Result, Ok, Err}
-use Rattle.std.proofs.lemmas.List.{take_rest, take_more, append-nil}
-use Rattle.std.proofs.lemmas.List.Concat.{flat_map-append}
-use Rattle.std.proofs.Math.Seq.{take-add}
-use Rattle.std.specs.List.{flat_map}
-use Rattle.std.specs.Io.KnownBytes.{Appends, Keeps}
-use Rattle.std.proofs.KnownBytes.{Appends-trans, Appends-kept}
-use Rattle.std.specs.Prelude.{IsErrAnd}
-use Rattle.ksm_script.specs.declared.script.RunFault.{RunFault}
-use Rattle.ksm_script.specs.declared.script.RunFault.TheVariants.{Write}
-use Rattle.ksm_script.specs.Said.{WritesText}
-use Rattle.ksm_script.specs.Texts.{AppendsBroken, AppendsPart}
+use Rattle.ksm_script.proofs.Names.{[], ap, append-nil, append_assoc, Appends, Appends-kept, Appends-trans, AppendsBroken, AppendsPart, BreaksText, drop, Err, flat_map, flat_map-append, get_or, IsErrAnd, Keeps, length, List, Ok, Option, Result, RunFault, subst, sym, take, take-add, take-append-drop, take_more, take_rest, WritesText, ℕ, ◌++◌, ◌+◌, ◌-◌, ◌<◌, ◌∙◌, ◌∷◌, ◌≡◌}
 
 -- what appended one part of a text, and then the next, appended both
 pub one_more : (a b c : Option (List ℕ)) (text : List ℕ) (n m : ℕ)
@@ -63,25 +52,29 @@ pieces_part f xs i d text a b c lt is p q =
     subst (AppendsPart a c) (sym (flat_map-append f (take (i + 1) xs) (drop (i + 1) xs)) ∙ ap (flat_map f) (take-append-drop (i + 1) xs))
     (part_longer a c _ (flat_map f (drop (i + 1) xs)) front)
 
--- the exit of a `?` behind which a part was written
-pub text_broken : (r : Result (Unit {0}) RunFault) (f : RunFault) (a b : Option (List ℕ)) (text : List ℕ) → IsErrAnd r (λ e. e ≡ f) → f ≡ Write → AppendsPart a b text → WritesText a b text r
-text_broken (Ok x) f a b text e is p = absurd e
-text_broken (Err d) f a b text e is p = (tt, (e ∙ is, p))
+module _ {W : Type 0} (contents : W → Option (List ℕ)) (fails : W → Type 0) where
+  -- the exit of a `?` behind which a text was broken off
+  pub text_broken : (r : Result (Unit {0}) RunFault) (e : RunFault) (a b : W) (text : List ℕ) → IsErrAnd r (λ f. f ≡ e) → BreaksText contents fails a b text e → WritesText contents fails a b text r
+  text_broken (Ok x) e a b text is p = absurd is
+  text_broken (Err f) e a b text is p = (tt, (is ∙ p.0, p.1, p.2))
 
--- a text was written before, and then another one
-pub text_after : (r : Result (Unit {0}) RunFault) (a b c : Option (List ℕ)) (text next : List ℕ) → Appends a b text → WritesText b c next r → WritesText a c (text ++ next) r
-text_after (Ok x) a b c text next p h = (Appends-trans a b c text next p h.0, tt)
-text_after (Err e) a b c text next p h = (tt, (h.1.0, part_after a b c text next p h.1.1))
+  -- the same of a text between two others
+  pub text_within : (r : Result (Unit {0}) RunFault) (e : RunFault) (a b c : W) (before text rest : List ℕ) → IsErrAnd r (λ f. f ≡ e) → Appends (contents a) (contents b) before
+      → BreaksText contents fails b c text e → WritesText contents fails a c (before ++ (text ++ rest)) r
+  text_within r e a b c before text rest is p q =
+      text_broken r e a c (before ++ (text ++ rest)) is (q.0, q.1, part_after _ _ _ before (text ++ rest) p (part_longer _ _ text rest q.2))
 
--- the text that was written is the wanted one
-pub text_is : (r : Result (Unit {0}) RunFault) (a b : Option (List ℕ)) (text wanted : List ℕ) → text ≡ wanted → WritesText a b text r → WritesText a b wanted r
-text_is r a b text wanted e = subst (λ t. WritesText a b t r) e
+  -- a text was written before, and then another one
+  pub text_after : (r : Result (Unit {0}) RunFault) (a b c : W) (text next : List ℕ) → Appends (contents a) (contents b) text → WritesText contents fails b c next r → WritesText contents fails a c (text ++ next) r
+  text_after (Ok x) a b c text next p h = (Appends-trans _ _ _ text next p h.0, tt)
+  text_after (Err e) a b c text next p h = (tt, (h.1.0, h.1.1, part_after _ _ _ text next p h.1.2))
 
--- a text is its beginning, and what is behind that
-rest_is : (text : List ℕ) (n : ℕ) → take n text ++ take (length text - n) (drop n text) ≡ text
-rest_is text n = ap (λ (t : List ℕ). take n text ++ t) (take_rest text n) ∙ take-append-drop n text
+  -- the text that was written is the wanted one
+  pub text_is : (r : Result (Unit {0}) RunFault) (a b : W) (text wanted : List ℕ) → text ≡ wanted → WritesText contents fails a b text r → WritesText contents fails a b wanted r
+  text_is r a b text wanted e = subst (λ t. WritesText contents fails a b t r) e
 
--- the beginning of a text was written, and then what is behind it
-pub text_behind : (r : Result (Unit {0}) RunFault) (a b c : Option (List ℕ)) (text : List ℕ) (n : ℕ) → Appends a b (take n text)
-    → WritesText b c (take (length text - n) (drop n text)) r → WritesText a c text r
-text_behind r a b c text n p q = text_is r a c _ text (rest_is text n) (text_after r a b c (take n text) _ p q)
+  -- the beginning of a text was written, and then what is behind it
+  pub text_behind : (r : Result (Unit {0}) RunFault) (a b c : W) (text : List ℕ) (n : ℕ) → Appends (contents a) (contents b) (take n text)
+      → WritesText contents fails b c (take (length text - n) (drop n text)) r → WritesText contents fails a c text r
+  text_behind r a b c text n p q =
+      text_is r a c _ text (ap (λ (t : List ℕ). take n text ++ t) (take_rest text n) ∙ take-append-drop n text) (text_after r a b c (take n text) _ p q)

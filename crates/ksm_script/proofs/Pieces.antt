@@ -1,23 +1,5 @@
 -- What a reader's buffer has of a line.
-use Rattle.std.proofs.Common.{◌≡◌, ◌≢◌, ◌==◌, ℕ, ◌+◌, ◌-◌, ◌<◌, ◌≤◌, Bool, true, false, cond, List, [], ◌∷◌, ◌++◌, Option, None, Some, Result, Ok, Err, length, take, get_or, refl, sym, subst, ap, ◌∙◌, arith, zero-le, append_assoc, length-append, take-take}
-use lib.Seq.{take-append_seam}
-use Rattle.std.specs.Prelude.{if◌then◌else◌, IsErrAnd, IsTrue, ◌↔◌}
-use Rattle.std.specs.Bool.{then_some}
-use Rattle.ksm_script.specs.declared.input.LineEnd.TheVariants.{TooLong}
-use Rattle.ksm_lines.specs.declared.line.Line.{Line}
-use Rattle.ksm_lines.specs.Leading.{BeginsWith}
-use Rattle.ksm_script.specs.declared.script.RunFault.TheVariants.{Read, Write}
-use Rattle.ksm_script.specs.Dialogue.{Dialogue, Talks, silent, took, waited}
-use Rattle.ksm_script.specs.Takes.{Came, Extends, Takes, TakesForm, Took}
-use Rattle.std.specs.Io.KnownBytes.{Consumes, Keeps, prepend_known}
-use Rattle.std.proofs.lemmas.Bool.{eq-eqb, eqb-true}
-use Rattle.std.proofs.lemmas.List.{take_more, get_or-take, get_or_default, length-take, take_min}
-use Rattle.std.proofs.lemmas.List.Elements.{All-append}
-use Rattle.memchr.specs.Find.{Nowhere, Passes, is_byte}
-use Rattle.ksm_script.specs.Input.{EndsAs, IsPlain}
-use Rattle.ksm_script.specs.declared.input.LineEnd.{LineEnd}
-use Rattle.ksm_script.specs.declared.script.RunFault.{RunFault}
-use Rattle.std.proofs.KnownBytes.{Consumes-nil, Consumes-trans, Keeps-refl}
+use Rattle.ksm_script.proofs.Names.{[], All-append, ap, append_assoc, arith, BeginsWith, Bool, Came, cond, Consumes, Consumes-nil, Consumes-trans, Dialogue, EndsAs, eq-eqb, eqb-true, Err, Extends, false, get_or, get_or-take, get_or_default, IfErr, if◌then◌else◌, is_byte, IsErrAnd, IsPlain, IsTrue, Keeps, Keeps-refl, length, length-append, length-take, Line, LineEnd, List, None, Nowhere, Ok, Option, Passes, prepend_known, refl, Result, RunFault, silent, Some, subst, sym, take, take-append_seam, take-take, take_min, take_more, Takes, TakesForm, then_some, Took, took, TooLong, true, waited, zero-le, ℕ, ◌++◌, ◌+◌, ◌-◌, ◌<◌, ◌==◌, ◌↔◌, ◌∙◌, ◌∷◌, ◌≡◌, ◌≢◌, ◌≤◌}
 
 -- bytes that are taken from a buffer are read; with no capacity nothing is known
 pub taken_from : (n m : ℕ) (a b : Option (List ℕ)) (buffer rest bytes : List ℕ) → m ≡ n → b ≡ a → buffer ≡ bytes ++ rest
@@ -84,36 +66,48 @@ form_taken form Took buffer near rest n same begins room consumed =
     let short : length line ≤ 256 = omega (arith, ap length is, long, length-take n buffer) in
     (line, begins.1, begins.2, short, subst Took (ap (take (length (take n buffer) - length rest)) (sym same) ∙ ap (λ k. take k buffer) size ∙ up_to_line buffer line rest n is) consumed)
 
--- a line goes on by what is taken of it
-pub goes_on : (Whole Took : List ℕ → Type 0) (before line : List ℕ) (told : Option LineEnd) → told ≡ None → ((bytes : List ℕ) → Took bytes → Whole (before ++ bytes))
-    → Takes told before line Took → (length line ≤ 256) × Whole line
-goes_on Whole Took before line told is more q =
-    let h : Takes None before line Took = subst (λ t. Takes t before line Took) is q in (h.1.1, subst Whole (sym h.1.0) (more h.0 h.2))
-
 -- a line that goes on is no shorter
 pub longer : (Took : List ℕ → Type 0) (before line : List ℕ) (told : Option LineEnd) → told ≡ None → Takes told before line Took → length before ≤ length line
 longer Took before line told is q =
     let h : Takes None before line Took = subst (λ t. Takes t before line Took) is q in omega (arith, ap length h.1.0, length-append before h.0)
-
--- a line ends by what is taken of it
-pub ends_so : (Whole Took : List ℕ → Type 0) (before line : List ℕ) (told : Option LineEnd) (end : LineEnd) → told ≡ Some end → ((bytes : List ℕ) → Took bytes → Whole (before ++ bytes))
-    → Takes told before line Took → (bytes : List ℕ) × EndsAs end line bytes × Whole bytes
-ends_so Whole Took before line told end is more q =
-    let h : Takes (Some end) before line Took = subst (λ t. Takes t before line Took) is q in (before ++ h.0, h.1, more h.0 h.2)
 
 module _ {R W : Type 0} (remaining : R → Option (List ℕ)) (takes : R → R → List ℕ → Type 0) (waits : W → R → R → Option (List ℕ) → Type 0) (May : List ℕ → W → Type 0) (first : R) where
   -- what was read of a reader, and by which dialogue
   abbrev pub IsTalked : R → List ℕ → Type 0
   IsTalked now bytes = Consumes (remaining first) (remaining now) bytes × Dialogue takes waits May first now bytes
 
-  -- more bytes are taken that were at hand
-  pub took_more : (now next : R) (before : List ℕ) → IsTalked now before → (bytes : List ℕ) → Took remaining takes now next bytes → IsTalked next (before ++ bytes)
+  took_more : (now next : R) (before : List ℕ) → IsTalked now before → (bytes : List ℕ) → Took remaining takes now next bytes → IsTalked next (before ++ bytes)
   took_more now next before so bytes more = (Consumes-trans _ _ _ before bytes so.0 more.0, took so.1 bytes more.1)
 
-  -- more bytes came that were waited for
-  pub came_more : (now next : R) (before : List ℕ) (writer : W) → May before writer → IsTalked now before → (bytes : List ℕ) → Came remaining waits writer now next bytes
+  came_more : (now next : R) (before : List ℕ) (writer : W) → May before writer → IsTalked now before → (bytes : List ℕ) → Came remaining waits writer now next bytes
       → IsTalked next (before ++ bytes)
   came_more now next before writer may so bytes more = (Consumes-trans _ _ _ before bytes so.0 more.0, waited so.1 writer may bytes more.1)
+
+  goes_on : (Took : List ℕ → Type 0) (next : R) (before line : List ℕ) (told : Option LineEnd) → told ≡ None → ((bytes : List ℕ) → Took bytes → IsTalked next (before ++ bytes))
+      → Takes told before line Took → (length line ≤ 256) × IsTalked next line
+  goes_on Took next before line told is more q =
+      let h : Takes None before line Took = subst (λ t. Takes t before line Took) is q in (h.1.1, subst (IsTalked next) (sym h.1.0) (more h.0 h.2))
+
+  ends_so : (Took : List ℕ → Type 0) (next : R) (before line : List ℕ) (told : Option LineEnd) (end : LineEnd) → told ≡ Some end → ((bytes : List ℕ) → Took bytes → IsTalked next (before ++ bytes))
+      → Takes told before line Took → (bytes : List ℕ) × EndsAs end line bytes × IsTalked next bytes
+  ends_so Took next before line told end is more q =
+      let h : Takes (Some end) before line Took = subst (λ t. Takes t before line Took) is q in (before ++ h.0, h.1, more h.0 h.2)
+
+  module _ (now next : R) (before line : List ℕ) (told : Option LineEnd) (so : IsTalked now before) where
+    -- a line goes on by bytes at hand, or ends with them
+    pub took_on : told ≡ None → Takes told before line (Took remaining takes now next) → (length line ≤ 256) × IsTalked next line
+    took_on is = goes_on _ next before line told is (took_more now next before so)
+
+    pub took_end : (end : LineEnd) → told ≡ Some end → Takes told before line (Took remaining takes now next) → (bytes : List ℕ) × EndsAs end line bytes × IsTalked next bytes
+    took_end end is = ends_so _ next before line told end is (took_more now next before so)
+
+    -- or by bytes that were waited for
+    pub came_on : (writer : W) → May before writer → told ≡ None → Takes told before line (Came remaining waits writer now next) → (length line ≤ 256) × IsTalked next line
+    came_on writer may is = goes_on _ next before line told is (came_more now next before writer may so)
+
+    pub came_end : (writer : W) → May before writer → (end : LineEnd) → told ≡ Some end → Takes told before line (Came remaining waits writer now next)
+        → (bytes : List ℕ) × EndsAs end line bytes × IsTalked next bytes
+    came_end writer may end is = ends_so _ next before line told end is (came_more now next before writer may so)
 
   -- nothing is read of a line that is just begun
   pub nothing_talked : (contents : W → Option (List ℕ)) (writer : W) (line : List ℕ) → line ≡ []
@@ -122,16 +116,10 @@ module _ {R W : Type 0} (remaining : R → Option (List ℕ)) (takes : R → R �
       subst (λ (l : List ℕ). IsPlain l × (length l ≤ 256) × IsTalked first l × (0 ≤ length l) × Keeps (contents writer) (contents writer)) (sym none)
       ((λ k d lt is. absurd (omega (arith, lt))), omega arith, (Consumes-nil (remaining first), silent), omega arith, Keeps-refl (contents writer))
 
--- a fault is told on
-pub talks_fault : {R W A : Type 0} (B : Type 0) (takes : R → R → List ℕ → Type 0) (waits : W → R → R → Option (List ℕ) → Type 0) (fails : W → Type 0) (May : List ℕ → W → Type 0) (first last : R) (writer : W)
-    (r : Result A RunFault) (e : RunFault) → IsErrAnd r (λ f. f ≡ e) → Talks {A = B} takes waits fails May first last writer (Err e) → Talks takes waits fails May first last writer r
-talks_fault B takes waits fails May first last writer (Ok x) e is talk = absurd is
-talks_fault {R} {W} {A} B takes waits fails May first last writer (Err f) e is talk =
-    subst (λ (x : RunFault). Talks {A = A} takes waits fails May first last writer (Err x)) (sym is) (same e talk)
-  where
-    same : (e : RunFault) → Talks {A = B} takes waits fails May first last writer (Err e) → Talks {A = A} takes waits fails May first last writer (Err e)
-    same Read talk = talk
-    same Write talk = talk
+-- what is said of a fault is said of it where it is handed on
+pub fault_told : {A : Type 0} (P : RunFault → Type 0) (r : Result A RunFault) (e d : RunFault) → IsErrAnd r (λ f. f ≡ e) → e ≡ d → P d → IfErr r P
+fault_told P (Ok x) e d is same p = absurd is
+fault_told P (Err f) e d is same p = subst P (sym (is ∙ same)) p
 
 abbrev pub told : Option LineEnd → Result (Option LineEnd) RunFault
 told end = Ok end

@@ -1,20 +1,5 @@
 -- Passes are taken out of their slots and put back.
-use Rattle.std.proofs.Common.{◌≡◌, ℕ, zero, suc, ◌+◌, ◌<◌, List, [], ◌∷◌, ◌++◌, length, map, take, drop, set, get_or, Option, Some, None, sym, refl, ap, ◌∙◌, subst, arith}
-use Rattle.std.specs.Prelude.{All, IsSomeAnd, option_to_list, replicate, slice_get}
-use Rattle.std.specs.List.{AllZip}
-use Rattle.std.proofs.lemmas.List.{map-set, length-map, length-set}
-use Rattle.std.proofs.lemmas.List.Elements.{All-nil, All-cons, All-head, All-tail}
-use Rattle.frame_table.specs.Named.{TableName, PassView}
-use Rattle.ksm_script.specs.declared.pass_state.PassState.{PassState}
-use Rattle.ksm_script.specs.declared.pass_state.PassState.TheVariants.{Idle, Holding}
-use Rattle.ksm_script.specs.declared.refusal.Refusal.TheVariants.{NoPass}
-use Rattle.ksm_script.specs.declared.reply.LineReply.{LineReply}
-use Rattle.ksm_script.specs.declared.reply.LineReply.TheVariants.{Refused}
-use Rattle.ksm_script.specs.Lookups.{table_of, DoesAt, idle_of, HoldsStill, EndsIdle, IsIdle}
-use Rattle.ksm_script.specs.Slots.{present, AreThere, ActsAt, gaps, emptied, refilled, InBoth}
-
-pub filled : List PassState → List (Option PassState)
-filled passes = map (λ (s : PassState). let o : Option PassState = Some s in o) passes
+use Rattle.ksm_script.proofs.Names.{[], ActsAt, All, All-cons, All-head, All-nil, All-tail, AllZip, ap, AreThere, arith, DoesAt, drop, emptied, EndsIdle, gaps, get_or, Holding, HoldsStill, Idle, idle_of, InBoth, IsIdle, IsSomeAnd, length, length-map, length-set, LineReply, List, map, map-set, None, NoPass, Option, option_to_list, PassState, PassView, present, refilled, refl, Refused, replicate, set, slice_get, Some, subst, suc, sym, table_of, TableName, take, zero, ℕ, ◌++◌, ◌+◌, ◌<◌, ◌∙◌, ◌∷◌, ◌≡◌}
 
 pub present_all : (passes : List PassState) → present (map (λ (s : PassState). let o : Option PassState = Some s in o) passes) ≡ passes
 present_all [] = refl
@@ -151,9 +136,6 @@ changed (Idle v ∷ passes) [] = []
 changed (Idle v ∷ passes) (w ∷ back) = Idle w ∷ changed passes back
 
 module _ (t : TableName) where
-  Own : PassState → Type 0
-  Own s = table_of s ≡ t
-
   refilled_is : (passes : List PassState) (back : List PassView) → length back ≡ length (idle_of passes)
       → refilled (map emptied (map (λ (s : PassState). let o : Option PassState = Some s in o) passes)) back ≡ map (λ (s : PassState). let o : Option PassState = Some s in o) (changed passes back)
   refilled_is [] back e = refl
@@ -191,33 +173,26 @@ module _ (t : TableName) where
   changed_count (Idle v ∷ passes) (w ∷ back) e = let h = changed_count passes back (omega arith) in omega arith
   changed_count (Holding h ∷ passes) back e = let n = changed_count passes back e in omega arith
 
-  module _ (slots taken next : List (Option PassState)) (back : List PassView) (there : AreThere slots) (own : All (λ (s : PassState). table_of s ≡ t) (present slots)) (out : taken ≡ map emptied slots)
-      (count : length back ≡ length (idle_of (present slots))) (own_back : All (λ (v : PassView). v.table ≡ t) back) (put : next ≡ refilled taken back) where
-    next_is : next ≡ map (λ (s : PassState). let o : Option PassState = Some s in o) (changed (present slots) back)
-    next_is = put ∙ ap (λ (l : List (Option PassState)). refilled l back) (out ∙ ap (λ (l : List (Option PassState)). map emptied l) there) ∙ refilled_is (present slots) back count
+  module _ (slots taken next : List (Option PassState)) (passes : List PassState) (back : List PassView) (there : AreThere slots) (is : present slots ≡ passes) (own : All (λ (s : PassState). table_of s ≡ t) passes)
+      (out : taken ≡ map emptied slots) (count : length back ≡ length (idle_of (present slots))) (own_back : All (λ (v : PassView). v.table ≡ t) back) (put : next ≡ refilled taken back) where
+    few : length back ≡ length (idle_of passes)
+    few = count ∙ ap (λ (l : List PassState). length (idle_of l)) is
 
-    -- once the idle passes are put back, no slot is empty
-    pub put_there : AreThere next
-    put_there = there_is next (changed (present slots) back) next_is
+    next_is : next ≡ map (λ (s : PassState). let o : Option PassState = Some s in o) (changed passes back)
+    next_is = put ∙ ap (λ (l : List (Option PassState)). refilled l back) (out ∙ ap (λ (l : List (Option PassState)). map emptied l) (there ∙ ap (λ (l : List PassState). map (λ s. Some s) l) is)) ∙ refilled_is passes back few
 
-    now_is : present next ≡ changed (present slots) back
-    now_is = present_is next (changed (present slots) back) next_is
+    now_is : present next ≡ changed passes back
+    now_is = present_is next (changed passes back) next_is
 
-    -- once the idle passes are put back, what held nothing still does, and each hold is as it was
-    pub put_still : AllZip HoldsStill (present slots) (present next)
-    put_still = subst (AllZip HoldsStill (present slots)) (sym now_is) (holds_still (present slots) back count)
-
-    -- the idle passes in the slots are those that were put back
-    pub put_idle_is : idle_of (present next) ≡ back
-    put_idle_is = ap idle_of now_is ∙ idle_back (present slots) back count
-
-    -- once the idle passes are put back, all passes are of the table
-    pub put_own : All (λ (s : PassState). table_of s ≡ t) (present next)
-    put_own = subst (All (λ (s : PassState). table_of s ≡ t)) (sym now_is) (changed_own (present slots) back count own own_back)
-
-    -- once the idle passes are put back, there are as many passes as before
-    pub put_count : length (present next) ≡ length (present slots)
-    put_count = ap (λ (l : List PassState). length l) now_is ∙ changed_count (present slots) back count
+    -- once the idle passes are put back, no slot is empty, what held nothing still does, and each hold is as it was; those that hold nothing are the ones put back, and all are of the table, and as many as before
+    pub put_back : AreThere next × AllZip HoldsStill passes (present next) × (idle_of (present next) ≡ back) × All (λ (s : PassState). table_of s ≡ t) (present next) × (length (present next) ≡ length passes)
+    put_back = (
+      there_is next (changed passes back) next_is,
+      subst (AllZip HoldsStill passes) (sym now_is) (holds_still passes back few),
+      ap idle_of now_is ∙ idle_back passes back few,
+      subst (All (λ (s : PassState). table_of s ≡ t)) (sym now_is) (changed_own passes back few own own_back),
+      ap (λ (l : List PassState). length l) now_is ∙ changed_count passes back few,
+    )
 
 -- ---- all slots
 

@@ -1,44 +1,13 @@
 -- A run goes on by one line.
-use Rattle.std.proofs.Common.{◌≡◌, ◌≢◌, ℕ, Bool, true, false, ◌+◌, ◌≤◌, List, [], ◌∷◌, ◌++◌, ◌⊎◌, length, Option, None, Some, Result, Ok, Err, ap, ◌∙◌, sym, subst, append_assoc, inl, inr, refl}
-use Rattle.std.specs.Prelude.{IsErrAnd}
-use Rattle.std.specs.Io.KnownBytes.{Appends, Consumes, IsAtEnd, Keeps}
-use Rattle.std.proofs.lemmas.List.{append-nil}
-use Rattle.std.proofs.KnownBytes.{Appends-kept, Appends-nil, Appends-trans, Consumes-nil, Consumes-trans}
-use Rattle.ksm_script.specs.State.{ScriptState}
-use Rattle.ksm_script.specs.Seen.{SessionView}
-use Rattle.ksm_lines.specs.declared.line.Line.{Line}
-use Rattle.ksm_lines.specs.declared.line.Line.TheVariants.{Empty}
-use Rattle.ksm_lines.specs.declared.line.LineFault.{LineFault}
-use Rattle.ksm_lines.specs.declared.line.LineFault.TheVariants.{Bad}
-use Rattle.ksm_script.specs.declared.reply.LineReply.{LineReply}
-use Rattle.ksm_script.specs.declared.reply.LineReply.TheVariants.{BadLine as bad_line}
-use Rattle.ksm_script.specs.Replies.{text_of}
-use Rattle.ksm_script.specs.Texts.{AppendsPart}
-use Rattle.ksm_script.specs.declared.script.End.{End}
-use Rattle.ksm_script.specs.declared.script.End.TheVariants.{AllRead, BadLine}
-use Rattle.ksm_script.specs.declared.script.RunFault.{RunFault}
-use Rattle.ksm_script.specs.declared.script.RunFault.TheVariants.{Read, Write}
-use Rattle.ksm_script.specs.declared.input.LineEnd.{LineEnd}
-use Rattle.ksm_script.specs.declared.input.LineEnd.TheVariants.{Newline, Input, TooLong}
-use Rattle.ksm_lines.specs.Grammar.{IsNoLine}
-use Rattle.ksm_script.specs.Input.{EndsAs, IsPlain}
-use Rattle.ksm_script.specs.Answering.{Answers, reply_text}
-use Rattle.ksm_script.specs.Going.{AtOnce, end_at, GoesOn, IsDone, IsReplied, IsSoFar}
-use Rattle.ksm_script.specs.LastLine.{EndsBad, EndsOpen}
-use Rattle.ksm_script.specs.Said.{IsSaid, ReturnsReply, WritesReply}
-use Rattle.ksm_script.specs.Dialogue.{Dialogue, HasReplied, IsWithin, Talks, silent, took, waited}
-use Rattle.ksm_script.specs.Takes.{TakesForm, Took}
-use Rattle.ksm_script.specs.Script.{Answered, none, more, CarriesOut, ReadFor, AnsweredAll, AnsweredLast, IsBad, IsReadAs, AnsweredToBad, Streams, streams, Goes}
+use Rattle.ksm_script.proofs.Names.{[], AllRead, Answered, AnsweredAll, AnsweredLast, AnsweredToBad, Answers, ap, append-nil, append_assoc, Appends, Appends-kept, Appends-nil, Appends-trans, AppendsPart, AtOnce, Bad, bad_line, BadLine, Bool, BreaksOff, CarriesOut, Consumes, Consumes-nil, Consumes-trans, Dialogue, Empty, End, end_at, EndsAs, EndsBad, EndsOpen, Err, false, Goes, GoesOn, HasReplied, inl, Input, inr, IsAtEnd, IsBad, IsDone, IsErrAnd, IsNoLine, IsPlain, IsReadAs, IsReplied, IsSaid, IsSoFar, IsWithin, Keeps, length, Line, LineEnd, LineFault, LineReply, List, more, Newline, None, none, Ok, Option, Read, ReadFor, refl, reply_text, Result, result_and, ReturnsReply, RunFault, ScriptState, SessionView, silent, Some, some_is, streams, subst, sym, TakesForm, Talks, text_of, Took, took, TooLong, true, waited, Write, WritesReply, ℕ, ◌++◌, ◌+◌, ◌∙◌, ◌∷◌, ◌≡◌, ◌≢◌, ◌≤◌, ◌⊎◌}
 use Rattle.ksm_script.proofs.Parts.{broken_after}
 
--- a failed write is told as one
-pub broke : (io : Streams) (from to : ScriptState) (told : Result End RunFault) → told ≡ Err Write → Goes io from to (Err Write) → Goes io from to told
-broke io from to told is h = subst (λ (r : Result End RunFault). Goes io from to r) (sym is) h
+-- a run ends so, or goes on
+abbrev ended_so : End → Result End RunFault
+ended_so end = Ok end
 
--- a fault of a run's last line ends the run
-pub goes_fault : (io : Streams) (from to : ScriptState) (told : Result End RunFault) (e : RunFault) → IsErrAnd told (λ f. f ≡ e) → Goes io from to (Err e) → Goes io from to told
-goes_fault io from to (Ok x) e is h = absurd is
-goes_fault io from to (Err f) e is h = subst (λ (x : RunFault). Goes io from to (Err x)) (sym is) h
+abbrev went_so : Option End → Result (Option End) RunFault
+went_so x = Ok x
 
 -- before the first line, nothing was read and nothing written
 pub nothing_yet : (reader writer : Option (List ℕ)) (state : ScriptState) → IsSoFar [] reader reader writer writer state state 1
@@ -69,9 +38,9 @@ pub record IsRead (Talk : List ℕ → Type 0) (now next : Option (List ℕ)) (l
   pub last : end ≡ Input → IsAtEnd next
 
 -- a line of no bytes was answered
-pub one_empty : {R W : Type 0} (remaining : R → Option (List ℕ)) (takes : R → R → List ℕ → Type 0) (contents : W → Option (List ℕ)) (now later : R) (writer : W) (session : SessionView)
-    → TakesForm Empty (Took remaining takes now later) → AtOnce remaining takes contents (now, writer, session) (later, writer, session) (Ok true)
-one_empty remaining takes contents now later writer session taken =
+pub one_empty : {R W : Type 0} (remaining : R → Option (List ℕ)) (takes : R → R → List ℕ → Type 0) (contents : W → Option (List ℕ)) (fails : W → Type 0) (now later : R) (writer : W) (session : SessionView)
+    → TakesForm Empty (Took remaining takes now later) → AtOnce remaining takes contents fails (now, writer, session) (later, writer, session) (Ok true)
+one_empty remaining takes contents fails now later writer session taken =
     let state = session.state in
     let carried : CarriesOut state taken.0 None state =
     record { form = Empty; plain = taken.2; short = taken.3; written = taken.1; answers = (refl, refl) } in
@@ -105,17 +74,18 @@ module _ {R W : Type 0} (remaining : R → Option (List ℕ)) (takes : R → R �
       (at.0, before, so.text, so.count, state, refl, within.0, so.answered, stays, within.2)
 
   -- the dialogue of a run by that of its last line
-  pub talks_on : {A : Type 0} (fails : W → Type 0) (now next : R) (written writer : W) (state : ScriptState) (number : ℕ) → IsAt now written state number → (r : Result A RunFault)
-      → Talks takes waits fails (IsWithin is_sent contents written) now next writer r → Talks takes waits fails Replied first next writer r
-  talks_on fails now next written writer state number at (Ok x) talk =
-      (at.0 ++ talk.0, join _ now at.0 (replied_within now written state number at) at.2 next talk.0 talk.1)
-  talks_on fails now next written writer state number at (Err Write) talk =
-      (at.0 ++ talk.0, join _ now at.0 (replied_within now written state number at) at.2 next talk.0 talk.1)
-  talks_on fails now next written writer state number at (Err Read) (inl failed) =
+  pub talk_on : (now next : R) (written : W) (state : ScriptState) (number : ℕ) → IsAt now written state number
+      → ((bytes : List ℕ) × Dialogue takes waits (IsWithin is_sent contents written) now next bytes) → (bytes : List ℕ) × Dialogue takes waits Replied first next bytes
+  talk_on now next written state number at talk = (at.0 ++ talk.0, join _ now at.0 (replied_within now written state number at) at.2 next talk.0 talk.1)
+
+  -- the same where it broke off
+  pub breaks_on : (fails : W → Type 0) (now next : R) (written writer : W) (state : ScriptState) (number : ℕ) → IsAt now written state number → (fault : RunFault)
+      → BreaksOff takes waits fails (IsWithin is_sent contents written) now next writer fault → BreaksOff takes waits fails Replied first next writer fault
+  breaks_on fails now next written writer state number at Write broken = let talk = talk_on now next written state number at (broken.1, broken.2) in (broken.0, talk.0, talk.1)
+  breaks_on fails now next written writer state number at Read (inl failed) =
       let may = replied_within now written state number at in
       inl (at.0 ++ failed.0, failed.1, failed.2, join _ now at.0 may at.2 failed.1 failed.0 failed.3, may failed.0 failed.2 failed.4, failed.5)
-  talks_on fails now next written writer state number at (Err Read) (inr unsent) =
-      inr (unsent.0, at.0 ++ unsent.1, join _ now at.0 (replied_within now written state number at) at.2 next unsent.1 unsent.2)
+  breaks_on fails now next written writer state number at Read (inr broken) = let talk = talk_on now next written state number at (broken.1, broken.2) in inr (broken.0, talk.0, talk.1)
 
   -- behind a line that was read
   pub went_on : (now next : R) (written wrote : W) (state : ScriptState) (number : ℕ) (session : SessionView) (at : IsAt now written state number)
@@ -124,14 +94,22 @@ module _ {R W : Type 0} (remaining : R → Option (List ℕ)) (takes : R → R �
   went_on now next written wrote state number session at on =
       (at.0 ++ on.0, on.1, join _ now at.0 (replied_within now written state number at) at.2 next on.0 on.2)
 
-  -- a dialogue that a failed write ended
-  pub talks_broke : {A : Type 0} (fails : W → Type 0) (next : R) (writer : W) (r : Result A RunFault) → r ≡ Err Write → ((bytes : List ℕ) × Dialogue takes waits Replied first next bytes)
-      → Talks takes waits fails Replied first next writer r
-  talks_broke fails next writer r is talk = subst (λ q. Talks takes waits fails Replied first next writer q) (sym is) talk
+  -- a run that a fault of its last line ends
+  pub run_broken : (fails : W → Type 0) (next : R) (writer : W) (line : List ℕ) (to : ScriptState) (r : Result End RunFault) (e : RunFault) → IsErrAnd r (λ f. f ≡ e)
+      → Goes (streams (remaining first) (remaining next) begun (contents writer)) from to (Err e) × BreaksOff takes waits fails Replied first next writer e
+      → Goes (streams (remaining first) (remaining next) begun (contents writer)) from to r × EndsBad (remaining first) (remaining next) line r × Talks takes waits fails Replied first next writer r
+      × (r ≡ ended_so AllRead → is_sent writer ⊎ EndsOpen (remaining first) (remaining next))
+  run_broken fails next writer line to (Ok x) e is broken = absurd is
+  run_broken fails next writer line to (Err f) e is broken = (
+    subst (λ (x : RunFault). Goes (streams (remaining first) (remaining next) begun (contents writer)) from to (Err x)) (sym is) broken.0,
+    tt,
+    subst (BreaksOff takes waits fails Replied first next writer) (sym is) broken.1,
+    λ all. absurd (cc all),
+  )
 
-  module _ (old new : R × W × SessionView) (number : ℕ) (at : IsAt old.0 old.1 old.2.state number) where
+  module _ (fails : W → Type 0) (old new : R × W × SessionView) (number : ℕ) (at : IsAt old.0 old.1 old.2.state number) where
     -- behind a line that was answered at once
-    pub one_more : (b : Bool) → AtOnce remaining takes contents old new (Ok b) → b ≡ true → IsAt new.0 new.1 new.2.state (number + 1)
+    pub one_more : (b : Bool) → AtOnce remaining takes contents fails old new (Ok b) → b ≡ true → IsAt new.0 new.1 new.2.state (number + 1)
     one_more true told is =
         let so = at.1 in
         let one = told.0 in (
@@ -149,41 +127,39 @@ module _ {R W : Type 0} (remaining : R → Option (List ℕ)) (takes : R → R �
     one_more false told is = absurd (cc is)
 
     -- where no line was answered at once
-    pub one_left : (b : Bool) → AtOnce remaining takes contents old new (Ok b) → b ≡ false → IsAt new.0 new.1 new.2.state number
+    pub one_left : (b : Bool) → AtOnce remaining takes contents fails old new (Ok b) → b ≡ false → IsAt new.0 new.1 new.2.state number
     one_left true told is = absurd (cc is)
     one_left false same is =
         subst (λ (s : SessionView). IsAt new.0 new.1 s.state number) (sym same.2)
         (subst (λ (w : W). IsAt new.0 w old.2.state number) (sym same.1) (subst (λ (r : R). IsAt r old.1 old.2.state number) (sym same.0) at))
 
     -- a run whose last line was answered at once, and its reply broken off
-    pub one_broken : (fault : RunFault) → AtOnce remaining takes contents old new (Err fault)
-        → Goes (streams (remaining first) (remaining new.0) begun (contents new.1)) from new.2.state (Err Write) × ((bytes : List ℕ) × Dialogue takes waits Replied first new.0 bytes)
+    pub one_broken : (fault : RunFault) → AtOnce remaining takes contents fails old new (Err fault)
+        → Goes (streams (remaining first) (remaining new.0) begun (contents new.1)) from new.2.state (Err fault) × BreaksOff takes waits fails Replied first new.0 new.1 fault
     one_broken fault told =
         let so = at.1 in
-        let one = told.1 in
-        let consumed = Consumes-trans (remaining first) (remaining old.0) (remaining new.0) at.0 (one.0 ++ 10 ∷ []) so.consumed one.3 in (
+        let one = told.2 in
+        let consumed = Consumes-trans (remaining first) (remaining old.0) (remaining new.0) at.0 (one.0 ++ 10 ∷ []) so.consumed one.3 in
+        subst (λ f. Goes (streams (remaining first) (remaining new.0) begun (contents new.1)) from new.2.state (Err f) × BreaksOff takes waits fails Replied first new.0 new.1 f) (sym told.0) (
           inl (so.text, one.1, (at.0, one.0, at.0 ++ (one.0 ++ 10 ∷ []), so.count, old.2.state, so.answered, one.2, inl refl, consumed), broken_after _ _ _ so.text _ so.appended one.4),
-          (at.0 ++ (one.0 ++ 10 ∷ []), took at.2 (one.0 ++ 10 ∷ []) told.2),
+          (told.1, at.0 ++ (one.0 ++ 10 ∷ []), took at.2 (one.0 ++ 10 ∷ []) told.3),
         )
 
-module _ {R W : Type 0} (remaining : R → Option (List ℕ)) (takes : R → R → List ℕ → Type 0) (contents : W → Option (List ℕ)) (now later : R) (old new : W) (from to : SessionView) (form : Line)
-    (taken : TakesForm form (Took remaining takes now later)) where
+module _ {R W : Type 0} (remaining : R → Option (List ℕ)) (takes : R → R → List ℕ → Type 0) (contents : W → Option (List ℕ)) (fails : W → Type 0) (now later : R) (old new : W) (from to : SessionView)
+    (form : Line) (taken : TakesForm form (Took remaining takes now later)) where
   carried_as : (reply : Option LineReply) → Answers form from.state reply to.state → CarriesOut from.state taken.0 reply to.state
   carried_as reply answers = record { form = form; plain = taken.2; short = taken.3; written = taken.1; answers = answers }
 
-  -- a line that was taken whole, and whose reply was written
-  pub said_one : IsSaid (WritesReply contents) (Answers form) from to old new (Ok tt) → AtOnce remaining takes contents (now, old, from) (later, new, to) (Ok true)
-  said_one (inl said) = ((taken.0, Some said.0, carried_as (Some said.0) said.1, taken.4.0, said.2.0), taken.4.1)
-  said_one (inr quiet) =
+  -- a line that was taken whole, and whose reply was written or broken off
+  pub said_once : (r : Result (Unit {0}) RunFault) → IsSaid (WritesReply contents fails) (Answers form) from to old new r
+      → AtOnce remaining takes contents fails (now, old, from) (later, new, to) (result_and r (Ok true))
+  said_once (Ok x) (inl said) = ((taken.0, Some said.0, carried_as (Some said.0) said.1, taken.4.0, said.2.0), taken.4.1)
+  said_once (Ok x) (inr quiet) =
       let same = subst (λ (w : W). Appends (contents old) (contents w) []) (sym quiet.1) (Appends-nil (contents old)) in
       ((taken.0, None, carried_as None quiet.0, taken.4.0, same), taken.4.1)
-
-  -- the same whose reply was broken off
-  pub said_part : (r : Result Bool RunFault) (e : RunFault) → IsErrAnd r (λ f. f ≡ e) → IsSaid (WritesReply contents) (Answers form) from to old new (Err e)
-      → AtOnce remaining takes contents (now, old, from) (later, new, to) r
-  said_part (Ok b) e is said = absurd is
-  said_part (Err f) e is (inl said) = (is ∙ said.2.1.0, (taken.0, said.0, carried_as (Some said.0) said.1, taken.4.0, said.2.1.1), taken.4.1)
-  said_part (Err f) e is (inr quiet) = absurd (cc quiet.2)
+  said_once (Err e) (inl said) =
+      let cut = said.2.1 in (cut.0, cut.1, (taken.0, said.0, carried_as (Some said.0) said.1, taken.4.0, cut.2), taken.4.1)
+  said_once (Err e) (inr quiet) = absurd (cc quiet.2)
 
 -- the reply that was returned for a line, or none, is what the line is answered
 pub kept_answer : (form : Line) (from to : SessionView) (new : Option LineReply) (r : Result (Unit {0}) RunFault) → IsSaid ReturnsReply (Answers form) from to None new r
@@ -197,22 +173,10 @@ pub broke_on : (Line : List ℕ → Type 0) (lines : List ℕ) (first now begun 
 broke_on Line lines first now begun written from session number told is h =
     subst (λ (r : Result (Option End) RunFault). GoesOn Line lines first now begun written from session number r) (sym is) h
 
--- a run that goes on behind a line
-pub goes_behind : (Line : List ℕ → Type 0) (lines : List ℕ) (first now begun written : Option (List ℕ)) (from : ScriptState) (session : SessionView) (number : ℕ) (x : Option End) → x ≡ None
-    → GoesOn Line lines first now begun written from session number (Ok x) → GoesOn Line lines first now begun written from session number (Ok None)
-goes_behind Line lines first now begun written from session number x is on = subst (λ (y : Option End). GoesOn Line lines first now begun written from session number (Ok y)) is on
-
--- a run that ends with a line
-pub goes_to_end : (Line : List ℕ → Type 0) (lines : List ℕ) (first now begun written : Option (List ℕ)) (from : ScriptState) (session : SessionView) (number : ℕ) (x : Option End) (end : End)
-    → x ≡ Some end → GoesOn Line lines first now begun written from session number (Ok x) → Goes (streams first now begun written) from session.state (Ok end) × EndsBad first now session.line (Ok end)
-goes_to_end Line lines first now begun written from session number x end is on = subst (λ (y : Option End). GoesOn Line lines first now begun written from session number (Ok y)) is on
-
--- a run ends so, or goes on
-abbrev ended_so : End → Result End RunFault
-ended_so end = Ok end
-
-abbrev went_so : Option End → Result (Option End) RunFault
-went_so x = Ok x
+-- a run goes on behind a line, or ends with it, as it was told
+pub goes_so : (Line : List ℕ → Type 0) (lines : List ℕ) (first now begun written : Option (List ℕ)) (from : ScriptState) (session : SessionView) (number : ℕ) (x y : Option End) → x ≡ y
+    → GoesOn Line lines first now begun written from session number (Ok x) → GoesOn Line lines first now begun written from session number (Ok y)
+goes_so Line lines first now begun written from session number x y is on = subst (λ (z : Option End). GoesOn Line lines first now begun written from session number (Ok z)) is on
 
 -- where a run ends with all read, its last line ended it so
 pub all_told : (x : Option End) (end : End) → x ≡ Some end → ended_so end ≡ ended_so AllRead → went_so x ≡ went_so (Some AllRead)
@@ -225,12 +189,6 @@ open_behind first now later lines so (inr last) =
     let consumed = subst (λ (t : List ℕ). Consumes first later t) (sym (append_assoc lines last.0 last.1)) (Consumes-trans first now later lines (last.0 ++ last.1) so last.2) in
     inr (lines ++ last.0, last.1, consumed, last.3, last.4)
 
-abbrev pub bool_of : Bool → Bool
-bool_of b = b
-
-pub apart : bool_of false ≡ bool_of true → ⊥
-apart e = cc
-
 last_of : (end : LineEnd) → went_so (end_at end) ≡ went_so (Some AllRead) → end ≡ Input
 last_of Newline e = absurd (cc e)
 last_of Input e = refl
@@ -241,12 +199,6 @@ pub replied_last : (end : LineEnd) (number : ℕ) (old new : SessionView) (reply
     → went_so ended ≡ went_so (Some AllRead) → end ≡ Input
 replied_last end number old new reply ended (inl did) all = last_of end (ap went_so (sym did.1) ∙ all)
 replied_last end number old new reply ended (inr bad) all = absurd (cc (ap went_so (sym bad.2) ∙ all))
-
-abbrev some_reply : LineReply → Option LineReply
-some_reply r = Some r
-
-some_is : (a b : LineReply) → some_reply a ≡ some_reply b → a ≡ b
-some_is a b e = cc
 
 abbrev pub found : LineEnd → Result LineEnd RunFault
 found end = Ok end
@@ -337,15 +289,11 @@ module _ (Line : List ℕ → Type 0) (lines : List ℕ) (first now later : Opti
       let all : lines ++ read.bytes ≡ lines = ap (λ (t : List ℕ). lines ++ t) nothing ∙ append-nil lines in
       (lines, lines, so.count, so.answered, inl refl, subst (λ (t : List ℕ). Consumes first later t) all consumed_then)
 
-  -- where the line is bad, the lines before it are answered, and the bad line is read
-  pub answered_to_bad : (fault : LineFault) → IsReadAs (Err fault) end line → AnsweredToBad first later from state so.text so.count
-  answered_to_bad fault bad =
-      (line, read.bytes, end, (lines, so.answered, consumed_then), read.plain, read.ends, bad_of later end line bad read.last)
-
-  -- what was read ends with the bad line, whatever its number
-  pub ends_bad : (fault : LineFault) → IsReadAs (Err fault) end line → EndsBad first later line (Ok (BadLine 0))
-  ends_bad fault bad =
-      (lines, read.bytes, end, consumed_then, read.plain, read.ends, bad_of later end line bad read.last)
+  -- where the line is bad, the lines before it are answered, and what was read ends with it, whatever its number
+  pub bad_read : (fault : LineFault) → IsReadAs (Err fault) end line → AnsweredToBad first later from state so.text so.count × EndsBad first later line (Ok (BadLine 0))
+  bad_read fault bad =
+      let is = bad_of later end line bad read.last in
+      ((line, read.bytes, end, (lines, so.answered, consumed_then), read.plain, read.ends, is), (lines, read.bytes, end, consumed_then, read.plain, read.ends, is))
 
 module _ (Line : List ℕ → Type 0) (lines : List ℕ) (first now : Option (List ℕ)) (later begun written wrote : Option (List ℕ)) (from : ScriptState) (old new : SessionView) (number : ℕ)
     (so : IsSoFar lines first now begun written from old.state number) where
@@ -354,7 +302,7 @@ module _ (Line : List ℕ → Type 0) (lines : List ℕ) (first now : Option (Li
       → GoesOn Line lines first later begun wrote from new number (Ok (end_at end))
   done_on Newline reply read did appended = (read.bytes, goes_on _ _ _ _ _ _ _ _ _ _ _ _ so read _ _ did _ (λ e. absurd cc) appended, read.talk)
   done_on Input reply read did appended =
-      ((so.text ++ reply_text reply, answered_all _ _ _ _ _ _ _ _ _ _ _ _ so read _ _ did, Appends-trans _ _ _ so.text _ so.appended appended, read.last refl), tt)
+      ((so.text ++ reply_text reply, answered_all _ _ _ _ _ _ _ _ _ _ _ _ so read _ _ did, Appends-trans _ _ _ so.text _ so.appended appended, read.last refl), tt, read.bytes, read.talk)
   done_on TooLong reply read did appended = absurd (did.short refl)
 
   -- a line whose reply is written, whatever it is
@@ -363,11 +311,11 @@ module _ (Line : List ℕ → Type 0) (lines : List ℕ) (first now : Option (Li
   replied_on end reply ended read (inl did) appended =
       subst (λ (x : Option End). GoesOn Line lines first later begun wrote from new number (Ok x)) (sym did.1) (done_on end reply read did.0 appended)
   replied_on end reply ended read (inr bad) appended =
-      let refused = answered_to_bad _ _ _ _ _ _ _ _ _ _ _ _ so read Bad bad.0 in
+      let refused = bad_read _ _ _ _ _ _ _ _ _ _ _ _ so read Bad bad.0 in
       let text = subst (λ (r : Option LineReply). Appends written wrote (reply_text r)) bad.1 appended in
       let all = Appends-trans _ _ _ so.text _ so.appended text in
       let on : GoesOn Line lines first later begun wrote from old number (Ok (Some (BadLine number))) =
-      ((so.text, so.count, sym so.counted, refused, all), ends_bad _ _ _ _ _ _ _ _ _ _ _ _ so read Bad bad.0) in
+      ((so.text, so.count, sym so.counted, refused.0, all), refused.1, read.bytes, read.talk) in
       subst (λ (x : Option End). GoesOn Line lines first later begun wrote from new number (Ok x)) (sym bad.2)
       (subst (λ (s : SessionView). GoesOn Line lines first later begun wrote from s number (Ok (Some (BadLine number)))) (sym bad.3) on)
 
@@ -377,7 +325,7 @@ module _ (Line : List ℕ → Type 0) (lines : List ℕ) (first now : Option (Li
   replied_broken end reply ended read (inl did) told is part =
       inl (so.text, told, answered_last _ _ _ _ _ _ _ _ _ _ _ _ so read _ _ did.0 told is, broken_after _ _ _ so.text _ so.appended part)
   replied_broken end reply ended read (inr bad) told is part =
-      let refused = answered_to_bad _ _ _ _ _ _ _ _ _ _ _ _ so read Bad bad.0 in
+      let refused = bad_read _ _ _ _ _ _ _ _ _ _ _ _ so read Bad bad.0 in
       let same : told ≡ bad_line (so.count + 1) = some_is _ _ (sym is ∙ bad.1) ∙ ap bad_line (sym so.counted) in
       let broken = broken_after _ _ _ so.text _ so.appended (subst (λ r. AppendsPart written wrote (text_of r)) same part) in
-      subst (λ (s : SessionView). Goes (streams first later begun wrote) from s.state (Err Write)) (sym bad.3) (inr (so.text, so.count, refused, broken))
+      subst (λ (s : SessionView). Goes (streams first later begun wrote) from s.state (Err Write)) (sym bad.3) (inr (so.text, so.count, refused.0, broken))

@@ -1,33 +1,7 @@
 -- The worked lines hold.
-use Rattle.std.proofs.Common.{◌≡◌, ℕ, ◌<◌, ◌≤◌, ⊎_elim, inl, inr, List, [], ◌∷◌, ◌++◌, length, Option, Some, None, Ok, Err, sym, refl, ap, ◌∙◌, subst, arith}
-use Rattle.std.specs.List.{AllZip}
-use Rattle.ksm_base.specs.declared.command.Command.{Command}
+use Rattle.ksm_script.proofs.Names.{[], AllZip, Answer, ap, arith, at, Audit, AuditedBy, BadNode, BadValue, Book, BookState, both_hold, bytes_of, Command, commanded, CommandLines, Commands, Content, content_reply, Done, Err, Found, frames_of, full, GivesUp, Gone, GuestPage, Held, HeldView, Holding, HoldsStill, Idle, idle_of, inl, inr, is_known, IsAnswerOrMemory, IsVacant, KeepsBook, length, LineReply, List, LooksAt, LookupLines, Memory, merged, None, NotRunning, OfKnob, Ok, one_holds, Option, PassState, PassView, Pruned, ReaderLog, ReadingLines, Reads, refl, Refused, register, reply_to, Row, Run, Scanned, ScriptState, shape, shown_in, Some, start, subst, sym, TableName, ticket_of, ticket_reply, UnknownPage, UnknownPlace, Unmerged, Vacant, Value, word_loads, ℕ, ⊎_elim, ◌++◌, ◌<◌, ◌∙◌, ◌∷◌, ◌≡◌, ◌≤◌}
 use Rattle.ksm_base.specs.declared.command.Command.TheVariants as commands
 use Rattle.ksm_base.specs.declared.reply.Reply.TheVariants as replies
-use Rattle.ksm_base.specs.declared.fault.Fault.TheVariants.{Memory, UnknownPage, NotRunning, BadValue, UnknownPlace, BadNode}
-use Rattle.ksm_base.specs.Values.{frames_of}
-use Rattle.ksm_base.specs.State.{BookState}
-use Rattle.ksm_base.specs.declared.page.GuestPage.{GuestPage}
-use Rattle.ksm_base.specs.Reading.{bytes_of, ticket_of}
-use Rattle.ksm_base.specs.Refusals.{is_known}
-use Rattle.ksm_lines.specs.declared.knob.Knob.TheVariants.{Run}
-use Rattle.ksm_lines.specs.declared.knob.Shown.TheVariants.{Knob as OfKnob}
-use Rattle.ksm_lines.specs.Knobs.{shown_in}
-use Rattle.ksm_base.specs.Answers.{Answer, IsAnswerOrMemory}
-use Rattle.frame_table.specs.declared.pass.Why.TheVariants.{Vacant}
-use Rattle.frame_table.specs.Named.{TableName, PassView, HeldView}
-use Rattle.frame_table.specs.Lookup.{ReaderLog, IsVacant}
-use Rattle.ksm_audit.specs.declared.report.Row.{Row}
-use Rattle.ksm_audit.specs.Lookups.{word_loads}
-use Rattle.ksm_script.specs.declared.pass_state.PassState.{PassState}
-use Rattle.ksm_script.specs.declared.pass_state.PassState.TheVariants.{Idle, Holding}
-use Rattle.ksm_script.specs.declared.refusal.Refusal.TheVariants.{Book}
-use Rattle.ksm_script.specs.declared.reply.LineReply.{LineReply}
-use Rattle.ksm_script.specs.declared.reply.LineReply.TheVariants.{Done, Content, Scanned, Pruned, Unmerged, Value, Held, Gone, Audit, Refused}
-use Rattle.ksm_script.specs.State.{ScriptState}
-use Rattle.ksm_script.specs.Lookups.{Found, LooksAt, GivesUp, AuditedBy, HoldsStill, idle_of}
-use Rattle.ksm_script.specs.Answering.{Commands, KeepsBook, Reads, commanded, reply_to, content_reply, ticket_reply}
-use Rattle.ksm_script.specs.Worked.{shape, at, full, start, register, merged, one_holds, both_hold, CommandLines, ReadingLines, LookupLines}
 
 all_is : (n s : ScriptState) → KeepsBook s n → n.passes ≡ s.passes → n ≡ s
 all_is n s b p = λ i. let z : ScriptState = record { book = b.0 i; journal = b.1 i; passes = p i } in z

@@ -14,14 +14,11 @@ use Rattle.ksm_base.specs.Reading.{bytes_of, ticket_of, mappers_of}
 use Rattle.ksm_base.specs.declared.page.GuestPage.{GuestPage}
 use Rattle.ksm_base.specs.Refusals.{is_known}
 use Rattle.ksm_lines.specs.declared.line.Line.{Line}
-use Rattle.ksm_lines.specs.declared.line.Line.TheVariants.{Empty, Register, Drop, Store, Get, Ticket, Mappers}
-use Rattle.ksm_lines.specs.declared.line.Line.TheVariants.{ScanPages, Scan, Prune, Unmerge, Mergeable, MovePage}
-use Rattle.ksm_lines.specs.declared.line.Line.TheVariants.{MoveDup, Set, Show, Stat, Find, Equal, Look, Leave, Audit}
+use Rattle.ksm_lines.specs.declared.line.Line.TheVariants as lines
 use Rattle.ksm_script.specs.declared.pass_state.PassState.{PassState}
 use Rattle.ksm_script.specs.declared.refusal.Refusal.TheVariants.{Book}
 use Rattle.ksm_script.specs.declared.reply.LineReply.{LineReply}
-use Rattle.ksm_script.specs.declared.reply.LineReply.TheVariants.{Done, Content, Place, Private, Mappers as Pages}
-use Rattle.ksm_script.specs.declared.reply.LineReply.TheVariants.{Scanned, Pruned, Unmerged, Value, Counters, Refused}
+use Rattle.ksm_script.specs.declared.reply.LineReply.TheVariants as told
 use Rattle.ksm_lines.specs.Knobs.{setting, shown_in}
 use Rattle.ksm_script.specs.State.{ScriptState}
 use Rattle.ksm_script.specs.Lookups.{Finds, Equals, LooksAt, GivesUp, AtPass, Audits, EndsIdle}
@@ -29,11 +26,11 @@ use Rattle.ksm_script.specs.Replies.{text_of}
 
 -- the reply to the answer of a command
 abbrev pub reply_to : Answer → LineReply
-reply_to (Ok replies.Done) = Done
-reply_to (Ok (replies.Scanned visits stop)) = Scanned visits stop
-reply_to (Ok (replies.Pruned count)) = Pruned count
-reply_to (Ok (replies.Unmerged pages stop)) = Unmerged pages stop
-reply_to (Err fault) = Refused (Book fault)
+reply_to (Ok replies.Done) = told.Done
+reply_to (Ok (replies.Scanned visits stop)) = told.Scanned visits stop
+reply_to (Ok (replies.Pruned count)) = told.Pruned count
+reply_to (Ok (replies.Unmerged pages stop)) = told.Unmerged pages stop
+reply_to (Err fault) = told.Refused (Book fault)
 
 -- the state after a command with its answer
 abbrev pub commanded : ScriptState → Command → Answer → ScriptState
@@ -52,20 +49,20 @@ Reads told s reply next = (reply ≡ told s.book) × (next ≡ s)
 
 -- the content of a page, if it has a row
 abbrev pub content_reply : Option (List ℕ) → LineReply
-content_reply None = Refused (Book UnknownPage)
-content_reply (Some content) = Content content
+content_reply None = told.Refused (Book UnknownPage)
+content_reply (Some content) = told.Content content
 
 -- the place of a page, if it has a row and is merged
 abbrev pub ticket_reply : Bool → Option ℕ → LineReply
-ticket_reply false place = Refused (Book UnknownPage)
-ticket_reply true None = Private
-ticket_reply true (Some place) = Place place
+ticket_reply false place = told.Refused (Book UnknownPage)
+ticket_reply true None = told.Private
+ticket_reply true (Some place) = told.Place place
 
 -- the pages that are merged at a place, or that none are; want of memory only where some are
 abbrev pub IsMappers : Option (List GuestPage) → LineReply → Type 0
-IsMappers pages (Pages items) = pages ≡ Some items.items
-IsMappers pages (Refused (Book UnknownPlace)) = pages ≡ None
-IsMappers pages (Refused (Book Memory)) = IsSome pages
+IsMappers pages (told.Mappers items) = pages ≡ Some items.items
+IsMappers pages (told.Refused (Book UnknownPlace)) = pages ≡ None
+IsMappers pages (told.Refused (Book Memory)) = IsSome pages
 IsMappers pages _ = ⊥
 
 -- what is merged at a place is listed, and nothing changes
@@ -85,42 +82,42 @@ OnPasses Does s (Some reply) next = Does s.passes reply next.passes × KeepsBook
 
 -- a line is answered so in a state, and leaves the other one
 abbrev pub Answers : Line → ScriptState → Option LineReply → ScriptState → Type 0
-Answers Empty = Reads (λ b. None)
-Answers (Register page node bytes) = Commands (commands.Register page node bytes)
-Answers (Drop page) = Commands (commands.Drop page)
-Answers (Store page bytes) = Commands (commands.Store page bytes)
-Answers (Get page) = Reads (λ b. Some (content_reply (bytes_of page b)))
-Answers (Ticket page) = Reads (λ b. Some (ticket_reply (is_known b page) (ticket_of page b)))
-Answers (Mappers place) = Lists place
-Answers ScanPages = λ s. Commands (commands.Scan s.book.knobs.pages_to_scan) s
-Answers (Scan visits) = Commands (commands.Scan visits)
-Answers Prune = Commands commands.Prune
-Answers (Unmerge guest) = Commands (commands.Unmerge guest)
-Answers (Mergeable guest) = Commands (commands.Mergeable guest)
-Answers (MovePage page node) = Commands (commands.MovePage page node)
-Answers (MoveDup place node) = Commands (commands.MoveDup place node)
-Answers (Set knob value) = Commands (setting knob value)
-Answers (Show shown) = Reads (λ b. Some (Value (shown_in shown b)))
-Answers Stat = Reads (λ b. Some (Counters (counters_of b)))
-Answers (Find number place) = OnPasses (AtPass number (Finds place))
-Answers (Equal number place bytes) = OnPasses (AtPass number (Equals place bytes))
-Answers (Look number) = OnPasses (AtPass number LooksAt)
-Answers (Leave number) = OnPasses (AtPass number GivesUp)
-Answers Audit = OnPasses Audits
+Answers lines.Empty = Reads (λ b. None)
+Answers (lines.Register page node bytes) = Commands (commands.Register page node bytes)
+Answers (lines.Drop page) = Commands (commands.Drop page)
+Answers (lines.Store page bytes) = Commands (commands.Store page bytes)
+Answers (lines.Get page) = Reads (λ b. Some (content_reply (bytes_of page b)))
+Answers (lines.Ticket page) = Reads (λ b. Some (ticket_reply (is_known b page) (ticket_of page b)))
+Answers (lines.Mappers place) = Lists place
+Answers lines.ScanPages = λ s. Commands (commands.Scan s.book.knobs.pages_to_scan) s
+Answers (lines.Scan visits) = Commands (commands.Scan visits)
+Answers lines.Prune = Commands commands.Prune
+Answers (lines.Unmerge guest) = Commands (commands.Unmerge guest)
+Answers (lines.Mergeable guest) = Commands (commands.Mergeable guest)
+Answers (lines.MovePage page node) = Commands (commands.MovePage page node)
+Answers (lines.MoveDup place node) = Commands (commands.MoveDup place node)
+Answers (lines.Set knob value) = Commands (setting knob value)
+Answers (lines.Show shown) = Reads (λ b. Some (told.Value (shown_in shown b)))
+Answers lines.Stat = Reads (λ b. Some (told.Counters (counters_of b)))
+Answers (lines.Find number place) = OnPasses (AtPass number (Finds place))
+Answers (lines.Equal number place bytes) = OnPasses (AtPass number (Equals place bytes))
+Answers (lines.Look number) = OnPasses (AtPass number LooksAt)
+Answers (lines.Leave number) = OnPasses (AtPass number GivesUp)
+Answers lines.Audit = OnPasses Audits
 
 -- the lines that are no commands of their own: they tell something, scan as the knob says, or are for a pass
 abbrev pub IsTold : Line → Type 0
-IsTold Empty = ⊥
-IsTold (Register page node bytes) = ⊥
-IsTold (Drop page) = ⊥
-IsTold (Store page bytes) = ⊥
-IsTold (Scan visits) = ⊥
-IsTold Prune = ⊥
-IsTold (Unmerge guest) = ⊥
-IsTold (Mergeable guest) = ⊥
-IsTold (MovePage page node) = ⊥
-IsTold (MoveDup place node) = ⊥
-IsTold (Set knob value) = ⊥
+IsTold lines.Empty = ⊥
+IsTold (lines.Register page node bytes) = ⊥
+IsTold (lines.Drop page) = ⊥
+IsTold (lines.Store page bytes) = ⊥
+IsTold (lines.Scan visits) = ⊥
+IsTold lines.Prune = ⊥
+IsTold (lines.Unmerge guest) = ⊥
+IsTold (lines.Mergeable guest) = ⊥
+IsTold (lines.MovePage page node) = ⊥
+IsTold (lines.MoveDup place node) = ⊥
+IsTold (lines.Set knob value) = ⊥
 IsTold _ = ⊤
 
 -- all holds are given back

@@ -25,15 +25,19 @@ FailedWait {R} {W} takes waits May first last =
     (bytes : List ℕ) × (now : R) × (writer : W) × Dialogue takes waits May first now bytes × May bytes writer
     × waits writer now last None
 
--- A dialogue, by how it ended: where a read is told to have failed, a wait or the last sending did fail
+-- How a dialogue broke off: a wait failed behind it, which is a failed read; or the last call on the writer failed
+abbrev pub BreaksOff : {R W : Type 0} → (R → R → List ℕ → Type 0) → (W → R → R → Option (List ℕ) → Type 0)
+    → (W → Type 0) → (List ℕ → W → Type 0) → R → R → W → RunFault → Type 0
+BreaksOff takes waits fails May first last writer Write =
+    fails writer × (bytes : List ℕ) × Dialogue takes waits May first last bytes
+BreaksOff takes waits fails May first last writer Read = FailedWait takes waits May first last
+    ⊎ (fails writer × (bytes : List ℕ) × Dialogue takes waits May first last bytes)
+
+-- a dialogue, by how it ended
 abbrev pub Talks : {R W A : Type 0} → (R → R → List ℕ → Type 0) → (W → R → R → Option (List ℕ) → Type 0)
     → (W → Type 0) → (List ℕ → W → Type 0) → R → R → W → Result A RunFault → Type 0
 Talks takes waits fails May first last writer (Ok x) = (bytes : List ℕ) × Dialogue takes waits May first last bytes
-Talks takes waits fails May first last writer (Err Write) =
-    (bytes : List ℕ) × Dialogue takes waits May first last bytes
-Talks takes waits fails May first last writer (Err Read) =
-    FailedWait takes waits May first last
-    ⊎ (fails writer × (bytes : List ℕ) × Dialogue takes waits May first last bytes)
+Talks takes waits fails May first last writer (Err fault) = BreaksOff takes waits fails May first last writer fault
 
 -- the replies to all whole lines of these bytes are written and sent
 abbrev pub HasReplied : {W : Type 0} → (W → Type 0) → (W → Option (List ℕ)) → Option (List ℕ) → ScriptState → List ℕ
@@ -58,7 +62,7 @@ Gives old new (Some bytes) = Consumes old new bytes
 Gives old new None = Keeps old new
 
 -- The dialogue of a run: where its reader waits, the replies to all whole lines read are sent. It may end with a fault
--- that was none after 2^64 - 2 lines.
+-- that was none after 2^64 - 2 lines
 abbrev pub RunTalks : {R W A : Type 0} → (R → R → List ℕ → Type 0) → (W → R → R → Option (List ℕ) → Type 0)
     → (W → Type 0) → (W → Type 0) → (W → Option (List ℕ)) → ScriptState → R → R → W → W → Result A RunFault → Type 0
 RunTalks takes waits fails is_sent contents from first last begun writer result =
@@ -66,10 +70,3 @@ RunTalks takes waits fails is_sent contents from first last begun writer result 
     ⊎ ((lines : List ℕ) × (text : List ℕ) × (count : ℕ) × (to : ScriptState) × (count + 2 ≡ 2 ^ 64)
     × Answered from lines text count to
     × Dialogue takes waits (HasReplied is_sent contents (contents begun) from) first last lines)
-
--- however a run ended, it had such a dialogue
-abbrev pub HasTalked : {R W : Type 0} → (R → R → List ℕ → Type 0) → (W → R → R → Option (List ℕ) → Type 0)
-    → (W → Type 0) → (W → Option (List ℕ)) → Option (List ℕ) → R → R → ScriptState → Type 0
-HasTalked takes waits is_sent contents begun first last from =
-    ((bytes : List ℕ) × Dialogue takes waits (HasReplied is_sent contents begun from) first last bytes)
-    ⊎ FailedWait takes waits (HasReplied is_sent contents begun from) first last

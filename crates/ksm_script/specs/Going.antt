@@ -17,15 +17,15 @@ use Rattle.ksm_lines.specs.declared.line.Line.{Line}
 use Rattle.ksm_lines.specs.Grammar.{Writes, IsNoLine}
 use Rattle.ksm_script.specs.State.{ScriptState}
 
--- A line was taken and answered at once, or nothing was done, by what was told; at a fault a beginning of the reply is
--- written. A reader with a writer and a session stands before and after.
+-- A line was taken and answered at once, or nothing was done, by what was told; at a fault the last call on the writer
+-- failed, which has a beginning of the reply. A reader with a writer and a session stands before and after.
 abbrev pub AtOnce : {R W : Type 0} → (R → Option (List ℕ)) → (R → R → List ℕ → Type 0) → (W → Option (List ℕ))
-    → (R × W × SessionView) → (R × W × SessionView) → Result Bool RunFault → Type 0
-AtOnce remaining takes contents old new (Ok true) = (one : AnsweredOne
+    → (W → Type 0) → (R × W × SessionView) → (R × W × SessionView) → Result Bool RunFault → Type 0
+AtOnce remaining takes contents fails old new (Ok true) = (one : AnsweredOne
     (streams (remaining old.0) (remaining new.0) (contents old.1) (contents new.1)) old.2.state new.2.state)
     × takes old.0 new.0 (one.0 ++ 10 ∷ [])
-AtOnce remaining takes contents old new (Ok false) = (new.0 ≡ old.0) × (new.1 ≡ old.1) × (new.2 ≡ old.2)
-AtOnce remaining takes contents old new (Err fault) = (fault ≡ Write) × (one : AnsweredPart
+AtOnce remaining takes contents fails old new (Ok false) = (new.0 ≡ old.0) × (new.1 ≡ old.1) × (new.2 ≡ old.2)
+AtOnce remaining takes contents fails old new (Err fault) = (fault ≡ Write) × fails new.1 × (one : AnsweredPart
     (streams (remaining old.0) (remaining new.0) (contents old.1) (contents new.1)) old.2.state new.2.state)
     × takes old.0 new.0 (one.0 ++ 10 ∷ [])
 
@@ -46,6 +46,7 @@ GoesOn IsRead lines first now begun written from session number (Ok None) =
     (bytes : List ℕ) × IsSoFar (lines ++ bytes) first now begun written from session.state (number + 1) × IsRead bytes
 GoesOn IsRead lines first now begun written from session number (Ok (Some end)) =
     Goes (streams first now begun written) from session.state (Ok end) × EndsBad first now session.line (Ok end)
+    × (bytes : List ℕ) × IsRead bytes
 GoesOn IsRead lines first now begun written from session number (Err fault) =
     Goes (streams first now begun written) from session.state (Err fault)
 

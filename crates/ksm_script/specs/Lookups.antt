@@ -16,8 +16,7 @@ use Rattle.ksm_script.specs.declared.pass_state.Act.{Act}
 use Rattle.ksm_script.specs.declared.pass_state.Act.TheVariants.{Find, Equal, Look, Leave}
 use Rattle.ksm_script.specs.declared.refusal.Refusal.TheVariants.{Book, NoPass, NotHolding, Holding as PassHolds}
 use Rattle.ksm_script.specs.declared.reply.LineReply.{LineReply}
-use Rattle.ksm_script.specs.declared.reply.LineReply.TheVariants.{Done, Content, Held, Differs, Gone, Busy, Audit}
-use Rattle.ksm_script.specs.declared.reply.LineReply.TheVariants.{Refused}
+use Rattle.ksm_script.specs.declared.reply.LineReply.TheVariants as told
 
 -- the table of a pass
 abbrev pub table_of : PassState → TableName
@@ -26,20 +25,20 @@ table_of (Holding h) = h.table
 
 -- the reply tells how a lookup ended, and the pass holds what it found
 abbrev pub Found : PassView → ℕ → LineReply → PassState → Type 0
-Found v place (Held frame generation) (Holding h) =
+Found v place (told.Held frame generation) (Holding h) =
     LooksUp v place (found.Held h) × (frame ≡ h.frame) × (generation ≡ h.generation)
-Found v place (Gone why) (Idle w) = LooksUp v place (found.Gone w why)
-Found v place Busy (Idle w) = LooksUp v place (found.Busy w)
+Found v place (told.Gone why) (Idle w) = LooksUp v place (found.Gone w why)
+Found v place told.Busy (Idle w) = LooksUp v place (found.Busy w)
 Found v place _ _ = ⊥
 
 -- the same of a lookup that compares the content with a page: it is held also where it differs
 abbrev pub Compared : PassView → ℕ → List ℕ → LineReply → PassState → Type 0
-Compared v place page (Held frame generation) (Holding h) =
+Compared v place page (told.Held frame generation) (Holding h) =
     LooksUpEqual v place page (compared.Held h) × (frame ≡ h.frame) × (generation ≡ h.generation)
-Compared v place page (Differs frame generation) (Holding h) =
+Compared v place page (told.Differs frame generation) (Holding h) =
     LooksUpEqual v place page (compared.Differs h) × (frame ≡ h.frame) × (generation ≡ h.generation)
-Compared v place page (Gone why) (Idle w) = LooksUpEqual v place page (compared.Gone w why)
-Compared v place page Busy (Idle w) = LooksUpEqual v place page (compared.Busy w)
+Compared v place page (told.Gone why) (Idle w) = LooksUpEqual v place page (compared.Gone w why)
+Compared v place page told.Busy (Idle w) = LooksUpEqual v place page (compared.Busy w)
 Compared v place page _ _ = ⊥
 
 -- what is refused leaves the pass as it is
@@ -48,15 +47,15 @@ IsRefused refusal state reply next = (reply ≡ refusal) × (next ≡ state)
 
 -- a lookup is refused where the pass holds, and then where there is no such place
 abbrev pub RefusesLookup : ℕ → PassState → LineReply → Type 0
-RefusesLookup place (Holding h) reply = reply ≡ Refused PassHolds
-RefusesLookup place (Idle v) reply = (frames_of v.table.shape ≤ place) × (reply ≡ Refused (Book UnknownPlace))
+RefusesLookup place (Holding h) reply = reply ≡ told.Refused PassHolds
+RefusesLookup place (Idle v) reply = (frames_of v.table.shape ≤ place) × (reply ≡ told.Refused (Book UnknownPlace))
 
 -- refused, a lookup leaves the pass as it is
 abbrev pub LooksUpBy : (PassView → LineReply → PassState → Type 0) → ℕ → PassState → LineReply → PassState → Type 0
-LooksUpBy Looks place (Holding h) reply next = IsRefused (Refused PassHolds) (Holding h) reply next
+LooksUpBy Looks place (Holding h) reply next = IsRefused (told.Refused PassHolds) (Holding h) reply next
 LooksUpBy Looks place (Idle v) reply next =
     ((place < frames_of v.table.shape) × Looks v reply next)
-    ⊎ ((frames_of v.table.shape ≤ place) × IsRefused (Refused (Book UnknownPlace)) (Idle v) reply next)
+    ⊎ ((frames_of v.table.shape ≤ place) × IsRefused (told.Refused (Book UnknownPlace)) (Idle v) reply next)
 
 -- `find`
 abbrev pub Finds : ℕ → PassState → LineReply → PassState → Type 0
@@ -68,14 +67,14 @@ Equals place page = LooksUpBy (λ v. Compared v place page) place
 
 -- `look`: each word of the page is read in this hold
 abbrev pub LooksAt : PassState → LineReply → PassState → Type 0
-LooksAt (Idle v) reply next = IsRefused (Refused NotHolding) (Idle v) reply next
-LooksAt (Holding h) (Content bytes) (Holding w) = ReadsPage h bytes w
+LooksAt (Idle v) reply next = IsRefused (told.Refused NotHolding) (Idle v) reply next
+LooksAt (Holding h) (told.Content bytes) (Holding w) = ReadsPage h bytes w
 LooksAt (Holding h) _ _ = ⊥
 
 -- `leave`
 abbrev pub GivesUp : PassState → LineReply → PassState → Type 0
-GivesUp (Idle v) reply next = IsRefused (Refused NotHolding) (Idle v) reply next
-GivesUp (Holding h) Done (Idle w) = Leaves h w
+GivesUp (Idle v) reply next = IsRefused (told.Refused NotHolding) (Idle v) reply next
+GivesUp (Holding h) told.Done (Idle w) = Leaves h w
 GivesUp (Holding h) _ _ = ⊥
 
 -- what a line asks of one pass
@@ -88,7 +87,7 @@ Acts Leave = GivesUp
 -- the pass of a number does this, and no other does anything; refused where there is none
 abbrev pub DoesAt : (PassState → LineReply → PassState → Type 0) → Option PassState → ℕ → List PassState → LineReply
     → List PassState → Type 0
-DoesAt Does None number passes reply next = (reply ≡ Refused NoPass) × (next ≡ passes)
+DoesAt Does None number passes reply next = (reply ≡ told.Refused NoPass) × (next ≡ passes)
 DoesAt Does (Some state) number passes reply next =
     (after : PassState) × Does state reply after × (next ≡ slice_set passes number after)
 
@@ -110,9 +109,9 @@ HoldsStill (Idle v) (Holding h) = ⊥
 
 -- what an audit by these passes replies, and how they come back: where memory is refused, as they were
 abbrev pub AuditedBy : List PassView → LineReply → List PassView → Type 0
-AuditedBy [] reply back = (reply ≡ Refused PassHolds) × (back ≡ [])
-AuditedBy (v ∷ vs) (Audit rows) back = Audited v.table.shape (v ∷ vs) rows back
-AuditedBy (v ∷ vs) (Refused (Book Memory)) back = back ≡ v ∷ vs
+AuditedBy [] reply back = (reply ≡ told.Refused PassHolds) × (back ≡ [])
+AuditedBy (v ∷ vs) (told.Audit rows) back = Audited v.table.shape (v ∷ vs) rows back
+AuditedBy (v ∷ vs) (told.Refused (Book Memory)) back = back ≡ v ∷ vs
 AuditedBy (v ∷ vs) _ back = ⊥
 
 -- `audit`: by the passes that hold nothing

@@ -6,9 +6,7 @@ use Rattle.ksm_base.specs.declared.counters.Counters.{Counters}
 use Rattle.ksm_base.specs.declared.fault.Fault.{Fault}
 use Rattle.ksm_base.specs.Values.{fault_number}
 use Rattle.ksm_script.specs.declared.reply.LineReply.{LineReply}
-use Rattle.ksm_script.specs.declared.reply.LineReply.TheVariants.{Done, Content, Place, Private, Mappers, Scanned}
-use Rattle.ksm_script.specs.declared.reply.LineReply.TheVariants.{Pruned, Unmerged, Value, Counters as CountersReply}
-use Rattle.ksm_script.specs.declared.reply.LineReply.TheVariants.{Held, Differs, Gone, Busy, Audit, Refused, BadLine}
+use Rattle.ksm_script.specs.declared.reply.LineReply.TheVariants as told
 use Rattle.frame_table.specs.Gone.{why_number}
 use Rattle.ksm_audit.specs.declared.report.Row.{Row}
 use Rattle.ksm_audit.specs.declared.report.Row.TheVariants as rows
@@ -62,20 +60,20 @@ audit_text rows = concat (codes "audit" ∷ flat_map row_text rows ∷ codes "\n
 
 -- the line of a reply
 abbrev pub text_of : LineReply → List ℕ
-text_of Done = codes "ok\n"
-text_of (Content content) = content_line content
-text_of (Place place) = counted_text (codes "place ") place
-text_of Private = codes "private\n"
-text_of (Mappers pages) = mappers_text pages.items
-text_of (Scanned visits stop) = stopped_text (codes "scanned ") visits stop
-text_of (Pruned count) = counted_text (codes "pruned ") count
-text_of (Unmerged pages stop) = stopped_text (codes "unmerged ") pages stop
-text_of (Value value) = counted_text [] value
-text_of (CountersReply counters) = counters_text counters
-text_of (Held frame generation) = held_text (codes "held ") frame generation
-text_of (Differs frame generation) = held_text (codes "differs ") frame generation
-text_of (Gone why) = counted_text (codes "gone ") (why_number why)
-text_of Busy = codes "busy\n"
-text_of (Audit rows) = audit_text rows
-text_of (Refused refusal) = counted_text (codes "refused ") (refusal_number refusal)
-text_of (BadLine number) = counted_text (codes "bad line ") number
+text_of told.Done = codes "ok\n"
+text_of (told.Content content) = content_line content
+text_of (told.Place place) = counted_text (codes "place ") place
+text_of told.Private = codes "private\n"
+text_of (told.Mappers pages) = mappers_text pages.items
+text_of (told.Scanned visits stop) = stopped_text (codes "scanned ") visits stop
+text_of (told.Pruned count) = counted_text (codes "pruned ") count
+text_of (told.Unmerged pages stop) = stopped_text (codes "unmerged ") pages stop
+text_of (told.Value value) = counted_text [] value
+text_of (told.Counters counters) = counters_text counters
+text_of (told.Held frame generation) = held_text (codes "held ") frame generation
+text_of (told.Differs frame generation) = held_text (codes "differs ") frame generation
+text_of (told.Gone why) = counted_text (codes "gone ") (why_number why)
+text_of told.Busy = codes "busy\n"
+text_of (told.Audit rows) = audit_text rows
+text_of (told.Refused refusal) = counted_text (codes "refused ") (refusal_number refusal)
+text_of (told.BadLine number) = counted_text (codes "bad line ") number

@@ -1,6 +1,7 @@
 -- What becomes of a reply (own).
-use Rattle.std.specs.Prelude.{◌≡◌, ℕ, ◌⊎◌, List, Option, Some, None, Result, Ok, OnOk, IfErr}
-use Rattle.std.specs.Io.KnownBytes.{Appends}
+use Rattle.std.specs.Prelude.{◌≡◌, ◌≢◌, ◌≤◌, ◌<◌, ℕ, ◌⊎◌, List, length, take, Option, Some, None, Result, Ok, Err}
+use Rattle.std.specs.Prelude.{OnOk, IfErr}
+use Rattle.std.specs.Io.KnownBytes.{Appends, Keeps}
 use Rattle.ksm_script.specs.declared.reply.LineReply.{LineReply}
 use Rattle.ksm_script.specs.declared.script.RunFault.{RunFault}
 use Rattle.ksm_script.specs.declared.script.RunFault.TheVariants.{Write}
@@ -9,14 +10,27 @@ use Rattle.ksm_script.specs.Seen.{SessionView}
 use Rattle.ksm_script.specs.State.{ScriptState}
 use Rattle.ksm_script.specs.Texts.{AppendsPart}
 
--- a text was written; at a fault a beginning of it
-abbrev pub WritesText : Option (List ℕ) → Option (List ℕ) → List ℕ → Result (Unit {0}) RunFault → Type 0
-WritesText old new text result =
-    OnOk result (Appends old new text) × IfErr result (λ e. (e ≡ Write) × AppendsPart old new text)
+-- what a writer took of a text, no byte only of none; or the call on it failed, and it has what it had
+abbrev pub Puts : {W : Type 0} → (W → Option (List ℕ)) → (W → Type 0) → W → W → List ℕ → Result ℕ RunFault → Type 0
+Puts contents fails old new text (Ok count) = (count ≤ length text) × (length text ≢ 0 → 0 < count)
+    × Appends (contents old) (contents new) (take count text)
+Puts contents fails old new text (Err fault) = (fault ≡ Write) × fails new × Keeps (contents old) (contents new)
+
+-- a text is broken off: the last call on the writer failed, and it has a beginning of the text
+abbrev pub BreaksText : {W : Type 0} → (W → Option (List ℕ)) → (W → Type 0) → W → W → List ℕ → RunFault → Type 0
+BreaksText contents fails old new text fault =
+    (fault ≡ Write) × fails new × AppendsPart (contents old) (contents new) text
+
+-- a text was written, or broken off
+abbrev pub WritesText : {W : Type 0} → (W → Option (List ℕ)) → (W → Type 0) → W → W → List ℕ
+    → Result (Unit {0}) RunFault → Type 0
+WritesText contents fails old new text result =
+    OnOk result (Appends (contents old) (contents new) text) × IfErr result (BreaksText contents fails old new text)
 
 -- a reply was written so
-abbrev pub WritesReply : {W : Type 0} → (W → Option (List ℕ)) → W → W → LineReply → Result (Unit {0}) RunFault → Type 0
-WritesReply contents old new reply = WritesText (contents old) (contents new) (text_of reply)
+abbrev pub WritesReply : {W : Type 0} → (W → Option (List ℕ)) → (W → Type 0) → W → W → LineReply
+    → Result (Unit {0}) RunFault → Type 0
+WritesReply contents fails old new reply = WritesText contents fails old new (text_of reply)
 
 -- it was returned to the caller
 abbrev pub ReturnsReply : Option LineReply → Option LineReply → LineReply → Result (Unit {0}) RunFault → Type 0

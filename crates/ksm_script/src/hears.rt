@@ -2,12 +2,13 @@
 ghost use Rattle.std.specs.Prelude.{◌≡◌, IfErr};
 ghost use Rattle.std.specs.Io.KnownBytes.{Keeps};
 
+use crate::lane::Sends;
 use crate::reply::LineReply;
 use crate::script::RunFault;
 use std::io::Write;
 
 /// Hears each reply once the writer has it.
-pub trait Hears<W: Write> {
+pub trait Hears<M: Sends<W>, W: Write> {
     /// Whether it hears replies. Where it does not, a reply may be kept from it.
     fn listens(&self) -> bool;
 
@@ -21,14 +22,14 @@ pub trait Hears<W: Write> {
         reply: &LineReply,
     ) -> Result<(), RunFault>
         ensures kept { Keeps (W.contents writer.old) (W.contents writer.new) }
-        ensures fault { IfErr result (λ e. e ≡ RunFault.Write) };
+        ensures fault { IfErr result (λ e. (e ≡ RunFault.Write) × M.fails writer.new) };
 }
 
 /// Nobody hears.
 #[derive(Drop)]
 pub struct Unheard;
 
-impl<W: Write> Hears<W> for Unheard {
+impl<M: Sends<W>, W: Write> Hears<M, W> for Unheard {
     #[inline(always)]
     fn listens(&self) -> bool {
         false

@@ -3,7 +3,7 @@ ghost use Rattle.std.specs.Prelude.{◌≡◌, ◌≢◌, ◌+◌, ◌≤◌, �
 ghost use Rattle.std.specs.Prelude.{length, take, IfOk, IfErr, IfNone, IfSome, IsTrue, ◌↔◌};
 ghost use Rattle.std.specs.Io.KnownBytes.{Consumes, Keeps, IsAtEnd};
 ghost use Rattle.ksm_lines.specs.Leading.{short_form, page_form};
-ghost use Rattle.ksm_script.specs.Dialogue.{Dialogue, IsWithin, Talks};
+ghost use Rattle.ksm_script.specs.Dialogue.{BreaksOff, Dialogue, IsWithin};
 ghost use Rattle.ksm_script.specs.Takes.{Came, Extends, Takes, TakesForm, Took};
 ghost use Rattle.ksm_script.specs.Input.{EndsAs, IsPlain};
 
@@ -201,8 +201,8 @@ pub(crate) fn next_line<M: Lane<R, W>, R, W: Write>(
     ensures read { IfOk result (λ end. (bytes : List ℕ) × EndsAs end line.new bytes
         × Consumes (M.remaining reader.old) (M.remaining reader.new) bytes
         × Dialogue M.takes M.waits (IsWithin M.is_sent W.contents writer.old) reader.old reader.new bytes) }
-    ensures talks { Talks M.takes M.waits M.fails (IsWithin M.is_sent W.contents writer.old)
-        reader.old reader.new writer.new result }
+    ensures breaks { IfErr result (BreaksOff M.takes M.waits M.fails (IsWithin M.is_sent W.contents writer.old)
+        reader.old reader.new writer.new) }
     ensures plain { IsPlain line.new }
     ensures end { result ≡ Ok LineEnd.Input → IsAtEnd (M.remaining reader.new) }
     ensures fault { IfErr result (λ e. (e ≡ RunFault.Read) × (length line.new ≤ LONGEST_LINE)
@@ -215,7 +215,9 @@ pub(crate) fn next_line<M: Lane<R, W>, R, W: Write>(
         if let Some(end) = take_block::<M, R, W>(reader, line) {
             return Ok(end);
         }
-        M::send(writer)?;
+        if !M::send(writer) {
+            return Err(RunFault::Read);
+        }
         if let Some(end) = take_byte::<M, R, W>(reader, writer, line)? {
             return Ok(end);
         }

@@ -17,7 +17,7 @@ mod worked;
 
 pub use hears::{Hears, Unheard};
 pub use input::LONGEST_LINE;
-pub use lane::{Blocks, Lane};
+pub use lane::{Blocks, Lane, Sends};
 pub use pass_state::PassState;
 pub use refusal::Refusal;
 pub use reply::{LineReply, write_reply};

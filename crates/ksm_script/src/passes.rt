@@ -150,7 +150,7 @@ fn audit_by<N: Naming, R: Threads + Sync>(
     requires own { All (λ p. p.table ≡ N.parts.frames) idle.items }
     ensures audited { AuditedBy idle.items result.0 result.1.items }
     ensures own { All (λ p. p.table ≡ N.parts.frames) result.1.items }
-    ensures count { vec_len result.1 ≡ vec_len idle }
+    ensures count { length result.1.items ≡ length idle.items }
     ensures room { vec_capacity result.1 ≡ vec_capacity idle }
 {
     if idle.is_empty() {

@@ -2,10 +2,12 @@
 ghost use Rattle.std.specs.Prelude.{Result};
 ghost use Rattle.ksm_script.specs.Said.{ReturnsReply, WritesReply};
 
-use crate::reply::{LineReply, write_content, write_reply};
+use crate::lane::Sends;
+use crate::reply::{LineReply, put_reply, write_content};
 use crate::script::RunFault;
 use ksm_base::PageBytes;
 use std::io::Write;
+use std::marker::PhantomData;
 
 /// What becomes of the reply to a line: it is handed over to a value of the type `S` where it arises.
 pub(crate) trait Replies<S> {
@@ -25,19 +27,19 @@ pub(crate) trait Replies<S> {
 }
 
 /// Each reply is written at once.
-pub(crate) struct Written;
+pub(crate) struct Written<M>(PhantomData<M>);
 
-impl<W: Write> Replies<W> for Written {
-    ghost takes = { WritesReply W.contents };
+impl<M: Sends<W>, W: Write> Replies<W> for Written<M> {
+    ghost takes = { WritesReply W.contents M.fails };
 
     #[inline(always)]
     fn reply(to: &mut W, reply: LineReply) -> Result<(), RunFault> {
-        write_reply(to, &reply)
+        put_reply::<M, W>(to, &reply)
     }
 
     #[inline(always)]
     fn content(to: &mut W, content: &PageBytes) -> Result<(), RunFault> {
-        write_content(to, content)
+        write_content::<M, W>(to, content)
     }
 }
 

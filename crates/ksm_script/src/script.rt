@@ -3,7 +3,7 @@ ghost use Rattle.std.specs.Prelude.{◌≡◌, ◌⊎◌, ℕ, All, List, Ok, Op
 ghost use Rattle.std.specs.Io.KnownBytes.{Appends};
 ghost use Rattle.ksm_script.specs.declared.reply.LineReply.{LineReply};
 ghost use Rattle.ksm_script.specs.Answering.{reply_text};
-ghost use Rattle.ksm_script.specs.Dialogue.{Dialogue, IsWithin, RunTalks, Talks};
+ghost use Rattle.ksm_script.specs.Dialogue.{BreaksOff, Dialogue, IsWithin, RunTalks};
 ghost use Rattle.ksm_script.specs.Going.{AtOnce, GoesOn, IsReplied, IsSoFar};
 ghost use Rattle.ksm_script.specs.State.{ScriptState};
 ghost use Rattle.ksm_script.specs.Replies.{text_of};
@@ -14,9 +14,9 @@ ghost use Rattle.ksm_script.specs.Texts.{AppendsPart};
 
 use crate::hears::{Hears, Unheard};
 use crate::input::{LineEnd, take_empty, take_page, take_short, take_whole};
-use crate::lane::{Bytes, Lane};
+use crate::lane::{Bytes, Lane, Sends};
 use crate::replies::{Returned, Written};
-use crate::reply::{LineReply, write_reply};
+use crate::reply::{LineReply, put_reply};
 use crate::session::Session;
 use ksm_lines::{Line, LineFault, read_line};
 use ksm_shared::Naming;
@@ -68,9 +68,10 @@ pub fn run<N: Naming, T: Threads + Wait + Sync, R: Read, W: Write>(
 /// Answers each line as [`run`] does, over this lane, and has each reply heard.
 ///
 /// Whenever the reader may wait for more input, the replies to all whole lines that it gave are sent; where the sending
-/// fails, it is a failed read. A failed read is told only where a wait or a sending failed, or after 2^64 - 2 lines. So at the end
-/// of the input all are sent, but that to a last line without a newline. At another end nothing is sent.
-pub fn run_heard<M: Lane<R, W>, H: Hears<W>, N: Naming, T: Threads + Wait + Sync, R, W: Write>(
+/// fails, it is a failed read. A fault is told only where a wait, or the last call on the writer, failed, or after
+/// 2^64 - 2 lines. So at the end of the input all are sent, but that to a last line without a newline. At another end
+/// nothing is sent.
+pub fn run_heard<M: Lane<R, W>, H: Hears<M, W>, N: Naming, T: Threads + Wait + Sync, R, W: Write>(
     rt: &T,
     reader: &mut R,
     writer: &mut W,
@@ -92,20 +93,19 @@ pub fn run_heard<M: Lane<R, W>, H: Hears<W>, N: Naming, T: Threads + Wait + Sync
 }
 
 /// Answers each line, and has each reply heard. No hold is given back.
-fn run_lines<M: Lane<R, W>, H: Hears<W>, N: Naming, T: Threads + Wait + Sync, R, W: Write>(
+fn run_lines<M: Lane<R, W>, H: Hears<M, W>, N: Naming, T: Threads + Wait + Sync, R, W: Write>(
     rt: &T,
     reader: &mut R,
     writer: &mut W,
     session: &mut Session<N>,
     hears: &mut H,
 ) -> Result<End, RunFault>
-    ensures goes { Goes (streams (M.remaining reader.old) (M.remaining reader.new) (W.contents writer.old)
-        (W.contents writer.new)) session.old.state session.new.state result }
-    ensures line { EndsBad (M.remaining reader.old) (M.remaining reader.new) session.new.line result }
-    ensures talks { RunTalks M.takes M.waits M.fails M.is_sent W.contents session.old.state reader.old reader.new
-        writer.old writer.new result }
-    ensures sent { result ≡ Ok End.AllRead
-        → M.is_sent writer.new ⊎ EndsOpen (M.remaining reader.old) (M.remaining reader.new) }
+    ensures { Goes (streams (M.remaining reader.old) (M.remaining reader.new) (W.contents writer.old)
+        (W.contents writer.new)) session.old.state session.new.state result
+        × EndsBad (M.remaining reader.old) (M.remaining reader.new) session.new.line result
+        × RunTalks M.takes M.waits M.fails M.is_sent W.contents session.old.state reader.old reader.new
+        writer.old writer.new result × (result ≡ Ok End.AllRead
+        → M.is_sent writer.new ⊎ EndsOpen (M.remaining reader.old) (M.remaining reader.new)) }
 {
     'lines: for number in 1..u64::MAX {
         if take_empty::<M, R, W>(reader) {
@@ -132,7 +132,7 @@ fn answer_at_hand<M: Lane<R, W>, N: Naming, T: Threads + Wait + Sync, R, W: Writ
     session: &mut Session<N>,
     is_heard: bool,
 ) -> Result<bool, RunFault>
-    ensures { AtOnce M.remaining M.takes W.contents (reader.old, writer.old, session.old)
+    ensures { AtOnce M.remaining M.takes W.contents M.fails (reader.old, writer.old, session.old)
         (reader.new, writer.new, session.new) result }
 {
     if is_heard {
@@ -141,8 +141,8 @@ fn answer_at_hand<M: Lane<R, W>, N: Naming, T: Threads + Wait + Sync, R, W: Writ
     let Some(line) = take_short::<M, R, W>(reader) else {
         return answer_page::<M, N, T, R, W>(rt, reader, writer, session);
     };
-    session.answer_short::<Written, T, W>(rt, line, writer)?;
-    Ok(true)
+    let told = session.answer_short::<Written<M>, T, W>(rt, line, writer);
+    told.and(Ok(true))
 }
 
 /// Answers the next line at once, first tried as one with a content.
@@ -155,15 +155,15 @@ fn answer_page<M: Lane<R, W>, N: Naming, T: Threads + Wait + Sync, R, W: Write>(
     writer: &mut W,
     session: &mut Session<N>,
 ) -> Result<bool, RunFault>
-    ensures { AtOnce M.remaining M.takes W.contents (reader.old, writer.old, session.old)
+    ensures { AtOnce M.remaining M.takes W.contents M.fails (reader.old, writer.old, session.old)
         (reader.new, writer.new, session.new) result }
 {
     let Some(taken) = take_page::<M, R, W>(reader) else {
         return answer_any::<M, N, T, R, W>(rt, reader, writer, session);
     };
     let (line, bytes) = taken;
-    session.answer_page::<Written, T, W>(rt, line, bytes, writer)?;
-    Ok(true)
+    let told = session.answer_page::<Written<M>, T, W>(rt, line, bytes, writer);
+    told.and(Ok(true))
 }
 
 /// Answers the next line at once, whatever its form.
@@ -176,21 +176,21 @@ fn answer_any<M: Lane<R, W>, N: Naming, T: Threads + Wait + Sync, R, W: Write>(
     writer: &mut W,
     session: &mut Session<N>,
 ) -> Result<bool, RunFault>
-    ensures { AtOnce M.remaining M.takes W.contents (reader.old, writer.old, session.old)
+    ensures { AtOnce M.remaining M.takes W.contents M.fails (reader.old, writer.old, session.old)
         (reader.new, writer.new, session.new) result }
 {
     let Some(line) = take_whole::<M, R, W>(reader) else {
         return Ok(false);
     };
-    session.answer::<Written, T, W>(rt, line, writer)?;
-    Ok(true)
+    let told = session.answer::<Written<M>, T, W>(rt, line, writer);
+    told.and(Ok(true))
 }
 
 /// Reads the next line into the session, and answers it; tells how the run ends with it, if it does.
 ///
 /// It stands apart, so that no value of its own is cleared before a line that is answered at once.
 #[inline(never)]
-fn answer_next<M: Lane<R, W>, H: Hears<W>, N: Naming, T: Threads + Wait + Sync, R, W: Write>(
+fn answer_next<M: Lane<R, W>, H: Hears<M, W>, N: Naming, T: Threads + Wait + Sync, R, W: Write>(
     rt: &T,
     reader: &mut R,
     writer: &mut W,
@@ -202,8 +202,8 @@ fn answer_next<M: Lane<R, W>, H: Hears<W>, N: Naming, T: Threads + Wait + Sync, 
         → IsSoFar lines first (M.remaining reader.old) begun (W.contents writer.old) from session.old.state number
         → GoesOn (Dialogue M.takes M.waits (IsWithin M.is_sent W.contents writer.old) reader.old reader.new)
         lines first (M.remaining reader.new) begun (W.contents writer.new) from session.new number result }
-    ensures talks { Talks M.takes M.waits M.fails (IsWithin M.is_sent W.contents writer.old)
-        reader.old reader.new writer.new result }
+    ensures breaks { IfErr result (BreaksOff M.takes M.waits M.fails (IsWithin M.is_sent W.contents writer.old)
+        reader.old reader.new writer.new) }
     ensures sent { result ≡ Ok (Some End.AllRead)
         → M.is_sent writer.new ⊎ EndsOpen (M.remaining reader.old) (M.remaining reader.new) }
 {
@@ -212,7 +212,7 @@ fn answer_next<M: Lane<R, W>, H: Hears<W>, N: Naming, T: Threads + Wait + Sync, 
         return Ok(Some(End::AllRead));
     }
     let (reply, ended) = reply_to_line(rt, session, end, number);
-    write_answer(writer, hears, number, session.line(), reply)?;
+    write_answer::<M, H, W>(writer, hears, number, session.line(), reply)?;
     Ok(ended)
 }
 
@@ -249,7 +249,7 @@ fn line_of<N: Naming>(session: &Session<N>, end: LineEnd) -> Result<Line, LineFa
 }
 
 /// Writes the reply to a line, if it has one, and has it heard.
-fn write_answer<H: Hears<W>, W: Write>(
+fn write_answer<M: Sends<W>, H: Hears<M, W>, W: Write>(
     writer: &mut W,
     hears: &mut H,
     number: u64,
@@ -257,13 +257,13 @@ fn write_answer<H: Hears<W>, W: Write>(
     reply: Option<LineReply>,
 ) -> Result<(), RunFault>
     ensures whole { OnOk result (Appends (W.contents writer.old) (W.contents writer.new) (reply_text reply)) }
-    ensures fault { IfErr result (λ e. (e ≡ RunFault.Write) × (told : LineReply) × (reply ≡ Some told)
-        × AppendsPart (W.contents writer.old) (W.contents writer.new) (text_of told)) }
+    ensures fault { IfErr result (λ e. (e ≡ RunFault.Write) × M.fails writer.new × (told : LineReply)
+        × (reply ≡ Some told) × AppendsPart (W.contents writer.old) (W.contents writer.new) (text_of told)) }
 {
     match reply {
         None => Ok(()),
         Some(reply) => {
-            write_reply(writer, &reply)?;
+            put_reply::<M, W>(writer, &reply)?;
             hears.hear(writer, number, line, &reply)
         }
     }

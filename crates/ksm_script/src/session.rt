@@ -7,19 +7,15 @@ ghost use Rattle.ksm_base.specs.Refusals.{is_known};
 ghost use Rattle.ksm_base.specs.declared.command.Command.TheVariants.{Scan as scan};
 ghost use Rattle.ksm_lines.specs.Knobs.{shown_in};
 ghost use Rattle.ksm_lines.specs.Leading.{short_form, page_form};
-ghost use Rattle.ksm_lines.specs.declared.line.Line.TheVariants.{Get as get_line, Ticket as ticket_line};
-ghost use Rattle.ksm_lines.specs.declared.line.Line.TheVariants.{Find as find_line, Look as look_line};
-ghost use Rattle.ksm_lines.specs.declared.line.Line.TheVariants.{Leave as leave_line, Scan as scan_line};
-ghost use Rattle.ksm_lines.specs.declared.line.Line.TheVariants.{ScanPages as scan_pages_line, Stat as stat_line};
+ghost use Rattle.ksm_lines.specs.declared.line.Line.TheVariants as lines;
 ghost use Rattle.ksm_base.specs.Counting.{counters_of};
-ghost use Rattle.ksm_script.specs.declared.reply.LineReply.TheVariants.{Counters as counters_reply, Done as done_reply};
-ghost use Rattle.ksm_script.specs.declared.reply.LineReply.TheVariants.{Value as value_reply};
+ghost use Rattle.ksm_script.specs.declared.reply.LineReply.TheVariants as told;
 ghost use Rattle.frame_table.specs.Seats.{new_pass};
 ghost use Rattle.ksm_shared.specs.Locked.{EndsLawfully};
 ghost use Rattle.ksm_script.specs.declared.pass_state.PassState.TheVariants.{Idle as idle_state};
 ghost use Rattle.ksm_script.specs.Answering.{Answers, IsTold, AllGivenBack, OnPasses, Commands, IsMappers, reply_to};
 ghost use Rattle.ksm_script.specs.Answering.{ticket_reply};
-ghost use Rattle.ksm_script.specs.Dialogue.{Dialogue, IsWithin, Talks};
+ghost use Rattle.ksm_script.specs.Dialogue.{BreaksOff, Dialogue, IsWithin};
 ghost use Rattle.ksm_script.specs.Input.{EndsAs, IsPlain};
 ghost use Rattle.ksm_script.specs.declared.input.TheConstants.{LONGEST_LINE as longest_line};
 ghost use Rattle.ksm_script.specs.Lookups.{Acts, AtPass, Audits};
@@ -128,8 +124,8 @@ impl<N: Naming> Session<N> {
         ensures read { IfOk result (λ end. (bytes : List ℕ) × EndsAs end self.new.line bytes
             × Consumes (M.remaining reader.old) (M.remaining reader.new) bytes
             × Dialogue M.takes M.waits (IsWithin M.is_sent W.contents writer.old) reader.old reader.new bytes) }
-        ensures talks { Talks M.takes M.waits M.fails (IsWithin M.is_sent W.contents writer.old)
-            reader.old reader.new writer.new result }
+        ensures breaks { IfErr result (BreaksOff M.takes M.waits M.fails (IsWithin M.is_sent W.contents writer.old)
+            reader.old reader.new writer.new) }
         ensures plain { IsPlain self.new.line }
         ensures end { result ≡ Ok LineEnd.Input → IsAtEnd (M.remaining reader.new) }
         ensures fault { IfErr result (λ e. (e ≡ RunFault.Read) × (length self.new.line ≤ longest_line)
@@ -179,7 +175,7 @@ impl<N: Naming> Session<N> {
         page: GuestPage,
         to: &mut S,
     ) -> Result<(), RunFault>
-        ensures answers { IsSaid P.takes (Answers (get_line page)) self.old self.new to.old to.new result }
+        ensures answers { IsSaid P.takes (Answers (lines.Get page)) self.old self.new to.old to.new result }
     {
         match self.ksm.read(rt, &mut self.share, page) {
             None => P::reply(to, LineReply::Refused(Refusal::Book(Fault::UnknownPage))),
@@ -194,7 +190,7 @@ impl<N: Naming> Session<N> {
         page: GuestPage,
         to: &mut S,
     ) -> Result<(), RunFault>
-        ensures answers { IsSaid P.takes (Answers (ticket_line page)) self.old self.new to.old to.new result }
+        ensures answers { IsSaid P.takes (Answers (lines.Ticket page)) self.old self.new to.old to.new result }
     {
         // A page that is merged has a row, so the lock is taken once for it.
         match self.ksm.ticket(rt, &mut self.share, page) {
@@ -210,21 +206,21 @@ impl<N: Naming> Session<N> {
         place: u32,
         to: &mut S,
     ) -> Result<(), RunFault>
-        ensures answers { IsSaid P.takes (Answers (find_line pass place)) self.old self.new to.old to.new result }
+        ensures answers { IsSaid P.takes (Answers (lines.Find pass place)) self.old self.new to.old to.new result }
     {
         P::reply(to, self.act(pass, Act::Find { place }))
     }
 
     #[inline(never)]
     fn tell_held<P: Replies<S>, S>(&mut self, pass: u32, to: &mut S) -> Result<(), RunFault>
-        ensures answers { IsSaid P.takes (Answers (look_line pass)) self.old self.new to.old to.new result }
+        ensures answers { IsSaid P.takes (Answers (lines.Look pass)) self.old self.new to.old to.new result }
     {
         P::reply(to, self.act(pass, Act::Look))
     }
 
     #[inline(never)]
     fn tell_left<P: Replies<S>, S>(&mut self, pass: u32, to: &mut S) -> Result<(), RunFault>
-        ensures answers { IsSaid P.takes (Answers (leave_line pass)) self.old self.new to.old to.new result }
+        ensures answers { IsSaid P.takes (Answers (lines.Leave pass)) self.old self.new to.old to.new result }
     {
         P::reply(to, self.act(pass, Act::Leave))
     }
@@ -236,7 +232,7 @@ impl<N: Naming> Session<N> {
         visits: u32,
         to: &mut S,
     ) -> Result<(), RunFault>
-        ensures answers { IsSaid P.takes (Answers (scan_line visits)) self.old self.new to.old to.new result }
+        ensures answers { IsSaid P.takes (Answers (lines.Scan visits)) self.old self.new to.old to.new result }
     {
         self.tell_made::<P, R, S>(rt, scan_of(visits), to)
     }
@@ -247,7 +243,7 @@ impl<N: Naming> Session<N> {
         rt: &R,
         to: &mut S,
     ) -> Result<(), RunFault>
-        ensures answers { IsSaid P.takes (Answers stat_line) self.old self.new to.old to.new result }
+        ensures answers { IsSaid P.takes (Answers lines.Stat) self.old self.new to.old to.new result }
     {
         P::reply(to, self.counters(rt))
     }
@@ -369,7 +365,7 @@ impl<N: Naming> Session<N> {
         rt: &R,
         to: &mut S,
     ) -> Result<(), RunFault>
-        ensures answers { IsSaid P.takes (Answers scan_pages_line) self.old self.new to.old to.new result }
+        ensures answers { IsSaid P.takes (Answers lines.ScanPages) self.old self.new to.old to.new result }
     {
         let knobs = self.ksm.knobs(rt, &mut self.share);
         self.tell_made::<P, R, S>(rt, scan_of(knobs.pages_to_scan), to)
@@ -398,7 +394,7 @@ impl<N: Naming> Session<N> {
     }
 
     fn value<R: Wait>(&mut self, rt: &R, shown: Shown) -> LineReply
-        ensures reply { result ≡ value_reply (shown_in shown self.old.state.book) }
+        ensures reply { result ≡ told.Value (shown_in shown self.old.state.book) }
         ensures state { self.new.state ≡ self.old.state }
     {
         match shown {
@@ -436,7 +432,7 @@ impl<N: Naming> Session<N> {
 
     #[inline(always)]
     fn counters<R: Wait>(&mut self, rt: &R) -> LineReply
-        ensures reply { result ≡ counters_reply (counters_of self.old.state.book) }
+        ensures reply { result ≡ told.Counters (counters_of self.old.state.book) }
         ensures state { self.new.state ≡ self.old.state }
     {
         LineReply::Counters(self.ksm.counters(rt, &mut self.share))
@@ -447,7 +443,7 @@ impl<N: Naming> Session<N> {
 /// inline it.
 #[inline(never)]
 fn tell_done<P: Replies<S>, S>(to: &mut S) -> Result<(), RunFault>
-    ensures { P.takes to.old to.new done_reply result }
+    ensures { P.takes to.old to.new told.Done result }
 {
     P::reply(to, LineReply::Done)
 }

@@ -1,4 +1,4 @@
-use Rattle.std.specs.Io.Buffered.{writer_contents}
+use Rattle.ksm_host.proofs.Names.{writer_contents}
 use Rattle.ksm_host.proofs.Sent.{serves_after}
 use Rattle.ksm_host.proofs.Talked.{has_talked}
 use Rattle.ksm_host.proofs.answering.served.Goals as goal
@@ -8,5 +8,5 @@ returns-clause-serves g c = rw (c.after.ensures, c.into_parts-output.ensures.inn
 
 pub returns-clause-talks : goal.returns-clause-talks
 returns-clause-talks g c =
-    has_talked g.M.Lane.takes g.M.Lane.waits g.M.Lane.fails g.M.Lane.is_sent (writer_contents g.O.Write.contents) _ _ _ c.args.writer c.run_heard-ended.new.writer
-    c.run_heard-ended.result c.run_heard-ended.ensures.talks
+    rw c.after.ensures (has_talked g.M.Lane.takes g.M.Lane.waits g.M.Sends.fails g.M.Sends.is_sent (writer_contents g.O.Write.contents) _ _ _ c.args.writer c.run_heard-ended.new.writer c.sent-are_sent.new.writer
+    c.run_heard-ended.result c.sent-are_sent.result c.run_heard-ended.ensures.talks c.sent-are_sent.ensures.failed)

@@ -1,5 +1,4 @@
-use Rattle.std.proofs.Common.{◌≡◌, ◌∷◌, [], take, subst, arith}
-use Rattle.ksm_script.specs.Takes.{Extends}
+use Rattle.ksm_script.proofs.Names.{[], arith, Extends, subst, take, ◌∷◌, ◌≡◌}
 use Rattle.ksm_script.proofs.Pieces.{grows}
 use Rattle.ksm_script.proofs.input.take_byte.Goals as goal
 

@@ -1,5 +1,4 @@
-use Rattle.std.proofs.Common.{arith, refl}
-use Rattle.ksm_script.specs.Takes.{Took}
+use Rattle.ksm_script.proofs.Names.{arith, refl, Took}
 use Rattle.ksm_script.proofs.Pieces.{form_taken}
 use Rattle.ksm_script.proofs.input.take_page.Goals as goal
 

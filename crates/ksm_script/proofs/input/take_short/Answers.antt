@@ -1,5 +1,4 @@
-use Rattle.std.proofs.Common.{arith}
-use Rattle.ksm_script.specs.Takes.{Took}
+use Rattle.ksm_script.proofs.Names.{arith, Took}
 use Rattle.ksm_script.proofs.Pieces.{form_taken}
 use Rattle.ksm_script.proofs.input.take_short.Goals as goal
 

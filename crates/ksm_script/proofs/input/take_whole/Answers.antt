@@ -1,6 +1,4 @@
-use Rattle.std.proofs.Common.{◌≤◌, ◌+◌, length, take, sym, ap, subst, ◌∙◌, arith}
-use Rattle.std.proofs.lemmas.List.{length-take}
-use Rattle.ksm_script.specs.Takes.{Took}
+use Rattle.ksm_script.proofs.Names.{ap, arith, length, length-take, subst, sym, take, Took, ◌+◌, ◌∙◌, ◌≤◌}
 use Rattle.ksm_script.proofs.Pieces.{up_to_newline, is_plain_before}
 use Rattle.ksm_script.proofs.input.take_whole.Goals as goal
 

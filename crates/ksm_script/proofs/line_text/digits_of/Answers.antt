@@ -1,8 +1,5 @@
-use Rattle.std.proofs.Common.{◌≡◌, ◌∙◌, ◌/◌, ◌%◌, length, ap, refl}
-use borrow.Rule.Simd.Lanes.{act2}
-use borrow.Table.Row.{s_int}
-use mir.Syntax.{w8, bit_and, shr, unsigned}
-use Rattle.ksm_lines.proofs.Lanes.{agrees, itself, joined, splat_is}
+use Rattle.ksm_script.proofs.Names.{act2, agrees, ap, bit_and, itself, joined, length, refl, s_int, shr, splat_is, unsigned, ◌%◌, ◌/◌, ◌∙◌, ◌≡◌}
+use mir.Syntax.{w8}
 use Rattle.ksm_script.proofs.Hex.{bytes_fit, woven_small, woven_digits}
 use Rattle.ksm_script.proofs.line_text.digits_of.Goals as goal
 

@@ -1,9 +1,4 @@
-use Rattle.std.proofs.Common.{◌≡◌, ◌+◌, ◌*◌, ◌/◌, ◌<◌, ◌∙◌, ◌∷◌, [], false, List, ℕ, ap, arith, eqb, get_or, map, refl, sym, w8}
-use Rattle.std.proofs.lemmas.Bool.{eqb-true}
-use Rattle.std.proofs.lemmas.List.{ext_get_or, get_or-map, length-map}
-use Rattle.std.proofs.lemmas.Simd.{Each1-from_get_or, SwzOk-from_below, get_or-swz_l_below, length-swz_l}
-use Rattle.std.specs.Fmt.{digit_glyph}
-use Rattle.ksm_lines.proofs.Hex.{passes_at}
+use Rattle.ksm_script.proofs.Names.{[], ap, arith, digit_glyph, Each1-from_get_or, eqb, eqb-true, ext_get_or, false, get_or, get_or-map, get_or-swz_l_below, length-map, length-swz_l, List, map, passes_at, refl, SwzOk-from_below, sym, w8, ℕ, ◌*◌, ◌+◌, ◌/◌, ◌<◌, ◌∙◌, ◌∷◌, ◌≡◌}
 use Rattle.ksm_script.proofs.line_text.digits_of_values.Goals as goal
 
 -- the digits 0 to 9, and a to f

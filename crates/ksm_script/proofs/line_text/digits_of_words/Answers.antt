@@ -1,6 +1,4 @@
-use Rattle.std.proofs.Common.{◌∙◌, ◌++◌, ◌∷◌, ◌<◌, [], get_or, length, length-set, map, take, sym, ap, arith}
-use Rattle.std.proofs.lemmas.List.{map-append, take_all, take_more, take_more_set}
-use Rattle.ksm_script.specs.Texts.{word_digits}
+use Rattle.ksm_script.proofs.Names.{[], ap, arith, get_or, length, length-set, map, map-append, sym, take, take_all, take_more, take_more_set, word_digits, ◌++◌, ◌<◌, ◌∙◌, ◌∷◌}
 use Rattle.ksm_script.proofs.line_text.digits_of_words.Goals as goal
 
 pub loop-i-preserved : goal.loop-i-preserved

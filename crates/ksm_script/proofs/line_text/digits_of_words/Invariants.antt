@@ -1,6 +1,4 @@
-use Rattle.std.proofs.Common.{◌≡◌, length, map, take}
-use Rattle.ksm_base.specs.declared.page.TheConstants.{PAGE_WORDS}
-use Rattle.ksm_script.specs.Texts.{word_digits}
+use Rattle.ksm_script.proofs.Names.{length, map, PAGE_WORDS, take, word_digits, ◌≡◌}
 use Rattle.ksm_script.proofs.line_text.digits_of_words.Given as goal
 
 -- the first words have their digits

@@ -1,18 +1,17 @@
-use Rattle.std.proofs.Common.{rules, refl}
-use Rattle.ksm_script.proofs.Parts.{one_more, part_of, part_kept}
+use Rattle.ksm_script.proofs.Names.{Appends, arith, rules, subst, take_all}
+use Rattle.ksm_script.proofs.Parts.{one_more, part_kept, text_broken}
 use Rattle.ksm_script.proofs.output.write_parts.Goals as goal
 
-pub returns-in-Ok-eq0 : goal.returns-in-Ok-eq0
-returns-in-Ok-eq0 g c =
-    (tt, (refl, part_of _ _ _ _ (one_more _ _ _ _ _ _ c.parts.invariant.1 c.in-Ok-eq0.ensures.bytes)))
-
-pub returns-in-Err : goal.returns-in-Err
-returns-in-Err g c =
-    (tt, (refl, part_kept _ _ _ _ c.parts.at c.parts.invariant.1 c.in-Err.ensures.bytes))
+pub returns-in_err-count : goal.returns-in_err-count
+returns-in_err-count g c =
+    let told = c.in_err-count.ensures in
+    text_broken g.W.Write.contents g.S.Sends.fails c.from_residual.result _ _ _ c.args.text.now c.from_residual.ensures.1 (told.0, told.1, part_kept _ _ _ c.args.text.now c.parts.at c.parts.invariant.1 told.2)
 
 pub parts-preserved : goal.parts-preserved
-parts-preserved g c =
-    (search rules, one_more _ _ _ _ _ _ c.parts.invariant.1 c.in-Ok.ensures.bytes)
+parts-preserved g c = (search rules, one_more _ _ _ _ _ _ c.parts.invariant.1 c.in_ok-count.ensures.2)
+
+pub parts-smaller : goal.parts-smaller
+parts-smaller g c = omega (arith, c.in_ok-count.ensures.1 (omega arith))
 
 pub returns : goal.returns
-returns g c = (tt, (refl, part_of _ _ _ c.parts.at c.parts.invariant.1))
+returns g c = (subst (Appends _ _) (take_all c.parts.at c.args.text.now (omega (arith, c.parts.invariant.0))) c.parts.invariant.1, tt)

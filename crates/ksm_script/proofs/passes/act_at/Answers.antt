@@ -1,8 +1,4 @@
-use Rattle.std.proofs.Common.{◌≡◌, sym, subst, List, Option, Some, None}
-use Rattle.std.specs.Prelude.{slice_get}
-use Rattle.ksm_script.specs.declared.pass_state.PassState.{PassState}
-use Rattle.ksm_script.specs.Lookups.{table_of, Acts}
-use Rattle.ksm_script.specs.Slots.{present}
+use Rattle.ksm_script.proofs.Names.{Acts, List, None, Option, PassState, present, slice_get, Some, subst, sym, table_of, ◌≡◌}
 use Rattle.ksm_script.proofs.Slots.{acts_none, acts_one, own_at, emptied_at}
 use Rattle.ksm_script.proofs.passes.act_at.Goals as goal
 

@@ -1,15 +1,12 @@
-use Rattle.std.proofs.Common.{◌≡◌, List, length, sym, ap, subst, arith}
-use Rattle.std.specs.Prelude.{All}
-use Rattle.frame_table.specs.Named.{PassView}
+use Rattle.ksm_script.proofs.Names.{All, ap, arith, as_many_back, length, List, PassView, still_own, subst, sym, ◌≡◌}
 use Rattle.ksm_script.proofs.Auditing.{audited_all, refused_all}
-use Rattle.ksm_audit.proofs.Callers.{as_many_back, still_own}
 use Rattle.ksm_script.proofs.passes.audit_by.Goals as goal
 
 pub returns-in-Ok-clause-own : goal.returns-in-Ok-clause-own
 returns-in-Ok-clause-own g c = still_own g.N.Naming.parts.frames c.args.idle.items c.in-Ok.back.items c.in-Ok.ensures.report.gain c.requires.own
 
 pub returns-in-Ok-clause-count : goal.returns-in-Ok-clause-count
-returns-in-Ok-clause-count g c = omega (arith, as_many_back c.args.idle.items c.in-Ok.back.items c.in-Ok.ensures.report.gain, c.in-Ok.back.ok.0, c.args.idle.ok.0)
+returns-in-Ok-clause-count g c = as_many_back c.args.idle.items c.in-Ok.back.items c.in-Ok.ensures.report.gain
 
 pub returns-in-Ok-clause-audited : goal.returns-in-Ok-clause-audited
 returns-in-Ok-clause-audited g c =
@@ -26,10 +23,7 @@ returns-in-Memory-clause-own g c =
     subst (All (λ (p : PassView). p.table ≡ g.N.Naming.parts.frames)) (sym back) c.requires.own
 
 pub returns-in-Memory-clause-count : goal.returns-in-Memory-clause-count
-returns-in-Memory-clause-count g c =
-    let back = rw c.in-Memory.is at c.in-Err.ensures.fault in
-    let long = ap (λ (l : List PassView). length l) back in
-    omega (arith, long, c.in-Memory.back.ok.0, c.args.idle.ok.0)
+returns-in-Memory-clause-count g c = ap (λ (l : List PassView). length l) (rw c.in-Memory.is at c.in-Err.ensures.fault)
 
 pub returns-in-Memory-clause-room : goal.returns-in-Memory-clause-room
 returns-in-Memory-clause-room g c = rw c.in-Memory.is at c.in-Err.ensures.room

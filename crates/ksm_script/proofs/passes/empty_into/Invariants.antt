@@ -1,8 +1,4 @@
-use Rattle.std.proofs.Common.{◌≡◌, ◌+◌, ◌≤◌, Option, vec_len, vec_capacity}
-use Rattle.std.specs.Prelude.{All, IsSomeAnd}
-use Rattle.frame_table.specs.Named.{PassView}
-use Rattle.ksm_script.specs.declared.pass_state.PassState.{PassState}
-use Rattle.ksm_script.specs.Lookups.{table_of}
+use Rattle.ksm_script.proofs.Names.{All, IsSomeAnd, Option, PassState, PassView, table_of, vec_capacity, vec_len, ◌+◌, ◌≡◌, ◌≤◌}
 use Rattle.ksm_script.proofs.passes.empty_into.Given as goal
 
 abbrev pub invariant-slots : goal.invariant-slots

@@ -1,7 +1,4 @@
-use Rattle.std.proofs.Common.{arith}
-use Rattle.ksm_audit.proofs.Reporting.{zip_from}
-use Rattle.ksm_script.specs.Lookups.{EndsIdle}
-use Rattle.ksm_script.specs.Slots.{InBoth}
+use Rattle.ksm_script.proofs.Names.{arith, EndsIdle, InBoth, zip_from}
 use Rattle.ksm_script.proofs.passes.give_back_all.Goals as goal
 
 pub returns-clause-given : goal.returns-clause-given

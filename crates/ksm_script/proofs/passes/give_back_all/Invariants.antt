@@ -1,8 +1,4 @@
-use Rattle.std.proofs.Common.{◌≡◌, ℕ, ◌<◌, ◌≤◌, Option, get_or, vec_len}
-use Rattle.std.specs.Prelude.{IsSomeAnd}
-use Rattle.ksm_script.specs.declared.pass_state.PassState.{PassState}
-use Rattle.ksm_script.specs.Lookups.{table_of, EndsIdle}
-use Rattle.ksm_script.specs.Slots.{InBoth}
+use Rattle.ksm_script.proofs.Names.{EndsIdle, get_or, InBoth, IsSomeAnd, Option, PassState, table_of, vec_len, ℕ, ◌<◌, ◌≡◌, ◌≤◌}
 use Rattle.ksm_script.proofs.passes.give_back_all.Given as goal
 
 abbrev pub invariant-loop-k : goal.invariant-loop-k

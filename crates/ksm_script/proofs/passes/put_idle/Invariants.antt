@@ -1,5 +1,4 @@
-use Rattle.std.proofs.Common.{◌≡◌, ◌++◌, take, drop, vec_len, vec_capacity}
-use Rattle.ksm_script.specs.Slots.{gaps, refilled}
+use Rattle.ksm_script.proofs.Names.{drop, gaps, refilled, take, vec_capacity, vec_len, ◌++◌, ◌≡◌}
 use Rattle.ksm_script.proofs.passes.put_idle.Given as goal
 
 abbrev pub invariant-loop-k : goal.invariant-loop-k

@@ -1,6 +1,4 @@
-use Rattle.std.proofs.Common.{◌≡◌, ◌≤◌, ◌++◌, map, take, drop, vec_len, vec_capacity}
-use Rattle.ksm_script.specs.Lookups.{idle_of}
-use Rattle.ksm_script.specs.Slots.{present, emptied}
+use Rattle.ksm_script.proofs.Names.{drop, emptied, idle_of, map, present, take, vec_capacity, vec_len, ◌++◌, ◌≡◌, ◌≤◌}
 use Rattle.ksm_script.proofs.passes.take_idle.Given as goal
 
 abbrev pub invariant-loop-k : goal.invariant-loop-k

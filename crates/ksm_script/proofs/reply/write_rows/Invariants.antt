@@ -1,7 +1,4 @@
-use Rattle.std.proofs.Common.{take}
-use Rattle.std.specs.List.{flat_map}
-use Rattle.std.specs.Io.KnownBytes.{Appends}
-use Rattle.ksm_script.specs.Replies.{row_text}
+use Rattle.ksm_script.proofs.Names.{Appends, flat_map, row_text, take}
 use Rattle.ksm_script.proofs.reply.write_rows.Given as goal
 
 abbrev pub invariant-loop-row : goal.invariant-loop-row

@@ -1,5 +1,4 @@
-use Rattle.std.proofs.Common.{◌≡◌, refl}
-use Rattle.ksm_script.specs.Replies.{stopped_text}
+use Rattle.ksm_script.proofs.Names.{refl, stopped_text, ◌≡◌}
 use Rattle.ksm_script.proofs.Parts.{text_is}
 use Rattle.ksm_script.proofs.reply.write_stopped.Goals as goal
 
@@ -18,4 +17,4 @@ returns g c =
       c.number.ensures,
     )
     refl in
-    text_is c.write_text.result _ _ _ _ text c.write_text.ensures
+    text_is g.W.Write.contents g.S.Sends.fails c.write_text.result _ _ _ _ text c.write_text.ensures

@@ -1,11 +1,4 @@
-use Rattle.std.proofs.Common.{◌≡◌, ◌≢◌, List, ℕ, Result, Ok, Err, IfErr, rules, subst}
-use Rattle.std.specs.Prelude.{IfOk}
-use Rattle.ksm_lines.specs.declared.line.Line.{Line}
-use Rattle.ksm_lines.specs.declared.line.LineFault.{LineFault}
-use Rattle.ksm_lines.specs.Grammar.{IsNoLine, Writes}
-use Rattle.ksm_script.specs.declared.input.LineEnd.{LineEnd}
-use Rattle.ksm_script.specs.declared.input.LineEnd.TheVariants.{TooLong}
-use Rattle.ksm_script.specs.Script.{IsReadAs}
+use Rattle.ksm_script.proofs.Names.{Err, IfErr, IfOk, IsNoLine, IsReadAs, Line, LineEnd, LineFault, List, Ok, Result, rules, subst, TooLong, Writes, ℕ, ◌≡◌, ◌≢◌}
 use Rattle.ksm_script.proofs.script.line_of.Goals as goal
 
 -- a line that is read, or is none, is read as that

@@ -1,7 +1,4 @@
-use Rattle.std.proofs.Common.{◌≤◌, ◌<◌, ◌++◌, ◌∷◌, [], length, take, sym, ap, subst, ◌∙◌, arith, append_assoc, length-append}
-use Rattle.std.proofs.lemmas.List.{length-take}
-use Rattle.ksm_script.specs.Input.{IsPlain}
-use Rattle.ksm_script.specs.Takes.{Extends}
+use Rattle.ksm_script.proofs.Names.{[], ap, append_assoc, arith, Extends, IsPlain, length, length-append, length-take, subst, sym, take, ◌++◌, ◌<◌, ◌∙◌, ◌∷◌, ◌≤◌}
 use Rattle.ksm_script.proofs.Pieces.{up_to_newline, up_to_end, is_plain_before, is_plain_block, plain_with, extends_so}
 use Rattle.ksm_script.proofs.input.LineBuffer.add.Goals as goal
 

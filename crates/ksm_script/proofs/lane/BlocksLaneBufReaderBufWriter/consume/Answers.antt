@@ -1,6 +1,4 @@
-use Rattle.std.proofs.Common.{◌++◌, take, take-append-drop, sym, ap, ◌∙◌}
-use Rattle.std.specs.Io.Buffered.{reader_buffer, reader_remaining}
-use Rattle.std.specs.Io.KnownBytes.{Consumes}
+use Rattle.ksm_script.proofs.Names.{ap, Consumes, reader_buffer, reader_remaining, sym, take, take-append-drop, ◌++◌, ◌∙◌}
 use Rattle.ksm_script.proofs.Pieces.{taken_from}
 use Rattle.ksm_script.proofs.lane.BlocksLaneBufReaderBufWriter.consume.Goals as goal
 

@@ -1,4 +1,4 @@
-use Rattle.std.proofs.Common.{◌∙◌, ◌++◌, ap}
+use Rattle.ksm_script.proofs.Names.{ap, ◌++◌, ◌∙◌}
 use Rattle.ksm_script.proofs.Hex.{flat_digits}
 use Rattle.ksm_script.proofs.line_text.LineText.put_content.Goals as goal
 

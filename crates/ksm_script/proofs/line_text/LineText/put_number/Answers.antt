@@ -1,6 +1,4 @@
-use Rattle.std.proofs.Common.{arith, ap, ℕ, ◌^◌, ◌<◌, ◌≤◌, length, length-append, length-drop, drop}
-use Rattle.std.specs.Prelude.{decimal}
-use Rattle.std.proofs.lemmas.Fmt.{length-decimal-le}
+use Rattle.ksm_script.proofs.Names.{ap, arith, decimal, drop, length, length-append, length-decimal-le, length-drop, ℕ, ◌<◌, ◌^◌, ◌≤◌}
 use Rattle.ksm_script.proofs.line_text.LineText.put_number.Goals as goal
 
 -- no number of 64 bits has more than twenty digits

@@ -1,7 +1,4 @@
-use Rattle.std.proofs.Common.{◌≡◌, sym, subst}
-use Rattle.std.specs.Prelude.{All}
-use Rattle.ksm_script.specs.declared.pass_state.PassState.{PassState}
-use Rattle.ksm_script.specs.Lookups.{table_of}
+use Rattle.ksm_script.proofs.Names.{All, PassState, subst, sym, table_of, ◌≡◌}
 use Rattle.ksm_script.proofs.Slots.{slots_own}
 use Rattle.ksm_script.proofs.passes.Passes.close.Goals as goal
 

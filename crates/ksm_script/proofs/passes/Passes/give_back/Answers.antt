@@ -1,9 +1,4 @@
-use Rattle.std.proofs.Common.{◌≡◌, ◌≤◌, List, length, sym, ap, subst, arith, vec_len, vec_capacity}
-use Rattle.std.specs.Prelude.{All}
-use Rattle.std.specs.List.{AllZip}
-use Rattle.ksm_script.specs.declared.pass_state.PassState.{PassState}
-use Rattle.ksm_script.specs.Lookups.{table_of, EndsIdle}
-use Rattle.ksm_script.specs.Slots.{present}
+use Rattle.ksm_script.proofs.Names.{All, AllZip, ap, arith, EndsIdle, length, List, PassState, present, subst, sym, table_of, vec_capacity, vec_len, ◌≡◌, ◌≤◌}
 use Rattle.ksm_script.proofs.Slots.{slots_own, present_own, all_there, as_many}
 use Rattle.ksm_script.proofs.passes.Passes.give_back.Goals as goal
 
@@ -21,8 +16,8 @@ invariant_of-self c =
 
 pub returns-clause-given : goal.returns-clause-given
 returns-clause-given c =
-    let all = all_there EndsIdle c.self.inside.slots.items c.give_back_all.new.slots.items c.self.invariant.0 c.give_back_all.ensures.given in
-    subst (λ (l : List PassState). AllZip EndsIdle l (present c.give_back_all.new.slots.items)) c.self.view_is all.1
+    subst (λ (l : List PassState). AllZip EndsIdle l (present c.give_back_all.new.slots.items)) c.self.view_is
+    (all_there EndsIdle c.self.inside.slots.items c.give_back_all.new.slots.items c.self.invariant.0 c.give_back_all.ensures.given).1
 
 pub returns-clause-own : goal.returns-clause-own
 returns-clause-own c = present_own (λ (s : PassState). table_of s ≡ c.args.table.now) c.give_back_all.new.slots.items c.give_back_all.ensures.own

@@ -1,7 +1,4 @@
-use Rattle.std.proofs.Common.{rules, ◌≡◌, ◌≤◌, [], length, ap, ◌∙◌, vec_len, vec_capacity, ℕ}
-use Rattle.std.specs.Prelude.{replicate}
-use Rattle.frame_table.specs.Seats.{new_pass}
-use Rattle.ksm_script.specs.declared.pass_state.PassState.TheVariants.{Idle}
+use Rattle.ksm_script.proofs.Names.{[], ap, Idle, length, new_pass, replicate, rules, vec_capacity, vec_len, ℕ, ◌∙◌, ◌≡◌, ◌≤◌}
 use Rattle.ksm_script.proofs.Slots.{all_same, there_is, present_is}
 use Rattle.ksm_script.proofs.passes.Passes.new.Goals as goal
 

@@ -1,9 +1,4 @@
-use Rattle.std.proofs.Common.{◌≡◌, ◌+◌, ◌≤◌, Option, Some, vec_len, vec_capacity}
-use Rattle.std.specs.Prelude.{All}
-use Rattle.frame_table.specs.Named.{PassView}
-use Rattle.frame_table.specs.Seats.{new_pass}
-use Rattle.ksm_script.specs.declared.pass_state.PassState.{PassState}
-use Rattle.ksm_script.specs.declared.pass_state.PassState.TheVariants.{Idle}
+use Rattle.ksm_script.proofs.Names.{All, Idle, new_pass, Option, PassState, PassView, Some, vec_capacity, vec_len, ◌+◌, ◌≡◌, ◌≤◌}
 use Rattle.ksm_script.proofs.passes.Passes.new.Given as goal
 
 abbrev pub invariant-passes : goal.invariant-passes

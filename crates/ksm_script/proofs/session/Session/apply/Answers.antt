@@ -1,7 +1,4 @@
-use Rattle.std.proofs.Common.{Some, subst}
-use Rattle.ksm_script.specs.Answering.{Commands, reply_to}
-use Rattle.ksm_script.specs.Seen.{SessionView, script_of}
-use Rattle.ksm_script.specs.State.{ScriptState}
+use Rattle.ksm_script.proofs.Names.{Commands, reply_to, script_of, ScriptState, SessionView, Some, subst}
 use Rattle.ksm_script.proofs.Journaled.{commands}
 use Rattle.ksm_script.proofs.session.Session.apply.Goals as goal
 

@@ -1,4 +1,4 @@
-use Rattle.std.proofs.Common.{◌∙◌, sym}
+use Rattle.ksm_script.proofs.Names.{sym, ◌∙◌}
 use Rattle.ksm_script.proofs.session.Session.close.Goals as goal
 
 pub close-passes-requires : goal.close-passes-requires

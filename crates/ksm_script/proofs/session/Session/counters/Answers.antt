@@ -1,9 +1,4 @@
-use Rattle.std.proofs.Common.{◌∙◌, ap}
-use Rattle.ksm_base.specs.Counting.{counters_of}
-use Rattle.ksm_shared.specs.declared.seen.Caller.{Caller}
-use Rattle.ksm_shared.specs.Locked.{state_seen}
-use Rattle.ksm_script.specs.declared.reply.LineReply.TheVariants.{Counters}
-use Rattle.ksm_script.specs.Seen.{SessionView}
+use Rattle.ksm_script.proofs.Names.{ap, Caller, Counters, counters_of, SessionView, state_seen, ◌∙◌}
 use Rattle.ksm_script.proofs.session.Session.counters.Goals as goal
 
 pub returns-clause-reply : goal.returns-clause-reply

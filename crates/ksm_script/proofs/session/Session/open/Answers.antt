@@ -1,19 +1,10 @@
-use Rattle.std.proofs.Common.{◌≡◌, List, length, sym, ap, ◌∙◌, arith, vec_len}
-use Rattle.std.proofs.lemmas.List.{length-replicate}
-use Rattle.frame_table.specs.Named.{PassView}
-use Rattle.frame_table.specs.Seats.{new_pass}
-use Rattle.ksm_base.specs.Journal.{replay}
-use Rattle.ksm_base.specs.State.{opening}
-use Rattle.ksm_shared.specs.declared.seen.Owned.{Owned}
-use Rattle.ksm_shared.specs.Named.{PartsId}
-use Rattle.ksm_shared.specs.Seen.{entries}
+use Rattle.ksm_script.proofs.Names.{ap, arith, entries, length, length-replicate, List, new_pass, opening, Owned, PartsId, PassView, replay, sym, vec_len, ◌∙◌, ◌≡◌}
 use Rattle.ksm_script.proofs.Opened.{one_share, share_new, are_new, are_idle, are_own}
 use Rattle.ksm_script.proofs.session.Session.open.Goals as goal
 
 pub unreachable-unreachable : goal.unreachable-unreachable
 unreachable-unreachable g c =
-    let alone = sym (ap (λ (p : PartsId). p.callers) c.requires.name) ∙ c.requires.alone in
-    let one = one_share _ _ alone c.in-Ok-open.ensures.shares in
+    let one = one_share _ _ (sym (ap (λ (p : PartsId). p.callers) c.requires.name) ∙ c.requires.alone) c.in-Ok-open.ensures.shares in
     omega (arith, one, c.in_default-pop.ensures.cases.0, c.in-Ok-open.opened.2.ok.0)
 
 pub new-passes-requires-clause-new : goal.new-passes-requires-clause-new
@@ -29,13 +20,11 @@ invariant_of-result g c =
 
 pub returns-clause-book : goal.returns-clause-book
 returns-clause-book g c =
-    let alone = sym (ap (λ (p : PartsId). p.callers) c.requires.name) ∙ c.requires.alone in
-    ap (λ (seen : List Owned). replay (opening g.N.Naming.parts.frames.shape) (entries seen)) (share_new _ _ _ _ alone c.in-Ok-open.ensures.shares c.in-Some.ensures.items)
+    ap (λ (seen : List Owned). replay (opening g.N.Naming.parts.frames.shape) (entries seen)) (share_new _ _ _ _ (sym (ap (λ (p : PartsId). p.callers) c.requires.name) ∙ c.requires.alone) c.in-Ok-open.ensures.shares c.in-Some.ensures.items)
 
 pub returns-clause-journal : goal.returns-clause-journal
 returns-clause-journal g c =
-    let alone = sym (ap (λ (p : PartsId). p.callers) c.requires.name) ∙ c.requires.alone in
-    ap entries (share_new _ _ _ _ alone c.in-Ok-open.ensures.shares c.in-Some.ensures.items)
+    ap entries (share_new _ _ _ _ (sym (ap (λ (p : PartsId). p.callers) c.requires.name) ∙ c.requires.alone) c.in-Ok-open.ensures.shares c.in-Some.ensures.items)
 
 pub returns-clause-passes : goal.returns-clause-passes
 returns-clause-passes g c =
