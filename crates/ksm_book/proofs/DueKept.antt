@@ -157,12 +157,12 @@ undue b page pages rise waits due = λ k d lt restless out.
 -- ---------------------------------------------------------------- changes of rows
 
 -- whether a row may join a dup with so many items
-abbrev joins : Knobs → Row → DupRow → ℕ → Bool
+abbrev pub joins : Knobs → Row → DupRow → ℕ → Bool
 joins knobs row d items =
     d.tree == tree_of knobs row && bytes_eq d.bytes row.bytes && nat_le 1 items && nat_lt items knobs.max_page_sharing
 
 -- a change that merges no other rows into a number leaves the count of those merged into it
-count_kept : (number : ℕ) (test : Row → Bool) (f : Row → Row) (rows : List Row)
+pub count_kept : (number : ℕ) (test : Row → Bool) (f : Row → Row) (rows : List Row)
     → All (λ r. test r ≡ true → merged_into number (f r).state ≡ merged_into number r.state) rows
     → count_by (λ r. merged_into number r.state) (change_rows test f rows) ≡ count_by (λ r. merged_into number r.state) rows
 count_kept number test f rows same =
@@ -172,11 +172,11 @@ count_kept number test f rows same =
 
 module _ (b : BookState) (test : Row → Bool) (f : Row → Row) (dups : List DupRow) (next : ℕ) where
   -- the book once the rows that pass a test were changed, and the dups
-  abbrev changed : BookState
+  abbrev pub changed : BookState
   changed = record b { rows = change_rows test f b.rows; dups = dups; next = next }
 
   -- a row that may join no dup, now as before
-  abbrev StillJoinsNone : Row → Type 0
+  abbrev pub StillJoinsNone : Row → Type 0
   StillJoinsNone r = All (λ d. may_join b.knobs b.rows r d ≡ false) b.dups → All (λ d. may_join b.knobs changed.rows r d ≡ false) dups
 
   -- a row that waits on, and may join no dup now, waits on
@@ -191,7 +191,7 @@ module _ (b : BookState) (test : Row → Bool) (f : Row → Row) (dups : List Du
       })
 
   -- what is due after a change: the changed rows that a visit may change, and what was due
-  change_due : (due more : List GuestPage) → ((p : GuestPage) → has_item p due ≡ true → has_item p more ≡ true)
+  pub change_due : (due more : List GuestPage) → ((p : GuestPage) → has_item p due ≡ true → has_item p more ≡ true)
       → All (λ r. test r ≡ true → is_restless (f r) ≡ true → has_item (f r).page more ≡ true) b.rows
       → All (λ r. test r ≡ false → WaitsOn b r → StillJoinsNone r) b.rows
       → AreDue b due → AreDue changed more
@@ -228,11 +228,11 @@ module _ (b : BookState) (test : Row → Bool) (f : Row → Row)
       change_due b test f b.dups b.next due more has ours (λ k d lt _ _. still_none (get_or b.rows k d)) was
 
 -- what is due is due beside one page more
-one_more : (page : GuestPage) (pages : List GuestPage) (p : GuestPage) → has_item p pages ≡ true → has_item p (page ∷ pages) ≡ true
+pub one_more : (page : GuestPage) (pages : List GuestPage) (p : GuestPage) → has_item p pages ≡ true → has_item p (page ∷ pages) ≡ true
 one_more page pages p is = grind (arith, is)
 
 -- a page is among itself and others
-itself : (page : GuestPage) (pages : List GuestPage) (p : GuestPage) → same_page p page ≡ true → has_item p (page ∷ pages) ≡ true
+pub itself : (page : GuestPage) (pages : List GuestPage) (p : GuestPage) → same_page p page ≡ true → has_item p (page ∷ pages) ≡ true
 itself page pages p same =
     ap (λ z. z || has_item p pages) (ap (same_page page) (same_page_eq p page same) ∙ same_page_refl page)
 
@@ -288,6 +288,26 @@ not_of_group : (group some room more less : Bool) → some ≡ true → room ≡
     → (group && more && less) ≡ false
 not_of_group group some room more less is_some has_room none = grind (arith, is_some, has_room, none)
 
+-- of other rows each dup but one, which has an item and room for one more, has as many items
+module _ (b : BookState) (sound : IsSound b) (new : List Row) (dup : DupRow) (stands : dup_numbered dup.number b.dups ≡ Some dup)
+    (some : nat_le 1 (item_count b.rows dup) ≡ true) (room : nat_lt (item_count b.rows dup) b.knobs.max_page_sharing ≡ true)
+    (same_count : (e : DupRow) → (e.number == dup.number) ≡ false → item_count new e ≡ item_count b.rows e) where
+  -- a row that could join no dup is of another tree or content than that one, so it can join none
+  pub joins_none_still : (r : Row) → All (λ d. may_join b.knobs b.rows r d ≡ false) b.dups → All (λ d. may_join b.knobs new r d ≡ false) b.dups
+  joins_none_still r none = λ k d lt.
+      let e = get_or b.dups k d in
+      elim (cases_Bool (e.number == dup.number)) [
+        | inl same ↦
+            let is : e ≡ dup = same_Some e dup (sym (each_has_number b.dups sound.dups_rise k d lt)
+            ∙ ap (λ n. dup_numbered n b.dups) (eqb-true e.number dup.number same) ∙ stands) in
+            subst (λ x. may_join b.knobs new r x ≡ false) (sym is)
+            (not_of_group (dup.tree == tree_of b.knobs r && bytes_eq dup.bytes r.bytes) (nat_le 1 (item_count b.rows dup))
+            (nat_lt (item_count b.rows dup) b.knobs.max_page_sharing) (nat_le 1 (item_count new dup))
+            (nat_lt (item_count new dup) b.knobs.max_page_sharing) some room
+            (subst (λ x. may_join b.knobs b.rows r x ≡ false) is (none k d lt)))
+        | inr other ↦ ap (joins b.knobs r e) (same_count e other) ∙ none k d lt
+      ]
+
 module _ (b : BookState) (sound : IsSound b) (row : Row) (found : row_at row.page b.rows ≡ Some row) (restless : is_restless row ≡ true) where
   abbrev of_page : Row → Bool
   of_page r = same_page r.page row.page
@@ -315,7 +335,11 @@ module _ (b : BookState) (sound : IsSound b) (row : Row) (found : row_at row.pag
       → AreDue (record b { rows = change_row row.page (λ r. record r { state = Merged dup.number }) b.rows }) (row.page ∷ pages)
   joined_due dup pages best was =
       change_due b of_page f b.dups b.next (row.page ∷ pages) (row.page ∷ pages) (λ p is. is)
-      (λ k d lt same _. itself row.page pages (get_or b.rows k d).page same) (λ k d lt _ _. others (get_or b.rows k d)) was
+      (λ k d lt same _. itself row.page pages (get_or b.rows k d).page same)
+      (λ k d lt _ _.
+      let room = and_parts _ (nat_lt (item_count b.rows dup) b.knobs.max_page_sharing) joins_it in
+      let some = and_parts _ (nat_le 1 (item_count b.rows dup)) room.0 in
+      joins_none_still b sound (change_rows of_page f b.rows) dup joined.stands some.1 room.1 same_count (get_or b.rows k d)) was
     where
       f : Row → Row
       f r = record r { state = Merged dup.number }
@@ -332,24 +356,6 @@ module _ (b : BookState) (sound : IsSound b) (row : Row) (found : row_at row.pag
           let was_none = subst (λ r. merged_into e.number r.state ≡ false) (sym (only k d lt same)) (not_an_item e.number row.state unmerged) in
           ne_eqb dup.number e.number (λ is. absurd (both_ways (e.number == dup.number) other (eq-eqb e.number dup.number (sym is))))
           ∙ sym was_none)
-
-      others : (r : Row) → StillJoinsNone b of_page f b.dups b.next r
-      others r none = λ k d lt.
-          let e = get_or b.dups k d in
-          elim (cases_Bool (e.number == dup.number)) [
-            | inl same ↦
-                let is : e ≡ dup = same_Some e dup (sym (each_has_number b.dups sound.dups_rise k d lt)
-                ∙ ap (λ n. dup_numbered n b.dups) (eqb-true e.number dup.number same) ∙ joined.stands) in
-                let room = and_parts _ (nat_lt (item_count b.rows dup) b.knobs.max_page_sharing) joins_it in
-                let some = and_parts _ (nat_le 1 (item_count b.rows dup)) room.0 in
-                subst (λ x. may_join b.knobs (change_rows of_page f b.rows) r x ≡ false) (sym is)
-                (not_of_group (dup.tree == tree_of b.knobs r && bytes_eq dup.bytes r.bytes) (nat_le 1 (item_count b.rows dup))
-                (nat_lt (item_count b.rows dup) b.knobs.max_page_sharing)
-                (nat_le 1 (item_count (change_rows of_page f b.rows) dup))
-                (nat_lt (item_count (change_rows of_page f b.rows) dup) b.knobs.max_page_sharing) some.1 room.1
-                (subst (λ x. may_join b.knobs b.rows r x ≡ false) is (none k d lt)))
-            | inr other ↦ ap (joins b.knobs r e) (same_count e other) ∙ none k d lt
-          ]
 
   -- the row makes a dup with the one that waits for it: no other row that waits is of its tree and content
   made_due : (place : ℕ) (w : Row) (pages : List GuestPage) → partner b.knobs b.rows row ≡ Some w → AreDue b (row.page ∷ pages)

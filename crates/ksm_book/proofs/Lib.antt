@@ -20,6 +20,7 @@ pub mod Shown
 pub mod Resettled
 pub mod Singles
 pub mod DueStored
+pub mod DueBroken
 pub mod Along
 pub mod Hiding
 pub mod Unmerged

@@ -216,12 +216,20 @@ fn carry_out(
     ensures carried { IsCarried (view_of state.old) (view_of state.new) command result }
     ensures due { due.new.known ≡ true → AreDue state.new.state due.new.pages }
 {
-    if !matches!(command, Command::Store { .. } | Command::Scan { .. }) {
+    if !matches!(
+        command,
+        Command::Register { .. }
+            | Command::Drop { .. }
+            | Command::Store { .. }
+            | Command::Scan { .. }
+    ) {
         due.forget();
     }
     match command {
-        Command::Register { page, node, bytes } => state.register(table, page, node, bytes),
-        Command::Drop { page } => state.drop_page(table, page),
+        Command::Register { page, node, bytes } => {
+            state.register_due(table, due, page, node, bytes)
+        }
+        Command::Drop { page } => state.drop_due(table, due, page),
         Command::Store { page, bytes } => state.store(table, due, page, bytes),
         Command::Scan { visits } => state.scan(table, due, visits),
         Command::Prune => state.prune(table),

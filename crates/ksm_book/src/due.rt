@@ -2,7 +2,8 @@
 //!
 //! What waits would mostly wait again in the next pass, so such a pass may leave it as it is. That is so until a dup
 //! comes to have room, the page is stored to, or a knob is set; so a command that may do so says which page is due by
-//! that, or that it is no longer known which pages are due. Then the next pass visits all pages.
+//! that, or that it is no longer known which pages are due. Then the next pass visits all pages. A page that leaves a
+//! dup with room for one more page opens none: what waits could join that dup already.
 
 ghost use Rattle.std.specs.Prelude.{◌≡◌, true, false, [], All, ◌||◌, ◌&&◌, not, IfErr, OnErr, OnOk, MatchOption};
 ghost use Rattle.ksm_base.specs.declared.fault.Fault.TheVariants.{Memory};

@@ -1,23 +1,24 @@
 //! The state of the book, and the commands on single pages, with `prune` and `mergeable`. Each tests its refusals in
 //! the order of the definitions, and then changes the pages and their frames.
 
-ghost use Rattle.std.specs.Prelude.{◌≡◌, ◌≤◌, ℕ, List, [], true, IfOk, IfErr, IsSome, option_map};
+ghost use Rattle.std.specs.Prelude.{◌≡◌, ◌≤◌, ℕ, List, [], true, None, Some, IfOk, IfErr, IsSome, option_map};
 ghost use Rattle.ksm_base.specs.Values.{IsShape};
 ghost use Rattle.ksm_base.specs.State.{opening};
-ghost use Rattle.ksm_base.specs.Apply.{stored};
-ghost use Rattle.ksm_base.specs.Rows.{change_row};
+ghost use Rattle.ksm_base.specs.Apply.{fresh_row, stored};
+ghost use Rattle.ksm_base.specs.Rows.{change_row, row_at, with_row, without_page};
 ghost use Rattle.ksm_base.specs.Counting.{counters_of};
 ghost use Rattle.ksm_base.specs.Reading.{bytes_of, mappers_of, ticket_of};
 ghost use Rattle.ksm_base.specs.declared.fault.Fault.TheVariants.{Memory};
 ghost use Rattle.ksm_base.specs.Refusals.{is_known};
 ghost use Rattle.ksm_base.specs.Sound.{IsSound};
+ghost use Rattle.ksm_base.specs.declared.row.Row.{Row};
 ghost use Rattle.frame_core.specs.Ledger.{first_ledger};
 ghost use Rattle.ksm_book.specs.Carried.{IsCarried};
-ghost use Rattle.ksm_book.specs.Due.{AreDue};
+ghost use Rattle.ksm_book.specs.Due.{AreDue, leaves_none_open};
 ghost use Rattle.ksm_book.specs.Whole.{view_of};
 ghost use Rattle.ksm_book.specs.Keeping.{spent};
 ghost use Rattle.ksm_book.specs.Laid.{LoadsIf};
-ghost use Rattle.ksm_pages.specs.Paged.{IsAlone, nowhere};
+ghost use Rattle.ksm_pages.specs.Paged.{IsAlone, IsKnown, nowhere};
 ghost use Rattle.ksm_book.specs.Promised.{FindsPlace, LieOn, NumbersAreSmall};
 
 use crate::due::Due;
@@ -152,8 +153,40 @@ impl State {
         Ok(Reply::Done)
     }
 
+    /// Registers a page, which is due then.
+    pub fn register_due(
+        &mut self,
+        table: &FrameTable,
+        due: &mut Due,
+        page: GuestPage,
+        node: u32,
+        bytes: PageBytes,
+    ) -> Result<Reply, Fault>
+        requires own { self.old.keeper.table ≡ table.now }
+        requires due { due.old.known ≡ true → AreDue self.old.state due.old.pages }
+        ensures carried { IsCarried (view_of self.old) (view_of self.new) (Command.Register page node bytes) result }
+        ensures due { due.new.known ≡ true → AreDue self.new.state due.new.pages }
+    {
+        self.note_coming(due, page);
+        self.register(table, page, node, bytes)
+    }
+
+    // A page is about to be registered. It is due from now on.
+    fn note_coming(&self, due: &mut Due, page: GuestPage)
+        requires due { due.old.known ≡ true → AreDue self.now.state due.old.pages }
+        ensures kept { due.new.known ≡ true → AreDue self.now.state due.new.pages }
+        ensures come { due.new.known ≡ true → row_at page self.now.state.rows ≡ None → (node : ℕ) (bytes : List ℕ)
+            → AreDue (record self.now.state {
+              rows = with_row (fresh_row page node bytes) self.now.state.rows;
+            }) due.new.pages }
+    {
+        if due.is_known() {
+            due.add(Spot { page, key: 0 });
+        }
+    }
+
     /// Stores bytes to a page: in place where it has a frame of its own, else in a copy on its home. A page that waited
-    /// is due then. Where one was merged or Zero, it is no longer known which pages are.
+    /// is due then, and so is one that was merged or Zero; where its dup was full, it is no longer known which pages are.
     pub fn store(
         &mut self,
         table: &FrameTable,
@@ -170,7 +203,7 @@ impl State {
             return Err(Fault::UnknownPage);
         };
         if held.shared {
-            due.forget();
+            self.note_break(due, held.spot);
             if let Err(fault) = resettle(
                 &mut self.pages,
                 &mut self.keeper,
@@ -208,6 +241,41 @@ impl State {
         }
     }
 
+    // Bytes are about to be stored to a page that is merged or Zero. It is due from now on; where its dup was full, it is
+    // no longer known which pages are.
+    fn note_break(&self, due: &mut Due, spot: Spot)
+        requires known { IsKnown spot.page self.now.state.rows }
+        requires due { due.old.known ≡ true → AreDue self.now.state due.old.pages }
+        ensures kept { due.new.known ≡ true → AreDue self.now.state due.new.pages }
+        ensures broken { due.new.known ≡ true → (bytes : List ℕ) → AreDue (record self.now.state {
+          rows = change_row spot.page (stored bytes) self.now.state.rows;
+        }) due.new.pages }
+    {
+        if !due.is_known() {
+            return;
+        }
+        self.lies_lawfully();
+        if self.leaves_none_open(spot.page) {
+            due.add(spot);
+        } else {
+            due.forget();
+        }
+    }
+
+    // Whether a page is merged into no dup, or into one that has room for one page more.
+    fn leaves_none_open(&self, page: GuestPage) -> bool
+        ensures { result ≡ true → (row : Row) → row_at page self.now.state.rows ≡ Some row
+            → leaves_none_open self.now.state row ≡ true }
+    {
+        match self.pages.ticket(page) {
+            Some(place) => match self.pages.items_at(place) {
+                Some(items) => items.len() < self.pages.knobs().max_page_sharing as usize,
+                None => false,
+            },
+            None => true,
+        }
+    }
+
     /// Drops a page: its row goes, and so does its reference on a frame.
     pub fn drop_page(&mut self, table: &FrameTable, page: GuestPage) -> Result<Reply, Fault>
         requires own { self.old.keeper.table ≡ table.now }
@@ -219,6 +287,39 @@ impl State {
         let left = self.pages.remove(held.spot);
         release_if(&mut self.keeper, table, left);
         Ok(Reply::Done)
+    }
+
+    /// Drops a page. Where its dup was full, it is no longer known which pages are due.
+    pub fn drop_due(
+        &mut self,
+        table: &FrameTable,
+        due: &mut Due,
+        page: GuestPage,
+    ) -> Result<Reply, Fault>
+        requires own { self.old.keeper.table ≡ table.now }
+        requires due { due.old.known ≡ true → AreDue self.old.state due.old.pages }
+        ensures carried { IsCarried (view_of self.old) (view_of self.new) (Command.Drop page) result }
+        ensures due { due.new.known ≡ true → AreDue self.new.state due.new.pages }
+    {
+        self.note_going(due, page);
+        self.drop_page(table, page)
+    }
+
+    // A page is about to be dropped. Where its dup was full, it is no longer known which pages are due.
+    fn note_going(&self, due: &mut Due, page: GuestPage)
+        requires due { due.old.known ≡ true → AreDue self.now.state due.old.pages }
+        ensures kept { due.new.known ≡ true → AreDue self.now.state due.new.pages }
+        ensures gone { due.new.known ≡ true → (row : Row) → row_at page self.now.state.rows ≡ Some row
+            → AreDue (record self.now.state { rows = without_page page self.now.state.rows }) due.new.pages }
+    {
+        if !due.is_known() {
+            return;
+        }
+        self.lies_lawfully();
+        if self.leaves_none_open(page) {
+            return;
+        }
+        due.forget();
     }
 
     /// The counters.

@@ -1,4 +1,4 @@
-use Rattle.ksm_book.proofs.Names.{ap, AreDue, BookValue, change_row, IsAlone, IsCarried, Done, find_all, is_some, IsLaid, KeeperView, length, Ok, PAGE_WORDS, PagesView, refl, Resettled, rules, same_page, seen, Store, stored, subst, state_of, sym, ◌<◌, ◌∙◌, ◌≡◌}
+use Rattle.ksm_book.proofs.Names.{ap, AreDue, BookState, BookValue, change_row, IsAlone, IsCarried, Done, find_all, is_some, IsLaid, KeeperView, length, Ok, PAGE_WORDS, PagesView, refl, Resettled, rules, same_page, seen, Store, stored, subst, state_of, sym, ◌<◌, ◌∙◌, ◌≡◌}
 use Rattle.ksm_book.proofs.Laying.{has_frame, laid_written, own_framed}
 use Rattle.ksm_book.proofs.Shown.{resettles_own}
 use Rattle.ksm_book.proofs.Singles.{alone_now, book, carried_so, own_ready, sound_carried, store_copied, store_written, row_held, Carries, found_resettled}
@@ -78,3 +78,11 @@ returns-clause-due c = λ known.
     subst (λ (x : PagesView). AreDue (state_of x c.self.inside.cursor c.self.inside.passes) pages) (sym c.store-2.ensures)
     (subst (λ (v : BookValue). AreDue (record v.state { rows = change_row c.in-Some.held.spot.page (stored c.args.bytes) v.state.rows }) pages)
     (sym c.self.view_is) (c.note_store.ensures known c.args.bytes))
+
+-- the page that was merged or Zero is due beside what was
+pub returns-then-held-clause-due : goal.returns-then-held-clause-due
+returns-then-held-clause-due c = λ known.
+    let pages = c.note_break.new.due.pages in
+    subst (λ (b : BookState). AreDue b pages) (sym (copied c).0.state)
+    (subst (λ (v : BookValue). AreDue (record v.state { rows = change_row c.in-Some.held.spot.page (stored c.args.bytes) v.state.rows }) pages)
+    (sym c.self.view_is) (c.note_break.ensures.broken known c.args.bytes))
