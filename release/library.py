@@ -54,16 +54,20 @@ EXAMPLES_README = """\
 
 | File | What it does |
 |---|---|
-| page_cache.c | one writer replaces pages under four readers, beside a plain map |
+| page_cache.c | one writer replaces pages under readers, beside a plain map |
 | crowd.c | four threads look pages up while the keeper moves them |
 | blocks.c | blocks of 4 KiB outside the table, freed once their frame is reaped |
-| book.c | a book of merged pages beside a plain array (link it with -Wl,--wrap=malloc) |
+| book.c | a book of merged pages beside a plain array |
+| journal.c | a book that keeps its journal |
 | shared.c | a shared book under eight threads, beside a model |
 | host.c | a book as large as the library allows, while threads look its pages up |
-| numbers.c | reaches each number of the header (link it with -Wl,--wrap=malloc) |
+| numbers.c | reaches each number of the header |
 | misuse.c | random calls, right and wrong, beside a model |
 
-With `ksmbook-host` in the place of `ksmbook` each is linked to the library of a host's size.
+With `ksmbook-host` in the place of `ksmbook` each is linked to the library of a host's size. `book.c` and `numbers.c` have
+the library's malloc refuse memory, so they want it static:
+
+    cc -pthread numbers.c $(pkg-config --cflags ksmbook) -l:libksmbook.a -Wl,--wrap=malloc -o numbers && ./numbers
 """
 
 

@@ -1,9 +1,9 @@
 /*
  * Blocks of 4 KiB outside the table, to which a word of a frame points: blocks [SECONDS [READERS]].
  *
- * One keeper replaces blocks for SECONDS (5), while READERS (7, fewer than KSM_MOST_PASSES) read them; each reader opens its own pass. A block is freed once the
- * frame that pointed to it is reaped, which comes after every read of it: AddressSanitizer and memcheck would see a read behind that. Ends with 1
- * if a block was not as it was written, or older than a version that the reader knew of.
+ * One keeper replaces blocks for SECONDS (5), while READERS (7, at most KSM_MOST_PASSES) read them; each reader opens its own pass. A block is freed
+ * once the frame that pointed to it is reaped, which comes after every read of it: AddressSanitizer and memcheck would see a read behind that. Ends
+ * with 1 if a block was not as it was written, or older than a version that the reader knew of, or a reader read none.
  */
 #include "ksmbook.h"
 
@@ -16,7 +16,6 @@
 #define KEYS 32
 #define FRAMES 64
 #define WORDS 512
-#define MOST_READERS (KSM_MOST_PASSES - 1)
 
 /*
  * ThreadSanitizer does not see the proved code. These lines tell it what the header promises, and no more: a find comes after the publication of the
@@ -127,11 +126,13 @@ static void put(uint32_t key, uint64_t version) {
 int main(int argc, char **argv) {
     time_t seconds = argc > 1 ? atoi(argv[1]) : 5;
     int readers = argc > 2 ? atoi(argv[2]) : 7;
-    reader found[MOST_READERS] = {{0}}, all = {0};
-    pthread_t threads[MOST_READERS];
-    uint64_t writes = 0;
-    if (readers < 1 || readers > MOST_READERS)
+    reader found[KSM_MOST_PASSES] = {{0}}, all = {0};
+    pthread_t threads[KSM_MOST_PASSES];
+    uint64_t writes = 0, idle = 0;
+    if (argc > 3 || seconds < 1 || readers < 1 || readers > KSM_MOST_PASSES) {
+        fprintf(stderr, "blocks [SECONDS [READERS]]: at least one second, and 1 to %d readers\n", KSM_MOST_PASSES);
         return 2;
+    }
     must(ksm_table_open(&table, 1, FRAMES, (uint32_t)readers, KSM_MOST_LIVES, KSM_MOST_TRIES), "ksm_table_open");
     for (uint32_t frame = 0; frame < FRAMES; frame++)
         unused[unused_count++] = frame;
@@ -140,7 +141,7 @@ int main(int argc, char **argv) {
     for (int i = 0; i < readers; i++)
         if (pthread_create(&threads[i], NULL, read_blocks, &found[i]))
             exit(1);
-    for (time_t end = time(NULL) + seconds; time(NULL) < end;)
+    for (time_t end = time(NULL) + seconds; time(NULL) <= end;)
         for (uint32_t key = 0; key < KEYS; key++, writes++)
             put(key, atomic_load(&written[key]) + 1);
     atomic_store(&done, 1);
@@ -149,6 +150,7 @@ int main(int argc, char **argv) {
         all.reads += found[i].reads;
         all.again += found[i].again;
         all.wrong += found[i].wrong;
+        idle += found[i].reads == 0;
     }
     reap();
     for (uint32_t key = 0; key < KEYS; key++) {
@@ -158,5 +160,7 @@ int main(int argc, char **argv) {
     must(ksm_table_close(&table), "ksm_table_close");
     printf("%llu blocks read by %d threads, %llu looked up again, %llu replaced, %llu wrong\n", (unsigned long long)all.reads, readers,
            (unsigned long long)all.again, (unsigned long long)writes, (unsigned long long)all.wrong);
-    return all.wrong != 0;
+    if (idle != 0)
+        fprintf(stderr, "blocks: %llu readers read none\n", (unsigned long long)idle);
+    return all.wrong != 0 || idle != 0;
 }

@@ -5,7 +5,7 @@
  * stored last, and now and then every page is compared with it. Then every number that a book can answer is reached, and a reader looks a merged
  * page up by its place.
  *
- * Link it with -Wl,--wrap=malloc: the wrapper below refuses memory when it is told to.
+ * Link it with the static library and -Wl,--wrap=malloc: the wrapper below refuses memory when it is told to.
  */
 #include "ksmbook.h"
 

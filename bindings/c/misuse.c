@@ -194,11 +194,16 @@ static void close_pass(void) {
 /* A pass is lost: its table stays open for good. */
 static void lose_pass(void) {
     pass *p = &passes[drawn(PASSES)];
-    if (p->of == NULL || p->holds || drawn(2000) != 0)
+    if (p->of == NULL || p->holds || drawn(100) != 0)
         return;
     memset(&p->handle, 0, sizeof p->handle);
     p->of = NULL;
     lost++;
+}
+
+/* A frame or a place of a table, or now and then one that it has not. */
+static uint32_t some_number(const table *t) {
+    return t != NULL && t->open && drawn(4) ? drawn(t->count) : drawn(FRAMES + 1);
 }
 
 /* Whether a place may be named or emptied; where it may not, it may be replaced. */
@@ -210,10 +215,11 @@ static int is_loose(const table *t, uint32_t at) {
 /* The calls of the keeper: a frame or place, which there may not be. */
 static void keep(void) {
     table *t;
-    uint32_t refused, f = drawn(FRAMES + 1), at = drawn(FRAMES + 1), wanted, n = drawn(10);
+    uint32_t refused, wanted, n = drawn(10);
     size_t i = drawn(KSM_PAGE_WORDS + 1);
     uint64_t word = state;
     ksm_table *handle = some_table(&t, &refused);
+    uint32_t f = some_number(t), at = some_number(t);
     if (drawn(200) == 0)
         f = at = UINT32_MAX, i = SIZE_MAX;
     int is_frame = !refused && f < t->count, is_place = !refused && at < t->count;
@@ -369,10 +375,11 @@ static void holds(pass *p, uint32_t at) {
 
 static void look(void) {
     pass *p;
-    uint32_t refused, at = drawn(FRAMES + 1), wanted;
+    uint32_t refused, wanted;
     uint64_t words[KSM_PAGE_WORDS], was[KSM_PAGE_WORDS];
     frame *found = NULL;
     ksm_pass *handle = some_pass(&p, &refused);
+    uint32_t at = some_number(p->of);
     memset(words, 77, sizeof words);
     memcpy(was, words, sizeof was);
     wanted = refused ? refused : looked(p, at, &found);

@@ -1,8 +1,8 @@
 /*
  * Reaches every number of the header, and shows that a refusal changes nothing: numbers [quick].
  *
- * Link it with -Wl,--wrap=malloc: the wrapper below refuses memory when it is told to. With `quick` the search for KSM_BUSY, which wants real
- * contention, is left out (under valgrind one thread runs at a time).
+ * Link it with the static library and -Wl,--wrap=malloc: the wrapper below refuses memory when it is told to. With `quick` the search for KSM_BUSY,
+ * which wants real contention, is left out (under valgrind one thread runs at a time).
  */
 #include "ksmbook.h"
 

@@ -1,9 +1,9 @@
 /*
- * A page cache: one writer replaces pages while four readers look them up, and each answer is compared with a plain map: page_cache [WRITES].
+ * A page cache: one writer replaces pages while readers look them up, and each answer is compared with a plain map: page_cache [SECONDS [READERS]].
  *
- * The map says how many times each page was written. A reader looks there before and after its lookup: the version that it read has to be one of
- * those between, and its words those of that version; and it finds one each time, though pages are replaced all the while. Ends with 1 if anything
- * was wrong.
+ * The writer replaces pages for SECONDS (5), under READERS (7, at most KSM_MOST_PASSES). The map says how many times each page was written. A reader
+ * looks there before and after its lookup: the version that it read has to be one of those between, and its words those of that version; and it
+ * finds one each time, though pages are replaced all the while. Ends with 1 if anything was wrong, or a reader found nothing.
  */
 #include "ksmbook.h"
 
@@ -12,10 +12,10 @@
 #include <stdio.h>
 #include <stdlib.h>
 #include <string.h>
+#include <time.h>
 
 #define KEYS 100
 #define FRAMES 128
-#define READERS 4
 
 static pthread_mutex_t map_lock = PTHREAD_MUTEX_INITIALIZER;
 static uint64_t map[KEYS];
@@ -29,7 +29,7 @@ typedef struct reader {
 
 static void must(uint32_t answer, const char *call) {
     if (answer != KSM_DONE) {
-        fprintf(stderr, "page_cache: %s answered %u\n", call, answer);
+        fprintf(stderr, "page_cache: %s: %s\n", call, ksm_strerror(answer));
         exit(1);
     }
 }
@@ -116,37 +116,47 @@ static void write_page(uint32_t key, uint64_t version) {
 }
 
 int main(int argc, char **argv) {
-    uint64_t writes = argc > 1 ? strtoull(argv[1], NULL, 10) : 200000, found = 0, wrong = 0;
-    reader readers[READERS] = {0};
-    pthread_t threads[READERS];
-    must(ksm_table_open(&table, 1, FRAMES, READERS, KSM_MOST_LIVES, KSM_MOST_TRIES), "ksm_table_open");
+    time_t seconds = argc > 1 ? atoi(argv[1]) : 5;
+    int count = argc > 2 ? atoi(argv[2]) : 7;
+    reader readers[KSM_MOST_PASSES] = {0};
+    pthread_t threads[KSM_MOST_PASSES];
+    uint64_t writes = 0, found = 0, wrong = 0, idle = 0;
+    if (argc > 3 || seconds < 1 || count < 1 || count > KSM_MOST_PASSES) {
+        fprintf(stderr, "page_cache [SECONDS [READERS]]: at least one second, and 1 to %d readers\n", KSM_MOST_PASSES);
+        return 2;
+    }
+    must(ksm_table_open(&table, 1, FRAMES, (uint32_t)count, KSM_MOST_LIVES, KSM_MOST_TRIES), "ksm_table_open");
     for (uint32_t frame = 0; frame < FRAMES; frame++)
         unused[unused_count++] = frame;
     for (uint32_t key = 0; key < KEYS; key++) {
         frame_of[key] = -1;
         write_page(key, 0);
     }
-    for (int i = 0; i < READERS; i++) {
+    for (int i = 0; i < count; i++) {
         must(ksm_pass_open(&table, &readers[i].pass), "ksm_pass_open");
         readers[i].first = (uint32_t)i;
         if (pthread_create(&threads[i], NULL, read_pages, &readers[i]))
             exit(1);
     }
-    for (uint64_t n = 0; n < writes; n++) {
-        uint32_t key = (uint32_t)(n * 61 % KEYS);
-        write_page(key, written(key) + 1);
-    }
+    for (time_t end = time(NULL) + seconds; time(NULL) <= end;)
+        for (uint32_t n = 0; n < KEYS; n++, writes++) {
+            uint32_t key = n * 61 % KEYS;
+            write_page(key, written(key) + 1);
+        }
     atomic_store(&done_writing, 1);
-    for (int i = 0; i < READERS; i++) {
+    for (int i = 0; i < count; i++) {
         pthread_join(threads[i], NULL);
         must(ksm_pass_close(&table, &readers[i].pass), "ksm_pass_close");
         found += readers[i].found;
         wrong += readers[i].wrong;
+        idle += readers[i].found == 0;
     }
     for (uint32_t key = 0; key < KEYS; key++)
         must(ksm_freeze(&table, (uint32_t)frame_of[key]), "ksm_freeze at the end");
     must(ksm_table_close(&table), "ksm_table_close");
-    printf("%llu pages written, %llu found by four readers, %llu not as the map says\n", (unsigned long long)writes, (unsigned long long)found,
-           (unsigned long long)wrong);
-    return wrong != 0;
+    printf("%llu pages written, %llu found by %d readers, %llu not as the map says\n", (unsigned long long)writes, (unsigned long long)found,
+           count, (unsigned long long)wrong);
+    if (idle != 0)
+        fprintf(stderr, "page_cache: %llu readers found nothing\n", (unsigned long long)idle);
+    return wrong != 0 || idle != 0;
 }

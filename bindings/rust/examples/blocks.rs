@@ -52,6 +52,7 @@ fn read(cache: &Cache<Block>, written: &[AtomicU64], done: &AtomicBool, first: u
         assert!(block.version(key) >= known, "an older block than was known");
         reads += 1;
     }
+    assert!(reads > 0, "reader {first} read none");
     Ok(reads)
 }
 
@@ -77,6 +78,7 @@ fn write(cache: &Cache<Block>, written: &[AtomicU64], done: &AtomicBool, keys: s
 fn main() -> Result<(), Error> {
     let mut words = std::env::args().skip(1).map(|word| word.parse::<u32>().expect("a number"));
     let (seconds, readers, writers) = (words.next().unwrap_or(5), words.next().unwrap_or(6), words.next().unwrap_or(2));
+    assert!((1..=KEYS).contains(&writers), "1 to {KEYS} writers");
     let cache = Cache::open(KEYS, readers + 1)?;
     let mut filler = cache.reader()?;
     for key in 0..KEYS {

@@ -129,13 +129,18 @@ impl<T: Send + Sync> Cache<T> {
     ///
     /// [`Error::Shape`] where a number is out of its range; [`Error::Memory`].
     pub fn open(keys: u32, readers: u32) -> Result<Cache<T>> {
+        Cache::of_lives(keys, readers, Shape::MOST_LIVES)
+    }
+
+    // One whose frames are given at most so many times.
+    fn of_lives(keys: u32, readers: u32, last_generation: u64) -> Result<Cache<T>> {
         if keys == 0 || keys > MOST_KEYS {
             return Err(Error::Shape);
         }
         let wanted = MOST_FRAMES.min(2 * keys);
         let nodes = (wanted + Shape::MOST_FRAMES_PER_NODE - 1) / Shape::MOST_FRAMES_PER_NODE;
         let frames_per_node = (wanted + nodes - 1) / nodes;
-        let table = Table::open(Shape { nodes, frames_per_node, passes: readers, ..Shape::SMALL })?;
+        let table = Table::open(Shape { nodes, frames_per_node, passes: readers, last_generation, ..Shape::SMALL })?;
         let frames = nodes * frames_per_node;
         let keeper = Keeper {
             frame_of: vec![None; keys as usize],
@@ -170,8 +175,8 @@ impl<T: Send + Sync> Cache<T> {
     ///
     /// # Errors
     ///
-    /// [`Error::Range`] where there is no such key; [`Error::Full`] where readers hold so many old values that no frame is left. The value is
-    /// dropped then, and the cache is as it was.
+    /// [`Error::Range`] where there is no such key; [`Error::Full`] where readers hold so many old values that no frame is left, or each frame
+    /// that is left was given [`Shape::MOST_LIVES`] times. The value is dropped then, and the cache is as it was.
     pub fn put(&self, key: u32, value: T) -> Result<()> {
         let filled = self.filled(key)?;
         let mut keeper = self.keeper();
@@ -222,14 +227,18 @@ impl<T> Keeper<T> {
     }
 
     fn put(&mut self, key: u32, filled: &AtomicBool, value: T) -> core::result::Result<(), (Error, T)> {
-        let frame = match self.free.pop() {
-            Some(frame) => frame,
-            None => return Err((Error::Full, value)),
+        let frame = loop {
+            match self.free.pop() {
+                Some(frame) if self.table.raise(frame).is_ok() => break frame,
+                // It has had its last life.
+                Some(_) => {}
+                None => return Err((Error::Full, value)),
+            }
         };
         let block = NonNull::from(Box::leak(Box::new(value)));
         self.block_of[frame as usize] = Some(block);
         let old = self.frame_of[key as usize].replace(frame);
-        let given = self.table.give(frame, &page_of(block));
+        let given = self.table.fill(frame, &page_of(block));
         let named = given.and_then(|()| if old.is_some() { self.table.replace(key, frame) } else { self.table.publish(key, frame) });
         debug_assert_eq!(named, Ok(()), "the frame was free, and the place names the key's value, if it has one");
         filled.store(true, Ordering::SeqCst);
@@ -315,7 +324,7 @@ impl<T: Send + Sync> Reader<T> {
     ///
     /// # Errors
     ///
-    /// [`Error::Range`] where there is no such key; [`Error::Full`] where readers hold so many old values that no frame is left.
+    /// [`Error::Range`] where there is no such key; [`Error::Full`] as of [`Cache::put`].
     ///
     /// # Panics
     ///
@@ -337,5 +346,26 @@ impl<T: Send + Sync> Reader<T> {
             answer.map_err(|(error, _)| error)?;
         }
         Ok(self.held())
+    }
+}
+
+#[cfg(test)]
+mod tests {
+    use super::*;
+
+    // Two frames of three lives each.
+    #[test]
+    fn a_frame_that_has_had_its_last_life_is_used_no_more() {
+        let cache = Cache::of_lives(1, 1, 3).unwrap();
+        let mut reader = cache.reader().unwrap();
+        for value in 1..=6 {
+            cache.put(0, value).unwrap();
+            assert_eq!(reader.get(0).unwrap().as_deref(), Some(&value));
+        }
+        assert_eq!(cache.put(0, 7), Err(Error::Full));
+        assert_eq!(reader.get(0).unwrap().as_deref(), Some(&6));
+        assert_eq!(cache.remove(0), Ok(true));
+        assert_eq!(reader.get_or_fill(0, || 8).err(), Some(Error::Full));
+        assert!(reader.get(0).unwrap().is_none());
     }
 }

@@ -19,7 +19,7 @@ pub enum Error {
     NoPass,
     /// Passes of the table are out.
     PassesOut,
-    /// Each frame of the cache has a value, or a reader holds it.
+    /// Each frame of the cache has a value, is held by a reader, or has had its last life.
     Full,
     /// Of a book: the page, or a page of the guest, is not registered.
     UnknownPage,
@@ -82,7 +82,7 @@ impl fmt::Display for Error {
             Error::State => "the frame or the place is in a state that does not allow the call",
             Error::NoPass => "all passes of the table are out",
             Error::PassesOut => "passes of the table are out",
-            Error::Full => "each frame of the cache has a value, or a reader holds it",
+            Error::Full => "each frame of the cache has a value, is held by a reader, or has had its last life",
             Error::UnknownPage => "the page, or a page of the guest, is not registered",
             Error::AlreadyRegistered => "the page is registered",
             Error::NoFrame(node) => return write!(f, "no frame of node {node} is free"),

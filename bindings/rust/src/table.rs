@@ -136,6 +136,11 @@ impl Table {
     /// [`Error::Range`]; [`Error::State`] where it is not free.
     pub fn give(&mut self, frame: u32, page: &Page) -> Result<()> {
         self.raise(frame)?;
+        self.fill(frame, page)
+    }
+
+    // The words of a frame that is filling, which is opened then.
+    pub(crate) fn fill(&mut self, frame: u32, page: &Page) -> Result<()> {
         for (i, word) in page.iter().enumerate() {
             self.put(frame, i, *word)?;
         }

@@ -30,7 +30,7 @@ fn equal_pages_are_merged_and_looked_up() {
     let place = book.ticket(page(0, 0)).unwrap();
     assert_eq!(book.mappers(place).unwrap(), Some(vec![page(0, 0), page(1, 5)]));
     assert_eq!((book.counters().shared, book.counters().sharing), (1, 1));
-    let Found::Held(hold) = pass.find(place).unwrap() else { panic!("nothing held") };
+    let hold = pass.find(place).unwrap().held().expect("a hold");
     assert_eq!(hold.words(), [7; 8]);
     assert_eq!(book.apply(Command::MoveDup { place, node: 0 }), Err(Error::InUse));
     hold.leave();
@@ -63,9 +63,10 @@ fn what_is_refused() {
 fn look(pass: &mut Pass, found: &AtomicU64, done: &AtomicBool) {
     while !done.load(Ordering::SeqCst) {
         for place in 0..16 {
-            let Found::Held(words) = pass.look_up(place).unwrap() else { continue };
-            assert!(words.iter().all(|word| *word == words[0]), "words of two frames: {words:?}");
-            found.fetch_add(1, Ordering::SeqCst);
+            if let Found::Held(words) = pass.look_up(place).unwrap() {
+                assert!(words.iter().all(|word| *word == words[0]), "words of two frames: {words:?}");
+                found.fetch_add(1, Ordering::SeqCst);
+            }
         }
     }
 }
@@ -78,10 +79,9 @@ fn store_and_move(book: &mut Book, n: u32) {
         refused => panic!("{refused:?}"),
     }
     assert_eq!(book.apply(Command::Scan { visits: 16 }).map(|reply| reply.stop), Ok(NONE));
-    let Some(place) = book.ticket(of) else { return };
-    match book.apply(Command::MoveDup { place, node: 0 }) {
-        Ok(_) | Err(Error::InUse | Error::NoFrame(0)) => {}
-        refused => panic!("{refused:?}"),
+    match book.ticket(of).map(|place| book.apply(Command::MoveDup { place, node: 0 })) {
+        None | Some(Ok(_) | Err(Error::InUse | Error::NoFrame(0))) => {}
+        Some(refused) => panic!("{refused:?}"),
     }
 }
 

@@ -61,7 +61,7 @@ fn a_frame_through_its_lives() {
     table.give(0, &PAGE).unwrap();
     table.publish(3, 0).unwrap();
     assert_eq!(table.withdraw(3), Err(Error::State));
-    let Found::Held(hold) = pass.find(3).unwrap() else { panic!("nothing held") };
+    let hold = pass.find(3).unwrap().held().expect("a hold");
     assert_eq!((hold.words(), *hold, hold.word(7), hold.word(8)), (PAGE, PAGE, Some(8), None));
     assert_eq!(hold.told(), Told { place: 3, frame: 0, life: 1 });
     assert_eq!(table.freeze(0), Ok(false));
@@ -141,7 +141,7 @@ fn a_hold_is_given_back_when_it_is_dropped() {
         let _held = pass.find(0).unwrap();
         assert_eq!(table.freeze(0), Ok(false));
     }
-    let Found::Held(hold) = pass.find(0).unwrap() else { panic!("nothing held") };
+    let hold = pass.find(0).unwrap().held().expect("a hold");
     hold.keep();
     assert_eq!(table.freeze(0), Ok(false));
     // The next lookup gives up what was kept, and so does the end of the pass.

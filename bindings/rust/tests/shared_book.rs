@@ -73,10 +73,10 @@ fn call(book: &SharedBook, guest: u16, commands: usize) -> Log {
         log.rows.push((log.given.len(), book.counters()));
         let page = GuestPage { guest, page: drawn.below(PAGES.into()) as u32 };
         assert_eq!(book.read(page), known.get(&page).map(|word| [*word; 8]));
-        let Some(place) = book.ticket(page) else { continue };
-        let Found::Held(words) = pass.look_up(place).unwrap() else { continue };
-        assert!(words.iter().all(|word| *word == words[0]), "words of two pages: {words:?}");
-        log.held += 1;
+        if let Some(Found::Held(words)) = book.ticket(page).map(|place| pass.look_up(place).unwrap()) {
+            assert!(words.iter().all(|word| *word == words[0]), "words of two pages: {words:?}");
+            log.held += 1;
+        }
     }
     log
 }
@@ -134,8 +134,9 @@ fn eight_threads_are_one_book() {
     assert!(logs.iter().map(|log| log.held).sum::<u64>() > 0, "nothing was held");
     let rows = book.audit(4).unwrap();
     for (place, row) in (0..).zip(rows) {
-        let Some(pages) = book.mappers(place).unwrap() else { continue };
-        assert_eq!(row.held().map(|found| found.words), book.read(pages[0]), "place {place}");
+        if let Some(pages) = book.mappers(place).unwrap() {
+            assert_eq!(row.held().map(|found| found.words), book.read(pages[0]), "place {place}");
+        }
     }
     book.close().unwrap();
 }

@@ -24,6 +24,8 @@ pub enum Fault {
     Full,
     /// There is no such image or page.
     Unknown,
+    /// There is an image of this name.
+    Known,
     /// Two contents have one digest.
     Digest,
     /// The book refused.
@@ -35,6 +37,7 @@ impl fmt::Display for Fault {
         match self {
             Fault::Full => f.write_str("there are more contents than the store was opened for"),
             Fault::Unknown => f.write_str("there is no such image or page"),
+            Fault::Known => f.write_str("there is an image of this name"),
             Fault::Digest => f.write_str("two contents have one digest"),
             Fault::Book(error) => error.fmt(f),
         }
@@ -212,6 +215,11 @@ impl Store {
             locked(shard).merge()?;
         }
         let mut images = self.images.write().unwrap_or_else(PoisonError::into_inner);
+        if images.contains_key(name) {
+            drop(images);
+            self.drop_pages(guest, &shards)?;
+            return Err(Fault::Known);
+        }
         images.insert(name.into(), Arc::new(Image { guest, shards }));
         Ok(())
     }
