@@ -1,5 +1,5 @@
 -- What becomes of a reply (own).
-use Rattle.std.specs.Prelude.{◌≡◌, ◌≢◌, ◌≤◌, ◌<◌, ℕ, ◌⊎◌, List, length, take, Option, Some, None, Result, Ok, Err}
+use Rattle.std.specs.Prelude.{◌≡◌, ◌≤◌, ◌<◌, ℕ, ◌⊎◌, List, length, take, Option, Some, None, Result, Ok, Err}
 use Rattle.std.specs.Prelude.{OnOk, IfErr}
 use Rattle.std.specs.Io.KnownBytes.{Appends, Keeps}
 use Rattle.ksm_script.specs.declared.reply.LineReply.{LineReply}
@@ -10,9 +10,9 @@ use Rattle.ksm_script.specs.Seen.{SessionView}
 use Rattle.ksm_script.specs.State.{ScriptState}
 use Rattle.ksm_script.specs.Texts.{AppendsPart}
 
--- what a writer took of a text, no byte only of none; or the call on it failed, and it has what it had
+-- what a writer took of a text, where no byte of some is a failure; or the call on it failed, and it has what it had
 abbrev pub Puts : {W : Type 0} → (W → Option (List ℕ)) → (W → Type 0) → W → W → List ℕ → Result ℕ RunFault → Type 0
-Puts contents fails old new text (Ok count) = (count ≤ length text) × (length text ≢ 0 → 0 < count)
+Puts contents fails old new text (Ok count) = (count ≤ length text) × (count < length text → count ≡ 0 → fails new)
     × Appends (contents old) (contents new) (take count text)
 Puts contents fails old new text (Err fault) = (fault ≡ Write) × fails new × Keeps (contents old) (contents new)
 

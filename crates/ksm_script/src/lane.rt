@@ -77,14 +77,14 @@ fn next_byte<R: Read>(reader: &mut R) -> Result<Option<u8>, RunFault>
     }
 }
 
-/// Writes what the writer takes at once of a text. It is a fault where that is no byte of some.
+/// Writes what the writer takes at once of a text.
 #[inline(always)]
 fn write_once<W: Write>(writer: &mut W, text: &[u8]) -> Result<usize, RunFault>
     ensures { Puts W.contents (λ _. ⊤) writer.old writer.new text.now result }
 {
     match writer.write(text) {
-        Ok(count) if count == text.len() || count > 0 => Ok(count),
-        _ => Err(RunFault::Write),
+        Ok(count) => Ok(count),
+        Err(_) => Err(RunFault::Write),
     }
 }
 

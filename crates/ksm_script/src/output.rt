@@ -18,6 +18,9 @@ pub fn write_text<S: Sends<W>, W: Write>(writer: &mut W, text: &[u8]) -> Result<
     if count == text.len() {
         return Ok(());
     }
+    if count == 0 {
+        return Err(RunFault::Write);
+    }
     write_parts::<S, W>(writer, &text[count..])
 }
 
@@ -29,6 +32,9 @@ fn write_parts<S: Sends<W>, W: Write>(writer: &mut W, text: &[u8]) -> Result<(),
     let mut at = 0;
     'parts: while at < text.len() {
         let count = S::put(writer, &text[at..])?;
+        if count == 0 {
+            return Err(RunFault::Write);
+        }
         at += count;
     }
     Ok(())
