@@ -6,7 +6,7 @@ ghost use Rattle.frame_core.specs.State.{frame_word, count_in};
 ghost use Rattle.ksm_base.specs.Values.{frames_of};
 ghost use Rattle.frame_core.specs.declared.ledger.Note.{Note};
 ghost use Rattle.frame_table.specs.Kept.{May, did, Did};
-ghost use Rattle.frame_table.specs.Notes.{kept_of};
+ghost use Rattle.frame_table.specs.Notes.{generation_of, kept_of, use_of};
 ghost use Rattle.frame_table.specs.Views.{IsKeeper, ledger_in, keeper_log};
 
 use crate::table::FrameTable;
@@ -20,8 +20,15 @@ use std::mem::ManuallyDrop;
 #[derive(Clone, Copy)]
 pub(crate) struct Kept {
     pub(crate) kind: Kind,
-    pub(crate) base: u64,
+    pub(crate) base: u16,
     pub(crate) generation: u64,
+}
+
+/// The part of a note that lies apart from the generation, so that both take twelve bytes a frame.
+#[derive(Clone, Copy)]
+pub(crate) struct Use {
+    pub(crate) kind: Kind,
+    pub(crate) base: u16,
 }
 
 /// The keeper's seat, with what it knows of each frame. Contracts see which table it is of, the ledger and the log.
@@ -29,14 +36,15 @@ pub(crate) struct Kept {
 /// It must be spent, by closing the table.
 pub struct Keeper {
     pub(crate) seat: Seat<(), View>,
-    pub(crate) frames: Vec<Kept>,
+    pub(crate) uses: Vec<Use>,
+    pub(crate) generations: Vec<u64>,
 }
 
 impl Model for Keeper {
     ghost use Rattle.std.specs.Prelude.{◌≡◌, length, map};
     ghost use Rattle.ksm_base.specs.Values.{frames_of};
     ghost use Rattle.frame_table.specs.Named.{KeeperView};
-    ghost use Rattle.frame_table.specs.Notes.{kept_of};
+    ghost use Rattle.frame_table.specs.Notes.{generation_of, use_of};
     ghost use Rattle.frame_table.specs.Views.{keeps_ledger, shape_in, ledger_in, keeper_log, order_in, tally_of};
 
     ghost Value = { KeeperView };
@@ -45,21 +53,25 @@ impl Model for Keeper {
 
     ghost invariant = { λ q. record {
       seat : q.seat.me ≡ keeps_ledger (shape_in q.seat.me) (ledger_in q.seat.me) (tally_of 0 (shape_in q.seat.me).passes) (keeper_log q.seat.me) (order_in q.seat.me);
-      notes : q.frames.items ≡ map kept_of (ledger_in q.seat.me).frames;
-      long : length q.frames.items ≡ frames_of (shape_in q.seat.me);
+      uses : q.uses.items ≡ map use_of (ledger_in q.seat.me).frames;
+      generations : q.generations.items ≡ map generation_of (ledger_in q.seat.me).frames;
+      long : length q.uses.items ≡ frames_of (shape_in q.seat.me);
+      as_long : length q.generations.items ≡ frames_of (shape_in q.seat.me);
     } };
 }
 
 // Writes down what is known of a frame from now on: field by field, so that the bytes between them are not moved too.
-#[tactic(auto, using(crate::proofs::Notes::notes_set))]
-fn write_down(frames: &mut Vec<Kept>, frame: u32, note: Kept)
-    requires { frame < length frames.old.items }
-    ensures { (notes : List Note) (x : Note) → frames.old.items ≡ map kept_of notes → kept_of x ≡ note → frames.new.items ≡ map kept_of (slice_set notes frame x) }
+#[tactic(auto, using(crate::proofs::Notes::uses_set, crate::proofs::Notes::generations_set))]
+fn write_down(uses: &mut Vec<Use>, generations: &mut Vec<u64>, frame: u32, note: Kept)
+    requires uses { frame < length uses.old.items }
+    requires generations { frame < length generations.old.items }
+    ensures uses { (notes : List Note) (x : Note) → uses.old.items ≡ map use_of notes → kept_of x ≡ note → uses.new.items ≡ map use_of (slice_set notes frame x) }
+    ensures generations { (notes : List Note) (x : Note) → generations.old.items ≡ map generation_of notes → kept_of x ≡ note → generations.new.items ≡ map generation_of (slice_set notes frame x) }
 {
-    let kept = &mut frames[frame as usize];
+    let kept = &mut uses[frame as usize];
     kept.kind = note.kind;
     kept.base = note.base;
-    kept.generation = note.generation;
+    generations[frame as usize] = note.generation;
 }
 
 impl Keeper {
@@ -85,7 +97,7 @@ impl Keeper {
         requires { frame < frames_of self.now.table.shape }
         ensures { result ≡ (frame_at self.now.ledger frame).base }
     {
-        self.note(frame).base
+        u64::from(self.note(frame).base)
     }
 
     /// How many times a frame was given: the life that it is in, or was in last.
@@ -97,12 +109,17 @@ impl Keeper {
     }
 
     // What is kept of a frame is its note in the ledger.
-    #[tactic(auto, using(crate::proofs::Notes::notes_get))]
+    #[tactic(auto, using(crate::proofs::Notes::uses_get, crate::proofs::Notes::generations_get))]
     fn note(&self, frame: u32) -> Kept
         requires { frame < frames_of self.now.table.shape }
         ensures { result ≡ kept_of (frame_at self.now.ledger frame) }
     {
-        self.frames[frame as usize]
+        let Use { kind, base } = self.uses[frame as usize];
+        Kept {
+            kind,
+            base,
+            generation: self.generations[frame as usize],
+        }
     }
 
     /// Takes one reference more on a frame on which the keeper has 1 to `MOST_REFERENCES - 1`.
@@ -114,7 +131,7 @@ impl Keeper {
         let mut note = self.note(frame);
         table.add_at(&mut self.seat, frame);
         note.base += 1;
-        write_down(&mut self.frames, frame, note);
+        write_down(&mut self.uses, &mut self.generations, frame, note);
     }
 
     /// Gives one of its references back. With the last one the frame is Dying.
@@ -129,7 +146,7 @@ impl Keeper {
             note.kind = Kind::Dying;
         }
         note.base -= 1;
-        write_down(&mut self.frames, frame, note);
+        write_down(&mut self.uses, &mut self.generations, frame, note);
     }
 
     /// Loads the frame word of a dying frame, and answers whether its count was 0. If so, the frame is Free, or Retired after its last life; else it
@@ -149,7 +166,7 @@ impl Keeper {
         } else {
             Kind::Free
         };
-        write_down(&mut self.frames, frame, note);
+        write_down(&mut self.uses, &mut self.generations, frame, note);
         true
     }
 
@@ -163,7 +180,7 @@ impl Keeper {
         let before = FrameWord::unpack(table.raise_at(&mut self.seat, frame));
         note.kind = Kind::Filling;
         note.generation = before.generation + 1;
-        write_down(&mut self.frames, frame, note);
+        write_down(&mut self.uses, &mut self.generations, frame, note);
     }
 
     /// Stores the word `i` of a frame that is Filling or Private.
@@ -185,7 +202,7 @@ impl Keeper {
         table.open_at(&mut self.seat, frame);
         note.kind = Kind::Private;
         note.base = 1;
-        write_down(&mut self.frames, frame, note);
+        write_down(&mut self.uses, &mut self.generations, frame, note);
     }
 
     /// Names a private frame, in its life, at a place that is empty or names a frame that is not Stable in the life named. The frame is
@@ -202,7 +219,7 @@ impl Keeper {
         };
         table.publish_at(&mut self.seat, place, frame, name.word());
         note.kind = Kind::Stable;
-        write_down(&mut self.frames, frame, note);
+        write_down(&mut self.uses, &mut self.generations, frame, note);
     }
 
     /// Names a private frame, in its life, at a place that names another which is Stable in the life named: by one store, so a lookup of
@@ -220,7 +237,7 @@ impl Keeper {
         };
         table.replace_at(&mut self.seat, place, frame, name.word());
         note.kind = Kind::Stable;
-        write_down(&mut self.frames, frame, note);
+        write_down(&mut self.uses, &mut self.generations, frame, note);
     }
 
     /// Empties a place that is empty or names a frame that is not Stable in the life named.
@@ -239,23 +256,23 @@ impl Keeper {
         requires may { May self.old (Freeze frame) }
         ensures { (found : ℕ) × (self.new ≡ did self.old (Freeze frame) found) × (IsTrue result ↔ count_in found ≡ (frame_at self.old.ledger frame).base) }
     {
-        let mut note = self.note(frame);
-        let alone = FrameWord {
-            generation: note.generation,
-            count: note.base,
-        }
-        .pack();
+        let generation = self.generation(frame);
+        let count = self.base(frame);
+        let alone = FrameWord { generation, count }.pack();
         let none = FrameWord {
-            generation: note.generation,
+            generation,
             count: 0,
         }
         .pack();
         if table.freeze_at(&mut self.seat, frame, alone, none) != alone {
             return false;
         }
-        note.kind = Kind::Dying;
-        note.base = 0;
-        write_down(&mut self.frames, frame, note);
+        let note = Kept {
+            kind: Kind::Dying,
+            base: 0,
+            generation,
+        };
+        write_down(&mut self.uses, &mut self.generations, frame, note);
         true
     }
 
@@ -272,8 +289,13 @@ impl Keeper {
     /// Ends the keeper where its table is not closed, as where passes are in other hands for good: its notes are freed, and no step of a keeper
     /// is made any more. The table and its words stay as they are.
     pub fn retire(self) {
-        let Keeper { seat, frames } = self;
-        drop(frames);
+        let Keeper {
+            seat,
+            uses,
+            generations,
+        } = self;
+        drop(uses);
+        drop(generations);
         let _kept_for_good = unsafe { ManuallyDrop::new_unchecked(seat) };
     }
 }

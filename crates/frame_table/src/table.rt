@@ -19,7 +19,7 @@ ghost use Rattle.frame_table.specs.Truth.{Moment};
 ghost use Rattle.frame_table.specs.Views.{IsIn, IsKeeper, keeps_ledger, ledger_in, keeper_log, order_in, tally_in, tally_of};
 
 use crate::closed::ClosedTable;
-use crate::keeper::{Keeper, Kept};
+use crate::keeper::{Keeper, Use};
 use crate::keeper_steps::{
     Add, Freeze, Open, Publish, Put, Raise, Reap, Replace, Sub, Withdraw, Word,
 };
@@ -161,13 +161,13 @@ impl FrameTable {
     {
         let places = shape.frames();
         let count = places as usize;
-        let blank = Kept {
+        let unused = Use {
             kind: Kind::Free,
             base: 0,
-            generation: 0,
         };
         let words = vec![in alloc; 0u64; word_count(count)]?;
-        let frames = vec![in alloc; blank; count]?;
+        let uses = vec![in alloc; unused; count]?;
+        let generations = vec![in alloc; 0; count]?;
         let mut passes = Vec::with_capacity(alloc, shape.passes as usize)?;
         let Ok((table, mut seat)) = Table::of_words(alloc, words.as_slice(), &shape) else {
             passes.destroy_empty();
@@ -182,7 +182,12 @@ impl FrameTable {
         'seats: for i in 0..shape.passes {
             passes.push_reserved(table.make_pass(&mut seat));
         }
-        Ok((table, Keeper { seat, frames }, passes))
+        let keeper = Keeper {
+            seat,
+            uses,
+            generations,
+        };
+        Ok((table, keeper, passes))
     }
 
     #[tactic(auto, using(crate::proofs::Seatings::may_give))]
@@ -206,8 +211,13 @@ impl FrameTable {
         ensures shape { result.shape ≡ self.shape }
         ensures ends { Ends keeper.ledger result }
     {
-        let Keeper { mut seat, frames } = keeper;
-        drop(frames);
+        let Keeper {
+            mut seat,
+            uses,
+            generations,
+        } = keeper;
+        drop(uses);
+        drop(generations);
         'seats: while let Some(pass) = passes.pop() {
             self.take_back(&mut seat, pass);
         }
