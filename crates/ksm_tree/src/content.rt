@@ -14,7 +14,7 @@ pub struct Content {
 }
 
 // How many bits of a product `slot_of` keeps.
-const SLOT_BITS: u32 = 10;
+const SLOT_BITS: u32 = 12;
 
 /// How many slots there are for the numbers of groups.
 pub const SLOTS: usize = 1 << SLOT_BITS;
