@@ -5,7 +5,6 @@ ghost use Rattle.ksm_base.specs.State.{opening};
 ghost use Rattle.ksm_base.specs.Reading.{mappers_of};
 ghost use Rattle.ksm_base.specs.Refusals.{is_known};
 ghost use Rattle.ksm_base.specs.declared.command.Command.TheVariants.{Scan as scan};
-ghost use Rattle.ksm_lines.specs.Knobs.{shown_in};
 ghost use Rattle.ksm_lines.specs.Leading.{short_form, page_form};
 ghost use Rattle.ksm_lines.specs.declared.line.Line.TheVariants as lines;
 ghost use Rattle.ksm_base.specs.Counting.{counters_of};
@@ -248,6 +247,22 @@ impl<N: Naming> Session<N> {
         P::reply(to, self.counters(rt))
     }
 
+    #[inline(never)]
+    fn tell_value<P: Replies<S>, R: Wait, S>(
+        &mut self,
+        rt: &R,
+        shown: Shown,
+        to: &mut S,
+    ) -> Result<(), RunFault>
+        ensures answers { IsSaid P.takes (Answers (lines.Show shown)) self.old self.new to.old to.new result }
+    {
+        let value = match shown {
+            Shown::Knob(knob) => { u64::from(knob.value_in(&self.ksm.knobs(rt, &mut self.share))) }
+            Shown::ZeroPages => self.ksm.counters(rt, &mut self.share).zero,
+        };
+        P::reply(to, LineReply::Value(value))
+    }
+
     /// Does what a line with this content says, and hands its reply over.
     #[inline(always)]
     pub(crate) fn answer_page<P: Replies<S>, R: Wait, S>(
@@ -324,9 +339,9 @@ impl<N: Naming> Session<N> {
         match line {
             Line::Get { page } => self.tell_content::<P, R, S>(rt, page, to),
             Line::Ticket { page } => self.tell_ticket::<P, R, S>(rt, page, to),
-            Line::Mappers { place } => P::reply(to, self.mappers(rt, place)),
+            Line::Mappers { place } => tell_any::<P, S>(to, self.mappers(rt, place)),
             Line::ScanPages => self.tell_scanned::<P, R, S>(rt, to),
-            Line::Show { shown } => P::reply(to, self.value(rt, shown)),
+            Line::Show { shown } => self.tell_value::<P, R, S>(rt, shown, to),
             Line::Stat => self.tell_counters::<P, R, S>(rt, to),
             Line::Find { pass, place } => self.tell_found::<P, S>(pass, place, to),
             Line::Equal { pass, place, bytes } => {
@@ -334,7 +349,7 @@ impl<N: Naming> Session<N> {
             }
             Line::Look { pass } => self.tell_held::<P, S>(pass, to),
             Line::Leave { pass } => self.tell_left::<P, S>(pass, to),
-            Line::Audit => P::reply(to, self.audit(rt)),
+            Line::Audit => tell_any::<P, S>(to, self.audit(rt)),
             _ => unreachable!(),
         }
     }
@@ -393,18 +408,6 @@ impl<N: Naming> Session<N> {
         }
     }
 
-    fn value<R: Wait>(&mut self, rt: &R, shown: Shown) -> LineReply
-        ensures reply { result ≡ told.Value (shown_in shown self.old.state.book) }
-        ensures state { self.new.state ≡ self.old.state }
-    {
-        match shown {
-            Shown::Knob(knob) => LineReply::Value(u64::from(knob.value_in(
-                &self.ksm.knobs(rt, &mut self.share),
-            ))),
-            Shown::ZeroPages => LineReply::Value(self.ksm.counters(rt, &mut self.share).zero),
-        }
-    }
-
     // Makes a command, and hands its reply over. Mostly that is `ok`, which is told apart: so no value with room for
     // any reply is cleared before it.
     #[inline(always)]
@@ -448,7 +451,15 @@ fn tell_done<P: Replies<S>, S>(to: &mut S) -> Result<(), RunFault>
     P::reply(to, LineReply::Done)
 }
 
-/// Hands over any reply. It stands apart, so that `ok` is told without what the others want.
+/// Hands over any reply. It stands apart, so that no value with room for it is cleared before another line.
+#[inline(never)]
+fn tell_any<P: Replies<S>, S>(to: &mut S, reply: LineReply) -> Result<(), RunFault>
+    ensures { P.takes to.old to.new reply result }
+{
+    P::reply(to, reply)
+}
+
+/// Hands over what a command answered. It stands apart, so that `ok` is told without what the others want.
 #[inline(never)]
 fn tell_other<P: Replies<S>, S>(to: &mut S, answer: Result<Reply, Fault>) -> Result<(), RunFault>
     ensures { P.takes to.old to.new (reply_to answer) result }
