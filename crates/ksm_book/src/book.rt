@@ -105,7 +105,7 @@ impl Book {
     {
         a_journal_goes_on();
         self.journal.reserve()?;
-        let answer = carry_out(&mut self.state, &mut self.due, table, command);
+        let answer = carry_out(&mut self.state, &mut self.due, table, &command);
         match answer {
             Err(Fault::Memory) => {}
             _ => self.journal.add(command, answer),
@@ -209,11 +209,11 @@ fn carry_out(
     state: &mut State,
     due: &mut Due,
     table: &FrameTable,
-    command: Command,
+    command: &Command,
 ) -> Result<Reply, Fault>
     requires own { state.old.keeper.table ≡ table.now }
     requires due { due.old.known ≡ true → AreDue state.old.state due.old.pages }
-    ensures carried { IsCarried (view_of state.old) (view_of state.new) command result }
+    ensures carried { IsCarried (view_of state.old) (view_of state.new) command.now result }
     ensures due { due.new.known ≡ true → AreDue state.new.state due.new.pages }
 {
     if !matches!(
@@ -227,20 +227,20 @@ fn carry_out(
     }
     match command {
         Command::Register { page, node, bytes } => {
-            state.register_due(table, due, page, node, bytes)
+            state.register_due(table, due, *page, *node, bytes)
         }
-        Command::Drop { page } => state.drop_due(table, due, page),
-        Command::Store { page, bytes } => state.store(table, due, page, bytes),
-        Command::Scan { visits } => state.scan(table, due, visits),
+        Command::Drop { page } => state.drop_due(table, due, *page),
+        Command::Store { page, bytes } => state.store(table, due, *page, bytes),
+        Command::Scan { visits } => state.scan(table, due, *visits),
         Command::Prune => state.prune(table),
-        Command::Unmerge { guest } => state.unmerge(table, guest),
-        Command::Mergeable { guest } => state.mergeable(guest),
-        Command::MovePage { page, node } => state.move_page(table, page, node),
-        Command::MoveDup { place, node } => state.move_dup(table, place, node),
-        Command::SetRun(run) => state.set_run(table, run),
-        Command::SetPagesToScan(pages) => state.set_pages_to_scan(pages),
-        Command::SetAcross(across) => state.set_across(table, across),
-        Command::SetLimit(limit) => state.set_limit(table, limit),
-        Command::SetZeroPages(zero_pages) => state.set_zero_pages(zero_pages),
+        Command::Unmerge { guest } => state.unmerge(table, *guest),
+        Command::Mergeable { guest } => state.mergeable(*guest),
+        Command::MovePage { page, node } => state.move_page(table, *page, *node),
+        Command::MoveDup { place, node } => state.move_dup(table, *place, *node),
+        Command::SetRun(run) => state.set_run(table, *run),
+        Command::SetPagesToScan(pages) => state.set_pages_to_scan(*pages),
+        Command::SetAcross(across) => state.set_across(table, *across),
+        Command::SetLimit(limit) => state.set_limit(table, *limit),
+        Command::SetZeroPages(zero_pages) => state.set_zero_pages(*zero_pages),
     }
 }

@@ -70,15 +70,15 @@ pub fn is_used_up(keeper: &FrameKeeper, shape: Shape, node: u32) -> bool
 }
 
 /// Stores the bytes to a frame, word by word.
-pub fn write(keeper: &mut FrameKeeper, table: &FrameTable, frame: u32, bytes: PageBytes)
+pub fn write(keeper: &mut FrameKeeper, table: &FrameTable, frame: u32, bytes: &PageBytes)
     requires own { keeper.old.table ≡ table.now }
     requires inside { frame < frames_of keeper.old.table.shape }
     requires within { frame < length keeper.old.ledger.frames }
     requires writable { IsWritable (frame_at keeper.old.ledger frame).kind }
     requires wide { length (frame_at keeper.old.ledger frame).content ≡ WORDS }
-    ensures wrote { keeper.new ≡ stepped keeper.old (puts frame 0 bytes) }
+    ensures wrote { keeper.new ≡ stepped keeper.old (puts frame 0 bytes.now) }
     ensures ledger { keeper.new.ledger ≡ with_frame keeper.old.ledger frame
-        (holding (frame_at keeper.old.ledger frame) bytes) }
+        (holding (frame_at keeper.old.ledger frame) bytes.now) }
 {
     for i in 0..PAGE_WORDS {
         keeper.put(table, frame, i, bytes[i]);
@@ -112,7 +112,7 @@ pub fn take_frame(
     table: &FrameTable,
     shape: Shape,
     node: u32,
-    bytes: PageBytes,
+    bytes: &PageBytes,
 ) -> Option<u32>
     requires own { keeper.old.table ≡ table.now }
     requires shape { shape ≡ keeper.old.table.shape }
@@ -120,8 +120,8 @@ pub fn take_frame(
     requires node { node < shape.nodes }
     requires lawful { IsLawful keeper.old None }
     ensures provides { MatchOption result
-        (FindsNone keeper.old keeper.new node) (Provides keeper.old keeper.new node bytes) }
-    ensures took { IfSome result (HasNewFrame keeper.old keeper.new node bytes) }
+        (FindsNone keeper.old keeper.new node) (Provides keeper.old keeper.new node bytes.now) }
+    ensures took { IfSome result (HasNewFrame keeper.old keeper.new node bytes.now) }
 {
     let frame = find_frame(keeper, table, shape, node)?;
     keeper.raise(table, frame);

@@ -49,7 +49,7 @@ pub fn mount(
 {
     keeper.raise(table, frame);
     let bytes = load(keeper, table, left);
-    write(keeper, table, frame, bytes);
+    write(keeper, table, frame, &bytes);
     keeper.open(table, frame);
     add_times(keeper, table, frame, count - 1);
     keeper.publish(table, place, frame);

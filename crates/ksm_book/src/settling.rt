@@ -23,14 +23,14 @@ pub fn resettle(
     table: &FrameTable,
     spot: Spot,
     node: u32,
-    bytes: PageBytes,
+    bytes: &PageBytes,
 ) -> Result<(), Fault>
     requires own { keeper.old.table ≡ table.now }
     requires laid { IsLaid (seen pages.old) keeper.old }
     requires known { IsKnown spot.page pages.old.rows }
     requires node { node < pages.old.shape.nodes }
     ensures resettled { OnOk result
-        (Resettled (seen pages.old) (seen pages.new) keeper.old keeper.new spot.page node bytes) }
+        (Resettled (seen pages.old) (seen pages.new) keeper.old keeper.new spot.page node bytes.now) }
     ensures turned { IfErr result (λ fault. (fault ≡ NoFrame node)
         × TurnedAway (seen pages.old) (seen pages.new) keeper.old keeper.new node) }
 {

@@ -129,10 +129,10 @@ impl State {
         table: &FrameTable,
         page: GuestPage,
         node: u32,
-        bytes: PageBytes,
+        bytes: &PageBytes,
     ) -> Result<Reply, Fault>
         requires own { self.old.keeper.table ≡ table.now }
-        ensures { IsCarried (view_of self.old) (view_of self.new) (Command.Register page node bytes) result }
+        ensures { IsCarried (view_of self.old) (view_of self.new) (Command.Register page node bytes.now) result }
     {
         let shape = self.pages.shape();
         if node >= shape.nodes {
@@ -144,7 +144,7 @@ impl State {
         if is_used_up(&self.keeper, shape, node) {
             return Err(Fault::NoFrame(node));
         }
-        let spot = self.pages.insert(page, node, &bytes)?;
+        let spot = self.pages.insert(page, node, bytes)?;
         let Some(frame) = take_frame(&mut self.keeper, table, shape, node, bytes) else {
             self.pages.remove(spot);
             return Err(Fault::NoFrame(node));
@@ -160,11 +160,11 @@ impl State {
         due: &mut Due,
         page: GuestPage,
         node: u32,
-        bytes: PageBytes,
+        bytes: &PageBytes,
     ) -> Result<Reply, Fault>
         requires own { self.old.keeper.table ≡ table.now }
         requires due { due.old.known ≡ true → AreDue self.old.state due.old.pages }
-        ensures carried { IsCarried (view_of self.old) (view_of self.new) (Command.Register page node bytes) result }
+        ensures carried { IsCarried (view_of self.old) (view_of self.new) (Command.Register page node bytes.now) result }
         ensures due { due.new.known ≡ true → AreDue self.new.state due.new.pages }
     {
         self.note_coming(due, page);
@@ -192,11 +192,11 @@ impl State {
         table: &FrameTable,
         due: &mut Due,
         page: GuestPage,
-        bytes: PageBytes,
+        bytes: &PageBytes,
     ) -> Result<Reply, Fault>
         requires own { self.old.keeper.table ≡ table.now }
         requires due { due.old.known ≡ true → AreDue self.old.state due.old.pages }
-        ensures carried { IsCarried (view_of self.old) (view_of self.new) (Command.Store page bytes) result }
+        ensures carried { IsCarried (view_of self.old) (view_of self.new) (Command.Store page bytes.now) result }
         ensures due { due.new.known ≡ true → AreDue self.new.state due.new.pages }
     {
         let Some(held) = self.pages.held(page) else {
@@ -214,13 +214,13 @@ impl State {
             ) {
                 return Err(fault);
             }
-            self.pages.store(held.spot, &bytes);
+            self.pages.store(held.spot, bytes);
             return Ok(Reply::Done);
         }
         self.note_store(due, held.spot);
         let frame = known_frame(held.frame);
         write(&mut self.keeper, table, frame, bytes);
-        self.pages.store(held.spot, &bytes);
+        self.pages.store(held.spot, bytes);
         Ok(Reply::Done)
     }
 
@@ -397,7 +397,7 @@ impl State {
             table,
             held.spot,
             node,
-            bytes,
+            &bytes,
         ) {
             return Err(fault);
         }

@@ -43,7 +43,7 @@ fn leave(
         return Ok(0);
     }
     let bytes = pages.bytes(held.spot);
-    if let Err(fault) = resettle(pages, keeper, table, held.spot, held.home, bytes) {
+    if let Err(fault) = resettle(pages, keeper, table, held.spot, held.home, &bytes) {
         return Err(fault);
     }
     if guest.is_some() {

@@ -27,10 +27,10 @@ open-requires-clause-may c =
       subst (λ (s : Shape). frame < frames_of s)
           (sym (ap (λ (z : KeeperView). z.table.shape) c.write.ensures.wrote ∙ ap (λ (z : KeeperView). z.table.shape) c.raise.ensures.1 ∙ ap (λ (z : KeeperView). z.table.shape) c.in_ok-frame.ensures.reaped.after))
           (found_inside c.args.keeper.now c.find_frame.new.keeper c.args.node frame (subst (λ (s : Shape). c.args.node < s.nodes) c.requires.shape c.requires.node) c.requires.lawful c.in_ok-frame.ensures),
-      ap (λ k. (frame_at k frame).kind) c.write.ensures.ledger ∙ ap (λ (n : Note). n.kind) (at_again r.ledger frame now.0 (holding (frame_at r.ledger frame) c.args.bytes)) ∙ ap (λ (n : Note). n.kind) now.1,
+      ap (λ k. (frame_at k frame).kind) c.write.ensures.ledger ∙ ap (λ (n : Note). n.kind) (at_again r.ledger frame now.0 (holding (frame_at r.ledger frame) c.args.bytes.now)) ∙ ap (λ (n : Note). n.kind) now.1,
     )
 
-abbrev provided : (c : goal.After-open) → Provides c.args.keeper.now c.open.new.self c.args.node c.args.bytes c.in_ok-frame.frame
+abbrev provided : (c : goal.After-open) → Provides c.args.keeper.now c.open.new.self c.args.node c.args.bytes.now c.in_ok-frame.frame
 provided c =
     let w = c.find_frame.new.keeper in
     let frame = c.in_ok-frame.frame in
@@ -39,7 +39,7 @@ provided c =
       finds = c.in_ok-frame.ensures;
       fills = made_then (made_one w c.raise.new.self (Raise frame) c.raise.ensures.0 c.raise.ensures.1)
           (made_then
-          (made_part c.raise.new.self c.write.new.keeper (puts frame 0 c.args.bytes) c.write.ensures.wrote) (made_one c.write.new.keeper c.open.new.self (Open frame) _ c.open.ensures));
+          (made_part c.raise.new.self c.write.new.keeper (puts frame 0 c.args.bytes.now) c.write.ensures.wrote) (made_one c.write.new.keeper c.open.new.self (Open frame) _ c.open.ensures));
     }
 
 pub returns-clause-provides : goal.returns-clause-provides
@@ -53,5 +53,5 @@ returns-clause-took c =
     let less = subst (λ (s : Shape). c.args.node < s.nodes) c.requires.shape c.requires.node in
     let within = found_within v w c.args.node frame less c.requires.lawful c.in_ok-frame.ensures in
     let fresh = raised (frame_at w.ledger frame) in
-    took less c.requires.lawful (search rules) (provided c) (follow w.ledger frame within (holding fresh c.args.bytes) opened (ap (λ (z : KeeperView). z.ledger) c.open.ensures)
-    (follow w.ledger frame within fresh (λ x. holding x c.args.bytes) c.write.ensures.ledger (ap (λ (z : KeeperView). z.ledger) c.raise.ensures.1)))
+    took less c.requires.lawful (search rules) (provided c) (follow w.ledger frame within (holding fresh c.args.bytes.now) opened (ap (λ (z : KeeperView). z.ledger) c.open.ensures)
+    (follow w.ledger frame within fresh (λ x. holding x c.args.bytes.now) c.write.ensures.ledger (ap (λ (z : KeeperView). z.ledger) c.raise.ensures.1)))

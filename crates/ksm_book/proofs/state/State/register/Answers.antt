@@ -7,13 +7,13 @@ pub returns-then-is_used_up : goal.returns-then-is_used_up
 returns-then-is_used_up c =
     let p = seen c.self.inside.pages in
     carried_so c.self.view_is refl
-    (subst (λ x. IsCarried (book p c.self.inside.keeper c.self.inside.cursor c.self.inside.passes) x (Register c.args.page c.args.node c.args.bytes) (Err (NoFrame c.args.node))) (ap view_of c.self.view_is)
-    (register_refused p c.self.inside.keeper c.self.inside.cursor c.self.inside.passes c.args.page c.args.node c.args.bytes
+    (subst (λ x. IsCarried (book p c.self.inside.keeper c.self.inside.cursor c.self.inside.passes) x (Register c.args.page c.args.node c.args.bytes.now) (Err (NoFrame c.args.node))) (ap view_of c.self.view_is)
+    (register_refused p c.self.inside.keeper c.self.inside.cursor c.self.inside.passes c.args.page c.args.node c.args.bytes.now
     (subst (λ (s : Shape). c.args.node < s.nodes) c.shape-shape.ensures c.if-node-shape.false)
     (none_of (row_at c.args.page c.self.inside.pages.rows) (sym c.has.ensures ∙ c.if-has.false)) (c.is_used_up.ensures c.if-is_used_up.true)))
 
 -- the page came
-new : (c : In_ok-spot) → HasCome (seen c.self.inside.pages) (seen c.insert.new.self) c.args.page c.args.node c.args.bytes
+new : (c : In_ok-spot) → HasCome (seen c.self.inside.pages) (seen c.insert.new.self) c.args.page c.args.node c.args.bytes.now
 new c = record {
   rise = c.self.invariant.0.rows_rise;
   absent = none_of (row_at c.args.page c.self.inside.pages.rows) (sym c.has.ensures ∙ c.if-has.false);
@@ -27,9 +27,9 @@ remove-requires c =
     subst (λ q. is_some (row_at q c.insert.new.self.rows) ≡ true) (sym c.in_ok-spot.ensures.spot)
     (come_known (new ((goal.at.remove-requires c).In_ok-spot)))
 
-module _ (c : goal.After-remove) (came : HasCome (seen c.self.inside.pages) (seen c.insert.new.self) c.args.page c.args.node c.args.bytes) where
+module _ (c : goal.After-remove) (came : HasCome (seen c.self.inside.pages) (seen c.insert.new.self) c.args.page c.args.node c.args.bytes.now) where
   turned : Carries (seen c.self.inside.pages) c.self.inside.keeper (seen c.remove.new.self)
-      c.take_frame.new.keeper c.self.inside.cursor c.self.inside.passes (Register c.args.page c.args.node c.args.bytes) (Err (NoFrame c.args.node))
+      c.take_frame.new.keeper c.self.inside.cursor c.self.inside.passes (Register c.args.page c.args.node c.args.bytes.now) (Err (NoFrame c.args.node))
   turned =
       register_turned came c.self.invariant.1 c.self.inside.cursor c.self.inside.passes (seen c.remove.new.self) c.in_ok-spot.ensures.nowhere
       (subst (λ q. seen c.remove.new.self ≡ record (seen c.insert.new.self) { rows = without_page q c.insert.new.self.rows; frame = lies_on q None (seen c.insert.new.self).frame; restless = c.remove.new.self.restless }) c.in_ok-spot.ensures.spot c.remove.ensures.gone)
@@ -48,9 +48,9 @@ resettle-requires c =
     subst (λ q. is_some (row_at q c.insert.new.self.rows) ≡ true) (sym c.in_ok-spot.ensures.spot)
     (come_known (new ((goal.at.resettle-requires c).In_ok-spot)))
 
-module _ (c : goal.After-resettle) (came : HasCome (seen c.self.inside.pages) (seen c.insert.new.self) c.args.page c.args.node c.args.bytes) where
+module _ (c : goal.After-resettle) (came : HasCome (seen c.self.inside.pages) (seen c.insert.new.self) c.args.page c.args.node c.args.bytes.now) where
   come : Carries (seen c.self.inside.pages) c.self.inside.keeper (seen c.resettle.new.self)
-      c.take_frame.new.keeper c.self.inside.cursor c.self.inside.passes (Register c.args.page c.args.node c.args.bytes) (Ok Done)
+      c.take_frame.new.keeper c.self.inside.cursor c.self.inside.passes (Register c.args.page c.args.node c.args.bytes.now) (Ok Done)
   come =
       register_come came c.self.invariant.1 c.self.inside.cursor c.self.inside.passes (seen c.resettle.new.self)
       (subst (λ q. seen c.resettle.new.self ≡ record (seen c.insert.new.self) { rows = change_row q on_its_own c.insert.new.self.rows; frame = lies_on q (Some c.in-Some.frame) (seen c.insert.new.self).frame; restless = c.resettle.new.self.restless }) c.in_ok-spot.ensures.spot c.resettle.ensures.settled)

@@ -21,23 +21,23 @@ store-requires-2 c = alone_now c.self.inside.pages.rows c.in-Some.held.spot.page
     (sym c.in-Some.ensures.shared ∙ c.if-held.false)
 
 module _ (c : goal.After-store-2) where
-  written : IsCarried (book (seen c.self.inside.pages) c.self.inside.keeper c.self.inside.cursor c.self.inside.passes) (book (seen c.store-2.new.self) c.write.new.keeper c.self.inside.cursor c.self.inside.passes) (Store c.in-Some.held.spot.page c.args.bytes) (Ok Done)
+  written : IsCarried (book (seen c.self.inside.pages) c.self.inside.keeper c.self.inside.cursor c.self.inside.passes) (book (seen c.store-2.new.self) c.write.new.keeper c.self.inside.cursor c.self.inside.passes) (Store c.in-Some.held.spot.page c.args.bytes.now) (Ok Done)
   written =
-      store_written (seen c.self.inside.pages) c.self.inside.keeper c.write.new.keeper c.self.inside.cursor c.self.inside.passes c.in-Some.held.spot.page c.args.bytes c.in-Some.ensures.row
+      store_written (seen c.self.inside.pages) c.self.inside.keeper c.write.new.keeper c.self.inside.cursor c.self.inside.passes c.in-Some.held.spot.page c.args.bytes.now c.in-Some.ensures.row
       (row_held c.in-Some.ensures) (ap (λ (z : KeeperView). z.table) c.write.ensures.wrote)
       (seen c.store-2.new.self) c.known_frame-frame.result c.store-2.ensures (sym c.in-Some.ensures.shared ∙ c.if-held.false)
       (ap (seen c.self.inside.pages).frame c.in-Some.ensures.spot ∙ sym c.in-Some.ensures.frame ∙ c.known_frame-frame.ensures) c.write.ensures.wrote
 
 pub returns-clause-carried : goal.returns-clause-carried
-returns-clause-carried c = carried_so c.self.view_is (ap (λ q. Store q c.args.bytes) c.in-Some.ensures.spot) (written c)
+returns-clause-carried c = carried_so c.self.view_is (ap (λ q. Store q c.args.bytes.now) c.in-Some.ensures.spot) (written c)
 
 pub invariant_of-self-2 : goal.invariant_of-self-2
 invariant_of-self-2 c =
     let p = seen c.self.inside.pages in
-    let wide : length c.args.bytes ≡ PAGE_WORDS = search rules in (
+    let wide : length c.args.bytes.now ≡ PAGE_WORDS = search rules in (
       sound_carried c.self.invariant.0 (written c),
       subst (λ (x : PagesView). IsLaid x c.write.new.keeper) (sym c.store-2.ensures)
-          (laid_written c.self.invariant.1 c.in-Some.held.spot.page c.in-Some.ensures.row (stored c.args.bytes) c.store-2.new.self.restless c.write.new.keeper c.known_frame-frame.result c.self.invariant.0.rows_rise
+          (laid_written c.self.invariant.1 c.in-Some.held.spot.page c.in-Some.ensures.row (stored c.args.bytes.now) c.store-2.new.self.restless c.write.new.keeper c.known_frame-frame.result c.self.invariant.0.rows_rise
           (row_held c.in-Some.ensures) (λ r. refl)
           (ap p.frame c.in-Some.ensures.spot ∙ sym c.in-Some.ensures.frame ∙ c.known_frame-frame.ensures) (ap (λ (z : KeeperView). z.table) c.write.ensures.wrote) c.write.ensures.ledger wide (sym c.in-Some.ensures.shared ∙ c.if-held.false) refl refl),
     )
@@ -51,16 +51,16 @@ store-requires c = alone_now c.resettle.new.pages.rows c.in-Some.held.spot.page 
     (found_resettled c.in_default-resettle.ensures.resettled (row_held c.in-Some.ensures)) refl
 
 copied : (c : goal.After-store) → Carries (seen c.self.inside.pages) c.self.inside.keeper (seen c.store.new.self)
-    c.resettle.new.keeper c.self.inside.cursor c.self.inside.passes (Store c.in-Some.held.spot.page c.args.bytes) (Ok Done)
+    c.resettle.new.keeper c.self.inside.cursor c.self.inside.passes (Store c.in-Some.held.spot.page c.args.bytes.now) (Ok Done)
 copied c =
-    store_copied (seen c.self.inside.pages) c.self.inside.keeper c.resettle.new.keeper c.self.inside.cursor c.self.inside.passes c.in-Some.held.spot.page c.args.bytes c.in-Some.ensures.row
+    store_copied (seen c.self.inside.pages) c.self.inside.keeper c.resettle.new.keeper c.self.inside.cursor c.self.inside.passes c.in-Some.held.spot.page c.args.bytes.now c.in-Some.ensures.row
     (row_held c.in-Some.ensures) (resettles_own c.in_default-resettle.ensures.resettled.resettles)
     (seen c.resettle.new.pages) (seen c.store.new.self) c.self.invariant.1 c.self.invariant.0.rows_rise
-    (subst (λ n. Resettled (seen c.self.inside.pages) (seen c.resettle.new.pages) c.self.inside.keeper c.resettle.new.keeper c.in-Some.held.spot.page n c.args.bytes) c.in-Some.ensures.home c.in_default-resettle.ensures.resettled)
+    (subst (λ n. Resettled (seen c.self.inside.pages) (seen c.resettle.new.pages) c.self.inside.keeper c.resettle.new.keeper c.in-Some.held.spot.page n c.args.bytes.now) c.in-Some.ensures.home c.in_default-resettle.ensures.resettled)
     c.store.ensures (sym c.in-Some.ensures.shared ∙ c.if-held.true)
 
 pub returns-then-held-clause-carried : goal.returns-then-held-clause-carried
-returns-then-held-clause-carried c = carried_so c.self.view_is (ap (λ q. Store q c.args.bytes) c.in-Some.ensures.spot) (copied c).0
+returns-then-held-clause-carried c = carried_so c.self.view_is (ap (λ q. Store q c.args.bytes.now) c.in-Some.ensures.spot) (copied c).0
 
 pub invariant_of-self-then-held : goal.invariant_of-self-then-held
 invariant_of-self-then-held c = (sound_carried c.self.invariant.0 (copied c).0, (copied c).1)
@@ -76,13 +76,13 @@ pub returns-clause-due : goal.returns-clause-due
 returns-clause-due c = λ known.
     let pages = c.note_store.new.due.pages in
     subst (λ (x : PagesView). AreDue (state_of x c.self.inside.cursor c.self.inside.passes) pages) (sym c.store-2.ensures)
-    (subst (λ (v : BookValue). AreDue (record v.state { rows = change_row c.in-Some.held.spot.page (stored c.args.bytes) v.state.rows }) pages)
-    (sym c.self.view_is) (c.note_store.ensures known c.args.bytes))
+    (subst (λ (v : BookValue). AreDue (record v.state { rows = change_row c.in-Some.held.spot.page (stored c.args.bytes.now) v.state.rows }) pages)
+    (sym c.self.view_is) (c.note_store.ensures known c.args.bytes.now))
 
 -- the page that was merged or Zero is due beside what was
 pub returns-then-held-clause-due : goal.returns-then-held-clause-due
 returns-then-held-clause-due c = λ known.
     let pages = c.note_break.new.due.pages in
     subst (λ (b : BookState). AreDue b pages) (sym (copied c).0.state)
-    (subst (λ (v : BookValue). AreDue (record v.state { rows = change_row c.in-Some.held.spot.page (stored c.args.bytes) v.state.rows }) pages)
-    (sym c.self.view_is) (c.note_break.ensures.broken known c.args.bytes))
+    (subst (λ (v : BookValue). AreDue (record v.state { rows = change_row c.in-Some.held.spot.page (stored c.args.bytes.now) v.state.rows }) pages)
+    (sym c.self.view_is) (c.note_break.ensures.broken known c.args.bytes.now))
