@@ -3,7 +3,8 @@
 //!
 //! Some other pages may be listed too: whoever visits a page looks at its row anyhow, so a row that is merged stays
 //! listed until many may be so. Where memory for a page is refused, the list is no longer known to have all, and
-//! the next scan makes it anew: so no command is refused for it.
+//! the next scan makes it anew: so no command is refused for it. So it is where pages in another order have moved so
+//! many others that a walk over all rows costs no more.
 
 ghost use Rattle.std.specs.Prelude.{◌≡◌, ◌⊎◌, ◌≤◌, [], true, false, filter, find, is_some, length, not, slice_get};
 ghost use Rattle.std.specs.Prelude.{slice_index_or, option_map, IsTrue, OnErr, OnOk, insert, remove, ◌<◌};
@@ -21,15 +22,24 @@ use slab::Slab;
 use std::alloc::Global;
 use std::marker::Model;
 
+/// How many pages are moved at a time until that counts as dear.
+const LONG: usize = 16_384;
+
+/// So many moves of a page cost what a walk comes to for one row.
+const MOVES_A_ROW: usize = 256;
+
 /// Pages in order, each with a guess of the key of its row, and whether all that a visit may change are among them.
 ///
-/// `add` and `remove` cost the logarithm of the number of pages, and a move of those behind.
+/// `add` and `remove` cost the logarithm of the number of pages, and a move of those behind: in the long run `add` moves
+/// at most as many as there are rows, for each walk that the next scan makes.
 #[derive(Drop)]
 pub struct Restless {
     spots: Vec<Spot>,
     known: bool,
     /// How many rows have become such that no visit changes them, since `sweep` looked.
     useless: usize,
+    /// How many pages were moved, many at a time, since the last walk.
+    moved: usize,
 }
 
 impl Model for Restless {
@@ -92,6 +102,17 @@ fn take_out(spots: &mut Vec<Spot>, at: usize)
     spots.truncate(len - 1);
 }
 
+/// Counts so many pages that would be moved, if they are many. Tells whether those counted come to a walk over so many
+/// rows.
+#[inline(always)]
+fn is_dear(moved: &mut usize, pages: usize, rows: usize) -> bool {
+    if pages < LONG {
+        return false;
+    }
+    *moved = moved.saturating_add(pages);
+    *moved / MOVES_A_ROW >= rows
+}
+
 /// Whether it is certain that no visit changes the row of a spot.
 #[inline(always)]
 fn is_useless(entries: &Slab<Entry>, spot: &Spot) -> bool
@@ -112,6 +133,7 @@ impl Restless {
             spots: Vec::new(alloc),
             known: true,
             useless: 0,
+            moved: 0,
         }
     }
 
@@ -129,6 +151,7 @@ impl Restless {
         self.spots.clear();
         self.known = true;
         self.useless = 0;
+        self.moved = 0;
     }
 
     /// How many pages are listed.
@@ -160,15 +183,21 @@ impl Restless {
         }
     }
 
-    /// The page of a spot is listed. Where memory for it is refused, the list stays as it is, and is no longer known.
+    /// The page of a spot is listed, where there are so many rows. Where memory for it is refused, or many pages were
+    /// moved already, the list stays as it is, and is no longer known.
     #[inline(always)]
-    pub fn add(&mut self, spot: Spot)
+    pub fn add(&mut self, spot: Spot, rows: usize)
         ensures { IsAddedTo spot.page self.old self.new }
     {
         let at = place_of(self.spots.as_slice(), spot.page);
         let found = stands_at(self.spots.as_slice(), at, spot.page);
         if found {
             self.spots[at] = spot;
+            return;
+        }
+        let dear = is_dear(&mut self.moved, self.spots.len() - at, rows);
+        if dear || !self.known {
+            self.known = false;
             return;
         }
         match put_in(&mut self.spots, at, spot) {

@@ -97,10 +97,11 @@ fn gather(entries: &Slab<Entry>, order: &Order, restless: &mut Restless)
     let mut last = None;
     while let Some(named) = order.after(last) {
         if entries[named.key as usize].is_restless() {
-            restless.add(Spot {
+            let spot = Spot {
                 page: named.page,
                 key: named.key as usize,
-            });
+            };
+            restless.add(spot, order.len());
         }
         last = Some(named.page);
     }
@@ -290,7 +291,7 @@ impl Rows {
             page,
             key: key as usize,
         };
-        self.restless.add(spot);
+        self.restless.add(spot, self.order.len());
         Ok(spot)
     }
 
@@ -335,10 +336,11 @@ impl Rows {
         self.tally.change(old, PageState::Private);
         // A row that a visit may change is listed already.
         if restless != was_restless {
-            self.restless.add(Spot {
+            let spot = Spot {
                 page: spot.page,
                 key,
-            });
+            };
+            self.restless.add(spot, self.order.len());
         }
     }
 
@@ -487,10 +489,11 @@ impl Rows {
         }
         self.order.mark(spot.page, mergeable);
         if restless {
-            self.restless.add(Spot {
+            let spot = Spot {
                 page: spot.page,
                 key,
-            });
+            };
+            self.restless.add(spot, self.order.len());
         } else {
             self.restless.remove(spot.page);
         }
