@@ -1,5 +1,5 @@
 -- Bytes are read as a line exactly where they write it.
-use Rattle.ksm_lines.proofs.Names.{IfErr, Bool, eqb, list_all, not, ap, AreWritten, arith, bytes_eq, bytes_eq-Decides, cond, content, Err, Form, form_in, Gives, guest, IfOk, IsLine, IsOf, IsWritten, Kind, kind_of, knob, Knob, knob_name, knob_of, left_out, Line, line_at, line_of, LineFault, List, made, MaxPageSharing, MergeAcrossNodes, named_in, None, number, OfKnob, Ok, Option, option_map, PagesToScan, Part, read, refl, Result, Run, Shown, shown, shown_name, shown_of, Some, sym, Told, true, false, UseZeroPages, Values, values, visits, ZeroPages, ℕ, [], ◌>>=◌, ◌^◌, ◌∙◌, ◌∷◌, ◌≡◌}
+use Rattle.ksm_lines.proofs.Names.{IfErr, Bool, list_all, ltb, ap, AreWritten, arith, bytes_eq, bytes_eq-Decides, cond, content, Err, Form, form_in, Gives, guest, IfOk, IsLine, IsOf, IsWritten, Kind, kind_of, knob, Knob, knob_name, knob_of, left_out, Line, line_at, line_of, LineFault, List, made, MaxPageSharing, MergeAcrossNodes, named_in, None, number, OfKnob, Ok, Option, option_map, PagesToScan, Part, read, refl, Result, Run, Shown, shown, shown_name, shown_of, Some, sym, Told, true, false, UseZeroPages, Values, values, visits, ZeroPages, ℕ, [], ◌>>=◌, ◌^◌, ◌∙◌, ◌∷◌, ◌≡◌}
 use Rattle.ksm_lines.proofs.Numbers.{number_takes, number_again}
 
 -- values that are there and equal are equal
@@ -48,10 +48,12 @@ name_is name_of (x ∷ xs) name found e =
       | false ↦ λ same h. name_is name_of xs name found h
     ] (bytes_eq-Decides name (name_of x)).0 e
 
-knob_is : (named : Knob) (word : List ℕ) → knob_of word ≡ Some named → word ≡ knob_name named
+-- a word that is read as a knob is its name
+pub knob_is : (named : Knob) (word : List ℕ) → knob_of word ≡ Some named → word ≡ knob_name named
 knob_is named word e = name_is knob_name (Run ∷ PagesToScan ∷ MergeAcrossNodes ∷ MaxPageSharing ∷ UseZeroPages ∷ []) word named e
 
-shown_is : (named : Shown) (word : List ℕ) → shown_of word ≡ Some named → word ≡ shown_name named
+-- a word that is read as what is shown is its name
+pub shown_is : (named : Shown) (word : List ℕ) → shown_of word ≡ Some named → word ≡ shown_name named
 shown_is named word e =
     elim (bytes_eq word (shown_name ZeroPages)) as (λ b. (b ≡ true → word ≡ shown_name ZeroPages) → cond b (Some ZeroPages) (option_map OfKnob (knob_of word)) ≡ Some named → word ≡ shown_name named) [
       | true ↦ λ same h. same refl ∙ ap shown_name (some_is ZeroPages named h)
@@ -62,24 +64,25 @@ shown_is named word e =
     go None is h = absurd cc
     go (Some found) is h = knob_is found word is ∙ ap shown_name (some_is (OfKnob found) named h)
 
-abbrev pub no_space : ℕ → Bool
-no_space byte = not (eqb byte 32)
+abbrev pub above_space : ℕ → Bool
+above_space byte = ltb 32 byte
 
--- a word with a space is not shown
-pub not_shown : (word : List ℕ) → list_all no_space word ≡ false → shown_of word ≡ None
+-- the name of what is shown has no space, and nothing before it
+pub shown_above : (named : Shown) → list_all above_space (shown_name named) ≡ true
+shown_above (OfKnob Run) = refl
+shown_above (OfKnob PagesToScan) = refl
+shown_above (OfKnob MergeAcrossNodes) = refl
+shown_above (OfKnob MaxPageSharing) = refl
+shown_above (OfKnob UseZeroPages) = refl
+shown_above ZeroPages = refl
+
+-- a word with such a byte is not shown
+pub not_shown : (word : List ℕ) → list_all above_space word ≡ false → shown_of word ≡ None
 not_shown word e = go (shown_of word) refl
   where
-    plain : (named : Shown) → list_all no_space (shown_name named) ≡ true
-    plain (OfKnob Run) = refl
-    plain (OfKnob PagesToScan) = refl
-    plain (OfKnob MergeAcrossNodes) = refl
-    plain (OfKnob MaxPageSharing) = refl
-    plain (OfKnob UseZeroPages) = refl
-    plain ZeroPages = refl
-
     go : (o : Option Shown) → shown_of word ≡ o → o ≡ None
     go None is = refl
-    go (Some named) is = absurd (cc (sym e ∙ ap (list_all no_space) (shown_is named word is) ∙ plain named))
+    go (Some named) is = absurd (cc (sym e ∙ ap (list_all above_space) (shown_is named word is) ∙ shown_above named))
 
 -- a word that is read writes what it tells
 pub word_written : (kind : Kind) (told : Told kind) (word : List ℕ) → read kind word ≡ Some told → IsWritten kind told word

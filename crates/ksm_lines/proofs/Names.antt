@@ -2,7 +2,7 @@
 pub use Rattle.ksm_base.specs.declared.page.GuestPage.{GuestPage}
 pub use Rattle.ksm_base.specs.declared.page.TheConstants.{PAGE_WORDS}
 pub use Rattle.ksm_lines.specs.Content.{byte_at, content_of, digit_or_none, digits_of_word, hex_value, is_small, page_of, pair_in, word_at}
-pub use Rattle.ksm_lines.specs.Digits.{IsHigh, IsReadTo}
+pub use Rattle.ksm_lines.specs.Digits.{IsReadTo}
 pub use Rattle.ksm_lines.specs.Grammar.{AreWritten, at, content, Form, form_in, forms, guest, IsLine, IsNoLine, IsOf, IsWritten, Kind, kind_of, knob, left_out, made, Makes, number, shown, Told, Values, visits, words_of, Writes}
 pub use Rattle.ksm_lines.specs.Knobs.{knob_name, knob_of, named_in, shown_name, shown_of}
 pub use Rattle.ksm_lines.specs.Leading.{BeginsWith}
@@ -14,7 +14,6 @@ pub use Rattle.ksm_lines.specs.declared.knob.Knob.TheVariants.{MaxPageSharing, M
 pub use Rattle.ksm_lines.specs.declared.knob.Shown.{Shown}
 pub use Rattle.ksm_lines.specs.declared.knob.Shown.TheVariants.{Knob as OfKnob, ZeroPages}
 pub use Rattle.ksm_lines.specs.declared.line.Line.{Line}
-pub use Rattle.ksm_lines.specs.declared.line.Line.TheVariants.{Audit, Drop, Empty, Equal, Find, Get, Leave, Look, Mappers, Mergeable, MoveDup, MovePage, Prune, Register, Scan, ScanPages, Set, Show, Stat, Store, Ticket, Unmerge}
 pub use Rattle.ksm_lines.specs.declared.line.LineFault.{LineFault}
 pub use Rattle.ksm_lines.specs.declared.part.Part.{Part}
 pub use Rattle.ksm_lines.specs.declared.part.Part.TheVariants as parts

@@ -1,6 +1,6 @@
 -- A word is read as a number exactly where it is the number's decimal text.
-use Rattle.ksm_lines.proofs.Names.{and_parts, ap, ap₂, arith, Bool, cases_lt, decimal, decimal-digits_value, decimal_digit, decimal_nonempty, digit_value, digits_decimal, digits_value, digits_value-decimal, digits_value_more, eq-eqb, eqb, eqb-true, false, first_decimal, get_or, inl, inr, is_ascii_digit, is_plain, IsHigh, IsNumeralModel, IsReadTo, le-ltb, length, List, list_all, list_all_more, lt-ltb, ltb, ltb-true, not, number_below, numerals_by_value, refl, rules, Some, subst, sym, take, true, ℕ, ◌&&◌, ◌*◌, ◌+◌, ◌-◌, ◌<◌, ◌^◌, ◌||◌, ◌∙◌, ◌≡◌, ◌≤◌}
-use Rattle.ksm_lines.proofs.Booleans.{implied, is_chosen}
+use Rattle.ksm_lines.proofs.Names.{and_parts, ap, ap₂, arith, Bool, cases_lt, decimal, decimal-digits_value, decimal_digit, decimal_nonempty, digit_value, digits_decimal, digits_value, digits_value-decimal, digits_value_more, eq-eqb, eqb, eqb-true, false, first_decimal, get_or, inl, inr, is_ascii_digit, is_plain, digits_value-take-le, None, IsNumeralModel, IsReadTo, le-ltb, length, List, list_all, list_all_more, lt-ltb, ltb, ltb-true, not, number_below, numerals_by_value, refl, rules, Some, subst, sym, take, true, ℕ, ◌&&◌, ◌*◌, ◌+◌, ◌-◌, ◌<◌, ◌^◌, ◌||◌, ◌∙◌, ◌≡◌, ◌≤◌}
+use Rattle.ksm_lines.proofs.Booleans.{chosen, implied, is_chosen}
 
 -- the test for decimal digits and the value of a text of digits are a model of numerals
 pub own : IsNumeralModel (λ word. list_all is_ascii_digit word ≡ true) (digits_value 10)
@@ -41,9 +41,15 @@ module _ (word : List ℕ) (i value digit : ℕ) (lt : i < length word) (low : 4
   pub read_more : is_ascii_digit (get_or word i 0) ≡ true → value * 10 + digit < 2 ^ 32 → IsReadTo (i + 1) word (value * 10 + digit)
   read_more digits small = (list_all_more is_ascii_digit word i 0 lt ∙ ap₂ (λ a b. a && b) read.0 digits, value_more, small)
 
-  -- where the value with one digit more is 2 ^ 32 or above, the word writes a number out of range
-  pub high_more : is_ascii_digit (get_or word i 0) ≡ true → 2 ^ 32 ≤ value * 10 + digit → IsHigh word
-  high_more digits high = (i + 1, omega arith, list_all_more is_ascii_digit word i 0 lt ∙ ap₂ (λ a b. a && b) read.0 digits, subst (λ n. 2 ^ 32 ≤ n) value_more high)
+  -- where the value with one digit more is 2 ^ 32 or above, the word is no number of 32 bits
+  pub high_more : 2 ^ 32 ≤ value * 10 + digit → number_below (2 ^ 32) word ≡ None
+  high_more high =
+      let all : 2 ^ 32 ≤ digits_value 10 word = omega (arith, value_more, digits_value-take-le 10 word (i + 1) (omega arith)) in
+      rw (le-ltb _ _ all) (neither (is_plain word))
+    where
+      neither : (b : Bool) → chosen (b && false) (digits_value 10 word) ≡ None
+      neither true = refl
+      neither false = refl
 
 -- ---- the number's decimal text
 

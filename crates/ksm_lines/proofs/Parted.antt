@@ -1,8 +1,9 @@
 -- Lines at the front of a text, word by word, each with the byte behind it.
-use Rattle.ksm_lines.proofs.Names.{[], All, All-append, All-cons, ap, append_assoc, AreWritten, arith, BeginsWith, Bool, cond, content_of, decimal, decimal-digits_value, digits_decimal, digits_value, drop, false, form_in, get_or, get_or-take, is_ascii_digit, is_ascii_hexdigit, IsLine, IsOf, IsReadTo, IsWritten, kind_of, length, length-take-le, List, list_all, ltb, made, Makes, None, not, Option, Part, refl, slice_split_at, slice_split_none, Some, subst, sym, take, Told, true, Values, words_of, ℕ, ◌++◌, ◌+◌, ◌-◌, ◌<◌, ◌^◌, ◌∙◌, ◌∷◌, ◌≡◌, ◌≢◌, ◌≤◌}
+use Rattle.ksm_lines.proofs.Names.{[], All, All-append, All-cons, ap, append_assoc, AreWritten, arith, BeginsWith, Bool, cond, content_of, decimal, decimal-digits_value, digits_decimal, digits_value, drop, false, form_in, get_or, get_or-take, is_ascii_digit, is_ascii_hexdigit, IsLine, IsOf, IsReadTo, IsWritten, kind_of, knob_of, length, length-take-le, Line, line_at, List, list_all, made, Makes, None, not, OfKnob, Option, Part, refl, Knob, Shown, shown_name, shown_of, GuestPage, slice_split_at, slice_split_none, Some, subst, sym, take, Told, true, Values, words_of, ℕ, ◌++◌, ◌+◌, ◌-◌, ◌<◌, ◌^◌, ◌∙◌, ◌∷◌, ◌≡◌, ◌≢◌, ◌≤◌}
 use Rattle.ksm_lines.proofs.Names.parts
 use Rattle.ksm_lines.proofs.Numbers.{own}
 use Rattle.ksm_lines.proofs.Front.{parted_at}
+use Rattle.ksm_lines.proofs.Lines.{above_space, knob_is, line_takes, shown_above, shown_is}
 use Rattle.ksm_lines.proofs.Words.{each, is_space, other}
 
 -- a word has neither a space nor a newline
@@ -24,6 +25,10 @@ content_is_word word page read = word_of is_ascii_hexdigit word refl refl (of (l
     of : (digits : Bool) (found : Option (List ℕ)) → cond (not digits) None found ≡ Some page → digits ≡ true
     of true found e = refl
     of false found e = absurd cc
+
+-- the name of what is shown is a word
+shown_is_word : (named : Shown) → IsWord (shown_name named)
+shown_is_word named = word_of above_space (shown_name named) refl refl (shown_above named)
 
 -- ---- a number that was read
 
@@ -87,15 +92,22 @@ module _ (word text behind rest : List ℕ) (is : IsWord word) (same : text ≡ 
 -- ---- the lines
 
 -- a name without spaces and what its parts write are a line of that name
-pub line : (name : List ℕ) {parts : List Part} {told : Values parts} {makes : Makes parts} {text left rest : List ℕ} → list_all (λ byte. ltb 32 byte) name ≡ true
+pub line : (name : List ℕ) {parts : List Part} {told : Values parts} {makes : Makes parts} {text left rest : List ℕ} → list_all above_space name ≡ true
     → form_in name ≡ Some (name, parts, makes) → text ≡ name ++ 32 ∷ left → Leads parts told left rest → BeginsWith (made parts makes told) text rest
 line name {parts = parts} {told = told} {makes = makes} above named is later =
-    begins name _ _ _ (word_of (λ byte. ltb 32 byte) name refl refl above) is parts told later makes named
+    begins name _ _ _ (word_of above_space name refl refl above) is parts told later makes named
+
+-- a line of one word
+pub bare : (name : List ℕ) (form : Line) {text rest : List ℕ} → list_all above_space name ≡ true → line_at (words_of name) ≡ Some form → text ≡ name ++ 10 ∷ rest → BeginsWith form text rest
+bare name form above read is = (name, line_takes form (words_of name) read, (word_of above_space name refl refl above).1, is)
 
 -- the last word is a number
 pub number_last : {text rest : List ℕ} (part : Part) (told : Told (kind_of part)) {n : ℕ} → text ≡ decimal n ++ 10 ∷ rest → n < 2 ^ 32 → IsWritten (kind_of part) told (decimal n)
     → Leads (part ∷ []) (told, tt) text rest
 number_last part told is fits writes = last part told (decimal _) _ _ (decimal_is_word _ fits) writes is
+
+pub guest_last : {text rest : List ℕ} (n : ℕ) → text ≡ decimal n ++ 10 ∷ rest → n < 2 ^ 16 → Leads (parts.Guest ∷ []) (n, tt) text rest
+guest_last n is fits = number_last parts.Guest n is (omega arith) (fits, refl)
 
 -- the last word is a content
 pub content_last : {text rest bytes : List ℕ} → (word : List ℕ) × (content_of word ≡ Some bytes) × (text ≡ word ++ 10 ∷ rest) → Leads (parts.Content ∷ []) (bytes, tt) text rest
@@ -109,3 +121,20 @@ module _ {text behind rest : List ℕ} {others : List Part} {told : Values other
 
   pub guest_more : (n : ℕ) → text ≡ decimal n ++ 32 ∷ behind → n < 2 ^ 16 → Leads others told behind rest → Leads (parts.Guest ∷ others) (n, told) text rest
   guest_more n is fits later = number_more parts.Guest n is (omega arith) (fits, refl) later
+
+  -- the name of a knob stands before others
+  pub knob_more : {named : Knob} → (word : List ℕ) × (knob_of word ≡ Some named) × (text ≡ word ++ 32 ∷ behind) → Leads others told behind rest → Leads (parts.Knob ∷ others) (named, told) text rest
+  knob_more {named = named} h later =
+      let is = knob_is named h.0 h.1 in
+      more h.0 _ _ _ (subst IsWord (sym is) (shown_is_word (OfKnob named))) h.2 _ _ later parts.Knob named is
+
+-- the last two words are a page
+pub page_last : {text rest : List ℕ} (page : GuestPage) → text ≡ decimal page.guest ++ 32 ∷ (decimal page.page ++ 10 ∷ rest) → (page.guest < 2 ^ 16) × (page.page < 2 ^ 32)
+    → Leads (parts.Guest ∷ parts.Page ∷ []) (page.guest, (page.page, tt)) text rest
+page_last page is fits = guest_more page.guest is fits.0 (number_last parts.Page page.page refl fits.1 (fits.1, refl))
+
+-- the last word is the name of what is shown
+pub shown_last : {text rest : List ℕ} {named : Shown} → (word : List ℕ) × (shown_of word ≡ Some named) × (text ≡ word ++ 10 ∷ rest) → Leads (parts.Shown ∷ []) (named, tt) text rest
+shown_last {named = named} h =
+    let is = shown_is named h.0 h.1 in
+    last parts.Shown named h.0 _ _ (subst IsWord (sym is) (shown_is_word named)) is h.2

@@ -1,5 +1,5 @@
 -- Words, parted at each space.
-use Rattle.ksm_lines.proofs.Names.{[], ◌≢◌, guest, is_ascii_digit, number, subst, after_first, arith, All, All-weaker, AllPass-from_list_all, ap, before_first, Bool, cases_lt, drop, ended, eqb, eqb-true, fails_before_first, Err, false, get_or, Gives, GivesLast, inl, inr, is_ok, is_some, kind_of, length, LineFault, List, list_all, list_all_at, lt-ltb, ltb-true, None, ne_eqb, Ok, Option, Part, passes_at_first, position, position_or_len, read, refl, Result, slice_split_first, slice_split_none, Some, sym, take, take_rest, true, values, words_of, ℕ, ◌+◌, ◌-◌, ◌<◌, ◌>>=◌, ◌∙◌, ◌∷◌, ◌≡◌}
+use Rattle.ksm_lines.proofs.Names.{[], ◌≢◌, number, after_first, arith, All, All-weaker, AllPass-from_list_all, ap, before_first, Bool, cases_lt, drop, ended, eqb, eqb-true, fails_before_first, Err, false, get_or, Gives, GivesLast, inl, inr, is_ok, is_some, kind_of, length, LineFault, List, list_all, list_all_at, lt-ltb, ltb-true, None, ne_eqb, Ok, Option, Part, passes_at_first, position, position_or_len, read, refl, Result, slice_split_first, slice_split_none, Some, sym, take, take_rest, true, values, words_of, ℕ, ◌+◌, ◌-◌, ◌<◌, ◌>>=◌, ◌∙◌, ◌∷◌, ◌≡◌}
 use Rattle.ksm_lines.proofs.Names.parts
 use Rattle.ksm_lines.proofs.Booleans.{is_chosen}
 
@@ -83,22 +83,13 @@ pub is_given : {A : Type 0} (r : Result A LineFault) (o : Option A) → Gives r 
 is_given (Ok a) o h = rw h refl
 is_given (Err e) o h = rw h refl
 
-is_last : {A : Type 0} (r : Result A LineFault) (o : Option A) → GivesLast r (alone o) → is_ok r ≡ is_some o
-is_last (Ok a) (Some b) h = refl
-is_last (Ok a) None h = absurd cc
-is_last (Err e) (Some b) h = absurd cc
-is_last (Err e) None h = refl
-
-pub is_guest : (text : List ℕ) (r : Result ℕ LineFault) → GivesLast r (values (parts.Guest ∷ []) (words_of text)) → is_ok r ≡ is_some (read guest text)
-is_guest text r h = is_last r _ (subst (GivesLast r) (last_text parts.Guest is_ascii_digit text refl (λ word e. rw e refl)) h)
-
 -- of a number that is no guest's
 pub is_number : (part : Part) (text : List ℕ) (r : Result ℕ LineFault) → part ≢ parts.Guest → part ≢ parts.Content → part ≢ parts.Knob → part ≢ parts.Shown
-    → GivesLast r (values (parts.Page ∷ []) (words_of text)) → is_ok r ≡ is_some (read (kind_of part) text)
+    → Gives r (read number text) → is_ok r ≡ is_some (read (kind_of part) text)
 is_number part text r not_guest not_content not_knob not_shown h = of part not_guest not_content not_knob not_shown
   where
     is : is_ok r ≡ is_some (read number text)
-    is = is_last r _ (subst (GivesLast r) (last_text parts.Page is_ascii_digit text refl (λ word e. rw e refl)) h)
+    is = is_given r _ h
 
     same : (o : Option ℕ) → is_some o ≡ is_some (o >>= λ n. Some (Some n))
     same None = refl

@@ -1,5 +1,5 @@
 -- Digits that are read from left to right.
-use Rattle.std.specs.Prelude.{◌≡◌, ℕ, ◌^◌, ◌<◌, ◌≤◌, true, take, length, List}
+use Rattle.std.specs.Prelude.{◌≡◌, ℕ, ◌^◌, ◌<◌, true, take, List}
 use Rattle.std.specs.Char.{is_ascii_digit}
 use Rattle.std.specs.List.{list_all}
 use Rattle.std.specs.Str.Parse.{digits_value}
@@ -8,8 +8,3 @@ use Rattle.std.specs.Str.Parse.{digits_value}
 abbrev pub IsReadTo : ℕ → List ℕ → ℕ → Type 0
 IsReadTo i text value =
     (list_all is_ascii_digit (take i text) ≡ true) × (value ≡ digits_value 10 (take i text)) × (value < 2 ^ 32)
-
--- the first digits of a text write more
-abbrev pub IsHigh : List ℕ → Type 0
-IsHigh text = (i : ℕ) × (i ≤ length text) × (list_all is_ascii_digit (take i text) ≡ true)
-    × (2 ^ 32 ≤ digits_value 10 (take i text))

@@ -9,6 +9,9 @@ use Rattle.ksm_lines.specs.declared.part.Part.TheVariants.{Guest, Page, Node, Pl
 use Rattle.ksm_lines.specs.declared.part.Part.TheVariants.{Content, Knob, Shown}
 use Rattle.ksm_lines.specs.declared.line.Line.{Line}
 use Rattle.ksm_lines.specs.declared.line.Line.TheVariants as lines
+use Rattle.ksm_lines.specs.declared.line.PageLine.TheVariants as pages
+use Rattle.ksm_lines.specs.declared.line.RareLine.TheVariants as rares
+use Rattle.ksm_lines.specs.declared.line.ShortLine.TheVariants as shorts
 use Rattle.ksm_lines.specs.Content.{content_of}
 use Rattle.ksm_lines.specs.Knobs.{knob_name, shown_name, named_in}
 
@@ -87,33 +90,37 @@ abbrev pub at : ℕ → ℕ → GuestPage
 at owner page = record { guest = owner; page = page }
 
 abbrev pub scan_of : Option ℕ → Line
-scan_of None = lines.ScanPages
-scan_of (Some n) = lines.Scan n
+scan_of None = lines.Rare rares.ScanPages
+scan_of (Some n) = lines.Short (shorts.Scan n)
 
 -- the forms; no bytes are one empty word
 abbrev pub forms : List Form
 forms =
     ([], [], lines.Empty)
-    ∷ (codes "reg", Guest ∷ Page ∷ Node ∷ Content ∷ [], λ owner page. lines.Register (at owner page))
-    ∷ (codes "drop", Guest ∷ Page ∷ [], λ owner page. lines.Drop (at owner page))
-    ∷ (codes "put", Guest ∷ Page ∷ Content ∷ [], λ owner page. lines.Store (at owner page))
-    ∷ (codes "get", Guest ∷ Page ∷ [], λ owner page. lines.Get (at owner page))
-    ∷ (codes "ticket", Guest ∷ Page ∷ [], λ owner page. lines.Ticket (at owner page))
-    ∷ (codes "rmap", Place ∷ [], lines.Mappers)
+    ∷ (
+      codes "reg",
+      Guest ∷ Page ∷ Node ∷ Content ∷ [],
+      λ owner page node. lines.Page (pages.Register (at owner page) node),
+    )
+    ∷ (codes "drop", Guest ∷ Page ∷ [], λ owner page. lines.Rare (rares.Drop (at owner page)))
+    ∷ (codes "put", Guest ∷ Page ∷ Content ∷ [], λ owner page. lines.Page (pages.Store (at owner page)))
+    ∷ (codes "get", Guest ∷ Page ∷ [], λ owner page. lines.Short (shorts.Get (at owner page)))
+    ∷ (codes "ticket", Guest ∷ Page ∷ [], λ owner page. lines.Short (shorts.Ticket (at owner page)))
+    ∷ (codes "rmap", Place ∷ [], λ place. lines.Rare (rares.Mappers place))
     ∷ (codes "scan", Visits ∷ [], scan_of)
-    ∷ (codes "prune", [], lines.Prune)
-    ∷ (codes "unmerge", Guest ∷ [], lines.Unmerge)
-    ∷ (codes "mergeable", Guest ∷ [], lines.Mergeable)
-    ∷ (codes "move", Guest ∷ Page ∷ Node ∷ [], λ owner page. lines.MovePage (at owner page))
-    ∷ (codes "movedup", Place ∷ Node ∷ [], lines.MoveDup)
-    ∷ (codes "set", Knob ∷ Value ∷ [], lines.Set)
-    ∷ (codes "show", Shown ∷ [], lines.Show)
-    ∷ (codes "stat", [], lines.Stat)
-    ∷ (codes "find", Pass ∷ Place ∷ [], lines.Find)
-    ∷ (codes "equal", Pass ∷ Place ∷ Content ∷ [], lines.Equal)
-    ∷ (codes "look", Pass ∷ [], lines.Look)
-    ∷ (codes "leave", Pass ∷ [], lines.Leave)
-    ∷ (codes "audit", [], lines.Audit)
+    ∷ (codes "prune", [], lines.Rare rares.Prune)
+    ∷ (codes "unmerge", Guest ∷ [], λ owner. lines.Rare (rares.Unmerge owner))
+    ∷ (codes "mergeable", Guest ∷ [], λ owner. lines.Rare (rares.Mergeable owner))
+    ∷ (codes "move", Guest ∷ Page ∷ Node ∷ [], λ owner page node. lines.Rare (rares.MovePage (at owner page) node))
+    ∷ (codes "movedup", Place ∷ Node ∷ [], λ place node. lines.Rare (rares.MoveDup place node))
+    ∷ (codes "set", Knob ∷ Value ∷ [], λ named value. lines.Rare (rares.Set named value))
+    ∷ (codes "show", Shown ∷ [], λ named. lines.Rare (rares.Show named))
+    ∷ (codes "stat", [], lines.Short shorts.Stat)
+    ∷ (codes "find", Pass ∷ Place ∷ [], λ pass place. lines.Short (shorts.Find pass place))
+    ∷ (codes "equal", Pass ∷ Place ∷ Content ∷ [], λ pass place. lines.Page (pages.Equal pass place))
+    ∷ (codes "look", Pass ∷ [], λ pass. lines.Short (shorts.Look pass))
+    ∷ (codes "leave", Pass ∷ [], λ pass. lines.Short (shorts.Leave pass))
+    ∷ (codes "audit", [], lines.Rare rares.Audit)
     ∷ []
 
 -- the form of a name

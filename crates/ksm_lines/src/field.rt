@@ -7,9 +7,8 @@ ghost use Rattle.std.specs.Int.{w32, w64, from_le_bytes, to_le_bytes};
 ghost use Rattle.ksm_lines.specs.Content.{AreValues, digit_or_none, is_small, byte_at, pair_in, page_of_digits};
 ghost use Rattle.ksm_lines.specs.Content.{content_of};
 ghost use Rattle.ksm_lines.specs.Grammar.{words_of, guest as guest_kind, number as number_kind, knob as knob_kind};
-ghost use Rattle.ksm_lines.specs.Digits.{IsReadTo, IsHigh};
 ghost use Rattle.ksm_lines.specs.Reading.{Gives, GivesField, GivesLast, GivesPage, words_left, left_length};
-ghost use Rattle.ksm_lines.specs.Reading.{field, values, ended};
+ghost use Rattle.ksm_lines.specs.Reading.{field, values, ended, read};
 ghost use Rattle.ksm_lines.specs.declared.part.Part.TheVariants as parts;
 
 use crate::knob::{Knob, Shown, knob_named, shown_named};
@@ -109,73 +108,51 @@ pub fn ended(left: Option<&[u8]>) -> Result<(), LineFault>
     }
 }
 
-/// The number that the digits at the front of a text write, leading zeros included, and how many they are.
-#[inline(always)]
-pub fn digits_at(text: &[u8]) -> Result<(u32, usize), LineFault>
-    ensures front { IfOk result (λ r. IsReadTo r.1 text.now r.0) }
-    ensures inside { IfOk result (λ r. r.1 ≤ length text.now) }
-    ensures stops { IfOk result (λ r. r.1 < length text.now → is_ascii_digit (slice_index text.now r.1) ≡ false) }
-    ensures high { IfErr result (λ e. IsHigh text.now) }
+/// The number that a word writes.
+pub fn number_in(word: &[u8]) -> Result<u32, LineFault>
+    ensures { Gives result (read number_kind word.now) }
 {
+    if word.is_empty() || word.len() > 1 && word[0] == b'0' {
+        return Err(LineFault::Bad);
+    }
     let mut value: u64 = 0;
-    for at in 0..text.len() {
-        let byte = text[at];
+    for at in 0..word.len() {
+        let byte = word[at];
         if !byte.is_ascii_digit() {
-            return Ok((value as u32, at));
+            return Err(LineFault::Bad);
         }
         value = value * 10 + u64::from(byte - b'0');
         if value > u64::from(u32::MAX) {
             return Err(LineFault::Bad);
         }
     }
-    Ok((value as u32, text.len()))
+    Ok(value as u32)
 }
 
-/// What is left behind the digits at the front of a text, where they are its first word.
-fn behind(text: &[u8], end: usize) -> Result<Option<&[u8]>, LineFault>
-    requires inside { end ≤ length text.now }
-    requires digits { list_all is_ascii_digit (take end text.now) ≡ true }
-    requires stops { end < length text.now → is_ascii_digit (slice_index text.now end) ≡ false }
-    ensures words { IfOk result (λ left. words_of text.now ≡ take end text.now ∷ words_left left) }
-    ensures odd { IfErr result (λ e. field number_kind (words_of text.now) ≡ None) }
+/// The number of a guest that a word writes.
+pub fn guest_in(word: &[u8]) -> Result<u16, LineFault>
+    ensures { Gives result (read guest_kind word.now) }
 {
-    if end == text.len() {
-        return Ok(None);
+    match u16::try_from(number_in(word)?) {
+        Ok(guest) => Ok(guest),
+        Err(_) => Err(LineFault::Bad),
     }
-    if text[end] != b' ' {
-        return Err(LineFault::Bad);
-    }
-    Ok(Some(&text[end + 1..]))
 }
 
 /// The next word as a number.
-#[inline(always)]
 pub fn number(left: Option<&[u8]>) -> Result<(u32, Option<&[u8]>), LineFault>
     ensures { GivesField result (field number_kind (words_left left.entry)) }
 {
-    let Some(text) = left else {
-        return Err(LineFault::Bad);
-    };
-    let Ok((number, end)) = digits_at(text) else {
-        return Err(LineFault::Bad);
-    };
-    let left = behind(text, end)?;
-    if end == 0 || end > 1 && text[0] == b'0' {
-        return Err(LineFault::Bad);
-    }
-    Ok((number, left))
+    let (word, left) = cut(left.ok_or(LineFault::Bad)?);
+    Ok((number_in(word)?, left))
 }
 
 /// The next word as the number of a guest.
-#[inline(always)]
 pub fn guest(left: Option<&[u8]>) -> Result<(u16, Option<&[u8]>), LineFault>
     ensures { GivesField result (field guest_kind (words_left left.entry)) }
 {
-    let (number, left) = number(left)?;
-    match u16::try_from(number) {
-        Ok(guest) => Ok((guest, left)),
-        Err(_) => Err(LineFault::Bad),
-    }
+    let (word, left) = cut(left.ok_or(LineFault::Bad)?);
+    Ok((guest_in(word)?, left))
 }
 
 /// The last word as a number.
@@ -191,10 +168,9 @@ pub fn number_alone(left: Option<&[u8]>) -> Result<u32, LineFault>
 pub fn guest_alone(left: Option<&[u8]>) -> Result<u16, LineFault>
     ensures { GivesLast result (values (parts.Guest ∷ []) (words_left left.entry)) }
 {
-    match u16::try_from(number_alone(left)?) {
-        Ok(guest) => Ok(guest),
-        Err(_) => Err(LineFault::Bad),
-    }
+    let (guest, left) = guest(left)?;
+    ended(left)?;
+    Ok(guest)
 }
 
 /// The last two words as a page.

@@ -1,52 +1,26 @@
-//! The lines that come by the million, read where they lie: at the front of a text that has more behind them.
+//! Lines read where they lie: at the front of a text that has more behind them.
 //!
 //! A number ends at the byte behind it, and a line at its newline, so nobody looks for the newline first. No line is
-//! laid in a value that has room for a page: a short line has none, and one with a content gives that apart. What is
-//! not read here may still be a line; `read_line` tells.
-ghost use Rattle.std.specs.Prelude.{◌≡◌, ◌<◌, ◌^◌, ◌++◌, ◌∷◌, ℕ, List, IfSome, Some, decimal};
+//! laid in a value that has room for a page: one with a content gives that apart. What is not read here may still be a
+//! line; `read_line` tells.
+ghost use Rattle.std.specs.Prelude.{◌≡◌, ◌<◌, ◌≤◌, ◌^◌, ◌++◌, ◌∷◌, ℕ, List, IfSome, Some, decimal, length};
 ghost use Rattle.ksm_lines.specs.Content.{content_of};
-ghost use Rattle.ksm_lines.specs.Leading.{BeginsWith, short_form, page_form};
+ghost use Rattle.ksm_lines.specs.Knobs.{knob_of, shown_of};
+ghost use Rattle.ksm_lines.specs.Leading.{BeginsWith};
+ghost use Rattle.ksm_lines.specs.declared.line.Line.TheVariants as lines;
 
 use crate::field::{PAGE_DIGITS, behind_name, content_in, first_four};
+use crate::knob::{Knob, Shown, knob_named, shown_named};
+use crate::line::{PageLine, RareLine, ShortLine};
 use ksm_base::{GuestPage, PageBytes};
 
 /// With a digit more, a number up to this one fits.
 const MOST_BEFORE_A_DIGIT: u32 = 429_496_728;
 
-/// A line without a content that comes by the million.
-#[derive(Clone, Copy)]
-pub enum ShortLine {
-    /// `get G P`
-    Get { page: GuestPage },
-    /// `ticket G P`
-    Ticket { page: GuestPage },
-    /// `find K PLACE`
-    Find { pass: u32, place: u32 },
-    /// `look K`
-    Look { pass: u32 },
-    /// `leave K`
-    Leave { pass: u32 },
-    /// `scan N`
-    Scan { visits: u32 },
-    /// `stat`
-    Stat,
-}
-
-/// A line with the content of a page, without that content.
-#[derive(Clone, Copy)]
-pub enum PageLine {
-    /// `reg G P NODE HEX`
-    Register { page: GuestPage, node: u32 },
-    /// `put G P HEX`
-    Store { page: GuestPage },
-    /// `equal K PLACE HEX`
-    Equal { pass: u32, place: u32 },
-}
-
 /// The short line at the front of a text, and what is behind its newline.
 #[inline(always)]
 pub fn leading_short_line(text: &[u8]) -> Option<(ShortLine, &[u8])>
-    ensures { IfSome result (λ r. BeginsWith (short_form r.0) text.now r.1.now) }
+    ensures { IfSome result (λ r. BeginsWith (lines.Short r.0) text.now r.1.now) }
 {
     if text.len() < 4 {
         return None;
@@ -85,7 +59,7 @@ pub fn leading_short_line(text: &[u8]) -> Option<(ShortLine, &[u8])>
 /// The line with a content at the front of a text, its content, and what is behind its newline.
 #[inline(always)]
 pub fn leading_page_line(text: &[u8]) -> Option<(PageLine, PageBytes, &[u8])>
-    ensures { IfSome result (λ r. BeginsWith (page_form r.0 r.1) text.now r.2.now) }
+    ensures { IfSome result (λ r. BeginsWith (lines.Page r.0 r.1) text.now r.2.now) }
 {
     if text.len() < 4 {
         return None;
@@ -103,9 +77,73 @@ pub fn leading_page_line(text: &[u8]) -> Option<(PageLine, PageBytes, &[u8])>
     None
 }
 
+/// The line at the front of a text, of those without a content that come seldom, and what is behind its newline.
+pub fn leading_rare_line(text: &[u8]) -> Option<(RareLine, &[u8])>
+    ensures { IfSome result (λ r. BeginsWith (lines.Rare r.0) text.now r.1.now) }
+{
+    if text.len() < 4 {
+        return None;
+    }
+    let front = first_four(text);
+    if front == first_four(b"show ") {
+        let (shown, left) = shown_to_newline(behind_name(text, b"show ")?)?;
+        return Some((RareLine::Show { shown }, left));
+    }
+    if front == first_four(b"set ") {
+        let (knob, left) = knob_to_space(behind_name(text, b"set ")?)?;
+        let (value, left) = number_to(left, b'\n')?;
+        return Some((RareLine::Set { knob, value }, left));
+    }
+    if front == first_four(b"prune\n") {
+        let left = behind_name(text, b"prune\n")?;
+        return Some((RareLine::Prune, left));
+    }
+    if front == first_four(b"scan\n") {
+        let left = behind_name(text, b"scan\n")?;
+        return Some((RareLine::ScanPages, left));
+    }
+    if front == first_four(b"audit\n") {
+        let left = behind_name(text, b"audit\n")?;
+        return Some((RareLine::Audit, left));
+    }
+    line_of_place(text)
+}
+
+/// The same for a line that begins with a guest, a page or a place.
+fn line_of_place(text: &[u8]) -> Option<(RareLine, &[u8])>
+    requires { 4 ≤ length text.now }
+    ensures { IfSome result (λ r. BeginsWith (lines.Rare r.0) text.now r.1.now) }
+{
+    let front = first_four(text);
+    if front == first_four(b"mergeable ") {
+        let (guest, left) = guest_to(behind_name(text, b"mergeable ")?, b'\n')?;
+        return Some((RareLine::Mergeable { guest }, left));
+    }
+    if front == first_four(b"unmerge ") {
+        let (guest, left) = guest_to(behind_name(text, b"unmerge ")?, b'\n')?;
+        return Some((RareLine::Unmerge { guest }, left));
+    }
+    if front == first_four(b"drop ") {
+        let (page, left) = page_to(behind_name(text, b"drop ")?, b'\n')?;
+        return Some((RareLine::Drop { page }, left));
+    }
+    if front == first_four(b"rmap ") {
+        let (place, left) = number_to(behind_name(text, b"rmap ")?, b'\n')?;
+        return Some((RareLine::Mappers { place }, left));
+    }
+    if let Some(left) = behind_name(text, b"movedup ") {
+        let (place, left) = number_to(left, b' ')?;
+        let (node, left) = number_to(left, b'\n')?;
+        return Some((RareLine::MoveDup { place, node }, left));
+    }
+    let (page, left) = page_to(behind_name(text, b"move ")?, b' ')?;
+    let (node, left) = number_to(left, b'\n')?;
+    Some((RareLine::MovePage { page, node }, left))
+}
+
 #[inline(always)]
 fn store(text: &[u8]) -> Option<(PageLine, PageBytes, &[u8])>
-    ensures { IfSome result (λ r. BeginsWith (page_form r.0 r.1) text.now r.2.now) }
+    ensures { IfSome result (λ r. BeginsWith (lines.Page r.0 r.1) text.now r.2.now) }
 {
     let left = behind_name(text, b"put ")?;
     let (page, left) = page_to(left, b' ')?;
@@ -115,7 +153,7 @@ fn store(text: &[u8]) -> Option<(PageLine, PageBytes, &[u8])>
 
 #[inline(always)]
 fn equal(text: &[u8]) -> Option<(PageLine, PageBytes, &[u8])>
-    ensures { IfSome result (λ r. BeginsWith (page_form r.0 r.1) text.now r.2.now) }
+    ensures { IfSome result (λ r. BeginsWith (lines.Page r.0 r.1) text.now r.2.now) }
 {
     let left = behind_name(text, b"equal ")?;
     let (pass, left) = number_to(left, b' ')?;
@@ -126,7 +164,7 @@ fn equal(text: &[u8]) -> Option<(PageLine, PageBytes, &[u8])>
 
 #[inline(always)]
 fn register(text: &[u8]) -> Option<(PageLine, PageBytes, &[u8])>
-    ensures { IfSome result (λ r. BeginsWith (page_form r.0 r.1) text.now r.2.now) }
+    ensures { IfSome result (λ r. BeginsWith (lines.Page r.0 r.1) text.now r.2.now) }
 {
     let left = behind_name(text, b"reg ")?;
     let (page, left) = page_to(left, b' ')?;
@@ -210,4 +248,38 @@ fn content_of_length(text: &[u8], digits: usize) -> Option<(PageBytes, &[u8])>
         Ok(bytes) => Some((bytes, &text[digits + 1..])),
         Err(_) => None,
     }
+}
+
+/// What is shown by the name at the front of a text, and what is behind the newline that ends it.
+fn shown_to_newline(text: &[u8]) -> Option<(Shown, &[u8])>
+    ensures { IfSome result (λ r. (word : List ℕ) × (shown_of word ≡ Some r.0) × (text.now ≡ word ++ 10 ∷ r.1.now)) }
+{
+    let (word, left) = word_to(text, b'\n')?;
+    match shown_named(word) {
+        Ok(shown) => Some((shown, left)),
+        Err(_) => None,
+    }
+}
+
+/// The knob whose name is at the front of a text, and what is behind the space that ends it.
+fn knob_to_space(text: &[u8]) -> Option<(Knob, &[u8])>
+    ensures { IfSome result (λ r. (word : List ℕ) × (knob_of word ≡ Some r.0) × (text.now ≡ word ++ 32 ∷ r.1.now)) }
+{
+    let (word, left) = word_to(text, b' ')?;
+    match knob_named(word) {
+        Ok(knob) => Some((knob, left)),
+        Err(_) => None,
+    }
+}
+
+/// What stands before the first such byte of a text, and what is behind it.
+fn word_to(text: &[u8], end: u8) -> Option<(&[u8], &[u8])>
+    ensures { IfSome result (λ r. text.now ≡ r.0.now ++ end ∷ r.1.now) }
+{
+    for at in 0..text.len() {
+        if text[at] == end {
+            return Some((&text[..at], &text[at + 1..]));
+        }
+    }
+    None
 }

@@ -4,6 +4,12 @@ ghost use Rattle.ksm_lines.specs.declared.line.Line.{Line};
 ghost use Rattle.ksm_lines.specs.Grammar.{IsNoLine, Writes, words_of};
 ghost use Rattle.ksm_lines.specs.Reading.{Gives, words_left, line_at, named_line};
 
+use self::Line::{Page, Rare, Short};
+use self::PageLine::{Equal, Register, Store};
+use self::RareLine::{
+    Audit, Mappers, Mergeable, MoveDup, MovePage, Prune, ScanPages, Set, Show, Unmerge,
+};
+use self::ShortLine::{Find, Get, Leave, Look, Scan, Stat, Ticket};
 use crate::field::{
     content_alone, cut, ended, guest, guest_alone, is, knob, number, number_alone, page_alone,
     shown_alone,
@@ -12,94 +18,72 @@ use crate::knob::{Knob, Shown};
 use ksm_base::{GuestPage, PageBytes};
 use thiserror::Error;
 
-/// A line of a script, one variant for each form (own).
+/// A line of a script, by how often it comes and whether it has the content of a page (own).
 #[derive(Clone, Copy)]
 pub enum Line {
     /// No bytes: nothing is done, and there is no reply.
     Empty,
-    /// `reg G P NODE HEX`
-    Register {
-        page: GuestPage,
-        node: u32,
-        bytes: PageBytes,
-    },
-    /// `drop G P`
-    Drop {
-        page: GuestPage,
-    },
-    /// `put G P HEX`
-    Store {
-        page: GuestPage,
-        bytes: PageBytes,
-    },
+    /// One that comes by the million, without a content.
+    Short(ShortLine),
+    /// One with a content, which stands apart.
+    Page(PageLine, PageBytes),
+    /// One that comes seldom, without a content.
+    Rare(RareLine),
+}
+
+/// A line without a content that comes by the million.
+#[derive(Clone, Copy)]
+pub enum ShortLine {
     /// `get G P`
-    Get {
-        page: GuestPage,
-    },
+    Get { page: GuestPage },
     /// `ticket G P`
-    Ticket {
-        page: GuestPage,
-    },
+    Ticket { page: GuestPage },
+    /// `find K PLACE`
+    Find { pass: u32, place: u32 },
+    /// `look K`
+    Look { pass: u32 },
+    /// `leave K`
+    Leave { pass: u32 },
+    /// `scan N`
+    Scan { visits: u32 },
+    /// `stat`
+    Stat,
+}
+
+/// A line with the content of a page, without that content.
+#[derive(Clone, Copy)]
+pub enum PageLine {
+    /// `reg G P NODE HEX`
+    Register { page: GuestPage, node: u32 },
+    /// `put G P HEX`
+    Store { page: GuestPage },
+    /// `equal K PLACE HEX`
+    Equal { pass: u32, place: u32 },
+}
+
+/// A line without a content that comes seldom.
+#[derive(Clone, Copy)]
+pub enum RareLine {
+    /// `drop G P`
+    Drop { page: GuestPage },
     /// `rmap PLACE`
-    Mappers {
-        place: u32,
-    },
+    Mappers { place: u32 },
     /// `scan`: as many visits as the knob `pages_to_scan` says.
     ScanPages,
-    /// `scan N`
-    Scan {
-        visits: u32,
-    },
     /// `prune`
     Prune,
     /// `unmerge G`
-    Unmerge {
-        guest: u16,
-    },
+    Unmerge { guest: u16 },
     /// `mergeable G`
-    Mergeable {
-        guest: u16,
-    },
+    Mergeable { guest: u16 },
     /// `move G P NODE`
-    MovePage {
-        page: GuestPage,
-        node: u32,
-    },
+    MovePage { page: GuestPage, node: u32 },
     /// `movedup PLACE NODE`
-    MoveDup {
-        place: u32,
-        node: u32,
-    },
+    MoveDup { place: u32, node: u32 },
     /// `set KNOB V`
-    Set {
-        knob: Knob,
-        value: u32,
-    },
+    Set { knob: Knob, value: u32 },
     /// `show KNOB`, `show ksm_zero_pages`
-    Show {
-        shown: Shown,
-    },
-    /// `stat`
-    Stat,
-    /// `find K PLACE`
-    Find {
-        pass: u32,
-        place: u32,
-    },
-    /// `equal K PLACE HEX`
-    Equal {
-        pass: u32,
-        place: u32,
-        bytes: PageBytes,
-    },
-    /// `look K`
-    Look {
-        pass: u32,
-    },
-    /// `leave K`
-    Leave {
-        pass: u32,
-    },
+    Show { shown: Shown },
     /// `audit`
     Audit,
 }
@@ -128,27 +112,27 @@ fn named(name: &[u8], left: Option<&[u8]>) -> Result<Line, LineFault>
     ensures { Gives result (named_line name.now (words_left left.entry)) }
 {
     match name {
-        _ if is(name, b"put") => store(left),
-        _ if is(name, b"get") => page_alone(left).map(|page| Line::Get { page }),
-        _ if is(name, b"reg") => register(left),
-        _ if is(name, b"drop") => page_alone(left).map(|page| Line::Drop { page }),
         _ if is(name, b"") => ended(left).map(|()| Line::Empty),
-        _ if is(name, b"ticket") => page_alone(left).map(|page| Line::Ticket { page }),
-        _ if is(name, b"rmap") => number_alone(left).map(|place| Line::Mappers { place }),
+        _ if is(name, b"put") => store(left),
+        _ if is(name, b"reg") => register(left),
+        _ if is(name, b"equal") => equal(left),
+        _ if is(name, b"get") => page_alone(left).map(|page| Short(Get { page })),
+        _ if is(name, b"ticket") => page_alone(left).map(|page| Short(Ticket { page })),
+        _ if is(name, b"find") => find(left),
+        _ if is(name, b"look") => number_alone(left).map(|pass| Short(Look { pass })),
+        _ if is(name, b"leave") => number_alone(left).map(|pass| Short(Leave { pass })),
         _ if is(name, b"scan") => scan(left),
-        _ if is(name, b"prune") => ended(left).map(|()| Line::Prune),
-        _ if is(name, b"unmerge") => guest_alone(left).map(|guest| Line::Unmerge { guest }),
-        _ if is(name, b"mergeable") => guest_alone(left).map(|guest| Line::Mergeable { guest }),
+        _ if is(name, b"stat") => ended(left).map(|()| Short(Stat)),
+        _ if is(name, b"drop") => page_alone(left).map(|page| Rare(RareLine::Drop { page })),
+        _ if is(name, b"rmap") => number_alone(left).map(|place| Rare(Mappers { place })),
+        _ if is(name, b"prune") => ended(left).map(|()| Rare(Prune)),
+        _ if is(name, b"unmerge") => guest_alone(left).map(|guest| Rare(Unmerge { guest })),
+        _ if is(name, b"mergeable") => guest_alone(left).map(|guest| Rare(Mergeable { guest })),
         _ if is(name, b"move") => move_page(left),
         _ if is(name, b"movedup") => move_dup(left),
         _ if is(name, b"set") => set(left),
-        _ if is(name, b"show") => shown_alone(left).map(|shown| Line::Show { shown }),
-        _ if is(name, b"stat") => ended(left).map(|()| Line::Stat),
-        _ if is(name, b"find") => find(left),
-        _ if is(name, b"equal") => equal(left),
-        _ if is(name, b"look") => number_alone(left).map(|pass| Line::Look { pass }),
-        _ if is(name, b"leave") => number_alone(left).map(|pass| Line::Leave { pass }),
-        _ if is(name, b"audit") => ended(left).map(|()| Line::Audit),
+        _ if is(name, b"show") => shown_alone(left).map(|shown| Rare(Show { shown })),
+        _ if is(name, b"audit") => ended(left).map(|()| Rare(Audit)),
         _ => Err(LineFault::Bad),
     }
 }
@@ -161,7 +145,7 @@ fn register(left: Option<&[u8]>) -> Result<Line, LineFault>
     let (node, left) = number(left)?;
     let bytes = content_alone(left)?;
     let page = GuestPage { guest, page };
-    Ok(Line::Register { page, node, bytes })
+    Ok(Page(Register { page, node }, bytes))
 }
 
 fn store(left: Option<&[u8]>) -> Result<Line, LineFault>
@@ -171,15 +155,15 @@ fn store(left: Option<&[u8]>) -> Result<Line, LineFault>
     let (page, left) = number(left)?;
     let bytes = content_alone(left)?;
     let page = GuestPage { guest, page };
-    Ok(Line::Store { page, bytes })
+    Ok(Page(Store { page }, bytes))
 }
 
 fn scan(left: Option<&[u8]>) -> Result<Line, LineFault>
     ensures { Gives result (named_line (codes "scan") (words_left left.entry)) }
 {
     match ended(left) {
-        Ok(()) => Ok(Line::ScanPages),
-        Err(_) => number_alone(left).map(|visits| Line::Scan { visits }),
+        Ok(()) => Ok(Rare(ScanPages)),
+        Err(_) => number_alone(left).map(|visits| Short(Scan { visits })),
     }
 }
 
@@ -190,7 +174,7 @@ fn move_page(left: Option<&[u8]>) -> Result<Line, LineFault>
     let (page, left) = number(left)?;
     let node = number_alone(left)?;
     let page = GuestPage { guest, page };
-    Ok(Line::MovePage { page, node })
+    Ok(Rare(MovePage { page, node }))
 }
 
 fn move_dup(left: Option<&[u8]>) -> Result<Line, LineFault>
@@ -198,7 +182,7 @@ fn move_dup(left: Option<&[u8]>) -> Result<Line, LineFault>
 {
     let (place, left) = number(left)?;
     let node = number_alone(left)?;
-    Ok(Line::MoveDup { place, node })
+    Ok(Rare(MoveDup { place, node }))
 }
 
 fn set(left: Option<&[u8]>) -> Result<Line, LineFault>
@@ -206,7 +190,7 @@ fn set(left: Option<&[u8]>) -> Result<Line, LineFault>
 {
     let (knob, left) = knob(left)?;
     let value = number_alone(left)?;
-    Ok(Line::Set { knob, value })
+    Ok(Rare(Set { knob, value }))
 }
 
 fn find(left: Option<&[u8]>) -> Result<Line, LineFault>
@@ -214,7 +198,7 @@ fn find(left: Option<&[u8]>) -> Result<Line, LineFault>
 {
     let (pass, left) = number(left)?;
     let place = number_alone(left)?;
-    Ok(Line::Find { pass, place })
+    Ok(Short(Find { pass, place }))
 }
 
 fn equal(left: Option<&[u8]>) -> Result<Line, LineFault>
@@ -223,5 +207,5 @@ fn equal(left: Option<&[u8]>) -> Result<Line, LineFault>
     let (pass, left) = number(left)?;
     let (place, left) = number(left)?;
     let bytes = content_alone(left)?;
-    Ok(Line::Equal { pass, place, bytes })
+    Ok(Page(Equal { pass, place }, bytes))
 }

@@ -5,7 +5,7 @@ ghost use Rattle.ksm_lines.specs.Grammar.{kind_of};
 ghost use Rattle.ksm_lines.specs.Reading.{parts_given, parts_in, read};
 
 use self::Part::{Content, Guest, Knob, Node, Page, Pass, Place, Shown, Value, Visits};
-use crate::field::{content_in, guest_alone, is, number_alone};
+use crate::field::{content_in, guest_in, is, number_in};
 use crate::knob::{knob_named, shown_named};
 
 /// What a word behind the name of a line stands for.
@@ -69,10 +69,10 @@ pub fn is_read(part: Part, word: &[u8]) -> bool
     ensures { result ≡ is_some (read (kind_of part) word.now) }
 {
     match part {
-        Guest => guest_alone(Some(word)).is_ok(),
+        Guest => guest_in(word).is_ok(),
         Content => content_in(word).is_ok(),
         Knob => knob_named(word).is_ok(),
         Shown => shown_named(word).is_ok(),
-        _ => number_alone(Some(word)).is_ok(),
+        _ => number_in(word).is_ok(),
     }
 }

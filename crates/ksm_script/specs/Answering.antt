@@ -1,5 +1,5 @@
 -- What a line is answered, and the state after it (own).
-use Rattle.std.specs.Prelude.{◌≡◌, ⊤, ℕ, Bool, true, false, List, [], Option, Some, None, IsSome, Ok, Err}
+use Rattle.std.specs.Prelude.{◌≡◌, ℕ, Bool, true, false, List, [], Option, Some, None, IsSome, Ok, Err}
 use Rattle.std.specs.List.{AllZip}
 use Rattle.ksm_base.specs.declared.command.Command.{Command}
 use Rattle.ksm_base.specs.declared.command.Command.TheVariants as commands
@@ -15,6 +15,9 @@ use Rattle.ksm_base.specs.declared.page.GuestPage.{GuestPage}
 use Rattle.ksm_base.specs.Refusals.{is_known}
 use Rattle.ksm_lines.specs.declared.line.Line.{Line}
 use Rattle.ksm_lines.specs.declared.line.Line.TheVariants as lines
+use Rattle.ksm_lines.specs.declared.line.PageLine.TheVariants as pages
+use Rattle.ksm_lines.specs.declared.line.RareLine.TheVariants as rares
+use Rattle.ksm_lines.specs.declared.line.ShortLine.TheVariants as shorts
 use Rattle.ksm_script.specs.declared.pass_state.PassState.{PassState}
 use Rattle.ksm_script.specs.declared.refusal.Refusal.TheVariants.{Book}
 use Rattle.ksm_script.specs.declared.reply.LineReply.{LineReply}
@@ -83,42 +86,27 @@ OnPasses Does s (Some reply) next = Does s.passes reply next.passes × KeepsBook
 -- a line is answered so in a state, and leaves the other one
 abbrev pub Answers : Line → ScriptState → Option LineReply → ScriptState → Type 0
 Answers lines.Empty = Reads (λ b. None)
-Answers (lines.Register page node bytes) = Commands (commands.Register page node bytes)
-Answers (lines.Drop page) = Commands (commands.Drop page)
-Answers (lines.Store page bytes) = Commands (commands.Store page bytes)
-Answers (lines.Get page) = Reads (λ b. Some (content_reply (bytes_of page b)))
-Answers (lines.Ticket page) = Reads (λ b. Some (ticket_reply (is_known b page) (ticket_of page b)))
-Answers (lines.Mappers place) = Lists place
-Answers lines.ScanPages = λ s. Commands (commands.Scan s.book.knobs.pages_to_scan) s
-Answers (lines.Scan visits) = Commands (commands.Scan visits)
-Answers lines.Prune = Commands commands.Prune
-Answers (lines.Unmerge guest) = Commands (commands.Unmerge guest)
-Answers (lines.Mergeable guest) = Commands (commands.Mergeable guest)
-Answers (lines.MovePage page node) = Commands (commands.MovePage page node)
-Answers (lines.MoveDup place node) = Commands (commands.MoveDup place node)
-Answers (lines.Set knob value) = Commands (setting knob value)
-Answers (lines.Show shown) = Reads (λ b. Some (told.Value (shown_in shown b)))
-Answers lines.Stat = Reads (λ b. Some (told.Counters (counters_of b)))
-Answers (lines.Find number place) = OnPasses (AtPass number (Finds place))
-Answers (lines.Equal number place bytes) = OnPasses (AtPass number (Equals place bytes))
-Answers (lines.Look number) = OnPasses (AtPass number LooksAt)
-Answers (lines.Leave number) = OnPasses (AtPass number GivesUp)
-Answers lines.Audit = OnPasses Audits
-
--- the lines that are no commands of their own: they tell something, scan as the knob says, or are for a pass
-abbrev pub IsTold : Line → Type 0
-IsTold lines.Empty = ⊥
-IsTold (lines.Register page node bytes) = ⊥
-IsTold (lines.Drop page) = ⊥
-IsTold (lines.Store page bytes) = ⊥
-IsTold (lines.Scan visits) = ⊥
-IsTold lines.Prune = ⊥
-IsTold (lines.Unmerge guest) = ⊥
-IsTold (lines.Mergeable guest) = ⊥
-IsTold (lines.MovePage page node) = ⊥
-IsTold (lines.MoveDup place node) = ⊥
-IsTold (lines.Set knob value) = ⊥
-IsTold _ = ⊤
+Answers (lines.Page (pages.Register page node) bytes) = Commands (commands.Register page node bytes)
+Answers (lines.Rare (rares.Drop page)) = Commands (commands.Drop page)
+Answers (lines.Page (pages.Store page) bytes) = Commands (commands.Store page bytes)
+Answers (lines.Short (shorts.Get page)) = Reads (λ b. Some (content_reply (bytes_of page b)))
+Answers (lines.Short (shorts.Ticket page)) = Reads (λ b. Some (ticket_reply (is_known b page) (ticket_of page b)))
+Answers (lines.Rare (rares.Mappers place)) = Lists place
+Answers (lines.Rare rares.ScanPages) = λ s. Commands (commands.Scan s.book.knobs.pages_to_scan) s
+Answers (lines.Short (shorts.Scan visits)) = Commands (commands.Scan visits)
+Answers (lines.Rare rares.Prune) = Commands commands.Prune
+Answers (lines.Rare (rares.Unmerge guest)) = Commands (commands.Unmerge guest)
+Answers (lines.Rare (rares.Mergeable guest)) = Commands (commands.Mergeable guest)
+Answers (lines.Rare (rares.MovePage page node)) = Commands (commands.MovePage page node)
+Answers (lines.Rare (rares.MoveDup place node)) = Commands (commands.MoveDup place node)
+Answers (lines.Rare (rares.Set knob value)) = Commands (setting knob value)
+Answers (lines.Rare (rares.Show shown)) = Reads (λ b. Some (told.Value (shown_in shown b)))
+Answers (lines.Short shorts.Stat) = Reads (λ b. Some (told.Counters (counters_of b)))
+Answers (lines.Short (shorts.Find number place)) = OnPasses (AtPass number (Finds place))
+Answers (lines.Page (pages.Equal number place) bytes) = OnPasses (AtPass number (Equals place bytes))
+Answers (lines.Short (shorts.Look number)) = OnPasses (AtPass number LooksAt)
+Answers (lines.Short (shorts.Leave number)) = OnPasses (AtPass number GivesUp)
+Answers (lines.Rare rares.Audit) = OnPasses Audits
 
 -- all holds are given back
 abbrev pub AllGivenBack : ScriptState → ScriptState → Type 0

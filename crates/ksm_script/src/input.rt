@@ -2,7 +2,7 @@
 ghost use Rattle.std.specs.Prelude.{◌≡◌, ◌≢◌, ◌+◌, ◌≤◌, ◌++◌, ◌<◌, [], ℕ, List, None, Some, Ok, true, false};
 ghost use Rattle.std.specs.Prelude.{length, take, IfOk, IfErr, IfNone, IfSome, IsTrue, ◌↔◌};
 ghost use Rattle.std.specs.Io.KnownBytes.{Consumes, Keeps, IsAtEnd};
-ghost use Rattle.ksm_lines.specs.Leading.{short_form, page_form};
+ghost use Rattle.ksm_lines.specs.declared.line.Line.TheVariants as lines;
 ghost use Rattle.ksm_script.specs.Dialogue.{BreaksOff, Dialogue, IsWithin};
 ghost use Rattle.ksm_script.specs.Takes.{Came, Extends, Takes, TakesForm, Took};
 ghost use Rattle.ksm_script.specs.Input.{EndsAs, IsPlain};
@@ -10,7 +10,9 @@ ghost use Rattle.ksm_script.specs.Input.{EndsAs, IsPlain};
 use crate::lane::Lane;
 use crate::script::RunFault;
 use ksm_base::PageBytes;
-use ksm_lines::{Line, PageLine, ShortLine, leading_page_line, leading_short_line, read_line};
+use ksm_lines::{
+    PageLine, RareLine, ShortLine, leading_page_line, leading_rare_line, leading_short_line,
+};
 use memchr::memchr;
 use std::io::Write;
 use std::marker::Model;
@@ -129,7 +131,7 @@ impl LineBuffer {
 /// Takes the newline of a line of no bytes, if that is next at hand; tells whether it did. Else nothing is taken.
 #[inline(always)]
 pub(crate) fn take_empty<M: Lane<R, W>, R, W: Write>(reader: &mut R) -> bool
-    ensures taken { result ≡ true → TakesForm Line.Empty (Took M.remaining M.takes reader.old reader.new) }
+    ensures taken { result ≡ true → TakesForm lines.Empty (Took M.remaining M.takes reader.old reader.new) }
     ensures none { result ≡ false → reader.new ≡ reader.old }
 {
     let [b'\n', ..] = M::at_hand(reader) else {
@@ -144,7 +146,7 @@ pub(crate) fn take_empty<M: Lane<R, W>, R, W: Write>(reader: &mut R) -> bool
 #[inline(always)]
 pub(crate) fn take_short<M: Lane<R, W>, R, W: Write>(reader: &mut R) -> Option<ShortLine>
     ensures taken { IfSome result
-        (λ line. TakesForm (short_form line) (Took M.remaining M.takes reader.old reader.new)) }
+        (λ line. TakesForm (lines.Short line) (Took M.remaining M.takes reader.old reader.new)) }
     ensures none { IfNone result (reader.new ≡ reader.old) }
 {
     let bytes = M::at_hand(reader);
@@ -162,7 +164,7 @@ pub(crate) fn take_short<M: Lane<R, W>, R, W: Write>(reader: &mut R) -> Option<S
 #[inline(always)]
 pub(crate) fn take_page<M: Lane<R, W>, R, W: Write>(reader: &mut R) -> Option<(PageLine, PageBytes)>
     ensures taken { IfSome result
-        (λ r. TakesForm (page_form r.0 r.1) (Took M.remaining M.takes reader.old reader.new)) }
+        (λ r. TakesForm (lines.Page r.0 r.1) (Took M.remaining M.takes reader.old reader.new)) }
     ensures none { IfNone result (reader.new ≡ reader.old) }
 {
     let bytes = M::at_hand(reader);
@@ -173,21 +175,20 @@ pub(crate) fn take_page<M: Lane<R, W>, R, W: Write>(reader: &mut R) -> Option<(P
     Some((line, content))
 }
 
-/// Takes the line that is whole at hand, read where it lies, if it is one of the forms. Else nothing is taken.
-pub(crate) fn take_whole<M: Lane<R, W>, R, W: Write>(reader: &mut R) -> Option<Line>
+/// Takes the line that is next at hand, read where it lies, if it is one without a content that comes seldom. Else
+/// nothing is taken, which may be of any line.
+pub(crate) fn take_rare<M: Lane<R, W>, R, W: Write>(reader: &mut R) -> Option<RareLine>
     ensures taken { IfSome result
-        (λ form. TakesForm form (Took M.remaining M.takes reader.old reader.new)) }
+        (λ line. TakesForm (lines.Rare line) (Took M.remaining M.takes reader.old reader.new)) }
     ensures none { IfNone result (reader.new ≡ reader.old) }
 {
     let bytes = M::at_hand(reader);
     let block = &bytes[..bytes.len().min(LINE_ROOM)];
-    let Some(end) = memchr(b'\n', block) else {
+    let Some((line, left)) = leading_rare_line(block) else {
         return None;
     };
-    let Ok(line) = read_line(&block[..end]) else {
-        return None;
-    };
-    M::consume(reader, end + 1);
+    let taken = block.len() - left.len();
+    M::consume(reader, taken);
     Some(line)
 }
 

@@ -2,7 +2,7 @@
 ghost use Rattle.ksm_script.specs.Said.{WritesText};
 
 use crate::lane::Sends;
-use crate::script::RunFault;
+use crate::script::{RunFault, Told};
 use std::io::Write;
 
 // It is inlined so that the compiler knows the length of a text, and writes a short one by a few stores to the writer's
@@ -11,7 +11,7 @@ use std::io::Write;
 /// Writes a text, or the beginning of it that the writer took before its fault. Mostly the writer takes all of it at
 /// once.
 #[inline(always)]
-pub fn write_text<S: Sends<W>, W: Write>(writer: &mut W, text: &[u8]) -> Result<(), RunFault>
+pub fn write_text<S: Sends<W>, W: Write>(writer: &mut W, text: &[u8]) -> Told
     ensures { WritesText W.contents S.fails writer.old writer.new text.now result }
 {
     let count = S::put(writer, text)?;
@@ -26,7 +26,7 @@ pub fn write_text<S: Sends<W>, W: Write>(writer: &mut W, text: &[u8]) -> Result<
 
 /// Writes a text part by part.
 #[inline(never)]
-fn write_parts<S: Sends<W>, W: Write>(writer: &mut W, text: &[u8]) -> Result<(), RunFault>
+fn write_parts<S: Sends<W>, W: Write>(writer: &mut W, text: &[u8]) -> Told
     ensures { WritesText W.contents S.fails writer.old writer.new text.now result }
 {
     let mut at = 0;

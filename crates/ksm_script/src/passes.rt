@@ -19,10 +19,12 @@ use std::marker::Model;
 use std::mem;
 use std::thread::Threads;
 
+/// A slot for each pass. It has its pass, but while something is done with that.
+type Slots = Vec<Option<PassState>>;
+
 /// The passes of a session, in the order of their numbers. Contracts see the list of them. They must be closed.
 pub struct Passes {
-    // Each slot has its pass, but while something is done with it.
-    slots: Vec<Option<PassState>>,
+    slots: Slots,
     // Nothing, and room for all passes.
     room: Vec<Pass>,
 }
@@ -51,7 +53,7 @@ fn fill(slot: &mut Option<PassState>, state: PassState)
 
 /// Takes the pass of a number out of its slot, if there is one.
 #[inline(always)]
-fn take_at(slots: &mut Vec<Option<PassState>>, number: u32) -> Option<PassState>
+fn take_at(slots: &mut Slots, number: u32) -> Option<PassState>
     requires { AreThere slots.old.items }
     ensures taken { result ≡ slice_get (present slots.old.items) number }
     ensures slots { IfSome result (λ s. slots.new.items ≡ slice_set slots.old.items number None) }
@@ -67,7 +69,7 @@ fn take_at(slots: &mut Vec<Option<PassState>>, number: u32) -> Option<PassState>
 
 /// Puts the pass of a number back.
 #[inline(always)]
-fn put_at(slots: &mut Vec<Option<PassState>>, number: u32, state: PassState)
+fn put_at(slots: &mut Slots, number: u32, state: PassState)
     requires { slice_get slots.old.items number ≡ Some None }
     ensures slots { slots.new.items ≡ slice_set slots.old.items number (Some state) }
     ensures len { vec_len slots.new ≡ vec_len slots.old }
@@ -77,12 +79,7 @@ fn put_at(slots: &mut Vec<Option<PassState>>, number: u32, state: PassState)
 
 /// Does with the pass of a number what a line asks.
 #[inline(always)]
-fn act_at(
-    slots: &mut Vec<Option<PassState>>,
-    table: &FrameTable,
-    number: u32,
-    act: Act,
-) -> LineReply
+fn act_at(slots: &mut Slots, table: &FrameTable, number: u32, act: Act) -> LineReply
     requires there { AreThere slots.old.items }
     requires own { All (λ s. table_of s ≡ table.now) (present slots.old.items) }
     ensures acts { ActsAt table.now number (Acts act) slots.old.items result slots.new.items }
@@ -112,7 +109,7 @@ fn take_if_idle(slot: &mut Option<PassState>, idle: &mut Vec<Pass>)
 }
 
 /// Takes out the passes that hold nothing, in order.
-fn take_idle(slots: &mut Vec<Option<PassState>>, idle: &mut Vec<Pass>)
+fn take_idle(slots: &mut Slots, idle: &mut Vec<Pass>)
     requires there { AreThere slots.old.items }
     requires room { (idle.old.items ≡ []) × (vec_len slots.old ≤ vec_capacity idle.old) }
     ensures slots { slots.new.items ≡ map emptied slots.old.items }
@@ -126,7 +123,7 @@ fn take_idle(slots: &mut Vec<Option<PassState>>, idle: &mut Vec<Pass>)
 }
 
 /// Puts passes that hold nothing into the empty slots, in order.
-fn put_idle(slots: &mut Vec<Option<PassState>>, idle: &mut Vec<Pass>)
+fn put_idle(slots: &mut Slots, idle: &mut Vec<Pass>)
     requires { gaps slots.old.items ≡ vec_len idle.old }
     ensures slots { slots.new.items ≡ refilled slots.old.items idle.old.items }
     ensures idle { idle.new.items ≡ [] }
@@ -180,7 +177,7 @@ fn give_back_at(slot: &mut Option<PassState>, table: &FrameTable)
 }
 
 /// Gives all holds back.
-fn give_back_all(slots: &mut Vec<Option<PassState>>, table: &FrameTable)
+fn give_back_all(slots: &mut Slots, table: &FrameTable)
     requires own { All (λ o. IsSomeAnd o (λ s. table_of s ≡ table.now)) slots.old.items }
     ensures given { AllZip (λ o. InBoth EndsIdle o) slots.old.items slots.new.items }
     ensures own { All (λ o. IsSomeAnd o (λ s. table_of s ≡ table.now)) slots.new.items }
@@ -192,7 +189,7 @@ fn give_back_all(slots: &mut Vec<Option<PassState>>, table: &FrameTable)
 }
 
 /// Takes the passes out, their holds given back.
-fn empty_into(mut slots: Vec<Option<PassState>>, room: &mut Vec<Pass>, table: &FrameTable)
+fn empty_into(mut slots: Slots, room: &mut Vec<Pass>, table: &FrameTable)
     requires own { All (λ o. IsSomeAnd o (λ s. table_of s ≡ table.now)) slots.items }
     requires room { (room.old.items ≡ []) × (vec_len slots ≤ vec_capacity room.old) }
     ensures own { All (λ p. p.table ≡ table.now) room.new.items }
@@ -207,11 +204,7 @@ fn empty_into(mut slots: Vec<Option<PassState>>, room: &mut Vec<Pass>, table: &F
 
 impl Passes {
     /// These passes, none of which has made a step. There is room for them in `slots`.
-    pub fn new(
-        table: &FrameTable,
-        mut slots: Vec<Option<PassState>>,
-        mut passes: Vec<Pass>,
-    ) -> Passes
+    pub fn new(table: &FrameTable, mut slots: Slots, mut passes: Vec<Pass>) -> Passes
         requires empty { slots.items ≡ [] }
         requires room { vec_len passes ≤ vec_capacity slots }
         requires new { All (λ p. p ≡ new_pass table.now) passes.items }

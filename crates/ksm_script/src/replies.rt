@@ -4,7 +4,7 @@ ghost use Rattle.ksm_script.specs.Said.{ReturnsReply, WritesReply};
 
 use crate::lane::Sends;
 use crate::reply::{LineReply, put_reply, write_content};
-use crate::script::RunFault;
+use crate::script::{RunFault, Told};
 use ksm_base::PageBytes;
 use std::io::Write;
 use std::marker::PhantomData;
@@ -18,11 +18,11 @@ pub(crate) trait Replies<S> {
     ghost takes: { S → S → LineReply → Result (Unit {0}) RunFault → Type 0 };
 
     /// Hands a reply over.
-    fn reply(to: &mut S, reply: LineReply) -> Result<(), RunFault>
+    fn reply(to: &mut S, reply: LineReply) -> Told
         ensures { takes to.old to.new reply result };
 
     /// Hands the content of a page over, as the reply that it is.
-    fn content(to: &mut S, content: &PageBytes) -> Result<(), RunFault>
+    fn content(to: &mut S, content: &PageBytes) -> Told
         ensures { takes to.old to.new (LineReply.Content content.now) result };
 }
 
@@ -33,12 +33,12 @@ impl<M: Sends<W>, W: Write> Replies<W> for Written<M> {
     ghost takes = { WritesReply W.contents M.fails };
 
     #[inline(always)]
-    fn reply(to: &mut W, reply: LineReply) -> Result<(), RunFault> {
+    fn reply(to: &mut W, reply: LineReply) -> Told {
         put_reply::<M, W>(to, &reply)
     }
 
     #[inline(always)]
-    fn content(to: &mut W, content: &PageBytes) -> Result<(), RunFault> {
+    fn content(to: &mut W, content: &PageBytes) -> Told {
         write_content::<M, W>(to, content)
     }
 }
@@ -49,12 +49,12 @@ pub(crate) struct Returned;
 impl Replies<Option<LineReply>> for Returned {
     ghost takes = { ReturnsReply };
 
-    fn reply(to: &mut Option<LineReply>, reply: LineReply) -> Result<(), RunFault> {
+    fn reply(to: &mut Option<LineReply>, reply: LineReply) -> Told {
         *to = Some(reply);
         Ok(())
     }
 
-    fn content(to: &mut Option<LineReply>, content: &PageBytes) -> Result<(), RunFault> {
+    fn content(to: &mut Option<LineReply>, content: &PageBytes) -> Told {
         *to = Some(LineReply::Content(*content));
         Ok(())
     }

@@ -10,7 +10,7 @@ use crate::lane::{Bytes, Sends};
 use crate::line_text::{LineText, PAGE_DIGITS, digits_of_words};
 use crate::output::write_text;
 use crate::refusal::Refusal;
-use crate::script::RunFault;
+use crate::script::{RunFault, Told};
 use frame_table::Why;
 use ksm_audit::{Report, Row};
 use ksm_base::{Counters, Fault, GuestPage, PageBytes};
@@ -78,10 +78,7 @@ pub fn write_reply<W: Write>(writer: &mut W, reply: &LineReply) -> Result<(), Ru
 
 /// Writes the line of a reply in this way.
 #[inline(always)]
-pub(crate) fn put_reply<S: Sends<W>, W: Write>(
-    writer: &mut W,
-    reply: &LineReply,
-) -> Result<(), RunFault>
+pub(crate) fn put_reply<S: Sends<W>, W: Write>(writer: &mut W, reply: &LineReply) -> Told
     ensures { WritesText W.contents S.fails writer.old writer.new (text_of reply.now) result }
 {
     match reply {
@@ -129,10 +126,7 @@ pub(crate) fn put_reply<S: Sends<W>, W: Write>(
 // The newline is written apart: as many bytes as a page has digits are copied without a call.
 
 /// Writes the content of a page, its bytes in order, two digits each.
-pub(crate) fn write_content<S: Sends<W>, W: Write>(
-    writer: &mut W,
-    content: &PageBytes,
-) -> Result<(), RunFault>
+pub(crate) fn write_content<S: Sends<W>, W: Write>(writer: &mut W, content: &PageBytes) -> Told
     ensures { WritesText W.contents S.fails writer.old writer.new (content_line content.now) result }
 {
     write_text::<S, W>(writer, digits_of_words(content).as_flattened())?;
@@ -146,7 +140,7 @@ fn write_count<S: Sends<W>, const N: usize, W: Write>(
     writer: &mut W,
     name: &[u8; N],
     count: u64,
-) -> Result<(), RunFault>
+) -> Told
     requires { length name.now ≤ 16 }
     ensures { WritesText W.contents S.fails writer.old writer.new (counted_text name.now count) result }
 {
@@ -163,7 +157,7 @@ fn write_stopped<S: Sends<W>, const N: usize, W: Write>(
     name: &[u8; N],
     count: u64,
     stop: Option<Fault>,
-) -> Result<(), RunFault>
+) -> Told
     requires { length name.now ≤ 16 }
     ensures { WritesText W.contents S.fails writer.old writer.new (stopped_text name.now count stop) result }
 {
@@ -179,10 +173,7 @@ fn write_stopped<S: Sends<W>, const N: usize, W: Write>(
 }
 
 /// Writes the counters, each behind its name.
-fn write_counters<S: Sends<W>, W: Write>(
-    writer: &mut W,
-    counters: &Counters,
-) -> Result<(), RunFault>
+fn write_counters<S: Sends<W>, W: Write>(writer: &mut W, counters: &Counters) -> Told
     ensures { WritesText W.contents S.fails writer.old writer.new (counters_text counters.now) result }
 {
     let mut text = LineText::<COUNTERS_ROOM>::new();
@@ -198,7 +189,7 @@ fn write_counters<S: Sends<W>, W: Write>(
 }
 
 /// Writes one page of a dup.
-fn write_mapper<S: Sends<W>, W: Write>(writer: &mut W, page: GuestPage) -> Result<(), RunFault>
+fn write_mapper<S: Sends<W>, W: Write>(writer: &mut W, page: GuestPage) -> Told
     ensures { WritesText W.contents S.fails writer.old writer.new (mapper_text page) result }
 {
     let mut text = LineText::<SHORT_ROOM>::new();
@@ -208,7 +199,7 @@ fn write_mapper<S: Sends<W>, W: Write>(writer: &mut W, page: GuestPage) -> Resul
 }
 
 /// Writes the pages of a dup, each behind a space.
-fn write_pages<S: Sends<W>, W: Write>(writer: &mut W, pages: &[GuestPage]) -> Result<(), RunFault>
+fn write_pages<S: Sends<W>, W: Write>(writer: &mut W, pages: &[GuestPage]) -> Told
     ensures { WritesText W.contents S.fails writer.old writer.new (flat_map mapper_text pages.now) result }
 {
     for page in pages {
@@ -218,7 +209,7 @@ fn write_pages<S: Sends<W>, W: Write>(writer: &mut W, pages: &[GuestPage]) -> Re
 }
 
 /// Writes the line of the pages of a dup.
-fn write_mappers<S: Sends<W>, W: Write>(writer: &mut W, pages: &[GuestPage]) -> Result<(), RunFault>
+fn write_mappers<S: Sends<W>, W: Write>(writer: &mut W, pages: &[GuestPage]) -> Told
     ensures { WritesText W.contents S.fails writer.old writer.new (mappers_text pages.now) result }
 {
     write_text::<S, W>(writer, b"rmap")?;
@@ -232,7 +223,7 @@ fn write_held<S: Sends<W>, const N: usize, W: Write>(
     name: &[u8; N],
     frame: u32,
     generation: u64,
-) -> Result<(), RunFault>
+) -> Told
     requires { length name.now ≤ 16 }
     ensures { WritesText W.contents S.fails writer.old writer.new
         (held_text name.now frame generation) result }
@@ -246,11 +237,7 @@ fn write_held<S: Sends<W>, const N: usize, W: Write>(
 }
 
 /// Writes what a lookup of an audit held and read.
-fn write_found<S: Sends<W>, W: Write>(
-    writer: &mut W,
-    generation: u64,
-    bytes: &PageBytes,
-) -> Result<(), RunFault>
+fn write_found<S: Sends<W>, W: Write>(writer: &mut W, generation: u64, bytes: &PageBytes) -> Told
     ensures { WritesText W.contents S.fails writer.old writer.new
         (row_text (found_row generation bytes.now)) result }
 {
@@ -262,7 +249,7 @@ fn write_found<S: Sends<W>, W: Write>(
 }
 
 /// Writes why a lookup of an audit held nothing.
-fn write_gone<S: Sends<W>, W: Write>(writer: &mut W, why: Why) -> Result<(), RunFault>
+fn write_gone<S: Sends<W>, W: Write>(writer: &mut W, why: Why) -> Told
     ensures { WritesText W.contents S.fails writer.old writer.new (row_text (gone_row why)) result }
 {
     let mut text = LineText::<SHORT_ROOM>::new();
@@ -271,7 +258,7 @@ fn write_gone<S: Sends<W>, W: Write>(writer: &mut W, why: Why) -> Result<(), Run
 }
 
 /// Writes how the lookup of one place ended.
-fn write_row<S: Sends<W>, W: Write>(writer: &mut W, row: Row) -> Result<(), RunFault>
+fn write_row<S: Sends<W>, W: Write>(writer: &mut W, row: Row) -> Told
     ensures { WritesText W.contents S.fails writer.old writer.new (row_text row) result }
 {
     match row {
@@ -282,7 +269,7 @@ fn write_row<S: Sends<W>, W: Write>(writer: &mut W, row: Row) -> Result<(), RunF
 }
 
 /// Writes the rows of an audit, each behind a space.
-fn write_rows<S: Sends<W>, W: Write>(writer: &mut W, rows: &[Row]) -> Result<(), RunFault>
+fn write_rows<S: Sends<W>, W: Write>(writer: &mut W, rows: &[Row]) -> Told
     ensures { WritesText W.contents S.fails writer.old writer.new (flat_map row_text rows.now) result }
 {
     for row in rows {
@@ -292,7 +279,7 @@ fn write_rows<S: Sends<W>, W: Write>(writer: &mut W, rows: &[Row]) -> Result<(),
 }
 
 /// Writes the line of an audit.
-fn write_audit<S: Sends<W>, W: Write>(writer: &mut W, rows: &[Row]) -> Result<(), RunFault>
+fn write_audit<S: Sends<W>, W: Write>(writer: &mut W, rows: &[Row]) -> Told
     ensures { WritesText W.contents S.fails writer.old writer.new (audit_text rows.now) result }
 {
     write_text::<S, W>(writer, b"audit")?;

@@ -13,7 +13,7 @@ ghost use Rattle.ksm_script.specs.Script.{Goes, IsReadAs, Runs, streams};
 ghost use Rattle.ksm_script.specs.Texts.{AppendsPart};
 
 use crate::hears::{Hears, Unheard};
-use crate::input::{LineEnd, take_empty, take_page, take_short, take_whole};
+use crate::input::{LineEnd, take_empty, take_page, take_rare, take_short};
 use crate::lane::{Bytes, Lane, Sends};
 use crate::replies::{Returned, Written};
 use crate::reply::{LineReply, put_reply};
@@ -35,6 +35,9 @@ pub enum RunFault {
     #[error("the output cannot be written")]
     Write,
 }
+
+/// Whether a reply was handed over.
+pub(crate) type Told = Result<(), RunFault>;
 
 /// How a run ended.
 #[derive(Clone, Copy, Debug, PartialEq, Eq)]
@@ -122,8 +125,8 @@ fn run_lines<M: Lane<R, W>, H: Hears<M, W>, N: Naming, T: Threads + Wait + Sync,
     Err(RunFault::Read)
 }
 
-/// Answers the next line at once, if it is at hand and one of the forms, and nobody hears the reply; tells whether it
-/// did. Else nothing is read.
+/// Answers the next line at once, if it can be read where it lies, and nobody hears the reply; tells whether it did. Else
+/// nothing is read.
 #[inline(always)]
 fn answer_at_hand<M: Lane<R, W>, N: Naming, T: Threads + Wait + Sync, R, W: Write>(
     rt: &T,
@@ -159,18 +162,18 @@ fn answer_page<M: Lane<R, W>, N: Naming, T: Threads + Wait + Sync, R, W: Write>(
         (reader.new, writer.new, session.new) result }
 {
     let Some(taken) = take_page::<M, R, W>(reader) else {
-        return answer_any::<M, N, T, R, W>(rt, reader, writer, session);
+        return answer_rare::<M, N, T, R, W>(rt, reader, writer, session);
     };
     let (line, bytes) = taken;
     let told = session.answer_page::<Written<M>, T, W>(rt, line, bytes, writer);
     told.and(Ok(true))
 }
 
-/// Answers the next line at once, whatever its form.
+/// Answers the next line at once, tried as one that comes seldom.
 ///
-/// It stands apart, so that no value with room for any line is cleared before those that come by the million.
+/// It stands apart, so that nothing of its own is cleared before a line that comes by the million.
 #[inline(never)]
-fn answer_any<M: Lane<R, W>, N: Naming, T: Threads + Wait + Sync, R, W: Write>(
+fn answer_rare<M: Lane<R, W>, N: Naming, T: Threads + Wait + Sync, R, W: Write>(
     rt: &T,
     reader: &mut R,
     writer: &mut W,
@@ -179,10 +182,10 @@ fn answer_any<M: Lane<R, W>, N: Naming, T: Threads + Wait + Sync, R, W: Write>(
     ensures { AtOnce M.remaining M.takes W.contents M.fails (reader.old, writer.old, session.old)
         (reader.new, writer.new, session.new) result }
 {
-    let Some(line) = take_whole::<M, R, W>(reader) else {
+    let Some(line) = take_rare::<M, R, W>(reader) else {
         return Ok(false);
     };
-    let told = session.answer::<Written<M>, T, W>(rt, line, writer);
+    let told = session.answer_rare::<Written<M>, T, W>(rt, line, writer);
     told.and(Ok(true))
 }
 
@@ -255,7 +258,7 @@ fn write_answer<M: Sends<W>, H: Hears<M, W>, W: Write>(
     number: u64,
     line: &[u8],
     reply: Option<LineReply>,
-) -> Result<(), RunFault>
+) -> Told
     ensures whole { OnOk result (Appends (W.contents writer.old) (W.contents writer.new) (reply_text reply)) }
     ensures fault { IfErr result (λ e. (e ≡ RunFault.Write) × M.fails writer.new × (told : LineReply)
         × (reply ≡ Some told) × AppendsPart (W.contents writer.old) (W.contents writer.new) (text_of told)) }

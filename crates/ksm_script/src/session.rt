@@ -5,14 +5,15 @@ ghost use Rattle.ksm_base.specs.State.{opening};
 ghost use Rattle.ksm_base.specs.Reading.{mappers_of};
 ghost use Rattle.ksm_base.specs.Refusals.{is_known};
 ghost use Rattle.ksm_base.specs.declared.command.Command.TheVariants.{Scan as scan};
-ghost use Rattle.ksm_lines.specs.Leading.{short_form, page_form};
 ghost use Rattle.ksm_lines.specs.declared.line.Line.TheVariants as lines;
+ghost use Rattle.ksm_lines.specs.declared.line.RareLine.TheVariants as rares;
+ghost use Rattle.ksm_lines.specs.declared.line.ShortLine.TheVariants as shorts;
 ghost use Rattle.ksm_base.specs.Counting.{counters_of};
 ghost use Rattle.ksm_script.specs.declared.reply.LineReply.TheVariants as told;
 ghost use Rattle.frame_table.specs.Seats.{new_pass};
 ghost use Rattle.ksm_shared.specs.Locked.{EndsLawfully};
 ghost use Rattle.ksm_script.specs.declared.pass_state.PassState.TheVariants.{Idle as idle_state};
-ghost use Rattle.ksm_script.specs.Answering.{Answers, IsTold, AllGivenBack, OnPasses, Commands, IsMappers, reply_to};
+ghost use Rattle.ksm_script.specs.Answering.{Answers, AllGivenBack, OnPasses, Commands, IsMappers, reply_to};
 ghost use Rattle.ksm_script.specs.Answering.{ticket_reply};
 ghost use Rattle.ksm_script.specs.Dialogue.{BreaksOff, Dialogue, IsWithin};
 ghost use Rattle.ksm_script.specs.Input.{EndsAs, IsPlain};
@@ -27,10 +28,10 @@ use crate::passes::Passes;
 use crate::refusal::Refusal;
 use crate::replies::Replies;
 use crate::reply::LineReply;
-use crate::script::RunFault;
+use crate::script::{RunFault, Told};
 use frame_table::ClosedTable;
 use ksm_base::{Command, Fault, GuestPage, PageBytes, Reply};
-use ksm_lines::{Line, PageLine, ShortLine, Shown};
+use ksm_lines::{Line, PageLine, RareLine, ShortLine, Shown};
 use ksm_shared::{Ksm, Naming, Parts, Share};
 use std::alloc::Global;
 use std::io::Write;
@@ -153,8 +154,8 @@ impl<N: Naming> Session<N> {
         rt: &R,
         line: ShortLine,
         to: &mut S,
-    ) -> Result<(), RunFault>
-        ensures answers { IsSaid P.takes (Answers (short_form line)) self.old self.new to.old to.new result }
+    ) -> Told
+        ensures answers { IsSaid P.takes (Answers (lines.Short line)) self.old self.new to.old to.new result }
     {
         match line {
             ShortLine::Get { page } => self.tell_content::<P, R, S>(rt, page, to),
@@ -173,8 +174,9 @@ impl<N: Naming> Session<N> {
         rt: &R,
         page: GuestPage,
         to: &mut S,
-    ) -> Result<(), RunFault>
-        ensures answers { IsSaid P.takes (Answers (lines.Get page)) self.old self.new to.old to.new result }
+    ) -> Told
+        ensures answers { IsSaid P.takes (Answers (lines.Short (shorts.Get page))) self.old self.new
+            to.old to.new result }
     {
         match self.ksm.read(rt, &mut self.share, page) {
             None => P::reply(to, LineReply::Refused(Refusal::Book(Fault::UnknownPage))),
@@ -188,8 +190,9 @@ impl<N: Naming> Session<N> {
         rt: &R,
         page: GuestPage,
         to: &mut S,
-    ) -> Result<(), RunFault>
-        ensures answers { IsSaid P.takes (Answers (lines.Ticket page)) self.old self.new to.old to.new result }
+    ) -> Told
+        ensures answers { IsSaid P.takes (Answers (lines.Short (shorts.Ticket page))) self.old self.new
+            to.old to.new result }
     {
         // A page that is merged has a row, so the lock is taken once for it.
         match self.ksm.ticket(rt, &mut self.share, page) {
@@ -199,62 +202,48 @@ impl<N: Naming> Session<N> {
     }
 
     #[inline(never)]
-    fn tell_found<P: Replies<S>, S>(
-        &mut self,
-        pass: u32,
-        place: u32,
-        to: &mut S,
-    ) -> Result<(), RunFault>
-        ensures answers { IsSaid P.takes (Answers (lines.Find pass place)) self.old self.new to.old to.new result }
+    fn tell_found<P: Replies<S>, S>(&mut self, pass: u32, place: u32, to: &mut S) -> Told
+        ensures answers { IsSaid P.takes (Answers (lines.Short (shorts.Find pass place))) self.old self.new
+            to.old to.new result }
     {
         P::reply(to, self.act(pass, Act::Find { place }))
     }
 
     #[inline(never)]
-    fn tell_held<P: Replies<S>, S>(&mut self, pass: u32, to: &mut S) -> Result<(), RunFault>
-        ensures answers { IsSaid P.takes (Answers (lines.Look pass)) self.old self.new to.old to.new result }
+    fn tell_held<P: Replies<S>, S>(&mut self, pass: u32, to: &mut S) -> Told
+        ensures answers { IsSaid P.takes (Answers (lines.Short (shorts.Look pass))) self.old self.new
+            to.old to.new result }
     {
         P::reply(to, self.act(pass, Act::Look))
     }
 
     #[inline(never)]
-    fn tell_left<P: Replies<S>, S>(&mut self, pass: u32, to: &mut S) -> Result<(), RunFault>
-        ensures answers { IsSaid P.takes (Answers (lines.Leave pass)) self.old self.new to.old to.new result }
+    fn tell_left<P: Replies<S>, S>(&mut self, pass: u32, to: &mut S) -> Told
+        ensures answers { IsSaid P.takes (Answers (lines.Short (shorts.Leave pass))) self.old self.new
+            to.old to.new result }
     {
         P::reply(to, self.act(pass, Act::Leave))
     }
 
     #[inline(never)]
-    fn tell_visits<P: Replies<S>, R: Wait, S>(
-        &mut self,
-        rt: &R,
-        visits: u32,
-        to: &mut S,
-    ) -> Result<(), RunFault>
-        ensures answers { IsSaid P.takes (Answers (lines.Scan visits)) self.old self.new to.old to.new result }
+    fn tell_visits<P: Replies<S>, R: Wait, S>(&mut self, rt: &R, visits: u32, to: &mut S) -> Told
+        ensures answers { IsSaid P.takes (Answers (lines.Short (shorts.Scan visits))) self.old self.new
+            to.old to.new result }
     {
         self.tell_made::<P, R, S>(rt, scan_of(visits), to)
     }
 
     #[inline(never)]
-    fn tell_counters<P: Replies<S>, R: Wait, S>(
-        &mut self,
-        rt: &R,
-        to: &mut S,
-    ) -> Result<(), RunFault>
-        ensures answers { IsSaid P.takes (Answers lines.Stat) self.old self.new to.old to.new result }
+    fn tell_counters<P: Replies<S>, R: Wait, S>(&mut self, rt: &R, to: &mut S) -> Told
+        ensures answers { IsSaid P.takes (Answers (lines.Short shorts.Stat)) self.old self.new to.old to.new result }
     {
         P::reply(to, self.counters(rt))
     }
 
     #[inline(never)]
-    fn tell_value<P: Replies<S>, R: Wait, S>(
-        &mut self,
-        rt: &R,
-        shown: Shown,
-        to: &mut S,
-    ) -> Result<(), RunFault>
-        ensures answers { IsSaid P.takes (Answers (lines.Show shown)) self.old self.new to.old to.new result }
+    fn tell_value<P: Replies<S>, R: Wait, S>(&mut self, rt: &R, shown: Shown, to: &mut S) -> Told
+        ensures answers { IsSaid P.takes (Answers (lines.Rare (rares.Show shown))) self.old self.new
+            to.old to.new result }
     {
         let value = match shown {
             Shown::Knob(knob) => { u64::from(knob.value_in(&self.ksm.knobs(rt, &mut self.share))) }
@@ -271,8 +260,8 @@ impl<N: Naming> Session<N> {
         line: PageLine,
         bytes: PageBytes,
         to: &mut S,
-    ) -> Result<(), RunFault>
-        ensures answers { IsSaid P.takes (Answers (page_form line bytes)) self.old self.new to.old to.new result }
+    ) -> Told
+        ensures answers { IsSaid P.takes (Answers (lines.Page line bytes)) self.old self.new to.old to.new result }
     {
         match line {
             PageLine::Store { page } => {
@@ -289,15 +278,35 @@ impl<N: Naming> Session<N> {
 
     // Stands apart, as an `Act` has room for a content: so the content of a store need not lie in memory first.
     #[inline(never)]
-    fn tell_act<P: Replies<S>, S>(
-        &mut self,
-        pass: u32,
-        act: Act,
-        to: &mut S,
-    ) -> Result<(), RunFault>
+    fn tell_act<P: Replies<S>, S>(&mut self, pass: u32, act: Act, to: &mut S) -> Told
         ensures answers { IsSaid P.takes (OnPasses (AtPass pass (Acts act))) self.old self.new to.old to.new result }
     {
         P::reply(to, self.act(pass, act))
+    }
+
+    /// Does what a line that comes seldom says, and hands its reply over.
+    pub(crate) fn answer_rare<P: Replies<S>, R: Threads + Wait + Sync, S>(
+        &mut self,
+        rt: &R,
+        line: RareLine,
+        to: &mut S,
+    ) -> Told
+        ensures answers { IsSaid P.takes (Answers (lines.Rare line)) self.old self.new to.old to.new result }
+    {
+        let command = match line {
+            RareLine::Mappers { place } => return tell_any::<P, S>(to, self.mappers(rt, place)),
+            RareLine::ScanPages => return self.tell_scanned::<P, R, S>(rt, to),
+            RareLine::Show { shown } => return self.tell_value::<P, R, S>(rt, shown, to),
+            RareLine::Audit => return tell_any::<P, S>(to, self.audit(rt)),
+            RareLine::Drop { page } => Command::Drop { page },
+            RareLine::Prune => Command::Prune,
+            RareLine::Unmerge { guest } => Command::Unmerge { guest },
+            RareLine::Mergeable { guest } => Command::Mergeable { guest },
+            RareLine::MovePage { page, node } => Command::MovePage { page, node },
+            RareLine::MoveDup { place, node } => Command::MoveDup { place, node },
+            RareLine::Set { knob, value } => knob.setting(value),
+        };
+        self.tell_made::<P, R, S>(rt, command, to)
     }
 
     /// Does what a line says, and hands its reply over, if it has one.
@@ -306,51 +315,14 @@ impl<N: Naming> Session<N> {
         rt: &R,
         line: Line,
         to: &mut S,
-    ) -> Result<(), RunFault>
-        ensures answers { IsSaid P.takes (Answers line) self.old self.new to.old to.new result }
-    {
-        let command = match line {
-            Line::Empty => return Ok(()),
-            Line::Register { page, node, bytes } => Command::Register { page, node, bytes },
-            Line::Drop { page } => Command::Drop { page },
-            Line::Store { page, bytes } => Command::Store { page, bytes },
-            Line::Scan { visits } => scan_of(visits),
-            Line::Prune => Command::Prune,
-            Line::Unmerge { guest } => Command::Unmerge { guest },
-            Line::Mergeable { guest } => Command::Mergeable { guest },
-            Line::MovePage { page, node } => Command::MovePage { page, node },
-            Line::MoveDup { place, node } => Command::MoveDup { place, node },
-            Line::Set { knob, value } => knob.setting(value),
-            _ => return self.tell::<P, R, S>(rt, line, to),
-        };
-        self.tell_made::<P, R, S>(rt, command, to)
-    }
-
-    // Hands over the reply to a line that is no command of its own, each where it arises.
-    fn tell<P: Replies<S>, R: Threads + Wait + Sync, S>(
-        &mut self,
-        rt: &R,
-        line: Line,
-        to: &mut S,
-    ) -> Result<(), RunFault>
-        requires told { IsTold line }
+    ) -> Told
         ensures answers { IsSaid P.takes (Answers line) self.old self.new to.old to.new result }
     {
         match line {
-            Line::Get { page } => self.tell_content::<P, R, S>(rt, page, to),
-            Line::Ticket { page } => self.tell_ticket::<P, R, S>(rt, page, to),
-            Line::Mappers { place } => tell_any::<P, S>(to, self.mappers(rt, place)),
-            Line::ScanPages => self.tell_scanned::<P, R, S>(rt, to),
-            Line::Show { shown } => self.tell_value::<P, R, S>(rt, shown, to),
-            Line::Stat => self.tell_counters::<P, R, S>(rt, to),
-            Line::Find { pass, place } => self.tell_found::<P, S>(pass, place, to),
-            Line::Equal { pass, place, bytes } => {
-                self.tell_act::<P, S>(pass, Act::Equal { place, bytes }, to)
-            }
-            Line::Look { pass } => self.tell_held::<P, S>(pass, to),
-            Line::Leave { pass } => self.tell_left::<P, S>(pass, to),
-            Line::Audit => tell_any::<P, S>(to, self.audit(rt)),
-            _ => unreachable!(),
+            Line::Empty => Ok(()),
+            Line::Short(line) => self.answer_short::<P, R, S>(rt, line, to),
+            Line::Page(line, bytes) => self.answer_page::<P, R, S>(rt, line, bytes, to),
+            Line::Rare(line) => self.answer_rare::<P, R, S>(rt, line, to),
         }
     }
 
@@ -375,12 +347,8 @@ impl<N: Naming> Session<N> {
         self.passes.audit(rt, self.alloc, &self.ksm)
     }
 
-    fn tell_scanned<P: Replies<S>, R: Wait, S>(
-        &mut self,
-        rt: &R,
-        to: &mut S,
-    ) -> Result<(), RunFault>
-        ensures answers { IsSaid P.takes (Answers lines.ScanPages) self.old self.new to.old to.new result }
+    fn tell_scanned<P: Replies<S>, R: Wait, S>(&mut self, rt: &R, to: &mut S) -> Told
+        ensures answers { IsSaid P.takes (Answers (lines.Rare rares.ScanPages)) self.old self.new to.old to.new result }
     {
         let knobs = self.ksm.knobs(rt, &mut self.share);
         self.tell_made::<P, R, S>(rt, scan_of(knobs.pages_to_scan), to)
@@ -411,12 +379,7 @@ impl<N: Naming> Session<N> {
     // Makes a command, and hands its reply over. Mostly that is `ok`, which is told apart: so no value with room for
     // any reply is cleared before it.
     #[inline(always)]
-    fn tell_made<P: Replies<S>, R: Wait, S>(
-        &mut self,
-        rt: &R,
-        command: Command,
-        to: &mut S,
-    ) -> Result<(), RunFault>
+    fn tell_made<P: Replies<S>, R: Wait, S>(&mut self, rt: &R, command: Command, to: &mut S) -> Told
         ensures answers { IsSaid P.takes (Commands command) self.old self.new to.old to.new result }
     {
         let answer = self.apply(rt, command);
@@ -445,7 +408,7 @@ impl<N: Naming> Session<N> {
 /// Hands over `ok`. It stands apart: within the reading of a line LLVM takes the writing for a rare case, and doesn't
 /// inline it.
 #[inline(never)]
-fn tell_done<P: Replies<S>, S>(to: &mut S) -> Result<(), RunFault>
+fn tell_done<P: Replies<S>, S>(to: &mut S) -> Told
     ensures { P.takes to.old to.new told.Done result }
 {
     P::reply(to, LineReply::Done)
@@ -453,7 +416,7 @@ fn tell_done<P: Replies<S>, S>(to: &mut S) -> Result<(), RunFault>
 
 /// Hands over any reply. It stands apart, so that no value with room for it is cleared before another line.
 #[inline(never)]
-fn tell_any<P: Replies<S>, S>(to: &mut S, reply: LineReply) -> Result<(), RunFault>
+fn tell_any<P: Replies<S>, S>(to: &mut S, reply: LineReply) -> Told
     ensures { P.takes to.old to.new reply result }
 {
     P::reply(to, reply)
@@ -461,7 +424,7 @@ fn tell_any<P: Replies<S>, S>(to: &mut S, reply: LineReply) -> Result<(), RunFau
 
 /// Hands over what a command answered. It stands apart, so that `ok` is told without what the others want.
 #[inline(never)]
-fn tell_other<P: Replies<S>, S>(to: &mut S, answer: Result<Reply, Fault>) -> Result<(), RunFault>
+fn tell_other<P: Replies<S>, S>(to: &mut S, answer: Result<Reply, Fault>) -> Told
     ensures { P.takes to.old to.new (reply_to answer) result }
 {
     P::reply(to, reply_to(answer))

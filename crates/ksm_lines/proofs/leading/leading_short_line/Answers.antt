@@ -1,13 +1,9 @@
-use Rattle.ksm_lines.proofs.Names.{[], codes, GuestPage, decimal, ltb, refl, Some, words_of, ℕ, ◌≡◌, ◌<◌, ◌^◌, ◌++◌, ◌∷◌, List}
+use Rattle.ksm_lines.proofs.Names.{codes, refl, Some}
 use Rattle.ksm_lines.proofs.Names.parts
-use Rattle.ksm_lines.specs.declared.line.Line.TheVariants.{Stat}
-use Rattle.ksm_lines.proofs.Lines.{line_takes}
-use Rattle.ksm_lines.proofs.Parted.{Leads, guest_more, line, number_last, number_more, word_of}
+use Rattle.ksm_lines.specs.declared.line.Line.TheVariants.{Short}
+use Rattle.ksm_lines.specs.declared.line.ShortLine.TheVariants.{Stat}
+use Rattle.ksm_lines.proofs.Parted.{bare, line, number_last, number_more, page_last}
 use Rattle.ksm_lines.proofs.leading.leading_short_line.Goals as goal
-
-page_last : {text rest : List ℕ} (page : GuestPage) → text ≡ decimal page.guest ++ 32 ∷ (decimal page.page ++ 10 ∷ rest) → (page.guest < 2 ^ 16) × (page.page < 2 ^ 32)
-    → Leads (parts.Guest ∷ parts.Page ∷ []) (page.guest, (page.page, tt)) text rest
-page_last page is fits = guest_more page.guest is fits.0 (number_last parts.Page page.page refl fits.1 (fits.1, refl))
 
 pub returns-then-front-first_four : goal.returns-then-front-first_four
 returns-then-front-first_four c = line (codes "get") refl refl c.in_ok-behind_name.ensures (page_last c.in_ok-page.page c.in_ok-page.ensures.text c.in_ok-page.ensures.fits)
@@ -39,6 +35,4 @@ returns-then-front-first_four-6 c =
     line (codes "scan") refl refl c.in_ok-behind_name-6.ensures (number_last parts.Visits (Some n.visits) n.ensures.text n.ensures.fits (n.visits, refl, n.ensures.fits, refl))
 
 pub returns : goal.returns
-returns c =
-    let stat = codes "stat" in
-    (stat, line_takes Stat (words_of stat) refl, (word_of (λ byte. ltb 32 byte) stat refl refl refl).1, c.in_ok-left.ensures)
+returns c = bare (codes "stat") (Short Stat) refl refl c.in_ok-left.ensures

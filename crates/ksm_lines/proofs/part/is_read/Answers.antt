@@ -1,9 +1,9 @@
 use Rattle.std.proofs.Common.{◌∙◌}
-use Rattle.ksm_lines.proofs.Words.{is_given, is_guest}
+use Rattle.ksm_lines.proofs.Words.{is_given}
 use Rattle.ksm_lines.proofs.part.is_read.Goals as goal
 
 pub returns-in-Guest : goal.returns-in-Guest
-returns-in-Guest c = rw c.in-Guest.is (c.is_ok.ensures.value ∙ is_guest c.args.word.now _ c.guest_alone.ensures)
+returns-in-Guest c = rw c.in-Guest.is (c.is_ok.ensures.value ∙ is_given _ _ c.guest_in.ensures)
 
 pub returns-in-Content : goal.returns-in-Content
 returns-in-Content c = rw c.in-Content.is (c.is_ok-in-Content.ensures.value ∙ is_given _ _ c.content_in.ensures)

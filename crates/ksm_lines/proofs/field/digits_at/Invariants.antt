@@ -1,5 +1,0 @@
-use Rattle.ksm_lines.specs.Digits.{IsReadTo}
-use Rattle.ksm_lines.proofs.field.digits_at.Given as goal
-
-abbrev pub invariant-loop-at : goal.invariant-loop-at
-invariant-loop-at l = IsReadTo l.at l.text l.value
