@@ -1,5 +1,8 @@
 //! The frame core by worked events: one frame in two lives.
 
+use frame_core::KeeperStep::{Add, Open, Raise, Reap, Sub};
+use frame_core::Kind::{Dying, Filling, Free, Private, Stable};
+use frame_core::ReaderStep::{Exchange, LoadFrame, LoadPlace};
 use frame_core::{Core, Event, KeeperStep, Kind, Phase, ReaderStep, Step, run};
 use ksm_base::{COUNT_SPAN, PLACE_SPAN, Shape};
 use std::test::*;
@@ -53,100 +56,30 @@ fn published() -> [(Event, Step); 6] {
 /// An event, what it answers, and of what kind the frame and in which phase the seat is then.
 type Seen = (Event, Step, Kind, &'static str);
 
+/// An event that answers with a word.
+fn seen(event: Event, word: u64, kind: Kind, phase: &'static str) -> Seen {
+    (event, Step::Done(word), kind, phase)
+}
+
 /// A seat begins a lookup, the frame dies and is given again, and comes to the very count that the seat loaded: its
 /// exchange fails all the same, and its next lookup finds another life.
 fn second_life() -> [Seen; 15] {
     [
-        (
-            reader(ReaderStep::LoadPlace(0)),
-            Step::Done(PLACE_SPAN),
-            Kind::Stable,
-            "placed",
-        ),
-        (
-            reader(ReaderStep::LoadFrame),
-            Step::Done(COUNT_SPAN + 2),
-            Kind::Stable,
-            "counted",
-        ),
-        (
-            keeper(KeeperStep::Sub(0)),
-            Step::Done(COUNT_SPAN + 2),
-            Kind::Stable,
-            "counted",
-        ),
-        (
-            keeper(KeeperStep::Sub(0)),
-            Step::Done(COUNT_SPAN + 1),
-            Kind::Dying,
-            "counted",
-        ),
-        (
-            keeper(KeeperStep::Reap(0)),
-            Step::Done(COUNT_SPAN),
-            Kind::Free,
-            "counted",
-        ),
-        (
-            keeper(KeeperStep::Raise(0)),
-            Step::Done(COUNT_SPAN),
-            Kind::Filling,
-            "counted",
-        ),
-        (
-            keeper(KeeperStep::Open(0)),
-            Step::Done(2 * COUNT_SPAN),
-            Kind::Private,
-            "counted",
-        ),
-        (
-            keeper(KeeperStep::Add(0)),
-            Step::Done(2 * COUNT_SPAN + 1),
-            Kind::Private,
-            "counted",
-        ),
-        (
-            reader(ReaderStep::Exchange),
-            Step::Done(2 * COUNT_SPAN + 2),
-            Kind::Private,
-            "idle",
-        ),
-        (
-            reader(ReaderStep::LoadPlace(0)),
-            Step::Done(PLACE_SPAN),
-            Kind::Private,
-            "placed",
-        ),
-        (
-            reader(ReaderStep::LoadFrame),
-            Step::Done(2 * COUNT_SPAN + 2),
-            Kind::Private,
-            "idle",
-        ),
-        (
-            keeper(KeeperStep::Sub(0)),
-            Step::Done(2 * COUNT_SPAN + 2),
-            Kind::Private,
-            "idle",
-        ),
-        (
-            keeper(KeeperStep::Sub(0)),
-            Step::Done(2 * COUNT_SPAN + 1),
-            Kind::Dying,
-            "idle",
-        ),
-        (
-            keeper(KeeperStep::Reap(0)),
-            Step::Done(2 * COUNT_SPAN),
-            Kind::Free,
-            "idle",
-        ),
-        (
-            keeper(KeeperStep::Raise(0)),
-            Step::Done(2 * COUNT_SPAN),
-            Kind::Filling,
-            "idle",
-        ),
+        seen(reader(LoadPlace(0)), PLACE_SPAN, Stable, "placed"),
+        seen(reader(LoadFrame), COUNT_SPAN + 2, Stable, "counted"),
+        seen(keeper(Sub(0)), COUNT_SPAN + 2, Stable, "counted"),
+        seen(keeper(Sub(0)), COUNT_SPAN + 1, Dying, "counted"),
+        seen(keeper(Reap(0)), COUNT_SPAN, Free, "counted"),
+        seen(keeper(Raise(0)), COUNT_SPAN, Filling, "counted"),
+        seen(keeper(Open(0)), 2 * COUNT_SPAN, Private, "counted"),
+        seen(keeper(Add(0)), 2 * COUNT_SPAN + 1, Private, "counted"),
+        seen(reader(Exchange), 2 * COUNT_SPAN + 2, Private, "idle"),
+        seen(reader(LoadPlace(0)), PLACE_SPAN, Private, "placed"),
+        seen(reader(LoadFrame), 2 * COUNT_SPAN + 2, Private, "idle"),
+        seen(keeper(Sub(0)), 2 * COUNT_SPAN + 2, Private, "idle"),
+        seen(keeper(Sub(0)), 2 * COUNT_SPAN + 1, Dying, "idle"),
+        seen(keeper(Reap(0)), 2 * COUNT_SPAN, Free, "idle"),
+        seen(keeper(Raise(0)), 2 * COUNT_SPAN, Filling, "idle"),
     ]
 }
 

@@ -95,6 +95,21 @@ fn four_callers_keep_one_journal(rt: HostRuntime) -> Result<(), Fail> {
     four::<Brand, _>(&rt, parts)
 }
 
+// Whether the pages of a merged one, and of one that is not there, are told as they are.
+fn pages_told<N: Naming>(rt: &impl Wait, ksm: &Ksm<N>, share: &mut Share<N>) -> bool {
+    ksm.read(rt, share, page(0, 1)) == Some(filled(10))
+        && ksm.read(rt, share, page(0, 2)).is_none()
+        && ksm.registered(rt, share, page(0, 1))
+        && !ksm.registered(rt, share, page(1, 1))
+}
+
+// The same of their tickets.
+fn tickets_told<N: Naming>(rt: &impl Wait, ksm: &Ksm<N>, share: &mut Share<N>) -> bool {
+    ksm.ticket(rt, share, page(0, 1)) == Some(0)
+        && ksm.ticket_if_known(rt, share, page(0, 1)) == Some(Some(0))
+        && ksm.ticket_if_known(rt, share, page(1, 1)).is_none()
+}
+
 // What the locked reads answer of two merged pages, and what the share then tells.
 fn reads<N: Naming, R: Wait + Abort>(
     rt: &R,
@@ -105,13 +120,8 @@ fn reads<N: Naming, R: Wait + Abort>(
     let mut one = shares.pop().ok_or("share")?;
     let share = &mut one;
     assert!(rt; merge_two(rt, ksm, share));
-    assert_eq!(rt; ksm.read(rt, share, page(0, 1)), Some(filled(10)));
-    assert_eq!(rt; ksm.read(rt, share, page(0, 2)), None);
-    assert_eq!(rt; ksm.ticket(rt, share, page(0, 1)), Some(0));
-    assert_eq!(rt; ksm.ticket_if_known(rt, share, page(0, 1)), Some(Some(0)));
-    assert_eq!(rt; ksm.ticket_if_known(rt, share, page(1, 1)), None);
-    assert_eq!(rt; ksm.registered(rt, share, page(0, 1)), true);
-    assert_eq!(rt; ksm.registered(rt, share, page(1, 1)), false);
+    assert!(rt; pages_told(rt, ksm, share));
+    assert!(rt; tickets_told(rt, ksm, share));
     assert_eq!(rt; ksm.counters(rt, share), TWO_MERGED);
     let knobs = Knobs {
         run: 1,
