@@ -3,7 +3,7 @@ ghost use Rattle.std.specs.Prelude.{◌≡◌};
 
 use crate::commands::{DONE, SHAPE, TWO_MERGED, all_done, register, store};
 use ksm_base::{Command, Fault, Shape};
-use ksm_shared::{CounterReader, Ksm, Naming, Parts, Row, Share};
+use ksm_shared::{Answer, CounterReader, Ksm, Naming, Parts, Row, Share};
 use std::marker::Brand;
 use std::process::Abort;
 use std::sync::Wait;
@@ -18,6 +18,20 @@ fn pages_of(row: Row) -> u64 {
     merged.saturating_add(others).saturating_add(counted.zero)
 }
 
+// Merges two pages by four commands. Answers what the second and the fourth told, if each told of one command more.
+fn two_told<N: Naming>(
+    rt: &impl Wait,
+    ksm: &Ksm<N>,
+    share: &mut Share<N>,
+) -> Option<(Answer<N>, Answer<N>)> {
+    let first = ksm.command(rt, share, register(0, 0, 0xaa));
+    let second = ksm.command(rt, share, register(0, 1, 0xaa));
+    let third = ksm.command(rt, share, Command::SetRun(1));
+    let fourth = ksm.command(rt, share, Command::Scan { visits: 4 });
+    let rows = [first.row(), second.row(), third.row(), fourth.row()];
+    (rows == [1, 2, 3, 4]).then_some((second, fourth))
+}
+
 // What callers learn of five commands: after how many of them the counters stand that readers are shown.
 fn learns<N: Naming, R: Wait + Abort>(
     rt: &R,
@@ -28,12 +42,7 @@ fn learns<N: Naming, R: Wait + Abort>(
     let mut one = shares.pop().ok_or("share")?;
     let mut reader = readers.pop().ok_or("reader")?;
     let share = &mut one;
-    let first = ksm.command(rt, share, register(0, 0, 0xaa));
-    let second = ksm.command(rt, share, register(0, 1, 0xaa));
-    let third = ksm.command(rt, share, Command::SetRun(1));
-    let fourth = ksm.command(rt, share, Command::Scan { visits: 4 });
-    assert_eq!(rt; (first.row(), second.row()), (1, 2));
-    assert_eq!(rt; (third.row(), fourth.row()), (3, 4));
+    let (second, fourth) = two_told(rt, ksm, share).ok_or("rows")?;
     reader.learn(fourth);
     let row = Row {
         number: 4,
