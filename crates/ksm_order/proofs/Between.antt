@@ -7,15 +7,15 @@ use Rattle.std.specs.Option.{option_or}
 use Rattle.std.proofs.lemmas.List.{map-append, set_split}
 use Rattle.std.proofs.lemmas.List.Folds.{find-append}
 use Rattle.std.specs.Prelude.{◌&&◌, cond, All, count_by, filter, find, insert, remove, nat_lt, not}
-use Rattle.std.proofs.lemmas.Bool.{cases_lt, eq-eqb, lt-ltb, le-ltb}
+use Rattle.std.proofs.lemmas.Bool.{cases_Bool, cases_lt, eq-eqb, lt-ltb, le-ltb}
 use Rattle.std.proofs.lemmas.Bool.Decides.{nat_tests}
 use Rattle.std.proofs.lemmas.List.{append-nil, append_assoc, drop_more, get_or-drop, get_or-take, get_or_default, length-drop, length-take-le, take-append-drop}
 use Rattle.std.proofs.Math.Bool.{and-false}
 use Rattle.std.proofs.lemmas.Option.{none-some}
-use Rattle.std.proofs.lemmas.List.Sums.{length-filter, sum_by-append, sum_by-cons}
+use Rattle.std.proofs.lemmas.List.Sums.{count_by-le-length, length-filter, sum_by-append, sum_by-cons}
 use Rattle.std.proofs.lemmas.List.Elements.{All-cons, All-tail, filter-append}
 use Rattle.ksm_order.specs.declared.item.Item.{Item}
-use Rattle.ksm_order.specs.Listed.{AreAscending, AreBefore, AreBehind, is_at, is_from, many, up_to, with_item, with_mark, without}
+use Rattle.ksm_order.specs.Listed.{AreAscending, AreBefore, AreBehind, is_at, is_from, many, marked, up_to, with_item, with_mark, without}
 
 -- a test that each element passes keeps the list
 pub filter_all : {X : Type 0} (p : X → Bool) (xs : List X) → All (λ x. p x ≡ true) xs → filter p xs ≡ xs
@@ -36,6 +36,31 @@ filter_none p (x ∷ xs) none =
 -- what is counted in two lists in a row is the sum of both counts
 pub count-append : {X : Type 0} (p : X → Bool) (xs ys : List X) → count_by p (xs ++ ys) ≡ count_by p xs + count_by p ys
 count-append p xs ys = sum_by-append (λ x. cond (p x) 1 0) xs ys
+
+-- where all items are marked, so are all in front of a place
+pub all_in_front : (xs : List Item) → many xs ≡ length xs → (n : ℕ) → n ≤ length xs → many (take n xs) ≡ n
+all_in_front xs all n within =
+    let marks : Item → Bool = λ x. x.marked in
+    let parts : many xs ≡ many (take n xs) + many (drop n xs) =
+    ap many (sym (take-append-drop n xs)) ∙ count-append marks (take n xs) (drop n xs) in
+    omega (arith, all, parts, within, count_by-le-length marks (take n xs), count_by-le-length marks (drop n xs), length-take-le n xs within, length-drop n xs)
+
+-- and the marked ones are all there are
+pub all_marked : (xs : List Item) → many xs ≡ length xs → marked xs ≡ xs
+all_marked [] all = refl
+all_marked (x ∷ xs) all =
+    let marks : Item → Bool = λ y. y.marked in
+    let parts : many (x ∷ xs) ≡ cond x.marked 1 0 + many xs = sum_by-cons (λ y. cond (marks y) 1 0) x xs in
+    let few = count_by-le-length marks xs in
+    elim (cases_Bool x.marked) [
+      | inl is ↦
+          let one : ◌≡◌ {A = ℕ} (cond x.marked 1 0) 1 = ap (λ b. cond {A = ℕ} b 1 0) is in
+          let rest : marked xs ≡ xs = all_marked xs (omega (arith, all, parts, one)) in
+          grind (arith, is, rest)
+      | inr other ↦
+          let nothing : ◌≡◌ {A = ℕ} (cond x.marked 1 0) 0 = ap (λ b. cond {A = ℕ} b 1 0) other in
+          absurd (omega (arith, all, parts, nothing, few))
+    ]
 
 -- where a search finds nothing, each element fails the test
 find_none : {X : Type 0} (p : X → Bool) (xs : List X) → find p xs ≡ None → All (λ x. p x ≡ false) xs

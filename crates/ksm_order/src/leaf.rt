@@ -27,6 +27,22 @@ impl Model for Leaf {
     ghost invariant = { λ l. IsCounted l.items.items l.count };
 }
 
+/// Where the item of a key stands, if from the first on no key is left out.
+#[inline(always)]
+fn in_a_row(items: &[Item], key: u64) -> Option<usize>
+    requires { AreAscending items.now }
+    ensures within { IfSome result (λ at. at ≤ length items.now) }
+    ensures ahead { IfSome result (λ at. AreBefore key (take at items.now)) }
+    ensures behind { IfSome result (λ at. All (λ x. key ≤ x.key) (drop at items.now)) }
+{
+    let first = items.first()?;
+    let at = key.checked_sub(first.key)? as usize;
+    if at < items.len() && items[at].key == key {
+        return Some(at);
+    }
+    None
+}
+
 /// How many items come before a key.
 fn place_of(items: &[Item], key: u64) -> usize
     requires { AreAscending items.now }
@@ -34,6 +50,10 @@ fn place_of(items: &[Item], key: u64) -> usize
     ensures ahead { AreBefore key (take result items.now) }
     ensures behind { All (λ x. key ≤ x.key) (drop result items.now) }
 {
+    // Keys mostly follow one another.
+    if let Some(at) = in_a_row(items, key) {
+        return at;
+    }
     let mut low = 0;
     let mut high = items.len();
     while low < high {
@@ -187,10 +207,22 @@ impl Part for Leaf {
     fn up_to(&self, key: u64) -> usize {
         let items = self.items.as_slice();
         let at = place_of(items, key);
+        // Mostly all are marked.
+        if self.count == items.len() {
+            return at;
+        }
         count_marked(&items[..at])
     }
 
     fn nth(&self, place: usize) -> Option<u64> {
-        nth(self.items.as_slice(), place)
+        let items = self.items.as_slice();
+        if self.count < items.len() {
+            return nth(items, place);
+        }
+        if place < items.len() {
+            Some(items[place].key)
+        } else {
+            None
+        }
     }
 }
