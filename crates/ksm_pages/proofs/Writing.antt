@@ -148,13 +148,12 @@ module _ (s : Inside) (are : AreRows s) where
         | inr is ↦ absurd (true≢false (sym known ∙ ap (λ (l : Listing). l.known) is))
       ]
 
-      -- where a page is not listed any more, the list is right for a new entry that no visit changes
-      pub listed_less : (now : Listing) → now ≡ record s.restless { pages = without_item page s.restless.pages } → is_restless e' ≡ false
-          → now.known ≡ true → AreListed later now.pages
-      listed_less now is calm known =
+      -- the list as it was is right for a new entry that no visit changes
+      pub listed_calm : is_restless e' ≡ false → (now : Listing) → now ≡ s.restless → now.known ≡ true → AreListed later now.pages
+      listed_calm calm now is known =
           subst (λ (l : Listing). AreListed later l.pages) (sym is)
-          (listed_still (without_item page s.restless.pages)
-          (λ k f stands apart may. without_has f.page page s.restless.pages (other_page k f stands apart) (are.listed (listed_known s.restless now _ is known) k f stands may))
+          (listed_still s.restless.pages
+          (λ k f stands apart may. are.listed (sym (ap (λ (l : Listing). l.known) is) ∙ known) k f stands may)
           (λ may. absurd (true≢false (sym may ∙ calm))))
 
       -- rows with an entry written anew are lawful where its flag stays, the list is right and the tally moved

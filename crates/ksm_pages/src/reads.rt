@@ -4,7 +4,7 @@ ghost use Rattle.std.specs.Prelude.{◌≡◌, ◌≤◌, ◌==◌, true, false,
 ghost use Rattle.std.specs.Prelude.{option_and_then, MatchOption, IfSome};
 ghost use Rattle.ksm_base.specs.Counting.{counters_from, mergeable_count};
 ghost use Rattle.ksm_base.specs.Reading.{place_of};
-ghost use Rattle.ksm_base.specs.Rows.{row_at, private_state, waiting_state};
+ghost use Rattle.ksm_base.specs.Rows.{comes_before, row_at, private_state, waiting_state};
 ghost use Rattle.ksm_base.specs.Visit.{after_cursor};
 ghost use Rattle.ksm_base.specs.declared.row.Row.{Row};
 ghost use Rattle.ksm_pages.specs.Paged.{IsHeld, IsKnown, is_next, of_guest, seen};
@@ -31,6 +31,30 @@ fn start_of(guest: Option<u16>, cursor: Option<GuestPage>) -> Option<GuestPage>
     match cursor {
         Some(page) if before < page => cursor,
         _ => Some(before),
+    }
+}
+
+/// The least page after the cursor, of the guest where one is given. None where the cursor is at another guest, or at
+/// the last number.
+#[inline(always)]
+fn least_next(guest: Option<u16>, cursor: Option<GuestPage>) -> Option<GuestPage>
+    ensures next { IfSome result (λ page. (row : Row) → row.page ≡ page → is_next guest cursor row ≡ true) }
+    ensures least { IfSome result (λ page. (row : Row) → comes_before row.page page ≡ true
+        → is_next guest cursor row ≡ false) }
+{
+    let page = match cursor {
+        Some(last) => GuestPage {
+            guest: last.guest,
+            page: last.page.checked_add(1)?,
+        },
+        None => GuestPage {
+            guest: guest.unwrap_or(0),
+            page: 0,
+        },
+    };
+    match guest {
+        Some(guest) if page.guest != guest => None,
+        _ => Some(page),
     }
 }
 
@@ -98,10 +122,31 @@ impl Pages {
             MatchOption result (next ≡ None) (λ held. (IsHeld (seen self.now) held.spot.page held)
             × (option_map (λ r. r.page) next ≡ Some held.spot.page)) }
     {
+        self.lie_in_order();
+        // Mostly no number is left out.
+        if let Some(spot) = self.following(guest, cursor) {
+            return self.told(spot);
+        }
         let spot = self.rows.after(start_of(guest, cursor))?;
         match guest {
             Some(guest) if spot.page.guest != guest => None,
             _ => self.told(spot),
+        }
+    }
+
+    /// The least page that may come next, if its row lies where it is guessed.
+    #[inline(always)]
+    fn following(&self, guest: Option<u16>, cursor: Option<GuestPage>) -> Option<Spot>
+        ensures { IfSome result (λ s.
+            option_map (λ r. r.page) (find (is_next guest cursor) self.now.rows) ≡ Some s.page) }
+    {
+        self.lie_in_order();
+        let page = least_next(guest, cursor)?;
+        let key = self.rows.guess(page);
+        let spot = Spot { page, key };
+        match self.rows.at(spot) {
+            Some(_) => Some(spot),
+            None => None,
         }
     }
 

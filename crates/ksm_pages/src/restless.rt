@@ -30,8 +30,8 @@ const MOVES_A_ROW: usize = 256;
 
 /// Pages in order, each with a guess of the key of its row, and whether all that a visit may change are among them.
 ///
-/// `add` and `remove` cost the logarithm of the number of pages, and a move of those behind: in the long run `add` moves
-/// at most as many as there are rows, for each walk that the next scan makes.
+/// `add` and `remove` cost the logarithm of the number of pages, and a move of those behind. Once moves of `LONG` pages
+/// and more come to `MOVES_A_ROW` pages for each row, the next scan makes the list anew by a walk.
 #[derive(Drop)]
 pub struct Restless {
     spots: Vec<Spot>,

@@ -495,7 +495,7 @@ impl Rows {
             };
             self.restless.add(spot, self.order.len());
         } else {
-            self.restless.remove(spot.page);
+            self.restless.let_be();
         }
     }
 

@@ -1,4 +1,4 @@
-use Rattle.ksm_pages.proofs.Names.{ap, Bool, false, held_of, MatchOption, None, Option, refl, Row, row_at, Some, state_of, subst, sym, waiting_state, ◌∙◌, ◌≡◌}
+use Rattle.ksm_pages.proofs.Names.{ap, Bool, false, MatchOption, Option, refl, Row, row_at, state_of, subst, sym, waiting_state, ◌∙◌, ◌≡◌}
 use Rattle.ksm_pages.proofs.Leaving.{row_seen}
 use Rattle.ksm_pages.proofs.pages.Pages.waits.Goals as goal
 use Rattle.ksm_pages.proofs.pages.Pages.waits.Goals.{After-state}

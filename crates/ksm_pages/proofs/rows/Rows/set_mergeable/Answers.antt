@@ -1,5 +1,5 @@
 use Rattle.ksm_pages.proofs.Names.{ap, arith, held_in, IsRows, on_row, refl, subst, sym, with_value, ◌∙◌}
-use Rattle.ksm_pages.proofs.Writing.{listed_less, listed_now, nothing, still_marked, untouched, viewed, viewed_marked}
+use Rattle.ksm_pages.proofs.Writing.{listed_calm, listed_now, nothing, still_marked, untouched, viewed, viewed_marked}
 use Rattle.ksm_pages.proofs.rows.Rows.set_mergeable.Goals as goal
 
 pub returns-in_default : goal.returns-in_default
@@ -34,8 +34,8 @@ invariant_of-self-else-restless c =
     let there = c.in-Some.ensures.there in
     let stood = c.index_mut-entry.ensures.value in
     let e' = record c.index_mut-entry.result.now { mergeable = c.args.mergeable } in
-    subst (λ order. IsRows (with_value s.entries c.in-Some.key e') order c.remove.new.self s.tally s.pass) (sym c.mark.ensures)
-    (still_marked s c.self.invariant there stood e' refl refl refl c.remove.new.self (listed_less s c.self.invariant there stood e' refl c.remove.new.self c.remove.ensures (sym c.is_restless-restless.ensures ∙ c.if-restless.false)))
+    subst (λ order. IsRows (with_value s.entries c.in-Some.key e') order c.let_be.new.self s.tally s.pass) (sym c.mark.ensures)
+    (still_marked s c.self.invariant there stood e' refl refl refl c.let_be.new.self (listed_calm s c.self.invariant there stood e' refl (sym c.is_restless-restless.ensures ∙ c.if-restless.false) c.let_be.new.self c.let_be.ensures))
 
 pub returns-then-restless : goal.returns-then-restless
 returns-then-restless c =
@@ -49,6 +49,6 @@ pub returns-else-restless : goal.returns-else-restless
 returns-else-restless c =
     let s = c.self.inside in
     let e' = record c.index_mut-entry.result.now { mergeable = c.args.mergeable } in
-    ap (λ order. record { held = held_in s.pass (with_value s.entries c.in-Some.key e') order; restless = c.remove.new.self; pass = s.pass }) c.mark.ensures
+    ap (λ order. record { held = held_in s.pass (with_value s.entries c.in-Some.key e') order; restless = c.let_be.new.self; pass = s.pass }) c.mark.ensures
     ∙ viewed_marked s c.self.invariant c.in-Some.ensures.there c.index_mut-entry.ensures.value e' refl
-    (on_row (λ r. record r { mergeable = c.args.mergeable })) refl c.args.mergeable c.remove.new.self c.args.self.now c.self.view_is
+    (on_row (λ r. record r { mergeable = c.args.mergeable })) refl c.args.mergeable c.let_be.new.self c.args.self.now c.self.view_is
