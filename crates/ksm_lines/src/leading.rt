@@ -31,6 +31,9 @@ pub fn leading_short_line(text: &[u8]) -> Option<(ShortLine, &[u8])>
         let (page, left) = page_to(behind_name(text, b"get ")?, b'\n')?;
         return Some((ShortLine::Get { page }, left));
     }
+    if front == first_four(b"put ") {
+        return None;
+    }
     if front == first_four(b"ticket ") {
         let (page, left) = page_to(behind_name(text, b"ticket ")?, b'\n')?;
         return Some((ShortLine::Ticket { page }, left));
