@@ -1,6 +1,6 @@
 -- What becomes of the layout where rows change together, join a dup, or make or lose one.
 use Rattle.ksm_base.specs.declared.limits.TheConstants.{MOST_FRAMES, MOST_LIVES, MOST_REFERENCES}
-use Rattle.ksm_book.proofs.Names.{[], Add, All, All-filter, ap, arith, blank, Bool, both_ways, cases_Bool, change_row, Contains, count_by, count_none, did, DupRow, elsewhere, eq-eqb, eqb-true, false, filter, filter_passes, find, find_all, find_none, find_passes, FitsBase, frame_at, Frames, frames_at_most, frames_of, get_or, get_or-set_same, get_or_default, GuestPage, IfSome, if◌then◌else◌, inl, InPageOrder, inr, IsInLife, IsLaid, IsLoose, IsServed, IsVacant, item_count, KeeperView, Kind, kind_for, Knobs, leaving, Ledger, ledger_after, length, lies_on, Life, life_or, List, list_any, Listing, MakesSteps, May, Merged, merged_into, merged_state, named_at, nat_lt, nat_tests, None, none_found, not-true, Note, Option, PageState, PagesView, past_lives, place_frame, Placed, Private, Publish, refl, Row, row_at, RowFits, set, set-get_or, settled, settled_state, Shape, shared_state, Some, spent, spent_on, Stable, Sub, subst, sum_by-le, sym, tree_of, true, Waiting, with_dup, with_frame, Withdraw, withdrawing, ℕ, ◌*◌, ◌++◌, ◌+◌, ◌-◌, ◌<◌, ◌==◌, ◌^◌, ◌∙◌, ◌∷◌, ◌≡◌, ◌≢◌, ◌≤◌, ◌⊎◌}
+use Rattle.ksm_book.proofs.Names.{[], Add, All, All-filter, ap, arith, blank, Bool, both_ways, cases_Bool, change_row, Contains, count_by, count_none, did, DupRow, elsewhere, eq-eqb, eqb-true, false, filter, filter_passes, find, find_all, find_none, find_passes, FitsBase, frame_at, Frames, frames_at_most, frames_of, get_or, get_or-set_same, get_or_default, GuestPage, IfSome, if◌then◌else◌, inl, InPageOrder, inr, IsInLife, IsLaid, IsLoose, IsServed, IsVacant, item_count, KeeperView, Kind, kind_for, Knobs, leaving, Ledger, ledger_after, length, lies_on, Life, life_or, List, list_any, Listing, MakesSteps, May, Merged, merged_into, merged_state, named_at, nat_lt, nat_tests, None, none_found, not-true, Note, Option, PageState, PagesView, past_lives, place_frame, Placed, Private, Publish, refl, Row, row_at, RowFits, set, set-get_or, settled, settled_state, Shape, shared_state, Some, spent, spent_on, Stable, Sub, subst, sum_by-le, sym, tree_of, true, Waiting, with_dup, with_frame, Withdraw, withdrawing, ℕ, ◌*◌, ◌++◌, ◌+◌, ◌-◌, ◌<◌, ◌==◌, ◌∙◌, ◌∷◌, ◌≡◌, ◌≢◌, ◌≤◌, ◌⊎◌}
 use Rattle.ksm_book.proofs.Moves.{Serves, joined, published, base_is_items, stale_is_loose}
 use Rattle.ksm_book.proofs.Laying.{LodgesAs, laid_rows, own_kind, served_at, shape_same}
 use Rattle.ksm_book.proofs.Keeping.{added_placed, added_spends, left_placed, left_spends, lives_most, may_leave, past_le, spent_set}

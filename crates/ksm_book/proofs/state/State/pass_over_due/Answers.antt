@@ -1,4 +1,4 @@
-use Rattle.ksm_book.proofs.Names.{[], AreDue, ap, subst, sym, ◌∙◌, ◌≡◌}
+use Rattle.ksm_book.proofs.Names.{AreDue, subst}
 use Rattle.ksm_book.proofs.DueSteps.{part_stops, whole_comes, whole_still}
 use Rattle.ksm_book.proofs.state.State.pass_over_due.Goals as goal
 
