@@ -1,7 +1,7 @@
 /*
  * A book as large as the library allows, while threads look its pages up: host [PAGES FRAMES READERS SECONDS].
  *
- * PAGES distinct pages, an even number, are laid on FRAMES frames of four nodes, scanned, made equal in pairs, merged, stored to and dropped, and in
+ * PAGES distinct pages, an even number, are laid on FRAMES frames of NODES nodes (four), scanned, made equal in pairs, merged, stored to and dropped, and in
  * between for SECONDS pages come and go, are stored to and merged; meanwhile READERS threads look places up, and read what they hold twice. Each page
  * tells in its words which content it is, so a hold of another life would show words of two contents. Where no numbers are given they are those of
  * this library: frames for each page and some over, as many readers as it has passes, and 10 seconds.
@@ -30,7 +30,9 @@
 #define CALLGRIND_DUMP_STATS_AT(name)
 #endif
 
+#ifndef NODES
 #define NODES 4
+#endif
 #define PER_GUEST 1000000
 #define SOME 10000 /* commands of a kind that is counted */
 
