@@ -8,7 +8,8 @@ use ksm_base::Command::{
     Drop, Mergeable, MoveDup, MovePage, Prune, Register, Scan, SetAcross, SetLimit, SetRun, Store,
 };
 use ksm_base::{
-    Command, Counters, Fault, GuestPage, PAGE_WORDS, PLACE_SPAN, PageBytes, Reply, Shape,
+    Command, Counters, Fault, GuestPage, MOST_LIVES, PAGE_WORDS, PLACE_SPAN, PageBytes, Reply,
+    Shape,
 };
 use ksm_book::{Book, Journal};
 use std::alloc::Global;
@@ -20,7 +21,7 @@ const SHAPE: Shape = Shape {
     nodes: 1,
     frames_per_node: 4,
     passes: 1,
-    last_generation: 1 << 40,
+    last_generation: MOST_LIVES,
     tries: 8,
 };
 

@@ -1,7 +1,7 @@
 //! The program over memory: what its words tell, how it ends, and what a fault leaves.
 use crate::host::{Host, taken};
 use clap::Error;
-use ksm_base::{MOST_FRAMES_PER_NODE, MOST_NODES, Shape};
+use ksm_base::{MOST_FRAMES_PER_NODE, MOST_LIVES, MOST_NODES, Shape};
 use ksm_host::{Ended, Retrying, Status, played, run_on, told};
 use ksm_options::options;
 use ksm_script::Blocks;
@@ -73,7 +73,7 @@ fn defaults_and_settings(rt: HostRuntime) -> Result<(), Fail> {
         nodes: 1,
         frames_per_node: 8,
         passes: 2,
-        last_generation: 1_099_511_627_776,
+        last_generation: MOST_LIVES,
         tries: 8,
     };
     let most = Shape {

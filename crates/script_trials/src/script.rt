@@ -5,7 +5,7 @@ mod faults;
 mod lookups;
 mod selftests;
 
-use ksm_base::{Fault, PAGE_WORDS, Shape};
+use ksm_base::{Fault, MOST_LIVES, PAGE_WORDS, Shape};
 use ksm_lines::read_line;
 use ksm_script::{End, RunFault, Session, run};
 use ksm_shared::{Naming, Parts};
@@ -37,7 +37,7 @@ const ROW: Row = Row {
     nodes: 1,
     frames: 4,
     passes: 2,
-    last_generation: 1 << 40,
+    last_generation: MOST_LIVES,
     input: "",
     output: "",
     end: End::AllRead,

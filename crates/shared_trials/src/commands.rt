@@ -1,6 +1,8 @@
 //! What the tests command.
 
-use ksm_base::{Command, Counters, Fault, GuestPage, PAGE_WORDS, PageBytes, Reply, Shape};
+use ksm_base::{
+    Command, Counters, Fault, GuestPage, MOST_LIVES, PAGE_WORDS, PageBytes, Reply, Shape,
+};
 use ksm_shared::{Ksm, Naming, Share};
 use std::sync::Wait;
 
@@ -11,7 +13,7 @@ pub const SHAPE: Shape = Shape {
     nodes: 1,
     frames_per_node: 8,
     passes: 2,
-    last_generation: 1 << 40,
+    last_generation: MOST_LIVES,
     tries: 8,
 };
 
