@@ -31,6 +31,7 @@ pub fn leading_short_line(text: &[u8]) -> Option<(ShortLine, &[u8])>
         let (page, left) = page_to(behind_name(text, b"get ")?, b'\n')?;
         return Some((ShortLine::Get { page }, left));
     }
+    // A store comes as often as a read, and is none of these.
     if front == first_four(b"put ") {
         return None;
     }
