@@ -8,7 +8,7 @@ ghost use Rattle.std.specs.Prelude.{◌≡◌, ◌<◌, All, vec_len};
 ghost use Rattle.ksm_base.specs.Values.{frames_of};
 
 use frame_table::{Found, Pass};
-use ksm_base::{Command, Fault, GuestPage, PAGE_WORDS, Shape};
+use ksm_base::{Command, Fault, GuestPage, MOST_LIVES, PAGE_WORDS, Shape};
 use ksm_shared::{CounterReader, Ksm, Naming, Parts, Row, Share};
 use std::io;
 use std::marker::Brand;
@@ -21,7 +21,7 @@ const SHAPE: Shape = Shape {
     nodes: 1,
     frames_per_node: FRAMES,
     passes: 2,
-    last_generation: 1 << 40,
+    last_generation: MOST_LIVES,
     tries: 64,
 };
 

@@ -8,7 +8,7 @@ ghost use Rattle.frame_table.specs.Seats.{new_keeper};
 use crate::keeper::keep;
 use crate::reader::{Reader, read};
 use frame_table::{FrameTable, Keeper, Pass};
-use ksm_base::{Fault, Shape};
+use ksm_base::{Fault, MOST_LIVES, Shape};
 use std::alloc::Global;
 use std::thread::{Threads, for_each_mut, join_mut};
 
@@ -16,7 +16,7 @@ const CROWDED: Shape = Shape {
     nodes: 1,
     frames_per_node: 1,
     passes: 16,
-    last_generation: 1_099_511_627_776,
+    last_generation: MOST_LIVES,
     tries: 1,
 };
 
