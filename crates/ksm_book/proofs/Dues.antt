@@ -1,8 +1,12 @@
 -- The pages that are due, as they are kept: which there are once one came or went, and the first behind a cursor.
-use Rattle.ksm_book.proofs.Names.{[], after_cursor, All, All-cons, All-map, any-filter_same, ap, arith, before_irrefl, Bool, cases_Bool, comes_before, Err, false, filter, find, get_or, GuestPage, has_item, inl, inr, is_some, List, list_any, map, MatchOption, nat_tests, None, not, not_both, Ok, Option, pages_ordered, pairs_head, pairs_tail, refl, Result, same_page, same_page_eq, same_page_refl, Some, subst, sym, true, true≢false, ◌&&◌, ◌++◌, ◌||◌, ◌∙◌, ◌∷◌, ◌≡◌, if◌then◌else◌}
+use Rattle.ksm_book.proofs.Names.{[], after_cursor, All, All-cons, All-map, any-filter_same, ap, append-nil, AreDue, arith, BookState, length, before_irrefl, Bool, cases_Bool, comes_before, Err, false, filter, find, get_or, GuestPage, has_item, inl, inr, is_some, List, list_any, map, MatchOption, nat_tests, None, not, not_both, Ok, Option, pages_ordered, pairs_head, pairs_tail, refl, Result, same_page, same_page_eq, same_page_refl, Some, subst, sym, true, true≢false, ◌&&◌, ◌++◌, ◌||◌, ◌==◌, ◌∙◌, ◌∷◌, ◌≡◌, if◌then◌else◌}
 use Rattle.std.proofs.Common.{ap₂}
+use Rattle.std.proofs.lemmas.List.{map-append}
+use Rattle.std.proofs.lemmas.List.Folds.{list_any-append}
 use Rattle.std.specs.Prelude.{OnErr, OnOk}
+use Rattle.ksm_pages.specs.Held.{pages_of}
 use Rattle.ksm_pages.specs.declared.named.Named.{Named}
+use Rattle.ksm_pages.specs.declared.row.Spot.{Spot}
 use Rattle.ksm_pages.specs.Ordered.{AreAscending, is_of, with_named, without_named}
 use Rattle.ksm_rmap.proofs.Ordered.{with_rises, without_rises}
 
@@ -75,13 +79,53 @@ pub inserted_rises : {T E : Type 0} (r : Result T E) (n : Named) (old new : List
 inserted_rises (Ok u) n old new rise added kept = subst AreAscending (sym added) (put_rises n old rise)
 inserted_rises (Err e) n old new rise added kept = subst AreAscending (sym kept) rise
 
--- where one was put in, it is there, and the others as before
-pub inserted_has : {T E : Type 0} (r : Result T E) (n : Named) (old new : List Named) (pages : List GuestPage)
-    → pages_in old ≡ pages → OnOk r (new ≡ with_named n old)
-    → OnOk r ((x : GuestPage) → has_item x (pages_in new) ≡ (same_page n.page x || has_item x pages))
-inserted_has (Ok u) n old new pages same added = λ x.
-    ap (λ o. has_item x (pages_in o)) added ∙ has_put n old x ∙ ap (λ l. same_page n.page x || has_item x l) same
-inserted_has (Err e) n old new pages same added = tt
+-- ---------------------------------------------------------------- pages that were added
+
+-- of the pages in order and those added behind them one is there where it is among the ones or the others
+pub has_either : (x : GuestPage) (some more : List GuestPage) → has_item x (some ++ more) ≡ (has_item x some || has_item x more)
+has_either x some more = list_any-append (λ q. same_page q x) some more
+
+-- a page among those in order is there
+pub has_first : (x : GuestPage) (some more : List GuestPage) → has_item x some ≡ true → has_item x (some ++ more) ≡ true
+has_first x some more is = has_either x some more ∙ ap (λ b. b || has_item x more) is
+
+-- where one was put in, it is there, and the others as before, with some more behind them
+pub inserted_has : {T E : Type 0} (r : Result T E) (n : Named) (old new : List Named) (more pages : List GuestPage)
+    → pages_in old ++ more ≡ pages → OnOk r (new ≡ with_named n old)
+    → OnOk r ((x : GuestPage) → has_item x (pages_in new ++ more) ≡ (same_page n.page x || has_item x pages))
+inserted_has (Err e) n old new more pages same added = tt
+inserted_has (Ok u) n old new more pages same added = λ x.
+    ap (λ o. has_item x (pages_in o ++ more)) added ∙ has_either x (pages_in (with_named n old)) more
+    ∙ ap (λ b. b || has_item x more) (has_put n old x)
+    ∙ turned (same_page n.page x) (has_item x (pages_in old)) (has_item x more)
+    ∙ ap (λ b. same_page n.page x || b) (sym (has_either x (pages_in old) more) ∙ ap (has_item x) same)
+  where
+    turned : (a b c : Bool) → ((a || b) || c) ≡ (a || (b || c))
+    turned a b c = grind arith
+
+-- where all is ready no page was added that does not stand in order
+pub none_added : (known : Bool) (order : List Named) (added : List Spot) → (known && length added == 0) ≡ true
+    → pages_in order ++ pages_of added ≡ pages_in order
+none_added known order [] is = append-nil (pages_in order)
+none_added known order (s ∷ added) is = absurd (grind (arith, is))
+
+-- with one more added
+pub added_has : (spot : Spot) (some : List GuestPage) (added : List Spot) (x : GuestPage)
+    → has_item x (some ++ pages_of (added ++ spot ∷ [])) ≡ (same_page spot.page x || has_item x (some ++ pages_of added))
+added_has spot some added x =
+    ap (λ l. has_item x (some ++ l)) (map-append (λ (s : Spot). s.page) added (spot ∷ []))
+    ∙ has_either x some (pages_of added ++ spot.page ∷ [])
+    ∙ ap (λ b. has_item x some || b) (has_either x (pages_of added) (spot.page ∷ []))
+    ∙ turned (has_item x some) (has_item x (pages_of added)) (same_page spot.page x)
+    ∙ sym (ap (λ b. same_page spot.page x || b) (has_either x some (pages_of added)))
+  where
+    turned : (a b c : Bool) → (a || (b || (c || false))) ≡ (c || (a || b))
+    turned a b c = grind arith
+
+-- where the same pages are there, the same are due
+pub same_due : (b : BookState) (old new : List GuestPage) → ((x : GuestPage) → has_item x new ≡ has_item x old)
+    → AreDue b old → AreDue b new
+same_due b old new same due = λ k d lt restless out. due k d lt restless (sym (same (get_or b.rows k d).page) ∙ out)
 
 -- what is told of the first page behind a cursor
 abbrev pub IsFirst : Option GuestPage → List GuestPage → GuestPage → Type 0

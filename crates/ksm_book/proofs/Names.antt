@@ -52,7 +52,7 @@ pub use Rattle.ksm_base.specs.declared.row.Row.{Row}
 pub use Rattle.ksm_base.specs.declared.shape.Shape.{Shape}
 pub use Rattle.ksm_book.specs.Carried.{CarriedOut, IsCarried, JournaledBook, UnmergesTo}
 pub use Rattle.ksm_book.specs.Commands.{Deed, dup_frame, emptying, Finds, FindsHeld, FindsNone, founding, frame_found, frame_number, frame_on, handling, idle, instead, joining, leaving, Mapped, mounting, Moves, pairing, Performs, Provides, pruning, Resettles, ResettlesEach, rewriting, row_visiting, scanning, staying, then_doing, visiting, visiting_of, withdrawing}
-pub use Rattle.ksm_book.specs.Due.{AreDue, comes_later, due_row_visited, due_visited, due_visits, hidden, hidden_from, IsDueNoMore, taken_over, takes_over, waits_on}
+pub use Rattle.ksm_book.specs.Due.{AreDue, comes_later, due_row_visited, DueView, due_visited, due_visits, hidden, hidden_from, IsDueNoMore, taken_over, takes_over, waits_on}
 pub use Rattle.ksm_book.specs.DuePass.{part_before, part_visited, ReachedBefore, StaysBefore, StopsDue, StopsInPart, TakesOverFrom}
 pub use Rattle.ksm_book.specs.Folded.{begun, IsBeside, IsStill, last_of, mergeable_pages, next_visited, page_visited, pages_ahead, pages_visited, pass_at, restless_at, restless_row, visited, visits_beside}
 pub use Rattle.ksm_tree.specs.NumberSets.{has, Marks}

@@ -14,6 +14,12 @@ use Rattle.ksm_rmap.specs.Items.{has_item}
 use Rattle.ksm_pages.specs.Paged.{is_restless}
 use Rattle.ksm_book.specs.Folded.{visited}
 
+-- the pages that are due; whether all of them are known; and whether they are, and stand in order
+pub record DueView : Type 0 where
+  pub pages : List GuestPage
+  pub known : Bool
+  pub ready : Bool
+
 -- the book as it is where no row of these pages waits
 abbrev pub hidden : List GuestPage → BookState → BookState
 hidden pages b = record b { rows = change_rows (λ r. has_item r.page pages) settled b.rows }

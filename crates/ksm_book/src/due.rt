@@ -16,26 +16,34 @@ use ksm_base::{Fault, GuestPage};
 use ksm_pages::{Order, Spot};
 use std::alloc::Global;
 use std::marker::Model;
+use std::mem::replace;
 
 /// The pages that are due, if they are known, each with a guess of the key of its row; and how many they may become.
 ///
-/// A call costs the logarithm of the number of pages that are due, at most.
+/// To add a page costs a step. Before a pass those added are put in order: then a call costs the logarithm of the
+/// number of pages that are due, at most.
 #[derive(Drop)]
 pub struct Due {
     alloc: Global,
     order: Order,
+    added: Vec<Spot>,
     known: bool,
     room: usize,
 }
 
 impl Model for Due {
-    ghost use Rattle.std.specs.Prelude.{map};
-    ghost use Rattle.ksm_pages.specs.Held.{Listing};
+    ghost use Rattle.std.specs.Prelude.{◌++◌, ◌&&◌, ◌==◌, length, map};
+    ghost use Rattle.ksm_pages.specs.Held.{pages_of};
     ghost use Rattle.ksm_pages.specs.Ordered.{AreAscending};
+    ghost use Rattle.ksm_book.specs.Due.{DueView};
 
-    ghost Value = { Listing };
+    ghost Value = { DueView };
 
-    ghost view = { λ d. record { pages = map (λ n. n.page) d.order; known = d.known } };
+    ghost view = { λ d. record {
+      pages = map (λ n. n.page) d.order ++ pages_of d.added.items;
+      known = d.known;
+      ready = d.known && length d.added.items == 0;
+    } };
 
     ghost invariant = { λ d. AreAscending d.order };
 }
@@ -48,6 +56,7 @@ impl Due {
         Due {
             alloc,
             order: Order::new(alloc),
+            added: Vec::new(alloc),
             known: false,
             room: 0,
         }
@@ -65,7 +74,7 @@ impl Due {
     pub fn is_empty(&self) -> bool
         ensures { result ≡ true → self.now.pages ≡ [] }
     {
-        self.order.len() == 0
+        self.order.len() == 0 && self.added.is_empty()
     }
 
     /// It is no longer known which pages are due.
@@ -78,16 +87,46 @@ impl Due {
 
     /// No page is due yet. So many may become so: where there are more, a pass may as well visit all pages.
     pub fn begin(&mut self, room: usize)
-        ensures { self.new ≡ record { pages = []; known = true } }
+        ensures { self.new.pages ≡ [] }
     {
         self.order = Order::new(self.alloc);
+        self.added.clear();
         self.known = true;
         self.room = room;
     }
 
-    /// The page of a spot is due. The one fault is `Memory`, and then nothing changes.
+    /// The page of a spot is due. Where there are too many, or memory is refused, it is no longer known which are.
+    pub fn add(&mut self, spot: Spot)
+        ensures { self.new.known ≡ true → (self.old.known ≡ true) × ((page : GuestPage)
+            → has_item page self.new.pages ≡ (same_page spot.page page || has_item page self.old.pages)) }
+    {
+        let len = self.order.len().saturating_add(self.added.len());
+        if len >= self.room || self.added.push(spot).is_err() {
+            self.known = false;
+        }
+    }
+
+    /// Puts the pages in order that were added. Says whether it is known then which are due: where memory is refused,
+    /// it is not.
+    pub fn put_in_order(&mut self) -> bool
+        ensures ready { result ≡ self.new.ready }
+        ensures known { self.new.known ≡ self.new.ready }
+        ensures same { self.new.known ≡ true → (self.old.known ≡ true) × ((page : GuestPage)
+            → has_item page self.new.pages ≡ has_item page self.old.pages) }
+    {
+        let mut added = replace(&mut self.added, Vec::new(self.alloc));
+        'added: while let Some(spot) = added.pop() {
+            if self.insert(spot).is_err() {
+                self.known = false;
+            }
+        }
+        self.added = added;
+        self.known
+    }
+
+    /// The page of a spot is due, and stands in order. The one fault is `Memory`, and then nothing changes.
     pub fn insert(&mut self, spot: Spot) -> Result<(), Fault>
-        ensures known { self.new.known ≡ self.old.known }
+        ensures rest { self.new ≡ record self.old { pages = self.new.pages } }
         ensures added { OnOk result ((page : GuestPage)
             → has_item page self.new.pages ≡ (same_page spot.page page || has_item page self.old.pages)) }
         ensures kept { OnErr result (self.new ≡ self.old) }
@@ -102,28 +141,20 @@ impl Due {
         }
     }
 
-    /// The page of a spot is due. Where there are too many, or memory is refused, it is no longer known which are.
-    pub fn add(&mut self, spot: Spot)
-        ensures { self.new.known ≡ true → (self.old.known ≡ true) × ((page : GuestPage)
-            → has_item page self.new.pages ≡ (same_page spot.page page || has_item page self.old.pages)) }
-    {
-        if self.order.len() >= self.room || self.insert(spot).is_err() {
-            self.known = false;
-        }
-    }
-
-    /// A page is due no longer.
+    /// A page is due no longer, while a pass goes on.
     pub fn remove(&mut self, page: GuestPage)
-        requires { has_item page self.old.pages ≡ true }
-        ensures known { self.new.known ≡ self.old.known }
+        requires ready { self.old.ready ≡ true }
+        requires due { has_item page self.old.pages ≡ true }
+        ensures rest { self.new ≡ record self.old { pages = self.new.pages } }
         ensures gone { (other : GuestPage)
             → has_item other self.new.pages ≡ (has_item other self.old.pages && not (same_page page other)) }
     {
         self.order.remove(page);
     }
 
-    /// The first page behind a cursor that is due.
+    /// The first page behind a cursor that is due, while a pass goes on.
     pub fn after(&self, cursor: Option<GuestPage>) -> Option<Spot>
+        requires { self.now.ready ≡ true }
         ensures { MatchOption result (All (λ p. after_cursor cursor p ≡ false) self.now.pages) (λ spot.
             (has_item spot.page self.now.pages ≡ true) × (after_cursor cursor spot.page ≡ true)
             × All (λ p. after_cursor cursor p ≡ true → comes_before p spot.page ≡ false) self.now.pages) }

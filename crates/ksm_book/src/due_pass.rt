@@ -26,7 +26,7 @@ impl State {
     /// changed nothing but which rows wait. Where memory is refused, tells the page that was not visited.
     pub fn pass_over_due(&mut self, table: &FrameTable, due: &mut Due) -> Result<bool, GuestPage>
         requires own { self.old.keeper.table ≡ table.now }
-        requires known { due.old.known ≡ true }
+        requires ready { due.old.ready ≡ true }
         requires due { AreDue self.old.state due.old.pages }
         requires start { self.old.state.cursor ≡ None }
         ensures own { self.new.keeper.table ≡ self.old.keeper.table }
@@ -50,11 +50,11 @@ impl State {
     // Visits all pages that are due, where a pass begins. Where memory is refused, tells the page that was not visited.
     fn visit_all_due(&mut self, table: &FrameTable, due: &mut Due) -> Result<(), GuestPage>
         requires own { self.old.keeper.table ≡ table.now }
-        requires known { due.old.known ≡ true }
+        requires ready { due.old.ready ≡ true }
         requires due { AreDue self.old.state due.old.pages }
         requires start { self.old.state.cursor ≡ None }
         ensures own { self.new.keeper.table ≡ self.old.keeper.table }
-        ensures known { due.new.known ≡ true }
+        ensures ready { due.new.ready ≡ true }
         ensures restless { self.new.restless ≡ self.old.restless }
         ensures visited { OnOk result (Comes self.old self.new (λ s. due_visits doing s (pages_ahead s.0))) }
         ensures due { OnOk result (AreDue self.new.state due.new.pages) }
@@ -75,11 +75,11 @@ impl State {
     // refused, nothing changes but that a row further on may wait no more.
     fn visit_due(&mut self, table: &FrameTable, due: &mut Due, spot: Spot) -> Result<(), Fault>
         requires own { self.old.keeper.table ≡ table.now }
-        requires known { due.old.known ≡ true }
+        requires ready { due.old.ready ≡ true }
         requires is_due { has_item spot.page due.old.pages ≡ true }
         requires due { AreDue self.old.state due.old.pages }
         ensures own { self.new.keeper.table ≡ self.old.keeper.table }
-        ensures known { due.new.known ≡ true }
+        ensures ready { due.new.ready ≡ true }
         ensures restless { self.new.restless ≡ self.old.restless }
         ensures comes { OnOk result (Comes self.old self.new (λ s. due_visited doing s spot.page)) }
         ensures due { OnOk result (AreDue self.new.state due.new.pages) }
@@ -117,13 +117,13 @@ impl State {
         other: GuestPage,
     ) -> Result<(), Fault>
         requires own { self.old.keeper.table ≡ table.now }
-        requires known { due.old.known ≡ true }
+        requires ready { due.old.ready ≡ true }
         requires is_due { has_item spot.page due.old.pages ≡ true }
         requires due { AreDue self.old.state due.old.pages }
         requires takes { MatchOption (row_at spot.page self.old.state.rows) (true ≡ false)
             (TakesOverFrom self.old.state other) }
         ensures own { self.new.keeper.table ≡ self.old.keeper.table }
-        ensures known { due.new.known ≡ true }
+        ensures ready { due.new.ready ≡ true }
         ensures restless { self.new.restless ≡ self.old.restless }
         ensures comes { OnOk result (Comes self.old self.new (λ s. due_visited doing s spot.page)) }
         ensures due { OnOk result (AreDue self.new.state due.new.pages) }

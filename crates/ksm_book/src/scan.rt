@@ -291,7 +291,7 @@ impl State {
         ensures stopped { IfErr result (λ page. StopsInPart self.old self.new last page) }
     {
         let whole = self.is_whole(last);
-        if whole && due.is_known() {
+        if whole && due.is_known() && due.put_in_order() {
             return self.pass_over_due(table, due);
         }
         due.forget();

@@ -1,7 +1,14 @@
-use Rattle.ksm_book.proofs.Names.{after_cursor, All, false, Listing, subst, sym, ◌≡◌}
-use Rattle.ksm_book.proofs.Dues.{first_found, IsFirst, pages_in, TellsFirst}
+use Rattle.ksm_book.proofs.Names.{after_cursor, All, ap, DueView, false, GuestPage, List, subst, sym, ◌∙◌, ◌≡◌}
+use Rattle.ksm_book.proofs.Dues.{first_found, IsFirst, none_added, pages_in, TellsFirst}
 use Rattle.ksm_book.proofs.due.Due.after.Goals as goal
 use Rattle.ksm_book.proofs.due.Due.after.Goals.{After-after}
+
+-- all pages stand in order
+whole : (c : After-after) → pages_in c.self.inside.order ≡ c.args.self.now.pages
+whole c =
+    let s = c.self.inside in
+    sym (none_added s.known s.order s.added.items (ap (λ (d : DueView). d.ready) c.self.view_is ∙ c.requires))
+    ∙ ap (λ (d : DueView). d.pages) c.self.view_is
 
 -- what the search in the order finds is the first page behind the cursor
 first : (c : After-after) → TellsFirst c.args.cursor (pages_in c.self.inside.order) c.after.result
@@ -12,12 +19,12 @@ first c =
 
 pub returns-in-Some : goal.returns-in-Some
 returns-in-Some c =
-    subst (λ (l : Listing). IsFirst c.args.cursor l.pages c.in-Some.named.page) c.self.view_is
+    subst (λ (l : List GuestPage). IsFirst c.args.cursor l c.in-Some.named.page) (whole (goal.at.returns-in-Some c).After-after)
     (subst (TellsFirst c.args.cursor (pages_in c.self.inside.order)) c.in-Some.is
     (first (goal.at.returns-in-Some c).After-after))
 
 pub returns-in-None : goal.returns-in-None
 returns-in-None c =
-    subst (λ (l : Listing). All (λ p. after_cursor c.args.cursor p ≡ false) l.pages) c.self.view_is
+    subst (All (λ p. after_cursor c.args.cursor p ≡ false)) (whole (goal.at.returns-in-None c).After-after)
     (subst (TellsFirst c.args.cursor (pages_in c.self.inside.order)) c.in-None.is
     (first (goal.at.returns-in-None c).After-after))

@@ -1,6 +1,7 @@
-use Rattle.ksm_book.proofs.Names.{ap, has_item, is_some, Listing, sym, true, ◌∙◌}
+use Rattle.ksm_book.proofs.Names.{ap, DueView, has_item, is_some, sym, true, ◌∙◌}
+use Rattle.ksm_pages.specs.Held.{pages_of}
 use Rattle.ksm_pages.specs.declared.named.Named.{Named}
-use Rattle.ksm_book.proofs.Dues.{has_already, has_found, inserted_has, inserted_rises}
+use Rattle.ksm_book.proofs.Dues.{has_already, has_first, has_found, inserted_has, inserted_rises, pages_in}
 use Rattle.ksm_book.proofs.due.Due.insert.Goals as goal
 use Rattle.ksm_book.proofs.due.Due.insert.Goals.{After-insert}
 
@@ -15,12 +16,14 @@ invariant_of-self c =
 
 pub returns-in-Some-clause-added : goal.returns-in-Some-clause-added
 returns-in-Some-clause-added c =
+    let order = c.self.inside.order in
     let page = c.args.spot.page in
     has_already page c.args.self.now.pages
-    (ap (λ (l : Listing). has_item page l.pages) (sym c.self.view_is)
-    ∙ has_found page c.self.inside.order ∙ ap is_some (sym c.in-Some.ensures))
+    (ap (λ (d : DueView). has_item page d.pages) (sym c.self.view_is)
+    ∙ has_first page (pages_in order) (pages_of c.self.inside.added.items)
+    (has_found page order ∙ ap is_some (sym c.find.ensures ∙ c.in-Some.is)))
 
 pub returns-in-None-clause-added : goal.returns-in-None-clause-added
 returns-in-None-clause-added c =
-    inserted_has c.insert.result (named (goal.at.returns-in-None-clause-added c).After-insert) c.self.inside.order
-    c.insert.new.self c.args.self.now.pages (ap (λ (l : Listing). l.pages) c.self.view_is) c.insert.ensures.added
+    inserted_has c.insert.result (named c) c.self.inside.order c.insert.new.self (pages_of c.self.inside.added.items)
+    c.args.self.now.pages (ap (λ (d : DueView). d.pages) c.self.view_is) c.insert.ensures.added

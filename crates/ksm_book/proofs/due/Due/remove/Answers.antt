@@ -1,13 +1,18 @@
-use Rattle.ksm_book.proofs.Names.{ap, has_item, Listing, not, same_page, subst, sym, ◌&&◌, ◌∙◌}
+use Rattle.ksm_book.proofs.Names.{ap, DueView, has_item, not, same_page, subst, sym, ◌&&◌, ◌++◌, ◌∙◌}
+use Rattle.ksm_pages.specs.Held.{pages_of}
 use Rattle.ksm_pages.specs.Ordered.{AreAscending}
-use Rattle.ksm_book.proofs.Dues.{has_found, has_taken, pages_in, taken_rises}
+use Rattle.ksm_book.proofs.Dues.{has_found, has_taken, none_added, pages_in, taken_rises}
 use Rattle.ksm_book.proofs.due.Due.remove.Goals as goal
 
 pub remove-requires : goal.remove-requires
-remove-requires c = record {
-  there = sym (has_found c.args.page c.self.inside.order)
-      ∙ ap (λ (l : Listing). has_item c.args.page l.pages) c.self.view_is ∙ c.requires;
-}
+remove-requires c =
+    let s = c.self.inside in
+    record {
+      there = sym (has_found c.args.page s.order)
+          ∙ sym (ap (has_item c.args.page)
+          (none_added s.known s.order s.added.items (ap (λ (d : DueView). d.ready) c.self.view_is ∙ c.requires.ready)))
+          ∙ ap (λ (d : DueView). has_item c.args.page d.pages) c.self.view_is ∙ c.requires.due;
+    }
 
 pub invariant_of-self : goal.invariant_of-self
 invariant_of-self c =
@@ -15,6 +20,10 @@ invariant_of-self c =
 
 pub returns-clause-gone : goal.returns-clause-gone
 returns-clause-gone c = λ other.
-    ap (λ order. has_item other (pages_in order)) c.remove.ensures
-    ∙ has_taken c.args.page c.self.inside.order other
-    ∙ ap (λ (l : Listing). has_item other l.pages && not (same_page c.args.page other)) c.self.view_is
+    let s = c.self.inside in
+    let ready = ap (λ (d : DueView). d.ready) c.self.view_is ∙ c.requires.ready in
+    ap (has_item other) (none_added s.known c.remove.new.self s.added.items ready)
+    ∙ ap (λ order. has_item other (pages_in order)) c.remove.ensures
+    ∙ has_taken c.args.page s.order other
+    ∙ ap (λ l. has_item other l && not (same_page c.args.page other))
+    (sym (none_added s.known s.order s.added.items ready) ∙ ap (λ (d : DueView). d.pages) c.self.view_is)

@@ -6,7 +6,7 @@ use Rattle.std.proofs.Common.{rules, refl, ◌∙◌}
 use Rattle.ksm_book.proofs.state.State.visit_all_due.Goals as goal
 
 pub loop-spot-init : goal.loop-spot-init
-loop-spot-init c = (none_passed c.args.self.now, c.requires.due, c.requires.known, refl, refl)
+loop-spot-init c = (none_passed c.args.self.now, c.requires.due, c.requires.ready, refl, refl)
 
 pub loop-spot-smaller : goal.loop-spot-smaller
 loop-spot-smaller c =
@@ -19,7 +19,7 @@ loop-spot-preserved c = (
   next_comes c.args.self.now c.loop-spot.self c.lies_lawfully.ensures.sound c.requires.start c.loop-spot.last c.loop-spot.due.pages
       c.loop-spot.invariant.1 c.loop-spot.invariant.0 c.visit_due.new.self c.in-Some.spot.page c.in-Some.ensures c.in-Ok.ensures.comes,
   c.in-Ok.ensures.due,
-  c.visit_due.ensures.known,
+  c.visit_due.ensures.ready,
   c.visit_due.ensures.restless ∙ c.loop-spot.invariant.3,
   c.visit_due.ensures.own ∙ c.loop-spot.invariant.4,
 )

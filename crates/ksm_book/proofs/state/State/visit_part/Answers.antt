@@ -1,5 +1,6 @@
-use Rattle.ksm_book.proofs.Names.{ap, AreDue, Listing, part_visited, subst, sym, ◌∙◌}
+use Rattle.ksm_book.proofs.Names.{AreDue, part_visited, subst, sym, ◌∙◌}
 use Rattle.ksm_book.specs.Scanned.{HasVisited}
+use Rattle.ksm_book.proofs.Dues.{same_due}
 use Rattle.ksm_book.proofs.DueSteps.{begun_cursor, part_stopped, part_visits}
 use Rattle.ksm_book.proofs.state.State.visit_part.Goals as goal
 use Rattle.ksm_book.proofs.state.State.visit_part.Goals.{In-Ok}
@@ -18,7 +19,7 @@ returns-else-whole-2-clause-visited c = visits (goal.at.returns-else-whole-2-cla
 pub returns-then-quiet-clause-due : goal.returns-then-quiet-clause-due
 returns-then-quiet-clause-due c = λ _.
     let whole = c.is_whole-whole.ensures c.if-whole-2.true in
-    subst (AreDue c.visit_up_to.new.self.state) (sym (ap (λ (l : Listing). l.pages) c.begin.ensures))
+    subst (AreDue c.visit_up_to.new.self.state) (sym c.begin.ensures)
     (c.in-Ok.ensures.due c.if-quiet.true
     (begun_cursor c.args.self.now c.begin_pass.new.self c.begin_pass.ensures.comes ∙ whole.0) whole.1)
 
@@ -26,3 +27,9 @@ pub returns-in-Err-clause-stopped : goal.returns-in-Err-clause-stopped
 returns-in-Err-clause-stopped c =
     part_stopped c.args.self.now c.begin_pass.new.self c.begin_pass.ensures.comes c.visit_up_to.new.self c.args.last c.in-Err.page
     c.in-Err.ensures.stopped
+
+pub pass_over_due-requires-clause-due : goal.pass_over_due-requires-clause-due
+pass_over_due-requires-clause-due c =
+    let put = c.put_in_order.ensures in
+    let same = put.same (put.known ∙ sym put.ready ∙ c.if-put_in_order.true) in
+    same_due c.args.self.now.state c.args.due.now.pages c.put_in_order.new.self.pages same.1 (c.requires.due same.0)
