@@ -27,7 +27,7 @@ use crate::row::{Entry, Kind, Spot};
 use crate::slot::{last_slot, slot_of};
 use crate::tally::Tally;
 use ksm_base::{Fault, GuestPage, PageBytes, PageState};
-use ksm_tree::Guesses;
+use ksm_tree::{Guesses, reserve_one};
 use slab::Slab;
 use std::alloc::Global;
 use std::marker::Model;
@@ -270,7 +270,7 @@ impl Rows {
         ensures kept { OnErr result (self.new ≡ self.old) }
         ensures memory { IfErr result (λ fault. fault ≡ Fault.Memory) }
     {
-        self.entries.reserve(1)?;
+        reserve_one(&mut self.entries)?;
         let Ok(key) = u32::try_from(self.entries.vacant_key()) else {
             return Err(Fault::Memory);
         };

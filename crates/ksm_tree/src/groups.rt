@@ -23,6 +23,7 @@ ghost use Rattle.ksm_tree.specs.declared.groups.TheConstants.{MOST_SPARE as most
 use crate::content::{Content, SLOTS, slot_of};
 use crate::guesses::Guesses;
 use crate::places::Places;
+use crate::room::reserve_one;
 use crate::totals::Totals;
 use ksm_base::{Fault, GuestPage, MOST_FRAMES, PageBytes};
 use slab::Slab;
@@ -206,7 +207,7 @@ impl Groups {
             tree,
             bytes: *bytes,
         };
-        self.groups.reserve(1)?;
+        reserve_one(&mut self.groups)?;
         let Ok(number) = u32::try_from(self.groups.vacant_key()) else {
             return Err(Fault::Memory);
         };

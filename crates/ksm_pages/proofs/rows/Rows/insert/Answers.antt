@@ -12,11 +12,11 @@ invariant_of-self-2 c =
     let s = c.self.inside in
     let e : Entry = record { page = c.args.page; bytes = c.args.bytes; number = 0; at = c.args.frame; home = c.args.home; group = 4294967295; kind = kinds.Own; mergeable = true; unchanged = false } in
     let key : c.insert_reserved.result ≡ c.in-Ok.key = search rules in
-    let fills = subst (λ n. Fills c.reserve.new.self c.insert_reserved.new.self n (Some e)) key c.insert_reserved.ensures.updates in
-    let vacant = ap (λ n. get c.reserve.new.self n) (sym key) ∙ c.insert_reserved.ensures.was_vacant in
+    let fills = subst (λ n. Fills c.reserve_one.new.slab c.insert_reserved.new.self n (Some e)) key c.insert_reserved.ensures.updates in
+    let vacant = ap (λ n. get c.reserve_one.new.slab n) (sym key) ∙ c.insert_reserved.ensures.was_vacant in
     subst (λ order. IsRows c.insert_reserved.new.self order c.add.new.self s.tally s.pass) (sym c.in_ok-insert.ensures.added)
-    (still_put (record s { entries = c.reserve.new.self }) (with_room s c.self.invariant c.reserve.new.self c.reserve.ensures.rest_kept)
-    c.args.self.now (seen_with_room s c.args.self.now c.self.view_is c.reserve.new.self c.reserve.ensures.rest_kept) c.in-Ok.key e c.insert_reserved.new.self vacant c.requires.absent fills
+    (still_put (record s { entries = c.reserve_one.new.slab }) (with_room s c.self.invariant c.reserve_one.new.slab c.reserve_one.ensures.rest)
+    c.args.self.now (seen_with_room s c.args.self.now c.self.view_is c.reserve_one.new.slab c.reserve_one.ensures.rest) c.in-Ok.key e c.insert_reserved.new.self vacant c.requires.absent fills
     (rests_now s.pass c.self.invariant.counting) (omega arith) c.add.new.self c.add.ensures)
 
 pub returns-clause-added : goal.returns-clause-added
@@ -24,9 +24,9 @@ returns-clause-added c =
     let s = c.self.inside in
     let e : Entry = record { page = c.args.page; bytes = c.args.bytes; number = 0; at = c.args.frame; home = c.args.home; group = 4294967295; kind = kinds.Own; mergeable = true; unchanged = false } in
     let key : c.insert_reserved.result ≡ c.in-Ok.key = search rules in
-    let fills = subst (λ n. Fills c.reserve.new.self c.insert_reserved.new.self n (Some e)) key c.insert_reserved.ensures.updates in
-    let vacant = ap (λ n. get c.reserve.new.self n) (sym key) ∙ c.insert_reserved.ensures.was_vacant in
+    let fills = subst (λ n. Fills c.reserve_one.new.slab c.insert_reserved.new.self n (Some e)) key c.insert_reserved.ensures.updates in
+    let vacant = ap (λ n. get c.reserve_one.new.slab n) (sym key) ∙ c.insert_reserved.ensures.was_vacant in
     ap (λ order. record { held = held_in s.pass c.insert_reserved.new.self order; restless = c.add.new.self; pass = s.pass }) c.in_ok-insert.ensures.added
-    ∙ viewed_put (record s { entries = c.reserve.new.self }) (with_room s c.self.invariant c.reserve.new.self c.reserve.ensures.rest_kept)
-    c.args.self.now (seen_with_room s c.args.self.now c.self.view_is c.reserve.new.self c.reserve.ensures.rest_kept) c.in-Ok.key e c.insert_reserved.new.self vacant c.requires.absent fills c.add.new.self
+    ∙ viewed_put (record s { entries = c.reserve_one.new.slab }) (with_room s c.self.invariant c.reserve_one.new.slab c.reserve_one.ensures.rest)
+    c.args.self.now (seen_with_room s c.args.self.now c.self.view_is c.reserve_one.new.slab c.reserve_one.ensures.rest) c.in-Ok.key e c.insert_reserved.new.self vacant c.requires.absent fills c.add.new.self
     ∙ ap (λ (st : PageState). record c.args.self.now { held = with_held (mapped st (Some c.args.frame) (held_of s.pass e)) c.args.self.now.held; restless = c.add.new.self }) (rests_now s.pass c.self.invariant.counting)

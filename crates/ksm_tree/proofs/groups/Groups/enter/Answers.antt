@@ -6,8 +6,8 @@ use Rattle.ksm_tree.proofs.Used.{one_more}
 use Rattle.ksm_tree.proofs.groups.Groups.enter.Goals as goal
 use Rattle.ksm_tree.proofs.groups.Groups.enter.Goals.{After-insert_reserved}
 
-pub returns-in_err-reserve-clause-absent : goal.returns-in_err-reserve-clause-absent
-returns-in_err-reserve-clause-absent c = on_err _ (none_here c.args.self.now c.args.tree c.args.bytes.now c.requires)
+pub returns-in_err-reserve_one-clause-absent : goal.returns-in_err-reserve_one-clause-absent
+returns-in_err-reserve_one-clause-absent c = on_err _ (none_here c.args.self.now c.args.tree c.args.bytes.now c.requires)
 
 pub returns-in_default-clause-absent : goal.returns-in_default-clause-absent
 returns-in_default-clause-absent c = none_here c.args.self.now c.args.tree c.args.bytes.now c.requires
@@ -20,9 +20,9 @@ entered c =
     let k = content_of c.args.tree c.args.bytes.now in
     let fresh : Group = record { content = k; page = record { guest = 0; page = 0 }; pass = 0; places = c.new.result } in
     let key : c.insert_reserved.result ≡ c.in-Ok.number = search rules in
-    let vacant = ap (λ n. get c.reserve.new.self n) (sym key) ∙ c.insert_reserved.ensures.was_vacant in
-    let fills = subst (λ n. Fills c.reserve.new.self c.insert_reserved.new.self n (Some fresh)) key c.insert_reserved.ensures.updates in
-    entered_fresh c.args.self.now c.reserve.new.self c.insert_reserved.new.self c.insert.new.self k c.in-Ok.number fresh c.reserve.ensures.rest_kept c.requires vacant
+    let vacant = ap (λ n. get c.reserve_one.new.slab n) (sym key) ∙ c.insert_reserved.ensures.was_vacant in
+    let fills = subst (λ n. Fills c.reserve_one.new.slab c.insert_reserved.new.self n (Some fresh)) key c.insert_reserved.ensures.updates in
+    entered_fresh c.args.self.now c.reserve_one.new.slab c.insert_reserved.new.self c.insert.new.self k c.in-Ok.number fresh c.reserve_one.ensures.rest c.requires vacant
     c.in_ok-insert.ensures.updates fills refl refl c.new.ensures.none
 
 pub invariant_of-self-2 : goal.invariant_of-self-2
