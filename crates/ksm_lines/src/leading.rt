@@ -13,6 +13,7 @@ use crate::field::{PAGE_DIGITS, behind_name, content_in, first_four};
 use crate::knob::{Knob, Shown, knob_named, shown_named};
 use crate::line::{PageLine, RareLine, ShortLine};
 use ksm_base::{GuestPage, PageBytes};
+use memchr::memchr;
 
 /// With a digit more, a number up to this one fits.
 const MOST_BEFORE_A_DIGIT: u32 = 429_496_728;
@@ -280,10 +281,6 @@ fn knob_to_space(text: &[u8]) -> Option<(Knob, &[u8])>
 fn word_to(text: &[u8], end: u8) -> Option<(&[u8], &[u8])>
     ensures { IfSome result (λ r. text.now ≡ r.0.now ++ end ∷ r.1.now) }
 {
-    for at in 0..text.len() {
-        if text[at] == end {
-            return Some((&text[..at], &text[at + 1..]));
-        }
-    }
-    None
+    let at = memchr(end, text)?;
+    Some((&text[..at], &text[at + 1..]))
 }
