@@ -1,19 +1,19 @@
 //! The pages that a visit of the scan may change: those of mergeable rows with frames of their own, so there are never
 //! more of these than frames.
 //!
-//! Some other pages may be listed too: whoever visits a page looks at its row anyhow, so a row that is merged stays
-//! listed until many may be so. Where memory for a page is refused, the list is no longer known to have all, and
-//! the next scan makes it anew: so no command is refused for it. So it is where pages in another order have moved so
-//! many others that a walk over all rows costs no more.
+//! Some other pages may be listed too: whoever visits a page looks at its row anyhow. So a row stays listed in vain once
+//! it is merged, or no scan visits it any more, until many may be so. Where memory for a page is refused, the list is no
+//! longer known to have all, and the next scan makes it anew: so no command is refused for it. So it is where pages that
+//! came or went in another order have moved so many others that a walk over all rows costs no more.
 
 ghost use Rattle.std.specs.Prelude.{◌≡◌, ◌⊎◌, ◌≤◌, [], true, false, filter, find, is_some, length, not, slice_get};
 ghost use Rattle.std.specs.Prelude.{slice_index_or, option_map, IsTrue, OnErr, OnOk, insert, remove, ◌<◌};
 ghost use Rattle.ksm_base.specs.declared.page.GuestPage.{GuestPage};
 ghost use Rattle.ksm_base.specs.Rows.{comes_before, same_page};
 ghost use Rattle.ksm_base.specs.Visit.{after_cursor};
-ghost use Rattle.ksm_rmap.specs.Items.{AreAscending, has_item, without_item};
+ghost use Rattle.ksm_rmap.specs.Items.{AreAscending, has_item};
 ghost use Rattle.ksm_pages.specs.Filed.{IsCalm, is_useless as is_of_no_use};
-ghost use Rattle.ksm_pages.specs.Held.{AreInOrder, IsAddedTo};
+ghost use Rattle.ksm_pages.specs.Held.{AreInOrder, IsAddedTo, IsTakenFrom};
 ghost use Rattle.slab.specs.Slab.{get};
 
 use crate::row::{Entry, Spot};
@@ -206,15 +206,30 @@ impl Restless {
         }
     }
 
-    /// A page is not listed any more.
-    pub fn remove(&mut self, page: GuestPage)
-        ensures { self.new ≡ record self.old { pages = without_item page self.old.pages } }
+    /// A page is not listed any more, where there are so many rows. Where many pages were moved already, none is, and
+    /// the list is no longer known.
+    pub fn remove(&mut self, page: GuestPage, rows: usize)
+        ensures { IsTakenFrom page self.old self.new }
     {
         let at = place_of(self.spots.as_slice(), page);
         let found = stands_at(self.spots.as_slice(), at, page);
-        if found {
-            take_out(&mut self.spots, at);
+        if !found {
+            return;
         }
+        let dear = is_dear(&mut self.moved, self.spots.len() - at, rows);
+        if dear {
+            self.give_up();
+            return;
+        }
+        take_out(&mut self.spots, at);
+    }
+
+    // No page is listed any more, and it is no longer known which are to be.
+    fn give_up(&mut self)
+        ensures { self.new ≡ record { pages = []; known = false } }
+    {
+        self.clear();
+        self.known = false;
     }
 
     /// A listed page has become one that no visit changes.
