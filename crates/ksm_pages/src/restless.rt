@@ -30,8 +30,9 @@ const MOVES_A_ROW: usize = 256;
 
 /// Pages in order, each with a guess of the key of its row, and whether all that a visit may change are among them.
 ///
-/// `add` and `remove` cost the logarithm of the number of pages, and a move of those behind. Once moves of `LONG` pages
-/// and more come to `MOVES_A_ROW` pages for each row, the next scan makes the list anew by a walk.
+/// `add` and `remove` cost the logarithm of the number of pages, and a move of those behind. Where pages are added one
+/// behind the other, no search is made. Once moves of `LONG` pages and more come to `MOVES_A_ROW` pages for each row, the
+/// next scan makes the list anew by a walk.
 #[derive(Drop)]
 pub struct Restless {
     spots: Vec<Spot>,
@@ -40,6 +41,8 @@ pub struct Restless {
     useless: usize,
     /// How many pages were moved, many at a time, since the last walk.
     moved: usize,
+    /// A guess of the index at which the next page is put: the one behind the last.
+    next: usize,
 }
 
 impl Model for Restless {
@@ -64,6 +67,23 @@ fn place_of(spots: &[Spot], page: GuestPage) -> usize
         return len;
     }
     spots.partition_point(|spot| spot.page.comes_before(page))
+}
+
+/// The same, with a guess of the index, which is tried first.
+#[inline(always)]
+fn place_near(spots: &[Spot], guess: usize, page: GuestPage) -> usize
+    requires { AreInOrder spots.now }
+    ensures count { result ≡ length (filter (λ s. comes_before s.page page) spots.now) }
+    ensures within { result ≤ length spots.now }
+{
+    if 0 < guess
+        && guess < spots.len()
+        && spots[guess - 1].page.comes_before(page)
+        && !spots[guess].page.comes_before(page)
+    {
+        return guess;
+    }
+    place_of(spots, page)
 }
 
 /// Whether the page stands at the index.
@@ -134,6 +154,7 @@ impl Restless {
             known: true,
             useless: 0,
             moved: 0,
+            next: 0,
         }
     }
 
@@ -152,6 +173,7 @@ impl Restless {
         self.known = true;
         self.useless = 0;
         self.moved = 0;
+        self.next = 0;
     }
 
     /// How many pages are listed.
@@ -189,8 +211,9 @@ impl Restless {
     pub fn add(&mut self, spot: Spot, rows: usize)
         ensures { IsAddedTo spot.page self.old self.new }
     {
-        let at = place_of(self.spots.as_slice(), spot.page);
+        let at = place_near(self.spots.as_slice(), self.next, spot.page);
         let found = stands_at(self.spots.as_slice(), at, spot.page);
+        self.next = at + 1;
         if found {
             self.spots[at] = spot;
             return;
