@@ -1,85 +1,15 @@
--- A page that is stored to while it is merged or Zero, comes or goes: where its dup, if it has one, had room for one more
--- page, no dup comes to have room by that, and no other page becomes due.
-use Rattle.ksm_book.proofs.Names.{Answer, BookView, Drop, Err, IsAnswerUnless, IsCarried, none_of, Ok, Register, Reply, All, All-filter, all_with_row, and_parts, ap, AreDue, arith, BookState, Bool, both_ways, change_row, change_rows, count_with_row, count_without_page, counts_one, dup_numbered, DupRow, eq-eqb, eqb-true, false, filter, find, find_all, find_passes, fresh_row, get_or, GuestPage, has_item, has_items, if◌then◌else◌, InPlaceOrder, is_restless, is_some, IsDupOf, IsSound, item_count, length, length-filter, length-map, List, may_join, Merged, merged_into, merged_state, nat_le, nat_lt, nat_tests, ne_eqb, None, not, not_an_item, one_of_each_place, Option, option_map, PageState, refl, Row, row_at, same_page, same_page_refl, same_Some, Some, stored, subst, sym, true, Waiting, waits_on, with_row, without_page, Zero, ℕ, ◌&&◌, ◌+◌, ◌<◌, ◌==◌, ◌||◌, ◌∙◌, ◌∷◌, ◌≡◌}
-use Rattle.std.specs.Prelude.{option_and_then}
+-- A page that is stored to while it is merged or Zero, comes or goes: of the others only one that waits in its tree with its
+-- bytes may come to join its dup by that, so no other page becomes due.
+use Rattle.ksm_book.proofs.Names.{All, All-filter, all_changed, all_with_row, and_parts, Answer, ap, AreDue, arith, BookState, BookView, Bool, both_ways, bytes_eq, bytes_eq-Decides, cases_Bool, change_row, change_rows, count_with_row, count_without_page, Drop, dup_of_item, DupRow, eqb-true, Err, false, find_all, find_none, fresh_row, get_or, GuestPage, has_item, if◌then◌else◌, inl, inr, is_restless, is_some, IsAnswerUnless, IsCarried, IsDupOf, IsSound, item_count, List, may_join, Merged, merged_into, merged_state, nat_le, nat_lt, None, none_of, not, Ok, Option, option_map, PageState, partner, refl, Register, Reply, Row, row_at, same_page, same_page_refl, same_page_sym, Some, stored, subst, sym, tells_waits, tree_of, true, Waiting, waiting_state, waits_for, waits_on, with_row, without_page, Zero, ℕ, ◌&&◌, ◌+◌, ◌==◌, ◌||◌, ◌∙◌, ◌∷◌, ◌≡◌}
 use Rattle.ksm_base.specs.declared.row.PageState.TheVariants.{Private}
 use Rattle.ksm_base.specs.Answers.{IsAnswerOrMemory}
 use Rattle.ksm_base.specs.Refusals.{is_known, is_no_node, refused_if}
 use Rattle.ksm_base.specs.declared.fault.Fault.TheVariants.{AlreadyRegistered, BadNode, UnknownPage}
-use Rattle.ksm_base.specs.Reading.{items_of, place_of, ticket_of}
-use Rattle.ksm_pages.specs.Paged.{IsKnown}
-use Rattle.ksm_book.specs.Due.{dup_of, has_room, leaves_none_open}
-use Rattle.ksm_book.proofs.ByPage.{row_of_page}
-use Rattle.ksm_book.proofs.DueKept.{change_due, count_kept, itself, joins, joins_none_still, more_due, none_is_best, none_to_join, on_tells, one_more, tells_on}
-
--- ---------------------------------------------------------------- what is read of the row of a page
-
--- a row is merged into the dup with a number, which stands at a place
-record StandsAt (state : PageState) (dups : List DupRow) (place : ℕ) : Type 0 where
-  number : ℕ
-  dup : DupRow
-  merged : state ≡ Merged number
-  stands : dup_numbered number dups ≡ Some dup
-  at : dup.place ≡ place
-
-stands_at : (state : PageState) (dups : List DupRow) (place : ℕ) → Some place ≡ place_of state dups → StandsAt state dups place
-stands_at Private dups place is = cc
-stands_at Waiting dups place is = cc
-stands_at Zero dups place is = cc
-stands_at (Merged number) dups place is = by (dup_numbered number dups) refl is
-  where
-    by : (o : Option DupRow) → dup_numbered number dups ≡ o → Some place ≡ option_map (λ d. d.place) o → StandsAt (Merged number) dups place
-    by None found is = cc
-    by (Some d) found is = record { number = number; dup = d; merged = refl; stands = found; at = sym (same_Some place d.place is) }
-
--- a row that has no place is merged into no dup
-no_dup : (state : PageState) (dups : List DupRow) → None ≡ place_of state dups → dup_of state dups ≡ None
-no_dup Private dups is = refl
-no_dup Waiting dups is = refl
-no_dup Zero dups is = refl
-no_dup (Merged number) dups is = by (dup_numbered number dups) is
-  where
-    by : (o : Option DupRow) → None ≡ option_map (λ d. d.place) o → o ≡ None
-    by None is = refl
-    by (Some d) is = cc
-
-module _ (b : BookState) (page : GuestPage) (row : Row) (found : row_at page b.rows ≡ Some row) where
-  -- the place is read of the state of the row
-  place_read : (o : Option ℕ) → o ≡ ticket_of page b → o ≡ place_of row.state b.dups
-  place_read o told = told ∙ ap (option_and_then (λ r. place_of r.state b.dups)) found
-
-  -- the page has no place: its row leaves no dup
-  pub placeless_leaves : None ≡ ticket_of page b → leaves_none_open b row ≡ true
-  placeless_leaves told = ap (has_room b) (no_dup row.state b.dups (place_read None told))
-
-  -- the page has a place, with fewer pages than the limit
-  pub placed_leaves : InPlaceOrder b.dups → (place : ℕ) (items : List GuestPage) → Some place ≡ ticket_of page b
-      → option_map (items_of b.rows) (find (λ d. d.place == place && has_items b.rows d) b.dups) ≡ Some items
-      → nat_lt (length items) b.knobs.max_page_sharing ≡ true → leaves_none_open b row ≡ true
-  placed_leaves rise place items told has less = by (find (λ d. d.place == place && has_items b.rows d) b.dups) refl has
-    where
-      s : StandsAt row.state b.dups place
-      s = stands_at row.state b.dups place (place_read (Some place) told)
-
-      -- of its place there is no other dup
-      only : All (λ e. (e.place == s.dup.place) ≡ true → e ≡ s.dup) b.dups
-      only = find_all (λ d. d.number == s.number) (λ d. All (λ e. (e.place == d.place) ≡ true → e ≡ d) b.dups) b.dups s.dup
-          s.stands (one_of_each_place b.dups rise)
-
-      by : (o : Option DupRow) → find (λ d. d.place == place && has_items b.rows d) b.dups ≡ o → option_map (items_of b.rows) o ≡ Some items
-          → leaves_none_open b row ≡ true
-      by None at has = cc
-      by (Some e) at has =
-          let live : DupRow → Bool = λ d. d.place == place && has_items b.rows d in
-          let passes = and_parts (e.place == place) (has_items b.rows e) (find_passes live b.dups e at) in
-          let same : e ≡ s.dup = find_all live (λ x. (x.place == s.dup.place) ≡ true → x ≡ s.dup) b.dups e at only
-          (ap (λ p. e.place == p) s.at ∙ passes.0) in
-          let item : Row → Bool = λ r. merged_into s.dup.number r.state in
-          let long : length items ≡ item_count b.rows s.dup =
-          ap length (same_Some items (items_of b.rows e) (sym has)) ∙ ap (λ x. length (items_of b.rows x)) same
-          ∙ length-map (filter item b.rows) (λ r. r.page) ∙ length-filter item b.rows in
-          ap (λ t. has_room b (dup_of t b.dups)) s.merged ∙ ap (has_room b) s.stands
-          ∙ ap (λ n. nat_lt n b.knobs.max_page_sharing) (sym long) ∙ less
+use Rattle.ksm_pages.specs.Paged.{IsKnown, page_beside}
+use Rattle.ksm_tree.specs.Waits.{names}
+use Rattle.ksm_book.proofs.ByPage.{found_page, row_of_page}
+use Rattle.ksm_book.proofs.DueAlike.{one_waits}
+use Rattle.ksm_book.proofs.DueKept.{count_kept, itself, joins, more_due, none_is_best, none_to_join, on_tells, one_more, tells_on}
 
 -- ---------------------------------------------------------------- the row of a page leaves its dup
 
@@ -96,83 +26,143 @@ on_still b new r joins_none is =
       none = none_is_best b.knobs new b.dups r (joins_none (none_to_join b.knobs b.rows b.dups r h.none));
     })
 
--- of other rows each dup into which the row is not merged has as many items
-module _ (b : BookState) (sound : IsSound b) (page : GuestPage) (row : Row) (found : row_at page b.rows ≡ Some row)
-    (leaves : leaves_none_open b row ≡ true) (new : List Row)
-    (counts : (e : DupRow) → merged_into e.number row.state ≡ false → item_count new e ≡ item_count b.rows e) where
-  -- the row is merged into a dup that has room
-  module _ (dup : DupRow) (merged : row.state ≡ Merged dup.number) (stands : dup_numbered dup.number b.dups ≡ Some dup) where
-    room : nat_lt (item_count b.rows dup) b.knobs.max_page_sharing ≡ true
-    room = ap (has_room b) (sym stands) ∙ ap (λ t. has_room b (dup_of t b.dups)) (sym merged) ∙ leaves
+module _ (b : BookState) (sound : IsSound b) (page : GuestPage) (row : Row) (found : row_at page b.rows ≡ Some row) where
+  -- the page that waits in the tree of the row with its bytes, if the row is merged
+  abbrev beside : Option GuestPage
+  beside = page_beside b.knobs b.rows (Some row)
 
-    some : nat_le 1 (item_count b.rows dup) ≡ true
-    some =
-        let item : Row → Bool = λ r. merged_into dup.number r.state in
-        let more : 0 < item_count b.rows dup =
-        find_all (λ r. same_page r.page page) (λ r. item r ≡ true → 0 < item_count b.rows dup) b.rows row found (counts_one item b.rows)
-        (ap (merged_into dup.number) merged ∙ eq-eqb dup.number dup.number refl) in
-        grind (arith, nat_tests, more)
+  -- a row that is merged does not wait
+  merged_only : (number : ℕ) (state : PageState) → merged_into number state ≡ true
+      → (merged_state state ≡ true) × (waiting_state state ≡ false)
+  merged_only number Private into = cc
+  merged_only number Waiting into = cc
+  merged_only number Zero into = cc
+  merged_only number (Merged n) into = (refl, refl)
 
-    same_count : (e : DupRow) → (e.number == dup.number) ≡ false → item_count new e ≡ item_count b.rows e
-    same_count e other = counts e (ap (merged_into e.number) merged
-        ∙ ne_eqb dup.number e.number (λ is. absurd (both_ways (e.number == dup.number) other (eq-eqb e.number dup.number (sym is)))))
-
-  -- a row that could join no dup can join none
-  pub joins_none_then : (r : Row) → All (λ d. may_join b.knobs b.rows r d ≡ false) b.dups → All (λ d. may_join b.knobs new r d ≡ false) b.dups
-  joins_none_then r none = by row.state refl
+  -- a row that waits for the row, which is merged, is of that page
+  is_beside : merged_state row.state ≡ true → All (λ r. waits_for b.knobs row r ≡ true → names r.page beside ≡ true) b.rows
+  is_beside merged k d lt waits = by (partner b.knobs b.rows row) refl
     where
-      single : merged_state row.state ≡ false → All (λ d. may_join b.knobs new r d ≡ false) b.dups
-      single is k d lt =
-          let e = get_or b.dups k d in
-          ap (joins b.knobs r e) (counts e (not_an_item e.number row.state is)) ∙ none k d lt
+      r : Row
+      r = get_or b.rows k d
 
-      by : (state : PageState) → row.state ≡ state → All (λ d. may_join b.knobs new r d ≡ false) b.dups
-      by Private is = single (ap merged_state is)
-      by Waiting is = single (ap merged_state is)
-      by Zero is = single (ap merged_state is)
-      by (Merged number) is =
-          let dup = find_all (λ r. same_page r.page page) (λ r. (n : ℕ) → r.state ≡ Merged n → (d : DupRow) × IsDupOf b.knobs b.dups r n d)
-          b.rows row found sound.items number is in
-          let same : dup.0.number ≡ number =
-          eqb-true dup.0.number number (find_passes (λ d. d.number == number) b.dups dup.0 dup.1.stands) in
-          let merged : row.state ≡ Merged dup.0.number = is ∙ ap Merged (sym same) in
-          let stands : dup_numbered dup.0.number b.dups ≡ Some dup.0 = ap (λ n. dup_numbered n b.dups) same ∙ dup.1.stands in
-          joins_none_still b sound new dup.0 stands (some dup.0 merged stands) (room dup.0 merged stands)
-          (same_count dup.0 merged stands) r none
+      named : (o : Option Row) → partner b.knobs b.rows row ≡ o → option_map (λ w. w.page) o ≡ beside
+      named o is =
+          ap (option_map (λ w. w.page)) (sym is)
+          ∙ ap (λ z. if z then option_map (λ w. w.page) (partner b.knobs b.rows row) else None) (sym merged)
+
+      by : (o : Option Row) → partner b.knobs b.rows row ≡ o → names r.page beside ≡ true
+      by None none = absurd (both_ways (waits_for b.knobs row r) (find_none (waits_for b.knobs row) b.rows none k d lt) waits)
+      by (Some w) is =
+          ap (names r.page) (sym (named (Some w) is))
+          ∙ ap (same_page w.page) (one_waits b row w sound is k d lt waits) ∙ same_page_refl w.page
+
+  -- a row that waits, of the tree and content of a dup into which the row is merged, is of that page
+  is_of_dup : All (λ r. waiting_state r.state ≡ true → All (λ e. merged_into e.number row.state ≡ true
+      → (e.tree == tree_of b.knobs r && bytes_eq e.bytes r.bytes) ≡ true → names r.page beside ≡ true) b.dups) b.rows
+  is_of_dup k d lt waiting j e lt_e into same =
+      let r = get_or b.rows k d in
+      let dup = get_or b.dups j e in
+      let merged = merged_only dup.number row.state into in
+      let of_dup : IsDupOf b.knobs b.dups row dup.number dup =
+      find_all (λ x. same_page x.page page) (λ x. merged_into dup.number x.state ≡ true → IsDupOf b.knobs b.dups x dup.number dup)
+      b.rows row found (dup_of_item b sound j e lt_e) into in
+      let group = and_parts (dup.tree == tree_of b.knobs r) (bytes_eq dup.bytes r.bytes) same in
+      let other : same_page r.page row.page ≡ false = elim (cases_Bool (same_page r.page row.page)) [
+        | inl is ↦
+            let it = row_of_page page b.rows row sound.rows_rise found k d lt
+            (ap (same_page r.page) (sym (found_page page b.rows row found)) ∙ is) in
+            absurd (both_ways (waiting_state row.state) merged.1 (ap (λ x. waiting_state x.state) (sym it) ∙ waiting))
+        | inr apart ↦ apart
+      ] in
+      is_beside merged.0 k d lt (tells_waits b.knobs row r (record {
+        state = waiting;
+        other = other;
+        tree = sym (eqb-true dup.tree (tree_of b.knobs r) group.0) ∙ of_dup.tree;
+        bytes = sym ((bytes_eq-Decides dup.bytes r.bytes).0 group.1) ∙ of_dup.bytes;
+      }))
+
+  -- of other rows each dup into which the row is not merged has as many items
+  module _ (now : List Row) (counts : (e : DupRow) → merged_into e.number row.state ≡ false → item_count now e ≡ item_count b.rows e) where
+    -- a row that waits, and not on that page, can join none still where it could join no dup
+    joins_none_then : All (λ r. waiting_state r.state ≡ true → names r.page beside ≡ false
+        → All (λ e. may_join b.knobs b.rows r e ≡ false) b.dups → All (λ e. may_join b.knobs now r e ≡ false) b.dups) b.rows
+    joins_none_then k d lt waiting apart none j e lt_e =
+        let r = get_or b.rows k d in
+        let dup = get_or b.dups j e in
+        elim (cases_Bool (merged_into dup.number row.state)) [
+          | inl into ↦ elim (cases_Bool (dup.tree == tree_of b.knobs r && bytes_eq dup.bytes r.bytes)) [
+            | inl same ↦ absurd (both_ways (names r.page beside) apart (is_of_dup k d lt waiting j e lt_e into same))
+            | inr differ ↦
+                ap (λ z. z && nat_le 1 (item_count now dup) && nat_lt (item_count now dup) b.knobs.max_page_sharing) differ
+          ]
+          | inr out ↦ ap (joins b.knobs r dup) (counts dup out) ∙ none j e lt_e
+        ]
+
+    -- where that page is due, with what was, each other row waits on beside those rows
+    left_still : (old new : List GuestPage) → AreDue b old → ((p : GuestPage) → has_item p old ≡ true → has_item p new ≡ true)
+        → ((p : GuestPage) → names p beside ≡ true → has_item p new ≡ true)
+        → All (λ r. is_restless r ≡ true → has_item r.page new ≡ false → waits_on (record b { rows = now }) r ≡ true) b.rows
+    left_still old new was more covers k d lt restless out =
+        let r = get_or b.rows k d in
+        let is = more_due b old new more was k d lt restless out in
+        let apart : names r.page beside ≡ false = elim (cases_Bool (names r.page beside)) [
+          | inl it ↦ absurd (both_ways (has_item r.page new) out (covers r.page it))
+          | inr other ↦ other
+        ] in
+        on_still b now r (joins_none_then k d lt (on_tells b r is).waiting apart) is
 
 -- ---------------------------------------------------------------- the page is stored to, or dropped
 
-module _ (b : BookState) (sound : IsSound b) (page : GuestPage) (row : Row) (found : row_at page b.rows ≡ Some row)
-    (leaves : leaves_none_open b row ≡ true) (pages : List GuestPage) (was : AreDue b pages) where
-  -- where bytes are stored to the page, it is due beside what was
-  pub broken_due : (bytes : List ℕ) → AreDue (record b { rows = change_row page (stored bytes) b.rows }) (page ∷ pages)
-  broken_due bytes =
-      change_due b of_page (stored bytes) b.dups b.next pages (page ∷ pages) (one_more page pages)
-      (λ k d lt same _. itself page pages (get_or b.rows k d).page same)
-      (λ k d lt _ _. joins_none_then b sound page row found leaves (change_rows of_page (stored bytes) b.rows) counts (get_or b.rows k d)) was
-    where
-      of_page : Row → Bool
-      of_page r = same_page r.page page
+-- where the page that waits beside another was added to what is due
+module _ (b : BookState) (page : GuestPage) (old new : List GuestPage) (was : AreDue b old)
+    (told : (p : GuestPage) → has_item p new ≡ (names p (page_beside b.knobs b.rows (row_at page b.rows)) || has_item p old)) where
+  more_than_was : (p : GuestPage) → has_item p old ≡ true → has_item p new ≡ true
+  more_than_was p is = let tells = told p in grind (arith, tells, is)
 
-      counts : (e : DupRow) → merged_into e.number row.state ≡ false → item_count (change_rows of_page (stored bytes) b.rows) e ≡ item_count b.rows e
-      counts e none = count_kept e.number of_page (stored bytes) b.rows (λ k d lt same.
-          subst (λ x. false ≡ merged_into e.number x.state) (sym (row_of_page page b.rows row sound.rows_rise found k d lt same)) (sym none))
+  module _ (sound : IsSound b) (row : Row) (found : row_at page b.rows ≡ Some row) where
+    covers : (p : GuestPage) → names p (page_beside b.knobs b.rows (Some row)) ≡ true → has_item p new ≡ true
+    covers p is = told p ∙ ap (λ o. names p (page_beside b.knobs b.rows o) || has_item p old) found ∙ ap (λ z. z || has_item p old) is
 
-  -- where the page is dropped, what was is due
-  pub dropped_due : AreDue (record b { rows = without_page page b.rows }) pages
-  dropped_due = All-filter (λ r. not (same_page r.page page))
-      (λ r. is_restless r ≡ true → has_item r.page pages ≡ false → waits_on (record b { rows = without_page page b.rows }) r ≡ true) b.rows
-      (λ k d lt restless out. let r = get_or b.rows k d in
-      on_still b (without_page page b.rows) r (joins_none_then b sound page row found leaves (without_page page b.rows) counts r)
-      (was k d lt restless out))
-    where
-      counts : (e : DupRow) → merged_into e.number row.state ≡ false → item_count (without_page page b.rows) e ≡ item_count b.rows e
-      counts e none =
-          let item : Row → Bool = λ r. merged_into e.number r.state in
-          let less = count_without_page item page b.rows row sound.rows_rise found in
-          let same : item_count (without_page page b.rows) e + 0 ≡ item_count b.rows e =
-          subst (λ z. item_count (without_page page b.rows) e + (if z then 1 else 0) ≡ item_count b.rows e) none less in
-          omega (arith, same)
+    -- that is so of the book once bytes are stored to the other, which is due too
+    pub left_broken : (later : List GuestPage) → ((p : GuestPage) → has_item p later ≡ (same_page page p || has_item p new))
+        → (bytes : List ℕ) → AreDue (record b { rows = change_row page (stored bytes) b.rows }) later
+    left_broken later added bytes =
+        all_changed (λ r. is_restless r ≡ true → has_item r.page later ≡ false
+        → waits_on (record b { rows = change_row page (stored bytes) b.rows }) r ≡ true) of_page (stored bytes) b.rows
+        (λ k d lt same restless out. absurd (both_ways (has_item (get_or b.rows k d).page later) out (own (get_or b.rows k d).page same)))
+        (λ k d lt _. left_still b sound page row found (change_row page (stored bytes) b.rows) counts old later was
+        (λ p is. on p (more_than_was p is)) (λ p is. on p (covers p is)) k d lt)
+      where
+        of_page : Row → Bool
+        of_page r = same_page r.page page
+
+        on : (p : GuestPage) → has_item p new ≡ true → has_item p later ≡ true
+        on p is = let tells = added p in grind (arith, tells, is)
+
+        own : (p : GuestPage) → same_page p page ≡ true → has_item p later ≡ true
+        own p same = added p ∙ ap (λ z. z || has_item p new) (same_page_sym page p ∙ same)
+
+        counts : (e : DupRow) → merged_into e.number row.state ≡ false
+            → item_count (change_rows of_page (stored bytes) b.rows) e ≡ item_count b.rows e
+        counts e none = count_kept e.number of_page (stored bytes) b.rows (λ k d lt same.
+            subst (λ x. false ≡ merged_into e.number x.state) (sym (row_of_page page b.rows row sound.rows_rise found k d lt same)) (sym none))
+
+    -- and once the other is dropped
+    pub left_dropped : AreDue (record b { rows = without_page page b.rows }) new
+    left_dropped = All-filter (λ r. not (same_page r.page page))
+        (λ r. is_restless r ≡ true → has_item r.page new ≡ false → waits_on (record b { rows = without_page page b.rows }) r ≡ true) b.rows
+        (left_still b sound page row found (without_page page b.rows) counts old new was more_than_was covers)
+      where
+        counts : (e : DupRow) → merged_into e.number row.state ≡ false → item_count (without_page page b.rows) e ≡ item_count b.rows e
+        counts e none =
+            let item : Row → Bool = λ r. merged_into e.number r.state in
+            let less = count_without_page item page b.rows row sound.rows_rise found in
+            let same : item_count (without_page page b.rows) e + 0 ≡ item_count b.rows e =
+            subst (λ z. item_count (without_page page b.rows) e + (if z then 1 else 0) ≡ item_count b.rows e) none less in
+            omega (arith, same)
+
+-- ---------------------------------------------------------------- a page comes
 
 -- a page that comes is due beside what was
 pub come_due : (b : BookState) (page : GuestPage) (node : ℕ) (bytes : List ℕ) (pages : List GuestPage) → row_at page b.rows ≡ None → AreDue b pages
@@ -197,13 +187,6 @@ module _ (b : BookState) (page : GuestPage) (old new : List GuestPage) (added : 
   -- that is so of the book as it is
   pub added_due : AreDue b new
   added_due = more_due b old new more was
-
-  -- and of the book once bytes are stored to the page
-  pub added_broken : (sound : IsSound b) (row : Row) → row_at page b.rows ≡ Some row → leaves_none_open b row ≡ true
-      → (bytes : List ℕ) → AreDue (record b { rows = change_row page (stored bytes) b.rows }) new
-  added_broken sound row found leaves bytes =
-      more_due (record b { rows = change_row page (stored bytes) b.rows }) (page ∷ old) new (λ p is. added p ∙ is)
-      (broken_due b sound page row found leaves old was bytes)
 
   -- and of the book once the page has come
   pub added_come : row_at page b.rows ≡ None → (node : ℕ) (bytes : List ℕ)

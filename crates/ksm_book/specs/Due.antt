@@ -1,13 +1,10 @@
 -- Passes that visit only the pages that are due: what waits, and would wait again, is left as it is (own).
-use Rattle.std.specs.Prelude.{◌≡◌, Bool, true, false, not, ◌&&◌, nat_lt, All, List, ◌∷◌, fold, Option, Some, None, is_none}
+use Rattle.std.specs.Prelude.{◌≡◌, Bool, true, false, not, ◌&&◌, All, List, ◌∷◌, fold, Option, Some, None, is_none}
 use Rattle.std.specs.Prelude.{if◌then◌else◌}
 use Rattle.ksm_base.specs.declared.page.GuestPage.{GuestPage}
-use Rattle.ksm_base.specs.declared.row.DupRow.{DupRow}
-use Rattle.ksm_base.specs.declared.row.PageState.{PageState}
-use Rattle.ksm_base.specs.declared.row.PageState.TheVariants.{Private, Waiting, Merged, Zero}
+use Rattle.ksm_base.specs.declared.row.PageState.TheVariants.{Waiting}
 use Rattle.ksm_base.specs.declared.row.Row.{Row}
-use Rattle.ksm_base.specs.Rows.{change_row, change_rows, comes_before, dup_numbered, item_count, row_at, settled}
-use Rattle.ksm_base.specs.Rows.{waiting_state}
+use Rattle.ksm_base.specs.Rows.{change_row, change_rows, comes_before, row_at, settled, waiting_state}
 use Rattle.ksm_base.specs.State.{BookState}
 use Rattle.ksm_base.specs.Visit.{best_dup, is_for_zero, partner, waits_for}
 use Rattle.ksm_rmap.specs.Items.{has_item}
@@ -33,22 +30,6 @@ waits_on b r =
 -- each row that a visit may change is of one of these pages, or waits on
 abbrev pub AreDue : BookState → List GuestPage → Type 0
 AreDue b pages = All (λ r. is_restless r ≡ true → has_item r.page pages ≡ false → waits_on b r ≡ true) b.rows
-
--- the dup into which a row in this state is merged
-abbrev pub dup_of : PageState → List DupRow → Option DupRow
-dup_of Private dups = None
-dup_of Waiting dups = None
-dup_of (Merged number) dups = dup_numbered number dups
-dup_of Zero dups = None
-
--- the dup, where there is one, has room for one item more
-abbrev pub has_room : BookState → Option DupRow → Bool
-has_room b None = true
-has_room b (Some d) = nat_lt (item_count b.rows d) b.knobs.max_page_sharing
-
--- no dup comes to have room where the row leaves its dup
-abbrev pub leaves_none_open : BookState → Row → Bool
-leaves_none_open b row = has_room b (dup_of row.state b.dups)
 
 -- there is a row, and it comes after the page
 abbrev pub comes_later : GuestPage → Option Row → Bool

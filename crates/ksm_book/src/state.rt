@@ -1,7 +1,7 @@
 //! The state of the book, and the commands on single pages, with `prune` and `mergeable`. Each tests its refusals in
 //! the order of the definitions, and then changes the pages and their frames.
 
-ghost use Rattle.std.specs.Prelude.{◌≡◌, ◌≤◌, ℕ, List, [], true, None, Some, IfOk, IfErr, IsSome, option_map};
+ghost use Rattle.std.specs.Prelude.{◌≡◌, ◌≤◌, ◌||◌, ℕ, List, [], true, None, Some, IfOk, IfErr, IsSome, option_map};
 ghost use Rattle.ksm_base.specs.Values.{IsShape};
 ghost use Rattle.ksm_base.specs.State.{opening};
 ghost use Rattle.ksm_base.specs.Apply.{fresh_row, stored};
@@ -14,11 +14,13 @@ ghost use Rattle.ksm_base.specs.Sound.{IsSound};
 ghost use Rattle.ksm_base.specs.declared.row.Row.{Row};
 ghost use Rattle.frame_core.specs.Ledger.{first_ledger};
 ghost use Rattle.ksm_book.specs.Carried.{IsCarried};
-ghost use Rattle.ksm_book.specs.Due.{AreDue, leaves_none_open};
+ghost use Rattle.ksm_book.specs.Due.{AreDue};
 ghost use Rattle.ksm_book.specs.Whole.{view_of};
 ghost use Rattle.ksm_book.specs.Keeping.{spent};
 ghost use Rattle.ksm_book.specs.Laid.{LoadsIf};
-ghost use Rattle.ksm_pages.specs.Paged.{IsAlone, IsKnown, nowhere};
+ghost use Rattle.ksm_rmap.specs.Items.{has_item};
+ghost use Rattle.ksm_tree.specs.Waits.{names};
+ghost use Rattle.ksm_pages.specs.Paged.{IsAlone, IsKnown, nowhere, page_beside};
 ghost use Rattle.ksm_book.specs.Promised.{FindsPlace, LieOn, NumbersAreSmall};
 
 use crate::due::Due;
@@ -186,7 +188,7 @@ impl State {
     }
 
     /// Stores bytes to a page: in place where it has a frame of its own, else in a copy on its home. A page that waited
-    /// is due then, and so is one that was merged or Zero; where its dup was full, it is no longer known which pages are.
+    /// is due then, and so is one that was merged or Zero, with what may join its dup then.
     pub fn store(
         &mut self,
         table: &FrameTable,
@@ -241,8 +243,7 @@ impl State {
         }
     }
 
-    // Bytes are about to be stored to a page that is merged or Zero. It is due from now on; where its dup was full, it is
-    // no longer known which pages are.
+    // Bytes are about to be stored to a page that is merged or Zero. It is due from now on, with what may join its dup.
     fn note_break(&self, due: &mut Due, spot: Spot)
         requires known { IsKnown spot.page self.now.state.rows }
         requires due { due.old.known ≡ true → AreDue self.now.state due.old.pages }
@@ -255,24 +256,21 @@ impl State {
             return;
         }
         self.lies_lawfully();
-        if self.leaves_none_open(spot.page) {
-            due.add(spot);
-        } else {
-            due.forget();
-        }
+        self.note_leaving(due, spot);
+        due.add(spot);
     }
 
-    // Whether a page is merged into no dup, or into one that has room for one page more.
-    fn leaves_none_open(&self, page: GuestPage) -> bool
-        ensures { result ≡ true → (row : Row) → row_at page self.now.state.rows ≡ Some row
-            → leaves_none_open self.now.state row ≡ true }
+    // A page is about to leave its dup, if it is merged. What waits with its bytes, one page at most, may join that dup
+    // then, where it was full, and is due from now on.
+    fn note_leaving(&self, due: &mut Due, spot: Spot)
+        ensures { due.new.known ≡ true → (due.old.known ≡ true) × ((page : GuestPage)
+            → let state = self.now.state in has_item page due.new.pages
+            ≡ (names page (page_beside state.knobs state.rows (row_at spot.page state.rows))
+            || has_item page due.old.pages)) }
     {
-        match self.pages.ticket(page) {
-            Some(place) => match self.pages.items_at(place) {
-                Some(items) => items.len() < self.pages.knobs().max_page_sharing as usize,
-                None => false,
-            },
-            None => true,
+        match self.pages.waiting_beside(spot) {
+            Some(waiting) => due.add(waiting),
+            None => {}
         }
     }
 
@@ -289,7 +287,7 @@ impl State {
         Ok(Reply::Done)
     }
 
-    /// Drops a page. Where its dup was full, it is no longer known which pages are due.
+    /// Drops a page. What may join its dup then is due.
     pub fn drop_due(
         &mut self,
         table: &FrameTable,
@@ -305,7 +303,7 @@ impl State {
         self.drop_page(table, page)
     }
 
-    // A page is about to be dropped. Where its dup was full, it is no longer known which pages are due.
+    // A page is about to be dropped. What may join its dup then is due from now on.
     fn note_going(&self, due: &mut Due, page: GuestPage)
         requires due { due.old.known ≡ true → AreDue self.now.state due.old.pages }
         ensures kept { due.new.known ≡ true → AreDue self.now.state due.new.pages }
@@ -316,10 +314,9 @@ impl State {
             return;
         }
         self.lies_lawfully();
-        if self.leaves_none_open(page) {
-            return;
+        if let Some(held) = self.pages.held(page) {
+            self.note_leaving(due, held.spot);
         }
-        due.forget();
     }
 
     /// The counters.

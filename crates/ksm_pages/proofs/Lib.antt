@@ -25,3 +25,4 @@ pub mod Visiting
 pub mod Paired
 pub mod Moving
 pub mod Asked
+pub mod Beside

@@ -1,11 +1,12 @@
 -- Spots in the order of their pages: the pages of them, once one was put in, written or taken away.
-use Rattle.ksm_pages.proofs.Names.{[], add-one, and_parts, ap, append-nil, append_assoc, ap₂, AreInOrder, arith, Bool, cases_Bool, comes_before, cond_both, drop, drop_all, Entry, filter, find, find_filter, find_passes, get, get_or, GuestPage, has_item, if◌then◌else◌, inl, inr, insert, is_restless, is_some, is_useless, IsCalm, length, length-append, length-map, length-take-le, List, map, map-append, None, not, not-true, Option, pages_of, pages_ordered, refl, same_page, same_page_eq, set, Slab, Some, Spot, subst, sym, take, true, true≢false, with_found, with_item, ℕ, ◌++◌, ◌+◌, ◌-◌, ◌∙◌, ◌∷◌, ◌≡◌, ◌≤◌, ◌⊎◌}
+use Rattle.ksm_pages.proofs.Names.{[], add-one, and_parts, ap, append-nil, append_assoc, ap₂, AreInOrder, arith, Bool, cases_Bool, comes_before, cond_both, drop, drop_all, Entry, false, filter, find, find_filter, find_passes, get, get_or, get_or_default, GuestPage, has_item, if◌then◌else◌, inl, inr, insert, is_restless, is_some, is_useless, IsCalm, length, length-append, length-map, length-take-le, List, map, map-append, None, not, not-true, Option, pages_of, pages_ordered, point_is_count, refl, same_page, same_page_eq, set, Slab, Some, Spot, subst, sym, take, true, true≢false, with_found, with_item, ℕ, ◌++◌, ◌+◌, ◌-◌, ◌<◌, ◌∙◌, ◌∷◌, ◌≡◌, ◌≤◌, ◌⊎◌}
 use Rattle.std.specs.List.{copy_within}
 use Rattle.std.proofs.Math.Seq.{take-append_seam, take-suc}
+use Rattle.std.proofs.lemmas.Bool.{false_from_ne_true}
 use Rattle.std.proofs.lemmas.List.{drop-take, set_at, take-append-le}
 use Rattle.ksm_rmap.specs.Items.{AreAscending}
 use Rattle.ksm_tree.proofs.Alike.{filter_mapped, find_mapped, map_mapped, pairs_mapped}
-use Rattle.ksm_rmap.proofs.Ordered.{any_found, with_rises}
+use Rattle.ksm_rmap.proofs.Ordered.{any_found, parted, with_rises}
 use Rattle.ksm_pages.proofs.Options.{some_mapped}
 
 -- the page of a spot
@@ -103,3 +104,15 @@ moved_up xs at x within =
     ∙ append-nil ((take at xs ++ get_or l at x ∷ []) ++ drop at xs)
     ∙ append_assoc (take at xs) (get_or l at x ∷ []) (drop at xs))
     ∙ set_at (take at xs) (get_or l at x) (drop at xs) x at (length-take-le at xs within)
+
+-- where a spot of a list in order comes before a page, and the next one does not, as many come before it as stand up to there
+pub place_between : (page : GuestPage) (spots : List Spot) → AreInOrder spots → (at : ℕ) (d e : Spot) → 0 < at → at < length spots
+    → comes_before (get_or spots (at - 1) d).page page ≡ true → comes_before (get_or spots at e).page page ≡ false
+    → at ≡ length (filter (λ s. comes_before s.page page) spots)
+place_between page spots rise at d e some within low high =
+    let before : Spot → Bool = λ s. comes_before s.page page in
+    let split = parted pages_ordered page_of page spots rise in
+    point_is_count before spots at (omega arith)
+    (λ k x from lt. split k (at - 1) x (omega arith) (omega arith) (rw (get_or_default spots (at - 1) x d (omega arith)) low))
+    (λ k x from lt. false_from_ne_true (before (get_or spots k x)) (λ is.
+    absurd (true≢false (sym (split at k x from lt is) ∙ ap before (get_or_default spots at x e within) ∙ high))))

@@ -1,5 +1,5 @@
 -- What each change of one row, found under its key, leaves: rows still, and what is seen of them.
-use Rattle.ksm_pages.proofs.Names.{ap, ap₂, AreBegun, AreFiled, AreListed, arith, Bool, CanMove, change_held, Decides-eqb, Entry, false, find, forgotten, get, GuestPage, has_item, Held, held_at, held_in, held_of, held_under, IfSome, inl, InPageOrder, inr, is_of, is_own, is_restless, is_some, IsAddedTo, IsCalm, IsMoved, IsRows, IsTally, IsUnder, key_in, Kind, length, length-map, List, Listing, marked, Named, named_of, ne_eqb, None, number_left, on_row, own_state, pages_ordered, PageState, Private, refl, Row, row_at, rows_of, RowsView, same_page, same_page_refl, same_Some, settled, settled_state, shared_state, Slab, Some, state_of, subst, sym, Tally, true, true≢false, Updates-with_value, Waiting, with_held, with_item, with_named, with_value, without_held, without_item, without_named, ℕ, ◌&&◌, ◌<◌, ◌==◌, ◌^◌, ◌∙◌, ◌≡◌, ◌≢◌, ◌≤◌, ◌⊎◌}
+use Rattle.ksm_pages.proofs.Names.{ap, ap₂, AreBegun, AreFiled, AreListed, arith, Bool, CanMove, change_held, Decides-eqb, Entry, false, find, forgotten, get, GuestPage, has_item, Held, held_at, held_in, held_of, held_under, IfSome, inl, InPageOrder, inr, is_of, is_own, is_restless, is_some, IsAddedTo, IsCalm, IsMoved, IsRows, IsTakenFrom, IsTally, IsUnder, key_in, Kind, length, length-map, List, Listing, marked, Named, named_of, ne_eqb, None, number_left, on_row, own_state, pages_ordered, PageState, Private, refl, Row, row_at, rows_of, RowsView, same_page, same_page_refl, same_Some, settled, settled_state, shared_state, Slab, Some, state_of, subst, sym, Tally, true, true≢false, Updates-with_value, Waiting, with_held, with_item, with_named, with_value, without_held, without_named, ℕ, ◌&&◌, ◌<◌, ◌==◌, ◌^◌, ◌∙◌, ◌≡◌, ◌≢◌, ◌≤◌, ◌⊎◌}
 use Rattle.slab.specs.Slab.{Updates as Fills}
 use Rattle.ksm_pages.specs.declared.row.Kind.TheVariants as kinds
 use Rattle.ksm_pages.specs.declared.rows.Rows.TheInside.{Inside}
@@ -267,15 +267,18 @@ module _ (s : Inside) (are : AreRows s) where
           subst (λ p. held_in s.pass later (without_named p s.order) ≡ without_held p held) of_page (taken s.entries s.order are.ascending are.filed key e stood later fills s.pass)
 
       -- rows are lawful once a page's entry is gone, with its name, its place in the list and its count
-      pub still_gone : (now : Listing) → now ≡ record s.restless { pages = without_item page s.restless.pages }
-          → {from : PageState} {tally : Tally} → from ≡ state_of e.kind e.number s.pass
+      pub still_gone : (now : Listing) → IsTakenFrom page s.restless now → {from : PageState} {tally : Tally} → from ≡ state_of e.kind e.number s.pass
           → IsMoved from Private s.tally tally → IsRows later (without_named page s.order) now tally s.pass
-      still_gone now is {from} {tally} was moved = record {
+      still_gone now taken_from {from} {tally} was moved = record {
         ascending = without_rises pages_ordered (λ (n : Named). n.page) page s.order are.ascending;
         filed =
             subst (λ p. AreFiled later (without_named p s.order)) of_page (filed_taken s.entries s.order are.ascending are.filed key e stood later fills);
-        listed = subst (λ (l : Listing). l.known ≡ true → AreListed later l.pages) (sym is)
-            (λ known k f stands may. let was = stood_before k f stands in without_has f.page page s.restless.pages (other_page k f was.0 was.1) (are.listed known k f was.0 may));
+        listed = λ known. elim taken_from [
+          | inl is ↦
+              subst (λ (l : Listing). AreListed later l.pages) (sym is)
+              (λ k f stands may. let was = stood_before k f stands in without_has f.page page s.restless.pages (other_page k f was.0 was.1) (are.listed (listed_known s.restless now _ is known) k f was.0 may))
+          | inr is ↦ absurd (true≢false (sym known ∙ ap (λ (l : Listing). l.known) is))
+        ];
         counted = subst (λ rs. IsTally rs tally) (sym (ap rows_of held_gone ∙ rows_without page held))
             (tally_gone (rows_of held) rise page (held_of s.pass e).row found_row s.tally tally are.counted (subst (λ st. IsMoved st Private s.tally tally) was moved));
         begun = λ k f stands. are.begun k f (stood_before k f stands).0;

@@ -11,7 +11,7 @@ use Rattle.ksm_base.specs.declared.row.DupRow.{DupRow}
 use Rattle.ksm_base.specs.declared.knobs.Knobs.{Knobs}
 use Rattle.ksm_base.specs.declared.shape.Shape.{Shape}
 use Rattle.ksm_base.specs.Values.{frames_of}
-use Rattle.ksm_base.specs.Rows.{comes_before, same_page, row_at, change_row, change_rows, shared_state, merged_into}
+use Rattle.ksm_base.specs.Rows.{comes_before, same_page, row_at, change_row, change_rows, shared_state, merged_into, merged_state}
 use Rattle.ksm_base.specs.Rows.{item_count, with_dup}
 use Rattle.ksm_base.specs.State.{tree_of}
 use Rattle.ksm_base.specs.Visit.{after_cursor, best_dup, is_for_zero, partner}
@@ -125,6 +125,11 @@ of_guest (Some guest) = is_of guest
 -- a row of the guest, or any row, after the cursor
 abbrev pub is_next : Option ℕ → Option GuestPage → Row → Bool
 is_next guest cursor r = of_guest guest r && after_cursor cursor r.page
+
+-- the page that waits in the tree of a merged row with its bytes, if one does
+abbrev pub page_beside : Knobs → List Row → Option Row → Option GuestPage
+page_beside knobs rows None = None
+page_beside knobs rows (Some r) = if merged_state r.state then option_map (λ w. w.page) (partner knobs rows r) else None
 
 -- the row with a frame of its own, in no tree
 abbrev pub on_its_own : Row → Row

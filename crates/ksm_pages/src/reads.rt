@@ -7,11 +7,12 @@ ghost use Rattle.ksm_base.specs.Reading.{place_of};
 ghost use Rattle.ksm_base.specs.Rows.{comes_before, row_at, private_state, waiting_state};
 ghost use Rattle.ksm_base.specs.Visit.{after_cursor};
 ghost use Rattle.ksm_base.specs.declared.row.Row.{Row};
-ghost use Rattle.ksm_pages.specs.Paged.{IsHeld, IsKnown, is_next, of_guest, seen};
+ghost use Rattle.ksm_pages.specs.Paged.{IsHeld, IsKnown, is_next, of_guest, page_beside, seen};
 
 use crate::lying::{frame_of, place_of};
 use crate::pages::{Held, Pages};
 use crate::row::{Kind, Spot};
+use crate::tree::tree_in;
 use ksm_base::{Counters, GuestPage, PageBytes, PageState};
 
 /// The cursor behind which the rows of a guest begin, or go on.
@@ -100,6 +101,24 @@ impl Pages {
             PageState::Private => false,
             PageState::Merged(_) => false,
             PageState::Zero => false,
+        }
+    }
+
+    /// The page that waits in the tree of a merged page with its bytes, if one does.
+    pub fn waiting_beside(&self, spot: Spot) -> Option<Spot>
+        ensures { option_map (λ s. s.page) result
+            ≡ page_beside self.now.knobs self.now.rows (row_at spot.page self.now.rows) }
+    {
+        let entry = self.rows.find(spot)?;
+        match entry.kind {
+            Kind::Merged => {
+                let tree = tree_in(&self.knobs, entry.home);
+                let page = self.dups.waiting_of(entry.at, tree, &entry.bytes)?;
+                let key = self.rows.guess(page);
+                Some(Spot { page, key })
+            }
+            Kind::Own => None,
+            Kind::Zero => None,
         }
     }
 

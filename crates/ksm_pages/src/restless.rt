@@ -1,19 +1,19 @@
 //! The pages that a visit of the scan may change: those of mergeable rows with frames of their own, so there are never
 //! more of these than frames.
 //!
-//! Some other pages may be listed too: whoever visits a page looks at its row anyhow, so a row that is merged stays
-//! listed until many may be so. Where memory for a page is refused, the list is no longer known to have all, and
-//! the next scan makes it anew: so no command is refused for it. So it is where pages in another order have moved so
-//! many others that a walk over all rows costs no more.
+//! Some other pages may be listed too: whoever visits a page looks at its row anyhow. So a row stays listed in vain once
+//! it is merged, or no scan visits it any more, until many may be so. Where memory for a page is refused, the list is no
+//! longer known to have all, and the next scan makes it anew: so no command is refused for it. So it is where pages that
+//! came or went in another order have moved so many others that a walk over all rows costs no more.
 
 ghost use Rattle.std.specs.Prelude.{◌≡◌, ◌⊎◌, ◌≤◌, [], true, false, filter, find, is_some, length, not, slice_get};
 ghost use Rattle.std.specs.Prelude.{slice_index_or, option_map, IsTrue, OnErr, OnOk, insert, remove, ◌<◌};
 ghost use Rattle.ksm_base.specs.declared.page.GuestPage.{GuestPage};
 ghost use Rattle.ksm_base.specs.Rows.{comes_before, same_page};
 ghost use Rattle.ksm_base.specs.Visit.{after_cursor};
-ghost use Rattle.ksm_rmap.specs.Items.{AreAscending, has_item, without_item};
+ghost use Rattle.ksm_rmap.specs.Items.{AreAscending, has_item};
 ghost use Rattle.ksm_pages.specs.Filed.{IsCalm, is_useless as is_of_no_use};
-ghost use Rattle.ksm_pages.specs.Held.{AreInOrder, IsAddedTo};
+ghost use Rattle.ksm_pages.specs.Held.{AreInOrder, IsAddedTo, IsTakenFrom};
 ghost use Rattle.slab.specs.Slab.{get};
 
 use crate::row::{Entry, Spot};
@@ -30,8 +30,9 @@ const MOVES_A_ROW: usize = 256;
 
 /// Pages in order, each with a guess of the key of its row, and whether all that a visit may change are among them.
 ///
-/// `add` and `remove` cost the logarithm of the number of pages, and a move of those behind. Once moves of `LONG` pages
-/// and more come to `MOVES_A_ROW` pages for each row, the next scan makes the list anew by a walk.
+/// `add` and `remove` cost the logarithm of the number of pages, and a move of those behind. Where pages are added one
+/// behind the other, no search is made. Once moves of `LONG` pages and more come to `MOVES_A_ROW` pages for each row, the
+/// next scan makes the list anew by a walk.
 #[derive(Drop)]
 pub struct Restless {
     spots: Vec<Spot>,
@@ -40,6 +41,8 @@ pub struct Restless {
     useless: usize,
     /// How many pages were moved, many at a time, since the last walk.
     moved: usize,
+    /// A guess of the index at which the next page is put: the one behind the last.
+    next: usize,
 }
 
 impl Model for Restless {
@@ -64,6 +67,23 @@ fn place_of(spots: &[Spot], page: GuestPage) -> usize
         return len;
     }
     spots.partition_point(|spot| spot.page.comes_before(page))
+}
+
+/// The same, with a guess of the index, which is tried first.
+#[inline(always)]
+fn place_near(spots: &[Spot], guess: usize, page: GuestPage) -> usize
+    requires { AreInOrder spots.now }
+    ensures count { result ≡ length (filter (λ s. comes_before s.page page) spots.now) }
+    ensures within { result ≤ length spots.now }
+{
+    if 0 < guess
+        && guess < spots.len()
+        && spots[guess - 1].page.comes_before(page)
+        && !spots[guess].page.comes_before(page)
+    {
+        return guess;
+    }
+    place_of(spots, page)
 }
 
 /// Whether the page stands at the index.
@@ -134,6 +154,7 @@ impl Restless {
             known: true,
             useless: 0,
             moved: 0,
+            next: 0,
         }
     }
 
@@ -152,6 +173,7 @@ impl Restless {
         self.known = true;
         self.useless = 0;
         self.moved = 0;
+        self.next = 0;
     }
 
     /// How many pages are listed.
@@ -189,8 +211,9 @@ impl Restless {
     pub fn add(&mut self, spot: Spot, rows: usize)
         ensures { IsAddedTo spot.page self.old self.new }
     {
-        let at = place_of(self.spots.as_slice(), spot.page);
+        let at = place_near(self.spots.as_slice(), self.next, spot.page);
         let found = stands_at(self.spots.as_slice(), at, spot.page);
+        self.next = at + 1;
         if found {
             self.spots[at] = spot;
             return;
@@ -206,15 +229,30 @@ impl Restless {
         }
     }
 
-    /// A page is not listed any more.
-    pub fn remove(&mut self, page: GuestPage)
-        ensures { self.new ≡ record self.old { pages = without_item page self.old.pages } }
+    /// A page is not listed any more, where there are so many rows. Where many pages were moved already, none is, and
+    /// the list is no longer known.
+    pub fn remove(&mut self, page: GuestPage, rows: usize)
+        ensures { IsTakenFrom page self.old self.new }
     {
         let at = place_of(self.spots.as_slice(), page);
         let found = stands_at(self.spots.as_slice(), at, page);
-        if found {
-            take_out(&mut self.spots, at);
+        if !found {
+            return;
         }
+        let dear = is_dear(&mut self.moved, self.spots.len() - at, rows);
+        if dear {
+            self.give_up();
+            return;
+        }
+        take_out(&mut self.spots, at);
+    }
+
+    // No page is listed any more, and it is no longer known which are to be.
+    fn give_up(&mut self)
+        ensures { self.new ≡ record { pages = []; known = false } }
+    {
+        self.clear();
+        self.known = false;
     }
 
     /// A listed page has become one that no visit changes.

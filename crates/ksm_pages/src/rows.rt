@@ -310,7 +310,7 @@ impl Rows {
         let gone = self.entries.remove(key);
         self.tally.change(gone.state(self.pass), PageState::Private);
         self.order.remove(spot.page);
-        self.restless.remove(spot.page);
+        self.restless.remove(spot.page, self.order.len());
     }
 
     // ------------------------------------------------------------ how a page is mapped

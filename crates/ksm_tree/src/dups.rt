@@ -225,6 +225,16 @@ impl Dups {
         self.index.groups.meet(group, page)
     }
 
+    /// The page that waits in a tree with these bytes, if there is one. Of the dup at the place, if there is one, the
+    /// group is tried first.
+    pub fn waiting_of(&self, place: u32, tree: u32, bytes: &PageBytes) -> Option<GuestPage>
+        ensures { result ≡ waiting_page tree bytes.now self.now.waiting }
+    {
+        let guess = self.slots.group_at(place);
+        let number = self.index.groups.number(guess, tree, bytes)?;
+        self.index.groups.waiting(number)
+    }
+
     /// The page that waits in a tree with these bytes waits no more, if there is one. The guess of the group's number
     /// is tried first.
     #[inline(always)]

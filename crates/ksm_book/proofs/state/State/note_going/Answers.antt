@@ -1,7 +1,16 @@
-use Rattle.ksm_book.proofs.DueBroken.{dropped_due}
+use Rattle.ksm_book.proofs.Names.{GuestPage, has_item, row_at, subst, ◌||◌, ◌≡◌}
+use Rattle.ksm_pages.specs.Paged.{page_beside}
+use Rattle.ksm_tree.specs.Waits.{names}
+use Rattle.ksm_book.proofs.DueBroken.{left_dropped}
 use Rattle.ksm_book.proofs.state.State.note_going.Goals as goal
 
-pub returns-then-leaves_none_open-clause-gone : goal.returns-then-leaves_none_open-clause-gone
-returns-then-leaves_none_open-clause-gone c = λ known row found.
-    dropped_due c.args.self.now.state c.lies_lawfully.ensures.sound c.args.page row found
-    (c.leaves_none_open.ensures c.if-leaves_none_open.true row found) c.args.due.now.pages (c.requires.due known)
+pub returns-in-Some-clause-gone : goal.returns-in-Some-clause-gone
+returns-in-Some-clause-gone c = λ known row found.
+    let b = c.args.self.now.state in
+    let old = c.args.due.now.pages in
+    let new = c.note_leaving.new.due.pages in
+    let left = c.note_leaving.ensures known in
+    left_dropped b c.args.page old new (c.requires.due left.0)
+    (subst (λ q. (p : GuestPage) → has_item p new ≡ (names p (page_beside b.knobs b.rows (row_at q b.rows)) || has_item p old))
+    c.in-Some.ensures.spot left.1)
+    c.lies_lawfully.ensures.sound row found

@@ -1,4 +1,4 @@
-use Rattle.ksm_pages.proofs.Names.{ap, find, has_item, held_in, is_of, is_some, IsRows, Listing, Named, Private, subst, sym, true≢false, ◌∙◌}
+use Rattle.ksm_pages.proofs.Names.{ap, find, has_item, held_in, inl, inr, is_of, is_some, IsRows, Listing, Named, Private, subst, sym, true≢false, ◌∙◌}
 use Rattle.ksm_pages.proofs.Listings.{without_lacks}
 use Rattle.ksm_pages.proofs.Writing.{can_be, nothing_gone, nowhere_seen, still_gone, viewed_gone}
 use Rattle.ksm_pages.proofs.Options.{some_mapped}
@@ -34,5 +34,8 @@ returns-in_default-clause-unlisted c known =
     absurd (true≢false (sym known ∙ ap is_some (nowhere_seen c.self.inside c.self.invariant c.args.spot.page c.in_default.ensures.told c.args.self.now c.self.view_is)))
 
 pub returns-clause-unlisted : goal.returns-clause-unlisted
-returns-clause-unlisted c _ =
-    ap (λ (l : Listing). has_item c.args.spot.page l.pages) c.remove-2.ensures ∙ without_lacks c.args.spot.page c.self.inside.restless.pages
+returns-clause-unlisted c _ = elim c.remove-2.ensures [
+  | inl is ↦
+      ap (λ (l : Listing). has_item c.args.spot.page l.pages) is ∙ without_lacks c.args.spot.page c.self.inside.restless.pages
+  | inr is ↦ ap (λ (l : Listing). has_item c.args.spot.page l.pages) is
+]
