@@ -1,7 +1,6 @@
 -- The pages that are due, as they are kept: which there are once one came or went, and the first behind a cursor.
 use Rattle.ksm_book.proofs.Names.{[], after_cursor, All, All-cons, All-map, any-filter_same, ap, append-nil, AreDue, arith, BookState, length, before_irrefl, Bool, cases_Bool, comes_before, Err, false, filter, find, get_or, GuestPage, has_item, inl, inr, is_some, List, list_any, map, MatchOption, nat_tests, None, not, not_both, Ok, Option, pages_ordered, pairs_head, pairs_tail, refl, Result, same_page, same_page_eq, same_page_refl, Some, subst, sym, true, true≢false, ◌&&◌, ◌++◌, ◌||◌, ◌==◌, ◌∙◌, ◌∷◌, ◌≡◌, if◌then◌else◌}
 use Rattle.std.proofs.Common.{ap₂}
-use Rattle.std.proofs.lemmas.List.{map-append}
 use Rattle.std.proofs.lemmas.List.Folds.{list_any-append}
 use Rattle.std.specs.Prelude.{OnErr, OnOk}
 use Rattle.ksm_pages.specs.Held.{pages_of}
@@ -108,19 +107,6 @@ pub none_added : (known : Bool) (order : List Named) (added : List Spot) → (kn
     → pages_in order ++ pages_of added ≡ pages_in order
 none_added known order [] is = append-nil (pages_in order)
 none_added known order (s ∷ added) is = absurd (grind (arith, is))
-
--- with one more added
-pub added_has : (spot : Spot) (some : List GuestPage) (added : List Spot) (x : GuestPage)
-    → has_item x (some ++ pages_of (added ++ spot ∷ [])) ≡ (same_page spot.page x || has_item x (some ++ pages_of added))
-added_has spot some added x =
-    ap (λ l. has_item x (some ++ l)) (map-append (λ (s : Spot). s.page) added (spot ∷ []))
-    ∙ has_either x some (pages_of added ++ spot.page ∷ [])
-    ∙ ap (λ b. has_item x some || b) (has_either x (pages_of added) (spot.page ∷ []))
-    ∙ turned (has_item x some) (has_item x (pages_of added)) (same_page spot.page x)
-    ∙ sym (ap (λ b. same_page spot.page x || b) (has_either x some (pages_of added)))
-  where
-    turned : (a b c : Bool) → (a || (b || (c || false))) ≡ (c || (a || b))
-    turned a b c = grind arith
 
 -- where the same pages are there, the same are due
 pub same_due : (b : BookState) (old new : List GuestPage) → ((x : GuestPage) → has_item x new ≡ has_item x old)

@@ -1,5 +1,4 @@
-use Rattle.ksm_book.proofs.Names.{ap, DueView, has_item, not, same_page, subst, sym, ◌&&◌, ◌++◌, ◌∙◌}
-use Rattle.ksm_pages.specs.Held.{pages_of}
+use Rattle.ksm_book.proofs.Names.{ap, DueView, has_item, not, same_page, subst, sym, ◌&&◌, ◌∙◌}
 use Rattle.ksm_pages.specs.Ordered.{AreAscending}
 use Rattle.ksm_book.proofs.Dues.{has_found, has_taken, none_added, pages_in, taken_rises}
 use Rattle.ksm_book.proofs.due.Due.remove.Goals as goal
