@@ -91,7 +91,7 @@ fn said(book: &mut Book, table: &FrameTable, command: Command) -> Result<Reply, 
     requires own { book.old.keeper.table ≡ table.now }
     ensures own { book.new.keeper.table ≡ table.now }
 {
-    book.apply(table, command)
+    book.apply(table, &command)
 }
 
 // Two pages of one content, merged by two passes.
@@ -219,7 +219,7 @@ fn moved_while_held(
 {
     match pass.find(table, 0) {
         Found::Held(held) => {
-            let answer = book.apply(table, MOVE);
+            let answer = book.apply(table, &MOVE);
             (Some(answer), held.leave(table))
         }
         Found::Gone(pass, _) => (None, pass),

@@ -40,7 +40,7 @@ fn register<N: Naming>(rt: &impl Wait, ksm: &Ksm<N>, mut share: Share<N>, guest:
             node: 0,
             bytes: [7; PAGE_WORDS],
         };
-        let _ = ksm.carry_out(rt, &mut share, command);
+        let _ = ksm.carry_out(rt, &mut share, &command);
     }
     share
 }
@@ -88,8 +88,8 @@ fn merge<N: Naming>(
     ensures own { All (λ p. p.table ≡ N.parts.frames) passes.new.items }
     ensures count { vec_len passes.new ≡ vec_len passes.old }
 {
-    let _ = ksm.carry_out(rt, &mut share, Command::SetRun(1));
-    let answer = ksm.command(rt, &mut share, Command::Scan { visits: 64 });
+    let _ = ksm.carry_out(rt, &mut share, &Command::SetRun(1));
+    let answer = ksm.command(rt, &mut share, &Command::Scan { visits: 64 });
     reader.learn(answer);
     let page = GuestPage { guest: 1, page: 0 };
     let word = match ksm.ticket(rt, &mut share, page) {

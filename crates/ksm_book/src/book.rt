@@ -95,20 +95,20 @@ impl Book {
     /// Does a command: a step of the book, and an entry of the journal. `Err` is a refusal, and changes no page, dup or
     /// knob. `Fault::Memory` may come in place of any answer; then no step was made on a frame, and there is no entry.
     /// The answer tells which steps were made on the frames, and on which frame each page lies then.
-    pub fn apply(&mut self, table: &FrameTable, command: Command) -> Result<Reply, Fault>
+    pub fn apply(&mut self, table: &FrameTable, command: &Command) -> Result<Reply, Fault>
         requires own { self.old.keeper.table ≡ table.now }
-        ensures answer { IsAnswerOrMemory self.old.state command result }
-        ensures state { self.new.state ≡ after self.old.state command result }
-        ensures carried { CarriedOut (unjournaled self.old) (unjournaled self.new) command result }
-        ensures journal { self.new.journal ≡ journal_after self.old.journal command result }
+        ensures answer { IsAnswerOrMemory self.old.state command.now result }
+        ensures state { self.new.state ≡ after self.old.state command.now result }
+        ensures carried { CarriedOut (unjournaled self.old) (unjournaled self.new) command.now result }
+        ensures journal { self.new.journal ≡ journal_after self.old.journal command.now result }
         ensures kept { self.new.is_kept ≡ self.old.is_kept }
     {
         a_journal_goes_on();
         self.journal.reserve()?;
-        let answer = carry_out(&mut self.state, &mut self.due, table, &command);
+        let answer = carry_out(&mut self.state, &mut self.due, table, command);
         match answer {
             Err(Fault::Memory) => {}
-            _ => self.journal.add(command, answer),
+            _ => self.journal.add(*command, answer),
         }
         answer
     }

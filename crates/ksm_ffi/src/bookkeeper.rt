@@ -68,7 +68,7 @@ impl Bookkeeper {
         ensures applied { Applies self.old command result made.new self.new }
         ensures kept { LeavesMade result made.old made.new }
     {
-        let given = self.book.apply(&self.table, command);
+        let given = self.book.apply(&self.table, &command);
         made.tell(given);
         answered(given)
     }

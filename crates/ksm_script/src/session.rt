@@ -382,7 +382,7 @@ impl<N: Naming> Session<N> {
     fn tell_made<P: Replies<S>, R: Wait, S>(&mut self, rt: &R, command: Command, to: &mut S) -> Told
         ensures answers { IsSaid P.takes (Commands command) self.old self.new to.old to.new result }
     {
-        let answer = self.apply(rt, command);
+        let answer = self.apply(rt, &command);
         if let Ok(Reply::Done) = answer {
             return tell_done::<P, S>(to);
         }
@@ -390,8 +390,8 @@ impl<N: Naming> Session<N> {
     }
 
     // Makes a command.
-    fn apply<R: Wait>(&mut self, rt: &R, command: Command) -> Result<Reply, Fault>
-        ensures answers { Commands command self.old.state (Some (reply_to result)) self.new.state }
+    fn apply<R: Wait>(&mut self, rt: &R, command: &Command) -> Result<Reply, Fault>
+        ensures answers { Commands command.now self.old.state (Some (reply_to result)) self.new.state }
     {
         self.ksm.carry_out(rt, &mut self.share, command)
     }

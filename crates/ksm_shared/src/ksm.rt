@@ -94,10 +94,10 @@ impl<N: Naming> Ksm<N> {
     /// Makes a command. The share owns its entry, but for want of memory, and has then seen a legal journal that ends
     /// with it. The answer tells how many entries that journal has, after which the counters stand that readers are
     /// shown.
-    pub fn command<R: Wait>(&self, rt: &R, share: &mut Share<N>, command: Command) -> Answer<N>
-        ensures seen { SeesOn N.parts share.old share.new (made_by share.old.number command result.result) }
-        ensures part { part_of share.new ≡ part_of share.old ++ made command result.result }
-        ensures alone { StepsAlone N.parts share.old share.new command result.result }
+    pub fn command<R: Wait>(&self, rt: &R, share: &mut Share<N>, command: &Command) -> Answer<N>
+        ensures seen { SeesOn N.parts share.old share.new (made_by share.old.number command.now result.result) }
+        ensures part { part_of share.new ≡ part_of share.old ++ made command.now result.result }
+        ensures alone { StepsAlone N.parts share.old share.new command.now result.result }
         ensures shown { result.shown ≡ entries share.new.seen }
     {
         a_journal_goes_on();
@@ -113,11 +113,11 @@ impl<N: Naming> Ksm<N> {
         &self,
         rt: &R,
         share: &mut Share<N>,
-        command: Command,
+        command: &Command,
     ) -> Result<Reply, Fault>
-        ensures seen { SeesOn N.parts share.old share.new (made_by share.old.number command result) }
-        ensures part { part_of share.new ≡ part_of share.old ++ made command result }
-        ensures alone { StepsAlone N.parts share.old share.new command result }
+        ensures seen { SeesOn N.parts share.old share.new (made_by share.old.number command.now result) }
+        ensures part { part_of share.new ≡ part_of share.old ++ made command.now result }
+        ensures alone { StepsAlone N.parts share.old share.new command.now result }
     {
         a_journal_goes_on();
         let mut merge = self.merge.lock(rt);

@@ -60,15 +60,15 @@ impl<N: Naming> Merge<N> {
         rt: &R,
         frames: &FrameTable,
         share: &mut Share<N>,
-        command: Command,
+        command: &Command,
     ) -> Answer<N>
         requires own { frames.now ≡ N.parts.frames }
-        ensures carried { CarriedOut (unjournaled self.old.book) (unjournaled self.new.book) command result.result }
-        ensures journal { self.new.book.journal ≡ journal_after self.old.book.journal command result.result }
-        ensures log { self.new.log ≡ self.old.log ++ made_by share.old.number command result.result }
+        ensures carried { CarriedOut (unjournaled self.old.book) (unjournaled self.new.book) command.now result.result }
+        ensures journal { self.new.book.journal ≡ journal_after self.old.book.journal command.now result.result }
+        ensures log { self.new.log ≡ self.old.log ++ made_by share.old.number command.now result.result }
         ensures share { share.new ≡ caller share.old.number self.new.log }
-        ensures seen { SeesOn N.parts share.old share.new (made_by share.old.number command result.result) }
-        ensures part { part_of share.new ≡ part_of share.old ++ made command result.result }
+        ensures seen { SeesOn N.parts share.old share.new (made_by share.old.number command.now result.result) }
+        ensures part { part_of share.new ≡ part_of share.old ++ made command.now result.result }
         ensures published { self.new.shown ≡ entries self.new.log }
         ensures shown { result.shown ≡ entries self.new.log }
     {
@@ -88,20 +88,20 @@ impl<N: Naming> Merge<N> {
         rt: &R,
         frames: &FrameTable,
         share: &mut Share<N>,
-        command: Command,
+        command: &Command,
     ) -> Result<Reply, Fault>
         requires own { frames.now ≡ N.parts.frames }
-        ensures carried { CarriedOut (unjournaled self.old.book) (unjournaled self.new.book) command result }
-        ensures journal { self.new.book.journal ≡ journal_after self.old.book.journal command result }
-        ensures log { self.new.log ≡ self.old.log ++ made_by share.old.number command result }
+        ensures carried { CarriedOut (unjournaled self.old.book) (unjournaled self.new.book) command.now result }
+        ensures journal { self.new.book.journal ≡ journal_after self.old.book.journal command.now result }
+        ensures log { self.new.log ≡ self.old.log ++ made_by share.old.number command.now result }
         ensures share { share.new ≡ caller share.old.number self.new.log }
-        ensures seen { SeesOn N.parts share.old share.new (made_by share.old.number command result) }
-        ensures part { part_of share.new ≡ part_of share.old ++ made command result }
+        ensures seen { SeesOn N.parts share.old share.new (made_by share.old.number command.now result) }
+        ensures part { part_of share.new ≡ part_of share.old ++ made command.now result }
         ensures published { self.new.shown ≡ entries self.new.log }
     {
         let result = self.book.apply(frames, command);
         self.book.lies_lawfully();
-        let said = said(command, result);
+        let said = said(*command, result);
         let table = &self.seen;
         write(&table.shared, &mut self.seat, &mut share.seat, &said);
         self.publisher.follow(rt, &said, &self.book);

@@ -61,7 +61,7 @@ fn all_done<N: Naming>(
 ) -> bool {
     let mut done = true;
     for command in commands {
-        done &= ksm.command(rt, share, *command).result().is_ok();
+        done &= ksm.command(rt, share, command).result().is_ok();
     }
     done
 }

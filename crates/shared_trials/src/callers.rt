@@ -29,12 +29,12 @@ fn work<N: Naming>(
     mut share: Share<N>,
     guest: u16,
 ) -> (Share<N>, bool) {
-    let mut right = ksm.carry_out(rt, &mut share, register(guest, 0, 0)) == DONE;
+    let mut right = ksm.carry_out(rt, &mut share, &register(guest, 0, 0)) == DONE;
     for j in 1..101u8 {
         let command = store(guest, 0, byte_of(guest, j));
-        right &= ksm.carry_out(rt, &mut share, command) == DONE;
+        right &= ksm.carry_out(rt, &mut share, &command) == DONE;
     }
-    let missing = ksm.carry_out(rt, &mut share, store(guest, 9, 1));
+    let missing = ksm.carry_out(rt, &mut share, &store(guest, 9, 1));
     (share, right && missing == Err(Fault::UnknownPage))
 }
 
@@ -166,7 +166,7 @@ fn entries<N: Naming, R: Wait + Abort>(rt: &R, parts: Parts) -> Result<(bool, To
         drop(ksm.close(rt, passes));
         return Err("share".into());
     };
-    let answer = ksm.carry_out(rt, &mut share, register(0, 0, 10));
+    let answer = ksm.carry_out(rt, &mut share, &register(0, 0, 10));
     let merge = ksm.lock(rt);
     let journal = merge.book().journal();
     let told = (journal.is_kept(), journal.get(0), journal.get(1));

@@ -40,7 +40,7 @@ impl<'a, N: Naming, R: Wait> Mover<'a, N, R> {
         }
         let mut share = self.share.lock(self.rt);
         let command = Command::MoveDup { place, node };
-        if self.ksm.command(self.rt, &mut share, command).result() == DONE {
+        if self.ksm.command(self.rt, &mut share, &command).result() == DONE {
             self.moved.fetch_add(1, Ordering::SeqCst);
         }
         MutexGuard::unlock(share);

@@ -24,10 +24,10 @@ fn two_told<N: Naming>(
     ksm: &Ksm<N>,
     share: &mut Share<N>,
 ) -> Option<(Answer<N>, Answer<N>)> {
-    let first = ksm.command(rt, share, register(0, 0, 0xaa));
-    let second = ksm.command(rt, share, register(0, 1, 0xaa));
-    let third = ksm.command(rt, share, Command::SetRun(1));
-    let fourth = ksm.command(rt, share, Command::Scan { visits: 4 });
+    let first = ksm.command(rt, share, &register(0, 0, 0xaa));
+    let second = ksm.command(rt, share, &register(0, 1, 0xaa));
+    let third = ksm.command(rt, share, &Command::SetRun(1));
+    let fourth = ksm.command(rt, share, &Command::Scan { visits: 4 });
     let rows = [first.row(), second.row(), third.row(), fourth.row()];
     (rows == [1, 2, 3, 4]).then_some((second, fourth))
 }
@@ -49,7 +49,7 @@ fn learns<N: Naming, R: Wait + Abort>(
         counters: TWO_MERGED,
     };
     assert_eq!(rt; ksm.counters_now(&mut reader), Some(row));
-    let fifth = ksm.command(rt, share, register(0, 0, 0xaa));
+    let fifth = ksm.command(rt, share, &register(0, 0, 0xaa));
     assert_eq!(rt;
         (fifth.row(), fifth.result()),
         (5, Err(Fault::AlreadyRegistered))
@@ -93,7 +93,7 @@ fn behind<N: Naming>(
     let mut behind = 0u64;
     for entries in 1..MANY {
         let byte = (entries % 250) as u8;
-        ksm.command(rt, share, store(0, 0, byte));
+        ksm.command(rt, share, &store(0, 0, byte));
         let shown = ksm.counters_now(reader).map(|row| row.number);
         if shown != Some(entries) {
             behind = behind.saturating_add(1);
@@ -146,7 +146,7 @@ fn sixteen_see<N: Naming>(
     for mut share in shares {
         all &= all_see(ksm, readers, u64::from(count));
         let command = register(0, count, 1);
-        all &= ksm.command(rt, &mut share, command).result() == DONE;
+        all &= ksm.command(rt, &mut share, &command).result() == DONE;
         count = count.saturating_add(1);
     }
     all & (count == 16) & all_see(ksm, readers, u64::from(count))
@@ -180,8 +180,8 @@ fn unread<N: Naming, R: Wait + Abort>(rt: &R, parts: Parts) -> Result<(), Fail>
     let (ksm, passes, mut shares, readers) = Ksm::<N>::open(parts)?;
     let mut rows = (0, 0);
     if let Some(share) = shares.last_mut() {
-        let first = ksm.command(rt, share, register(0, 0, 0xaa));
-        let second = ksm.command(rt, share, store(0, 0, 1));
+        let first = ksm.command(rt, share, &register(0, 0, 0xaa));
+        let second = ksm.command(rt, share, &store(0, 0, 1));
         rows = (first.row(), second.row());
     }
     drop(ksm.close(rt, passes));
@@ -214,7 +214,7 @@ fn store_on<N: Naming>(rt: &impl Wait, ksm: &Ksm<N>, mut share: Share<N>) -> u64
     let mut newest = 0;
     for j in 0..200u32 {
         let command = store(0, j % 3, (j % 250) as u8);
-        newest = ksm.command(rt, &mut share, command).row();
+        newest = ksm.command(rt, &mut share, &command).row();
     }
     newest
 }

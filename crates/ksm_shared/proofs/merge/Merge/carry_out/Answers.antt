@@ -10,8 +10,8 @@ module _ (g : Over) (c : goal.After-follow g) where
   abbrev number : ℕ
   number = (first c.share.inside.seat.me.0.callers).number
 
-  log : c.write.new.book.me.0.log ≡ c.self.inside.seat.me.0.log ++ made_by number c.args.command c.apply-result.result
-  log = new_log _ c.share.inside.seat.me _ _ _ c.args.command c.apply-result.result c.share.invariant.1 c.said-said.ensures c.write.ensures.wrote
+  log : c.write.new.book.me.0.log ≡ c.self.inside.seat.me.0.log ++ made_by number c.args.command.now c.apply-result.result
+  log = new_log _ c.share.inside.seat.me _ _ _ c.args.command.now c.apply-result.result c.share.invariant.1 c.said-said.ensures c.write.ensures.wrote
 
   count : c.self.inside.seat.me.0.shares ≡ g.N.Naming.parts.callers
   count = ap (λ m. m.0.shares) c.self.invariant.seat
@@ -66,7 +66,7 @@ returns-clause-seen g c =
     let w = c.write.ensures in
     let now = invariant_of-self g c in
     let legal = answers_seen g.N.Naming.parts c.apply-result.new.self _ now.own now.journal c.lies_lawfully.ensures.legal in
-    subst (λ (o : Caller). SeesOn g.N.Naming.parts o (first c.write.new.share.me.0.callers) (made_by o.number c.args.command c.apply-result.result)) c.share.view_is
+    subst (λ (o : Caller). SeesOn g.N.Naming.parts o (first c.write.new.share.me.0.callers) (made_by o.number c.args.command.now c.apply-result.result)) c.share.view_is
     (sees_on g.N.Naming.parts (first c.share.inside.seat.me.0.callers) _ _ _ _ (log g c) (shown_all _ _ _ _ _ w.wrote) w.wrote.begins (below g c) now.owners legal)
 
 pub returns-clause-part : goal.returns-clause-part
