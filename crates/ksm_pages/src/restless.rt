@@ -1,10 +1,10 @@
 //! The pages that a visit of the scan may change: those of mergeable rows with frames of their own, so there are never
 //! more of these than frames.
 //!
-//! Some other pages may be listed too: whoever visits a page looks at its row anyhow. So a row stays listed in vain once
-//! it is merged, or no scan visits it any more, until many may be so. Where memory for a page is refused, the list is no
-//! longer known to have all, and the next scan makes it anew: so no command is refused for it. So it is where pages that
-//! came or went in another order have moved so many others that a walk over all rows costs no more.
+//! Some other pages may be listed too: whoever visits a page looks at its row anyhow. So a row stays listed in vain
+//! once it is merged, or no scan visits it any more, until many may be so. Where memory for a page is refused, the list
+//! is no longer known to have all, and the next scan makes it anew: so no command is refused for it. So it is where
+//! pages that came or went in another order have moved so many others that a walk over all rows costs no more.
 
 ghost use Rattle.std.specs.Prelude.{◌≡◌, ◌⊎◌, ◌≤◌, [], true, false, filter, find, is_some, length, not, slice_get};
 ghost use Rattle.std.specs.Prelude.{slice_index_or, option_map, IsTrue, OnErr, OnOk, insert, remove, ◌<◌};
@@ -31,8 +31,8 @@ const MOVES_A_ROW: usize = 256;
 /// Pages in order, each with a guess of the key of its row, and whether all that a visit may change are among them.
 ///
 /// `add` and `remove` cost the logarithm of the number of pages, and a move of those behind. Where pages are added one
-/// behind the other, no search is made. Once moves of `LONG` pages and more come to `MOVES_A_ROW` pages for each row, the
-/// next scan makes the list anew by a walk.
+/// behind the other, no search is made. Once moves of `LONG` pages and more come to `MOVES_A_ROW` pages for each row,
+/// the next scan makes the list anew by a walk.
 #[derive(Drop)]
 pub struct Restless {
     spots: Vec<Spot>,
