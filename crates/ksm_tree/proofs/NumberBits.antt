@@ -157,13 +157,6 @@ module _ (most : ℕ) (words upper : List ℕ) (h : AreSummed most words upper) 
     summed = λ two. summed_some words upper (h.summed two) w word within some before;
   }
 
--- the numbers below a count, and then the next
-pub below_more : (upper upper' : List ℕ) (at : ℕ) → HasBelow upper at → Marks upper upper' at true → HasBelow upper' (at + 1)
-below_more upper upper' at h marks n = elim (cases_eq n at) [
-  | inl same ↦ ap (has upper') same ∙ marks.here ∙ grind (arith, nat_tests, same)
-  | inr apart ↦ marks.others n apart ∙ h n ∙ grind (arith, nat_tests, apart)
-]
-
 -- words with all bits have all numbers for which there is room
 pub all_there : (k n : ℕ) → n < 64 * k → has (replicate k 18446744073709551615) n ≡ true
 all_there k n low =
@@ -183,36 +176,6 @@ none_there k n = ap (λ w. bit_at w (n % 64) == 1) (zero_word k (n / 64)) ∙ ap
 -- where one word may stand at most, a word behind another is not there
 pub alone_behind : (most at : ℕ) (words : List ℕ) → most ≤ 1 → length words ≤ most → at < length words → HasNone words ((at + 1) * 64) (64 * length words)
 alone_behind most at words one few within n from below = absurd (omega (arith, one, few, within, from, below))
-
--- above words with all bits stands the set of the numbers of all
-pub all_summed : (most k : ℕ) (upper : List ℕ) → k ≤ most → 64 * k ≤ 2 ^ 32 → k < 64 * length upper → HasBelow upper k → AreSummed most (replicate k 18446744073709551615) upper
-all_summed most k upper few fits room h =
-    let many = length-replicate {A = ℕ} k 18446744073709551615 in
-    record {
-      fits = omega (arith, fits, many);
-      few = omega (arith, few, many);
-      summed = λ _. record {
-        room = omega (arith, room, many);
-        named = λ w _. elim (cases_lt w k) [
-          | inl less ↦ h w ∙ grind (arith, nat_tests, less) ∙ sym (ap (λ x. not (x == 0)) (get_or-replicate k w 18446744073709551615 0 less))
-          | inr more ↦ h w ∙ grind (arith, nat_tests, more)
-              ∙ sym (ap (λ x. not (x == 0)) (get_or_past (replicate k 18446744073709551615) w 0 (omega (arith, more, many))))
-        ];
-      };
-    }
-
--- above words that are 0 stands the set of no number
-pub none_summed : (most k : ℕ) (upper : List ℕ) → k ≤ most → 64 * k ≤ 2 ^ 32 → (1 < most → k < 64 * length upper) → ((w : ℕ) → has upper w ≡ false) → AreSummed most (replicate k 0) upper
-none_summed most k upper few fits room h =
-    let many = length-replicate {A = ℕ} k 0 in
-    record {
-      fits = omega (arith, fits, many);
-      few = omega (arith, few, many);
-      summed = λ two. record {
-        room = omega (arith, room two, many);
-        named = λ w _. h w ∙ sym (ap (λ x. not (x == 0)) (zero_word k w));
-      };
-    }
 
 -- a word that has a number's bit as it is to be, and keeps its other bits, marks that number
 marks_put : (words : List ℕ) (number word bit : ℕ) → number < 64 * length words → bit_at word (number % 64) ≡ bit → ((i : ℕ) → i < 64 → i ≢ number % 64 → bit_at word i ≡ bit_at (get_or words (number / 64) 0) i) → Marks words (set words (number / 64) word) number (bit == 1)

@@ -227,12 +227,6 @@ count_read p n slots counts placed counted read =
     ∙ get_or-map count_in slots p None
     ∙ ap count_in (sym (slot_found 0 p p slots (omega arith) placed))
 
--- a place where a dup stands has a slot, and what a search read there is that dup
-pub known_within : (p : ℕ) (slots : List (Option Dup)) → ArePlaced 0 slots → is_some (dup_at p (present slots)) ≡ true → p < length slots
-known_within p slots placed known =
-    let here : is_some (get_or slots p None) ≡ true = rw (← slot_found 0 p p slots (omega arith) placed) known in
-    filled_within p slots here
-
 -- the slots are right once one is emptied
 pub slots_cleared : (p : ℕ) (slots : List (Option Dup)) (counts : List ℕ) (empty stale empty' stale' : CountedSet) → p < length slots → AreSlots slots counts empty stale → IsMarked empty empty' p true → IsMarked stale stale' p false → AreSlots (set slots p None) (set counts p 0) empty' stale'
 slots_cleared p slots counts empty stale empty' stale' within h more left = record {
