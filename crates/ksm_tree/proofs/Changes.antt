@@ -8,11 +8,11 @@ use Rattle.ksm_tree.proofs.Rows.{only_number}
 pub rows_new : (dup : Dup) (dups : List Dup) → rows_of (with_new dup dups) ≡ with_dup dup.row (rows_of dups)
 rows_new dup dups =
     let p = dup.row.place in
-    map-append (λ d. d.row) (filter (λ d. nat_lt d.row.place p) dups) (dup ∷ filter (λ d. nat_lt p d.row.place) dups)
-    ∙ ap₂ (λ front back. front ++ dup.row ∷ back) (filtered (λ r. nat_lt r.place p)) (filtered (λ r. nat_lt p r.place))
+    map-append (λ d. d.row) _ _
+    ∙ ap₂ (λ front back. front ++ dup.row ∷ back) (filtered _) (filtered _)
   where
     filtered : (by : DupRow → Bool) → rows_of (filter (λ d. by d.row) dups) ≡ filter by (rows_of dups)
-    filtered by = sym (filter_mapped (λ (d : Dup). d.row) by (λ d. by d.row) dups (λ k d lt. refl))
+    filtered by = sym (filter_mapped _ by (λ d. by d.row) dups (λ k d lt. refl))
 
 -- a place that is dropped takes its row out of the rows
 pub rows_without : (p : ℕ) (dups : List Dup) → rows_of (without_place p dups) ≡ filter (λ r. not (r.place == p)) (rows_of dups)
@@ -21,31 +21,31 @@ rows_without p dups = sym (filter_mapped (λ (d : Dup). d.row) (λ r. not (r.pla
 rows_same : (test : Dup → Bool) (f : List GuestPage → List GuestPage) (dups : List Dup) → rows_of (map (λ d. if test d then record d { items = f d.items } else d) dups) ≡ rows_of dups
 rows_same test f dups =
     map_mapped (λ (d : Dup). d.row) (λ d. if test d then record d { items = f d.items } else d) (λ d. d.row) dups
-    (λ k e lt. let d = get_or dups k e in cond_both (test d) (record d { items = f d.items }) d (λ x. x.row ≡ d.row) (λ _. refl) (λ _. refl))
+    (λ k e lt. let d = get_or dups k e in cond_both _ _ d (λ x. x.row ≡ d.row) (λ _. refl) (λ _. refl))
 
 -- other items at a place change no row
 pub rows_changed : (p : ℕ) (f : List GuestPage → List GuestPage) (dups : List Dup) → rows_of (change_at p f dups) ≡ rows_of dups
-rows_changed p = rows_same (stands_at p)
+rows_changed p = rows_same _
 
 -- other items of a dup change no row
 pub rows_items : (number : ℕ) (f : List GuestPage → List GuestPage) (dups : List Dup) → rows_of (change_items number f dups) ≡ rows_of dups
-rows_items number = rows_same (has_number number)
+rows_items number = rows_same _
 
 -- a page let out of its dup changes no row
 pub rows_out : (state : PageState) (page : GuestPage) (dups : List Dup) → rows_of (let_out state page dups) ≡ rows_of dups
 rows_out Private page dups = refl
 rows_out Waiting page dups = refl
 rows_out Zero page dups = refl
-rows_out (Merged number) page dups = rows_items number (without_item page) dups
+rows_out (Merged number) page dups = rows_items _ _ _
 
 -- a dup is found where its row is
 pub row_found : (test : Dup → Bool) (by : DupRow → Bool) → ((d : Dup) → test d ≡ by d.row) → (dups : List Dup) → option_map (λ d. d.row) (find test dups) ≡ find by (rows_of dups)
-row_found test by same dups = sym (find_mapped (λ (d : Dup). d.row) by test dups (λ k d lt. sym (same (get_or dups k d))))
+row_found test by same dups = sym (find_mapped _ by test dups (λ k d lt. sym (same (get_or dups k d))))
 
 -- the row of a number that has a place
 row_there : (p : ℕ) (r : Option DupRow) → option_map (λ s. s.place) r ≡ Some p → (e : DupRow) × (r ≡ Some e) × (e.place ≡ p)
 row_there p None is = absurd (none-some p is)
-row_there p (Some e) is = (e, refl, same_Some e.place p is)
+row_there p (Some e) is = (e, refl, same_Some _ p is)
 
 -- two tests that agree on each dup change one dup
 agree_changed : (test by : Dup → Bool) (f : List GuestPage → List GuestPage) (dups : List Dup) → All (λ d. test d ≡ by d) dups → map {B = Dup} (λ d. if test d then record d { items = f d.items } else d) dups ≡ map (λ d. if by d then record d { items = f d.items } else d) dups

@@ -25,13 +25,13 @@ more_between r xs ys = record {
 -- a new row is one row more than those at other places
 pub more_with : (r : DupRow) (rows : List DupRow) → InPlaceOrder rows → IsMore r (filter (λ e. not (e.place == r.place)) rows) (with_dup r rows)
 more_with r rows rise =
-    rw (rows_parted r.place rows rise) (more_between r (filter (λ e. nat_lt e.place r.place) rows) (filter (λ e. nat_lt r.place e.place) rows))
+    rw (rows_parted r.place rows rise) (more_between r _ _)
 
 -- the row at a place is one row more than those at other places
 pub more_there : (p : ℕ) (rows : List DupRow) (e : DupRow) → InPlaceOrder rows → find (λ r. r.place == p) rows ≡ Some e → IsMore e (filter (λ r. not (r.place == p)) rows) rows
 more_there p [] e rise found = absurd (none-some e found)
 more_there p (r ∷ rows) e rise found =
-    let first = pairs_head Lower r rows rise in
+    let first = pairs_head Lower r _ rise in
     elim (cases_Bool (r.place == p)) [
       | inl here ↦
           let same : r ≡ e = same_Some r e (grind (arith, here, found)) in
@@ -76,16 +76,16 @@ module _ (t : ℕ) (b : List ℕ) where
   -- a dup of the group has just the group's dups beside it, and another none of them
   group_own : (d e : DupRow) → of_it d ≡ true → same_group d e ≡ of_it e
   group_own d e inside =
-      let parts = and_parts (d.tree == t) (bytes_eq d.bytes b) inside in
+      let parts = and_parts _ (bytes_eq d.bytes b) inside in
       let tree : d.tree ≡ t = grind (arith, nat_tests, parts.0) in
-      let bytes : d.bytes ≡ b = (bytes_eq-Decides d.bytes b).0 parts.1 in
+      let bytes : d.bytes ≡ b = (bytes_eq-Decides _ b).0 parts.1 in
       (λ i. tree i == e.tree && bytes_eq (bytes i) e.bytes) ∙ sym (own_group t b e)
 
   group_apart : (d e : DupRow) → of_it d ≡ false → of_it e ≡ true → same_group d e ≡ false
   group_apart d e outside inside =
-      let parts = and_parts (e.tree == t) (bytes_eq e.bytes b) inside in
+      let parts = and_parts _ (bytes_eq e.bytes b) inside in
       let tree : e.tree ≡ t = grind (arith, nat_tests, parts.0) in
-      let bytes : e.bytes ≡ b = (bytes_eq-Decides e.bytes b).0 parts.1 in
+      let bytes : e.bytes ≡ b = (bytes_eq-Decides _ b).0 parts.1 in
       (λ i. d.tree == tree i && bytes_eq d.bytes (bytes i)) ∙ outside
 
   -- how many dups the group has
@@ -94,7 +94,7 @@ module _ (t : ℕ) (b : List ℕ) where
 
   -- a group has as many places as dups
   pub places_size : (rows : List DupRow) → length (group_places t b rows) ≡ size rows
-  places_size rows = length-map (filter of_it rows) (λ r. r.place) ∙ length-filter of_it rows
+  places_size rows = length-map (filter of_it rows) _ ∙ length-filter _ rows
 
   -- how many dups of other groups are in chains
   abbrev pub dups_apart : List DupRow → ℕ
@@ -108,7 +108,7 @@ module _ (t : ℕ) (b : List ℕ) where
   chains_apart rows = count_by (λ d. not (of_it d) && leads rows d) rows
 
   own_size : (rows : List DupRow) (d : DupRow) → of_it d ≡ true → group_size rows d ≡ size rows
-  own_size rows d inside = count_alike (same_group d) of_it rows (λ k e lt. group_own d (get_or rows k e) inside)
+  own_size rows d inside = count_alike _ _ rows (λ k e lt. group_own d (get_or rows k e) inside)
 
   -- of a group one dup leads
   one_leads : (rows : List DupRow) → InPlaceOrder rows → count_by (λ d. of_it d && leads_group rows d) rows ≡ (if size rows == 0 then 0 else 1)
@@ -201,8 +201,8 @@ module _ (t : ℕ) (b : List ℕ) where
 rows_fit : (k p : ℕ) (rows : List DupRow) → k ≤ p → All (λ r. k ≤ r.place) rows → All (λ r. r.place < p) rows → InPlaceOrder rows → length rows + k ≤ p
 rows_fit k p [] least above below rise = omega arith
 rows_fit k p (r ∷ rows) least above below rise =
-    let here = All-head (λ e. k ≤ e.place) r rows above in
-    let under = All-head (λ e. e.place < p) r rows below in
+    let here = All-head (λ e. k ≤ e.place) r _ above in
+    let under = All-head (λ e. e.place < p) r _ below in
     let first = pairs_head Lower r rows rise in
     let rest = rows_fit (suc r.place) p rows (omega (arith, under)) (All-weaker (Lower r) (λ e. suc r.place ≤ e.place) (λ e h. let later = h.0 in omega (arith, later)) rows first) (All-tail (λ e. e.place < p) r rows below) (pairs_tail Lower r rows rise) in
     omega (arith, rest, here)

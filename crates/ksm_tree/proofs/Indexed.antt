@@ -13,7 +13,7 @@ dup_some {p} (Some e) is = refl
 
 no_place : (d : Option Dup) → None ≡ option_map (λ e. e.row.place) d → d ≡ None
 no_place None none = refl
-no_place (Some e) none = absurd (none-some e.row.place none)
+no_place (Some e) none = absurd (none-some _ none)
 
 place_of_row : (d : Option Dup) → option_map (λ r. r.place) (option_map (λ e. e.row) d) ≡ option_map (λ e. e.row.place) d
 place_of_row None = refl
@@ -29,17 +29,17 @@ placed_found q p dups rise is = number_place_found q p dups rise (row_placed q d
 
 -- where no place of a number is told, a change of the number's items changes no dup
 pub unplaced_changed : (q : ℕ) (dups : List Dup) → None ≡ option_map (λ d. d.row.place) (dup_of q dups) → (f : List GuestPage → List GuestPage) → dups ≡ change_items q f dups
-unplaced_changed q dups none f = unchanged_items q f dups (no_place (dup_of q dups) none)
+unplaced_changed q dups none f = unchanged_items q f _ (no_place _ none)
 
 module _ (s : SlotsState) (next : ℕ) (index : Index) (h : AreIndexed s next index) where
   -- the index gives for each number the place of its dup
   pub indexed_place : (q : ℕ) → place_of q index ≡ option_map (λ d. d.row.place) (dup_of q s.dups)
-  indexed_place q = h.numbered q ∙ row_placed q s.dups
+  indexed_place q = h.numbered q ∙ row_placed q _
 
   -- a change of items changes no row, and so nothing of the index
   pub stays_indexed : (p : ℕ) (f : List GuestPage → List GuestPage) (ready : Bool) → AreIndexed (record { places = s.places; dups = change_at p f s.dups; ready = ready }) next index
   stays_indexed p f ready =
-      let same = rows_changed p f s.dups in
+      let same = rows_changed p f _ in
       record {
         few = h.few;
         counted = rw same h.counted;
@@ -97,7 +97,7 @@ module _ (s : SlotsState) (next : ℕ) (index : Index) (h : AreIndexed s next in
 
     -- the group under the number of a tree and bytes has that tree and those bytes as its content
     pub content_here : g.content ≡ content_of tree bytes
-    content_here = same_Some g.content (content_of tree bytes) (ap content_in at ∙ (index.groups.lawful.numbered (content_of tree bytes) number).0 is)
+    content_here = same_Some _ _ (ap content_in at ∙ (index.groups.lawful.numbered (content_of tree bytes) number).0 is)
 
   -- a tree and bytes without a number have no dup
   pub group_absent : number_of tree bytes index.groups.numbers.entries ≡ None → [] ≡ group_places tree bytes (rows_of s.dups)

@@ -57,7 +57,7 @@ module _ (may : Dup → Bool) where
   passed_by : (b d : Dup) (dups : List Dup) → may b ≡ true → rival b d ≡ true → find (top (b ∷ dups)) (b ∷ dups) ≡ find (top (b ∷ d ∷ dups)) (b ∷ d ∷ dups)
   passed_by b d dups first r =
       let same : (e : Dup) → top (b ∷ dups) e ≡ top (b ∷ d ∷ dups) e =
-      λ e. sym (skip_second (may e) (rival e b) (rival e d) (list_all (rival e) dups) (λ above. through e b d first above r)) in
+      λ e. sym (skip_second _ _ _ _ (λ above. through e b d first above r)) in
       let t = top (b ∷ dups) in
       elim (cases_Bool (t b)) [
         | inl best ↦ ap (λ c. cond c (Some b) (find t dups)) best ∙ sym (ap (λ c. cond c (Some b) (find t (d ∷ dups))) best)
@@ -171,7 +171,7 @@ pub stepped_to : (t : ℕ) (b : List ℕ) (limit : ℕ) (acc slot : Option Dup) 
 stepped_to t b limit acc None items least has is one above below = refl
 stepped_to t b limit acc (Some d) items least has is one above below =
     elim (cases_Bool (in_group t b d.row)) [
-      | inl inside ↦ rw (inside, has) (better_is limit acc d least is one (rw (← has) above) (rw (← has) below))
+      | inl inside ↦ rw (inside, has) (better_is _ acc d _ is one (rw (← has) above) (rw (← has) below))
       | inr outside ↦ rw outside refl
     ]
 
@@ -216,8 +216,8 @@ open_within limit places dups below =
 
 -- the places of dups to join are places of the tree
 pub candidates_within : (t : ℕ) (b : List ℕ) (limit places : ℕ) (dups : List Dup) (found : List ℕ) (is_chain : Bool) → All (λ r. r.place < places) (rows_of dups) → ArePlacesToJoin (group_places t b (rows_of dups)) limit dups found is_chain → All (λ p. p < places) found
-candidates_within t b limit places dups found true below group = rw group (places_within t b places (rows_of dups) below)
-candidates_within t b limit places dups found false below opens = rw opens (open_within limit places dups below)
+candidates_within t b limit places dups found true below group = rw group (places_within t b _ _ below)
+candidates_within t b limit places dups found false below opens = rw opens (open_within _ _ _ below)
 
 -- at each place of a group stands a dup of it
 group_found : (t : ℕ) (b : List ℕ) (all dups : List Dup) → All (λ d. dup_at d.row.place all ≡ Some d) dups → All (λ p. of_group t b (dup_at p all) ≡ dup_at p all) (group_places t b (rows_of dups))
@@ -236,7 +236,7 @@ group_found t b all (d ∷ dups) found =
 pub candidate_is : (t : ℕ) (b : List ℕ) (limit : ℕ) (dups : List Dup) (found : List ℕ) (is_chain : Bool) (i : ℕ) → InPlaceOrder (rows_of dups) → ArePlacesToJoin (group_places t b (rows_of dups)) limit dups found is_chain → i < length found
     → (if is_chain then dup_at (get_or found i 0) dups else of_group t b (dup_at (get_or found i 0) dups)) ≡ of_group t b (dup_at (get_or found i 0) dups)
 candidate_is t b limit dups found true i rise group within =
-    let each : All (λ p. of_group t b (dup_at p dups) ≡ dup_at p dups) found = rw group (group_found t b dups dups (found_self dups rise)) in
+    let each : All (λ p. of_group t b (dup_at p dups) ≡ dup_at p dups) found = rw group (group_found t b _ _ (found_self _ rise)) in
     sym (each i 0 within)
 candidate_is t b limit dups found false i rise opens within = refl
 
@@ -268,8 +268,8 @@ module _ (t : ℕ) (b : List ℕ) (limit : ℕ) (test : Dup → Bool) (passes : 
 
 group_of_dups : (t : ℕ) (b : List ℕ) (dups : List Dup) → group_places t b (rows_of dups) ≡ map (λ d. d.row.place) (filter (λ d. in_group t b d.row) dups)
 group_of_dups t b dups =
-    ap (map (λ r. r.place)) (filter_mapped (λ (d : Dup). d.row) (in_group t b) (λ d. in_group t b d.row) dups (λ k d lt. refl))
-    ∙ map_mapped (λ (r : DupRow). r.place) (λ (d : Dup). d.row) (λ d. d.row.place) (filter (λ d. in_group t b d.row) dups) (λ k d lt. refl)
+    ap (map (λ r. r.place)) (filter_mapped _ _ _ dups (λ k d lt. refl))
+    ∙ map_mapped _ _ _ _ (λ k d lt. refl)
 
 -- the walk over the places to join ends at the best dup
 pub folded_best : (t : ℕ) (b : List ℕ) (limit : ℕ) (dups : List Dup) (found : List ℕ) (is_chain : Bool) → InPlaceOrder (rows_of dups) → ArePlacesToJoin (group_places t b (rows_of dups)) limit dups found is_chain → folded t b limit dups None found ≡ best_of t b limit dups
@@ -301,4 +301,4 @@ closed_best t b limit dups places rise group closed =
 
 -- where a tree and bytes have no place, no dup of theirs is best
 pub none_best : (t : ℕ) (b : List ℕ) (limit : ℕ) (dups : List Dup) → InPlaceOrder (rows_of dups) → [] ≡ group_places t b (rows_of dups) → None ≡ best_of t b limit dups
-none_best t b limit dups rise none = folded_best t b limit dups [] true rise none
+none_best t b limit dups rise none = folded_best t b _ _ [] true rise none

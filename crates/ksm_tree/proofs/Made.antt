@@ -28,7 +28,7 @@ module _ (s : SlotsState) (next : ℕ) (index new : Index) (dup : Dup) (h : AreI
       let rows = rows_of s.dups in
       let is = rows_new dup s.dups in
       record {
-        in_place_order = rw is (dups_with dup.row rows h.lawful.in_place_order fresh);
+        in_place_order = rw is (dups_with _ _ h.lawful.in_place_order fresh);
         places_below = rw is (all_with_dup (λ r. r.place < s.places) dup.row rows within h.lawful.places_below);
         numbers_below = rw is (all_with_dup (λ r. r.number < next + 1) dup.row rows (omega (arith, number))
             (All-weaker (λ r. r.number < next) (λ r. r.number < next + 1) (λ r below. omega arith) rows h.lawful.numbers_below));
@@ -96,7 +96,7 @@ module _ (s : SlotsState) (next : ℕ) (index new : Index) (dup : Dup) (h : AreI
   joined_in mid entered t b inside =
       entered.groups t b
       ∙ (λ i. if (sym (own_group t b dup.row) ∙ inside) i then with_place dup.row.place (h.grouped t b i) else h.grouped t b i)
-      ∙ sym (group_joined t b dup.row (rows_of s.dups) inside)
+      ∙ sym (group_joined t b dup.row _ inside)
 
   joined_own : (mid : Index) → IsEntered dup.row index mid → places_of dup.row.tree dup.row.bytes mid ≡ group_places dup.row.tree dup.row.bytes (with_dup dup.row (rows_of s.dups))
   joined_own mid entered = joined_in mid entered dup.row.tree dup.row.bytes (self_group dup.row)

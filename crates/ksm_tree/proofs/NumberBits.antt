@@ -20,7 +20,7 @@ module _ (words : List ℕ) where
       record {
         low_is = omega (arith, is, found.low_is);
         high_is = below;
-        there = in_word w (w * 64 + bit) (omega arith) (omega (arith, found.high_is))
+        there = in_word w _ (omega arith) (omega (arith, found.high_is))
             ∙ ap (λ i. bit_at (get_or words w 0) i == 1) at ∙ ap (λ b. b == 1) found.there;
         least = λ m from less. in_word w m (omega (arith, is, from)) (omega (arith, less, found.high_is))
             ∙ ap (λ b. b == 1) (found.lowest (m % 64) (omega (arith, is, small, from, less, found.high_is)) (omega (arith, is, from, less, found.high_is)));
@@ -29,7 +29,7 @@ module _ (words : List ℕ) where
   -- none of the numbers of words that are 0 is in the set
   none_in_zeros : (low high : ℕ) → ((w : ℕ) → low ≤ w → w < high → get_or words w 0 ≡ 0) → HasNone words (low * 64) (high * 64)
   none_in_zeros low high zeros n from below =
-      ap (λ v. bit_at v (n % 64) == 1) (zeros (n / 64) (omega (arith, from)) (omega (arith, below))) ∙ ap (λ b. b == 1) (bit_at-zero (n % 64))
+      ap (λ v. bit_at v (n % 64) == 1) (zeros (n / 64) (omega (arith, from)) (omega (arith, below))) ∙ ap (λ b. b == 1) (bit_at-zero _)
 
   -- what is not in the set below a number, nor from it on, is not in the set
   none_further : (low middle high : ℕ) → HasNone words low middle → HasNone words middle high → HasNone words low high
@@ -44,7 +44,7 @@ module _ (words : List ℕ) where
     low_is = omega (arith, onward, found.low_is);
     high_is = found.high_is;
     there = found.there;
-    least = none_further low middle n before found.least;
+    least = none_further low _ n before found.least;
   }
 
   -- what the words behind one answer holds from a number of that word on, where the word has no bit from there on
@@ -57,15 +57,15 @@ module _ (words : List ℕ) where
 
     of : (found : Option ℕ) → MatchOption found (HasNone words ((w + 1) * 64) (64 * length words)) (IsLeast words ((w + 1) * 64) (64 * length words))
         → MatchOption found (HasNone words from (64 * length words)) (IsLeast words from (64 * length words))
-    of None h = none_further from ((w + 1) * 64) (64 * length words) before h
-    of (Some n) h = least_further from ((w + 1) * 64) (64 * length words) n (omega (arith, at)) before h
+    of None h = none_further _ _ _ before h
+    of (Some n) h = least_further _ _ _ n (omega (arith, at)) before h
 
   module _ (upper : List ℕ) (h : IsSummed words upper) where
     -- a word whose number is not in the upper set is 0
     word_clear : (w : ℕ) → w < 64 * length upper → has upper w ≡ false → get_or words w 0 ≡ 0
     word_clear w low clear =
         let named = h.named w low in
-        eqb-true (get_or words w 0) 0 (grind (arith, nat_tests, named, clear))
+        eqb-true _ 0 (grind (arith, nat_tests, named, clear))
 
     -- a word whose number is in the upper set is not 0, and stands among the words
     word_set : (w : ℕ) → w < 64 * length upper → has upper w ≡ true → get_or words w 0 ≢ 0
@@ -74,20 +74,20 @@ module _ (words : List ℕ) where
     word_within : (w : ℕ) → get_or words w 0 ≢ 0 → w < length words
     word_within w some = elim (cases_lt w (length words)) [
       | inl less ↦ less
-      | inr more ↦ absurd (some (get_or_past words w 0 more))
+      | inr more ↦ absurd (some (get_or_past _ w 0 more))
     ]
 
     -- the least number of the upper set behind a word's is that of the word of the least number behind that word
     pub found_behind : (at next bit : ℕ) → IsLeast upper (at + 1) (64 * length upper) next → IsLowestBit (get_or words next 0) 0 bit → IsLeast words ((at + 1) * 64) (64 * length words) (next * 64 + bit)
     found_behind at next bit named found =
-        let within = word_within next (word_set next named.high_is named.there) in
-        let none = none_in_zeros (at + 1) next (λ w from below. word_clear w (omega (arith, below, named.high_is)) (named.least w from below)) in
-        let least = found_in_word next 0 (next * 64) (64 * length words) bit (omega arith) (omega arith) found (omega (arith, within, found.high_is)) in
-        least_further ((at + 1) * 64) (next * 64) (64 * length words) (next * 64 + bit) (omega (arith, named.low_is)) none least
+        let within = word_within _ (word_set _ named.high_is named.there) in
+        let none = none_in_zeros _ _ (λ w from below. word_clear w (omega (arith, below, named.high_is)) (named.least w from below)) in
+        let least = found_in_word _ 0 _ _ bit (omega arith) (omega arith) found (omega (arith, within, found.high_is)) in
+        least_further _ _ _ _ (omega (arith, named.low_is)) none least
 
     -- the least number of the upper set from one on is that of a word that is there
     pub within_named : (low next : ℕ) → IsLeast upper low (64 * length upper) next → next < length words
-    within_named low next named = word_within next (word_set next named.high_is named.there)
+    within_named low next named = word_within _ (word_set _ named.high_is named.there)
 
     -- the upper set is right once a word is put, if it says of that whether it is 0, and of the others what it did
     pub summed_put : (w word : ℕ) (upper' : List ℕ) (there : Bool) → w < length words → there ≡ not (word == 0) → Marks upper upper' w there → IsSummed (set words w word) upper'
@@ -105,13 +105,13 @@ module _ (words : List ℕ) where
     pub summed_more : (w i : ℕ) (upper' : List ℕ) → w < length words → i < 64 → Marks upper upper' w true → IsSummed (set words w (bit_or (get_or words w 0) (1 * 2 ^ i % 18446744073709551616))) upper'
     summed_more w i upper' within small marks =
         let word : ℕ = bit_or (get_or words w 0) (1 * 2 ^ i % 18446744073709551616) in
-        let some : not (word == 0) ≡ true = ap not (ne_eqb word 0 (some_bit word i (bit_at_set_same w64 (get_or words w 0) i small))) in
-        summed_put w word upper' true within (sym some) marks
+        let some : not (word == 0) ≡ true = ap not (ne_eqb _ 0 (some_bit _ i (bit_at_set_same w64 _ i small))) in
+        summed_put w _ _ _ within (sym some) marks
 
     -- the upper set is right once a word is 0, and its number is not in it any more
     pub summed_less : (w word : ℕ) (upper' : List ℕ) → w < length words → word ≡ 0 → Marks upper upper' w false → IsSummed (set words w word) upper'
     summed_less w word upper' within zero marks =
-        summed_put w word upper' false within (sym (ap (λ x. not (x == 0)) zero)) marks
+        summed_put w _ _ _ within (sym (ap (λ x. not (x == 0)) zero)) marks
 
     -- the upper set is right where a word is put that is not 0, as the word before it
     pub summed_some : (w word : ℕ) → w < length words → word ≢ 0 → get_or words w 0 ≢ 0 → IsSummed (set words w word) upper
@@ -171,7 +171,7 @@ zero_word k w = elim (cases_lt w k) [
 
 -- words that are 0 have no number
 pub none_there : (k n : ℕ) → has (replicate k 0) n ≡ false
-none_there k n = ap (λ w. bit_at w (n % 64) == 1) (zero_word k (n / 64)) ∙ ap (λ b. b == 1) (bit_at-zero (n % 64))
+none_there k n = ap (λ w. bit_at w (n % 64) == 1) (zero_word k _) ∙ ap (λ b. b == 1) (bit_at-zero _)
 
 -- where one word may stand at most, a word behind another is not there
 pub alone_behind : (most at : ℕ) (words : List ℕ) → most ≤ 1 → length words ≤ most → at < length words → HasNone words ((at + 1) * 64) (64 * length words)
@@ -197,38 +197,38 @@ module _ (words : List ℕ) (number : ℕ) (room : number < 64 * length words) w
   -- a number's bit that is set marks it as there
   pub marks_more : Marks words (set words (number / 64) (bit_or (get_or words (number / 64) 0) (1 * 2 ^ (number % 64) % 18446744073709551616))) number true
   marks_more =
-      marks_put words number _ 1 room (bit_at_set_same w64 _ (number % 64) (omega arith))
-      (λ i _ apart. bit_at_set_other w64 _ (number % 64) (omega arith) i apart)
+      marks_put _ _ _ 1 room (bit_at_set_same w64 _ _ (omega arith))
+      (λ i _ apart. bit_at_set_other w64 _ _ (omega arith) i apart)
 
   -- a number's bit that is cleared marks it as not there
   pub marks_less : Marks words (set words (number / 64) (bit_and (get_or words (number / 64) 0) (18446744073709551615 - 1 * 2 ^ (number % 64) % 18446744073709551616))) number false
   marks_less =
-      marks_put words number _ 0 room (bit_at_clear_same w64 _ (number % 64) (omega arith))
-      (λ i low apart. bit_at_clear_other w64 _ (number % 64) (omega arith) i low apart)
+      marks_put _ _ _ 0 room (bit_at_clear_same w64 _ _ (omega arith))
+      (λ i low apart. bit_at_clear_other w64 _ _ (omega arith) i low apart)
 
 -- a bit of a word that is shifted is a higher bit of the word
 bit_of_rest : (word from i : ℕ) → bit_at (word / 2 ^ from) i ≡ bit_at word (from + i)
-bit_of_rest word from i = ap (λ n. n % 2) (shr-shr word from i)
+bit_of_rest word from i = ap (λ n. n % 2) (shr-shr _ _ i)
 
 bit_behind : (word from i : ℕ) → from ≤ i → bit_at word i ≡ bit_at (word / 2 ^ from) (i - from)
 bit_behind word from i behind =
     let at : i ≡ from + (i - from) = omega (arith, behind) in
-    ap (bit_at word) at ∙ sym (bit_of_rest word from (i - from))
+    ap (bit_at word) at ∙ sym (bit_of_rest _ _ _)
 
 -- where a word is shifted to 0, no bit of it is set from there on
 pub none_from : (word from : ℕ) → word / 2 ^ from ≡ 0 → HasNoBit word from
 none_from word from clear i behind low =
-    bit_behind word from i behind ∙ ap (λ n. bit_at n (i - from)) clear ∙ bit_at-zero (i - from)
+    bit_behind _ _ i behind ∙ ap (λ n. bit_at n (i - from)) clear ∙ bit_at-zero _
 
 -- the lowest bit of a word that is shifted is the lowest of the word from there on
 pub lowest_behind : (word from i : ℕ) → word < 2 ^ 64 → IsLowestBit (word / 2 ^ from) 0 i → IsLowestBit word from (from + i)
 lowest_behind word from i fits found =
-    let one : bit_at word (from + i) ≡ 1 = sym (bit_of_rest word from i) ∙ found.there in
+    let one : bit_at word (from + i) ≡ 1 = sym (bit_of_rest _ _ i) ∙ found.there in
     record {
       low_is = omega arith;
       high_is = elim (cases_lt (from + i) 64) [
         | inl less ↦ less
-        | inr more ↦ absurd (omega (arith, one, bit_at_above word 64 (from + i) fits more))
+        | inr more ↦ absurd (omega (arith, one, bit_at_above _ 64 _ fits more))
       ];
       there = one;
       lowest = λ j behind less. bit_behind word from j behind ∙ found.lowest (j - from) (omega arith) (omega (arith, behind, less));

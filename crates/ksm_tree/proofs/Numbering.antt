@@ -6,7 +6,7 @@ use Rattle.std.proofs.lemmas.Bool.{eqb-false}
 pub same_content : (p q : Content) → is_at (content_order p) q ≡ true → p ≡ q
 same_content p q same =
     ap (λ (z : ℕ × List ℕ). content_of z.0 z.1)
-    (exact_pairs nat_cmp (slice_cmp nat_cmp) exact_unsigned exact_bytes (p.tree, p.bytes) (q.tree, q.bytes) ((Equal-is (content_order p q)).0 same))
+    (exact_pairs _ _ exact_unsigned exact_bytes (p.tree, p.bytes) (q.tree, q.bytes) ((Equal-is (content_order p q)).0 same))
 
 -- a slot is not both empty and full
 pub full : {X : Type 0} (x : X) (slot : Option X) → slot ≡ None → slot ≡ Some x → ⊥
@@ -76,13 +76,13 @@ module _ (old new : BTreeMap Content ℕ) (kept later : ℕ → Option Content) 
 
       backward : later n ≡ Some q → its_number q new.entries ≡ Some n
       backward stands = elim (cases_Bool (n == number)) [
-        | inl same ↦ absurd (full q (later n) (ap later ((Decides-eqb n number).0 same) ∙ fills.changed) stands)
+        | inl same ↦ absurd (full q (later n) (ap later ((Decides-eqb n _).0 same) ∙ fills.changed) stands)
         | inr differ ↦
-            let apart : n ≢ number = eqb-false n number differ in
+            let apart : n ≢ number = eqb-false n _ differ in
             let before : its_number q old.entries ≡ Some n = (are q n).1 (sym (fills.others n apart) ∙ stands) in
             elim (cases_Bool (is_at (content_order k) q)) [
               | inl here ↦
-                  let two : number ≡ n = same_Some number n (sym ((are k number).1 stood) ∙ ap (λ c. its_number c old.entries) (same_content k q here) ∙ before) in
+                  let two : number ≡ n = same_Some _ n (sym ((are k number).1 stood) ∙ ap (λ c. its_number c old.entries) (same_content k q here) ∙ before) in
                   absurd (apart (sym two))
               | inr other ↦ told ∙ ap (λ b. cond b None (its_number q old.entries)) other ∙ before
             ]

@@ -13,7 +13,7 @@ none_present (suc n) = none_present n
 
 none_placed : (k n : ℕ) → ArePlaced k (none_of n)
 none_placed k zero = tt
-none_placed k (suc n) = none_placed (suc k) n
+none_placed k (suc n) = none_placed _ n
 
 none_passes : (test : Option Dup → Bool) (n : ℕ) → count_by test (none_of n) ≡ n * cond (test None) 1 0
 none_passes test zero = sym (zero-mul (cond (test None) 1 0))
@@ -28,7 +28,7 @@ none_set test n places wide each count =
     let many = length-replicate {A = Option Dup} n None in
     record {
       room = omega (arith, many, wide);
-      each = λ p low. each p (omega (arith, many, low)) ∙ ap test (sym (get_or-replicate n p None None (omega (arith, many, low))));
+      each = λ p low. each p (omega (arith, many, low)) ∙ ap test (sym (get_or-replicate n p _ _ (omega (arith, many, low))));
       count = count ∙ sym (none_passes test n);
     }
 

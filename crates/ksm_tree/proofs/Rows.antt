@@ -10,8 +10,8 @@ numbered q r = r.number == q
 pub group_unlike : (p : ℕ) (t : ℕ) (b : List ℕ) (rows : List DupRow) → All (λ r. (r.place == p && in_group t b r) ≡ false) rows → without p (group_places t b rows) ≡ group_places t b rows
 group_unlike p t b [] none = refl
 group_unlike p t b (r ∷ rows) none =
-    let rest = group_unlike p t b rows (All-tail (λ s. (s.place == p && in_group t b s) ≡ false) r rows none) in
-    let here = All-head (λ s. (s.place == p && in_group t b s) ≡ false) r rows none in
+    let rest = group_unlike p t b rows (All-tail (λ s. (s.place == p && in_group t b s) ≡ false) r _ none) in
+    let here = All-head (λ s. (s.place == p && in_group t b s) ≡ false) r _ none in
     grind (arith, here, rest)
 
 -- a new row of a group adds its place to the places of the group
@@ -19,7 +19,7 @@ pub group_joined : (t : ℕ) (b : List ℕ) (row : DupRow) (rows : List DupRow) 
 group_joined t b row rows inside =
     let lower = filter (below row.place) rows in
     let higher = filter (above row.place) rows in
-    let front = kept_append (λ (r : DupRow). r.place) (in_group t b) lower (row ∷ higher) in
+    let front = kept_append _ (in_group t b) lower (row ∷ higher) in
     let low = chosen (λ (r : DupRow). r.place) (in_group t b) (λ q. nat_lt q row.place) rows in
     let high = chosen (λ (r : DupRow). r.place) (in_group t b) (nat_lt row.place) rows in
     let first : group_places t b (row ∷ higher) ≡ row.place ∷ group_places t b higher = grind (arith, inside) in
@@ -42,7 +42,7 @@ pub place_new : (row : DupRow) (rows : List DupRow) → All (λ r. r.number < ro
 place_new row rows fresh =
     let F : DupRow → Type 0 = λ r. r.number < row.number in
     let lower = filter (below row.place) rows in
-    let none = All-weaker F (λ r. numbered row.number r ≡ false) (λ r h. ne_eqb r.number row.number (λ e. omega (arith, h, e))) lower (All-filter (below row.place) F rows fresh) in
+    let none = All-weaker F _ (λ r h. ne_eqb r.number row.number (λ e. omega (arith, h, e))) lower (All-filter (below row.place) F rows fresh) in
     let higher = filter (above row.place) rows in
     let here : numbered row.number row ≡ true = grind (arith, nat_tests) in
     ap (option_map (λ r. r.place))
@@ -66,11 +66,11 @@ IsOne p e r = ((r.place == p) ≡ (r.number == e.number)) × ((r.place == p) ≡
 pub only_one : (p : ℕ) (rows : List DupRow) (e : DupRow) → InPlaceOrder rows → find (λ r. r.place == p) rows ≡ Some e → All (IsOne p e) rows
 only_one p [] e rise found = absurd (none-some e found)
 only_one p (r ∷ rows) e rise found =
-    let first = pairs_head Lower r rows rise in
+    let first = pairs_head Lower r _ rise in
     elim (cases_Bool (r.place == p)) [
       | inl here ↦
           let same : r ≡ e = same_Some r e (grind (arith, here, found)) in
-          All-cons (IsOne p e) r rows (grind (arith, nat_tests, here, same), λ _. same)
+          All-cons (IsOne p e) r _ (grind (arith, nat_tests, here, same), λ _. same)
           (All-weaker (Lower r) (IsOne p e) (λ s h.
           let away : (s.place == p) ≡ false = (let h_place = h.0 in grind (arith, nat_tests, here, h_place)) in
           let other : (s.number == e.number) ≡ false = (let h_number = h.1 in grind (arith, nat_tests, same, h_number)) in
@@ -90,11 +90,11 @@ IsThat q e r = (r.number == q) ≡ (r.place == e.place)
 pub only_number : (q : ℕ) (rows : List DupRow) (e : DupRow) → InPlaceOrder rows → find (numbered q) rows ≡ Some e → All (IsThat q e) rows
 only_number q [] e rise found = absurd (none-some e found)
 only_number q (r ∷ rows) e rise found =
-    let first = pairs_head Lower r rows rise in
+    let first = pairs_head Lower r _ rise in
     elim (cases_Bool (r.number == q)) [
       | inl here ↦
           let same : r ≡ e = same_Some r e (grind (arith, here, found)) in
-          All-cons (IsThat q e) r rows (grind (arith, nat_tests, here, same))
+          All-cons (IsThat q e) r _ (grind (arith, nat_tests, here, same))
           (All-weaker (Lower r) (IsThat q e) (λ s h.
           let away : (s.place == e.place) ≡ false = (let h_place = h.0 in grind (arith, nat_tests, same, h_place)) in
           let other : (s.number == q) ≡ false = (let h_number = h.1 in grind (arith, nat_tests, here, h_number)) in
@@ -110,15 +110,15 @@ only_number q (r ∷ rows) e rise found =
 gone : (p q : ℕ) (e : DupRow) (rows : List DupRow) → (q == e.number) ≡ true → All (IsOne p e) rows → row_place q (filter (elsewhere p) rows) ≡ None
 gone p q e [] this only = refl
 gone p q e (r ∷ rows) this only =
-    let rest = gone p q e rows this (All-tail (IsOne p e) r rows only) in
-    let here = (All-head (IsOne p e) r rows only).0 in
+    let rest = gone p q e rows this (All-tail (IsOne p e) r _ only) in
+    let here = (All-head (IsOne p e) r _ only).0 in
     grind (arith, nat_tests, this, here, rest)
 
 stayed : (p q : ℕ) (e : DupRow) (rows : List DupRow) → (q == e.number) ≡ false → All (IsOne p e) rows → row_place q (filter (elsewhere p) rows) ≡ row_place q rows
 stayed p q e [] other only = refl
 stayed p q e (r ∷ rows) other only =
-    let rest = stayed p q e rows other (All-tail (IsOne p e) r rows only) in
-    let here = (All-head (IsOne p e) r rows only).0 in
+    let rest = stayed p q e rows other (All-tail (IsOne p e) r _ only) in
+    let here = (All-head (IsOne p e) r _ only).0 in
     grind (arith, nat_tests, other, here, rest)
 
 -- once the dup at a place goes, its number has no place, and each other number has the place it had

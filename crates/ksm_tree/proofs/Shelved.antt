@@ -5,19 +5,19 @@ use Rattle.slab.specs.Slab.{Updates as Fills}
 -- there are as many slots as keys
 pub length_by : (k : ℕ) (keys : List ℕ) (dups : Slab Kept) → length (slots_by k keys dups) ≡ length keys
 length_by k [] dups = refl
-length_by k (key ∷ keys) dups = ap suc (length_by (suc k) keys dups)
+length_by k (key ∷ keys) dups = ap suc (length_by _ keys _)
 
 -- a slot is read by its key
 read_by : (k p i : ℕ) (keys : List ℕ) (dups : Slab Kept) → p ≡ k + i → i < length keys → kept_at p (get dups (get_or keys i 0)) ≡ get_or (slots_by k keys dups) i None
 read_by k p i [] dups is within = absurd (omega arith)
 read_by k p zero (key ∷ keys) dups is within = ap (λ q. kept_at q (get dups key)) (omega arith)
-read_by k p (suc i) (key ∷ keys) dups is within = read_by (suc k) p i keys dups (omega arith) (omega arith)
+read_by k p (suc i) (key ∷ keys) dups is within = read_by _ p i keys _ (omega arith) (omega arith)
 
 -- behind the keys nothing is read
 read_past : (k i : ℕ) (keys : List ℕ) (dups : Slab Kept) → length keys ≤ i → None ≡ get_or (slots_by k keys dups) i None
 read_past k i [] dups past = refl
 read_past k zero (key ∷ keys) dups past = absurd (omega arith)
-read_past k (suc i) (key ∷ keys) dups past = read_past (suc k) i keys dups (omega arith)
+read_past k (suc i) (key ∷ keys) dups past = read_past _ i keys _ (omega arith)
 
 -- a dup is at the place that its row tells, and at no other
 pub at_here : (p : ℕ) (kept : Kept) → kept.dup.row.place ≡ p → kept_at p (Some kept) ≡ Some kept.dup
@@ -68,15 +68,15 @@ there p (Some kept) some = elim (cases_eq kept.dup.row.place p) [
 module _ (p : ℕ) (keys : List ℕ) (dups : Slab Kept) (s : ShelfState) (view : record { slots = slots_by 0 keys dups; ready = has_room dups } ≡ s) where
   -- there is a slot for each key
   pub many : length keys ≡ length s.slots
-  many = sym (length_by 0 keys dups) ∙ ap (λ t. length t.slots) view
+  many = sym (length_by 0 _ _) ∙ ap (λ t. length t.slots) view
 
   -- what a place holds is read by its key
   pub seen_by : (key : ℕ) → p < length keys → key ≡ get_or keys p 0 → kept_at p (get dups key) ≡ get_or s.slots p None
   seen_by key within read =
-      ap (λ n. kept_at p (get dups n)) read ∙ read_by 0 p p keys dups (omega arith) within ∙ ap (λ t. get_or t.slots p None) view
+      ap (λ n. kept_at p (get dups n)) read ∙ read_by 0 p p _ _ (omega arith) within ∙ ap (λ t. get_or t.slots p None) view
 
   pub seen_past : length keys ≤ p → None ≡ get_or s.slots p None
-  seen_past past = read_past 0 p keys dups past ∙ ap (λ t. get_or t.slots p None) view
+  seen_past past = read_past 0 p _ _ past ∙ ap (λ t. get_or t.slots p None) view
 
   -- a place that holds a dup has a key
   pub filled_key : is_some (get_or s.slots p None) ≡ true → p < length keys
@@ -93,7 +93,7 @@ module _ (p : ℕ) (keys : List ℕ) (dups : Slab Kept) (s : ShelfState) (view :
 
   -- a key read of a place that holds a dup
   pub key_read : (key : ℕ) → key ≡ get_or keys p key → is_some (get_or s.slots p None) ≡ true → key ≡ get_or keys p 0
-  key_read key read filled = read ∙ sym (get_or_default keys p 0 key (filled_key filled))
+  key_read key read filled = read ∙ sym (get_or_default _ p 0 key (filled_key filled))
 
   -- the items of a place are those of the dup under its key
   pub items_there : (key : ℕ) (kept : Kept) → key ≡ get_or keys p 0 → is_some (get_or s.slots p None) ≡ true → Some kept ≡ get dups key → items_in (get_or s.slots p None) ≡ kept.dup.items
@@ -112,7 +112,7 @@ pub none_by : (k n : ℕ) (dups : Slab Kept) → dups.slots ≡ [] → slots_by 
 none_by k zero dups none = refl
 none_by k (suc n) dups none =
     let first = ap (λ l. kept_at k (get_or l 0 None)) none in
-    let rest = none_by (suc k) n dups none in
+    let rest = none_by _ n _ none in
     λ i. first i ∷ rest i
 
 -- more room changes no slot

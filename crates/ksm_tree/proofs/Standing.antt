@@ -18,7 +18,7 @@ same_under none old new same (Some n) = same n
 -- whether two contents are one
 is_one : (t u : ℕ) (b c : List ℕ) → (t == u && bytes_eq b c) ≡ true → content_of t b ≡ content_of u c
 is_one t u b c same =
-    let parts = and_parts (t == u) (bytes_eq b c) same in
+    let parts = and_parts _ _ same in
     λ i. content_of ((Decides-eqb t u).0 parts.0 i) ((bytes_eq-Decides b c).0 parts.1 i)
 
 pub are_one : (t u : ℕ) (b c : List ℕ) → content_of t b ≡ content_of u c → (t == u && bytes_eq b c) ≡ true
@@ -37,17 +37,17 @@ module _ {X : Type 0} (none : X) (numbers : Numbers) (stands : ℕ → Option Co
       by : (o : Option ℕ) → number_of t b numbers ≡ o → under none new o ≡ (if t == tree && bytes_eq b bytes then change (under none old o) else under none old o)
       by None absent =
           let apart : (t == tree && bytes_eq b bytes) ≡ false = false_from_ne_true _ (λ same.
-          full number (number_of t b numbers) absent (ap (λ k. its_number k numbers) (is_one t tree b bytes same) ∙ is)) in
+          full number (number_of t b numbers) absent (ap (λ k. its_number k numbers) (is_one t _ b _ same) ∙ is)) in
           rw apart refl
       by (Some n) found = elim (cases_Bool (t == tree && bytes_eq b bytes)) [
         | inl same ↦
-            let here : n ≡ number = same_Some n number (sym found ∙ ap (λ k. its_number k numbers) (is_one t tree b bytes same) ∙ is) in
-            moved n ∙ rw (same, (Decides-eqb n number).1 here) refl
+            let here : n ≡ number = same_Some n _ (sym found ∙ ap (λ k. its_number k numbers) (is_one t _ b _ same) ∙ is) in
+            moved n ∙ rw (same, (Decides-eqb n _).1 here) refl
         | inr differ ↦
             let apart : (n == number) ≡ false = false_from_ne_true _ (λ same.
             let one : content_of t b ≡ content_of tree bytes =
-            same_Some (content_of t b) (content_of tree bytes) (sym ((are (content_of t b) n).0 found) ∙ ap stands ((Decides-eqb n number).0 same) ∙ (are (content_of tree bytes) number).0 is) in
-            true≢false (sym (are_one t tree b bytes one) ∙ differ)) in
+            same_Some _ _ (sym ((are (content_of t b) n).0 found) ∙ ap stands ((Decides-eqb n _).0 same) ∙ (are (content_of tree bytes) number).0 is) in
+            true≢false (sym (are_one t _ b _ one) ∙ differ)) in
             moved n ∙ rw (differ, apart) refl
       ]
 
@@ -56,7 +56,7 @@ module _ {X : Type 0} (none : X) (numbers : Numbers) (stands : ℕ → Option Co
       → (t : ℕ) (b : List ℕ) → under none old (number_of t b numbers) ≡ (if t == tree && bytes_eq b bytes then change (under none old (number_of t b numbers)) else under none old (number_of t b numbers))
   under_absent absent stays t b = elim (cases_Bool (t == tree && bytes_eq b bytes)) [
     | inl same ↦
-        let nothing = ap (λ k. under none old (its_number k numbers)) (is_one t tree b bytes same) ∙ ap (under none old) absent in
+        let nothing = ap (λ k. under none old (its_number k numbers)) (is_one t _ b _ same) ∙ ap (under none old) absent in
         rw same (nothing ∙ stays ∙ ap change (sym nothing))
     | inr differ ↦ rw differ refl
   ]
@@ -87,7 +87,7 @@ module _ (t : ℕ) (b : List ℕ) (pass : ℕ) where
   none_waits (Some g ∷ slots) apart =
       let rest = none_waits slots (λ n. apart (suc n)) in
       let other : (g.content.tree == t && bytes_eq g.content.bytes b) ≡ false =
-      false_from_ne_true _ (λ same. apart 0 (ap Some (is_one g.content.tree t g.content.bytes b same))) in
+      false_from_ne_true _ (λ same. apart 0 (ap Some (is_one _ t _ b same))) in
       grind (arith, rest, other)
 
   -- where one group is, its page waits, if one does there
@@ -97,8 +97,8 @@ module _ (t : ℕ) (b : List ℕ) (pass : ℕ) where
   one_waits (None ∷ slots) zero here only = absurd (full (content_of t b) None refl here)
   one_waits (None ∷ slots) (suc n) here only = one_waits slots n here (λ m is. let e = only (suc m) is in omega (arith, e))
   one_waits (Some g ∷ slots) zero here only =
-      let rest = none_waits slots (λ m is. let e = only (suc m) is in omega (arith, e)) in
-      let same = are_one g.content.tree t g.content.bytes b (same_Some g.content (content_of t b) here) in
+      let rest = none_waits _ (λ m is. let e = only (suc m) is in omega (arith, e)) in
+      let same = are_one _ t _ b (same_Some _ _ here) in
       grind (arith, same, rest)
   one_waits (Some g ∷ slots) (suc n) here only =
       let rest = one_waits slots n here (λ m is. let e = only (suc m) is in omega (arith, e)) in
@@ -112,7 +112,7 @@ pub waiting_found : (numbers : Numbers) (groups : Slab Group) (pass : ℕ) → A
 waiting_found numbers groups pass are t b = by (number_of t b numbers) refl
   where
     by : (o : Option ℕ) → number_of t b numbers ≡ o → waiting_page t b (filter_map (waits_in pass) groups.slots) ≡ under None (λ n. page_in pass (get groups n)) o
-    by None absent = none_waits t b pass groups.slots (λ n is. full n (number_of t b numbers) absent ((are.numbered (content_of t b) n).1 is))
+    by None absent = none_waits t b _ groups.slots (λ n is. full n (number_of t b numbers) absent ((are.numbered (content_of t b) n).1 is))
     by (Some n) found =
         one_waits t b pass groups.slots n ((are.numbered (content_of t b) n).0 found)
         (λ m is. same_Some m n (sym ((are.numbered (content_of t b) m).1 is) ∙ found))
@@ -120,11 +120,11 @@ waiting_found numbers groups pass are t b = by (number_of t b numbers) refl
 -- the page that waits for a tree and bytes is the one in the group under their number
 pub waits_here : (g : Groups) (t : ℕ) (b : List ℕ) (n : ℕ) (slot : Option Group) → number_of t b g.numbers.entries ≡ Some n → slot ≡ get g.groups n → waiting_page t b (waiting_in g) ≡ page_in g.pass slot
 waits_here g t b n slot is at =
-    waiting_found g.numbers.entries g.groups g.pass g.lawful t b ∙ ap (under None (λ n. page_in g.pass (get g.groups n))) is ∙ ap (page_in g.pass) (sym at)
+    waiting_found _ g.groups g.pass g.lawful t b ∙ ap (under None (λ n. page_in g.pass (get g.groups n))) is ∙ ap (page_in g.pass) (sym at)
 
 -- no page waits for a tree and bytes that have no number
 pub none_here : (g : Groups) (t : ℕ) (b : List ℕ) → number_of t b g.numbers.entries ≡ None → waiting_page t b (waiting_in g) ≡ None
-none_here g t b none = waiting_found g.numbers.entries g.groups g.pass g.lawful t b ∙ ap (under None (λ n. page_in g.pass (get g.groups n))) none
+none_here g t b none = waiting_found _ _ g.pass g.lawful t b ∙ ap (under None (λ n. page_in g.pass (get g.groups n))) none
 
 -- under the number of a tree and bytes a group stands
 pub stands_under : (g : Groups) (t : ℕ) (b : List ℕ) (n : ℕ) → number_of t b g.numbers.entries ≡ Some n → None ≡ get g.groups n → ⊥
@@ -138,21 +138,21 @@ not_unused g n group stands unused =
 -- a guess that leads to the group of a tree and bytes is the number of that tree and bytes
 pub guessed : (g : Groups) (guess : ℕ) (group : Group) (tree : ℕ) (bytes : List ℕ) → Some group ≡ get g.groups guess → group.content.tree ≡ tree → true ≡ bytes_eq group.content.bytes bytes → Some guess ≡ number_of tree bytes g.numbers.entries
 guessed g guess group tree bytes stands same_tree same_bytes =
-    let bytes_is = (bytes_eq-Decides group.content.bytes bytes).0 (sym same_bytes) in
+    let bytes_is = (bytes_eq-Decides _ _).0 (sym same_bytes) in
     let is : group.content ≡ content_of tree bytes = (λ i. content_of (same_tree i) (bytes_is i)) in
     sym ((g.lawful.numbered (content_of tree bytes) guess).1 (ap content_in (sym stands) ∙ ap Some is))
 
 -- the page of a group whose pass is the present one waits
 pub page_waits : (g : Group) (pass : ℕ) → g.pass ≡ pass → page_in pass (Some g) ≡ Some g.page
-page_waits g pass same = rw ((Decides-eqb g.pass pass).1 same) refl
+page_waits g pass same = rw ((Decides-eqb _ _).1 same) refl
 
 -- in a group whose pass is not the present one nothing waits
 pub waits_still : (g : Group) (pass : ℕ) → g.pass ≢ pass → waits_in pass (Some g) ≡ None
-waits_still g pass apart = rw (ne_eqb g.pass pass apart) refl
+waits_still g pass apart = rw (ne_eqb _ _ apart) refl
 
 -- in a group whose pass is not the present one no page waits
 pub page_still : (g : Group) (pass : ℕ) → g.pass ≢ pass → page_in pass (Some g) ≡ None
-page_still g pass apart = ap (option_map (λ w. w.page)) (waits_still g pass apart)
+page_still g pass apart = ap (option_map (λ w. w.page)) (waits_still g _ apart)
 
 -- the page of a group waits exactly where the group's pass is the present one
 pub page_so : (g : Group) (pass : ℕ) → page_in pass (Some g) ≡ then_some (g.pass == pass) g.page
@@ -160,11 +160,11 @@ page_so g pass = grind arith
 
 -- where no group's pass is the present one, no page waits
 pub none_waiting : (pass : ℕ) (groups : Slab Group) → ((n : ℕ) → ForSome (get groups n) (λ g. g.pass ≢ pass)) → filter_map (waits_in pass) groups.slots ≡ []
-none_waiting pass groups apart = given_same (waits_in pass) (waits_in pass) refl refl groups.slots [] (λ n. by (get groups n) (apart n))
+none_waiting pass groups apart = given_same _ (waits_in pass) refl refl groups.slots [] (λ n. by (get groups n) (apart n))
   where
     by : (o : Option Group) → ForSome o (λ g. g.pass ≢ pass) → waits_in pass o ≡ None
     by None none = refl
-    by (Some g) differs = waits_still g pass (differs g refl)
+    by (Some g) differs = waits_still g _ (differs g refl)
 
 -- ---------------------------------------------------------------- one group is written
 
@@ -186,7 +186,7 @@ module _ (g : Groups) (number : ℕ) (was now : Group) (stood : Some was ≡ get
   ]
 
   written_same : {X : Type 0} (at : Option Group → X) → at (Some now) ≡ at (Some was) → (n : ℕ) → at (get new n) ≡ at (get g.groups n)
-  written_same at is n = written_moved at (λ x. x) is n ∙ cond_same (n == number) (at (get g.groups n))
+  written_same at is n = written_moved at (λ x. x) is n ∙ cond_same _ _
 
   -- the groups keep their numbers where one of them is written anew with its content
   pub rewritten : now.pass ≤ g.pass → AreGroups g.numbers.entries new g.pass
@@ -235,13 +235,13 @@ module _ (numbers_old numbers_new : BTreeMap Content ℕ) (pass : ℕ) (old new 
     (updates : Updates content_order numbers_old numbers_new k named) (fills : Fills old new number slot) (was : IsIdle pass (get old number)) (now : IsIdle pass slot) where
   idle_same : {X : Type 0} (at : Option Group → X) → at slot ≡ at (get old number) → (n : ℕ) → at (get new n) ≡ at (get old n)
   idle_same at same n = elim (cases_Bool (n == number)) [
-    | inl here ↦ let is = (Decides-eqb n number).0 here in ap (λ n. at (get new n)) is ∙ ap at fills.changed ∙ same ∙ ap (λ n. at (get old n)) (sym is)
-    | inr other ↦ ap at (fills.others n (eqb-false n number other))
+    | inl here ↦ let is = (Decides-eqb n _).0 here in ap (λ n. at (get new n)) is ∙ ap at fills.changed ∙ same ∙ ap (λ n. at (get old n)) (sym is)
+    | inr other ↦ ap at (fills.others n (eqb-false n _ other))
   ]
 
   -- where a group in which nothing waits comes or goes, all that waits is as it was
   pub idle_waiting : filter_map (waits_in pass) new.slots ≡ filter_map (waits_in pass) old.slots
-  idle_waiting = given_same (waits_in pass) (waits_in pass) refl refl new.slots old.slots (idle_same (waits_in pass) (now.1 ∙ sym was.1))
+  idle_waiting = given_same _ _ refl refl new.slots old.slots (idle_same (waits_in pass) (now.1 ∙ sym was.1))
 
   -- where a group without places comes or goes, the chains are as they were
   pub idle_chains : under [] (λ n. places_in (get new n)) named ≡ under [] (λ n. places_in (get old n)) (its_number k numbers_old.entries)
@@ -253,7 +253,7 @@ module _ (numbers_old numbers_new : BTreeMap Content ℕ) (pass : ℕ) (old new 
       elim (cases_Bool (is_at (content_order k) (content_of t b))) [
         | inl is ↦
             ap at (told ∙ ap (λ s. cond s named (number_of t b numbers_old.entries)) is)
-            ∙ here ∙ ap (λ k. before (its_number k numbers_old.entries)) (same_content k (content_of t b) is)
+            ∙ here ∙ ap (λ k. before (its_number k numbers_old.entries)) (same_content k _ is)
         | inr other ↦
             ap at (told ∙ ap (λ s. cond s named (number_of t b numbers_old.entries)) other)
             ∙ same_under [] (λ n. places_in (get old n)) (λ n. places_in (get new n)) (idle_same places_in (now.0 ∙ sym was.0)) (number_of t b numbers_old.entries)

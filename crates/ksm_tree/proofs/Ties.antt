@@ -13,7 +13,7 @@ only_row : (page : GuestPage) (rows : List Row) (old : Row) → InPageOrder rows
 only_row page rows old rise found k d lt same =
     let r = get_or rows k d in
     let at : r.page ≡ page = pages_ordered.same_eq r.page page same in
-    same_Some r old (sym (each_at_page rows rise k d lt) ∙ ap (λ p. row_at p rows) at ∙ found)
+    same_Some r old (sym (each_at_page _ rise k d lt) ∙ ap (λ p. row_at p rows) at ∙ found)
 
 -- a page whose rows are no items of a dup is no item of it
 no_item : (page : GuestPage) (d : DupRow) (rows : List Row) → All (λ r. same_page r.page page ≡ true → merged_into d.number r.state ≡ false) rows → has_item page (items_of rows d) ≡ false
@@ -33,7 +33,7 @@ module _ (rows : List Row) (page : GuestPage) (old : Row) (rise : InPageOrder ro
   -- a page is an item of no dup but that of its row
   not_item : (d : DupRow) → merged_into d.number old.state ≡ false → has_item page (items_of rows d) ≡ false
   not_item d fails =
-      no_item page d rows (λ k e lt same. ap (λ r. merged_into d.number r.state) (only_row page rows old rise found k e lt same) ∙ fails)
+      no_item _ d _ (λ k e lt same. ap (λ r. merged_into d.number r.state) (only_row _ _ old rise found k e lt same) ∙ fails)
 
   unlike : (d : DupRow) → merged_into d.number old.state ≡ false → items_of rows d ≡ without_item page (items_of rows d)
   unlike d fails = absent_kept pages_ordered (λ p. p) page (items_of rows d) (none_found (λ p. same_page p page) (items_of rows d) (not_item d fails))
@@ -86,7 +86,7 @@ module _ (rows : List Row) (page : GuestPage) (old : Row) (rise : InPageOrder ro
 
   -- a page whose row is not merged is an item of no dup
   pub tied_absent : (number : ℕ) (dups : List Dup) → merged_state old.state ≡ false → AreTied rows dups → has_item page (items_numbered number dups) ≡ false
-  tied_absent number dups alone tied = absent_in number dups (dup_of number dups) alone tied refl
+  tied_absent number dups alone tied = absent_in _ _ _ alone tied refl
 
 -- a dup with a number has as many items as there are rows merged into it
 pub tied_count : (rows : List Row) (dups : List Dup) (number : ℕ) (d : Dup) → AreTied rows dups → dup_of number dups ≡ Some d → length (items_numbered number dups) ≡ item_count rows d.row
@@ -111,7 +111,7 @@ all_with_new : (P : Dup → Type 0) (dup : Dup) (dups : List Dup) → All P dups
 all_with_new P dup dups each one =
     let first = λ (d : Dup). nat_lt d.row.place dup.row.place in
     let last = λ (d : Dup). nat_lt dup.row.place d.row.place in
-    All-append P (filter first dups) (dup ∷ filter last dups) (All-filter first P dups each) (All-cons P dup (filter last dups) one (All-filter last P dups each))
+    All-append P _ _ (All-filter _ P _ each) (All-cons P dup _ one (All-filter _ P _ each))
 
 -- two pages make a dup with a new number
 module _ (rows : List Row) (first second : Row) (row : DupRow) (rise : InPageOrder rows) (found : row_at first.page rows ≡ Some first) (also : row_at second.page rows ≡ Some second)
@@ -136,7 +136,7 @@ module _ (rows : List Row) (first second : Row) (row : DupRow) (rise : InPageOrd
   half_rises = ordered_map (λ r. if same_page r.page first.page then first_in else r) rows keeps_page rise
 
   there : is_some (row_at second.page half) ≡ true
-  there = row_stays second.page (λ r. if same_page r.page first.page then first_in else r) rows keeps_page ∙ ap is_some also
+  there = row_stays _ _ _ keeps_page ∙ ap is_some also
 
   -- the items of another dup
   others : (d : DupRow) → (row.number == d.number) ≡ false → items_of whole d ≡ items_of rows d
@@ -183,7 +183,7 @@ tied_inserted rows row dups rise absent alone tied =
 -- rows and dups stay tied where each row changes but for its page and its dup
 pub tied_mapped : (f : Row → Row) (rows : List Row) (dups : List Dup) → All (λ r. ((f r).page ≡ r.page) × ((number : ℕ) → merged_into number (f r).state ≡ merged_into number r.state)) rows → AreTied rows dups → AreTied (map f rows) dups
 tied_mapped f rows dups same tied =
-    All-weaker (IsTied rows) (IsTied (map f rows)) (λ d e. e ∙ sym (items_kept rows d.row f (λ k r lt. ((same k r lt).0, (same k r lt).1 d.row.number)))) dups tied
+    All-weaker _ (IsTied (map f rows)) (λ d e. e ∙ sym (items_kept rows d.row f (λ k r lt. ((same k r lt).0, (same k r lt).1 d.row.number)))) dups tied
 
 -- rows and dups stay tied where a dup goes
 pub tied_pruned : (rows : List Row) (dups : List Dup) (place : ℕ) → AreTied rows dups → AreTied rows (without_place place dups)

@@ -12,13 +12,13 @@ some_of_map f (Some x) = refl
 
 -- a slot with a content has a group
 has_group : (slot : Option Group) (k : Content) → content_in slot ≡ Some k → is_some slot ≡ true
-has_group slot k is = sym (some_of_map (λ g. g.content) slot) ∙ ap is_some is
+has_group slot k is = sym (some_of_map _ _) ∙ ap is_some is
 
 -- a slot with a group is one of the slots
 pub within_slots : (groups : Slab Group) (n : ℕ) → is_some (get groups n) ≡ true → n < length groups.slots
 within_slots groups n has = elim (cases_lt n (length groups.slots)) [
   | inl inside ↦ inside
-  | inr past ↦ absurd (true≢false (sym has ∙ ap is_some (get_or_past groups.slots n None past)))
+  | inr past ↦ absurd (true≢false (sym has ∙ ap is_some (get_or_past _ n _ past)))
 ]
 
 -- where something stands in each group, each content with a number is in use
@@ -49,7 +49,7 @@ one_more old new tree bytes key none was long updates = (long ∙ ap (λ o. leng
   where
     others : (t : ℕ) (b : List ℕ) → is_some (number_of t b new.entries) ≡ true → (t == tree && bytes_eq b bytes) ≡ false → is_some (number_of t b old.entries) ≡ true
     others t b has apart = elim (cases_Bool (is_at (content_order (content_of tree bytes)) (content_of t b))) [
-      | inl here ↦ absurd (true≢false (sym (are_one t tree b bytes (sym (same_content (content_of tree bytes) (content_of t b) here))) ∙ apart))
+      | inl here ↦ absurd (true≢false (sym (are_one t _ b _ (sym (same_content _ _ here))) ∙ apart))
       | inr other ↦ ap is_some (sym (updates.2 (content_of t b) other)) ∙ has
     ]
 

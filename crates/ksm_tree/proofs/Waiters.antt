@@ -22,16 +22,16 @@ at_page row (r ∷ rs) = let own = same_page_refl row.page in let rest = at_page
 at_changed : (row old : Row) (rows : List Row) → row_at row.page rows ≡ Some old → (q : GuestPage) → row_at q (change_row row.page (λ _. row) rows) ≡ (if same_page row.page q then Some row else row_at q rows)
 at_changed row old rows found q =
     elim (cases_Bool (same_page row.page q)) [
-      | inl same ↦ rw same (subst (λ (p : GuestPage). row_at p (change_row row.page (λ _. row) rows) ≡ Some row) (same_page_eq row.page q same) (at_page row rows ∙ ap (λ o. if is_some o then Some row else None) found))
-      | inr other ↦ rw other (at_others row q rows other)
+      | inl same ↦ rw same (subst (λ (p : GuestPage). row_at p (change_row row.page (λ _. row) rows) ≡ Some row) (same_page_eq _ q same) (at_page row _ ∙ ap (λ o. if is_some o then Some row else None) found))
+      | inr other ↦ rw other (at_others row q _ other)
     ]
 
 -- a choice of rows by page
 at_chosen : (by : GuestPage → Bool) (q : GuestPage) (rows : List Row) → row_at q (filter (λ r. by r.page) rows) ≡ (if by q then row_at q rows else None)
-at_chosen by q [] = cond_both (by q) None None (λ o. None ≡ o) (λ _. refl) (λ _. refl)
+at_chosen by q [] = cond_both _ _ _ (λ o. None ≡ o) (λ _. refl) (λ _. refl)
 at_chosen by q (r ∷ rs) =
     let rest = at_chosen by q rs in
-    let alike : same_page r.page q ≡ true → by r.page ≡ by q = λ same. ap by (same_page_eq r.page q same) in
+    let alike : same_page r.page q ≡ true → by r.page ≡ by q = λ same. ap by (same_page_eq _ q same) in
     elim (cases_Bool (same_page r.page q)) [
       | inl same ↦ let is = alike same in grind (arith, same, is, rest)
       | inr other ↦ grind (arith, other, rest)
@@ -40,7 +40,7 @@ at_chosen by q (r ∷ rs) =
 at_without : (page q : GuestPage) (rows : List Row) → row_at q (without_page page rows) ≡ (if same_page page q then None else row_at q rows)
 at_without page q rows =
     let back = same_page_sym q page in
-    at_chosen (λ p. not (same_page p page)) q rows ∙ grind (arith, back)
+    at_chosen _ q rows ∙ grind (arith, back)
 
 or_nothing : (o : Option Row) → option_or o None ≡ o
 or_nothing None = refl
@@ -49,9 +49,9 @@ or_nothing (Some r) = refl
 -- a row inserted is found at its page, and other pages as before
 pub at_inserted : (row : Row) (rows : List Row) (q : GuestPage) → row_at q (with_row row rows) ≡ (if same_page row.page q then Some row else row_at q rows)
 at_inserted row rows q =
-    let ahead = at_chosen (λ p. comes_before p row.page) q rows in
-    let behind = at_chosen (λ p. comes_before row.page p) q rows in
-    find-append (λ r. same_page r.page q) (filter (λ r. comes_before r.page row.page) rows) (row ∷ filter (λ r. comes_before row.page r.page) rows)
+    let ahead = at_chosen (λ p. comes_before p row.page) q _ in
+    let behind = at_chosen (λ p. comes_before row.page p) q _ in
+    find-append _ (filter (λ r. comes_before r.page row.page) rows) (row ∷ filter (λ r. comes_before row.page r.page) rows)
     ∙ (λ i. option_or (ahead i) (if same_page row.page q then Some row else behind i))
     ∙ (let nothing = or_nothing (row_at q rows) in grind (arith, nat_tests, nothing))
 
@@ -81,8 +81,8 @@ pub own_found : (knobs : Knobs) (rows : List Row) (w : List WaitingPage) (row : 
 own_found knobs rows w row found are =
     let t = tree_of knobs row in
     let tree : (t == t) ≡ true = eq-eqb t t refl in
-    let bytes : bytes_eq row.bytes row.bytes ≡ true = (bytes_eq-Decides row.bytes row.bytes).1 refl in
-    are t row.bytes row.page ∙ ap (waits_there knobs t row.bytes) found ∙ (λ i. waiting_state row.state && (tree i && bytes i)) ∙ and_true (waiting_state row.state)
+    let bytes : bytes_eq row.bytes row.bytes ≡ true = (bytes_eq-Decides _ row.bytes).1 refl in
+    are t row.bytes row.page ∙ ap (waits_there knobs t row.bytes) found ∙ (λ i. waiting_state row.state && (tree i && bytes i)) ∙ and_true _
   where
     and_true : (b : Bool) → (b && true) ≡ b
     and_true true = refl
@@ -91,11 +91,11 @@ own_found knobs rows w row found are =
 -- another row waits for a row where it is a waiting row of its tree and bytes
 waits_apart : (knobs : Knobs) (row r : Row) → waits_for knobs row r ≡ (waits_there knobs (tree_of knobs row) row.bytes (Some r) && not (same_page r.page row.page))
 waits_apart knobs row r =
-    let bytes = eq_bytes r.bytes row.bytes in
+    let bytes = eq_bytes _ row.bytes in
     let t = tree_of knobs row in
     let u = tree_of knobs r in
     let trees : (u == t) ≡ (t == u) = grind (arith, nat_tests) in
-    (λ i. waiting_state r.state && not (same_page r.page row.page) && trees i && bytes i) ∙ turned (waiting_state r.state) (same_page r.page row.page) (t == u) (bytes_eq row.bytes r.bytes)
+    (λ i. waiting_state r.state && not (same_page r.page row.page) && trees i && bytes i) ∙ turned _ _ _ (bytes_eq row.bytes r.bytes)
   where
     turned : (a s c d : Bool) → (a && not s && c && d) ≡ ((a && (c && d)) && not s)
     turned true true true true = refl
@@ -115,15 +115,15 @@ module _ (knobs : Knobs) (rows : List Row) (w : List WaitingPage) (row : Row) (r
   each_waits o is k d lt =
       let r = get_or rows k d in
       let there : waits_there knobs (tree_of knobs row) row.bytes (Some r) ≡ names r.page o =
-      ap (waits_there knobs (tree_of knobs row) row.bytes) (sym (each_at_page rows rise k d lt)) ∙ sym (are (tree_of knobs row) row.bytes r.page) ∙ ap (names r.page) is in
+      ap (waits_there knobs (tree_of knobs row) row.bytes) (sym (each_at_page _ rise k d lt)) ∙ sym (are (tree_of knobs row) row.bytes r.page) ∙ ap (names r.page) is in
       waits_apart knobs row r ∙ ap (λ t. t && not (same_page r.page row.page)) there
 
   -- a look-up of a row's tree and bytes finds its partner, but where it finds the row itself
   pub partner_found : partner knobs rows row ≡ option_and_then (λ page. if same_page page row.page then None else row_at page rows) looked_up
-  partner_found = go looked_up refl
+  partner_found = go _ refl
     where
       go : (o : Option GuestPage) → looked_up ≡ o → partner knobs rows row ≡ option_and_then (λ page. if same_page page row.page then None else row_at page rows) o
-      go None is = find_nothing (waits_for knobs row) rows (each_waits None is)
+      go None is = find_nothing _ _ (each_waits _ is)
       go (Some page) is =
           elim (cases_Bool (same_page page row.page)) [
             | inl own ↦ rw own (find_nothing (waits_for knobs row) rows (λ k d lt. each_waits (Some page) is k d lt ∙ elsewhere (get_or rows k d).page own))
@@ -172,7 +172,7 @@ module _ (knobs : Knobs) (rows : List Row) (w : List WaitingPage) (are : AreWait
     stopped_others t b q other =
         let waits = waits_there knobs t b (Some old) in
         ap (names q) (stopped t b) ∙ elim (cases_Bool waits) [
-          | inl gone ↦ rw gone (sym (only_one (waiting_page t b w) page q (named page (Some old) found t b ∙ gone) other))
+          | inl gone ↦ rw gone (sym (only_one _ _ q (named page (Some old) found t b ∙ gone) other))
           | inr never ↦ rw never refl
         ]
 
@@ -203,7 +203,7 @@ module _ (knobs : Knobs) (rows : List Row) (w : List WaitingPage) (are : AreWait
       nothing : (t : ℕ) (b : List ℕ) → is_content_of knobs row t b ≡ true → waiting_page t b w ≡ None
       nothing t b is =
           let tree : t ≡ tree_of knobs row = grind (arith, nat_tests, is) in
-          let bytes : b ≡ row.bytes = (bytes_eq-Decides b row.bytes).0 (grind (arith, is)) in
+          let bytes : b ≡ row.bytes = (bytes_eq-Decides b _).0 (grind (arith, is)) in
           (λ i. waiting_page (tree i) (bytes i) w) ∙ none
 
       others : (t : ℕ) (b : List ℕ) (q : GuestPage) → same_page row.page q ≡ false → names q (waiting_page t b new) ≡ names q (waiting_page t b w)
@@ -233,7 +233,7 @@ module _ (knobs : Knobs) (rows : List Row) (w : List WaitingPage) (are : AreWait
   -- where each row changes into one that waits alike, no waiting page changes
   pub rows_mapped : (f : Row → Row) → All (λ r. IsAlike r (f r)) rows → AreWaiting knobs (map f rows) w
   rows_mapped f alike t b q =
-      are t b q ∙ go (row_at q rows) refl ∙ ap (waits_there knobs t b) (sym (at_mapped f q rows (λ k d lt. (alike k d lt).0)))
+      are t b q ∙ go _ refl ∙ ap (waits_there knobs t b) (sym (at_mapped f q _ (λ k d lt. (alike k d lt).0)))
     where
       go : (o : Option Row) → row_at q rows ≡ o → waits_there knobs t b o ≡ waits_there knobs t b (option_map f o)
       go None found = refl
@@ -242,12 +242,12 @@ module _ (knobs : Knobs) (rows : List Row) (w : List WaitingPage) (are : AreWait
   -- where some rows change, each into one that waits alike, no waiting page changes
   pub rows_changed : (test : Row → Bool) (f : Row → Row) → All (λ r. test r ≡ true → IsAlike r (f r)) rows → AreWaiting knobs (change_rows test f rows) w
   rows_changed test f alike =
-      rows_mapped (λ r. if test r then f r else r)
-      (λ k d lt. let r = get_or rows k d in cond_both (test r) (f r) r (IsAlike r) (alike k d lt) (λ _. (refl, refl, refl, refl)))
+      rows_mapped _
+      (λ k d lt. let r = get_or rows k d in cond_both _ (f r) r (IsAlike r) (alike k d lt) (λ _. (refl, refl, refl, refl)))
 
   -- knobs with the same merge_across_nodes leave the waiting pages those of the rows
   pub knobs_tuned : (tuned : Knobs) → tuned.merge_across_nodes ≡ knobs.merge_across_nodes → AreWaiting tuned rows w
-  knobs_tuned tuned same t b q = are t b q ∙ go (row_at q rows)
+  knobs_tuned tuned same t b q = are t b q ∙ go _
     where
       go : (o : Option Row) → waits_there knobs t b o ≡ waits_there tuned t b o
       go None = refl
@@ -255,8 +255,8 @@ module _ (knobs : Knobs) (rows : List Row) (w : List WaitingPage) (are : AreWait
 
 -- where no row waits, no page does
 pub none_waiting : (knobs : Knobs) (rows : List Row) → All (λ r. waiting_state r.state ≡ false) rows → AreWaiting knobs rows []
-none_waiting knobs rows none t b q = go (row_at q rows) refl
+none_waiting knobs rows none t b q = go _ refl
   where
     go : (o : Option Row) → row_at q rows ≡ o → false ≡ waits_there knobs t b o
     go None found = refl
-    go (Some r) found = let still = find_all (λ s. same_page s.page q) (λ s. waiting_state s.state ≡ false) rows r found none in rw still refl
+    go (Some r) found = let still = find_all _ (λ s. waiting_state s.state ≡ false) _ r found none in rw still refl

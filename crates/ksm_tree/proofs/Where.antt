@@ -6,9 +6,9 @@ module _ {X : Type 0} (test : X → Bool) where
   where_above : (k : ℕ) (xs : List X) → All (λ p. k ≤ p) (places_where test k xs)
   where_above k [] = λ i d lt. absurd (omega arith)
   where_above k (y ∷ xs) =
-      let rest = All-weaker (λ p. suc k ≤ p) (λ p. k ≤ p) (λ p h. omega arith) (places_where test (suc k) xs) (where_above (suc k) xs) in
+      let rest = All-weaker (λ p. suc k ≤ p) (λ p. k ≤ p) (λ p h. omega arith) _ (where_above _ xs) in
       elim (test y) as (λ b. All (λ p. k ≤ p) (if b then k ∷ places_where test (suc k) xs else places_where test (suc k) xs)) [
-        | true ↦ All-cons (λ p. k ≤ p) k (places_where test (suc k) xs) (omega arith) rest
+        | true ↦ All-cons (λ p. k ≤ p) k _ (omega arith) rest
         | false ↦ rest
       ]
 
