@@ -75,11 +75,11 @@ module _ (rows : List Row) where
         found_alike _ _ _
         (All-weaker _ _ (best_alike _ counted) _ counted)
 
-  place_alike : (is_empty : Bool) (empty : ℕ) (d : Option Dup) (c : Choice) → chosen (if is_empty then Some empty else None) d ≡ Some c
+  place_alike : (is_empty : Bool) (empty : ℕ) (d : Option Dup) {c : Choice} → chosen (if is_empty then Some empty else None) d ≡ Some c
       → place_in c ≡ (if is_empty then empty else place_or empty (option_map (λ e. e.row) d))
-  place_alike true empty d c is = sym (ap place_in (same_Some _ c is))
-  place_alike false empty (Some d) c is = sym (ap place_in (same_Some _ c is))
-  place_alike false empty None c is = cc
+  place_alike true empty d {c} is = sym (ap place_in (same_Some _ c is))
+  place_alike false empty (Some d) {c} is = sym (ap place_in (same_Some _ c is))
+  place_alike false empty None is = cc
 
   choice_there : (is_empty : Bool) (empty places : ℕ) (d : Option Dup) → nat_lt empty places ≡ is_empty
       → (if is_empty then empty else place_or empty (option_map (λ e. e.row) d)) < places → is_some (chosen (if is_empty then Some empty else None) d) ≡ true
@@ -98,7 +98,7 @@ module _ (rows : List Row) where
   pub choice_alike : (s : DupsState) (c : Choice) → AreCounted rows s.dups → choice_of s ≡ Some c → place_in c ≡ new_place s.places rows (rows_of s.dups)
   choice_alike s c counted is =
       let empty = empty_from 0 (rows_of s.dups) in
-      place_alike _ _ _ c is ∙ new_alike s counted
+      place_alike _ _ _ is ∙ new_alike s counted
 
   -- where the book's definition gives a place of the table, one is chosen
   pub choice_exists : (s : DupsState) → AreCounted rows s.dups → new_place s.places rows (rows_of s.dups) < s.places → is_some (choice_of s) ≡ true

@@ -43,9 +43,9 @@ pub row_found : (test : Dup → Bool) (by : DupRow → Bool) → ((d : Dup) → 
 row_found test by same dups = sym (find_mapped _ by test dups (λ k d lt. sym (same (get_or dups k d))))
 
 -- the row of a number that has a place
-row_there : (p : ℕ) (r : Option DupRow) → option_map (λ s. s.place) r ≡ Some p → (e : DupRow) × (r ≡ Some e) × (e.place ≡ p)
-row_there p None is = absurd (none-some p is)
-row_there p (Some e) is = (e, refl, same_Some _ p is)
+row_there : {p : ℕ} (r : Option DupRow) → option_map (λ s. s.place) r ≡ Some p → (e : DupRow) × (r ≡ Some e) × (e.place ≡ p)
+row_there {p} None is = absurd (none-some p is)
+row_there {p} (Some e) is = (e, refl, same_Some _ p is)
 
 -- two tests that agree on each dup change one dup
 agree_changed : (test by : Dup → Bool) (f : List GuestPage → List GuestPage) (dups : List Dup) → All (λ d. test d ≡ by d) dups → map {B = Dup} (λ d. if test d then record d { items = f d.items } else d) dups ≡ map (λ d. if by d then record d { items = f d.items } else d) dups
@@ -59,20 +59,20 @@ all_rows P [] each = λ k d lt. absurd (omega arith)
 all_rows P (e ∷ dups) each = All-cons (λ d. P d.row) e dups (All-head P e.row (rows_of dups) each) (all_rows P dups (All-tail P e.row (rows_of dups) each))
 
 -- number and place tell one dup
-one_dup : (q p : ℕ) (dups : List Dup) → InPlaceOrder (rows_of dups) → row_place q (rows_of dups) ≡ Some p → All (λ d. has_number q d ≡ stands_at p d) dups
-one_dup q p dups rise is =
-    let there = row_there p (find (λ r. r.number == q) (rows_of dups)) is in
-    let only = only_number q (rows_of dups) there.0 rise there.1 in
+one_dup : (q : ℕ) {p : ℕ} (dups : List Dup) → InPlaceOrder (rows_of dups) → row_place q (rows_of dups) ≡ Some p → All (λ d. has_number q d ≡ stands_at p d) dups
+one_dup q {p} dups rise is =
+    let there = row_there (find (λ r. r.number == q) (rows_of dups)) is in
+    let only = only_number q (rows_of dups) rise there.1 in
     all_rows (λ r. (r.number == q) ≡ (r.place == p)) dups (λ k d lt. only k d lt ∙ ap (λ n. (get_or (rows_of dups) k d).place == n) there.2)
 
 -- a dup found by its number is the one at its place
-pub number_place_found : (q p : ℕ) (dups : List Dup) → InPlaceOrder (rows_of dups) → row_place q (rows_of dups) ≡ Some p → dup_of q dups ≡ dup_at p dups
-number_place_found q p dups rise is = find_alike (has_number q) (stands_at p) dups (one_dup q p dups rise is)
+pub number_place_found : (q : ℕ) {p : ℕ} (dups : List Dup) → InPlaceOrder (rows_of dups) → row_place q (rows_of dups) ≡ Some p → dup_of q dups ≡ dup_at p dups
+number_place_found q {p} dups rise is = find_alike (has_number q) (stands_at p) dups (one_dup q dups rise is)
 
 -- items changed by a dup's number are those at its place
-pub number_place_changed : (q p : ℕ) (f : List GuestPage → List GuestPage) (dups : List Dup) → InPlaceOrder (rows_of dups) → row_place q (rows_of dups) ≡ Some p → change_items q f dups ≡ change_at p f dups
-number_place_changed q p f dups rise is = agree_changed (has_number q) (stands_at p) f dups (one_dup q p dups rise is)
+pub number_place_changed : (q : ℕ) {p : ℕ} (f : List GuestPage → List GuestPage) (dups : List Dup) → InPlaceOrder (rows_of dups) → row_place q (rows_of dups) ≡ Some p → change_items q f dups ≡ change_at p f dups
+number_place_changed q {p} f dups rise is = agree_changed (has_number q) (stands_at p) f dups (one_dup q dups rise is)
 
 -- to change the items of a number that no dup has changes nothing
-pub unchanged_items : (q : ℕ) (f : List GuestPage → List GuestPage) (dups : List Dup) → dup_of q dups ≡ None → dups ≡ change_items q f dups
-unchanged_items q f dups is = sym (change_none (has_number q) (λ d. record d { items = f d.items }) dups (find_none (has_number q) dups is))
+pub unchanged_items : (q : ℕ) (f : List GuestPage → List GuestPage) {dups : List Dup} → dup_of q dups ≡ None → dups ≡ change_items q f dups
+unchanged_items q f {dups} is = sym (change_none (has_number q) (λ d. record d { items = f d.items }) dups (find_none (has_number q) dups is))

@@ -11,8 +11,8 @@ pub record IsMore (r : DupRow) (less more : List DupRow) : Type 0 where
   pub counts : (p : DupRow → Bool) → count_by p more ≡ (if p r then 1 else 0) + count_by p less
   pub all : (p : DupRow → Bool) → list_all p more ≡ (p r && list_all p less)
 
-more_between : (r : DupRow) (xs ys : List DupRow) → IsMore r (xs ++ ys) (xs ++ r ∷ ys)
-more_between r xs ys = record {
+more_between : {r : DupRow} (xs ys : List DupRow) → IsMore r (xs ++ ys) (xs ++ r ∷ ys)
+more_between {r} xs ys = record {
   counts = λ p. (let first = count-append p xs (r ∷ ys) in
       let second = count-append p xs ys in
       let more = count_more p r ys in
@@ -23,9 +23,9 @@ more_between r xs ys = record {
 }
 
 -- a new row is one row more than those at other places
-pub more_with : (r : DupRow) (rows : List DupRow) → InPlaceOrder rows → IsMore r (filter (λ e. not (e.place == r.place)) rows) (with_dup r rows)
-more_with r rows rise =
-    rw (rows_parted r.place rows rise) (more_between r _ _)
+pub more_with : {r : DupRow} (rows : List DupRow) → InPlaceOrder rows → IsMore r (filter (λ e. not (e.place == r.place)) rows) (with_dup r rows)
+more_with {r} rows rise =
+    rw (rows_parted r.place rows rise) (more_between _ _)
 
 -- the row at a place is one row more than those at other places
 pub more_there : (p : ℕ) (rows : List DupRow) (e : DupRow) → InPlaceOrder rows → find (λ r. r.place == p) rows ≡ Some e → IsMore e (filter (λ r. not (r.place == p)) rows) rows
@@ -165,7 +165,7 @@ module _ (t : ℕ) (b : List ℕ) where
       grind (arith, nat_tests, parts, own, all, one)
 
   -- another group's row changes nothing of what the others make
-  module _ (r : DupRow) (less more : List DupRow) (h : IsMore r less more) (inside : of_it r ≡ true) where
+  module _ {r : DupRow} {less more : List DupRow} (h : IsMore r less more) (inside : of_it r ≡ true) where
     same_size : (d : DupRow) → of_it d ≡ false → group_size more d ≡ group_size less d
     same_size d outside = let one = h.counts (same_group d) in let apart = group_apart d r outside inside in grind (arith, one, apart)
 
@@ -208,8 +208,8 @@ rows_fit k p (r ∷ rows) least above below rise =
     omega (arith, rest, here)
 
 -- there are at most as many chains as frames, and as many dups in them
-pub totals_few : (p : ℕ) (rows : List DupRow) (totals : Totals) → p ≤ MOST_FRAMES → All (λ r. r.place < p) rows → InPlaceOrder rows → AreTotals rows totals → (totals.chains ≤ MOST_FRAMES) × (totals.dups ≤ MOST_FRAMES)
-totals_few p rows totals few below rise are =
+pub totals_few : (p : ℕ) {rows : List DupRow} {totals : Totals} → p ≤ MOST_FRAMES → All (λ r. r.place < p) rows → InPlaceOrder rows → AreTotals rows totals → (totals.chains ≤ MOST_FRAMES) × (totals.dups ≤ MOST_FRAMES)
+totals_few p {rows} few below rise are =
     let fit = rows_fit 0 p rows (omega arith) (λ k d lt. omega arith) below rise in
     let dups = count_by-le-length (in_chain rows) rows in
     let chains = count_by-le-length (λ d. in_chain rows d && leads_group rows d) rows in
@@ -218,12 +218,12 @@ totals_few p rows totals few below rise are =
     (omega (arith, first, chains, fit, few), omega (arith, second, dups, fit, few))
 
 -- the totals have room for each group as it is
-pub totals_tell : (t : ℕ) (b : List ℕ) (p : ℕ) (rows : List DupRow) (totals : Totals) → p ≤ MOST_FRAMES → All (λ r. r.place < p) rows → InPlaceOrder rows → AreTotals rows totals → Tells (length (group_places t b rows)) totals
-totals_tell t b p rows totals few below rise are =
+pub totals_tell : (t : ℕ) (b : List ℕ) (p : ℕ) {rows : List DupRow} {totals : Totals} → p ≤ MOST_FRAMES → All (λ r. r.place < p) rows → InPlaceOrder rows → AreTotals rows totals → Tells (length (group_places t b rows)) totals
+totals_tell t b p {rows} {totals} few below rise are =
     let n = places_size t b rows in
     let dups = dups_parted t b rows in
     let chains = chains_parted t b rows rise in
-    let small = totals_few p rows totals few below rise are in
+    let small = totals_few p few below rise are in
     let first = are.chains in
     let second = are.dups in
     record {
@@ -234,9 +234,9 @@ totals_tell t b p rows totals few below rise are =
     }
 
 -- the totals are right once one group alone has changed
-pub totals_moved : (t : ℕ) (b : List ℕ) (rows new : List DupRow) (old_totals new_totals : Totals) → InPlaceOrder rows → InPlaceOrder new → dups_apart t b new ≡ dups_apart t b rows → chains_apart t b new ≡ chains_apart t b rows
+pub totals_moved : (t : ℕ) (b : List ℕ) {rows new : List DupRow} {old_totals new_totals : Totals} → InPlaceOrder rows → InPlaceOrder new → dups_apart t b new ≡ dups_apart t b rows → chains_apart t b new ≡ chains_apart t b rows
     → IsRegrouped (length (group_places t b rows)) (length (group_places t b new)) old_totals new_totals → AreTotals rows old_totals → AreTotals new new_totals
-totals_moved t b rows new old_totals new_totals rise new_rise dups chains regrouped are =
+totals_moved t b {rows} {new} {old_totals} {new_totals} rise new_rise dups chains regrouped are =
     let r : IsRegrouped (size t b rows) (size t b new) old_totals new_totals = rw (← places_size t b rows, ← places_size t b new) regrouped in
     let d_old = dups_parted t b rows in
     let d_new = dups_parted t b new in
@@ -248,30 +248,30 @@ totals_moved t b rows new old_totals new_totals rise new_rise dups chains regrou
     }
 
 -- twice in one group
-regrouped_twice : (a b c : ℕ) (t u v : Totals) → IsRegrouped a b t u → IsRegrouped b c u v → IsRegrouped a c t v
-regrouped_twice a b c t u v first second = record {
+regrouped_twice : {a b c : ℕ} {t u v : Totals} → IsRegrouped a b t u → IsRegrouped b c u v → IsRegrouped a c t v
+regrouped_twice first second = record {
   chains = omega (arith, first.chains, second.chains);
   dups = omega (arith, first.dups, second.dups);
 }
 
 -- a row in the stead of another: first the one comes, then the other goes
-module _ (old r : DupRow) (less rows new : List DupRow) (there : IsMore old less rows) (here : IsMore r less new)
+module _ {old r : DupRow} {less rows new : List DupRow} (there : IsMore old less rows) (here : IsMore r less new)
     (rise : InPlaceOrder rows) (less_rise : InPlaceOrder less) (new_rise : InPlaceOrder new) where
   -- the totals are right once a dup of the same group stands in the stead of one that goes
-  pub totals_same : (t u v : Totals) (n : ℕ) → in_group r.tree r.bytes old ≡ true
+  pub totals_same : {t u v : Totals} {n : ℕ} → in_group r.tree r.bytes old ≡ true
       → IsRegrouped (length (group_places r.tree r.bytes rows)) n t u → IsRegrouped n (length (group_places r.tree r.bytes new)) u v → AreTotals rows t → AreTotals new v
-  totals_same t u v n same first second are =
+  totals_same {t} {u} {v} {n} same first second are =
       let own = self_group r in
-      totals_moved r.tree r.bytes rows new t v rise new_rise
-      (dups_kept r.tree r.bytes r less new here own ∙ sym (dups_kept r.tree r.bytes old less rows there same))
-      (chains_kept r.tree r.bytes r less new here own ∙ sym (chains_kept r.tree r.bytes old less rows there same))
-      (regrouped_twice _ n _ t u v first second) are
+      totals_moved r.tree r.bytes rise new_rise
+      (dups_kept r.tree r.bytes here own ∙ sym (dups_kept r.tree r.bytes there same))
+      (chains_kept r.tree r.bytes here own ∙ sym (chains_kept r.tree r.bytes there same))
+      (regrouped_twice first second) are
 
   -- the totals are right once a dup of another group stands in the stead of one that goes
-  pub totals_apart : (t u v : Totals) → in_group r.tree r.bytes old ≡ false
+  pub totals_apart : {t : Totals} (u : Totals) {v : Totals} → in_group r.tree r.bytes old ≡ false
       → IsRegrouped (length (group_places r.tree r.bytes rows)) (length (group_places r.tree r.bytes new)) t u
       → IsRegrouped (length (group_places old.tree old.bytes rows)) (length (group_places old.tree old.bytes new)) u v → AreTotals rows t → AreTotals new v
-  totals_apart t u v other first second are =
+  totals_apart {t} u {v} other first second are =
       let also : in_group old.tree old.bytes r ≡ false = sym (own_group r.tree r.bytes old) ∙ other in
       let from : IsRegrouped (size r.tree r.bytes rows) (size r.tree r.bytes new) t u = rw (← places_size r.tree r.bytes rows, ← places_size r.tree r.bytes new) first in
       let to : IsRegrouped (size old.tree old.bytes rows) (size old.tree old.bytes new) u v = rw (← places_size old.tree old.bytes rows, ← places_size old.tree old.bytes new) second in
@@ -281,14 +281,14 @@ module _ (old r : DupRow) (less rows new : List DupRow) (there : IsMore old less
       let d2 = dups_parted old.tree old.bytes less in
       let d3 = dups_parted r.tree r.bytes less in
       let d4 = dups_parted r.tree r.bytes new in
-      let dk = dups_kept old.tree old.bytes old less rows there (self_group old) in
-      let dm = dups_kept r.tree r.bytes r less new here (self_group r) in
+      let dk = dups_kept old.tree old.bytes there (self_group old) in
+      let dm = dups_kept r.tree r.bytes here (self_group r) in
       let c1 = chains_parted old.tree old.bytes rows rise in
       let c2 = chains_parted old.tree old.bytes less less_rise in
       let c3 = chains_parted r.tree r.bytes less less_rise in
       let c4 = chains_parted r.tree r.bytes new new_rise in
-      let ck = chains_kept old.tree old.bytes old less rows there (self_group old) in
-      let cm = chains_kept r.tree r.bytes r less new here (self_group r) in
+      let ck = chains_kept old.tree old.bytes there (self_group old) in
+      let cm = chains_kept r.tree r.bytes here (self_group r) in
       let same_d1 = ap chained_of one in
       let same_d2 = ap chained_of two in
       let same_c1 = ap chains_of one in
@@ -299,8 +299,8 @@ module _ (old r : DupRow) (less rows new : List DupRow) (there : IsMore old less
       }
 
   -- after a dup came and before another went, the totals tell of a group of any size that they told of
-  pub totals_between : (t u : Totals) → IsRegrouped (length (group_places r.tree r.bytes rows)) (length (group_places r.tree r.bytes new)) t u → (n : ℕ) → t.chains ≤ MOST_FRAMES → t.dups ≤ MOST_FRAMES → Tells n t → Tells n u
-  totals_between t u first n few small tells =
+  pub totals_between : {t u : Totals} → IsRegrouped (length (group_places r.tree r.bytes rows)) (length (group_places r.tree r.bytes new)) t u → (n : ℕ) → t.chains ≤ MOST_FRAMES → t.dups ≤ MOST_FRAMES → Tells n t → Tells n u
+  totals_between {t} {u} first n few small tells =
       let from : IsRegrouped (size r.tree r.bytes rows) (size r.tree r.bytes new) t u = rw (← places_size r.tree r.bytes rows, ← places_size r.tree r.bytes new) first in
       let one = there.counts (in_group r.tree r.bytes) in
       let two = here.counts (in_group r.tree r.bytes) in

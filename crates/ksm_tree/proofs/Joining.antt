@@ -160,25 +160,25 @@ or_else acc None = acc
 or_else acc (Some d) = Some d
 
 -- a dup with room that has as many items as the best so far, or more, is the better of the two, but where it is no more and the number is greater
-better_is : (limit : ℕ) (acc : Option Dup) (d : Dup) (least : ℕ) → least ≡ least_of acc → 1 ≤ least → least ≤ length d.items → length d.items < limit
+better_is : (limit : ℕ) (acc : Option Dup) (d : Dup) {least : ℕ} → least ≡ least_of acc → 1 ≤ least → least ≤ length d.items → length d.items < limit
     → joined limit acc (Some d) ≡ or_else acc (unless_behind (if length d.items == least then acc else None) (Some d))
-better_is limit None d least is one above below = grind (arith, nat_tests, is, one, above, below)
-better_is limit (Some best) d least is one above below = grind (arith, nat_tests, is, one, above, below)
+better_is limit None d is one above below = grind (arith, nat_tests, is, one, above, below)
+better_is limit (Some best) d is one above below = grind (arith, nat_tests, is, one, above, below)
 
 -- the dup at a place is taken where it is the better one
-pub stepped_to : (t : ℕ) (b : List ℕ) (limit : ℕ) (acc slot : Option Dup) (items least : ℕ) → items ≡ length (items_in slot) → least ≡ least_of acc → 1 ≤ least → least ≤ items → items < limit
+pub stepped_to : (t : ℕ) (b : List ℕ) (limit : ℕ) (acc slot : Option Dup) {items least : ℕ} → items ≡ length (items_in slot) → least ≡ least_of acc → 1 ≤ least → least ≤ items → items < limit
     → joined limit acc (of_group t b slot) ≡ or_else acc (unless_behind (if items == least then acc else None) (of_group t b slot))
-stepped_to t b limit acc None items least has is one above below = refl
-stepped_to t b limit acc (Some d) items least has is one above below =
+stepped_to t b limit acc None has is one above below = refl
+stepped_to t b limit acc (Some d) has is one above below =
     elim (cases_Bool (in_group t b d.row)) [
-      | inl inside ↦ rw (inside, has) (better_is _ acc d _ is one (rw (← has) above) (rw (← has) below))
+      | inl inside ↦ rw (inside, has) (better_is _ acc d is one (rw (← has) above) (rw (← has) below))
       | inr outside ↦ rw outside refl
     ]
 
 -- a dup taken from a slot is the dup in that slot
-pub taken_so : (t : ℕ) (b : List ℕ) (rival slot : Option Dup) (d : Dup) → Some d ≡ unless_behind rival (of_group t b slot) → Some d ≡ slot
-taken_so t b rival None d is = is
-taken_so t b rival (Some e) d is =
+pub taken_so : (t : ℕ) (b : List ℕ) (rival slot : Option Dup) {d : Dup} → Some d ≡ unless_behind rival (of_group t b slot) → Some d ≡ slot
+taken_so t b rival None is = is
+taken_so t b rival (Some e) {d} is =
     elim (cases_Bool (in_group t b e.row)) [
       | inl inside ↦ elim (cases_Bool (is_behind e rival)) [
         | inl behind ↦ absurd (none-some d (sym (is ∙ (grind (arith, inside, behind)))))
@@ -194,9 +194,9 @@ stepped t b limit dups acc next places i within is =
     ap (λ best. folded t b limit dups best (drop (i + 1) places)) (sym is) ∙ ap (folded t b limit dups acc) (sym rest)
 
 -- a slot that cannot be joined leaves the best as it is
-pub passed_over_so : (t : ℕ) (b : List ℕ) (limit : ℕ) (acc slot : Option Dup) → joined limit acc slot ≡ acc → joined limit acc (of_group t b slot) ≡ acc
-passed_over_so t b limit acc None over = refl
-passed_over_so t b limit acc (Some d) over =
+pub passed_over_so : (t : ℕ) (b : List ℕ) (limit : ℕ) {acc : Option Dup} (slot : Option Dup) → joined limit acc slot ≡ acc → joined limit acc (of_group t b slot) ≡ acc
+passed_over_so t b limit None over = refl
+passed_over_so t b limit (Some d) over =
     elim (cases_Bool (in_group t b d.row)) [
       | inl inside ↦ rw inside over
       | inr outside ↦ rw outside refl
@@ -291,12 +291,12 @@ none_folded : (t : ℕ) (b : List ℕ) (limit : ℕ) (dups : List Dup) (places :
 none_folded t b limit dups [] closed = refl
 none_folded t b limit dups (p ∷ places) closed =
     let here = not_joined limit (dup_at p dups) (closed 0 0 (omega arith)) in
-    ap (λ acc. folded t b limit dups acc places) (passed_over_so t b limit None (dup_at p dups) here)
+    ap (λ acc. folded t b limit dups acc places) (passed_over_so t b limit (dup_at p dups) here)
     ∙ none_folded t b limit dups places (All-tail (λ q. is_open limit (length (items_in (dup_at q dups))) ≡ false) p places closed)
 
 -- where none of the dups at the places of a tree and bytes is open, none is best
-pub closed_best : (t : ℕ) (b : List ℕ) (limit : ℕ) (dups : List Dup) (places : List ℕ) → InPlaceOrder (rows_of dups) → places ≡ group_places t b (rows_of dups) → All (λ p. is_open limit (length (items_in (dup_at p dups))) ≡ false) places → best_of t b limit dups ≡ None
-closed_best t b limit dups places rise group closed =
+pub closed_best : (t : ℕ) (b : List ℕ) (limit : ℕ) (dups : List Dup) {places : List ℕ} → InPlaceOrder (rows_of dups) → places ≡ group_places t b (rows_of dups) → All (λ p. is_open limit (length (items_in (dup_at p dups))) ≡ false) places → best_of t b limit dups ≡ None
+closed_best t b limit dups {places} rise group closed =
     sym (folded_best t b limit dups places true rise group) ∙ none_folded t b limit dups places closed
 
 -- where a tree and bytes have no place, no dup of theirs is best

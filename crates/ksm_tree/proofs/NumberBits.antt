@@ -14,8 +14,8 @@ module _ (words : List ℕ) where
       ap (λ v. bit_at (get_or words v 0) (n % 64) == 1) at
 
   -- the lowest bit set in a word, from that of a number on, is of the least number from there on
-  found_in_word : (w r low high bit : ℕ) → r < 64 → low ≡ w * 64 + r → IsLowestBit (get_or words w 0) r bit → w * 64 + bit < high → IsLeast words low high (w * 64 + bit)
-  found_in_word w r low high bit small is found below =
+  found_in_word : (w : ℕ) {r low high bit : ℕ} → r < 64 → low ≡ w * 64 + r → IsLowestBit (get_or words w 0) r bit → w * 64 + bit < high → IsLeast words low high (w * 64 + bit)
+  found_in_word w {bit} small is found below =
       let at : (w * 64 + bit) % 64 ≡ bit = omega (arith, found.high_is) in
       record {
         low_is = omega (arith, is, found.low_is);
@@ -39,8 +39,8 @@ module _ (words : List ℕ) where
   ]
 
   -- the least number from one on is the least from a lower one on, where none is in between
-  least_further : (low middle high n : ℕ) → low ≤ middle → HasNone words low middle → IsLeast words middle high n → IsLeast words low high n
-  least_further low middle high n onward before found = record {
+  least_further : {low middle high n : ℕ} → low ≤ middle → HasNone words low middle → IsLeast words middle high n → IsLeast words low high n
+  least_further {low} {n} onward before found = record {
     low_is = omega (arith, onward, found.low_is);
     high_is = found.high_is;
     there = found.there;
@@ -48,19 +48,19 @@ module _ (words : List ℕ) where
   }
 
   -- what the words behind one answer holds from a number of that word on, where the word has no bit from there on
-  pub further : (from w : ℕ) → w ≡ from / 64 → HasNoBit (get_or words w 0) (from % 64) → (found : Option ℕ)
+  pub further : (from : ℕ) {w : ℕ} → w ≡ from / 64 → HasNoBit (get_or words w 0) (from % 64) → (found : Option ℕ)
       → MatchOption found (HasNone words ((w + 1) * 64) (64 * length words)) (IsLeast words ((w + 1) * 64) (64 * length words))
       → MatchOption found (HasNone words from (64 * length words)) (IsLeast words from (64 * length words))
-  further from w at none found h = of found h where
+  further from {w} at none found h = of found h where
     before : HasNone words from ((w + 1) * 64)
     before n low below = in_word w n (omega (arith, at, low)) below ∙ ap (λ b. b == 1) (none (n % 64) (omega (arith, at, low, below)) (omega arith))
 
     of : (found : Option ℕ) → MatchOption found (HasNone words ((w + 1) * 64) (64 * length words)) (IsLeast words ((w + 1) * 64) (64 * length words))
         → MatchOption found (HasNone words from (64 * length words)) (IsLeast words from (64 * length words))
     of None h = none_further _ _ _ before h
-    of (Some n) h = least_further _ _ _ n (omega (arith, at)) before h
+    of (Some n) h = least_further (omega (arith, at)) before h
 
-  module _ (upper : List ℕ) (h : IsSummed words upper) where
+  module _ {upper : List ℕ} (h : IsSummed words upper) where
     -- a word whose number is not in the upper set is 0
     word_clear : (w : ℕ) → w < 64 * length upper → has upper w ≡ false → get_or words w 0 ≡ 0
     word_clear w low clear =
@@ -78,20 +78,20 @@ module _ (words : List ℕ) where
     ]
 
     -- the least number of the upper set behind a word's is that of the word of the least number behind that word
-    pub found_behind : (at next bit : ℕ) → IsLeast upper (at + 1) (64 * length upper) next → IsLowestBit (get_or words next 0) 0 bit → IsLeast words ((at + 1) * 64) (64 * length words) (next * 64 + bit)
-    found_behind at next bit named found =
+    pub found_behind : (at : ℕ) {next bit : ℕ} → IsLeast upper (at + 1) (64 * length upper) next → IsLowestBit (get_or words next 0) 0 bit → IsLeast words ((at + 1) * 64) (64 * length words) (next * 64 + bit)
+    found_behind at {bit} named found =
         let within = word_within _ (word_set _ named.high_is named.there) in
         let none = none_in_zeros _ _ (λ w from below. word_clear w (omega (arith, below, named.high_is)) (named.least w from below)) in
-        let least = found_in_word _ 0 _ _ bit (omega arith) (omega arith) found (omega (arith, within, found.high_is)) in
-        least_further _ _ _ _ (omega (arith, named.low_is)) none least
+        let least = found_in_word _ (omega arith) (omega arith) found (omega (arith, within, found.high_is)) in
+        least_further (omega (arith, named.low_is)) none least
 
     -- the least number of the upper set from one on is that of a word that is there
-    pub within_named : (low next : ℕ) → IsLeast upper low (64 * length upper) next → next < length words
-    within_named low next named = word_within _ (word_set _ named.high_is named.there)
+    pub within_named : {low next : ℕ} → IsLeast upper low (64 * length upper) next → next < length words
+    within_named named = word_within _ (word_set _ named.high_is named.there)
 
     -- the upper set is right once a word is put, if it says of that whether it is 0, and of the others what it did
-    pub summed_put : (w word : ℕ) (upper' : List ℕ) (there : Bool) → w < length words → there ≡ not (word == 0) → Marks upper upper' w there → IsSummed (set words w word) upper'
-    summed_put w word upper' there within here marks = record {
+    pub summed_put : {w : ℕ} (word : ℕ) {upper' : List ℕ} {there : Bool} → w < length words → there ≡ not (word == 0) → Marks upper upper' w there → IsSummed (set words w word) upper'
+    summed_put {w} word {upper'} within here marks = record {
       room = omega (arith, h.room, marks.room, length-set words w word);
       named = λ v low. elim (cases_eq v w) [
         | inl same ↦ ap (has upper') same ∙ marks.here ∙ here
@@ -102,16 +102,16 @@ module _ (words : List ℕ) where
     }
 
     -- the upper set is right once a bit is set in a word, and that word's number is in it
-    pub summed_more : (w i : ℕ) (upper' : List ℕ) → w < length words → i < 64 → Marks upper upper' w true → IsSummed (set words w (bit_or (get_or words w 0) (1 * 2 ^ i % 18446744073709551616))) upper'
-    summed_more w i upper' within small marks =
+    pub summed_more : {w : ℕ} (i : ℕ) {upper' : List ℕ} → w < length words → i < 64 → Marks upper upper' w true → IsSummed (set words w (bit_or (get_or words w 0) (1 * 2 ^ i % 18446744073709551616))) upper'
+    summed_more {w} i within small marks =
         let word : ℕ = bit_or (get_or words w 0) (1 * 2 ^ i % 18446744073709551616) in
         let some : not (word == 0) ≡ true = ap not (ne_eqb _ 0 (some_bit _ i (bit_at_set_same w64 _ i small))) in
-        summed_put w _ _ _ within (sym some) marks
+        summed_put _ within (sym some) marks
 
     -- the upper set is right once a word is 0, and its number is not in it any more
-    pub summed_less : (w word : ℕ) (upper' : List ℕ) → w < length words → word ≡ 0 → Marks upper upper' w false → IsSummed (set words w word) upper'
-    summed_less w word upper' within zero marks =
-        summed_put w _ _ _ within (sym (ap (λ x. not (x == 0)) zero)) marks
+    pub summed_less : {w : ℕ} (word : ℕ) {upper' : List ℕ} → w < length words → word ≡ 0 → Marks upper upper' w false → IsSummed (set words w word) upper'
+    summed_less {w} word within zero marks =
+        summed_put _ within (sym (ap (λ x. not (x == 0)) zero)) marks
 
     -- the upper set is right where a word is put that is not 0, as the word before it
     pub summed_some : (w word : ℕ) → w < length words → word ≢ 0 → get_or words w 0 ≢ 0 → IsSummed (set words w word) upper
@@ -124,21 +124,21 @@ module _ (words : List ℕ) where
       ];
     }
 
-module _ (most : ℕ) (words upper : List ℕ) (h : AreSummed most words upper) where
+module _ {most : ℕ} {words upper : List ℕ} (h : AreSummed most words upper) where
   -- the sets stay right once a bit is set in a word, and that word's number is in the upper one
-  pub stay_more : (w i : ℕ) (upper' : List ℕ) → w < length words → i < 64 → 1 < most → Marks upper upper' w true → AreSummed most (set words w (bit_or (get_or words w 0) (1 * 2 ^ i % 18446744073709551616))) upper'
-  stay_more w i upper' within small many marks = record {
+  pub stay_more : {w : ℕ} (i : ℕ) {upper' : List ℕ} → w < length words → i < 64 → 1 < most → Marks upper upper' w true → AreSummed most (set words w (bit_or (get_or words w 0) (1 * 2 ^ i % 18446744073709551616))) upper'
+  stay_more {w} i {upper'} within small many marks = record {
     fits = omega (arith, h.fits, length-set words w (bit_or (get_or words w 0) (1 * 2 ^ i % 18446744073709551616)));
     few = omega (arith, h.few, length-set words w (bit_or (get_or words w 0) (1 * 2 ^ i % 18446744073709551616)));
-    summed = λ _. summed_more words upper (h.summed many) w i upper' within small marks;
+    summed = λ _. summed_more words (h.summed many) i within small marks;
   }
 
   -- they stay right once a word is 0, and its number is not in the upper one any more
-  pub stay_less : (w word : ℕ) (upper' : List ℕ) → w < length words → word ≡ 0 → 1 < most → Marks upper upper' w false → AreSummed most (set words w word) upper'
-  stay_less w word upper' within zero many marks = record {
+  pub stay_less : {w : ℕ} (word : ℕ) {upper' : List ℕ} → w < length words → word ≡ 0 → 1 < most → Marks upper upper' w false → AreSummed most (set words w word) upper'
+  stay_less {w} word {upper'} within zero many marks = record {
     fits = omega (arith, h.fits, length-set words w word);
     few = omega (arith, h.few, length-set words w word);
-    summed = λ _. summed_less words upper (h.summed many) w word upper' within zero marks;
+    summed = λ _. summed_less words (h.summed many) word within zero marks;
   }
 
   -- they stay right whatever a word is put to, where there may be one alone
@@ -154,7 +154,7 @@ module _ (most : ℕ) (words upper : List ℕ) (h : AreSummed most words upper) 
   stay_some w word within some before = record {
     fits = omega (arith, h.fits, length-set words w word);
     few = omega (arith, h.few, length-set words w word);
-    summed = λ two. summed_some words upper (h.summed two) w word within some before;
+    summed = λ two. summed_some words (h.summed two) w word within some before;
   }
 
 -- words with all bits have all numbers for which there is room
@@ -178,8 +178,8 @@ pub alone_behind : (most at : ℕ) (words : List ℕ) → most ≤ 1 → length 
 alone_behind most at words one few within n from below = absurd (omega (arith, one, few, within, from, below))
 
 -- a word that has a number's bit as it is to be, and keeps its other bits, marks that number
-marks_put : (words : List ℕ) (number word bit : ℕ) → number < 64 * length words → bit_at word (number % 64) ≡ bit → ((i : ℕ) → i < 64 → i ≢ number % 64 → bit_at word i ≡ bit_at (get_or words (number / 64) 0) i) → Marks words (set words (number / 64) word) number (bit == 1)
-marks_put words number word bit room here others =
+marks_put : {words : List ℕ} {number : ℕ} (word bit : ℕ) → number < 64 * length words → bit_at word (number % 64) ≡ bit → ((i : ℕ) → i < 64 → i ≢ number % 64 → bit_at word i ≡ bit_at (get_or words (number / 64) 0) i) → Marks words (set words (number / 64) word) number (bit == 1)
+marks_put {words} {number} word bit room here others =
     let at : number / 64 < length words = omega (arith, room) in
     record {
       room = length-set words (number / 64) word;
@@ -197,13 +197,13 @@ module _ (words : List ℕ) (number : ℕ) (room : number < 64 * length words) w
   -- a number's bit that is set marks it as there
   pub marks_more : Marks words (set words (number / 64) (bit_or (get_or words (number / 64) 0) (1 * 2 ^ (number % 64) % 18446744073709551616))) number true
   marks_more =
-      marks_put _ _ _ 1 room (bit_at_set_same w64 _ _ (omega arith))
+      marks_put _ 1 room (bit_at_set_same w64 _ _ (omega arith))
       (λ i _ apart. bit_at_set_other w64 _ _ (omega arith) i apart)
 
   -- a number's bit that is cleared marks it as not there
   pub marks_less : Marks words (set words (number / 64) (bit_and (get_or words (number / 64) 0) (18446744073709551615 - 1 * 2 ^ (number % 64) % 18446744073709551616))) number false
   marks_less =
-      marks_put _ _ _ 0 room (bit_at_clear_same w64 _ _ (omega arith))
+      marks_put _ 0 room (bit_at_clear_same w64 _ _ (omega arith))
       (λ i low apart. bit_at_clear_other w64 _ _ (omega arith) i low apart)
 
 -- a bit of a word that is shifted is a higher bit of the word
@@ -221,8 +221,8 @@ none_from word from clear i behind low =
     bit_behind _ _ i behind ∙ ap (λ n. bit_at n (i - from)) clear ∙ bit_at-zero _
 
 -- the lowest bit of a word that is shifted is the lowest of the word from there on
-pub lowest_behind : (word from i : ℕ) → word < 2 ^ 64 → IsLowestBit (word / 2 ^ from) 0 i → IsLowestBit word from (from + i)
-lowest_behind word from i fits found =
+pub lowest_behind : {word from i : ℕ} → word < 2 ^ 64 → IsLowestBit (word / 2 ^ from) 0 i → IsLowestBit word from (from + i)
+lowest_behind {word} {from} {i} fits found =
     let one : bit_at word (from + i) ≡ 1 = sym (bit_of_rest _ _ i) ∙ found.there in
     record {
       low_is = omega arith;

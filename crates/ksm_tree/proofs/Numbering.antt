@@ -3,8 +3,8 @@ use Rattle.ksm_tree.proofs.Names.{ap, AreNumbered, BTreeMap, cases_Bool, cond, C
 use Rattle.std.proofs.lemmas.Bool.{eqb-false}
 
 -- contents that the order does not tell apart are one
-pub same_content : (p q : Content) → is_at (content_order p) q ≡ true → p ≡ q
-same_content p q same =
+pub same_content : {p q : Content} → is_at (content_order p) q ≡ true → p ≡ q
+same_content {p} {q} same =
     ap (λ (z : ℕ × List ℕ). content_of z.0 z.1)
     (exact_pairs _ _ exact_unsigned exact_bytes (p.tree, p.bytes) (q.tree, q.bytes) ((Equal-is (content_order p q)).0 same))
 
@@ -23,8 +23,8 @@ pub record Stands (kept later : ℕ → Option Content) (number : ℕ) (slot : O
 
 module _ (old new : BTreeMap Content ℕ) (kept later : ℕ → Option Content) (k : Content) (are : AreNumbered old.entries kept) where
   -- the numbers are right once a content that had none got one, under which nothing stood
-  pub entered : (key : ℕ) → its_number k old.entries ≡ None → kept key ≡ None → Updates content_order old new k (Some key) → Stands kept later key (Some k) → AreNumbered new.entries later
-  entered key none vacant updates fills q n = (forward, backward)
+  pub entered : {key : ℕ} → its_number k old.entries ≡ None → kept key ≡ None → Updates content_order old new k (Some key) → Stands kept later key (Some k) → AreNumbered new.entries later
+  entered {key} none vacant updates fills q n = (forward, backward)
     where
       told : its_number q new.entries ≡ cond (is_at (content_order k) q) (Some key) (its_number q old.entries)
       told = updates.0 q
@@ -33,7 +33,7 @@ module _ (old new : BTreeMap Content ℕ) (kept later : ℕ → Option Content) 
       forward found = elim (cases_Bool (is_at (content_order k) q)) [
         | inl here ↦
             let is : key ≡ n = same_Some key n (sym (told ∙ ap (λ b. cond b (Some key) (its_number q old.entries)) here) ∙ found) in
-            ap later (sym is) ∙ fills.changed ∙ ap Some (same_content k q here)
+            ap later (sym is) ∙ fills.changed ∙ ap Some (same_content here)
         | inr other ↦
             let before : its_number q old.entries ≡ Some n = sym (told ∙ ap (λ b. cond b (Some key) (its_number q old.entries)) other) ∙ found in
             let stood : kept n ≡ Some q = (are q n).0 before in
@@ -50,14 +50,14 @@ module _ (old new : BTreeMap Content ℕ) (kept later : ℕ → Option Content) 
             let apart : n ≢ key = eqb-false n key differ in
             let before : its_number q old.entries ≡ Some n = (are q n).1 (sym (fills.others n apart) ∙ stands) in
             elim (cases_Bool (is_at (content_order k) q)) [
-              | inl here ↦ absurd (full n (its_number q old.entries) (ap (λ c. its_number c old.entries) (sym (same_content k q here)) ∙ none) before)
+              | inl here ↦ absurd (full n (its_number q old.entries) (ap (λ c. its_number c old.entries) (sym (same_content here)) ∙ none) before)
               | inr other ↦ told ∙ ap (λ b. cond b (Some key) (its_number q old.entries)) other ∙ before
             ]
       ]
 
   -- the numbers are right once a content lost its number, and nothing stands under that
-  pub forgotten : (number : ℕ) → kept number ≡ Some k → Updates content_order old new k None → Stands kept later number None → AreNumbered new.entries later
-  forgotten number stood updates fills q n = (forward, backward)
+  pub forgotten : {number : ℕ} → kept number ≡ Some k → Updates content_order old new k None → Stands kept later number None → AreNumbered new.entries later
+  forgotten {number} stood updates fills q n = (forward, backward)
     where
       told : its_number q new.entries ≡ cond (is_at (content_order k) q) None (its_number q old.entries)
       told = updates.0 q
@@ -82,7 +82,7 @@ module _ (old new : BTreeMap Content ℕ) (kept later : ℕ → Option Content) 
             let before : its_number q old.entries ≡ Some n = (are q n).1 (sym (fills.others n apart) ∙ stands) in
             elim (cases_Bool (is_at (content_order k) q)) [
               | inl here ↦
-                  let two : number ≡ n = same_Some _ n (sym ((are k number).1 stood) ∙ ap (λ c. its_number c old.entries) (same_content k q here) ∙ before) in
+                  let two : number ≡ n = same_Some _ n (sym ((are k number).1 stood) ∙ ap (λ c. its_number c old.entries) (same_content here) ∙ before) in
                   absurd (apart (sym two))
               | inr other ↦ told ∙ ap (λ b. cond b None (its_number q old.entries)) other ∙ before
             ]

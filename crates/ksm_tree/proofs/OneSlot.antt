@@ -66,18 +66,18 @@ slot_emptied k p (suc i) (Some d ∷ slots) is placed =
     grind (arith, nat_tests, h, rest)
 
 -- a change of the items of a slot's dup is seen as that change of the dup at its place
-pub slot_changed : (k p i : ℕ) (slots : List (Option Dup)) (dup : Dup) (f : List GuestPage → List GuestPage) → p ≡ k + i → get_or slots i None ≡ Some dup → ArePlaced k slots → present (set slots i (Some (record dup { items = f dup.items }))) ≡ change_at p f (present slots)
-slot_changed k p i [] dup f is here placed = absurd (none-some dup here)
-slot_changed k p zero (None ∷ slots) dup f is here placed = absurd (none-some dup here)
-slot_changed k p (suc i) (None ∷ slots) dup f is here placed = slot_changed _ p i slots dup f (omega arith) here placed
-slot_changed k p zero (Some d ∷ slots) dup f is here placed =
+pub slot_changed : (k p i : ℕ) (slots : List (Option Dup)) {dup : Dup} (f : List GuestPage → List GuestPage) → p ≡ k + i → get_or slots i None ≡ Some dup → ArePlaced k slots → present (set slots i (Some (record dup { items = f dup.items }))) ≡ change_at p f (present slots)
+slot_changed k p i [] {dup} f is here placed = absurd (none-some dup here)
+slot_changed k p zero (None ∷ slots) {dup} f is here placed = absurd (none-some dup here)
+slot_changed k p (suc i) (None ∷ slots) {dup} f is here placed = slot_changed _ p i slots f (omega arith) here placed
+slot_changed k p zero (Some d ∷ slots) {dup} f is here placed =
     let h = placed.0 in
     let none = change_none (stands_at p) (λ e. record e { items = f e.items }) (present slots) (none_at (suc k) p slots (omega arith) placed.1) in
     let same : d ≡ dup = same_Some d dup here in
     grind (arith, nat_tests, h, none, same)
-slot_changed k p (suc i) (Some d ∷ slots) dup f is here placed =
+slot_changed k p (suc i) (Some d ∷ slots) {dup} f is here placed =
     let h = placed.0 in
-    let rest = slot_changed (suc k) p i slots dup f (omega arith) here placed.1 in
+    let rest = slot_changed (suc k) p i slots f (omega arith) here placed.1 in
     grind (arith, nat_tests, h, rest)
 
 -- dups stand at the places of their slots once a dup is put into the slot of its place
@@ -151,7 +151,7 @@ empty_nowhere k (Some d ∷ slots) placed none =
 abbrev FoundLeast : CountedSet → List (Option Dup) → Option ℕ → Type 0
 FoundLeast places slots found = MatchOption found (HasNone places.set 0 (length slots)) (IsLeast places.set 0 (length slots))
 
-module _ (slots : List (Option Dup)) (counts : List ℕ) (empty stale : CountedSet) (h : AreSlots slots counts empty stale) where
+module _ {slots : List (Option Dup)} {counts : List ℕ} {empty stale : CountedSet} (h : AreSlots slots counts empty stale) where
   -- the least place in the set of the empty ones is the least that no dup has
   pub first_empty : (found : Option ℕ) → FoundLeast empty slots found → found ≡ empty_place (length slots) (rows_of (present slots))
   first_empty None none =
@@ -176,25 +176,25 @@ not_stale : (d : Dup) → is_live d ≡ true → is_stale d ≡ false
 not_stale d live = grind (arith, nat_tests, live)
 
 -- the counts once a slot changes and its count with it
-counted_set : (p n : ℕ) (slots : List (Option Dup)) (counts : List ℕ) (s : Option Dup) → counts ≡ map count_in slots → n ≡ count_in s → set counts p n ≡ map count_in (set slots p s)
-counted_set p n slots counts s counted is =
+counted_set : (p : ℕ) {n : ℕ} (slots : List (Option Dup)) {counts : List ℕ} (s : Option Dup) → counts ≡ map count_in slots → n ≡ count_in s → set counts p n ≡ map count_in (set slots p s)
+counted_set p slots s counted is =
     (λ i. set (counted i) p (is i)) ∙ sym (map-set count_in _ p s)
 
 -- the slots are right once a dup with items is put into one
-pub slots_put : (slots : List (Option Dup)) (counts : List ℕ) (empty stale empty' stale' : CountedSet) (dup : Dup) (n : ℕ) → dup.row.place < length slots → n ≡ length dup.items → is_live dup ≡ true → AreSlots slots counts empty stale → IsMarked empty empty' dup.row.place false → IsMarked stale stale' dup.row.place false → AreSlots (set slots dup.row.place (Some dup)) (set counts dup.row.place n) empty' stale'
-slots_put slots counts empty stale empty' stale' dup n within is live h no_more not_stale_now =
+pub slots_put : {slots : List (Option Dup)} {counts : List ℕ} {empty stale empty' stale' : CountedSet} (dup : Dup) (n : ℕ) → dup.row.place < length slots → n ≡ length dup.items → is_live dup ≡ true → AreSlots slots counts empty stale → IsMarked empty empty' dup.row.place false → IsMarked stale stale' dup.row.place false → AreSlots (set slots dup.row.place (Some dup)) (set counts dup.row.place n) empty' stale'
+slots_put {slots} {counts} {empty} {stale} {empty'} {stale'} dup n within is live h no_more not_stale_now =
     let p = dup.row.place in
     record {
       few = rw length-set h.few;
       placed = placed_put 0 p p _ dup (omega arith) refl h.placed;
-      counted = counted_set p n slots counts (Some dup) h.counted is;
-      empties = set_marked is_empty_slot slots p (Some dup) within empty empty' no_more h.empties;
-      stales = set_marked is_stale_slot slots p (Some dup) within stale stale' (rw (not_stale dup live) not_stale_now) h.stales;
+      counted = counted_set p slots (Some dup) h.counted is;
+      empties = set_marked is_empty_slot slots p (Some dup) within no_more h.empties;
+      stales = set_marked is_stale_slot slots p (Some dup) within (rw (not_stale dup live) not_stale_now) h.stales;
     }
 
 -- a dup put into its slot is seen among the others
-pub seen_put : (old new : ShelfState) (state : SlotsState) (dup : Dup) → slots_seen old ≡ state → dup.row.place < state.places → ArePlaced 0 old.slots → new.slots ≡ set old.slots dup.row.place (Some dup) → slots_seen new ≡ record state { dups = with_new dup state.dups; ready = new.ready }
-seen_put old new state dup seen place placed is =
+pub seen_put : (old new : ShelfState) {state : SlotsState} (dup : Dup) → slots_seen old ≡ state → dup.row.place < state.places → ArePlaced 0 old.slots → new.slots ≡ set old.slots dup.row.place (Some dup) → slots_seen new ≡ record state { dups = with_new dup state.dups; ready = new.ready }
+seen_put old new dup seen place placed is =
     let p = dup.row.place in
     let within : p < length old.slots = omega (arith, ap (λ s. s.places) seen, place) in
     (λ i. record { places = length (is i); dups = present (is i); ready = new.ready })
@@ -202,8 +202,8 @@ seen_put old new state dup seen place placed is =
     ∙ ap (λ s. record { places = s.places; dups = with_new dup s.dups; ready = new.ready }) seen
 
 -- a slot that is emptied is seen as the dups without that of its place
-pub seen_emptied : (p : ℕ) (old new : ShelfState) (state : SlotsState) → slots_seen old ≡ state → ArePlaced 0 old.slots → new.slots ≡ set old.slots p None → slots_seen new ≡ record state { dups = without_place p state.dups; ready = new.ready }
-seen_emptied p old new state seen placed is =
+pub seen_emptied : (p : ℕ) (old new : ShelfState) {state : SlotsState} → slots_seen old ≡ state → ArePlaced 0 old.slots → new.slots ≡ set old.slots p None → slots_seen new ≡ record state { dups = without_place p state.dups; ready = new.ready }
+seen_emptied p old new seen placed is =
     (λ i. record { places = length (is i); dups = present (is i); ready = new.ready })
     ∙ (λ i. record { places = length-set old.slots p None i; dups = slot_emptied 0 p p old.slots (omega arith) placed i; ready = new.ready })
     ∙ ap (λ s. record { places = s.places; dups = without_place p s.dups; ready = new.ready }) seen
@@ -214,58 +214,58 @@ filled_within zero (s ∷ slots) filled = omega arith
 filled_within (suc p) (s ∷ slots) filled = let rest = filled_within p _ filled in omega (arith, rest)
 
 -- each place that has a slot has a count
-pub count_within : (p : ℕ) (slots : List (Option Dup)) (counts : List ℕ) → counts ≡ map count_in slots → p < length slots → p < length counts
-count_within p slots counts counted within =
+pub count_within : (p : ℕ) (slots : List (Option Dup)) {counts : List ℕ} → counts ≡ map count_in slots → p < length slots → p < length counts
+count_within p slots counted within =
     let many = ap length counted ∙ length-map slots _ in
     omega (arith, many, within)
 
 -- the count kept for a place is that of its dup's items
-pub count_read : (p n : ℕ) (slots : List (Option Dup)) (counts : List ℕ) → ArePlaced 0 slots → counts ≡ map count_in slots → n ≡ get_or counts p 0 → n ≡ count_in (dup_at p (present slots))
-count_read p n slots counts placed counted read =
+pub count_read : (p : ℕ) {n : ℕ} (slots : List (Option Dup)) {counts : List ℕ} → ArePlaced 0 slots → counts ≡ map count_in slots → n ≡ get_or counts p 0 → n ≡ count_in (dup_at p (present slots))
+count_read p slots placed counted read =
     read
     ∙ ap (λ l. get_or l p 0) counted
     ∙ get_or-map count_in slots p None
     ∙ ap count_in (sym (slot_found 0 p p slots (omega arith) placed))
 
 -- the slots are right once one is emptied
-pub slots_cleared : (p : ℕ) (slots : List (Option Dup)) (counts : List ℕ) (empty stale empty' stale' : CountedSet) → p < length slots → AreSlots slots counts empty stale → IsMarked empty empty' p true → IsMarked stale stale' p false → AreSlots (set slots p None) (set counts p 0) empty' stale'
-slots_cleared p slots counts empty stale empty' stale' within h more left = record {
+pub slots_cleared : {p : ℕ} {slots : List (Option Dup)} {counts : List ℕ} {empty stale empty' stale' : CountedSet} → p < length slots → AreSlots slots counts empty stale → IsMarked empty empty' p true → IsMarked stale stale' p false → AreSlots (set slots p None) (set counts p 0) empty' stale'
+slots_cleared {p} {slots} {counts} {empty} {stale} {empty'} {stale'} within h more left = record {
   few = rw length-set h.few;
   placed = placed_emptied 0 p slots h.placed;
-  counted = counted_set p 0 slots counts None h.counted refl;
-  empties = set_marked is_empty_slot slots p None within empty empty' more h.empties;
-  stales = set_marked is_stale_slot slots p None within stale stale' left h.stales;
+  counted = counted_set p slots None h.counted refl;
+  empties = set_marked is_empty_slot slots p None within more h.empties;
+  stales = set_marked is_stale_slot slots p None within left h.stales;
 }
 
-filled_place : (k p i : ℕ) (slots : List (Option Dup)) (d : Dup) → p ≡ k + i → get_or slots i None ≡ Some d → ArePlaced k slots → d.row.place ≡ p
-filled_place k p i [] d is filled placed = absurd (none-some d filled)
-filled_place k p zero (None ∷ slots) d is filled placed = absurd (none-some d filled)
-filled_place k p (suc i) (None ∷ slots) d is filled placed = filled_place _ p i slots d (omega arith) filled placed
-filled_place k p zero (Some e ∷ slots) d is filled placed = ap (λ x. x.row.place) (sym (same_Some e d filled)) ∙ placed.0 ∙ omega arith
-filled_place k p (suc i) (Some e ∷ slots) d is filled placed = filled_place _ p i slots d (omega arith) filled placed.1
+filled_place : (k p i : ℕ) (slots : List (Option Dup)) {d : Dup} → p ≡ k + i → get_or slots i None ≡ Some d → ArePlaced k slots → d.row.place ≡ p
+filled_place k p i [] {d} is filled placed = absurd (none-some d filled)
+filled_place k p zero (None ∷ slots) {d} is filled placed = absurd (none-some d filled)
+filled_place k p (suc i) (None ∷ slots) {d} is filled placed = filled_place _ p i slots (omega arith) filled placed
+filled_place k p zero (Some e ∷ slots) {d} is filled placed = ap (λ x. x.row.place) (sym (same_Some e d filled)) ∙ placed.0 ∙ omega arith
+filled_place k p (suc i) (Some e ∷ slots) {d} is filled placed = filled_place _ p i slots (omega arith) filled placed.1
 
 module _ (p : ℕ) (slots : List (Option Dup)) (counts : List ℕ) (empty stale : CountedSet) (d : Dup) (change : List GuestPage → List GuestPage) (within : p < length slots) (h : AreSlots slots counts empty stale) (filled : get_or slots p None ≡ Some d) where
   abbrev changed : Dup
   changed = record d { items = change d.items }
 
-  slots_changed : (n : ℕ) (stale' : CountedSet) → n ≡ length (change d.items) → IsSetOf is_stale_slot (set slots p (Some changed)) stale' → AreSlots (set slots p (Some changed)) (set counts p n) empty stale'
-  slots_changed n stale' is stales = record {
+  slots_changed : {n : ℕ} {stale' : CountedSet} → n ≡ length (change d.items) → IsSetOf is_stale_slot (set slots p (Some changed)) stale' → AreSlots (set slots p (Some changed)) (set counts p n) empty stale'
+  slots_changed {n} is stales = record {
     few = rw length-set h.few;
-    placed = placed_put 0 p p _ _ (omega arith) (filled_place 0 p p _ d (omega arith) filled h.placed) h.placed;
-    counted = counted_set p n _ _ _ h.counted is;
-    empties = set_kept _ _ p _ within _ (sym (ap is_empty_slot filled)) h.empties;
+    placed = placed_put 0 p p _ _ (omega arith) (filled_place 0 p p _ (omega arith) filled h.placed) h.placed;
+    counted = counted_set p _ _ h.counted is;
+    empties = set_kept _ _ p _ within (sym (ap is_empty_slot filled)) h.empties;
     stales = stales;
   }
 
   -- the slots are right once the items of one dup changed, and its place is marked as stale or not
-  pub slots_marked : (n : ℕ) (stale' : CountedSet) (b : Bool) → n ≡ length (change d.items) → (length (change d.items) == 0) ≡ b → IsMarked stale stale' p b → AreSlots (set slots p (Some changed)) (set counts p n) empty stale'
-  slots_marked n stale' b is here marked =
-      slots_changed n stale' is (set_marked is_stale_slot slots p (Some changed) within stale stale' (rw here marked) h.stales)
+  pub slots_marked : (n : ℕ) {stale' : CountedSet} {b : Bool} → n ≡ length (change d.items) → (length (change d.items) == 0) ≡ b → IsMarked stale stale' p b → AreSlots (set slots p (Some changed)) (set counts p n) empty stale'
+  slots_marked n {stale'} is here marked =
+      slots_changed is (set_marked is_stale_slot slots p (Some changed) within (rw here marked) h.stales)
 
   -- the slots are right once the items of one dup changed, which is stale if it was
-  pub slots_kept : (n : ℕ) → n ≡ length (change d.items) → (length (change d.items) == 0) ≡ is_stale d → AreSlots (set slots p (Some changed)) (set counts p n) empty stale
-  slots_kept n is same =
-      slots_changed n _ is (set_kept _ _ p _ within _ (same ∙ sym (ap is_stale_slot filled)) h.stales)
+  pub slots_kept : {n : ℕ} → n ≡ length (change d.items) → (length (change d.items) == 0) ≡ is_stale d → AreSlots (set slots p (Some changed)) (set counts p n) empty stale
+  slots_kept {n} is same =
+      slots_changed is (set_kept _ _ p _ within (same ∙ sym (ap is_stale_slot filled)) h.stales)
 
   -- a change that leaves the items as they are leaves the slots so
   pub slots_same : change d.items ≡ d.items → AreSlots (set slots p (Some changed)) counts empty stale
@@ -296,7 +296,7 @@ some_dup : (o : Option Dup) → is_some o ≡ true → (d : Dup) × (o ≡ Some 
 some_dup None none = absurd (false≢true none)
 some_dup (Some d) some = (d, refl)
 
-module _ (p : ℕ) (shelf : ShelfState) (s : SlotsState) (view : slots_seen shelf ≡ s) (placed : ArePlaced 0 shelf.slots) where
+module _ (p : ℕ) (shelf : ShelfState) {s : SlotsState} (view : slots_seen shelf ≡ s) (placed : ArePlaced 0 shelf.slots) where
   -- the dup seen at a place is what its slot holds
   pub seen_slot : dup_at p s.dups ≡ get_or shelf.slots p None
   seen_slot = ap (λ t. dup_at p t.dups) (sym view) ∙ slot_found 0 p p _ (omega arith) placed
@@ -316,21 +316,21 @@ module _ (p : ℕ) (shelf : ShelfState) (s : SlotsState) (view : slots_seen shel
       (it.0, record { within = seen_within known; filled = it.1; items = ap items_in seen_slot ∙ ap items_in it.1 })
 
 -- a change of the items in a slot, written as that of the dup there
-pub changed_dup : (p : ℕ) (f : List GuestPage → List GuestPage) (slots : List (Option Dup)) (d : Dup) → get_or slots p None ≡ Some d → change_slot p f slots ≡ set slots p (Some (record d { items = f d.items }))
-changed_dup p f slots d filled = ap (λ o. set slots p (option_map (change_items_of f) o)) filled
+pub changed_dup : (p : ℕ) (f : List GuestPage → List GuestPage) (slots : List (Option Dup)) {d : Dup} → get_or slots p None ≡ Some d → change_slot p f slots ≡ set slots p (Some (record d { items = f d.items }))
+changed_dup p f slots filled = ap (λ o. set slots p (option_map (change_items_of f) o)) filled
 
 -- a change of the items in a slot is seen as that change of the dup at its place
-pub view_changed : (p : ℕ) (old new : ShelfState) (s : SlotsState) (d : Dup) (f : List GuestPage → List GuestPage) → slots_seen old ≡ s → ArePlaced 0 old.slots → get_or old.slots p None ≡ Some d → new.slots ≡ change_slot p f old.slots → slots_seen new ≡ record s { dups = change_at p f s.dups; ready = new.ready }
-view_changed p old new s d f view placed filled is =
-    let now = is ∙ changed_dup p f old.slots d filled in
+pub view_changed : (p : ℕ) (old new : ShelfState) {s : SlotsState} {d : Dup} (f : List GuestPage → List GuestPage) → slots_seen old ≡ s → ArePlaced 0 old.slots → get_or old.slots p None ≡ Some d → new.slots ≡ change_slot p f old.slots → slots_seen new ≡ record s { dups = change_at p f s.dups; ready = new.ready }
+view_changed p old new {d} f view placed filled is =
+    let now = is ∙ changed_dup p f old.slots filled in
     (λ i. record { places = length (now i); dups = present (now i); ready = new.ready })
-    ∙ (λ i. record { places = length-set old.slots p (Some (record d { items = f d.items })) i; dups = slot_changed 0 p p old.slots d f (omega arith) filled placed i; ready = new.ready })
+    ∙ (λ i. record { places = length-set old.slots p (Some (record d { items = f d.items })) i; dups = slot_changed 0 p p old.slots f (omega arith) filled placed i; ready = new.ready })
     ∙ ap (λ t. record { places = t.places; dups = change_at p f t.dups; ready = new.ready }) view
 
 -- what is told of items that may have been left
-pub told_some : (b : Bool) (left n : ℕ) → Some left ≡ (if b then Some n else None) → (true ≡ b) × (left ≡ n)
-told_some true left n is = (refl, same_Some _ n is)
-told_some false left n is = absurd (none-some _ (sym is))
+pub told_some : (b : Bool) {left : ℕ} (n : ℕ) → Some left ≡ (if b then Some n else None) → (true ≡ b) × (left ≡ n)
+told_some true n is = (refl, same_Some _ n is)
+told_some false n is = absurd (none-some _ (sym is))
 
 pub told_none : (b : Bool) (n : ℕ) → None ≡ (if b then Some n else None) → false ≡ b
 told_none true n is = absurd (none-some n is)
@@ -345,5 +345,5 @@ pub had_item : (page : GuestPage) (d : Dup) → true ≡ has_item page d.items �
 had_item page d found = items_not_none _ _ found
 
 -- taking a page out of items of which it is none changes nothing
-pub not_taken : (page : GuestPage) (pages : List GuestPage) → false ≡ has_item page pages → without_item page pages ≡ pages
-not_taken page pages absent = sym (absent_kept pages_ordered _ page _ (none_found _ pages (sym absent)))
+pub not_taken : (page : GuestPage) {pages : List GuestPage} → false ≡ has_item page pages → without_item page pages ≡ pages
+not_taken page {pages} absent = sym (absent_kept pages_ordered _ page _ (none_found _ pages (sym absent)))

@@ -87,9 +87,9 @@ abbrev pub IsThat : ℕ → DupRow → DupRow → Type 0
 IsThat q e r = (r.number == q) ≡ (r.place == e.place)
 
 -- the row found by a number is the only row of that number, and the only one at its place
-pub only_number : (q : ℕ) (rows : List DupRow) (e : DupRow) → InPlaceOrder rows → find (numbered q) rows ≡ Some e → All (IsThat q e) rows
-only_number q [] e rise found = absurd (none-some e found)
-only_number q (r ∷ rows) e rise found =
+pub only_number : (q : ℕ) (rows : List DupRow) {e : DupRow} → InPlaceOrder rows → find (numbered q) rows ≡ Some e → All (IsThat q e) rows
+only_number q [] {e} rise found = absurd (none-some e found)
+only_number q (r ∷ rows) {e} rise found =
     let first = pairs_head Lower r _ rise in
     elim (cases_Bool (r.number == q)) [
       | inl here ↦
@@ -103,7 +103,7 @@ only_number q (r ∷ rows) e rise found =
           let found_rest : find (numbered q) rows ≡ Some e = grind (arith, other, found) in
           let apart = find_all (numbered q) (Lower r) rows e found_rest first in
           let away : (r.place == e.place) ≡ false = (let h_place = apart.0 in grind (arith, nat_tests, h_place)) in
-          All-cons (IsThat q e) r rows (other ∙ sym away) (only_number q rows e (pairs_tail Lower r rows rise) found_rest)
+          All-cons (IsThat q e) r rows (other ∙ sym away) (only_number q rows (pairs_tail Lower r rows rise) found_rest)
     ]
 
 -- the place of a number once the row at a place has gone
@@ -122,8 +122,8 @@ stayed p q e (r ∷ rows) other only =
     grind (arith, nat_tests, other, here, rest)
 
 -- once the dup at a place goes, its number has no place, and each other number has the place it had
-pub place_gone : (p q : ℕ) (rows : List DupRow) (e : DupRow) → InPlaceOrder rows → find (λ r. r.place == p) rows ≡ Some e → row_place q (filter (elsewhere p) rows) ≡ (if q == e.number then None else row_place q rows)
-place_gone p q rows e rise found =
+pub place_gone : (p q : ℕ) (rows : List DupRow) {e : DupRow} → InPlaceOrder rows → find (λ r. r.place == p) rows ≡ Some e → row_place q (filter (elsewhere p) rows) ≡ (if q == e.number then None else row_place q rows)
+place_gone p q rows {e} rise found =
     let only = only_one p rows e rise found in
     elim (cases_Bool (q == e.number)) [
       | inl this ↦ rw this (gone p q e rows this only)

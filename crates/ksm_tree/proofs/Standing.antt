@@ -30,9 +30,9 @@ are_one t u b c same =
 -- where what stands under the number of a content has changed, it has changed at that content alone
 module _ {X : Type 0} (none : X) (numbers : Numbers) (stands : ℕ → Option Content) (are : AreNumbered numbers stands) (old : ℕ → X) (tree : ℕ) (bytes : List ℕ) (change : X → X) where
   -- a change of what stands under a content's number changes what stands under that content alone
-  pub under_moved : (new : ℕ → X) (number : ℕ) → number_of tree bytes numbers ≡ Some number → ((n : ℕ) → new n ≡ (if n == number then change (old n) else old n))
+  pub under_moved : (new : ℕ → X) {number : ℕ} → number_of tree bytes numbers ≡ Some number → ((n : ℕ) → new n ≡ (if n == number then change (old n) else old n))
       → (t : ℕ) (b : List ℕ) → under none new (number_of t b numbers) ≡ (if t == tree && bytes_eq b bytes then change (under none old (number_of t b numbers)) else under none old (number_of t b numbers))
-  under_moved new number is moved t b = by (number_of t b numbers) refl
+  under_moved new {number} is moved t b = by (number_of t b numbers) refl
     where
       by : (o : Option ℕ) → number_of t b numbers ≡ o → under none new o ≡ (if t == tree && bytes_eq b bytes then change (under none old o) else under none old o)
       by None absent =
@@ -107,9 +107,9 @@ module _ (t : ℕ) (b : List ℕ) (pass : ℕ) where
       grind (arith, rest, other)
 
 -- the page that waits for a tree and bytes is the one that waits in their group
-pub waiting_found : (numbers : Numbers) (groups : Slab Group) (pass : ℕ) → AreGroups numbers groups pass → (t : ℕ) (b : List ℕ)
+pub waiting_found : {numbers : Numbers} {groups : Slab Group} {pass : ℕ} → AreGroups numbers groups pass → (t : ℕ) (b : List ℕ)
     → waiting_page t b (filter_map (waits_in pass) groups.slots) ≡ under None (λ n. page_in pass (get groups n)) (number_of t b numbers)
-waiting_found numbers groups pass are t b = by (number_of t b numbers) refl
+waiting_found {numbers} {groups} {pass} are t b = by (number_of t b numbers) refl
   where
     by : (o : Option ℕ) → number_of t b numbers ≡ o → waiting_page t b (filter_map (waits_in pass) groups.slots) ≡ under None (λ n. page_in pass (get groups n)) o
     by None absent = none_waits t b _ groups.slots (λ n is. full n (number_of t b numbers) absent ((are.numbered (content_of t b) n).1 is))
@@ -118,33 +118,33 @@ waiting_found numbers groups pass are t b = by (number_of t b numbers) refl
         (λ m is. same_Some m n (sym ((are.numbered (content_of t b) m).1 is) ∙ found))
 
 -- the page that waits for a tree and bytes is the one in the group under their number
-pub waits_here : (g : Groups) (t : ℕ) (b : List ℕ) (n : ℕ) (slot : Option Group) → number_of t b g.numbers.entries ≡ Some n → slot ≡ get g.groups n → waiting_page t b (waiting_in g) ≡ page_in g.pass slot
-waits_here g t b n slot is at =
-    waiting_found _ g.groups g.pass g.lawful t b ∙ ap (under None (λ n. page_in g.pass (get g.groups n))) is ∙ ap (page_in g.pass) (sym at)
+pub waits_here : (g : Groups) (t : ℕ) (b : List ℕ) {n : ℕ} {slot : Option Group} → number_of t b g.numbers.entries ≡ Some n → slot ≡ get g.groups n → waiting_page t b (waiting_in g) ≡ page_in g.pass slot
+waits_here g t b {n} is at =
+    waiting_found g.lawful t b ∙ ap (under None (λ n. page_in g.pass (get g.groups n))) is ∙ ap (page_in g.pass) (sym at)
 
 -- no page waits for a tree and bytes that have no number
 pub none_here : (g : Groups) (t : ℕ) (b : List ℕ) → number_of t b g.numbers.entries ≡ None → waiting_page t b (waiting_in g) ≡ None
-none_here g t b none = waiting_found _ _ g.pass g.lawful t b ∙ ap (under None (λ n. page_in g.pass (get g.groups n))) none
+none_here g t b none = waiting_found g.lawful t b ∙ ap (under None (λ n. page_in g.pass (get g.groups n))) none
 
 -- under the number of a tree and bytes a group stands
-pub stands_under : (g : Groups) (t : ℕ) (b : List ℕ) (n : ℕ) → number_of t b g.numbers.entries ≡ Some n → None ≡ get g.groups n → ⊥
-stands_under g t b n is none = full (content_of t b) (content_in (get g.groups n)) (ap content_in (sym none)) ((g.lawful.numbered (content_of t b) n).0 is)
+pub stands_under : (g : Groups) (t : ℕ) (b : List ℕ) {n : ℕ} → number_of t b g.numbers.entries ≡ Some n → None ≡ get g.groups n → ⊥
+stands_under g t b {n} is none = full (content_of t b) (content_in (get g.groups n)) (ap content_in (sym none)) ((g.lawful.numbered (content_of t b) n).0 is)
 
 -- a group that stands under a number has it
-pub not_unused : (g : Groups) (n : ℕ) (group : Group) → Some group ≡ get g.groups n → IsUnused n g.numbers.entries → ⊥
-not_unused g n group stands unused =
+pub not_unused : (g : Groups) (n : ℕ) {group : Group} → Some group ≡ get g.groups n → IsUnused n g.numbers.entries → ⊥
+not_unused g n {group} stands unused =
     unused group.content.tree group.content.bytes ((g.lawful.numbered group.content n).1 (ap content_in (sym stands)))
 
 -- a guess that leads to the group of a tree and bytes is the number of that tree and bytes
-pub guessed : (g : Groups) (guess : ℕ) (group : Group) (tree : ℕ) (bytes : List ℕ) → Some group ≡ get g.groups guess → group.content.tree ≡ tree → true ≡ bytes_eq group.content.bytes bytes → Some guess ≡ number_of tree bytes g.numbers.entries
-guessed g guess group tree bytes stands same_tree same_bytes =
+pub guessed : (g : Groups) {guess : ℕ} {group : Group} {tree : ℕ} (bytes : List ℕ) → Some group ≡ get g.groups guess → group.content.tree ≡ tree → true ≡ bytes_eq group.content.bytes bytes → Some guess ≡ number_of tree bytes g.numbers.entries
+guessed g {guess} {group} {tree} bytes stands same_tree same_bytes =
     let bytes_is = (bytes_eq-Decides _ _).0 (sym same_bytes) in
     let is : group.content ≡ content_of tree bytes = (λ i. content_of (same_tree i) (bytes_is i)) in
     sym ((g.lawful.numbered (content_of tree bytes) guess).1 (ap content_in (sym stands) ∙ ap Some is))
 
 -- the page of a group whose pass is the present one waits
-pub page_waits : (g : Group) (pass : ℕ) → g.pass ≡ pass → page_in pass (Some g) ≡ Some g.page
-page_waits g pass same = rw ((Decides-eqb _ _).1 same) refl
+pub page_waits : (g : Group) {pass : ℕ} → g.pass ≡ pass → page_in pass (Some g) ≡ Some g.page
+page_waits g same = rw ((Decides-eqb _ _).1 same) refl
 
 -- in a group whose pass is not the present one nothing waits
 pub waits_still : (g : Group) (pass : ℕ) → g.pass ≢ pass → waits_in pass (Some g) ≡ None
@@ -205,16 +205,16 @@ module _ (g : Groups) (number : ℕ) (was now : Group) (stood : Some was ≡ get
       → (t : ℕ) (b : List ℕ) → under [] (λ n. places_in (get new n)) (number_of t b g.numbers.entries) ≡ (if t == tree && bytes_eq b bytes then change (chain_in t b g) else chain_in t b g)
   rechained change is tree bytes named =
       under_moved [] g.numbers.entries (λ n. content_in (get g.groups n)) g.lawful.numbered (λ n. places_in (get g.groups n)) tree bytes change
-      (λ n. places_in (get new n)) number named (written_moved places_in change is)
+      (λ n. places_in (get new n)) named (written_moved places_in change is)
 
   -- a group written anew tells what waits for its content, and what waits elsewhere stays
   pub repaged : now.pass ≤ g.pass → (tree : ℕ) (bytes : List ℕ) → number_of tree bytes g.numbers.entries ≡ Some number
       → (t : ℕ) (b : List ℕ) → waiting_page t b (filter_map (waits_in g.pass) new.slots) ≡ (if t == tree && bytes_eq b bytes then page_in g.pass (Some now) else waiting_page t b (waiting_in g))
   repaged within tree bytes named t b =
-      waiting_found g.numbers.entries new g.pass (rewritten within) t b
+      waiting_found (rewritten within) t b
       ∙ under_moved None g.numbers.entries (λ n. content_in (get g.groups n)) g.lawful.numbered (λ n. page_in g.pass (get g.groups n)) tree bytes
-      (λ _. page_in g.pass (Some now)) (λ n. page_in g.pass (get new n)) number named (written_moved (page_in g.pass) (λ _. page_in g.pass (Some now)) refl) t b
-      ∙ ap (λ o. if t == tree && bytes_eq b bytes then page_in g.pass (Some now) else o) (sym (waiting_found g.numbers.entries g.groups g.pass g.lawful t b))
+      (λ _. page_in g.pass (Some now)) (λ n. page_in g.pass (get new n)) named (written_moved (page_in g.pass) (λ _. page_in g.pass (Some now)) refl) t b
+      ∙ ap (λ o. if t == tree && bytes_eq b bytes then page_in g.pass (Some now) else o) (sym (waiting_found g.lawful t b))
 
   -- where a group written anew has what waited in it, all that waits is as it was
   pub same_waiting : waits_in g.pass (Some now) ≡ waits_in g.pass (Some was) → filter_map (waits_in g.pass) new.slots ≡ waiting_in g
@@ -223,7 +223,7 @@ module _ (g : Groups) (number : ℕ) (was now : Group) (stood : Some was ≡ get
 -- a content without a number has no page that could stop to wait
 pub none_removed : (g : Groups) (tree : ℕ) (bytes : List ℕ) → number_of tree bytes g.numbers.entries ≡ None → (t : ℕ) (b : List ℕ) → waiting_page t b (waiting_in g) ≡ (if t == tree && bytes_eq b bytes then None else waiting_page t b (waiting_in g))
 none_removed g tree bytes none t b =
-    let found = waiting_found g.numbers.entries g.groups g.pass g.lawful t b in
+    let found = waiting_found g.lawful t b in
     found
     ∙ under_absent None g.numbers.entries (λ n. content_in (get g.groups n)) g.lawful.numbered (λ n. page_in g.pass (get g.groups n)) tree bytes (λ _. None) none refl t b
     ∙ ap (λ o. if t == tree && bytes_eq b bytes then None else o) (sym found)
@@ -231,7 +231,7 @@ none_removed g tree bytes none t b =
 -- ---------------------------------------------------------------- a group comes, and one goes
 
 -- a content gets a number under which nothing stood, or loses one under which nothing stood
-module _ (numbers_old numbers_new : BTreeMap Content ℕ) (pass : ℕ) (old new : Slab Group) (are : AreGroups numbers_old.entries old pass) (k : Content) (number : ℕ) (named : Option ℕ) (slot : Option Group)
+module _ (numbers_old numbers_new : BTreeMap Content ℕ) {pass : ℕ} {old new : Slab Group} (are : AreGroups numbers_old.entries old pass) (k : Content) {number : ℕ} (named : Option ℕ) {slot : Option Group}
     (updates : Updates content_order numbers_old numbers_new k named) (fills : Fills old new number slot) (was : IsIdle pass (get old number)) (now : IsIdle pass slot) where
   idle_same : {X : Type 0} (at : Option Group → X) → at slot ≡ at (get old number) → (n : ℕ) → at (get new n) ≡ at (get old n)
   idle_same at same n = elim (cases_Bool (n == number)) [
@@ -253,7 +253,7 @@ module _ (numbers_old numbers_new : BTreeMap Content ℕ) (pass : ℕ) (old new 
       elim (cases_Bool (is_at (content_order k) (content_of t b))) [
         | inl is ↦
             ap at (told ∙ ap (λ s. cond s named (number_of t b numbers_old.entries)) is)
-            ∙ here ∙ ap (λ k. before (its_number k numbers_old.entries)) (same_content k _ is)
+            ∙ here ∙ ap (λ k. before (its_number k numbers_old.entries)) (same_content is)
         | inr other ↦
             ap at (told ∙ ap (λ s. cond s named (number_of t b numbers_old.entries)) other)
             ∙ same_under [] (λ n. places_in (get old n)) (λ n. places_in (get new n)) (idle_same places_in (now.0 ∙ sym was.0)) (number_of t b numbers_old.entries)
@@ -269,18 +269,18 @@ module _ (numbers_old numbers_new : BTreeMap Content ℕ) (pass : ℕ) (old new 
   ]
 
   -- the groups are right once one came with a content that had no number
-  pub came_groups : (g : Group) → slot ≡ Some g → g.content ≡ k → g.pass ≤ pass → named ≡ Some number → its_number k numbers_old.entries ≡ None → get old number ≡ None → AreGroups numbers_new.entries new pass
-  came_groups g is content within name none vacant = record {
-    numbered = entered numbers_old numbers_new (λ n. content_in (get old n)) (λ n. content_in (get new n)) k are.numbered number none (ap content_in vacant)
+  pub came_groups : {g : Group} → slot ≡ Some g → g.content ≡ k → g.pass ≤ pass → named ≡ Some number → its_number k numbers_old.entries ≡ None → get old number ≡ None → AreGroups numbers_new.entries new pass
+  came_groups {g} is content within name none vacant = record {
+    numbered = entered numbers_old numbers_new (λ n. content_in (get old n)) (λ n. content_in (get new n)) k are.numbered none (ap content_in vacant)
         (subst (Updates content_order numbers_old numbers_new k) name updates) (subst (Stands (λ n. content_in (get old n)) (λ n. content_in (get new n)) number) (ap content_in is ∙ ap Some content) idle_stands);
     passes = idle_passes (λ h at. subst (λ h. h.pass ≤ pass) (same_Some g h (sym is ∙ at)) within);
     begun = are.begun;
   }
 
   -- the groups are right once one went and its content lost its number
-  pub gone_groups : (g : Group) → Some g ≡ get old number → g.content ≡ k → slot ≡ None → named ≡ None → AreGroups numbers_new.entries new pass
-  gone_groups g stood content is name = record {
-    numbered = forgotten numbers_old numbers_new (λ n. content_in (get old n)) (λ n. content_in (get new n)) k are.numbered number (ap content_in (sym stood) ∙ ap Some content)
+  pub gone_groups : {g : Group} → Some g ≡ get old number → g.content ≡ k → slot ≡ None → named ≡ None → AreGroups numbers_new.entries new pass
+  gone_groups stood content is name = record {
+    numbered = forgotten numbers_old numbers_new (λ n. content_in (get old n)) (λ n. content_in (get new n)) k are.numbered (ap content_in (sym stood) ∙ ap Some content)
         (subst (Updates content_order numbers_old numbers_new k) name updates) (subst (Stands (λ n. content_in (get old n)) (λ n. content_in (get new n)) number) (ap content_in is) idle_stands);
     passes = idle_passes (λ h at. absurd (full h None refl (sym is ∙ at)));
     begun = are.begun;
@@ -292,7 +292,7 @@ pub record Entered (g : Groups) (later : Slab Group) (numbers : BTreeMap Content
   pub waiting : filter_map (waits_in g.pass) later.slots ≡ waiting_in g
   pub chains : (t : ℕ) (b : List ℕ) → under [] (λ n. places_in (get later n)) (number_of t b numbers.entries) ≡ chain_in t b g
 
-module _ (g : Groups) (kept later : Slab Group) (numbers : BTreeMap Content ℕ) (k : Content) (number : ℕ) (fresh : Group) (room : kept ≡ record g.groups { capacity = kept.capacity }) (none : its_number k g.numbers.entries ≡ None)
+module _ (g : Groups) {kept later : Slab Group} (numbers : BTreeMap Content ℕ) {k : Content} {number : ℕ} (fresh : Group) (room : kept ≡ record g.groups { capacity = kept.capacity }) (none : its_number k g.numbers.entries ≡ None)
     (vacant : get kept number ≡ None) (updates : Updates content_order g.numbers numbers k (Some number)) (fills : Fills kept later number (Some fresh)) (content : fresh.content ≡ k) (idle : fresh.pass ≡ 0) (empty : fresh.places.list.items ≡ []) where
   are_kept : AreGroups g.numbers.entries kept g.pass
   are_kept = subst (λ s. AreGroups g.numbers.entries s g.pass) (sym room) (record { numbered = g.lawful.numbered; passes = g.lawful.passes; begun = g.lawful.begun })
@@ -306,12 +306,12 @@ module _ (g : Groups) (kept later : Slab Group) (numbers : BTreeMap Content ℕ)
   -- a group in which nothing stands comes into the room that was made for it
   pub entered_fresh : Entered g later numbers
   entered_fresh = record {
-    lawful = came_groups g.numbers numbers g.pass kept later are_kept k number (Some number) (Some fresh) updates fills was_idle now_idle fresh refl content
+    lawful = came_groups g.numbers numbers are_kept k (Some number) updates fills was_idle now_idle refl content
         (omega (arith, idle)) refl none vacant;
-    waiting = idle_waiting g.numbers numbers g.pass kept later are_kept k number (Some number) (Some fresh) updates fills was_idle now_idle
+    waiting = idle_waiting g.numbers numbers are_kept k (Some number) updates fills was_idle now_idle
         ∙ ap (λ s. filter_map (waits_in g.pass) s.slots) room;
     chains = λ t b.
-        idle_chains g.numbers numbers g.pass kept later are_kept k number (Some number) (Some fresh) updates fills was_idle now_idle
+        idle_chains g.numbers numbers are_kept k (Some number) updates fills was_idle now_idle
         (ap places_in fills.changed ∙ empty ∙ sym (ap (under [] (λ n. places_in (get kept n))) none)) t b
         ∙ ap (λ s. under [] (λ n. places_in (get s n)) (number_of t b g.numbers.entries)) room;
   }

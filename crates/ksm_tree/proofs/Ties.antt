@@ -9,8 +9,8 @@ abbrev IsTied : List Row → Dup → Type 0
 IsTied rows d = d.items ≡ items_of rows d.row
 
 -- the row of a page is the only one of its page
-only_row : (page : GuestPage) (rows : List Row) (old : Row) → InPageOrder rows → row_at page rows ≡ Some old → All (λ r. same_page r.page page ≡ true → r ≡ old) rows
-only_row page rows old rise found k d lt same =
+only_row : (page : GuestPage) (rows : List Row) {old : Row} → InPageOrder rows → row_at page rows ≡ Some old → All (λ r. same_page r.page page ≡ true → r ≡ old) rows
+only_row page rows {old} rise found k d lt same =
     let r = get_or rows k d in
     let at : r.page ≡ page = pages_ordered.same_eq r.page page same in
     same_Some r old (sym (each_at_page _ rise k d lt) ∙ ap (λ p. row_at p rows) at ∙ found)
@@ -33,7 +33,7 @@ module _ (rows : List Row) (page : GuestPage) (old : Row) (rise : InPageOrder ro
   -- a page is an item of no dup but that of its row
   not_item : (d : DupRow) → merged_into d.number old.state ≡ false → has_item page (items_of rows d) ≡ false
   not_item d fails =
-      no_item _ d _ (λ k e lt same. ap (λ r. merged_into d.number r.state) (only_row _ _ old rise found k e lt same) ∙ fails)
+      no_item _ d _ (λ k e lt same. ap (λ r. merged_into d.number r.state) (only_row _ _ rise found k e lt same) ∙ fails)
 
   unlike : (d : DupRow) → merged_into d.number old.state ≡ false → items_of rows d ≡ without_item page (items_of rows d)
   unlike d fails = absent_kept pages_ordered (λ p. p) page (items_of rows d) (none_found (λ p. same_page p page) (items_of rows d) (not_item d fails))

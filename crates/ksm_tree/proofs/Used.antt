@@ -11,8 +11,8 @@ some_of_map f None = refl
 some_of_map f (Some x) = refl
 
 -- a slot with a content has a group
-has_group : (slot : Option Group) (k : Content) → content_in slot ≡ Some k → is_some slot ≡ true
-has_group slot k is = sym (some_of_map _ _) ∙ ap is_some is
+has_group : (slot : Option Group) {k : Content} → content_in slot ≡ Some k → is_some slot ≡ true
+has_group slot is = sym (some_of_map _ _) ∙ ap is_some is
 
 -- a slot with a group is one of the slots
 pub within_slots : (groups : Slab Group) (n : ℕ) → is_some (get groups n) ≡ true → n < length groups.slots
@@ -31,11 +31,11 @@ all_used g are occupied t b has = by (number_of t b g.numbers.entries) refl
     by None absent = absurd (true≢false (sym has ∙ ap is_some absent))
     by (Some n) found =
         let chain : chain_in t b g ≡ places_in (get g.groups n) = ap (under [] (λ m. places_in (get g.groups m))) found in
-        let page = waiting_found g.numbers.entries g.groups g.pass are t b
+        let page = waiting_found are t b
         ∙ ap (under None (λ m. page_in g.pass (get g.groups m))) found in
         let waits : is_some (waiting_page t b (waiting_in g)) ≡ is_some (waits_in g.pass (get g.groups n)) =
         ap is_some page ∙ some_of_map (λ w. w.page) (waits_in g.pass (get g.groups n)) in
-        let here = has_group (get g.groups n) (content_of t b) ((are.numbered (content_of t b) n).0 found) in
+        let here = has_group (get g.groups n) ((are.numbered (content_of t b) n).0 found) in
         (λ i. nat_lt 0 (length (chain i)) || waits i) ∙ occupied n here
 
 -- a content that had no number gets one: there is one more, and no other content got one
@@ -49,13 +49,13 @@ one_more old new tree bytes key none was long updates = (long ∙ ap (λ o. leng
   where
     others : (t : ℕ) (b : List ℕ) → is_some (number_of t b new.entries) ≡ true → (t == tree && bytes_eq b bytes) ≡ false → is_some (number_of t b old.entries) ≡ true
     others t b has apart = elim (cases_Bool (is_at (content_order (content_of tree bytes)) (content_of t b))) [
-      | inl here ↦ absurd (true≢false (sym (are_one t _ b _ (sym (same_content _ _ here))) ∙ apart))
+      | inl here ↦ absurd (true≢false (sym (are_one t _ b _ (sym (same_content here))) ∙ apart))
       | inr other ↦ ap is_some (sym (updates.2 (content_of t b) other)) ∙ has
     ]
 
 -- where the others lost their numbers, or nothing happened, and no content got one, the reserve is kept
-pub reserve_left : (old g : Groups) (tree : ℕ) (bytes : List ℕ) → (IsSwept g ⊎ IsAsWas old g)
+pub reserve_left : (old : Groups) {g : Groups} {tree : ℕ} {bytes : List ℕ} → (IsSwept g ⊎ IsAsWas old g)
     → KeepsReserve (is_used_in g) tree bytes old.numbers.entries g.numbers.entries old.most g.most
-reserve_left old g tree bytes (inl swept) =
+reserve_left old (inl swept) =
     record { many = inr swept.least; limit = inr (record { used = λ t b has apart. swept.used t b has; limit = swept.most }) }
-reserve_left old g tree bytes (inr same) = record { many = inl same.0; limit = inl same.1 }
+reserve_left old (inr same) = record { many = inl same.0; limit = inl same.1 }

@@ -19,8 +19,8 @@ at_page : (row : Row) (rows : List Row) → row_at row.page (change_row row.page
 at_page row [] = refl
 at_page row (r ∷ rs) = let own = same_page_refl row.page in let rest = at_page row rs in grind (arith, own, rest)
 
-at_changed : (row old : Row) (rows : List Row) → row_at row.page rows ≡ Some old → (q : GuestPage) → row_at q (change_row row.page (λ _. row) rows) ≡ (if same_page row.page q then Some row else row_at q rows)
-at_changed row old rows found q =
+at_changed : (row : Row) {old : Row} (rows : List Row) → row_at row.page rows ≡ Some old → (q : GuestPage) → row_at q (change_row row.page (λ _. row) rows) ≡ (if same_page row.page q then Some row else row_at q rows)
+at_changed row rows found q =
     elim (cases_Bool (same_page row.page q)) [
       | inl same ↦ rw same (subst (λ (p : GuestPage). row_at p (change_row row.page (λ _. row) rows) ≡ Some row) (same_page_eq _ q same) (at_page row _ ∙ ap (λ o. if is_some o then Some row else None) found))
       | inr other ↦ rw other (at_others row q _ other)
@@ -111,8 +111,8 @@ module _ (knobs : Knobs) (rows : List Row) (w : List WaitingPage) (row : Row) (r
   looked_up = waiting_page (tree_of knobs row) row.bytes w
 
   -- each row waits for the row where it is named, and another
-  each_waits : (o : Option GuestPage) → looked_up ≡ o → All (λ r. waits_for knobs row r ≡ (names r.page o && not (same_page r.page row.page))) rows
-  each_waits o is k d lt =
+  each_waits : {o : Option GuestPage} → looked_up ≡ o → All (λ r. waits_for knobs row r ≡ (names r.page o && not (same_page r.page row.page))) rows
+  each_waits {o} is k d lt =
       let r = get_or rows k d in
       let there : waits_there knobs (tree_of knobs row) row.bytes (Some r) ≡ names r.page o =
       ap (waits_there knobs (tree_of knobs row) row.bytes) (sym (each_at_page _ rise k d lt)) ∙ sym (are (tree_of knobs row) row.bytes r.page) ∙ ap (names r.page) is in
@@ -123,11 +123,11 @@ module _ (knobs : Knobs) (rows : List Row) (w : List WaitingPage) (row : Row) (r
   partner_found = go _ refl
     where
       go : (o : Option GuestPage) → looked_up ≡ o → partner knobs rows row ≡ option_and_then (λ page. if same_page page row.page then None else row_at page rows) o
-      go None is = find_nothing _ _ (each_waits _ is)
+      go None is = find_nothing _ _ (each_waits is)
       go (Some page) is =
           elim (cases_Bool (same_page page row.page)) [
-            | inl own ↦ rw own (find_nothing (waits_for knobs row) rows (λ k d lt. each_waits (Some page) is k d lt ∙ elsewhere (get_or rows k d).page own))
-            | inr other ↦ rw other (find_alike (waits_for knobs row) (λ r. same_page r.page page) rows (λ k d lt. each_waits (Some page) is k d lt ∙ alone (get_or rows k d).page other))
+            | inl own ↦ rw own (find_nothing (waits_for knobs row) rows (λ k d lt. each_waits is k d lt ∙ elsewhere (get_or rows k d).page own))
+            | inr other ↦ rw other (find_alike (waits_for knobs row) (λ r. same_page r.page page) rows (λ k d lt. each_waits is k d lt ∙ alone (get_or rows k d).page other))
           ]
         where
           elsewhere : (q : GuestPage) → same_page page row.page ≡ true → (same_page page q && not (same_page q row.page)) ≡ false
@@ -159,20 +159,20 @@ edited knobs page now rows changed w new at here others are t b q =
 
 module _ (knobs : Knobs) (rows : List Row) (w : List WaitingPage) (are : AreWaiting knobs rows w) where
   -- whether the page of a row is named is whether it waits there
-  named : (page : GuestPage) (old : Option Row) → row_at page rows ≡ old → (t : ℕ) (b : List ℕ) → names page (waiting_page t b w) ≡ waits_there knobs t b old
-  named page old found t b = are t b page ∙ ap (waits_there knobs t b) found
+  named : (page : GuestPage) {old : Option Row} → row_at page rows ≡ old → (t : ℕ) (b : List ℕ) → names page (waiting_page t b w) ≡ waits_there knobs t b old
+  named page found t b = are t b page ∙ ap (waits_there knobs t b) found
 
   module _ (new : List WaitingPage) (page : GuestPage) (old : Row) (found : row_at page rows ≡ Some old) (stopped : IsStopped knobs old w new) where
     stopped_here : (t : ℕ) (b : List ℕ) → names page (waiting_page t b new) ≡ false
     stopped_here t b =
-        let own = named page (Some old) found t b in
+        let own = named page found t b in
         ap (names page) (stopped t b) ∙ grind (arith, own)
 
     stopped_others : (t : ℕ) (b : List ℕ) (q : GuestPage) → same_page page q ≡ false → names q (waiting_page t b new) ≡ names q (waiting_page t b w)
     stopped_others t b q other =
         let waits = waits_there knobs t b (Some old) in
         ap (names q) (stopped t b) ∙ elim (cases_Bool waits) [
-          | inl gone ↦ rw gone (sym (only_one _ _ q (named page (Some old) found t b ∙ gone) other))
+          | inl gone ↦ rw gone (sym (only_one _ _ q (named page found t b ∙ gone) other))
           | inr never ↦ rw never refl
         ]
 
@@ -184,20 +184,20 @@ module _ (knobs : Knobs) (rows : List Row) (w : List WaitingPage) (are : AreWait
   pub row_stopped : (new : List WaitingPage) (row old : Row) → row_at row.page rows ≡ Some old → waiting_state row.state ≡ false → IsStopped knobs old w new
       → AreWaiting knobs (change_row row.page (λ _. row) rows) new
   row_stopped new row old found still stopped =
-      edited knobs row.page (Some row) rows (change_row row.page (λ _. row) rows) w new (at_changed row old rows found)
+      edited knobs row.page (Some row) rows (change_row row.page (λ _. row) rows) w new (at_changed row rows found)
       (λ t b. stopped_here new row.page old found stopped t b ∙ rw still refl) (stopped_others new row.page old found stopped) are
 
   -- the waiting pages are those of the rows, once a row waits that did not and its page was added
   pub row_begun : (new : List WaitingPage) (row old : Row) → row_at row.page rows ≡ Some old → waiting_state old.state ≡ false → row.state ≡ Waiting
       → waiting_page (tree_of knobs row) row.bytes w ≡ None → IsAdded (tree_of knobs row) row.bytes row.page w new → AreWaiting knobs (change_row row.page (λ _. row) rows) new
   row_begun new row old found still waits none added =
-      edited knobs row.page (Some row) rows (change_row row.page (λ _. row) rows) w new (at_changed row old rows found) here others are
+      edited knobs row.page (Some row) rows (change_row row.page (λ _. row) rows) w new (at_changed row rows found) here others are
     where
       here : (t : ℕ) (b : List ℕ) → names row.page (waiting_page t b new) ≡ waits_there knobs t b (Some row)
       here t b =
           ap (names row.page) (added t b) ∙ elim (cases_Bool (is_content_of knobs row t b)) [
             | inl is ↦ rw (waits, is) (same_page_refl row.page)
-            | inr away ↦ rw (waits, away) (named row.page (Some old) found t b ∙ rw still refl)
+            | inr away ↦ rw (waits, away) (named row.page found t b ∙ rw still refl)
           ]
 
       nothing : (t : ℕ) (b : List ℕ) → is_content_of knobs row t b ≡ true → waiting_page t b w ≡ None
@@ -216,7 +216,7 @@ module _ (knobs : Knobs) (rows : List Row) (w : List WaitingPage) (are : AreWait
   -- a new row that does not wait changes no waiting page
   pub row_inserted : (row : Row) → row_at row.page rows ≡ None → waiting_state row.state ≡ false → AreWaiting knobs (with_row row rows) w
   row_inserted row absent still =
-      edited knobs row.page (Some row) rows (with_row row rows) w w (at_inserted row rows) (λ t b. named row.page None absent t b ∙ rw still refl) (λ t b q other. refl) are
+      edited knobs row.page (Some row) rows (with_row row rows) w w (at_inserted row rows) (λ t b. named row.page absent t b ∙ rw still refl) (λ t b q other. refl) are
 
 -- ---------------------------------------------------------------- all rows
 
@@ -227,8 +227,8 @@ module _ (knobs : Knobs) (rows : List Row) (w : List WaitingPage) (are : AreWait
   -- a row that changes into one that waits alike changes no waiting page
   pub row_kept : (row old : Row) → row_at row.page rows ≡ Some old → IsAlike old row → AreWaiting knobs (change_row row.page (λ _. row) rows) w
   row_kept row old found alike =
-      edited knobs row.page (Some row) rows (change_row row.page (λ _. row) rows) w w (at_changed row old rows found)
-      (λ t b. named knobs rows w are row.page (Some old) found t b ∙ sym (alike_waits knobs t b old row alike)) (λ t b q other. refl) are
+      edited knobs row.page (Some row) rows (change_row row.page (λ _. row) rows) w w (at_changed row rows found)
+      (λ t b. named knobs rows w are row.page found t b ∙ sym (alike_waits knobs t b old row alike)) (λ t b q other. refl) are
 
   -- where each row changes into one that waits alike, no waiting page changes
   pub rows_mapped : (f : Row → Row) → All (λ r. IsAlike r (f r)) rows → AreWaiting knobs (map f rows) w

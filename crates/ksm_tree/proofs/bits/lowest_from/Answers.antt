@@ -6,4 +6,4 @@ pub returns-then-rest-eq0 : goal.returns-then-rest-eq0
 returns-then-rest-eq0 c = none_from c.args.word c.args.from c.if-rest-eq0.true
 
 pub returns-else-rest-eq0 : goal.returns-else-rest-eq0
-returns-else-rest-eq0 c = lowest_behind c.args.word c.args.from c.lowest.result (omega (arith, c.ranges.word)) c.lowest.ensures
+returns-else-rest-eq0 c = lowest_behind (omega (arith, c.ranges.word)) c.lowest.ensures

@@ -13,7 +13,7 @@ returns g c =
     let upper = g.S.Bits.words c.self.inside.summary in
     let next = c.in_ok-next.next in
     let summed = c.self.invariant.summed (omega (arith, c.if-this-le1.false)) in
-    let within = within_named words upper summed (c.args.at + 1) next c.in_ok-next.ensures in
+    let within = within_named words summed c.in_ok-next.ensures in
     let read = get_or_default words next 0 c.index.result.now within ∙ sym c.index.ensures in
     let lowest = subst (λ (word : ℕ). IsLowestBit word 0 c.lowest.result) (sym read) c.lowest.ensures in
-    rw (← c.self.view_is) (found_behind words upper summed c.args.at next c.lowest.result c.in_ok-next.ensures lowest)
+    rw (← c.self.view_is) (found_behind words summed c.args.at c.in_ok-next.ensures lowest)

@@ -3,7 +3,7 @@ use Rattle.ksm_tree.proofs.Standing.{rechained, rewritten, same_waiting, stands_
 use Rattle.ksm_tree.proofs.groups.Groups.add.Goals as goal
 
 pub unreachable-requires-in_default-get_mut : goal.unreachable-requires-in_default-get_mut
-unreachable-requires-in_default-get_mut c = stands_under c.args.self.now c.args.tree c.args.bytes.now c.in-Some.number (sym c.in-Some.ensures) c.in_default-get_mut.ensures.value
+unreachable-requires-in_default-get_mut c = stands_under c.args.self.now c.args.tree c.args.bytes.now (sym c.in-Some.ensures) c.in_default-get_mut.ensures.value
 
 pub invariant_of-self : goal.invariant_of-self
 invariant_of-self c =

@@ -22,7 +22,7 @@ entered c =
     let key : c.insert_reserved.result ≡ c.in-Ok.number = search rules in
     let vacant = ap (λ n. get c.reserve.new.self n) (sym key) ∙ c.insert_reserved.ensures.was_vacant in
     let fills = subst (λ n. Fills c.reserve.new.self c.insert_reserved.new.self n (Some fresh)) key c.insert_reserved.ensures.updates in
-    entered_fresh c.args.self.now c.reserve.new.self c.insert_reserved.new.self c.insert.new.self k c.in-Ok.number fresh c.reserve.ensures.rest_kept c.requires vacant
+    entered_fresh c.args.self.now c.insert.new.self fresh c.reserve.ensures.rest_kept c.requires vacant
     c.in_ok-insert.ensures.updates fills refl refl c.new.ensures.none
 
 pub invariant_of-self-2 : goal.invariant_of-self-2

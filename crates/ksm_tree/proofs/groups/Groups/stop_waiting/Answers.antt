@@ -15,7 +15,7 @@ returns-in-Some-get_mut-clause-removed c t b =
     ∙ ap (λ o. if t == c.args.tree && bytes_eq b c.args.bytes.now then o else waiting_page t b (waiting_in s)) (page_still now s.pass (λ e. omega (arith, begun, e)))
 
 pub returns-in_default-get_mut-clause-removed : goal.returns-in_default-get_mut-clause-removed
-returns-in_default-get_mut-clause-removed c = absurd (stands_under c.args.self.now c.args.tree c.args.bytes.now c.in-Some.number (sym c.in-Some.ensures) c.in_default-get_mut.ensures.value)
+returns-in_default-get_mut-clause-removed c = absurd (stands_under c.args.self.now c.args.tree c.args.bytes.now (sym c.in-Some.ensures) c.in_default-get_mut.ensures.value)
 
 pub returns-in_default-clause-removed : goal.returns-in_default-clause-removed
 returns-in_default-clause-removed c = none_removed c.args.self.now c.args.tree c.args.bytes.now (sym c.in_default.ensures)
