@@ -35,23 +35,23 @@ module _ (rows : List Row) where
 
   -- as many dups are stale as there are rows of dups that are stale
   pub stale_count : (dups : List Dup) → AreCounted rows dups → count_by is_stale dups ≡ count_by (is_stale_row rows) (rows_of dups)
-  stale_count dups counted = count_alike _ _ _ (All-weaker IsCounted (λ d. is_stale d ≡ is_stale_row rows d.row) (λ d n. ap (λ k. k == 0) n) dups counted)
+  stale_count dups counted = count_alike _ _ _ (All-weaker _ (λ d. is_stale d ≡ is_stale_row rows d.row) (λ d n. ap (λ k. k == 0) n) _ counted)
 
   -- as many dups have items as rows of dups have pages merged into them
   pub live_count : (dups : List Dup) → AreCounted rows dups → count_by is_live dups ≡ count_by (has_items rows) (rows_of dups)
-  live_count dups counted = count_alike _ _ dups (All-weaker IsCounted (λ d. is_live d ≡ has_items rows d.row) (λ d n. ap (nat_lt 0) n) dups counted)
+  live_count dups counted = count_alike _ _ _ (All-weaker _ (λ d. is_live d ≡ has_items rows d.row) (λ d n. ap (nat_lt 0) n) _ counted)
 
   -- a dup with items at a place is the row of a dup there that pages are merged into
   pub live_placed : (place : ℕ) (dups : List Dup) → AreCounted rows dups → option_map (λ d. d.row) (find (λ d. stands_at place d && is_live d) dups) ≡ find (λ d. d.place == place && has_items rows d) (rows_of dups)
   live_placed place dups counted =
       found_alike _ _ _
-      (All-weaker _ (λ d. (stands_at place d && is_live d) ≡ (d.row.place == place && has_items rows d.row)) (λ d n. ap (λ k. d.row.place == place && nat_lt 0 k) n) dups counted)
+      (All-weaker _ (λ d. (stands_at place d && is_live d) ≡ (d.row.place == place && has_items rows d.row)) (λ d n. ap (λ k. d.row.place == place && nat_lt 0 k) n) _ counted)
 
   -- a stale dup at a place is the row of a dup there that no page is merged into
   pub stale_placed : (place : ℕ) (dups : List Dup) → AreCounted rows dups → option_map (λ d. d.row) (find (λ d. stands_at place d && is_stale d) dups) ≡ find (λ d. d.place == place && is_stale_row rows d) (rows_of dups)
   stale_placed place dups counted =
       found_alike _ _ _
-      (All-weaker _ (λ d. (stands_at place d && is_stale d) ≡ (d.row.place == place && is_stale_row rows d.row)) (λ d n. ap (λ k. d.row.place == place && k == 0) n) dups counted)
+      (All-weaker _ (λ d. (stands_at place d && is_stale d) ≡ (d.row.place == place && is_stale_row rows d.row)) (λ d n. ap (λ k. d.row.place == place && k == 0) n) _ counted)
 
   module _ (knobs : Knobs) (row : Row) where
     joins_alike : (d : Dup) → IsCounted d → may_join (tree_of knobs row) row.bytes knobs.max_page_sharing d ≡ row_may_join knobs rows row d.row
@@ -97,11 +97,9 @@ module _ (rows : List Row) where
   -- the place that is chosen for a new dup is the one that the book's definition gives
   pub choice_alike : (s : DupsState) (c : Choice) → AreCounted rows s.dups → choice_of s ≡ Some c → place_in c ≡ new_place s.places rows (rows_of s.dups)
   choice_alike s c counted is =
-      let empty = empty_from 0 (rows_of s.dups) in
       place_alike _ _ _ is ∙ new_alike s counted
 
   -- where the book's definition gives a place of the table, one is chosen
   pub choice_exists : (s : DupsState) → AreCounted rows s.dups → new_place s.places rows (rows_of s.dups) < s.places → is_some (choice_of s) ≡ true
   choice_exists s counted inside =
-      let empty = empty_from 0 (rows_of s.dups) in
       choice_there _ _ _ _ refl (subst (λ n. n < s.places) (sym (new_alike s counted)) inside)

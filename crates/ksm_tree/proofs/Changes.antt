@@ -7,7 +7,6 @@ use Rattle.ksm_tree.proofs.Rows.{only_number}
 -- the row of a new dup is added to the rows
 pub rows_new : (dup : Dup) (dups : List Dup) → rows_of (with_new dup dups) ≡ with_dup dup.row (rows_of dups)
 rows_new dup dups =
-    let p = dup.row.place in
     map-append (λ d. d.row) _ _
     ∙ ap₂ (λ front back. front ++ dup.row ∷ back) (filtered _) (filtered _)
   where
@@ -16,7 +15,7 @@ rows_new dup dups =
 
 -- a place that is dropped takes its row out of the rows
 pub rows_without : (p : ℕ) (dups : List Dup) → rows_of (without_place p dups) ≡ filter (λ r. not (r.place == p)) (rows_of dups)
-rows_without p dups = sym (filter_mapped (λ (d : Dup). d.row) (λ r. not (r.place == p)) (λ d. not (stands_at p d)) dups (λ k d lt. refl))
+rows_without p dups = sym (filter_mapped _ _ _ dups (λ k d lt. refl))
 
 rows_same : (test : Dup → Bool) (f : List GuestPage → List GuestPage) (dups : List Dup) → rows_of (map (λ d. if test d then record d { items = f d.items } else d) dups) ≡ rows_of dups
 rows_same test f dups =
@@ -51,28 +50,28 @@ row_there {p} (Some e) is = (e, refl, same_Some _ p is)
 agree_changed : (test by : Dup → Bool) (f : List GuestPage → List GuestPage) (dups : List Dup) → All (λ d. test d ≡ by d) dups → map {B = Dup} (λ d. if test d then record d { items = f d.items } else d) dups ≡ map (λ d. if by d then record d { items = f d.items } else d) dups
 agree_changed test by f dups same =
     map_alike (λ d. if test d then record d { items = f d.items } else d) (λ d. if by d then record d { items = f d.items } else d) dups
-    (λ k e lt. let d : Dup = get_or dups k e in (λ i. if same k e lt i then record d { items = f d.items } else d))
+    (λ k e lt. let d = get_or dups k e in (λ i. if same k e lt i then record d { items = f d.items } else d))
 
 -- what holds of all rows holds of each dup's row
 pub all_rows : (P : DupRow → Type 0) (dups : List Dup) → All P (rows_of dups) → All (λ d. P d.row) dups
 all_rows P [] each = λ k d lt. absurd (omega arith)
-all_rows P (e ∷ dups) each = All-cons (λ d. P d.row) e dups (All-head P e.row (rows_of dups) each) (all_rows P dups (All-tail P e.row (rows_of dups) each))
+all_rows P (e ∷ dups) each = All-cons (λ d. P d.row) e _ (All-head P _ _ each) (all_rows P dups (All-tail P _ _ each))
 
 -- number and place tell one dup
 one_dup : (q : ℕ) {p : ℕ} (dups : List Dup) → InPlaceOrder (rows_of dups) → row_place q (rows_of dups) ≡ Some p → All (λ d. has_number q d ≡ stands_at p d) dups
 one_dup q {p} dups rise is =
-    let there = row_there (find (λ r. r.number == q) (rows_of dups)) is in
-    let only = only_number q (rows_of dups) rise there.1 in
-    all_rows (λ r. (r.number == q) ≡ (r.place == p)) dups (λ k d lt. only k d lt ∙ ap (λ n. (get_or (rows_of dups) k d).place == n) there.2)
+    let there = row_there _ is in
+    let only = only_number q _ rise there.1 in
+    all_rows (λ r. (r.number == q) ≡ (r.place == p)) _ (λ k d lt. only k d lt ∙ ap (λ n. (get_or (rows_of dups) k d).place == n) there.2)
 
 -- a dup found by its number is the one at its place
 pub number_place_found : (q : ℕ) {p : ℕ} (dups : List Dup) → InPlaceOrder (rows_of dups) → row_place q (rows_of dups) ≡ Some p → dup_of q dups ≡ dup_at p dups
-number_place_found q {p} dups rise is = find_alike (has_number q) (stands_at p) dups (one_dup q dups rise is)
+number_place_found q {p} dups rise is = find_alike _ _ _ (one_dup q _ rise is)
 
 -- items changed by a dup's number are those at its place
 pub number_place_changed : (q : ℕ) {p : ℕ} (f : List GuestPage → List GuestPage) (dups : List Dup) → InPlaceOrder (rows_of dups) → row_place q (rows_of dups) ≡ Some p → change_items q f dups ≡ change_at p f dups
-number_place_changed q {p} f dups rise is = agree_changed (has_number q) (stands_at p) f dups (one_dup q dups rise is)
+number_place_changed q {p} f dups rise is = agree_changed _ _ f _ (one_dup q _ rise is)
 
 -- to change the items of a number that no dup has changes nothing
 pub unchanged_items : (q : ℕ) (f : List GuestPage → List GuestPage) {dups : List Dup} → dup_of q dups ≡ None → dups ≡ change_items q f dups
-unchanged_items q f {dups} is = sym (change_none (has_number q) (λ d. record d { items = f d.items }) dups (find_none (has_number q) dups is))
+unchanged_items q f {dups} is = sym (change_none _ (λ d. record d { items = f d.items }) _ (find_none _ _ is))

@@ -35,7 +35,7 @@ more_there p (r ∷ rows) e rise found =
     elim (cases_Bool (r.place == p)) [
       | inl here ↦
           let same : r ≡ e = same_Some r e (grind (arith, here, found)) in
-          let kept = filter_all (λ s. not (s.place == p)) rows (All-weaker (Lower r) (λ s. not (s.place == p) ≡ true) (λ s h. let later = h.0 in grind (arith, nat_tests, here, later)) rows first) in
+          let kept = filter_all (λ s. not (s.place == p)) rows (All-weaker (Lower r) (λ s. not (s.place == p) ≡ true) (λ s h. grind (arith, nat_tests, here)) rows first) in
           record {
             counts = λ q. (let more = count_more q r rows in grind (arith, here, kept, same, more));
             all = λ q. grind (arith, here, kept, same);
@@ -44,7 +44,7 @@ more_there p (r ∷ rows) e rise found =
           let rest = more_there p rows e (pairs_tail Lower r rows rise) (grind (arith, away, found)) in
           record {
             counts = λ q. (let one = rest.counts q in let more = count_more q r rows in let less = count_more q r (filter (λ s. not (s.place == p)) rows) in grind (arith, away, one, more, less));
-            all = λ q. (let one = rest.all q in grind (arith, away, one));
+            all = λ q. (grind (arith, away));
           }
     ]
 
@@ -63,9 +63,7 @@ count_where : (s : DupRow → Bool) (b : Bool) (rows : List DupRow) → count_by
 count_where s b [] = grind arith
 count_where s b (r ∷ rows) =
     let rest = count_where s b rows in
-    let all = count_more s r rows in
-    let both = count_more (λ d. s d && b) r rows in
-    grind (arith, rest, all, both)
+    grind (arith, rest)
 
 -- ---------------------------------------------------------------- one group
 
@@ -167,23 +165,21 @@ module _ (t : ℕ) (b : List ℕ) where
   -- another group's row changes nothing of what the others make
   module _ {r : DupRow} {less more : List DupRow} (h : IsMore r less more) (inside : of_it r ≡ true) where
     same_size : (d : DupRow) → of_it d ≡ false → group_size more d ≡ group_size less d
-    same_size d outside = let one = h.counts (same_group d) in let apart = group_apart d r outside inside in grind (arith, one, apart)
+    same_size d outside = let apart = group_apart d r outside inside in grind (arith, apart)
 
     -- one dup row more in the group changes nothing of the number of other groups' dups that are in chains
     pub dups_kept : dups_apart more ≡ dups_apart less
     dups_kept =
-        let one = h.counts (λ d. not (of_it d) && in_chain more d) in
         let alike = count_alike (λ d. not (of_it d) && in_chain more d) (λ d. not (of_it d) && in_chain less d) less
         (λ k e lt. let d = get_or less k e in elim (cases_Bool (of_it d)) [
           | inl too ↦ grind (arith, too)
           | inr outside ↦ ap (λ n. not (of_it d) && nat_lt 1 n) (same_size d outside)
         ]) in
-        grind (arith, one, alike, inside)
+        grind (arith, alike, inside)
 
     -- one dup row more in the group changes nothing of the number of other groups' chains
     pub chains_kept : chains_apart more ≡ chains_apart less
     chains_kept =
-        let one = h.counts (λ d. not (of_it d) && leads more d) in
         let alike = count_alike (λ d. not (of_it d) && leads more d) (λ d. not (of_it d) && leads less d) less
         (λ k e lt. let d = get_or less k e in elim (cases_Bool (of_it d)) [
           | inl too ↦ grind (arith, too)
@@ -193,7 +189,7 @@ module _ (t : ℕ) (b : List ℕ) where
               let every = h.all (λ e. not (same_group d e) || nat_le d.place e.place) in
               grind (arith, outside, n, apart, every)
         ]) in
-        grind (arith, one, alike, inside)
+        grind (arith, alike, inside)
 
 -- ---------------------------------------------------------------- the totals
 
@@ -203,32 +199,28 @@ rows_fit k p [] least above below rise = omega arith
 rows_fit k p (r ∷ rows) least above below rise =
     let here = All-head (λ e. k ≤ e.place) r _ above in
     let under = All-head (λ e. e.place < p) r _ below in
-    let first = pairs_head Lower r rows rise in
+    let first = pairs_head Lower r _ rise in
     let rest = rows_fit (suc r.place) p rows (omega (arith, under)) (All-weaker (Lower r) (λ e. suc r.place ≤ e.place) (λ e h. let later = h.0 in omega (arith, later)) rows first) (All-tail (λ e. e.place < p) r rows below) (pairs_tail Lower r rows rise) in
     omega (arith, rest, here)
 
 -- there are at most as many chains as frames, and as many dups in them
 pub totals_few : (p : ℕ) {rows : List DupRow} {totals : Totals} → p ≤ MOST_FRAMES → All (λ r. r.place < p) rows → InPlaceOrder rows → AreTotals rows totals → (totals.chains ≤ MOST_FRAMES) × (totals.dups ≤ MOST_FRAMES)
 totals_few p {rows} few below rise are =
-    let fit = rows_fit 0 p rows (omega arith) (λ k d lt. omega arith) below rise in
+    let fit = rows_fit 0 p _ (omega arith) (λ k d lt. omega arith) below rise in
     let dups = count_by-le-length (in_chain rows) rows in
     let chains = count_by-le-length (λ d. in_chain rows d && leads_group rows d) rows in
-    let first = are.chains in
-    let second = are.dups in
-    (omega (arith, first, chains, fit, few), omega (arith, second, dups, fit, few))
+    (omega (arith, chains, fit, few), omega (arith, dups, fit, few))
 
 -- the totals have room for each group as it is
 pub totals_tell : (t : ℕ) (b : List ℕ) (p : ℕ) {rows : List DupRow} {totals : Totals} → p ≤ MOST_FRAMES → All (λ r. r.place < p) rows → InPlaceOrder rows → AreTotals rows totals → Tells (length (group_places t b rows)) totals
 totals_tell t b p {rows} {totals} few below rise are =
     let n = places_size t b rows in
     let dups = dups_parted t b rows in
-    let chains = chains_parted t b rows rise in
+    let chains = chains_parted t b _ rise in
     let small = totals_few p few below rise are in
-    let first = are.chains in
-    let second = are.dups in
     record {
-      chains = rw n (omega (arith, first, chains));
-      dups = rw n (omega (arith, second, dups));
+      chains = rw n (omega (arith, chains));
+      dups = rw n (omega (arith, dups));
       few = omega (arith, small.0);
       small = omega (arith, small.1);
     }
@@ -237,7 +229,7 @@ totals_tell t b p {rows} {totals} few below rise are =
 pub totals_moved : (t : ℕ) (b : List ℕ) {rows new : List DupRow} {old_totals new_totals : Totals} → InPlaceOrder rows → InPlaceOrder new → dups_apart t b new ≡ dups_apart t b rows → chains_apart t b new ≡ chains_apart t b rows
     → IsRegrouped (length (group_places t b rows)) (length (group_places t b new)) old_totals new_totals → AreTotals rows old_totals → AreTotals new new_totals
 totals_moved t b {rows} {new} {old_totals} {new_totals} rise new_rise dups chains regrouped are =
-    let r : IsRegrouped (size t b rows) (size t b new) old_totals new_totals = rw (← places_size t b rows, ← places_size t b new) regrouped in
+    let r : IsRegrouped (size t b rows) (size t b new) old_totals new_totals = rw (← places_size t b _, ← places_size t b new) regrouped in
     let d_old = dups_parted t b rows in
     let d_new = dups_parted t b new in
     let c_old = chains_parted t b rows rise in
@@ -262,7 +254,7 @@ module _ {old r : DupRow} {less rows new : List DupRow} (there : IsMore old less
       → IsRegrouped (length (group_places r.tree r.bytes rows)) n t u → IsRegrouped n (length (group_places r.tree r.bytes new)) u v → AreTotals rows t → AreTotals new v
   totals_same {t} {u} {v} {n} same first second are =
       let own = self_group r in
-      totals_moved r.tree r.bytes rise new_rise
+      totals_moved _ _ rise new_rise
       (dups_kept r.tree r.bytes here own ∙ sym (dups_kept r.tree r.bytes there same))
       (chains_kept r.tree r.bytes here own ∙ sym (chains_kept r.tree r.bytes there same))
       (regrouped_twice first second) are
@@ -276,7 +268,7 @@ module _ {old r : DupRow} {less rows new : List DupRow} (there : IsMore old less
       let from : IsRegrouped (size r.tree r.bytes rows) (size r.tree r.bytes new) t u = rw (← places_size r.tree r.bytes rows, ← places_size r.tree r.bytes new) first in
       let to : IsRegrouped (size old.tree old.bytes rows) (size old.tree old.bytes new) u v = rw (← places_size old.tree old.bytes rows, ← places_size old.tree old.bytes new) second in
       let one : size r.tree r.bytes rows ≡ size r.tree r.bytes less = (let h = there.counts (in_group r.tree r.bytes) in grind (arith, h, other)) in
-      let two : size old.tree old.bytes new ≡ size old.tree old.bytes less = (let h = here.counts (in_group old.tree old.bytes) in grind (arith, h, also)) in
+      let two : size old.tree old.bytes new ≡ size old.tree old.bytes less = (grind (arith, also)) in
       let d1 = dups_parted old.tree old.bytes rows in
       let d2 = dups_parted old.tree old.bytes less in
       let d3 = dups_parted r.tree r.bytes less in
@@ -301,7 +293,7 @@ module _ {old r : DupRow} {less rows new : List DupRow} (there : IsMore old less
   -- after a dup came and before another went, the totals tell of a group of any size that they told of
   pub totals_between : {t u : Totals} → IsRegrouped (length (group_places r.tree r.bytes rows)) (length (group_places r.tree r.bytes new)) t u → (n : ℕ) → t.chains ≤ MOST_FRAMES → t.dups ≤ MOST_FRAMES → Tells n t → Tells n u
   totals_between {t} {u} first n few small tells =
-      let from : IsRegrouped (size r.tree r.bytes rows) (size r.tree r.bytes new) t u = rw (← places_size r.tree r.bytes rows, ← places_size r.tree r.bytes new) first in
+      let from : IsRegrouped (size r.tree r.bytes rows) (size r.tree r.bytes new) t u = rw (← places_size _ _ _, ← places_size _ _ new) first in
       let one = there.counts (in_group r.tree r.bytes) in
       let two = here.counts (in_group r.tree r.bytes) in
       let own = self_group r in

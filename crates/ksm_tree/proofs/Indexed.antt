@@ -21,11 +21,11 @@ place_of_row (Some e) = refl
 
 -- a dup has the place that its row has
 row_placed : (q : ℕ) (dups : List Dup) → row_place q (rows_of dups) ≡ option_map (λ d. d.row.place) (dup_of q dups)
-row_placed q dups = ap (option_map (λ r. r.place)) (sym (row_found (has_number q) (λ r. r.number == q) (λ d. refl) dups)) ∙ place_of_row (dup_of q dups)
+row_placed q dups = ap (option_map (λ r. r.place)) (sym (row_found _ _ (λ d. refl) dups)) ∙ place_of_row _
 
 -- where the place of a number is told, a search by the number finds the dup at that place
 pub placed_found : (q : ℕ) {p : ℕ} (dups : List Dup) → InPlaceOrder (rows_of dups) → Some p ≡ option_map (λ d. d.row.place) (dup_of q dups) → dup_of q dups ≡ dup_at p dups
-placed_found q {p} dups rise is = number_place_found q dups rise (row_placed q dups ∙ sym is)
+placed_found q {p} dups rise is = number_place_found q _ rise (row_placed q _ ∙ sym is)
 
 -- where no place of a number is told, a change of the number's items changes no dup
 pub unplaced_changed : (q : ℕ) {dups : List Dup} → None ≡ option_map (λ d. d.row.place) (dup_of q dups) → (f : List GuestPage → List GuestPage) → dups ≡ change_items q f dups
@@ -74,17 +74,17 @@ module _ (q : ℕ) {p : ℕ} {s : SlotsState} {next : ℕ} {index : Index} {seen
 
   -- a dup stands at that place
   pub told_there : is_some (dup_at p s.dups) ≡ true
-  told_there = ap is_some (sym (placed_found q s.dups h.lawful.in_place_order is_inside)) ∙ dup_some (dup_of q s.dups) (sym is_inside)
+  told_there = ap is_some (sym (placed_found q _ h.lawful.in_place_order is_inside)) ∙ dup_some _ (sym is_inside)
 
   -- the items at that place are those of the number
   pub told_items : items_in (dup_at p s.dups) ≡ items_in (dup_of q seen.dups)
   told_items =
-      ap items_in (sym (placed_found q s.dups h.lawful.in_place_order is_inside)) ∙ ap (λ v. items_in (dup_of q v.dups)) view
+      ap items_in (sym (placed_found q _ h.lawful.in_place_order is_inside)) ∙ ap (λ v. items_in (dup_of q v.dups)) view
 
   -- a change of the items at that place is seen as a change of the number's items
   pub told_changed : (f : List GuestPage → List GuestPage) (ready : Bool) → dups_seen (record { places = s.places; dups = change_at p f s.dups; ready = ready }) next index ≡ record seen { dups = change_items q f seen.dups }
   told_changed f ready =
-      let changed = number_place_changed q f s.dups h.lawful.in_place_order (row_placed q s.dups ∙ sym is_inside) in
+      let changed = number_place_changed q f _ h.lawful.in_place_order (row_placed q _ ∙ sym is_inside) in
       (λ i. record (dups_seen s next index) { dups = sym changed i })
       ∙ ap {A = DupsState} {B = DupsState} (λ v. record v { dups = change_items q f v.dups }) view
 
@@ -106,21 +106,21 @@ module _ {s : SlotsState} {next : ℕ} {index : Index} (h : AreIndexed s next in
 -- the totals tell of the group of each tree and bytes
 pub told : {s : SlotsState} {next : ℕ} {index : Index} → AreIndexed s next index → (t : ℕ) (b : List ℕ) → Tells (length (places_of t b index)) index.groups.totals
 told {s} {index} h t b =
-    rw (h.grouped t b) (totals_tell t b s.places h.few h.lawful.places_below h.lawful.in_place_order h.counted)
+    rw (h.grouped t b) (totals_tell t b _ h.few h.lawful.places_below h.lawful.in_place_order h.counted)
 
 -- the row found at a place is the row of the dup found there
 pub row_at_place : (p : ℕ) (dups : List Dup) {d : Option Dup} → dup_at p dups ≡ d → find (λ r. r.place == p) (rows_of dups) ≡ option_map (λ e. e.row) d
-row_at_place p dups is = sym (row_found (stands_at p) (λ r. r.place == p) (λ e. refl) dups) ∙ ap (option_map (λ e. e.row)) is
+row_at_place p dups is = sym (row_found _ _ (λ e. refl) dups) ∙ ap (option_map (λ e. e.row)) is
 
 -- no row of another group stands where a dup stands
 pub not_in_group : (p t : ℕ) (b : List ℕ) (dups : List Dup) {d : Dup} → InPlaceOrder (rows_of dups) → dup_at p dups ≡ Some d → in_group t b d.row ≡ false → All (λ r. (r.place == p && in_group t b r) ≡ false) (rows_of dups)
 not_in_group p t b dups {d} rise found outside =
     All-weaker (IsOne p d.row) (λ r. (r.place == p && in_group t b r) ≡ false)
     (λ r h. elim (cases_Bool (r.place == p)) [
-      | inl here ↦ let same = h.1 here in let out : in_group t b r ≡ false = rw same outside in grind (arith, here, out)
+      | inl here ↦ let same = h.1 here in grind (arith, here)
       | inr away ↦ grind (arith, away)
     ])
-    (rows_of dups) (only_one p (rows_of dups) d.row rise (row_at_place p dups found))
+    _ (only_one p _ _ rise (row_at_place p _ found))
 
 -- what is one value where a test passes and another where it fails is the choice between both by the test
 pub cond_if : {X : Type 0} (s : Bool) (x y z : X) → (s ≡ true → z ≡ x) → (s ≡ false → z ≡ y) → z ≡ (if s then x else y)
@@ -164,14 +164,14 @@ gone_indexed {s} {next} {index} {new} p d ready h found at numbers groups regrou
 
 -- the dup found at a place stands there
 pub found_stands : {p : ℕ} (dups : List Dup) {d : Dup} → dup_at p dups ≡ Some d → d.row.place ≡ p
-found_stands {p} dups {d} found = eqb-true d.row.place p (find_passes (stands_at p) dups d found)
+found_stands {p} dups {d} found = eqb-true _ p (find_passes _ dups d found)
 
 -- the dup found at a place is the one that has its number
 pub stands_numbered : (p q : ℕ) (dups : List Dup) (d : Dup) → InPlaceOrder (rows_of dups) → dup_at p dups ≡ Some d → d.row.number ≡ q → Some p ≡ option_map (λ d. d.row.place) (dup_of q dups)
 stands_numbered p q dups d rise found is =
-    let only = only_one p (rows_of dups) d.row rise (row_at_place p dups found) in
-    let one = all_rows (λ r. (r.place == p) ≡ (r.number == q)) dups (λ k e lt. (only k e lt).0 ∙ ap (λ n. (get_or (rows_of dups) k e).number == n) is) in
-    ap Some (sym (found_stands dups found)) ∙ ap (option_map (λ d. d.row.place)) (sym found ∙ find_alike (stands_at p) (has_number q) dups one)
+    let only = only_one p _ _ rise (row_at_place p _ found) in
+    let one = all_rows (λ r. (r.place == p) ≡ (r.number == q)) _ (λ k e lt. (only k e lt).0 ∙ ap (λ n. (get_or (rows_of dups) k e).number == n) is) in
+    ap Some (sym (found_stands _ found)) ∙ ap (option_map (λ d. d.row.place)) (sym found ∙ find_alike _ _ _ one)
 
 -- where nothing stands, nothing that passes a test stands
 pub none_there : (p : ℕ) (test : Dup → Bool) (dups : List Dup) → None ≡ dup_at p dups → is_some (find (λ d. stands_at p d && test d) dups) ≡ true → ⊥
@@ -194,7 +194,7 @@ found_passing p test (d ∷ dups) rise =
     let rest = found_passing p test dups (pairs_tail Lower d.row (rows_of dups) rise) in
     elim (cases_Bool (stands_at p d)) [
       | inl here ↦
-          let behind = all_rows (λ r. d.row.place < r.place) dups (All-weaker (Lower d.row) (λ r. d.row.place < r.place) (λ r h. h.0) (rows_of dups) (pairs_head Lower d.row (rows_of dups) rise)) in
+          let behind = all_rows (λ r. d.row.place < r.place) _ (All-weaker (Lower d.row) _ (λ r h. h.0) (rows_of dups) (pairs_head Lower d.row (rows_of dups) rise)) in
           let none = find_nothing (λ e. stands_at p e && test e) dups (All-weaker (λ e. d.row.place < e.row.place) (λ e. (stands_at p e && test e) ≡ false) (λ e later. grind (arith, nat_tests, here, later)) dups behind) in
           grind (arith, here, none)
       | inr away ↦ grind (arith, away, rest)

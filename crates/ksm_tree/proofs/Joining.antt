@@ -47,9 +47,7 @@ module _ (may : Dup → Bool) where
         | inl best ↦
             let of_d = and_parts (may d) (list_all (rival d) (b ∷ dups)) best in
             let behind = AllPass-from_list_all (rival d) dups (and_parts (rival d b) (list_all (rival d) dups) of_d.1).1 in
-            let each = list_all-from_AllPass (rival b) dups (All-weaker (λ e. rival d e ≡ true) (λ e. rival b e ≡ true) (λ e above. through b d e of_d.0 r above) dups behind) in
-            let refl_b = worse_refl b in
-            absurd (false≢true (sym other ∙ (grind (arith, first, refl_b, each))))
+            absurd (false≢true (sym other ∙ (grind (arith, first))))
         | inr fails ↦ fails
       ]
 
@@ -69,20 +67,19 @@ module _ (may : Dup → Bool) where
 
   -- a walk from a dup on ends at the best of it and the others
   walk_from : (b : Dup) (dups : List Dup) → may b ≡ true → walked (Some b) dups ≡ find (top (b ∷ dups)) (b ∷ dups)
-  walk_from b [] first = let r = worse_refl b in grind (arith, first, r)
+  walk_from b [] first = grind (arith, first)
   walk_from b (d ∷ dups) first =
       elim (cases_Bool (may d)) [
         | inl passes ↦ elim (cases_Bool (is_no_worse b d)) [
           | inl above ↦
               let stays : kept (Some b) d ≡ Some b = rw (passes, above) refl in
-              ap (λ acc. walked acc dups) stays ∙ walk_from b dups first ∙ passed_by b d dups first (grind (arith, above))
+              ap (λ acc. walked acc dups) stays ∙ walk_from b dups first ∙ passed_by b d _ first (grind (arith, above))
           | inr worse ↦
               let goes : kept (Some b) d ≡ Some d = rw (passes, worse) refl in
-              let beats = worse_total b d worse in
-              let over : rival d b ≡ true = grind (arith, beats) in
+              let over : rival d b ≡ true = grind (arith) in
               let lost : top (b ∷ d ∷ dups) b ≡ false = grind (arith, passes, worse) in
               let same : (e : Dup) → top (d ∷ dups) e ≡ top (b ∷ d ∷ dups) e =
-              λ e. sym (skip_first (may e) (rival e b) (rival e d) (list_all (rival e) dups) (λ above. through e d b passes above over)) in
+              λ e. sym (skip_first _ _ _ _ (λ above. through e d b passes above over)) in
               ap (λ acc. walked acc dups) goes
               ∙ walk_from d dups passes
               ∙ (λ i. find (λ e. same e i) (d ∷ dups))
@@ -98,7 +95,7 @@ module _ (may : Dup → Bool) where
   walk_top [] = refl
   walk_top (d ∷ dups) =
       elim (cases_Bool (may d)) [
-        | inl passes ↦ ap (λ b. walked (cond b (Some d) None) dups) passes ∙ walk_from d dups passes
+        | inl passes ↦ ap (λ b. walked (cond b (Some d) None) dups) passes ∙ walk_from d _ passes
         | inr fails ↦
             let same : (e : Dup) → top dups e ≡ top (d ∷ dups) e = λ e. sym (ap (λ m. may e && ((not m || is_no_worse e d) && list_all (rival e) dups)) fails) in
             ap (λ b. walked (cond b (Some d) None) dups) fails
@@ -111,10 +108,10 @@ module _ (may : Dup → Bool) where
 pub found_self : (dups : List Dup) → InPlaceOrder (rows_of dups) → All (λ d. dup_at d.row.place dups ≡ Some d) dups
 found_self [] rise = λ k d lt. absurd (omega arith)
 found_self (d ∷ dups) rise =
-    let first = pairs_head (λ a b. (a.place < b.place) × ((a.number == b.number) ≡ false)) d.row (rows_of dups) rise in
+    let first = pairs_head (λ a b. (a.place < b.place) × ((a.number == b.number) ≡ false)) _ _ rise in
     let rest = found_self dups (pairs_tail (λ a b. (a.place < b.place) × ((a.number == b.number) ≡ false)) d.row (rows_of dups) rise) in
     All-cons (λ e. dup_at e.row.place (d ∷ dups) ≡ Some e) d dups (grind (arith, nat_tests))
-    (λ k e lt. let behind = (all_rows (λ r. d.row.place < r.place) dups (All-weaker (λ r. (d.row.place < r.place) × ((d.row.number == r.number) ≡ false)) (λ r. d.row.place < r.place) (λ r h. h.0) (rows_of dups) first)) k e lt in let found = rest k e lt in grind (arith, nat_tests, behind, found))
+    (λ k e lt. let behind = (all_rows (λ r. d.row.place < r.place) dups (All-weaker (λ r. (d.row.place < r.place) × ((d.row.number == r.number) ≡ false)) (λ r. d.row.place < r.place) (λ r h. h.0) (rows_of dups) first)) k e lt in grind (arith, nat_tests, behind))
 
 -- a dup that may be joined: it has an item, and fewer than the limit
 abbrev has_room : ℕ → Dup → Bool
@@ -205,14 +202,14 @@ passed_over_so t b limit (Some d) over =
 -- the places of a group lie below how many there are
 pub places_within : (t : ℕ) (b : List ℕ) (places : ℕ) (rows : List DupRow) → All (λ r. r.place < places) rows → All (λ p. p < places) (group_places t b rows)
 places_within t b places rows below =
-    All-map (λ p. p < places) (λ (r : DupRow). r.place) (filter (in_group t b) rows) (All-filter (in_group t b) (λ r. r.place < places) rows below)
+    All-map (λ p. p < places) _ _ (All-filter _ (λ r. r.place < places) _ below)
 
 -- the places of the open dups are places of the table
 open_within : (limit places : ℕ) (dups : List Dup) → All (λ r. r.place < places) (rows_of dups) → All (λ p. p < places) (places_open limit dups)
 open_within limit places dups below =
     let opens = λ (d : Dup). is_open limit (length d.items) in
-    All-map (λ p. p < places) (λ (d : Dup). d.row.place) (filter opens dups)
-    (All-filter opens (λ d. d.row.place < places) dups (all_rows (λ r. r.place < places) dups below))
+    All-map (λ p. p < places) _ _
+    (All-filter _ (λ d. d.row.place < places) _ (all_rows (λ r. r.place < places) dups below))
 
 -- the places of dups to join are places of the tree
 pub candidates_within : (t : ℕ) (b : List ℕ) (limit places : ℕ) (dups : List Dup) (found : List ℕ) (is_chain : Bool) → All (λ r. r.place < places) (rows_of dups) → ArePlacesToJoin (group_places t b (rows_of dups)) limit dups found is_chain → All (λ p. p < places) found
@@ -223,8 +220,8 @@ candidates_within t b limit places dups found false below opens = rw opens (open
 group_found : (t : ℕ) (b : List ℕ) (all dups : List Dup) → All (λ d. dup_at d.row.place all ≡ Some d) dups → All (λ p. of_group t b (dup_at p all) ≡ dup_at p all) (group_places t b (rows_of dups))
 group_found t b all [] found = λ k d lt. absurd (omega arith)
 group_found t b all (d ∷ dups) found =
-    let here = All-head (λ e. dup_at e.row.place all ≡ Some e) d dups found in
-    let rest = group_found t b all dups (All-tail (λ e. dup_at e.row.place all ≡ Some e) d dups found) in
+    let here = All-head (λ e. dup_at e.row.place all ≡ Some e) d _ found in
+    let rest = group_found t b all dups (All-tail (λ e. dup_at e.row.place all ≡ Some e) d _ found) in
     elim (cases_Bool (in_group t b d.row)) [
       | inl inside ↦
           let is : of_group t b (Some d) ≡ Some d = rw inside refl in
@@ -253,13 +250,13 @@ module _ (t : ℕ) (b : List ℕ) (limit : ℕ) (test : Dup → Bool) (passes : 
   fold_passing : (all dups : List Dup) (acc : Option Dup) → All (λ d. dup_at d.row.place all ≡ Some d) dups → folded t b limit all acc (map (λ d. d.row.place) (filter test dups)) ≡ walked (may_join t b limit) acc dups
   fold_passing all [] acc found = refl
   fold_passing all (d ∷ dups) acc found =
-      let here = All-head (λ e. dup_at e.row.place all ≡ Some e) d dups found in
-      let rest = All-tail (λ e. dup_at e.row.place all ≡ Some e) d dups found in
+      let here = All-head (λ e. dup_at e.row.place all ≡ Some e) d _ found in
+      let rest = All-tail (λ e. dup_at e.row.place all ≡ Some e) d _ found in
       let left = map (λ d. d.row.place) (filter test dups) in
       elim (cases_Bool (test d)) [
         | inl inside ↦
             rw inside (ap (λ v. folded t b limit all (joined limit acc (of_group t b v)) left) here
-            ∙ ap (λ v. folded t b limit all v left) (kept_so t b limit acc d)
+            ∙ ap (λ v. folded t b limit all v left) (kept_so t b _ acc d)
             ∙ fold_passing all dups (kept (may_join t b limit) acc d) rest)
         | inr outside ↦
             rw outside (ap (λ v. folded t b limit all v left) (passed_group t b limit acc d (passes d outside))
@@ -274,12 +271,12 @@ group_of_dups t b dups =
 -- the walk over the places to join ends at the best dup
 pub folded_best : (t : ℕ) (b : List ℕ) (limit : ℕ) (dups : List Dup) (found : List ℕ) (is_chain : Bool) → InPlaceOrder (rows_of dups) → ArePlacesToJoin (group_places t b (rows_of dups)) limit dups found is_chain → folded t b limit dups None found ≡ best_of t b limit dups
 folded_best t b limit dups found true rise group =
-    ap (folded t b limit dups None) (group ∙ group_of_dups t b dups)
-    ∙ fold_passing t b limit (λ d. in_group t b d.row) (λ d outside. grind (arith, outside)) dups dups None (found_self dups rise)
+    ap (folded t b limit dups None) (group ∙ group_of_dups t b _)
+    ∙ fold_passing t b limit (λ d. in_group t b d.row) (λ d outside. grind (arith, outside)) _ _ _ (found_self _ rise)
     ∙ walk_top (may_join t b limit) dups
 folded_best t b limit dups found false rise opens =
     ap (folded t b limit dups None) opens
-    ∙ fold_passing t b limit (λ d. is_open limit (length d.items)) (λ d outside. grind (arith, outside)) dups dups None (found_self dups rise)
+    ∙ fold_passing t b limit (λ d. is_open limit (length d.items)) (λ d outside. grind (arith, outside)) _ _ _ (found_self _ rise)
     ∙ walk_top (may_join t b limit) dups
 
 -- where none of the dups at some places is open, a walk over these finds none
@@ -290,9 +287,9 @@ not_joined limit (Some d) closed = rw closed refl
 none_folded : (t : ℕ) (b : List ℕ) (limit : ℕ) (dups : List Dup) (places : List ℕ) → All (λ p. is_open limit (length (items_in (dup_at p dups))) ≡ false) places → folded t b limit dups None places ≡ None
 none_folded t b limit dups [] closed = refl
 none_folded t b limit dups (p ∷ places) closed =
-    let here = not_joined limit (dup_at p dups) (closed 0 0 (omega arith)) in
-    ap (λ acc. folded t b limit dups acc places) (passed_over_so t b limit (dup_at p dups) here)
-    ∙ none_folded t b limit dups places (All-tail (λ q. is_open limit (length (items_in (dup_at q dups))) ≡ false) p places closed)
+    let here = not_joined _ (dup_at p dups) (closed 0 0 (omega arith)) in
+    ap (λ acc. folded t b limit dups acc places) (passed_over_so t b _ _ here)
+    ∙ none_folded t b _ _ places (All-tail (λ q. is_open limit (length (items_in (dup_at q dups))) ≡ false) p places closed)
 
 -- where none of the dups at the places of a tree and bytes is open, none is best
 pub closed_best : (t : ℕ) (b : List ℕ) (limit : ℕ) (dups : List Dup) {places : List ℕ} → InPlaceOrder (rows_of dups) → places ≡ group_places t b (rows_of dups) → All (λ p. is_open limit (length (items_in (dup_at p dups))) ≡ false) places → best_of t b limit dups ≡ None
@@ -301,4 +298,4 @@ closed_best t b limit dups {places} rise group closed =
 
 -- where a tree and bytes have no place, no dup of theirs is best
 pub none_best : (t : ℕ) (b : List ℕ) (limit : ℕ) (dups : List Dup) → InPlaceOrder (rows_of dups) → [] ≡ group_places t b (rows_of dups) → None ≡ best_of t b limit dups
-none_best t b limit dups rise none = folded_best t b _ _ [] true rise none
+none_best t b limit dups rise none = folded_best t b limit dups [] true rise none

@@ -18,7 +18,7 @@ self_group row = let bytes = (bytes_eq-Decides _ row.bytes).1 refl in grind (ari
 
 -- a row of a group has the tree of that group
 pub own_tree : {t : ℕ} (b : List ℕ) (row : DupRow) → in_group t b row ≡ true → row.tree ≡ t
-own_tree b row inside = let tree = (and_parts _ (bytes_eq row.bytes b) inside).0 in grind (arith, nat_tests, tree)
+own_tree b row inside = grind (arith, nat_tests)
 
 -- a dup of a group has the group's bytes
 pub own_bytes : (t : ℕ) {b : List ℕ} (row : DupRow) → in_group t b row ≡ true → row.bytes ≡ b

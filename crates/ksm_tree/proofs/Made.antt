@@ -10,14 +10,14 @@ use Rattle.ksm_tree.proofs.Rows.{place_new, place_kept, place_gone, group_joined
 -- the place of a number, and the places of a group, with a new row
 place_with : (q : ℕ) (row : DupRow) (rows : List DupRow) → InPlaceOrder rows → All (λ r. r.number < row.number) rows → row_place q (with_dup row rows) ≡ (if q == row.number then Some row.place else row_place q (filter (λ r. not (r.place == row.place)) rows))
 place_with q row rows rise fresh =
-    cond_if (q == row.number) (Some row.place) (row_place q (filter (λ r. not (r.place == row.place)) rows)) (row_place q (with_dup row rows))
-    (λ this. ap (λ n. row_place n (with_dup row rows)) (eqb-true q row.number this) ∙ place_new row rows fresh)
-    (λ other. place_kept q row rows rise other)
+    cond_if _ _ _ _
+    (λ this. ap (λ n. row_place n (with_dup row rows)) (eqb-true q _ this) ∙ place_new row _ fresh)
+    (λ other. place_kept q row _ rise other)
 
 group_with : (t : ℕ) (b : List ℕ) (row : DupRow) (rows : List DupRow) → InPlaceOrder rows → group_places t b (with_dup row rows) ≡ (if in_group t b row then with_place row.place (group_places t b rows) else without row.place (group_places t b rows))
 group_with t b row rows rise =
-    cond_if (in_group t b row) (with_place row.place (group_places t b rows)) (without row.place (group_places t b rows)) (group_places t b (with_dup row rows))
-    (group_joined t b row rows) (group_passed t b row rows rise)
+    cond_if _ _ _ _
+    (group_joined t b row _) (group_passed t b row _ rise)
 
 module _ {s : SlotsState} {next : ℕ} {index : Index} (new : Index) (dup : Dup) (h : AreIndexed s next index) (number : dup.row.number ≡ next) (within : dup.row.place < s.places) where
   fresh : All (λ r. r.number < dup.row.number) (rows_of s.dups)
@@ -29,7 +29,7 @@ module _ {s : SlotsState} {next : ℕ} {index : Index} (new : Index) (dup : Dup)
       let is = rows_new dup s.dups in
       record {
         in_place_order = rw is (dups_with _ _ h.lawful.in_place_order fresh);
-        places_below = rw is (all_with_dup (λ r. r.place < s.places) dup.row rows within h.lawful.places_below);
+        places_below = rw is (all_with_dup (λ r. r.place < s.places) _ _ within h.lawful.places_below);
         numbers_below = rw is (all_with_dup (λ r. r.number < next + 1) dup.row rows (omega (arith, number))
             (All-weaker (λ r. r.number < next) (λ r. r.number < next + 1) (λ r below. omega arith) rows h.lawful.numbers_below));
       }
@@ -68,7 +68,7 @@ module _ {s : SlotsState} {next : ℕ} {index : Index} (new : Index) (dup : Dup)
   swap_tests : (q m n : ℕ) (x y z : Option ℕ) → (m == n) ≡ false → (if q == m then x else (if q == n then y else z)) ≡ (if q == n then y else (if q == m then x else z))
   swap_tests q m n x y z apart = grind (arith, nat_tests, apart)
 
-  group_swap : (old_group new_group : Bool) (p : ℕ) (group : List ℕ) → (old_group ≡ false → without p group ≡ group) → (let mid : List ℕ = if new_group then with_place p group else group in if old_group && not new_group then without p mid else mid) ≡ (if new_group then with_place p group else without p group)
+  group_swap : (old_group new_group : Bool) (p : ℕ) (group : List ℕ) → (old_group ≡ false → without p group ≡ group) → (let mid = if new_group then with_place p group else group in if old_group && not new_group then without p mid else mid) ≡ (if new_group then with_place p group else without p group)
   group_swap true true p group unlike = refl
   group_swap true false p group unlike = refl
   group_swap false true p group unlike = refl
@@ -96,10 +96,10 @@ module _ {s : SlotsState} {next : ℕ} {index : Index} (new : Index) (dup : Dup)
   joined_in entered t b inside =
       entered.groups t b
       ∙ (λ i. if (sym (own_group t b dup.row) ∙ inside) i then with_place dup.row.place (h.grouped t b i) else h.grouped t b i)
-      ∙ sym (group_joined t b dup.row _ inside)
+      ∙ sym (group_joined t b _ _ inside)
 
   joined_own : {mid : Index} → IsEntered dup.row index mid → places_of dup.row.tree dup.row.bytes mid ≡ group_places dup.row.tree dup.row.bytes (with_dup dup.row (rows_of s.dups))
-  joined_own {mid} entered = joined_in entered dup.row.tree dup.row.bytes (self_group dup.row)
+  joined_own {mid} entered = joined_in entered _ _ (self_group dup.row)
 
   -- the old one's group has as many places as before
   left_size : {mid : Index} {old : Dup} → Swapped old → IsEntered dup.row index mid → length (places_of old.row.tree old.row.bytes mid) ≡ length (places_of old.row.tree old.row.bytes index)
@@ -111,9 +111,7 @@ module _ {s : SlotsState} {next : ℕ} {index : Index} (new : Index) (dup : Dup)
       elim (cases_Bool (in_group t b dup.row)) [
         | inl inside ↦
             let now = ap length (joined_in entered t b inside) ∙ places_size t b (with_dup dup.row (rows_of s.dups)) in
-            let one = swap.there.counts (in_group t b) in
-            let two = swap.here.counts (in_group t b) in
-            grind (arith, was, now, one, two, own, inside)
+            grind (arith, was, now, own, inside)
         | inr outside ↦ ap length (entered.groups t b ∙ rw (sym (own_group t b dup.row) ∙ outside) refl)
       ]
 
@@ -122,7 +120,6 @@ module _ {s : SlotsState} {next : ℕ} {index : Index} (new : Index) (dup : Dup)
       → IsCounted old.row.tree old.row.bytes mid.groups
   told_between {mid} old found entered =
       let r = dup.row in
-      let rows = rows_of s.dups in
       let swap = swapped found in
       let few = totals_few s.places h.few h.lawful.places_below h.lawful.in_place_order h.counted in
       rw (left_size swap entered) (totals_between swap.there swap.here h.lawful.in_place_order swap.less_rise swap.new_rise (rw (← h.grouped r.tree r.bytes, ← joined_own entered) entered.totals) (length (places_of old.row.tree old.row.bytes index)) few.0 few.1 (told h old.row.tree old.row.bytes))
@@ -194,4 +191,4 @@ seen_made s next index new dup ready view same =
 -- the next number is that of no dup
 pub next_unused : {s : SlotsState} {next : ℕ} {index : Index} → AreIndexed s next index → place_of next index ≡ None
 next_unused {s} {next} h =
-    h.numbered next ∙ ap (option_map (λ r. r.place)) (find_nothing (λ r. r.number == next) (rows_of s.dups) (All-weaker (λ r. r.number < next) (λ r. (r.number == next) ≡ false) (λ r below. ne_eqb r.number next (λ e. omega (arith, below, e))) (rows_of s.dups) h.lawful.numbers_below))
+    h.numbered next ∙ ap (option_map (λ r. r.place)) (find_nothing _ _ (All-weaker (λ r. r.number < next) _ (λ r below. ne_eqb r.number next (λ e. omega (arith, below, e))) (rows_of s.dups) h.lawful.numbers_below))

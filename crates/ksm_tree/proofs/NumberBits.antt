@@ -64,12 +64,11 @@ module _ (words : List ℕ) where
     -- a word whose number is not in the upper set is 0
     word_clear : (w : ℕ) → w < 64 * length upper → has upper w ≡ false → get_or words w 0 ≡ 0
     word_clear w low clear =
-        let named = h.named w low in
-        eqb-true _ 0 (grind (arith, nat_tests, named, clear))
+        eqb-true _ 0 (grind (arith, nat_tests, clear))
 
     -- a word whose number is in the upper set is not 0, and stands among the words
     word_set : (w : ℕ) → w < 64 * length upper → has upper w ≡ true → get_or words w 0 ≢ 0
-    word_set w low one zero = let named = h.named w low in grind (arith, nat_tests, named, one, zero)
+    word_set w low one zero = grind (arith, nat_tests, one, zero)
 
     word_within : (w : ℕ) → get_or words w 0 ≢ 0 → w < length words
     word_within w some = elim (cases_lt w (length words)) [
@@ -79,10 +78,10 @@ module _ (words : List ℕ) where
 
     -- the least number of the upper set behind a word's is that of the word of the least number behind that word
     pub found_behind : (at : ℕ) {next bit : ℕ} → IsLeast upper (at + 1) (64 * length upper) next → IsLowestBit (get_or words next 0) 0 bit → IsLeast words ((at + 1) * 64) (64 * length words) (next * 64 + bit)
-    found_behind at {bit} named found =
+    found_behind at {next} {bit} named found =
         let within = word_within _ (word_set _ named.high_is named.there) in
         let none = none_in_zeros _ _ (λ w from below. word_clear w (omega (arith, below, named.high_is)) (named.least w from below)) in
-        let least = found_in_word _ (omega arith) (omega arith) found (omega (arith, within, found.high_is)) in
+        let least : IsLeast words (next * 64) (64 * length words) (next * 64 + bit) = found_in_word next (omega arith) (omega arith) found (omega (arith, within, found.high_is)) in
         least_further (omega (arith, named.low_is)) none least
 
     -- the least number of the upper set from one on is that of a word that is there
@@ -95,17 +94,17 @@ module _ (words : List ℕ) where
       room = omega (arith, h.room, marks.room, length-set words w word);
       named = λ v low. elim (cases_eq v w) [
         | inl same ↦ ap (has upper') same ∙ marks.here ∙ here
-            ∙ ap (λ x. not (x == 0)) (sym (get_or-set_same words w word 0 within) ∙ ap (λ u. get_or (set words w word) u 0) (sym same))
+            ∙ ap (λ x. not (x == 0)) (sym (get_or-set_same words w _ 0 within) ∙ ap (λ u. get_or (set words w word) u 0) (sym same))
         | inr apart ↦ marks.others v apart ∙ h.named v (omega (arith, low, marks.room))
-            ∙ ap (λ x. not (x == 0)) (sym (get_or-set_other words w v word 0 apart))
+            ∙ ap (λ x. not (x == 0)) (sym (get_or-set_other words w v _ 0 apart))
       ];
     }
 
     -- the upper set is right once a bit is set in a word, and that word's number is in it
     pub summed_more : {w : ℕ} (i : ℕ) {upper' : List ℕ} → w < length words → i < 64 → Marks upper upper' w true → IsSummed (set words w (bit_or (get_or words w 0) (1 * 2 ^ i % 18446744073709551616))) upper'
     summed_more {w} i within small marks =
-        let word : ℕ = bit_or (get_or words w 0) (1 * 2 ^ i % 18446744073709551616) in
-        let some : not (word == 0) ≡ true = ap not (ne_eqb _ 0 (some_bit _ i (bit_at_set_same w64 _ i small))) in
+        let word = bit_or (get_or words w 0) (1 * 2 ^ i % 18446744073709551616) in
+        let some = ap not (ne_eqb _ 0 (some_bit _ i (bit_at_set_same w64 _ i small))) in
         summed_put _ within (sym some) marks
 
     -- the upper set is right once a word is 0, and its number is not in it any more
@@ -118,9 +117,9 @@ module _ (words : List ℕ) where
     summed_some w word within some before = record {
       room = omega (arith, h.room, length-set words w word);
       named = λ v low. elim (cases_eq v w) [
-        | inl same ↦ h.named v low ∙ ap not (ap (λ u. get_or words u 0 == 0) same ∙ ne_eqb (get_or words w 0) 0 before ∙ sym (ne_eqb word 0 some))
-            ∙ ap (λ x. not (x == 0)) (sym (get_or-set_same words w word 0 within) ∙ ap (λ u. get_or (set words w word) u 0) (sym same))
-        | inr apart ↦ h.named v low ∙ ap (λ x. not (x == 0)) (sym (get_or-set_other words w v word 0 apart))
+        | inl same ↦ h.named v low ∙ ap not (ap (λ u. get_or words u 0 == 0) same ∙ ne_eqb _ 0 before ∙ sym (ne_eqb _ 0 some))
+            ∙ ap (λ x. not (x == 0)) (sym (get_or-set_same words w _ 0 within) ∙ ap (λ u. get_or (set words w word) u 0) (sym same))
+        | inr apart ↦ h.named v low ∙ ap (λ x. not (x == 0)) (sym (get_or-set_other words w v _ 0 apart))
       ];
     }
 
@@ -130,7 +129,7 @@ module _ {most : ℕ} {words upper : List ℕ} (h : AreSummed most words upper) 
   stay_more {w} i {upper'} within small many marks = record {
     fits = omega (arith, h.fits, length-set words w (bit_or (get_or words w 0) (1 * 2 ^ i % 18446744073709551616)));
     few = omega (arith, h.few, length-set words w (bit_or (get_or words w 0) (1 * 2 ^ i % 18446744073709551616)));
-    summed = λ _. summed_more words (h.summed many) i within small marks;
+    summed = λ _. summed_more _ (h.summed many) i within small marks;
   }
 
   -- they stay right once a word is 0, and its number is not in the upper one any more
@@ -138,7 +137,7 @@ module _ {most : ℕ} {words upper : List ℕ} (h : AreSummed most words upper) 
   stay_less {w} word {upper'} within zero many marks = record {
     fits = omega (arith, h.fits, length-set words w word);
     few = omega (arith, h.few, length-set words w word);
-    summed = λ _. summed_less words (h.summed many) word within zero marks;
+    summed = λ _. summed_less _ (h.summed many) _ within zero marks;
   }
 
   -- they stay right whatever a word is put to, where there may be one alone
@@ -154,19 +153,19 @@ module _ {most : ℕ} {words upper : List ℕ} (h : AreSummed most words upper) 
   stay_some w word within some before = record {
     fits = omega (arith, h.fits, length-set words w word);
     few = omega (arith, h.few, length-set words w word);
-    summed = λ two. summed_some words (h.summed two) w word within some before;
+    summed = λ two. summed_some _ (h.summed two) w _ within some before;
   }
 
 -- words with all bits have all numbers for which there is room
 pub all_there : (k n : ℕ) → n < 64 * k → has (replicate k 18446744073709551615) n ≡ true
 all_there k n low =
-    ap (λ w. bit_at w (n % 64) == 1) (get_or-replicate k (n / 64) 18446744073709551615 0 (omega (arith, low)))
-    ∙ ap (λ b. b == 1) (bit_at_ones 64 (n % 64) (omega arith))
+    ap (λ w. bit_at w (n % 64) == 1) (get_or-replicate k _ _ 0 (omega (arith, low)))
+    ∙ ap (λ b. b == 1) (bit_at_ones 64 _ (omega arith))
 
 zero_word : (k w : ℕ) → ◌≡◌ {A = ℕ} (get_or (replicate k 0) w 0) 0
 zero_word k w = elim (cases_lt w k) [
   | inl less ↦ get_or-replicate k w 0 0 less
-  | inr more ↦ get_or_past (replicate k 0) w 0 (omega (arith, more, length-replicate {A = ℕ} k 0))
+  | inr more ↦ get_or_past _ w 0 (omega (arith, more, length-replicate {A = ℕ} k 0))
 ]
 
 -- words that are 0 have no number
@@ -182,14 +181,14 @@ marks_put : {words : List ℕ} {number : ℕ} (word bit : ℕ) → number < 64 *
 marks_put {words} {number} word bit room here others =
     let at : number / 64 < length words = omega (arith, room) in
     record {
-      room = length-set words (number / 64) word;
-      here = ap (λ w. bit_at w (number % 64) == 1) (get_or-set_same words (number / 64) word 0 at) ∙ ap (λ b. b == 1) here;
+      room = length-set words _ _;
+      here = ap (λ w. bit_at w (number % 64) == 1) (get_or-set_same words _ _ 0 at) ∙ ap (λ b. b == 1) here;
       others = λ n apart. elim (cases_eq (n / 64) (number / 64)) [
         | inl same ↦
             let there : bit_at (get_or (set words (number / 64) word) (n / 64) 0) (n % 64) ≡ bit_at (get_or words (n / 64) 0) (n % 64) =
-            rw (same, get_or-set_same words (number / 64) word 0 at) (others (n % 64) (omega arith) (λ bit. apart (omega (arith, same, bit)))) in
+            rw (same, get_or-set_same words _ _ 0 at) (others (n % 64) (omega arith) (λ bit. apart (omega (arith, same, bit)))) in
             ap (λ b. b == 1) there
-        | inr other ↦ ap (λ w. bit_at w (n % 64) == 1) (get_or-set_other words (number / 64) (n / 64) word 0 other)
+        | inr other ↦ ap (λ w. bit_at w (n % 64) == 1) (get_or-set_other words _ _ _ 0 other)
       ];
     }
 
@@ -223,7 +222,7 @@ none_from word from clear i behind low =
 -- the lowest bit of a word that is shifted is the lowest of the word from there on
 pub lowest_behind : {word from i : ℕ} → word < 2 ^ 64 → IsLowestBit (word / 2 ^ from) 0 i → IsLowestBit word from (from + i)
 lowest_behind {word} {from} {i} fits found =
-    let one : bit_at word (from + i) ≡ 1 = sym (bit_of_rest _ _ i) ∙ found.there in
+    let one = sym (bit_of_rest _ _ i) ∙ found.there in
     record {
       low_is = omega arith;
       high_is = elim (cases_lt (from + i) 64) [
@@ -231,5 +230,5 @@ lowest_behind {word} {from} {i} fits found =
         | inr more ↦ absurd (omega (arith, one, bit_at_above _ 64 _ fits more))
       ];
       there = one;
-      lowest = λ j behind less. bit_behind word from j behind ∙ found.lowest (j - from) (omega arith) (omega (arith, behind, less));
+      lowest = λ j behind less. bit_behind _ _ j behind ∙ found.lowest (j - from) (omega arith) (omega (arith, behind, less));
     }

@@ -32,10 +32,10 @@ module _ (old new : BTreeMap Content ℕ) (kept later : ℕ → Option Content) 
       forward : its_number q new.entries ≡ Some n → later n ≡ Some q
       forward found = elim (cases_Bool (is_at (content_order k) q)) [
         | inl here ↦
-            let is : key ≡ n = same_Some key n (sym (told ∙ ap (λ b. cond b (Some key) (its_number q old.entries)) here) ∙ found) in
+            let is = same_Some key n (sym (told ∙ ap (λ b. cond b (Some key) (its_number q old.entries)) here) ∙ found) in
             ap later (sym is) ∙ fills.changed ∙ ap Some (same_content here)
         | inr other ↦
-            let before : its_number q old.entries ≡ Some n = sym (told ∙ ap (λ b. cond b (Some key) (its_number q old.entries)) other) ∙ found in
+            let before = sym (told ∙ ap (λ b. cond b (Some key) (its_number q old.entries)) other) ∙ found in
             let stood : kept n ≡ Some q = (are q n).0 before in
             fills.others n (λ same. full q (kept n) (ap kept same ∙ vacant) stood) ∙ stood
       ]
@@ -44,10 +44,10 @@ module _ (old new : BTreeMap Content ℕ) (kept later : ℕ → Option Content) 
       backward stands = elim (cases_Bool (n == key)) [
         | inl same ↦
             let is : n ≡ key = (Decides-eqb n key).0 same in
-            let e : k ≡ q = same_Some k q (sym fills.changed ∙ ap later (sym is) ∙ stands) in
+            let e = same_Some k q (sym fills.changed ∙ ap later (sym is) ∙ stands) in
             ap (λ c. its_number c new.entries) (sym e) ∙ updates.1 ∙ ap Some (sym is)
         | inr differ ↦
-            let apart : n ≢ key = eqb-false n key differ in
+            let apart = eqb-false n key differ in
             let before : its_number q old.entries ≡ Some n = (are q n).1 (sym (fills.others n apart) ∙ stands) in
             elim (cases_Bool (is_at (content_order k) q)) [
               | inl here ↦ absurd (full n (its_number q old.entries) (ap (λ c. its_number c old.entries) (sym (same_content here)) ∙ none) before)
@@ -66,10 +66,10 @@ module _ (old new : BTreeMap Content ℕ) (kept later : ℕ → Option Content) 
       forward found = elim (cases_Bool (is_at (content_order k) q)) [
         | inl here ↦ absurd (full n (its_number q new.entries) (told ∙ ap (λ b. cond b None (its_number q old.entries)) here) found)
         | inr other ↦
-            let before : its_number q old.entries ≡ Some n = sym (told ∙ ap (λ b. cond b None (its_number q old.entries)) other) ∙ found in
+            let before = sym (told ∙ ap (λ b. cond b None (its_number q old.entries)) other) ∙ found in
             let there : kept n ≡ Some q = (are q n).0 before in
             let apart : n ≢ number = λ same.
-            let e : q ≡ k = same_Some q k (sym there ∙ ap kept same ∙ stood) in
+            let e = same_Some q k (sym there ∙ ap kept same ∙ stood) in
             full n (its_number q new.entries) (ap (λ c. its_number c new.entries) e ∙ updates.1) found in
             fills.others n apart ∙ there
       ]
@@ -78,11 +78,11 @@ module _ (old new : BTreeMap Content ℕ) (kept later : ℕ → Option Content) 
       backward stands = elim (cases_Bool (n == number)) [
         | inl same ↦ absurd (full q (later n) (ap later ((Decides-eqb n _).0 same) ∙ fills.changed) stands)
         | inr differ ↦
-            let apart : n ≢ number = eqb-false n _ differ in
+            let apart = eqb-false n _ differ in
             let before : its_number q old.entries ≡ Some n = (are q n).1 (sym (fills.others n apart) ∙ stands) in
             elim (cases_Bool (is_at (content_order k) q)) [
               | inl here ↦
-                  let two : number ≡ n = same_Some _ n (sym ((are k number).1 stood) ∙ ap (λ c. its_number c old.entries) (same_content here) ∙ before) in
+                  let two = same_Some _ n (sym ((are k number).1 stood) ∙ ap (λ c. its_number c old.entries) (same_content here) ∙ before) in
                   absurd (apart (sym two))
               | inr other ↦ told ∙ ap (λ b. cond b None (its_number q old.entries)) other ∙ before
             ]

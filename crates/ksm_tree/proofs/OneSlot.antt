@@ -8,7 +8,7 @@ pub placed_above : (k : ℕ) (slots : List (Option Dup)) → ArePlaced k slots �
 placed_above k [] placed = λ i d lt. absurd (omega arith)
 placed_above k (None ∷ slots) placed = All-weaker (λ d. suc k ≤ d.row.place) (λ d. k ≤ d.row.place) (λ d h. omega arith) _ (placed_above _ slots placed)
 placed_above k (Some e ∷ slots) placed =
-    All-cons (λ d. k ≤ d.row.place) e (present slots) (omega (arith, placed.0))
+    All-cons (λ d. k ≤ d.row.place) e _ (omega (arith, placed.0))
     (All-weaker (λ d. suc k ≤ d.row.place) (λ d. k ≤ d.row.place) (λ d h. omega arith) (present slots) (placed_above (suc k) slots placed.1))
 
 -- from k on no dup stands below it
@@ -24,13 +24,12 @@ all_above k p slots below placed i d lt = let h = placed_above k slots placed i 
 -- the dup found at a place is what the slot of that place holds
 pub slot_found : (k p i : ℕ) (slots : List (Option Dup)) → p ≡ k + i → ArePlaced k slots → dup_at p (present slots) ≡ get_or slots i None
 slot_found k p i [] is placed = refl
-slot_found k p zero (None ∷ slots) is placed = find_nothing _ _ (none_at (suc k) p slots (omega arith) placed)
-slot_found k p (suc i) (None ∷ slots) is placed = slot_found (suc k) p i slots (omega arith) placed
+slot_found k p zero (None ∷ slots) is placed = find_nothing _ _ (none_at _ p slots (omega arith) placed)
+slot_found k p (suc i) (None ∷ slots) is placed = slot_found _ p i slots (omega arith) placed
 slot_found k p zero (Some d ∷ slots) is placed = let h = placed.0 in grind (arith, nat_tests, h)
 slot_found k p (suc i) (Some d ∷ slots) is placed =
-    let h = placed.0 in
     let rest = slot_found (suc k) p i slots (omega arith) placed.1 in
-    grind (arith, nat_tests, h, rest)
+    grind (arith, nat_tests, rest)
 
 -- a dup put into its slot is seen among the dups, in place of one that stood there
 pub slot_put : (k p i : ℕ) (slots : List (Option Dup)) (dup : Dup) → p ≡ k + i → dup.row.place ≡ p → i < length slots → ArePlaced k slots → present (set slots i (Some dup)) ≡ with_new dup (present slots)
@@ -46,24 +45,22 @@ slot_put k p zero (Some d ∷ slots) dup is at within placed =
     let each = filter_all (λ d. nat_lt dup.row.place d.row.place) (present slots) (all_above (suc k) dup.row.place slots (omega arith) placed.1) in
     grind (arith, nat_tests, h, none, each)
 slot_put k p (suc i) (Some d ∷ slots) dup is at within placed =
-    let h = placed.0 in
     let rest = slot_put (suc k) p i slots dup (omega arith) at (omega arith) placed.1 in
-    grind (arith, nat_tests, h, rest)
+    grind (arith, nat_tests, rest)
 
 -- a slot that is emptied takes the dup of its place out of those that are seen
 pub slot_emptied : (k p i : ℕ) (slots : List (Option Dup)) → p ≡ k + i → ArePlaced k slots → present (set slots i None) ≡ without_place p (present slots)
 slot_emptied k p i [] is placed = refl
 slot_emptied k p zero (None ∷ slots) is placed =
-    sym (filter_all (λ d. not (stands_at p d)) (present slots) (λ j d lt. ap not (none_at (suc k) p slots (omega arith) placed j d lt)))
-slot_emptied k p (suc i) (None ∷ slots) is placed = slot_emptied (suc k) p i slots (omega arith) placed
+    sym (filter_all _ _ (λ j d lt. ap not (none_at _ p slots (omega arith) placed j d lt)))
+slot_emptied k p (suc i) (None ∷ slots) is placed = slot_emptied _ p i slots (omega arith) placed
 slot_emptied k p zero (Some d ∷ slots) is placed =
     let h = placed.0 in
     let each = filter_all (λ d. not (stands_at p d)) (present slots) (λ j d lt. ap not (none_at (suc k) p slots (omega arith) placed.1 j d lt)) in
     grind (arith, nat_tests, h, each)
 slot_emptied k p (suc i) (Some d ∷ slots) is placed =
-    let h = placed.0 in
     let rest = slot_emptied (suc k) p i slots (omega arith) placed.1 in
-    grind (arith, nat_tests, h, rest)
+    grind (arith, nat_tests, rest)
 
 -- a change of the items of a slot's dup is seen as that change of the dup at its place
 pub slot_changed : (k p i : ℕ) (slots : List (Option Dup)) {dup : Dup} (f : List GuestPage → List GuestPage) → p ≡ k + i → get_or slots i None ≡ Some dup → ArePlaced k slots → present (set slots i (Some (record dup { items = f dup.items }))) ≡ change_at p f (present slots)
@@ -73,12 +70,10 @@ slot_changed k p (suc i) (None ∷ slots) {dup} f is here placed = slot_changed 
 slot_changed k p zero (Some d ∷ slots) {dup} f is here placed =
     let h = placed.0 in
     let none = change_none (stands_at p) (λ e. record e { items = f e.items }) (present slots) (none_at (suc k) p slots (omega arith) placed.1) in
-    let same : d ≡ dup = same_Some d dup here in
-    grind (arith, nat_tests, h, none, same)
+    grind (arith, nat_tests, h, none)
 slot_changed k p (suc i) (Some d ∷ slots) {dup} f is here placed =
-    let h = placed.0 in
     let rest = slot_changed (suc k) p i slots f (omega arith) here placed.1 in
-    grind (arith, nat_tests, h, rest)
+    grind (arith, nat_tests, rest)
 
 -- dups stand at the places of their slots once a dup is put into the slot of its place
 pub placed_put : (k p i : ℕ) (slots : List (Option Dup)) (dup : Dup) → p ≡ k + i → dup.row.place ≡ p → ArePlaced k slots → ArePlaced k (set slots i (Some dup))
@@ -105,8 +100,8 @@ stale_at : (k i : ℕ) (slots : List (Option Dup)) → ArePlaced k slots → Non
 stale_at k i [] placed before here = absurd (false≢true here)
 stale_at k zero (None ∷ slots) placed before here = absurd (false≢true here)
 stale_at k (suc i) (None ∷ slots) placed before here =
-    stale_at (suc k) i slots placed (λ j less. before (suc j) (omega arith)) here ∙ ap Some (omega arith)
-stale_at k zero (Some d ∷ slots) placed before here = let h = placed.0 in grind (arith, h, here)
+    stale_at _ i slots placed (λ j less. before (suc j) (omega arith)) here ∙ ap Some (omega arith)
+stale_at k zero (Some d ∷ slots) placed before here = grind (arith, here)
 stale_at k (suc i) (Some d ∷ slots) placed before here =
     let rest = stale_at (suc k) i slots placed.1 (λ j less. before (suc j) (omega arith)) here in
     let first = before 0 (omega arith) in
@@ -125,7 +120,7 @@ stale_nowhere (Some d ∷ slots) none =
 empty_before : (j k : ℕ) (slots : List (Option Dup)) → j < k → ArePlaced k slots → empty_from j (rows_of (present slots)) ≡ j
 empty_before j k [] before placed = refl
 empty_before j k (None ∷ slots) before placed = empty_before j _ slots (omega (arith, before)) placed
-empty_before j k (Some d ∷ slots) before placed = let h = placed.0 in grind (arith, nat_tests, h, before)
+empty_before j k (Some d ∷ slots) before placed = grind (arith, nat_tests, before)
 
 -- the first empty slot is that of the least place that no dup has
 empty_at : (k i : ℕ) (slots : List (Option Dup)) → ArePlaced k slots → NoneBefore is_empty_slot slots i → is_empty_slot (get_or slots i None) ≡ true → i < length slots → empty_from k (rows_of (present slots)) ≡ k + i
@@ -134,18 +129,16 @@ empty_at k zero (None ∷ slots) placed before here within = empty_before k _ sl
 empty_at k (suc i) (None ∷ slots) placed before here within = absurd (true≢false (before 0 (omega arith)))
 empty_at k zero (Some d ∷ slots) placed before here within = absurd (false≢true here)
 empty_at k (suc i) (Some d ∷ slots) placed before here within =
-    let h = placed.0 in
     let rest = empty_at (suc k) i slots placed.1 (λ j less. before (suc j) (omega arith)) here (omega arith) in
-    grind (arith, nat_tests, h, rest)
+    grind (arith, nat_tests, rest)
 
 -- where no slot is empty, no dup has the place behind them
 empty_nowhere : (k : ℕ) (slots : List (Option Dup)) → ArePlaced k slots → NoneBefore is_empty_slot slots (length slots) → empty_from k (rows_of (present slots)) ≡ k + length slots
 empty_nowhere k [] placed none = omega arith
 empty_nowhere k (None ∷ slots) placed none = absurd (true≢false (none 0 (omega arith)))
 empty_nowhere k (Some d ∷ slots) placed none =
-    let h = placed.0 in
     let rest = empty_nowhere _ slots placed.1 (λ j less. none (suc j) (omega arith)) in
-    grind (arith, nat_tests, h, rest)
+    grind (arith, nat_tests, rest)
 
 -- what the least place of a set may be
 abbrev FoundLeast : CountedSet → List (Option Dup) → Option ℕ → Type 0
@@ -161,8 +154,7 @@ module _ {slots : List (Option Dup)} {counts : List ℕ} {empty stale : CountedS
       let before = λ (j : ℕ) (less : j < p). sym (h.empties.each j (omega (arith, less, least.high_is))) ∙ least.least j (omega arith) less in
       let here = sym (h.empties.each p least.high_is) ∙ least.there in
       let first = empty_at 0 p _ h.placed before here least.high_is in
-      let within = least.high_is in
-      grind (arith, nat_tests, first, within)
+      grind (arith, nat_tests, first)
 
   -- the least place in the set of the stale ones is that of the first stale dup
   pub first_stale : (found : Option ℕ) → FoundLeast stale slots found → found ≡ option_map (λ d. d.row.place) (find is_stale (present slots))
@@ -170,7 +162,7 @@ module _ {slots : List (Option Dup)} {counts : List ℕ} {empty stale : CountedS
       ap (option_map (λ (d : Dup). d.row.place)) (sym (stale_nowhere _ (λ j less. sym (h.stales.each j less) ∙ none j (omega arith) less)))
   first_stale (Some p) least =
       let before = λ (j : ℕ) (less : j < p). sym (h.stales.each j (omega (arith, less, least.high_is))) ∙ least.least j (omega arith) less in
-      sym (stale_at 0 p slots h.placed before (sym (h.stales.each p least.high_is) ∙ least.there) ∙ ap Some (omega arith))
+      sym (stale_at 0 p _ h.placed before (sym (h.stales.each p least.high_is) ∙ least.there) ∙ ap Some (omega arith))
 
 not_stale : (d : Dup) → is_live d ≡ true → is_stale d ≡ false
 not_stale d live = grind (arith, nat_tests, live)
@@ -187,9 +179,9 @@ slots_put {slots} {counts} {empty} {stale} {empty'} {stale'} dup n within is liv
     record {
       few = rw length-set h.few;
       placed = placed_put 0 p p _ dup (omega arith) refl h.placed;
-      counted = counted_set p slots (Some dup) h.counted is;
-      empties = set_marked is_empty_slot slots p (Some dup) within no_more h.empties;
-      stales = set_marked is_stale_slot slots p (Some dup) within (rw (not_stale dup live) not_stale_now) h.stales;
+      counted = counted_set p _ _ h.counted is;
+      empties = set_marked _ _ p _ within no_more h.empties;
+      stales = set_marked _ _ p _ within (rw (not_stale dup live) not_stale_now) h.stales;
     }
 
 -- a dup put into its slot is seen among the others
@@ -198,7 +190,7 @@ seen_put old new dup seen place placed is =
     let p = dup.row.place in
     let within : p < length old.slots = omega (arith, ap (λ s. s.places) seen, place) in
     (λ i. record { places = length (is i); dups = present (is i); ready = new.ready })
-    ∙ (λ i. record { places = length-set old.slots p (Some dup) i; dups = slot_put 0 p p old.slots dup (omega arith) refl within placed i; ready = new.ready })
+    ∙ (λ i. record { places = length-set old.slots p (Some dup) i; dups = slot_put 0 p p _ dup (omega arith) refl within placed i; ready = new.ready })
     ∙ ap (λ s. record { places = s.places; dups = with_new dup s.dups; ready = new.ready }) seen
 
 -- a slot that is emptied is seen as the dups without that of its place
@@ -224,17 +216,17 @@ pub count_read : (p : ℕ) {n : ℕ} (slots : List (Option Dup)) {counts : List 
 count_read p slots placed counted read =
     read
     ∙ ap (λ l. get_or l p 0) counted
-    ∙ get_or-map count_in slots p None
-    ∙ ap count_in (sym (slot_found 0 p p slots (omega arith) placed))
+    ∙ get_or-map _ slots p _
+    ∙ ap count_in (sym (slot_found 0 p p _ (omega arith) placed))
 
 -- the slots are right once one is emptied
 pub slots_cleared : {p : ℕ} {slots : List (Option Dup)} {counts : List ℕ} {empty stale empty' stale' : CountedSet} → p < length slots → AreSlots slots counts empty stale → IsMarked empty empty' p true → IsMarked stale stale' p false → AreSlots (set slots p None) (set counts p 0) empty' stale'
 slots_cleared {p} {slots} {counts} {empty} {stale} {empty'} {stale'} within h more left = record {
   few = rw length-set h.few;
-  placed = placed_emptied 0 p slots h.placed;
-  counted = counted_set p slots None h.counted refl;
-  empties = set_marked is_empty_slot slots p None within more h.empties;
-  stales = set_marked is_stale_slot slots p None within left h.stales;
+  placed = placed_emptied 0 p _ h.placed;
+  counted = counted_set p _ _ h.counted refl;
+  empties = set_marked _ _ p _ within more h.empties;
+  stales = set_marked _ _ p _ within left h.stales;
 }
 
 filled_place : (k p i : ℕ) (slots : List (Option Dup)) {d : Dup} → p ≡ k + i → get_or slots i None ≡ Some d → ArePlaced k slots → d.row.place ≡ p
@@ -260,7 +252,7 @@ module _ (p : ℕ) (slots : List (Option Dup)) (counts : List ℕ) (empty stale 
   -- the slots are right once the items of one dup changed, and its place is marked as stale or not
   pub slots_marked : (n : ℕ) {stale' : CountedSet} {b : Bool} → n ≡ length (change d.items) → (length (change d.items) == 0) ≡ b → IsMarked stale stale' p b → AreSlots (set slots p (Some changed)) (set counts p n) empty stale'
   slots_marked n {stale'} is here marked =
-      slots_changed is (set_marked is_stale_slot slots p (Some changed) within (rw here marked) h.stales)
+      slots_changed is (set_marked _ _ p _ within (rw here marked) h.stales)
 
   -- the slots are right once the items of one dup changed, which is stale if it was
   pub slots_kept : {n : ℕ} → n ≡ length (change d.items) → (length (change d.items) == 0) ≡ is_stale d → AreSlots (set slots p (Some changed)) (set counts p n) empty stale
@@ -270,7 +262,7 @@ module _ (p : ℕ) (slots : List (Option Dup)) (counts : List ℕ) (empty stale 
   -- a change that leaves the items as they are leaves the slots so
   pub slots_same : change d.items ≡ d.items → AreSlots (set slots p (Some changed)) counts empty stale
   slots_same same =
-      let whole : set slots p (Some changed) ≡ slots =
+      let whole =
       ap (set slots p) ((λ i. Some (record d { items = same i })) ∙ sym filled) ∙ set-get_or slots p _ in
       rw whole h
 
@@ -322,9 +314,9 @@ changed_dup p f slots filled = ap (λ o. set slots p (option_map (change_items_o
 -- a change of the items in a slot is seen as that change of the dup at its place
 pub view_changed : (p : ℕ) (old new : ShelfState) {s : SlotsState} {d : Dup} (f : List GuestPage → List GuestPage) → slots_seen old ≡ s → ArePlaced 0 old.slots → get_or old.slots p None ≡ Some d → new.slots ≡ change_slot p f old.slots → slots_seen new ≡ record s { dups = change_at p f s.dups; ready = new.ready }
 view_changed p old new {d} f view placed filled is =
-    let now = is ∙ changed_dup p f old.slots filled in
+    let now = is ∙ changed_dup p f _ filled in
     (λ i. record { places = length (now i); dups = present (now i); ready = new.ready })
-    ∙ (λ i. record { places = length-set old.slots p (Some (record d { items = f d.items })) i; dups = slot_changed 0 p p old.slots f (omega arith) filled placed i; ready = new.ready })
+    ∙ (λ i. record { places = length-set old.slots p (Some (record d { items = f d.items })) i; dups = slot_changed 0 p p _ f (omega arith) filled placed i; ready = new.ready })
     ∙ ap (λ t. record { places = t.places; dups = change_at p f t.dups; ready = new.ready }) view
 
 -- what is told of items that may have been left

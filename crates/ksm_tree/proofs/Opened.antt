@@ -29,7 +29,7 @@ none_set {test} n wide each count =
     record {
       room = omega (arith, many, wide);
       each = λ p low. each p (omega (arith, many, low)) ∙ ap test (sym (get_or-replicate n p _ _ (omega (arith, many, low))));
-      count = count ∙ sym (none_passes test n);
+      count = count ∙ sym (none_passes _ n);
     }
 
 -- in empty slots no dup is seen

@@ -66,6 +66,5 @@ pub open_seen : (limit k : ℕ) (slots : List (Option Dup)) → ArePlaced k slot
 open_seen limit k [] placed = refl
 open_seen limit k (None ∷ slots) placed = open_seen _ _ slots placed
 open_seen limit k (Some d ∷ slots) placed =
-    let at = placed.0 in
     let rest = open_seen limit _ slots placed.1 in
-    grind (arith, at, rest)
+    grind (arith, rest)

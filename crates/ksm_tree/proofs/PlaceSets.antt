@@ -21,7 +21,7 @@ module _ (test : Option Dup → Bool) (slots : List (Option Dup)) (p : ℕ) (s :
   -- the set stays where a slot passes as it did
   pub set_kept : {places : CountedSet} → test s ≡ test (get_or slots p None) → IsSetOf test slots places → IsSetOf test (set slots p s) places
   set_kept {places} same h =
-      let here : has places.set p ≡ test s = h.each p within ∙ sym same in
+      let here = h.each p within ∙ sym same in
       set_marked (record {
         set = record { room = refl; here = here; others = λ _ _. refl };
         count = ap (λ b. places.count + cond b 1 0) here;

@@ -19,7 +19,7 @@ pub group_joined : (t : ℕ) (b : List ℕ) (row : DupRow) (rows : List DupRow) 
 group_joined t b row rows inside =
     let lower = filter (below row.place) rows in
     let higher = filter (above row.place) rows in
-    let front = kept_append _ (in_group t b) lower (row ∷ higher) in
+    let front = kept_append (λ (r : DupRow). r.place) (in_group t b) lower (row ∷ higher) in
     let low = chosen (λ (r : DupRow). r.place) (in_group t b) (λ q. nat_lt q row.place) rows in
     let high = chosen (λ (r : DupRow). r.place) (in_group t b) (nat_lt row.place) rows in
     let first : group_places t b (row ∷ higher) ≡ row.place ∷ group_places t b higher = grind (arith, inside) in
@@ -31,9 +31,9 @@ group_passed t b row rows rise outside =
     let lower = filter (below row.place) rows in
     let higher = filter (above row.place) rows in
     let first : group_places t b (row ∷ higher) ≡ group_places t b higher = grind (arith, outside) in
-    kept_append (λ (r : DupRow). r.place) (in_group t b) lower (row ∷ higher)
+    kept_append _ _ lower _
     ∙ (λ i. group_places t b lower ++ first i)
-    ∙ sym (kept_append (λ (r : DupRow). r.place) (in_group t b) lower higher)
+    ∙ sym (kept_append _ _ lower higher)
     ∙ ap (group_places t b) (sym (dups_parted row.place rows rise))
     ∙ chosen (λ (r : DupRow). r.place) (in_group t b) (λ q. not (q == row.place)) rows
 
@@ -42,12 +42,12 @@ pub place_new : (row : DupRow) (rows : List DupRow) → All (λ r. r.number < ro
 place_new row rows fresh =
     let F : DupRow → Type 0 = λ r. r.number < row.number in
     let lower = filter (below row.place) rows in
-    let none = All-weaker F _ (λ r h. ne_eqb r.number row.number (λ e. omega (arith, h, e))) lower (All-filter (below row.place) F rows fresh) in
+    let none = All-weaker F (λ r. numbered row.number r ≡ false) (λ r h. ne_eqb r.number row.number (λ e. omega (arith, h, e))) lower (All-filter (below row.place) F rows fresh) in
     let higher = filter (above row.place) rows in
     let here : numbered row.number row ≡ true = grind (arith, nat_tests) in
     ap (option_map (λ r. r.place))
-    (find-append (numbered row.number) lower (row ∷ higher)
-    ∙ ap (λ o. option_or o (find (numbered row.number) (row ∷ higher))) (find_nothing (numbered row.number) lower none)
+    (find-append _ lower _
+    ∙ ap (λ o. option_or o (find (numbered row.number) (row ∷ higher))) (find_nothing _ _ none)
     ∙ ap (λ b. cond b (Some row) (find (numbered row.number) higher)) here)
 
 -- a new dup changes the place of no other number that stays
@@ -56,7 +56,7 @@ place_kept q row rows rise other =
     let lower = filter (below row.place) rows in
     let higher = filter (above row.place) rows in
     let fails : numbered q row ≡ false = grind (arith, nat_tests, other) in
-    ap (option_map (λ r. r.place)) (find_over (numbered q) lower higher row fails ∙ ap (find (numbered q)) (sym (dups_parted row.place rows rise)))
+    ap (option_map (λ r. r.place)) (find_over _ lower _ row fails ∙ ap (find (numbered q)) (sym (dups_parted _ _ rise)))
 
 -- the row that stands at a place is the only one there, and the only one of its number
 abbrev pub IsOne : ℕ → DupRow → DupRow → Type 0
@@ -72,12 +72,12 @@ only_one p (r ∷ rows) e rise found =
           let same : r ≡ e = same_Some r e (grind (arith, here, found)) in
           All-cons (IsOne p e) r _ (grind (arith, nat_tests, here, same), λ _. same)
           (All-weaker (Lower r) (IsOne p e) (λ s h.
-          let away : (s.place == p) ≡ false = (let h_place = h.0 in grind (arith, nat_tests, here, h_place)) in
-          let other : (s.number == e.number) ≡ false = (let h_number = h.1 in grind (arith, nat_tests, same, h_number)) in
-          (away ∙ sym other, λ at. absurd (false≢true (sym away ∙ at)))) rows first)
+          let away : (s.place == p) ≡ false = (grind (arith, nat_tests, here)) in
+          let other : (s.number == e.number) ≡ false = (grind (arith, nat_tests, same)) in
+          (away ∙ sym other, λ at. absurd (false≢true (sym away ∙ at)))) _ first)
       | inr away ↦
           let found_rest : find (λ s. s.place == p) rows ≡ Some e = grind (arith, away, found) in
-          let apart = find_all (λ s. s.place == p) (Lower r) rows e found_rest first in
+          let apart = find_all _ (Lower r) rows e found_rest first in
           let rest = only_one p rows e (pairs_tail Lower r rows rise) found_rest in
           All-cons (IsOne p e) r rows (away ∙ sym apart.1, λ at. absurd (false≢true (sym away ∙ at))) rest
     ]
@@ -95,14 +95,14 @@ only_number q (r ∷ rows) {e} rise found =
       | inl here ↦
           let same : r ≡ e = same_Some r e (grind (arith, here, found)) in
           All-cons (IsThat q e) r _ (grind (arith, nat_tests, here, same))
-          (All-weaker (Lower r) (IsThat q e) (λ s h.
+          (All-weaker (Lower r) _ (λ s h.
           let away : (s.place == e.place) ≡ false = (let h_place = h.0 in grind (arith, nat_tests, same, h_place)) in
-          let other : (s.number == q) ≡ false = (let h_number = h.1 in grind (arith, nat_tests, here, h_number)) in
-          other ∙ sym away) rows first)
+          let other : (s.number == q) ≡ false = (grind (arith, nat_tests, here)) in
+          other ∙ sym away) _ first)
       | inr other ↦
           let found_rest : find (numbered q) rows ≡ Some e = grind (arith, other, found) in
-          let apart = find_all (numbered q) (Lower r) rows e found_rest first in
-          let away : (r.place == e.place) ≡ false = (let h_place = apart.0 in grind (arith, nat_tests, h_place)) in
+          let apart = find_all _ (Lower r) rows e found_rest first in
+          let away : (r.place == e.place) ≡ false = (grind (arith, nat_tests)) in
           All-cons (IsThat q e) r rows (other ∙ sym away) (only_number q rows (pairs_tail Lower r rows rise) found_rest)
     ]
 
@@ -124,8 +124,8 @@ stayed p q e (r ∷ rows) other only =
 -- once the dup at a place goes, its number has no place, and each other number has the place it had
 pub place_gone : (p q : ℕ) (rows : List DupRow) {e : DupRow} → InPlaceOrder rows → find (λ r. r.place == p) rows ≡ Some e → row_place q (filter (elsewhere p) rows) ≡ (if q == e.number then None else row_place q rows)
 place_gone p q rows {e} rise found =
-    let only = only_one p rows e rise found in
+    let only = only_one p _ e rise found in
     elim (cases_Bool (q == e.number)) [
-      | inl this ↦ rw this (gone p q e rows this only)
+      | inl this ↦ rw this (gone p q e _ this only)
       | inr other ↦ rw other (stayed p q e rows other only)
     ]

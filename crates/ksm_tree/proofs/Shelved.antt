@@ -21,10 +21,10 @@ read_past k (suc i) (key ∷ keys) dups past = read_past _ i keys _ (omega arith
 
 -- a dup is at the place that its row tells, and at no other
 pub at_here : {p : ℕ} (kept : Kept) → kept.dup.row.place ≡ p → kept_at p (Some kept) ≡ Some kept.dup
-at_here {p} kept is = let here : (kept.dup.row.place == p) ≡ true = eq-eqb _ p is in rw here refl
+at_here {p} kept is = let here = eq-eqb _ p is in rw here refl
 
 pub at_other : (p : ℕ) (kept : Kept) → (kept.dup.row.place ≡ p → ⊥) → kept_at p (Some kept) ≡ None
-at_other p kept apart = let other : (kept.dup.row.place == p) ≡ false = ne_eqb _ p apart in rw other refl
+at_other p kept apart = let other = ne_eqb _ p apart in rw other refl
 
 elsewhere : {p : ℕ} (q : ℕ) (kept : Kept) → kept.dup.row.place ≡ p → q ≢ p → kept_at q (Some kept) ≡ None
 elsewhere q kept is apart = at_other q kept (λ same. apart (sym same ∙ is))
@@ -41,7 +41,7 @@ same_by : (k : ℕ) {key : ℕ} (keys : List ℕ) {old new : Slab Kept} {slot : 
 same_by k [] fills same = refl
 same_by k {key} (n ∷ keys) {old} {new} {slot} fills same =
     let first = one_by k n fills (same k (omega arith)) in
-    let rest = same_by (suc k) keys fills (λ q above. same q (omega (arith, above))) in
+    let rest = same_by _ keys fills (λ q above. same q (omega (arith, above))) in
     λ i. first i ∷ rest i
 
 -- a key is put at a place, with what lies under it from then on, which is of that place as what lay there was
@@ -50,7 +50,7 @@ moved_by k p i [] is within fills same = absurd (omega arith)
 moved_by k p zero {key} (n ∷ keys) {old} {new} {slot} is within fills same =
     let at : k ≡ p = omega (arith, is) in
     let first = ap (λ q. kept_at q (get new key)) at ∙ ap (kept_at p) fills.changed in
-    let rest = same_by (suc k) keys fills (λ q above. same q (λ e. omega (arith, above, is, e))) in
+    let rest = same_by _ _ fills (λ q above. same q (λ e. omega (arith, above, is, e))) in
     λ j. first j ∷ rest j
 moved_by k p (suc i) {key} (n ∷ keys) {old} {new} {slot} is within fills same =
     let first = one_by k n fills (same k (λ e. omega (arith, is, e))) in
@@ -89,7 +89,7 @@ module _ (p : ℕ) (keys : List ℕ) (dups : Slab Kept) {s : ShelfState} (view :
   pub lies_there : {key : ℕ} → key ≡ get_or keys p 0 → is_some (get_or s.slots p None) ≡ true → (kept : Kept) × (get dups key ≡ Some kept) × (kept.dup.row.place ≡ p)
   lies_there {key} read filled =
       let seen = seen_by (filled_key filled) read in
-      there p (get dups key) (ap is_some seen ∙ filled)
+      there p _ (ap is_some seen ∙ filled)
 
   -- a key read of a place that holds a dup
   pub key_read : {key : ℕ} → key ≡ get_or keys p key → is_some (get_or s.slots p None) ≡ true → key ≡ get_or keys p 0
@@ -99,13 +99,13 @@ module _ (p : ℕ) (keys : List ℕ) (dups : Slab Kept) {s : ShelfState} (view :
   pub items_there : {key : ℕ} {kept : Kept} → key ≡ get_or keys p 0 → is_some (get_or s.slots p None) ≡ true → Some kept ≡ get dups key → items_in (get_or s.slots p None) ≡ kept.dup.items
   items_there {key} {kept} read filled stood =
       let it = lies_there read filled in
-      let same : it.0 ≡ kept = same_Some it.0 kept (sym it.1 ∙ sym stood) in
-      let place : kept.dup.row.place ≡ p = ap (λ k. k.dup.row.place) (sym same) ∙ it.2 in
+      let same = same_Some _ _ (sym it.1 ∙ sym stood) in
+      let place = ap (λ k. k.dup.row.place) (sym same) ∙ it.2 in
       ap items_in (sym (seen_by (filled_key filled) read) ∙ ap (kept_at p) (sym stood) ∙ at_here kept place)
 
   -- under the key of a place that holds a dup lies one
   pub not_none : {key : ℕ} → key ≡ get_or keys p 0 → is_some (get_or s.slots p None) ≡ true → None ≡ get dups key → ⊥
-  not_none {key} read filled none = let it = lies_there read filled in none-some it.0 (none ∙ it.1)
+  not_none {key} read filled none = let it = lies_there read filled in none-some _ (none ∙ it.1)
 
 -- where every key leads to nothing, each place is empty
 pub none_by : (k n : ℕ) (dups : Slab Kept) → dups.slots ≡ [] → slots_by k (replicate n 0) dups ≡ replicate n None
@@ -124,11 +124,11 @@ same_slots keys old view is =
 pub emptied : (p : ℕ) {key : ℕ} (keys : List ℕ) {old new : Slab Kept} (s : ShelfState) (view : record { slots = slots_by 0 keys old; ready = has_room old } ≡ s)
     → key ≡ get_or keys p 0 → is_some (get_or s.slots p None) ≡ true → Fills old new key None → slots_by 0 keys new ≡ set s.slots p None
 emptied p {key} keys {old} {new} s view read filled fills =
-    let it = lies_there p keys old view read filled in
+    let it = lies_there p _ old view read filled in
     let alone : (q : ℕ) → q ≢ p → kept_at q None ≡ kept_at q (get old key) = λ q apart. sym (ap (kept_at q) it.1 ∙ elsewhere q it.0 it.2 apart) in
-    let whole : set keys p key ≡ keys = ap (set keys p) read ∙ set-get_or keys p 0 in
+    let whole = ap (set keys p) read ∙ set-get_or keys p 0 in
     ap (λ l. slots_by 0 l new) (sym whole)
-    ∙ moved_by 0 p p keys (omega arith) (filled_key p keys old view filled) fills alone
+    ∙ moved_by 0 p p _ (omega arith) (filled_key p _ old view filled) fills alone
     ∙ ap (λ t. set t.slots p None) view
 
 -- a dup of a place is put under a key that was vacant, and the place gets that key
@@ -136,7 +136,7 @@ pub filled : (p key : ℕ) (keys : List ℕ) (old new : Slab Kept) (s : ShelfSta
     → kept.dup.row.place ≡ p → p < length keys → get old key ≡ None → Fills old new key (Some kept) → slots_by 0 (set keys p key) new ≡ set s.slots p (Some kept.dup)
 filled p key keys old new s view kept is within vacant fills =
     let alone : (q : ℕ) → q ≢ p → kept_at q (Some kept) ≡ kept_at q (get old key) = λ q apart. elsewhere q kept is apart ∙ sym (ap (kept_at q) vacant) in
-    moved_by 0 p p keys (omega arith) within fills alone
+    moved_by 0 p p _ (omega arith) within fills alone
     ∙ ap (set (slots_by 0 keys old) p) (at_here kept is)
     ∙ ap (λ t. set t.slots p (Some kept.dup)) view
 
@@ -145,17 +145,17 @@ pub changed : (p key : ℕ) (keys : List ℕ) (old new : Slab Kept) (s : ShelfSt
     → key ≡ get_or keys p 0 → is_some (get_or s.slots p None) ≡ true → get old key ≡ Some was → kept.dup ≡ change_items_of f was.dup → Fills old new key (Some kept)
     → slots_by 0 keys new ≡ change_slot p f s.slots
 changed p key keys old new s view was kept f read filled stood now fills =
-    let it = lies_there p keys old view read filled in
-    let same : it.0 ≡ was = same_Some it.0 was (sym it.1 ∙ stood) in
-    let place : was.dup.row.place ≡ p = ap (λ k. k.dup.row.place) (sym same) ∙ it.2 in
-    let place_now : kept.dup.row.place ≡ p = ap (λ d. d.row.place) now ∙ place in
+    let it = lies_there p _ old view read filled in
+    let same = same_Some _ was (sym it.1 ∙ stood) in
+    let place = ap (λ k. k.dup.row.place) (sym same) ∙ it.2 in
+    let place_now = ap (λ d. d.row.place) now ∙ place in
     let alone : (q : ℕ) → q ≢ p → kept_at q (Some kept) ≡ kept_at q (get old key) = λ q apart.
     elsewhere q kept place_now apart ∙ sym (ap (kept_at q) stood ∙ elsewhere q was place apart) in
-    let whole : set keys p key ≡ keys = ap (set keys p) read ∙ set-get_or keys p 0 in
-    let within = filled_key p keys old view filled in
-    let here : get_or s.slots p None ≡ Some was.dup = sym (seen_by p keys old view within read) ∙ ap (kept_at p) stood ∙ at_here was place in
+    let whole = ap (set keys p) read ∙ set-get_or keys p 0 in
+    let within = filled_key p _ old view filled in
+    let here = sym (seen_by p _ old view within read) ∙ ap (kept_at p) stood ∙ at_here was place in
     ap (λ l. slots_by 0 l new) (sym whole)
-    ∙ moved_by 0 p p keys (omega arith) within fills alone
+    ∙ moved_by 0 p p _ (omega arith) within fills alone
     ∙ ap (set (slots_by 0 keys old) p) (at_here kept place_now ∙ ap Some now)
     ∙ ap (λ t. set t.slots p (Some (change_items_of f was.dup))) view
     ∙ ap (set s.slots p) (ap (option_map (change_items_of f)) (sym here))

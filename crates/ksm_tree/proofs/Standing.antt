@@ -36,16 +36,16 @@ module _ {X : Type 0} (none : X) (numbers : Numbers) (stands : ℕ → Option Co
     where
       by : (o : Option ℕ) → number_of t b numbers ≡ o → under none new o ≡ (if t == tree && bytes_eq b bytes then change (under none old o) else under none old o)
       by None absent =
-          let apart : (t == tree && bytes_eq b bytes) ≡ false = false_from_ne_true _ (λ same.
+          let apart = false_from_ne_true _ (λ same.
           full number (number_of t b numbers) absent (ap (λ k. its_number k numbers) (is_one t _ b _ same) ∙ is)) in
           rw apart refl
       by (Some n) found = elim (cases_Bool (t == tree && bytes_eq b bytes)) [
         | inl same ↦
-            let here : n ≡ number = same_Some n _ (sym found ∙ ap (λ k. its_number k numbers) (is_one t _ b _ same) ∙ is) in
+            let here = same_Some n _ (sym found ∙ ap (λ k. its_number k numbers) (is_one t _ b _ same) ∙ is) in
             moved n ∙ rw (same, (Decides-eqb n _).1 here) refl
         | inr differ ↦
-            let apart : (n == number) ≡ false = false_from_ne_true _ (λ same.
-            let one : content_of t b ≡ content_of tree bytes =
+            let apart = false_from_ne_true _ (λ same.
+            let one =
             same_Some _ _ (sym ((are (content_of t b) n).0 found) ∙ ap stands ((Decides-eqb n _).0 same) ∙ (are (content_of tree bytes) number).0 is) in
             true≢false (sym (are_one t _ b _ one) ∙ differ)) in
             moved n ∙ rw (differ, apart) refl
@@ -67,10 +67,10 @@ module _ {X : Type 0} (none : X) (numbers : Numbers) (stands : ℕ → Option Co
 pub given_same : {X Y : Type 0} (f g : Option X → Option Y) → f None ≡ None → g None ≡ None → (xs ys : List (Option X)) → ((n : ℕ) → f (get_or xs n None) ≡ g (get_or ys n None)) → filter_map f xs ≡ filter_map g ys
 given_same f g f_none g_none [] [] same = refl
 given_same f g f_none g_none [] (y ∷ ys) same =
-    let here : g y ≡ None = sym (same 0) ∙ f_none in
+    let here = sym (same 0) ∙ f_none in
     rw here (given_same f g f_none g_none [] ys (λ n. same (suc n)))
 given_same f g f_none g_none (x ∷ xs) [] same =
-    let here : f x ≡ None = same 0 ∙ g_none in
+    let here = same 0 ∙ g_none in
     rw here (given_same f g f_none g_none xs [] (λ n. same (suc n)))
 given_same f g f_none g_none (x ∷ xs) (y ∷ ys) same =
     let rest = given_same f g f_none g_none xs ys (λ n. same (suc n)) in
@@ -112,9 +112,9 @@ pub waiting_found : {numbers : Numbers} {groups : Slab Group} {pass : ℕ} → A
 waiting_found {numbers} {groups} {pass} are t b = by (number_of t b numbers) refl
   where
     by : (o : Option ℕ) → number_of t b numbers ≡ o → waiting_page t b (filter_map (waits_in pass) groups.slots) ≡ under None (λ n. page_in pass (get groups n)) o
-    by None absent = none_waits t b _ groups.slots (λ n is. full n (number_of t b numbers) absent ((are.numbered (content_of t b) n).1 is))
+    by None absent = none_waits t b _ _ (λ n is. full n (number_of t b numbers) absent ((are.numbered (content_of t b) n).1 is))
     by (Some n) found =
-        one_waits t b pass groups.slots n ((are.numbered (content_of t b) n).0 found)
+        one_waits t b _ _ n ((are.numbered (content_of t b) n).0 found)
         (λ m is. same_Some m n (sym ((are.numbered (content_of t b) m).1 is) ∙ found))
 
 -- the page that waits for a tree and bytes is the one in the group under their number
@@ -180,9 +180,9 @@ module _ (g : Groups) (number : ℕ) (was now : Group) (stood : Some was ≡ get
       → at (get new n) ≡ (if n == number then change (at (get g.groups n)) else at (get g.groups n))
   written_moved at change is n = elim (cases_Bool (n == number)) [
     | inl same ↦
-        let here = (Decides-eqb n number).0 same in
+        let here = (Decides-eqb n _).0 same in
         ap (λ n. at (get new n)) here ∙ ap at fills.changed ∙ is ∙ sym (rw same (ap (λ n. change (at (get g.groups n))) here ∙ ap (λ o. change (at o)) (sym stood)))
-    | inr differ ↦ ap at (fills.others n (eqb-false n number differ)) ∙ sym (rw differ refl)
+    | inr differ ↦ ap at (fills.others n (eqb-false n _ differ)) ∙ sym (rw differ refl)
   ]
 
   written_same : {X : Type 0} (at : Option Group → X) → at (Some now) ≡ at (Some was) → (n : ℕ) → at (get new n) ≡ at (get g.groups n)
@@ -194,8 +194,8 @@ module _ (g : Groups) (number : ℕ) (was now : Group) (stood : Some was ≡ get
     numbered = λ content_now n. subst (λ o. (its_number content_now g.numbers.entries ≡ Some n) ↔ (o ≡ Some content_now))
         (sym (written_same content_in (ap Some content) n)) (g.lawful.numbered content_now n);
     passes = λ n. elim (cases_Bool (n == number)) [
-      | inl same ↦ λ h is. subst (λ h. h.pass ≤ g.pass) (same_Some now h (sym fills.changed ∙ ap (get new) (sym ((Decides-eqb n number).0 same)) ∙ is)) within
-      | inr differ ↦ subst (λ o. ForSome o (λ h. h.pass ≤ g.pass)) (sym (fills.others n (eqb-false n number differ))) (g.lawful.passes n)
+      | inl same ↦ λ h is. subst (λ h. h.pass ≤ g.pass) (same_Some now h (sym fills.changed ∙ ap (get new) (sym ((Decides-eqb n _).0 same)) ∙ is)) within
+      | inr differ ↦ subst (λ o. ForSome o (λ h. h.pass ≤ g.pass)) (sym (fills.others n (eqb-false n _ differ))) (g.lawful.passes n)
     ];
     begun = g.lawful.begun;
   }
@@ -204,28 +204,28 @@ module _ (g : Groups) (number : ℕ) (was now : Group) (stood : Some was ≡ get
   pub rechained : (change : List ℕ → List ℕ) → now.places.list.items ≡ change was.places.list.items → (tree : ℕ) (bytes : List ℕ) → number_of tree bytes g.numbers.entries ≡ Some number
       → (t : ℕ) (b : List ℕ) → under [] (λ n. places_in (get new n)) (number_of t b g.numbers.entries) ≡ (if t == tree && bytes_eq b bytes then change (chain_in t b g) else chain_in t b g)
   rechained change is tree bytes named =
-      under_moved [] g.numbers.entries (λ n. content_in (get g.groups n)) g.lawful.numbered (λ n. places_in (get g.groups n)) tree bytes change
-      (λ n. places_in (get new n)) named (written_moved places_in change is)
+      under_moved [] _ _ g.lawful.numbered _ _ _ change
+      _ named (written_moved places_in change is)
 
   -- a group written anew tells what waits for its content, and what waits elsewhere stays
   pub repaged : now.pass ≤ g.pass → (tree : ℕ) (bytes : List ℕ) → number_of tree bytes g.numbers.entries ≡ Some number
       → (t : ℕ) (b : List ℕ) → waiting_page t b (filter_map (waits_in g.pass) new.slots) ≡ (if t == tree && bytes_eq b bytes then page_in g.pass (Some now) else waiting_page t b (waiting_in g))
   repaged within tree bytes named t b =
       waiting_found (rewritten within) t b
-      ∙ under_moved None g.numbers.entries (λ n. content_in (get g.groups n)) g.lawful.numbered (λ n. page_in g.pass (get g.groups n)) tree bytes
-      (λ _. page_in g.pass (Some now)) (λ n. page_in g.pass (get new n)) named (written_moved (page_in g.pass) (λ _. page_in g.pass (Some now)) refl) t b
+      ∙ under_moved _ _ _ g.lawful.numbered _ _ _
+      (λ _. page_in g.pass (Some now)) _ named (written_moved (page_in g.pass) (λ _. page_in g.pass (Some now)) refl) t b
       ∙ ap (λ o. if t == tree && bytes_eq b bytes then page_in g.pass (Some now) else o) (sym (waiting_found g.lawful t b))
 
   -- where a group written anew has what waited in it, all that waits is as it was
   pub same_waiting : waits_in g.pass (Some now) ≡ waits_in g.pass (Some was) → filter_map (waits_in g.pass) new.slots ≡ waiting_in g
-  same_waiting is = given_same (waits_in g.pass) (waits_in g.pass) refl refl new.slots g.groups.slots (written_same (waits_in g.pass) is)
+  same_waiting is = given_same _ _ refl refl new.slots g.groups.slots (written_same (waits_in g.pass) is)
 
 -- a content without a number has no page that could stop to wait
 pub none_removed : (g : Groups) (tree : ℕ) (bytes : List ℕ) → number_of tree bytes g.numbers.entries ≡ None → (t : ℕ) (b : List ℕ) → waiting_page t b (waiting_in g) ≡ (if t == tree && bytes_eq b bytes then None else waiting_page t b (waiting_in g))
 none_removed g tree bytes none t b =
     let found = waiting_found g.lawful t b in
     found
-    ∙ under_absent None g.numbers.entries (λ n. content_in (get g.groups n)) g.lawful.numbered (λ n. page_in g.pass (get g.groups n)) tree bytes (λ _. None) none refl t b
+    ∙ under_absent _ _ _ g.lawful.numbered _ _ _ (λ _. None) none refl t b
     ∙ ap (λ o. if t == tree && bytes_eq b bytes then None else o) (sym found)
 
 -- ---------------------------------------------------------------- a group comes, and one goes
@@ -249,14 +249,14 @@ module _ (numbers_old numbers_new : BTreeMap Content ℕ) {pass : ℕ} {old new 
   idle_chains here t b =
       let at = λ (o : Option ℕ). under [] (λ n. places_in (get new n)) o in
       let before = λ (o : Option ℕ). under [] (λ n. places_in (get old n)) o in
-      let told : number_of t b numbers_new.entries ≡ cond (is_at (content_order k) (content_of t b)) named (number_of t b numbers_old.entries) = updates.0 (content_of t b) in
+      let told = updates.0 (content_of t b) in
       elim (cases_Bool (is_at (content_order k) (content_of t b))) [
         | inl is ↦
             ap at (told ∙ ap (λ s. cond s named (number_of t b numbers_old.entries)) is)
             ∙ here ∙ ap (λ k. before (its_number k numbers_old.entries)) (same_content is)
         | inr other ↦
             ap at (told ∙ ap (λ s. cond s named (number_of t b numbers_old.entries)) other)
-            ∙ same_under [] (λ n. places_in (get old n)) (λ n. places_in (get new n)) (idle_same places_in (now.0 ∙ sym was.0)) (number_of t b numbers_old.entries)
+            ∙ same_under [] _ _ (idle_same places_in (now.0 ∙ sym was.0)) _
       ]
 
   idle_stands : Stands (λ n. content_in (get old n)) (λ n. content_in (get new n)) number (content_in slot)
@@ -264,14 +264,14 @@ module _ (numbers_old numbers_new : BTreeMap Content ℕ) {pass : ℕ} {old new 
 
   idle_passes : ForSome slot (λ g. g.pass ≤ pass) → (n : ℕ) → ForSome (get new n) (λ g. g.pass ≤ pass)
   idle_passes here n = elim (cases_Bool (n == number)) [
-    | inl same ↦ subst (λ o. ForSome o (λ g. g.pass ≤ pass)) (sym (ap (get new) ((Decides-eqb n number).0 same) ∙ fills.changed)) here
-    | inr other ↦ subst (λ o. ForSome o (λ g. g.pass ≤ pass)) (sym (fills.others n (eqb-false n number other))) (are.passes n)
+    | inl same ↦ subst (λ o. ForSome o (λ g. g.pass ≤ pass)) (sym (ap (get new) ((Decides-eqb n _).0 same) ∙ fills.changed)) here
+    | inr other ↦ subst (λ o. ForSome o (λ g. g.pass ≤ pass)) (sym (fills.others n (eqb-false n _ other))) (are.passes n)
   ]
 
   -- the groups are right once one came with a content that had no number
   pub came_groups : {g : Group} → slot ≡ Some g → g.content ≡ k → g.pass ≤ pass → named ≡ Some number → its_number k numbers_old.entries ≡ None → get old number ≡ None → AreGroups numbers_new.entries new pass
   came_groups {g} is content within name none vacant = record {
-    numbered = entered numbers_old numbers_new (λ n. content_in (get old n)) (λ n. content_in (get new n)) k are.numbered none (ap content_in vacant)
+    numbered = entered numbers_old numbers_new _ _ k are.numbered none (ap content_in vacant)
         (subst (Updates content_order numbers_old numbers_new k) name updates) (subst (Stands (λ n. content_in (get old n)) (λ n. content_in (get new n)) number) (ap content_in is ∙ ap Some content) idle_stands);
     passes = idle_passes (λ h at. subst (λ h. h.pass ≤ pass) (same_Some g h (sym is ∙ at)) within);
     begun = are.begun;
@@ -301,12 +301,12 @@ module _ (g : Groups) {kept later : Slab Group} (numbers : BTreeMap Content ℕ)
   was_idle = (ap places_in vacant, ap (waits_in g.pass) vacant)
 
   now_idle : IsIdle g.pass (Some fresh)
-  now_idle = (empty, waits_still fresh g.pass (λ same. let begun = g.lawful.begun in omega (arith, begun, idle, same)))
+  now_idle = (empty, waits_still fresh _ (λ same. omega (arith, idle, same)))
 
   -- a group in which nothing stands comes into the room that was made for it
   pub entered_fresh : Entered g later numbers
   entered_fresh = record {
-    lawful = came_groups g.numbers numbers are_kept k (Some number) updates fills was_idle now_idle refl content
+    lawful = came_groups g.numbers numbers are_kept k _ updates fills was_idle now_idle refl content
         (omega (arith, idle)) refl none vacant;
     waiting = idle_waiting g.numbers numbers are_kept k (Some number) updates fills was_idle now_idle
         ∙ ap (λ s. filter_map (waits_in g.pass) s.slots) room;

@@ -30,12 +30,12 @@ all_used g are occupied t b has = by (number_of t b g.numbers.entries) refl
     by : (o : Option ℕ) → number_of t b g.numbers.entries ≡ o → is_used_in g t b ≡ true
     by None absent = absurd (true≢false (sym has ∙ ap is_some absent))
     by (Some n) found =
-        let chain : chain_in t b g ≡ places_in (get g.groups n) = ap (under [] (λ m. places_in (get g.groups m))) found in
+        let chain = ap (under [] (λ m. places_in (get g.groups m))) found in
         let page = waiting_found are t b
         ∙ ap (under None (λ m. page_in g.pass (get g.groups m))) found in
-        let waits : is_some (waiting_page t b (waiting_in g)) ≡ is_some (waits_in g.pass (get g.groups n)) =
-        ap is_some page ∙ some_of_map (λ w. w.page) (waits_in g.pass (get g.groups n)) in
-        let here = has_group (get g.groups n) ((are.numbered (content_of t b) n).0 found) in
+        let waits =
+        ap is_some page ∙ some_of_map _ _ in
+        let here = has_group _ ((are.numbered (content_of t b) n).0 found) in
         (λ i. nat_lt 0 (length (chain i)) || waits i) ∙ occupied n here
 
 -- a content that had no number gets one: there is one more, and no other content got one

@@ -17,7 +17,7 @@ at_others row q (r ∷ rs) other = let rest = at_others row q rs other in grind 
 
 at_page : (row : Row) (rows : List Row) → row_at row.page (change_row row.page (λ _. row) rows) ≡ (if is_some (row_at row.page rows) then Some row else None)
 at_page row [] = refl
-at_page row (r ∷ rs) = let own = same_page_refl row.page in let rest = at_page row rs in grind (arith, own, rest)
+at_page row (r ∷ rs) = let rest = at_page row rs in grind (arith, rest)
 
 at_changed : (row : Row) {old : Row} (rows : List Row) → row_at row.page rows ≡ Some old → (q : GuestPage) → row_at q (change_row row.page (λ _. row) rows) ≡ (if same_page row.page q then Some row else row_at q rows)
 at_changed row rows found q =
@@ -33,14 +33,13 @@ at_chosen by q (r ∷ rs) =
     let rest = at_chosen by q rs in
     let alike : same_page r.page q ≡ true → by r.page ≡ by q = λ same. ap by (same_page_eq _ q same) in
     elim (cases_Bool (same_page r.page q)) [
-      | inl same ↦ let is = alike same in grind (arith, same, is, rest)
+      | inl same ↦ grind (arith, same, rest)
       | inr other ↦ grind (arith, other, rest)
     ]
 
 at_without : (page q : GuestPage) (rows : List Row) → row_at q (without_page page rows) ≡ (if same_page page q then None else row_at q rows)
 at_without page q rows =
-    let back = same_page_sym q page in
-    at_chosen _ q rows ∙ grind (arith, back)
+    at_chosen _ q rows ∙ grind (arith)
 
 or_nothing : (o : Option Row) → option_or o None ≡ o
 or_nothing None = refl
@@ -51,9 +50,9 @@ pub at_inserted : (row : Row) (rows : List Row) (q : GuestPage) → row_at q (wi
 at_inserted row rows q =
     let ahead = at_chosen (λ p. comes_before p row.page) q _ in
     let behind = at_chosen (λ p. comes_before row.page p) q _ in
-    find-append _ (filter (λ r. comes_before r.page row.page) rows) (row ∷ filter (λ r. comes_before row.page r.page) rows)
+    find-append _ (filter (λ r. comes_before r.page row.page) rows) _
     ∙ (λ i. option_or (ahead i) (if same_page row.page q then Some row else behind i))
-    ∙ (let nothing = or_nothing (row_at q rows) in grind (arith, nat_tests, nothing))
+    ∙ (grind (arith, nat_tests))
 
 -- a change that keeps each row's page finds at a page the changed row that was found there
 pub at_mapped : (f : Row → Row) (q : GuestPage) (rows : List Row) → All (λ r. (f r).page ≡ r.page) rows → row_at q (map f rows) ≡ option_map f (row_at q rows)
@@ -80,7 +79,7 @@ pub own_found : (knobs : Knobs) (rows : List Row) (w : List WaitingPage) (row : 
     → names row.page (waiting_page (tree_of knobs row) row.bytes w) ≡ waiting_state row.state
 own_found knobs rows w row found are =
     let t = tree_of knobs row in
-    let tree : (t == t) ≡ true = eq-eqb t t refl in
+    let tree = eq-eqb t t refl in
     let bytes : bytes_eq row.bytes row.bytes ≡ true = (bytes_eq-Decides _ row.bytes).1 refl in
     are t row.bytes row.page ∙ ap (waits_there knobs t row.bytes) found ∙ (λ i. waiting_state row.state && (tree i && bytes i)) ∙ and_true _
   where
@@ -91,7 +90,7 @@ own_found knobs rows w row found are =
 -- another row waits for a row where it is a waiting row of its tree and bytes
 waits_apart : (knobs : Knobs) (row r : Row) → waits_for knobs row r ≡ (waits_there knobs (tree_of knobs row) row.bytes (Some r) && not (same_page r.page row.page))
 waits_apart knobs row r =
-    let bytes = eq_bytes _ row.bytes in
+    let bytes = eq_bytes r.bytes row.bytes in
     let t = tree_of knobs row in
     let u = tree_of knobs r in
     let trees : (u == t) ≡ (t == u) = grind (arith, nat_tests) in
@@ -114,7 +113,7 @@ module _ (knobs : Knobs) (rows : List Row) (w : List WaitingPage) (row : Row) (r
   each_waits : {o : Option GuestPage} → looked_up ≡ o → All (λ r. waits_for knobs row r ≡ (names r.page o && not (same_page r.page row.page))) rows
   each_waits {o} is k d lt =
       let r = get_or rows k d in
-      let there : waits_there knobs (tree_of knobs row) row.bytes (Some r) ≡ names r.page o =
+      let there =
       ap (waits_there knobs (tree_of knobs row) row.bytes) (sym (each_at_page _ rise k d lt)) ∙ sym (are (tree_of knobs row) row.bytes r.page) ∙ ap (names r.page) is in
       waits_apart knobs row r ∙ ap (λ t. t && not (same_page r.page row.page)) there
 
@@ -126,8 +125,8 @@ module _ (knobs : Knobs) (rows : List Row) (w : List WaitingPage) (row : Row) (r
       go None is = find_nothing _ _ (each_waits is)
       go (Some page) is =
           elim (cases_Bool (same_page page row.page)) [
-            | inl own ↦ rw own (find_nothing (waits_for knobs row) rows (λ k d lt. each_waits is k d lt ∙ elsewhere (get_or rows k d).page own))
-            | inr other ↦ rw other (find_alike (waits_for knobs row) (λ r. same_page r.page page) rows (λ k d lt. each_waits is k d lt ∙ alone (get_or rows k d).page other))
+            | inl own ↦ rw own (find_nothing _ _ (λ k d lt. each_waits is k d lt ∙ elsewhere (get_or rows k d).page own))
+            | inr other ↦ rw other (find_alike _ _ _ (λ k d lt. each_waits is k d lt ∙ alone (get_or rows k d).page other))
           ]
         where
           elsewhere : (q : GuestPage) → same_page page row.page ≡ true → (same_page page q && not (same_page q row.page)) ≡ false
@@ -151,7 +150,7 @@ edited : (knobs : Knobs) (page : GuestPage) (now : Option Row) (rows changed : L
 edited knobs page now rows changed w new at here others are t b q =
     elim (cases_Bool (same_page page q)) [
       | inl same ↦
-          subst (λ (p : GuestPage). names p (waiting_page t b new) ≡ waits_there knobs t b now) (same_page_eq page q same) (here t b)
+          subst (λ (p : GuestPage). names p (waiting_page t b new) ≡ waits_there knobs t b now) (same_page_eq _ q same) (here t b)
           ∙ ap (waits_there knobs t b) (sym (at q ∙ ap (λ c. cond c now (row_at q rows)) same))
       | inr other ↦
           others t b q other ∙ are t b q ∙ ap (waits_there knobs t b) (sym (at q ∙ ap (λ c. cond c now (row_at q rows)) other))
@@ -165,8 +164,7 @@ module _ (knobs : Knobs) (rows : List Row) (w : List WaitingPage) (are : AreWait
   module _ (new : List WaitingPage) (page : GuestPage) (old : Row) (found : row_at page rows ≡ Some old) (stopped : IsStopped knobs old w new) where
     stopped_here : (t : ℕ) (b : List ℕ) → names page (waiting_page t b new) ≡ false
     stopped_here t b =
-        let own = named page found t b in
-        ap (names page) (stopped t b) ∙ grind (arith, own)
+        ap (names page) (stopped t b) ∙ grind (arith)
 
     stopped_others : (t : ℕ) (b : List ℕ) (q : GuestPage) → same_page page q ≡ false → names q (waiting_page t b new) ≡ names q (waiting_page t b w)
     stopped_others t b q other =
@@ -178,20 +176,20 @@ module _ (knobs : Knobs) (rows : List Row) (w : List WaitingPage) (are : AreWait
 
     -- the waiting pages are those of the rows, once the row of a page is gone and the page has stopped waiting
     pub row_dropped : AreWaiting knobs (without_page page rows) new
-    row_dropped = edited knobs page None rows (without_page page rows) w new (λ q. at_without page q rows) stopped_here stopped_others are
+    row_dropped = edited knobs _ _ _ _ w new (λ q. at_without _ q _) stopped_here stopped_others are
 
   -- the waiting pages are those of the rows, once a row waits no more and its page has stopped
   pub row_stopped : (new : List WaitingPage) (row old : Row) → row_at row.page rows ≡ Some old → waiting_state row.state ≡ false → IsStopped knobs old w new
       → AreWaiting knobs (change_row row.page (λ _. row) rows) new
   row_stopped new row old found still stopped =
-      edited knobs row.page (Some row) rows (change_row row.page (λ _. row) rows) w new (at_changed row rows found)
-      (λ t b. stopped_here new row.page old found stopped t b ∙ rw still refl) (stopped_others new row.page old found stopped) are
+      edited knobs _ _ _ _ w new (at_changed row _ found)
+      (λ t b. stopped_here new _ old found stopped t b ∙ rw still refl) (stopped_others new _ old found stopped) are
 
   -- the waiting pages are those of the rows, once a row waits that did not and its page was added
   pub row_begun : (new : List WaitingPage) (row old : Row) → row_at row.page rows ≡ Some old → waiting_state old.state ≡ false → row.state ≡ Waiting
       → waiting_page (tree_of knobs row) row.bytes w ≡ None → IsAdded (tree_of knobs row) row.bytes row.page w new → AreWaiting knobs (change_row row.page (λ _. row) rows) new
   row_begun new row old found still waits none added =
-      edited knobs row.page (Some row) rows (change_row row.page (λ _. row) rows) w new (at_changed row rows found) here others are
+      edited knobs _ _ _ _ w new (at_changed row _ found) here others are
     where
       here : (t : ℕ) (b : List ℕ) → names row.page (waiting_page t b new) ≡ waits_there knobs t b (Some row)
       here t b =
@@ -216,7 +214,7 @@ module _ (knobs : Knobs) (rows : List Row) (w : List WaitingPage) (are : AreWait
   -- a new row that does not wait changes no waiting page
   pub row_inserted : (row : Row) → row_at row.page rows ≡ None → waiting_state row.state ≡ false → AreWaiting knobs (with_row row rows) w
   row_inserted row absent still =
-      edited knobs row.page (Some row) rows (with_row row rows) w w (at_inserted row rows) (λ t b. named row.page absent t b ∙ rw still refl) (λ t b q other. refl) are
+      edited knobs _ _ _ _ w w (at_inserted row _) (λ t b. named row.page absent t b ∙ rw still refl) (λ t b q other. refl) are
 
 -- ---------------------------------------------------------------- all rows
 
@@ -227,7 +225,7 @@ module _ (knobs : Knobs) (rows : List Row) (w : List WaitingPage) (are : AreWait
   -- a row that changes into one that waits alike changes no waiting page
   pub row_kept : (row old : Row) → row_at row.page rows ≡ Some old → IsAlike old row → AreWaiting knobs (change_row row.page (λ _. row) rows) w
   row_kept row old found alike =
-      edited knobs row.page (Some row) rows (change_row row.page (λ _. row) rows) w w (at_changed row rows found)
+      edited knobs _ _ _ _ w w (at_changed row _ found)
       (λ t b. named knobs rows w are row.page found t b ∙ sym (alike_waits knobs t b old row alike)) (λ t b q other. refl) are
 
   -- where each row changes into one that waits alike, no waiting page changes
@@ -237,13 +235,13 @@ module _ (knobs : Knobs) (rows : List Row) (w : List WaitingPage) (are : AreWait
     where
       go : (o : Option Row) → row_at q rows ≡ o → waits_there knobs t b o ≡ waits_there knobs t b (option_map f o)
       go None found = refl
-      go (Some r) found = sym (alike_waits knobs t b r (f r) (find_all (λ s. same_page s.page q) (λ s. IsAlike s (f s)) rows r found alike))
+      go (Some r) found = sym (alike_waits knobs t b r (f r) (find_all _ (λ s. IsAlike s (f s)) _ r found alike))
 
   -- where some rows change, each into one that waits alike, no waiting page changes
   pub rows_changed : (test : Row → Bool) (f : Row → Row) → All (λ r. test r ≡ true → IsAlike r (f r)) rows → AreWaiting knobs (change_rows test f rows) w
   rows_changed test f alike =
       rows_mapped _
-      (λ k d lt. let r = get_or rows k d in cond_both _ (f r) r (IsAlike r) (alike k d lt) (λ _. (refl, refl, refl, refl)))
+      (λ k d lt. let r = get_or rows k d in cond_both _ _ r (IsAlike r) (alike k d lt) (λ _. (refl, refl, refl, refl)))
 
   -- knobs with the same merge_across_nodes leave the waiting pages those of the rows
   pub knobs_tuned : (tuned : Knobs) → tuned.merge_across_nodes ≡ knobs.merge_across_nodes → AreWaiting tuned rows w

@@ -7,7 +7,7 @@ invariant_of-self g c =
     let words = c.self.inside.words.items in
     let at = c.word_of-at.result in
     let within : at < length words = omega (arith, c.word_of-at.ensures, c.requires, ap length c.self.view_is) in
-    let read = get_or_default words at 0 c.index_mut.result.now within ∙ sym c.index_mut.ensures.value in
+    let read = get_or_default _ at 0 _ within ∙ sym c.index_mut.ensures.value in
     subst (λ (word : ℕ). AreSummed g.row.MOST (set words at (bit_or word (1 * 2 ^ (c.args.number % 64) % 18446744073709551616))) (g.S.Bits.words c.add.new.self)) read
     (stay_more c.self.invariant (c.args.number % 64) within (omega arith) c.if-this-gt1.true c.add.ensures)
 
@@ -20,13 +20,13 @@ returns-then-this-gt1 g c =
     let words = c.self.inside.words.items in
     let at = c.word_of-at.result in
     let within : at < length words = omega (arith, c.word_of-at.ensures, c.requires, ap length c.self.view_is) in
-    let read = get_or_default words at 0 c.index_mut.result.now within ∙ sym c.index_mut.ensures.value in
-    rw (← read, ← c.self.view_is, c.word_of-at.ensures) (marks_more words c.args.number (omega (arith, c.requires, ap length c.self.view_is)))
+    let read = get_or_default _ at 0 _ within ∙ sym c.index_mut.ensures.value in
+    rw (← read, ← c.self.view_is, c.word_of-at.ensures) (marks_more _ _ (omega (arith, c.requires, ap length c.self.view_is)))
 
 pub returns-else-this-gt1 : goal.returns-else-this-gt1
 returns-else-this-gt1 g c =
     let words = c.self.inside.words.items in
     let at = c.word_of-at.result in
     let within : at < length words = omega (arith, c.word_of-at.ensures, c.requires, ap length c.self.view_is) in
-    let read = get_or_default words at 0 c.index_mut.result.now within ∙ sym c.index_mut.ensures.value in
-    rw (← read, ← c.self.view_is, c.word_of-at.ensures) (marks_more words c.args.number (omega (arith, c.requires, ap length c.self.view_is)))
+    let read = get_or_default _ at 0 _ within ∙ sym c.index_mut.ensures.value in
+    rw (← read, ← c.self.view_is, c.word_of-at.ensures) (marks_more _ _ (omega (arith, c.requires, ap length c.self.view_is)))

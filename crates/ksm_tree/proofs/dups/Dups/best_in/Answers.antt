@@ -7,9 +7,8 @@ pub bounds-counts-place : goal.bounds-counts-place
 bounds-counts-place c =
     let seen = c.self.view_is in
     let below : All (λ r. r.place < c.args.self.now.places) (rows_of c.args.self.now.dups) = rw (← seen) c.self.invariant.lawful.places_below in
-    let within = candidates_within c.args.tree c.args.bytes.now c.args.limit c.args.self.now.places c.args.self.now.dups c.places_to_join-is_chain.result.0.now c.places_to_join-is_chain.result.1 below (rw c.requires at c.places_to_join-is_chain.ensures) in
-    let here = within c.loop-place.place-index 0 (omega (arith, c.loop-place-test.true)) in
-    omega (arith, here, c.counts-counts.ensures.places, ap (λ s. s.places) seen)
+    let within = candidates_within _ _ _ _ _ _ _ below (rw c.requires at c.places_to_join-is_chain.ensures) in
+    omega (arith, c.counts-counts.ensures.places, ap (λ s. s.places) seen)
 
 pub loop-place-preserved : goal.loop-place-preserved
 loop-place-preserved c =
@@ -67,7 +66,7 @@ ended c =
     let rise : InPlaceOrder (rows_of c.args.self.now.dups) = rw (← c.self.view_is) c.self.invariant.lawful.in_place_order in
     ap (folded c.args.tree c.args.bytes.now c.args.limit c.args.self.now.dups (option_copied c.loop-place.best)) (sym over)
     ∙ c.loop-place.invariant.3
-    ∙ folded_best c.args.tree c.args.bytes.now c.args.limit c.args.self.now.dups places c.places_to_join-is_chain.result.1 rise
+    ∙ folded_best _ _ _ _ _ _ rise
     (rw c.requires at c.places_to_join-is_chain.ensures)
 
 pub returns-in-Some-best : goal.returns-in-Some-best

@@ -7,4 +7,4 @@ returns-in-Some c =
     let rise : InPlaceOrder (rows_of c.args.self.now.dups) = c.place.ensures.lawful.in_place_order in
     c.at.ensures
     ∙ ap (λ s. dup_at c.in-Some.place s.dups) c.self.view_is
-    ∙ sym (placed_found c.args.number c.args.self.now.dups rise c.in-Some.ensures.place)
+    ∙ sym (placed_found _ _ rise c.in-Some.ensures.place)

@@ -22,7 +22,7 @@ invariant_of-self c =
     room_indexed c.in_err-add_item-in-Some.ensures.kept c.self.invariant
 
 pub invariant_of-self-in-Some : goal.invariant_of-self-in-Some
-invariant_of-self-in-Some c = rw c.in_ok-add_item-in-Some.ensures.added (stays_indexed c.self.invariant c.in-Some.place (with_item c.args.page) _)
+invariant_of-self-in-Some c = rw c.in_ok-add_item-in-Some.ensures.added (stays_indexed c.self.invariant c.in-Some.place _ _)
 
 pub returns-clause-joined : goal.returns-clause-joined
 returns-clause-joined c =

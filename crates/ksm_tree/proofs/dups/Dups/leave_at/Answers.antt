@@ -8,7 +8,7 @@ remove_item-requires c =
     told_there c.args.dup c.self.invariant c.self.view_is c.in_ok-place.ensures
 
 pub invariant_of-self : goal.invariant_of-self
-invariant_of-self c = rw c.remove_item.ensures (stays_indexed c.self.invariant c.in_ok-place.place (without_item c.args.page) _)
+invariant_of-self c = rw c.remove_item.ensures (stays_indexed c.self.invariant c.in_ok-place.place _ _)
 
 pub returns-clause-left : goal.returns-clause-left
 returns-clause-left c =
@@ -18,4 +18,4 @@ returns-clause-left c =
 
 pub returns-in_err-place-clause-left : goal.returns-in_err-place-clause-left
 returns-in_err-place-clause-left c =
-    ap (λ dups. record c.args.self.now { dups = dups }) (unplaced_changed c.args.dup c.in_err-place.ensures (without_item c.args.page))
+    ap (λ dups. record c.args.self.now { dups = dups }) (unplaced_changed c.args.dup c.in_err-place.ensures _)

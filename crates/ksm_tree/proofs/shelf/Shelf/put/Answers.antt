@@ -20,4 +20,4 @@ returns c =
     filled place c.insert_reserved-key.result c.self.inside.keys.items c.self.inside.dups c.insert_reserved-key.new.self c.clear.new.self c.self.view_is kept refl
     (within (goal.at.returns c).After-insert_reserved-key) c.insert_reserved-key.ensures.was_vacant c.insert_reserved-key.ensures.updates
     ∙ ap (λ l. set l place (Some c.args.dup)) c.clear.ensures.slots
-    ∙ set-set c.args.self.now.slots place None (Some c.args.dup)
+    ∙ set-set c.args.self.now.slots place None _

@@ -29,7 +29,7 @@ invariant_of-self-then-count-eq1 c =
     let held = holds_dup c.args.place c.self.inside.dups c.self.view_is c.self.invariant.placed c.requires.known in
     let count : c.in_ok-count.count ≡ length (with_item c.args.page held.0.items) =
     c.in_ok-count.ensures.count ∙ ap (λ o. length (with_item c.args.page (items_in o))) held.1.filled in
-    rw (c.in_ok-count.ensures.added ∙ changed_dup c.args.place (with_item c.args.page) s.dups.slots held.1.filled, c.set.ensures)
+    rw (c.in_ok-count.ensures.added ∙ changed_dup c.args.place (with_item c.args.page) _ held.1.filled, c.set.ensures)
     (slots_marked c.args.place s.dups.slots s.counts s.empty s.stale held.0
     (with_item c.args.page) held.1.within c.self.invariant held.1.filled c.in_ok-count.count count
     (grown_not_stale c.args.page held.0.items) c.remove.ensures)
@@ -41,7 +41,7 @@ invariant_of-self-else-count-eq1 c =
     let count : c.in_ok-count.count ≡ length (with_item c.args.page held.0.items) =
     c.in_ok-count.ensures.count ∙ ap (λ o. length (with_item c.args.page (items_in o))) held.1.filled in
     let live = was_live c.args.page held.0.items (λ one. c.if-count-eq1.false (count ∙ one)) in
-    rw (c.in_ok-count.ensures.added ∙ changed_dup c.args.place (with_item c.args.page) s.dups.slots held.1.filled, c.set.ensures)
+    rw (c.in_ok-count.ensures.added ∙ changed_dup _ _ s.dups.slots held.1.filled, c.set.ensures)
     (slots_kept c.args.place s.dups.slots s.counts s.empty s.stale held.0
     (with_item c.args.page) held.1.within c.self.invariant held.1.filled count
     (grown_not_stale c.args.page held.0.items ∙ sym live))
@@ -49,11 +49,11 @@ invariant_of-self-else-count-eq1 c =
 pub returns-then-count-eq1-clause-added : goal.returns-then-count-eq1-clause-added
 returns-then-count-eq1-clause-added c =
     let held = holds_dup c.args.place c.self.inside.dups c.self.view_is c.self.invariant.placed c.requires.known in
-    view_changed c.args.place c.self.inside.dups c.add_item.new.self (with_item c.args.page) c.self.view_is c.self.invariant.placed
+    view_changed c.args.place c.self.inside.dups c.add_item.new.self _ c.self.view_is c.self.invariant.placed
     held.1.filled c.in_ok-count.ensures.added
 
 pub returns-else-count-eq1-clause-added : goal.returns-else-count-eq1-clause-added
 returns-else-count-eq1-clause-added c =
     let held = holds_dup c.args.place c.self.inside.dups c.self.view_is c.self.invariant.placed c.requires.known in
-    view_changed c.args.place c.self.inside.dups c.add_item.new.self (with_item c.args.page) c.self.view_is c.self.invariant.placed
+    view_changed c.args.place c.self.inside.dups c.add_item.new.self _ c.self.view_is c.self.invariant.placed
     held.1.filled c.in_ok-count.ensures.added
