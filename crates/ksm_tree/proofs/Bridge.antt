@@ -1,5 +1,5 @@
 -- Tests over dups with items are the book's tests over rows, where the items are counted.
-use Rattle.ksm_tree.proofs.Names.{[], All, All-head, All-tail, All-weaker, ap, AreCounted, arith, best_dup, best_of, Bool, bytes_eq, Choice, choice_of, chosen, count_by, Dup, DupRow, DupsState, Empty, empty_from, false, filter, find, has_items, if◌then◌else◌, is_best, is_live, is_no_rival, is_no_worse, is_some, is_stale, item_count, Knobs, length, List, list_all, may_join, nat_le, nat_lt, nat_tests, new_place, None, not, Option, option_map, place_in, place_or, refl, Row, rows_of, same_Some, Some, Stale, stands_at, subst, sym, tree_of, true, ℕ, ◌&&◌, ◌<◌, ◌==◌, ◌||◌, ◌∙◌, ◌∷◌, ◌≡◌}
+use Rattle.ksm_tree.proofs.Names.{[], All, All-head, All-tail, All-weaker, ap, AreCounted, arith, best_dup, best_of, Bool, bytes_eq, Choice, choice_of, chosen, count_by, Dup, DupRow, DupsState, empty_from, false, filter, find, has_items, if◌then◌else◌, is_best, is_live, is_no_rival, is_no_worse, is_some, is_stale, item_count, Knobs, length, List, list_all, may_join, nat_le, nat_lt, nat_tests, new_place, None, not, Option, option_map, place_in, place_or, refl, Row, rows_of, same_Some, Some, stands_at, subst, sym, tree_of, true, ℕ, ◌&&◌, ◌<◌, ◌==◌, ◌||◌, ◌∙◌, ◌∷◌, ◌≡◌}
 use Rattle.ksm_tree.proofs.Alike.{count_mapped, filter_mapped, find_mapped}
 use Rattle.ksm_base.specs.Rows.{is_stale as is_stale_row}
 use Rattle.ksm_base.specs.Visit.{may_join as row_may_join, is_no_rival as is_no_rival_row, is_no_worse as is_no_worse_row, is_best as is_best_row}

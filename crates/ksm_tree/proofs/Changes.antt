@@ -1,5 +1,5 @@
 -- Dups and their rows: what a dup that comes or goes and a change of items changes of the rows, and where a dup is found.
-use Rattle.ksm_tree.proofs.Names.{[], All, All-cons, All-head, All-tail, ap, arith, Bool, change_at, change_items, cond_both, Dup, dup_at, dup_of, DupRow, filter, find, find_none, get_or, GuestPage, has_number, InPlaceOrder, let_out, List, map, map-append, Merged, nat_lt, None, none-some, not, Option, option_map, PageState, Private, refl, row_place, rows_of, same_Some, Some, stands_at, sym, Waiting, with_dup, with_new, without_item, without_place, Zero, ℕ, if◌then◌else◌, ◌++◌, ◌==◌, ◌∙◌, ◌∷◌, ◌≡◌}
+use Rattle.ksm_tree.proofs.Names.{[], All, All-cons, All-head, All-tail, ap, arith, Bool, change_at, change_items, cond_both, Dup, dup_at, dup_of, DupRow, filter, find, find_none, get_or, GuestPage, has_number, InPlaceOrder, let_out, List, map, map-append, Merged, None, none-some, not, Option, option_map, PageState, Private, refl, row_place, rows_of, same_Some, Some, stands_at, sym, Waiting, with_dup, with_new, without_place, Zero, ℕ, if◌then◌else◌, ◌++◌, ◌==◌, ◌∙◌, ◌∷◌, ◌≡◌}
 use Rattle.std.proofs.Common.{ap₂}
 use Rattle.ksm_tree.proofs.Alike.{change_none, filter_mapped, find_alike, find_mapped, map_alike, map_mapped}
 use Rattle.ksm_tree.proofs.Rows.{only_number}

@@ -43,7 +43,7 @@ more_there p (r ∷ rows) e rise found =
       | inr away ↦
           let rest = more_there p rows e (pairs_tail Lower r rows rise) (grind (arith, away, found)) in
           record {
-            counts = λ q. (let one = rest.counts q in let more = count_more q r rows in let less = count_more q r (filter (λ s. not (s.place == p)) rows) in grind (arith, away, one, more, less));
+            counts = λ q. (let more = count_more q r rows in let less = count_more q r (filter (λ s. not (s.place == p)) rows) in grind (arith, away, more, less));
             all = λ q. (grind (arith, away));
           }
     ]
@@ -229,7 +229,7 @@ totals_tell t b p {rows} {totals} few below rise are =
 pub totals_moved : (t : ℕ) (b : List ℕ) {rows new : List DupRow} {old_totals new_totals : Totals} → InPlaceOrder rows → InPlaceOrder new → dups_apart t b new ≡ dups_apart t b rows → chains_apart t b new ≡ chains_apart t b rows
     → IsRegrouped (length (group_places t b rows)) (length (group_places t b new)) old_totals new_totals → AreTotals rows old_totals → AreTotals new new_totals
 totals_moved t b {rows} {new} {old_totals} {new_totals} rise new_rise dups chains regrouped are =
-    let r : IsRegrouped (size t b rows) (size t b new) old_totals new_totals = rw (← places_size t b _, ← places_size t b new) regrouped in
+    let r : IsRegrouped (size t b rows) (size t b new) old_totals new_totals = rw (← places_size t b rows, ← places_size t b new) regrouped in
     let d_old = dups_parted t b rows in
     let d_new = dups_parted t b new in
     let c_old = chains_parted t b rows rise in
@@ -293,7 +293,7 @@ module _ {old r : DupRow} {less rows new : List DupRow} (there : IsMore old less
   -- after a dup came and before another went, the totals tell of a group of any size that they told of
   pub totals_between : {t u : Totals} → IsRegrouped (length (group_places r.tree r.bytes rows)) (length (group_places r.tree r.bytes new)) t u → (n : ℕ) → t.chains ≤ MOST_FRAMES → t.dups ≤ MOST_FRAMES → Tells n t → Tells n u
   totals_between {t} {u} first n few small tells =
-      let from : IsRegrouped (size r.tree r.bytes rows) (size r.tree r.bytes new) t u = rw (← places_size _ _ _, ← places_size _ _ new) first in
+      let from : IsRegrouped (size r.tree r.bytes rows) (size r.tree r.bytes new) t u = rw (← places_size _ _ rows, ← places_size _ _ new) first in
       let one = there.counts (in_group r.tree r.bytes) in
       let two = here.counts (in_group r.tree r.bytes) in
       let own = self_group r in

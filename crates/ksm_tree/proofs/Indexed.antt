@@ -1,5 +1,5 @@
 -- The index over dups: what it finds, and how it stays with a change of items and with a dup that goes.
-use Rattle.ksm_tree.proofs.Names.{[], All, All-filter, All-weaker, AllPairs-filter, ap, AreIndexed, arith, Bool, bytes_eq, cases_Bool, change_at, change_items, content_in, content_of, Dup, dup_at, dup_of, DupRow, dups_seen, DupsState, eqb-true, false, false≢true, filter, find, find_nothing, find_passes, get, get_or, Group, group_places, GuestPage, has_number, if◌then◌else◌, in_group, Index, inl, InPlaceOrder, inr, is_some, items_in, IsRegrouped, length, List, nat_tests, None, none-some, not, number_of, Option, option_map, pairs_head, pairs_tail, place_of, places_in, places_of, refl, row_place, rows_of, same_Some, SlotsState, Some, stands_at, sym, Tells, true, under, without, without_place, ℕ, ◌&&◌, ◌<◌, ◌==◌, ◌∙◌, ◌∷◌, ◌≡◌, subst, LeadTheSame}
+use Rattle.ksm_tree.proofs.Names.{[], All, All-filter, All-weaker, AllPairs-filter, ap, AreIndexed, arith, Bool, bytes_eq, cases_Bool, change_at, change_items, content_in, content_of, Dup, dup_at, dup_of, DupRow, dups_seen, DupsState, eqb-true, false, false≢true, filter, find, find_nothing, find_passes, get, get_or, Group, group_places, GuestPage, if◌then◌else◌, in_group, Index, inl, InPlaceOrder, inr, is_some, items_in, IsRegrouped, length, List, nat_tests, None, none-some, not, number_of, Option, option_map, pairs_head, pairs_tail, place_of, places_in, places_of, refl, row_place, rows_of, same_Some, SlotsState, Some, stands_at, sym, Tells, true, under, without, without_place, ℕ, ◌&&◌, ◌<◌, ◌==◌, ◌∙◌, ◌∷◌, ◌≡◌, subst, LeadTheSame}
 use Rattle.ksm_tree.proofs.Alike.{chosen, find_alike}
 use Rattle.ksm_tree.proofs.Grouped.{chains_kept, dups_kept, more_there, totals_moved, totals_tell}
 use Rattle.ksm_tree.proofs.Keys.{own_group, self_group}
@@ -117,7 +117,7 @@ pub not_in_group : (p t : ℕ) (b : List ℕ) (dups : List Dup) {d : Dup} → In
 not_in_group p t b dups {d} rise found outside =
     All-weaker (IsOne p d.row) (λ r. (r.place == p && in_group t b r) ≡ false)
     (λ r h. elim (cases_Bool (r.place == p)) [
-      | inl here ↦ let same = h.1 here in grind (arith, here)
+      | inl here ↦ grind (arith, here)
       | inr away ↦ grind (arith, away)
     ])
     _ (only_one p _ _ rise (row_at_place p _ found))

@@ -1,5 +1,5 @@
 -- The best dup to join: a walk over a group, keeping the better of two, ends at the one that the definition chooses of all.
-use Rattle.ksm_tree.proofs.Names.{[], add-one, All, All-cons, All-filter, All-head, All-map, All-tail, All-weaker, AllPass-from_list_all, and_parts, ap, ArePlacesToJoin, arith, best_of, Bool, cases_Bool, cond, drop, drop-cons, Dup, dup_at, DupRow, false, false≢true, filter, find, get_or, group_places, if◌then◌else◌, in_group, inl, InPlaceOrder, inr, is_behind, is_no_worse, is_open, items_in, length, List, list_all, list_all-from_AllPass, map, may_join, nat_le, nat_lt, nat_tests, None, none-some, not, of_group, Option, pairs_head, pairs_tail, places_open, refl, rows_of, Some, sym, true, unless_behind, ℕ, ◌%◌, ◌&&◌, ◌+◌, ◌-◌, ◌<◌, ◌==◌, ◌^◌, ◌||◌, ◌∙◌, ◌∷◌, ◌≡◌, ◌≤◌}
+use Rattle.ksm_tree.proofs.Names.{[], add-one, All, All-cons, All-filter, All-head, All-map, All-tail, All-weaker, and_parts, ap, ArePlacesToJoin, arith, best_of, Bool, cases_Bool, cond, drop, drop-cons, Dup, dup_at, DupRow, false, false≢true, filter, find, get_or, group_places, if◌then◌else◌, in_group, inl, InPlaceOrder, inr, is_behind, is_no_worse, is_open, items_in, length, List, list_all, map, may_join, nat_le, nat_lt, nat_tests, None, none-some, not, of_group, Option, pairs_head, pairs_tail, places_open, refl, rows_of, Some, sym, true, unless_behind, ℕ, ◌%◌, ◌&&◌, ◌+◌, ◌-◌, ◌<◌, ◌==◌, ◌^◌, ◌||◌, ◌∙◌, ◌∷◌, ◌≡◌, ◌≤◌}
 use Rattle.ksm_tree.proofs.Alike.{filter_mapped, map_mapped}
 use Rattle.ksm_tree.proofs.Changes.{all_rows}
 
@@ -46,7 +46,6 @@ module _ (may : Dup → Bool) where
       elim (cases_Bool (top (b ∷ dups) d)) [
         | inl best ↦
             let of_d = and_parts (may d) (list_all (rival d) (b ∷ dups)) best in
-            let behind = AllPass-from_list_all (rival d) dups (and_parts (rival d b) (list_all (rival d) dups) of_d.1).1 in
             absurd (false≢true (sym other ∙ (grind (arith, first))))
         | inr fails ↦ fails
       ]
@@ -207,7 +206,6 @@ places_within t b places rows below =
 -- the places of the open dups are places of the table
 open_within : (limit places : ℕ) (dups : List Dup) → All (λ r. r.place < places) (rows_of dups) → All (λ p. p < places) (places_open limit dups)
 open_within limit places dups below =
-    let opens = λ (d : Dup). is_open limit (length d.items) in
     All-map (λ p. p < places) _ _
     (All-filter _ (λ d. d.row.place < places) _ (all_rows (λ r. r.place < places) dups below))
 

@@ -1,5 +1,5 @@
 -- What the words of a set, and their summary, say of its numbers.
-use Rattle.ksm_tree.proofs.Names.{AreSummed, ap, arith, Bool, bit_at, bit_at-zero, bit_at_above, bit_at_clear_other, bit_at_clear_same, bit_at_ones, bit_at_set_other, bit_at_set_same, bit_and, bit_or, cases_eq, cases_lt, eqb-true, false, get_or, get_or-set_other, get_or-set_same, get_or_past, get_or-replicate, has, HasBelow, HasNoBit, HasNone, inl, inr, IsLeast, IsLowestBit, IsSummed, length, length-set, List, Marks, MatchOption, nat_tests, ne_eqb, None, not, Option, replicate, set, shr-shr, Some, sym, true, w64, ℕ, ◌%◌, ◌*◌, ◌+◌, ◌-◌, ◌/◌, ◌<◌, ◌==◌, ◌^◌, ◌∙◌, ◌≡◌, ◌≢◌, ◌≤◌}
+use Rattle.ksm_tree.proofs.Names.{AreSummed, ap, arith, Bool, bit_at, bit_at-zero, bit_at_above, bit_at_clear_other, bit_at_clear_same, bit_at_ones, bit_at_set_other, bit_at_set_same, bit_and, bit_or, cases_eq, cases_lt, eqb-true, false, get_or, get_or-set_other, get_or-set_same, get_or_past, get_or-replicate, has, HasNoBit, HasNone, inl, inr, IsLeast, IsLowestBit, IsSummed, length, length-set, List, Marks, MatchOption, nat_tests, ne_eqb, None, not, Option, replicate, set, shr-shr, Some, sym, true, w64, ℕ, ◌%◌, ◌*◌, ◌+◌, ◌-◌, ◌/◌, ◌<◌, ◌==◌, ◌^◌, ◌∙◌, ◌≡◌, ◌≢◌, ◌≤◌}
 use Rattle.std.proofs.lemmas.List.{length-replicate}
 
 -- a word in which a bit is set is not 0
@@ -103,7 +103,6 @@ module _ (words : List ℕ) where
     -- the upper set is right once a bit is set in a word, and that word's number is in it
     pub summed_more : {w : ℕ} (i : ℕ) {upper' : List ℕ} → w < length words → i < 64 → Marks upper upper' w true → IsSummed (set words w (bit_or (get_or words w 0) (1 * 2 ^ i % 18446744073709551616))) upper'
     summed_more {w} i within small marks =
-        let word = bit_or (get_or words w 0) (1 * 2 ^ i % 18446744073709551616) in
         let some = ap not (ne_eqb _ 0 (some_bit _ i (bit_at_set_same w64 _ i small))) in
         summed_put _ within (sym some) marks
 

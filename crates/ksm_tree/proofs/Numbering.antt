@@ -1,5 +1,5 @@
 -- What one content more, and one less, makes of the numbers.
-use Rattle.ksm_tree.proofs.Names.{ap, AreNumbered, BTreeMap, cases_Bool, cond, Content, content_of, content_order, Decides-eqb, Equal-is, exact_bytes, exact_pairs, exact_unsigned, inl, inr, is_at, is_some, List, nat_cmp, None, number_of, Numbers, Option, same_Some, slice_cmp, Some, sym, true, true≢false, Updates, ℕ, ◌==◌, ◌∙◌, ◌≡◌, ◌≢◌}
+use Rattle.ksm_tree.proofs.Names.{ap, AreNumbered, BTreeMap, cases_Bool, cond, Content, content_of, content_order, Decides-eqb, Equal-is, exact_bytes, exact_pairs, exact_unsigned, inl, inr, is_at, is_some, List, None, number_of, Numbers, Option, same_Some, Some, sym, true, true≢false, Updates, ℕ, ◌==◌, ◌∙◌, ◌≡◌, ◌≢◌}
 use Rattle.std.proofs.lemmas.Bool.{eqb-false}
 
 -- contents that the order does not tell apart are one

@@ -1,5 +1,5 @@
 -- What a change of one slot does to the dups and to the places whose slots pass a test.
-use Rattle.ksm_tree.proofs.Names.{[], absent_kept, All, All-cons, All-weaker, ap, ArePlaced, AreSlots, arith, Bool, change_at, change_items_of, change_slot, comes_before, count_in, Dup, dup_at, empty_from, empty_place, false, false≢true, filter, filter_all, filter_none, find, find_nothing, get_or, get_or-map, GuestPage, has_item, if◌then◌else◌, is_empty_slot, is_live, is_some, is_stale, is_stale_slot, items_in, length, length-append, length-map, length-set, List, map, map-set, nat_lt, nat_tests, None, none-some, none_found, not, Option, option_map, pages_ordered, present, refl, rows_of, same_page, same_Some, set, set-get_or, ShelfState, slots_seen, SlotsState, Some, stands_at, suc, sym, true, with_item, with_new, without_item, without_place, zero, ℕ, ◌+◌, ◌<◌, ◌==◌, ◌∙◌, ◌∷◌, ◌≡◌, ◌≤◌, CountedSet, HasNone, IsLeast, IsMarked, IsSetOf, MatchOption, true≢false}
+use Rattle.ksm_tree.proofs.Names.{[], absent_kept, All, All-cons, All-weaker, ap, ArePlaced, AreSlots, arith, Bool, change_at, change_items_of, change_slot, comes_before, count_in, Dup, dup_at, empty_from, empty_place, false, false≢true, filter, filter_all, filter_none, find, find_nothing, get_or, get_or-map, GuestPage, has_item, if◌then◌else◌, is_empty_slot, is_live, is_some, is_stale, is_stale_slot, items_in, length, length-append, length-map, length-set, List, map, map-set, nat_lt, nat_tests, None, none-some, none_found, not, Option, option_map, pages_ordered, present, refl, rows_of, same_Some, set, set-get_or, ShelfState, slots_seen, SlotsState, Some, stands_at, suc, sym, true, with_item, with_new, without_item, without_place, zero, ℕ, ◌+◌, ◌<◌, ◌==◌, ◌∙◌, ◌∷◌, ◌≡◌, ◌≤◌, CountedSet, HasNone, IsLeast, IsMarked, IsSetOf, MatchOption, true≢false}
 use Rattle.ksm_tree.proofs.Alike.{change_none}
 use Rattle.ksm_tree.proofs.PlaceSets.{set_kept, set_marked}
 
@@ -26,7 +26,7 @@ pub slot_found : (k p i : ℕ) (slots : List (Option Dup)) → p ≡ k + i → A
 slot_found k p i [] is placed = refl
 slot_found k p zero (None ∷ slots) is placed = find_nothing _ _ (none_at _ p slots (omega arith) placed)
 slot_found k p (suc i) (None ∷ slots) is placed = slot_found _ p i slots (omega arith) placed
-slot_found k p zero (Some d ∷ slots) is placed = let h = placed.0 in grind (arith, nat_tests, h)
+slot_found k p zero (Some d ∷ slots) is placed = grind (arith, nat_tests)
 slot_found k p (suc i) (Some d ∷ slots) is placed =
     let rest = slot_found (suc k) p i slots (omega arith) placed.1 in
     grind (arith, nat_tests, rest)
@@ -40,10 +40,9 @@ slot_put k p zero (None ∷ slots) dup is at within placed =
     grind (arith, none, each)
 slot_put k p (suc i) (None ∷ slots) dup is at within placed = slot_put (suc k) p i slots dup (omega arith) at (omega arith) placed
 slot_put k p zero (Some d ∷ slots) dup is at within placed =
-    let h = placed.0 in
     let none = filter_none (λ d. nat_lt d.row.place dup.row.place) (present slots) (none_below (suc k) dup.row.place slots (omega arith) placed.1) in
     let each = filter_all (λ d. nat_lt dup.row.place d.row.place) (present slots) (all_above (suc k) dup.row.place slots (omega arith) placed.1) in
-    grind (arith, nat_tests, h, none, each)
+    grind (arith, nat_tests, none, each)
 slot_put k p (suc i) (Some d ∷ slots) dup is at within placed =
     let rest = slot_put (suc k) p i slots dup (omega arith) at (omega arith) placed.1 in
     grind (arith, nat_tests, rest)
@@ -55,9 +54,8 @@ slot_emptied k p zero (None ∷ slots) is placed =
     sym (filter_all _ _ (λ j d lt. ap not (none_at _ p slots (omega arith) placed j d lt)))
 slot_emptied k p (suc i) (None ∷ slots) is placed = slot_emptied _ p i slots (omega arith) placed
 slot_emptied k p zero (Some d ∷ slots) is placed =
-    let h = placed.0 in
     let each = filter_all (λ d. not (stands_at p d)) (present slots) (λ j d lt. ap not (none_at (suc k) p slots (omega arith) placed.1 j d lt)) in
-    grind (arith, nat_tests, h, each)
+    grind (arith, nat_tests, each)
 slot_emptied k p (suc i) (Some d ∷ slots) is placed =
     let rest = slot_emptied (suc k) p i slots (omega arith) placed.1 in
     grind (arith, nat_tests, rest)
@@ -68,9 +66,8 @@ slot_changed k p i [] {dup} f is here placed = absurd (none-some dup here)
 slot_changed k p zero (None ∷ slots) {dup} f is here placed = absurd (none-some dup here)
 slot_changed k p (suc i) (None ∷ slots) {dup} f is here placed = slot_changed _ p i slots f (omega arith) here placed
 slot_changed k p zero (Some d ∷ slots) {dup} f is here placed =
-    let h = placed.0 in
     let none = change_none (stands_at p) (λ e. record e { items = f e.items }) (present slots) (none_at (suc k) p slots (omega arith) placed.1) in
-    grind (arith, nat_tests, h, none)
+    grind (arith, nat_tests, none)
 slot_changed k p (suc i) (Some d ∷ slots) {dup} f is here placed =
     let rest = slot_changed (suc k) p i slots f (omega arith) here placed.1 in
     grind (arith, nat_tests, rest)

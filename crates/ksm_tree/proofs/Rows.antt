@@ -1,5 +1,5 @@
 -- Dup rows in the order of their places: what a new row and a row that goes change of what is found.
-use Rattle.ksm_tree.proofs.Names.{[], All, All-cons, All-filter, All-head, All-tail, All-weaker, ap, arith, Bool, cases_Bool, cond, DupRow, false, false≢true, filter, find, find-append, find_all, find_nothing, find_over, find_passes, get_or, group_places, if◌then◌else◌, in_group, inl, InPlaceOrder, inr, List, nat_lt, nat_tests, ne_eqb, None, none-some, not, option_map, option_or, pairs_head, pairs_tail, refl, row_place, same_Some, Some, sym, true, with_dup, with_place, without, ℕ, ◌&&◌, ◌++◌, ◌<◌, ◌==◌, ◌∙◌, ◌∷◌, ◌≡◌}
+use Rattle.ksm_tree.proofs.Names.{[], All, All-filter, All-head, All-tail, All-weaker, ap, arith, Bool, cond, DupRow, false, filter, find, find-append, find_all, find_nothing, find_over, find_passes, get_or, group_places, if◌then◌else◌, in_group, InPlaceOrder, List, nat_lt, nat_tests, ne_eqb, None, not, option_map, option_or, refl, row_place, Some, sym, true, with_dup, with_place, without, ℕ, ◌&&◌, ◌++◌, ◌<◌, ◌==◌, ◌∙◌, ◌∷◌, ◌≡◌}
 use Rattle.ksm_tree.proofs.Alike.{chosen, kept_append}
 use Rattle.ksm_base.proofs.Orders.{above, below, dups_parted, elsewhere, Lower, one_of_each, one_of_each_place}
 
@@ -54,7 +54,6 @@ place_new row rows fresh =
 pub place_kept : (q : ℕ) (row : DupRow) (rows : List DupRow) → InPlaceOrder rows → (q == row.number) ≡ false → row_place q (with_dup row rows) ≡ row_place q (filter (elsewhere row.place) rows)
 place_kept q row rows rise other =
     let lower = filter (below row.place) rows in
-    let higher = filter (above row.place) rows in
     let fails : numbered q row ≡ false = grind (arith, nat_tests, other) in
     ap (option_map (λ r. r.place)) (find_over _ lower _ row fails ∙ ap (find (numbered q)) (sym (dups_parted _ _ rise)))
 
@@ -74,10 +73,11 @@ OneBy of rows e = All (λ r. (of r == of e) ≡ true → r ≡ e) rows
 
 -- the row that a test finds is the only one of its place, and the only one of its number
 found_alone : (test : DupRow → Bool) (rows : List DupRow) (e : DupRow) → InPlaceOrder rows → find test rows ≡ Some e → OneBy (λ r. r.place) rows e × OneBy (λ r. r.number) rows e
-found_alone test rows e rise found =
-    (find_all test (OneBy (λ r. r.place) rows) rows e found (one_of_each_place rows rise),
-    find_all test (OneBy (λ r. r.number) rows) rows e found
-    (one_of_each Lower (λ d e. d.number == e.number) rows (λ d e h. h.1) (λ d e h. let apart = h.1 in grind (arith, nat_tests, apart)) rise))
+found_alone test rows e rise found = (
+  find_all test (OneBy (λ r. r.place) rows) rows e found (one_of_each_place rows rise),
+  find_all test (OneBy (λ r. r.number) rows) rows e found
+      (one_of_each Lower (λ d e. d.number == e.number) rows (λ d e h. h.1) (λ d e h. grind (arith, nat_tests)) rise),
+)
 
 -- the row found at a place is the only row there, and the only one of its number
 pub only_one : (p : ℕ) (rows : List DupRow) (e : DupRow) → InPlaceOrder rows → find (λ r. r.place == p) rows ≡ Some e → All (IsOne p e) rows
@@ -85,9 +85,11 @@ only_one p rows e rise found k d lt =
     let r = get_or rows k d in
     let at = find_passes (λ r. r.place == p) rows e found in
     let alone = found_alone (λ r. r.place == p) rows e rise found in
-    let is : (r.place == p) ≡ true → r ≡ e = λ here. alone.0 k d lt (grind (arith, nat_tests, at, here)) in
-    (same_answer (r.place == p) (r.number == e.number) (λ here. let same = is here in grind (arith, nat_tests, same))
-    (λ here. let same = alone.1 k d lt here in grind (arith, at, same)), is)
+    let is : (r.place == p) ≡ true → r ≡ e = λ here. alone.0 k d lt (grind (arith, nat_tests, at, here)) in (
+      same_answer (r.place == p) (r.number == e.number) (λ here. let same = is here in grind (arith, nat_tests, same))
+          (λ here. grind (arith, at)),
+      is,
+    )
 
 -- the row of a number is the only one of its number, and the only one at its place
 abbrev pub IsThat : ℕ → DupRow → DupRow → Type 0
@@ -100,7 +102,7 @@ only_number q rows {e} rise found k d lt =
     let has = find_passes (numbered q) rows e found in
     let alone = found_alone (numbered q) rows e rise found in
     same_answer (r.number == q) (r.place == e.place) (λ here. let same = alone.1 k d lt (grind (arith, nat_tests, has, here)) in grind (arith, nat_tests, same))
-    (λ here. let same = alone.0 k d lt here in grind (arith, has, same))
+    (λ here. grind (arith, has))
 
 -- the places of the numbers once the row at a place has gone
 left : (p q : ℕ) (e : DupRow) (rows : List DupRow) → All (IsOne p e) rows → row_place q (filter (elsewhere p) rows) ≡ (if q == e.number then None else row_place q rows)

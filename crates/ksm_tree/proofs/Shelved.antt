@@ -1,5 +1,5 @@
 -- What a change of one key, or of what lies under it, does to the slots of a shelf.
-use Rattle.ksm_tree.proofs.Names.{[], ap, arith, cases_eq, cases_lt, change_items_of, change_slot, get, get_or, get_or_default, GuestPage, has_room, inl, inr, items_in, Kept, kept_at, length, List, None, none-some, ne_eqb, eq-eqb, Option, option_map, refl, replicate, same_Some, set, set-get_or, ShelfState, Slab, slots_by, Some, suc, sym, true, false, false≢true, is_some, zero, ℕ, ◌+◌, ◌<◌, ◌≤◌, ◌==◌, ◌∙◌, ◌∷◌, ◌≡◌, ◌≢◌}
+use Rattle.ksm_tree.proofs.Names.{[], ap, arith, cases_eq, cases_lt, change_items_of, change_slot, get, get_or, get_or_default, GuestPage, has_room, inl, inr, items_in, Kept, kept_at, length, List, None, none-some, ne_eqb, eq-eqb, Option, option_map, refl, replicate, same_Some, set, set-get_or, ShelfState, Slab, slots_by, Some, suc, sym, true, false≢true, is_some, zero, ℕ, ◌+◌, ◌<◌, ◌≤◌, ◌∙◌, ◌∷◌, ◌≡◌, ◌≢◌}
 use Rattle.slab.specs.Slab.{Updates as Fills}
 
 -- there are as many slots as keys

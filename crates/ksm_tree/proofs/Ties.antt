@@ -1,5 +1,5 @@
 -- The items of each dup stay the pages of the rows merged into it: the dups after a change of one row, and after a change of all.
-use Rattle.ksm_tree.proofs.Names.{[], absent_kept, All, All-append, All-cons, All-filter, All-head, All-map, All-tail, All-weaker, ap, AreTied, arith, cases_Bool, change_items, change_row, cond_both, Dup, dup_of, DupRow, each_at_page, eqb-true, false, false≢true, filter, filter_all, filter_none, find_all, find_none, find_passes, get_or, GuestPage, has_item, has_number, inl, InPageOrder, inr, is_some, item_count, items_in, items_of, length, let_out, List, map, Merged, merged_into, merged_state, nat_lt, nat_tests, ne_eqb, None, none_found, not, not_an_item, Option, ordered_map, pages_ordered, PageState, Private, refl, Row, row_at, rows_of, same_page, same_Some, Some, stands_at, sym, true, Waiting, with_item, with_new, with_row, without_item, without_page, without_place, Zero, ℕ, if◌then◌else◌, ◌++◌, ◌<◌, ◌==◌, ◌∙◌, ◌∷◌, ◌≡◌}
+use Rattle.ksm_tree.proofs.Names.{[], absent_kept, All, All-append, All-cons, All-filter, All-head, All-map, All-tail, All-weaker, ap, AreTied, arith, cases_Bool, change_items, change_row, cond_both, Dup, dup_of, DupRow, each_at_page, eqb-true, false, false≢true, filter, filter_all, filter_none, find_all, find_none, find_passes, get_or, GuestPage, has_item, has_number, inl, InPageOrder, inr, is_some, item_count, items_in, items_of, length, let_out, List, map, Merged, merged_into, merged_state, nat_tests, ne_eqb, None, none_found, not, not_an_item, Option, ordered_map, pages_ordered, PageState, Private, refl, Row, row_at, rows_of, same_page, same_Some, Some, sym, true, Waiting, with_item, with_new, with_row, without_item, without_page, without_place, Zero, ℕ, if◌then◌else◌, ◌++◌, ◌<◌, ◌==◌, ◌∙◌, ◌∷◌, ◌≡◌}
 use Rattle.ksm_tree.specs.Dups.{items_of as items_numbered}
 use Rattle.ksm_tree.proofs.Alike.{kept_append}
 use Rattle.ksm_tree.proofs.Changes.{all_rows}

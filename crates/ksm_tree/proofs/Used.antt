@@ -1,5 +1,5 @@
 -- The contents that are in use: what is left once those are gone that are not.
-use Rattle.ksm_tree.proofs.Names.{[], ap, AreGroups, BTreeMap, bytes_eq, cases_Bool, cases_lt, chain_in, Content, content_in, content_of, content_order, false, get, get_or_past, Group, Groups, if◌then◌else◌, inl, inr, is_at, is_occupied, is_some, is_used_in, IsAsWas, IsSwept, length, nat_lt, None, number_of, Option, option_map, places_in, Slab, Some, sym, true, true≢false, under, Updates, waiting_in, waiting_page, waits_in, ℕ, ◌&&◌, ◌+◌, ◌<◌, ◌==◌, ◌||◌, ◌∙◌, ◌≡◌, List, refl}
+use Rattle.ksm_tree.proofs.Names.{[], ap, AreGroups, BTreeMap, bytes_eq, cases_Bool, cases_lt, Content, content_in, content_of, content_order, false, get, get_or_past, Group, Groups, if◌then◌else◌, inl, inr, is_at, is_occupied, is_some, is_used_in, IsAsWas, IsSwept, length, nat_lt, None, number_of, Option, option_map, places_in, Slab, Some, sym, true, true≢false, under, Updates, ℕ, ◌&&◌, ◌+◌, ◌<◌, ◌==◌, ◌||◌, ◌∙◌, ◌≡◌, List, refl}
 use Rattle.ksm_tree.proofs.Numbering.{same_content}
 use Rattle.ksm_tree.specs.Reserve.{KeepsReserve}
 use Rattle.std.specs.Prelude.{◌⊎◌}

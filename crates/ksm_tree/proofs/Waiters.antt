@@ -1,5 +1,5 @@
 -- The waiting pages beside the rows that wait: what a look-up tells, and what a change of rows does.
-use Rattle.ksm_tree.proofs.Names.{[], All, All-head, All-tail, ap, AreWaiting, arith, Bool, bytes_eq, bytes_eq-Decides, cases_Bool, change_row, change_rows, comes_before, cond, cond_both, each_at_page, eq-eqb, false, false≢true, filter, find-append, find_all, find_nothing, get_or, GuestPage, if◌then◌else◌, inl, InPageOrder, inr, is_some, IsAdded, IsAlike, IsStopped, Knobs, List, map, names, nat_tests, None, not, Option, option_and_then, option_map, option_or, partner, refl, Row, row_at, same_page, same_page_eq, same_page_refl, same_page_sym, Some, subst, sym, tree_of, true, Waiting, waiting_page, waiting_state, WaitingPage, waits_there, with_row, without_page, ℕ, ◌&&◌, ◌==◌, ◌∙◌, ◌∷◌, ◌≡◌}
+use Rattle.ksm_tree.proofs.Names.{[], All, All-head, All-tail, ap, AreWaiting, arith, Bool, bytes_eq, bytes_eq-Decides, cases_Bool, change_row, change_rows, comes_before, cond, cond_both, each_at_page, eq-eqb, false, false≢true, filter, find-append, find_all, find_nothing, get_or, GuestPage, if◌then◌else◌, inl, InPageOrder, inr, is_some, IsAdded, IsAlike, IsStopped, Knobs, List, map, names, nat_tests, None, not, Option, option_and_then, option_map, option_or, partner, refl, Row, row_at, same_page, same_page_eq, same_page_refl, Some, subst, sym, tree_of, true, Waiting, waiting_page, waiting_state, WaitingPage, waits_there, with_row, without_page, ℕ, ◌&&◌, ◌==◌, ◌∙◌, ◌∷◌, ◌≡◌}
 use Rattle.ksm_base.specs.Visit.{waits_for}
 use Rattle.ksm_tree.proofs.Alike.{find_alike}
 use Rattle.ksm_tree.proofs.Keys.{eq_bytes}
@@ -31,7 +31,6 @@ at_chosen : (by : GuestPage → Bool) (q : GuestPage) (rows : List Row) → row_
 at_chosen by q [] = cond_both _ _ _ (λ o. None ≡ o) (λ _. refl) (λ _. refl)
 at_chosen by q (r ∷ rs) =
     let rest = at_chosen by q rs in
-    let alike : same_page r.page q ≡ true → by r.page ≡ by q = λ same. ap by (same_page_eq _ q same) in
     elim (cases_Bool (same_page r.page q)) [
       | inl same ↦ grind (arith, same, rest)
       | inr other ↦ grind (arith, other, rest)

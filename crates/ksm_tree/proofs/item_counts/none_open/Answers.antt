@@ -1,4 +1,4 @@
-use Rattle.ksm_tree.proofs.Names.{ap, arith, get_or, is_open, list_all_more, not, ℕ, ◌&&◌, ◌∙◌}
+use Rattle.ksm_tree.proofs.Names.{ap, arith, get_or, is_open, list_all_more, not, ◌&&◌, ◌∙◌}
 use Rattle.ksm_tree.proofs.Openings.{closed_count}
 use Rattle.ksm_tree.proofs.item_counts.none_open.Goals as goal
 

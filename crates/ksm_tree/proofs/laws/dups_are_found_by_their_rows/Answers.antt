@@ -1,4 +1,4 @@
-use Rattle.ksm_tree.proofs.Names.{has_number, refl, ◌==◌}
+use Rattle.ksm_tree.proofs.Names.{refl}
 use Rattle.ksm_tree.proofs.Bridge.{live_placed, stale_placed}
 use Rattle.ksm_tree.proofs.Changes.{row_found}
 use Rattle.ksm_tree.proofs.laws.dups_are_found_by_their_rows.Goals as goal

@@ -5,10 +5,8 @@ use Rattle.ksm_tree.proofs.places.place_in.Goals as goal
 
 pub returns-clause-count : goal.returns-clause-count
 returns-clause-count c =
-    let place = c.args.place in
-    let places = c.args.places.now in
     let split = parted places_ordered (λ p. p) _ _ c.requires in
-    let point = IsPartitionPoint-from_clause (λ p. nat_lt p place) _ _ c.partition_point.ensures.partitioned split (λ a r q k. search rules) in
+    let point = IsPartitionPoint-from_clause (λ p. nat_lt p c.args.place) _ _ c.partition_point.ensures.partitioned split (λ a r q k. search rules) in
     point_is_count _ _ _ c.partition_point.ensures.bound point.0 point.1
 
 pub returns-then-last-place-clause-count : goal.returns-then-last-place-clause-count
@@ -22,8 +20,7 @@ returns-then-last-place-clause-count c =
 
 pub returns-then-last-place-2-clause-count : goal.returns-then-last-place-2-clause-count
 returns-then-last-place-2-clause-count c =
-    let places = c.args.places.now in
     let place = c.args.place in
     let is = sym c.last.ensures.value ∙ ap option_copied c.in-Some.is ∙ ap Some c.if-last-place-2.true in
     sym (counted_here places_ordered _ _ _ _ _ c.requires (slice_get_within _ _ _ is)
-    (ap (λ p. p == place) (get_or_from_slice_get _ (length places - 1) _ place is) ∙ places_ordered.same_refl place))
+    (ap (λ p. p == place) (get_or_from_slice_get _ (length c.args.places.now - 1) _ place is) ∙ places_ordered.same_refl place))

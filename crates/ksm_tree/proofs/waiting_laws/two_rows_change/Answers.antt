@@ -1,4 +1,4 @@
-use Rattle.ksm_tree.proofs.Names.{change_row, ◌∙◌}
+use Rattle.ksm_tree.proofs.Names.{◌∙◌}
 use Rattle.ksm_tree.proofs.Waiters.{at_others, row_stopped}
 use Rattle.ksm_tree.proofs.waiting_laws.two_rows_change.Goals as goal
 

@@ -1,4 +1,4 @@
-use Rattle.ksm_tree.proofs.Names.{ap, arith, get_or_default, IsLowestBit, length, subst, sym, ◌+◌, ◌∙◌, ℕ}
+use Rattle.ksm_tree.proofs.Names.{ap, arith, get_or_default, IsLowestBit, length, subst, sym, ◌∙◌, ℕ}
 use Rattle.ksm_tree.proofs.NumberBits.{alone_behind, found_behind, within_named}
 use Rattle.ksm_tree.proofs.bits.Words.first_behind.Goals as goal
 
@@ -9,7 +9,6 @@ returns-then-this-le1 g c =
 
 pub returns : goal.returns
 returns g c =
-    let words = c.self.inside.words.items in
     let summed = c.self.invariant.summed (omega (arith, c.if-this-le1.false)) in
     let within = within_named _ summed c.in_ok-next.ensures in
     let read = get_or_default _ c.in_ok-next.next 0 _ within ∙ sym c.index.ensures in

@@ -28,17 +28,15 @@ invariant_of-self-else-this-gt1 g c =
 
 pub returns-then-left-eq0 : goal.returns-then-left-eq0
 returns-then-left-eq0 g c =
-    let words = c.self.inside.words.items in
     let at = c.word_of-at.result in
-    let within : at < length words = omega (arith, c.word_of-at.ensures, c.requires, ap length c.self.view_is) in
+    let within : at < length c.self.inside.words.items = omega (arith, c.word_of-at.ensures, c.requires, ap length c.self.view_is) in
     let read = get_or_default _ at 0 _ within ∙ sym c.index.ensures in
     rw (← read, ← c.self.view_is, c.word_of-at.ensures) (marks_less _ _ (omega (arith, c.requires, ap length c.self.view_is)))
 
 pub returns-else-this-gt1 : goal.returns-else-this-gt1
 returns-else-this-gt1 g c =
-    let words = c.self.inside.words.items in
     let at = c.word_of-at.result in
-    let within : at < length words = omega (arith, c.word_of-at.ensures, c.requires, ap length c.self.view_is) in
+    let within : at < length c.self.inside.words.items = omega (arith, c.word_of-at.ensures, c.requires, ap length c.self.view_is) in
     let read = get_or_default _ at 0 _ within ∙ sym c.index.ensures in
     elim c.else-this-gt1.branch [
       | else-this-gt1-via-then-this-gt1+else-left-eq0 w ↦

@@ -61,8 +61,7 @@ loop-place-preserved c =
 -- over all places the loop comes to the best of them
 ended : (c : After-loop-place) → option_copied c.loop-place.best ≡ best_of c.args.tree c.args.bytes.now c.args.limit c.args.self.now.dups
 ended c =
-    let places = c.places_to_join-is_chain.result.0.now in
-    let over = drop_of_length-le places {i = c.loop-place.place-index} (omega arith) in
+    let over = drop_of_length-le c.places_to_join-is_chain.result.0.now {i = c.loop-place.place-index} (omega arith) in
     let rise : InPlaceOrder (rows_of c.args.self.now.dups) = rw (← c.self.view_is) c.self.invariant.lawful.in_place_order in
     ap (folded c.args.tree c.args.bytes.now c.args.limit c.args.self.now.dups (option_copied c.loop-place.best)) (sym over)
     ∙ c.loop-place.invariant.3

@@ -1,4 +1,4 @@
-use Rattle.ksm_tree.proofs.Names.{[], ap, content_in, get, None, places_in, refl, sym, under, ◌∙◌}
+use Rattle.ksm_tree.proofs.Names.{[], ap, content_in, get, places_in, refl, sym, under, ◌∙◌}
 use Rattle.ksm_tree.proofs.Standing.{gone_groups, idle_chains, idle_waiting}
 use Rattle.ksm_tree.proofs.groups.Groups.drop_idle.Goals as goal
 

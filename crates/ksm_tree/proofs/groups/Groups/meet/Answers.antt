@@ -1,4 +1,4 @@
-use Rattle.ksm_tree.proofs.Names.{ap, arith, bytes_eq, false≢true, Group, if◌then◌else◌, is_some, refl, Some, sym, unwrap_or, waiting_in, waiting_page, ◌&&◌, ◌==◌, ◌∙◌}
+use Rattle.ksm_tree.proofs.Names.{ap, arith, bytes_eq, false≢true, Group, if◌then◌else◌, is_some, refl, sym, unwrap_or, waiting_in, waiting_page, ◌&&◌, ◌==◌, ◌∙◌}
 use Rattle.ksm_tree.proofs.Standing.{not_unused, page_still, page_waits, repaged, rewritten, stands_under, waits_here}
 use Rattle.ksm_tree.proofs.groups.Groups.meet.Goals as goal
 
@@ -22,8 +22,7 @@ invariant_of-self-in-Some c =
 
 pub returns-else-group-self-clause-met : goal.returns-else-group-self-clause-met
 returns-else-group-self-clause-met c t b is =
-    let s = c.args.self.now in
-    let still = waits_here s t b is c.in-Some.ensures.value ∙ page_still c.in-Some.group.now _ c.if-group-self.false in
+    let still = waits_here c.args.self.now t b is c.in-Some.ensures.value ∙ page_still c.in-Some.group.now _ c.if-group-self.false in
     sym (ap (λ o. unwrap_or o c.args.page) still)
 
 pub returns-else-group-self-clause-added : goal.returns-else-group-self-clause-added
@@ -35,8 +34,7 @@ returns-else-group-self-clause-added c t b is t' b' =
 
 pub returns-else-group-self-clause-kept : goal.returns-else-group-self-clause-kept
 returns-else-group-self-clause-kept c t b is waits =
-    let s = c.args.self.now in
-    let still = waits_here s t b is c.in-Some.ensures.value ∙ page_still c.in-Some.group.now _ c.if-group-self.false in
+    let still = waits_here c.args.self.now t b is c.in-Some.ensures.value ∙ page_still c.in-Some.group.now _ c.if-group-self.false in
     absurd (false≢true (ap is_some (sym still) ∙ waits))
 
 pub returns-in-None-clause-met : goal.returns-in-None-clause-met

@@ -11,9 +11,8 @@ returns-in_err-key c =
 -- what is at the place lies under its key
 seen : (c : In_ok-key) → kept_at c.args.place (get c.self.inside.dups c.in_ok-key.field-0.now) ≡ get_or c.args.self.now.slots c.args.place None
 seen c =
-    let keys = c.self.inside.keys.items in
     let place = c.args.place in
-    let within : place < length keys = omega (arith, c.in_ok-key.ensures.lookup.3.0, ap length c.deref.ensures.value) in
+    let within : place < length c.self.inside.keys.items = omega (arith, c.in_ok-key.ensures.lookup.3.0, ap length c.deref.ensures.value) in
     seen_by _ _ _ c.self.view_is within
     (c.in_ok-key.ensures.lookup.3.1 0 ∙ ap (λ l. get_or l place 0) c.deref.ensures.value)
 

@@ -14,6 +14,5 @@ index-key-requires c =
 pub returns-then-is_some-clause-slots : goal.returns-then-is_some-clause-slots
 returns-then-is_some-clause-slots c =
     let there = there (goal.at.returns-then-is_some-clause-slots c).Then-is_some in
-    let keys = c.self.inside.keys.items in
-    emptied c.args.place keys c.args.self.now c.self.view_is
+    emptied c.args.place c.self.inside.keys.items c.args.self.now c.self.view_is
     (key_read _ _ c.self.inside.dups c.self.view_is c.index-key.ensures there) there c.try_remove.ensures.updates

@@ -1,4 +1,4 @@
-use Rattle.ksm_tree.proofs.Names.{ap, false, is_stale_slot, items_in, length, sym, with_item, ◌∙◌, ◌≡◌}
+use Rattle.ksm_tree.proofs.Names.{ap, items_in, length, sym, with_item, ◌∙◌, ◌≡◌}
 use Rattle.ksm_tree.proofs.OneSlot.{changed_dup, count_within, grown_not_stale, holds_dup, seen_slot, seen_within, slot_filled, slots_kept, slots_marked, view_changed, was_live}
 use Rattle.ksm_tree.proofs.PlaceSets.{may_be_marked}
 use Rattle.ksm_tree.proofs.slots.Slots.add_item.Goals as goal

@@ -1,4 +1,4 @@
-use Rattle.ksm_tree.proofs.Names.{arith, is_empty_slot, is_stale_slot}
+use Rattle.ksm_tree.proofs.Names.{arith}
 use Rattle.ksm_tree.proofs.OneSlot.{count_within, seen_emptied, seen_within, slots_cleared}
 use Rattle.ksm_tree.proofs.PlaceSets.{may_be_marked}
 use Rattle.ksm_tree.proofs.slots.Slots.clear.Goals as goal

@@ -1,4 +1,4 @@
-use Rattle.ksm_tree.proofs.Names.{ap, arith, is_empty_slot, is_stale_slot, length, ◌<◌}
+use Rattle.ksm_tree.proofs.Names.{ap, arith, length, ◌<◌}
 use Rattle.ksm_tree.proofs.OneSlot.{seen_put, slots_put}
 use Rattle.ksm_tree.proofs.PlaceSets.{may_be_marked}
 use Rattle.ksm_tree.proofs.slots.Slots.put.Goals as goal
