@@ -1,5 +1,5 @@
 -- Tests over dups with items are the book's tests over rows, where the items are counted.
-use Rattle.ksm_tree.proofs.Names.{[], All, All-head, All-tail, All-weaker, ap, AreCounted, arith, best_dup, best_of, Bool, bytes_eq, Choice, choice_of, chosen, count_by, Dup, DupRow, DupsState, empty_from, false, filter, find, has_items, if◌then◌else◌, is_best, is_live, is_no_rival, is_no_worse, is_some, is_stale, item_count, Knobs, length, List, list_all, may_join, nat_le, nat_lt, nat_tests, new_place, None, not, Option, option_map, place_in, place_or, refl, Row, rows_of, same_Some, Some, stands_at, subst, sym, tree_of, true, ℕ, ◌&&◌, ◌<◌, ◌==◌, ◌||◌, ◌∙◌, ◌∷◌, ◌≡◌}
+use Rattle.ksm_tree.proofs.Names.{[], All, All-head, All-tail, All-weaker, ap, AreCounted, arith, best_dup, best_of, Bool, bytes_eq, Choice, choice_of, chosen, count_by, Dup, DupRow, DupsState, empty_from, filter, find, has_items, if◌then◌else◌, is_best, is_live, is_no_rival, is_no_worse, is_some, is_stale, item_count, Knobs, length, List, list_all, may_join, nat_le, nat_lt, nat_tests, new_place, None, not, Option, option_map, place_in, place_or, refl, Row, rows_of, Some, stands_at, subst, sym, tree_of, true, ℕ, ◌&&◌, ◌<◌, ◌==◌, ◌||◌, ◌∙◌, ◌∷◌, ◌≡◌}
 use Rattle.ksm_tree.proofs.Alike.{count_mapped, filter_mapped, find_mapped}
 use Rattle.ksm_base.specs.Rows.{is_stale as is_stale_row}
 use Rattle.ksm_base.specs.Visit.{may_join as row_may_join, is_no_rival as is_no_rival_row, is_no_worse as is_no_worse_row, is_best as is_best_row}
@@ -58,7 +58,7 @@ module _ (rows : List Row) where
     joins_alike d n = ap (λ k. d.row.tree == tree_of knobs row && bytes_eq d.row.bytes row.bytes && nat_le 1 k && nat_lt k knobs.max_page_sharing) n
 
     worse_alike : (d e : Dup) → IsCounted d → IsCounted e → is_no_worse d e ≡ is_no_worse_row rows d.row e.row
-    worse_alike d e n m = λ i. nat_lt (m i) (n i) || (m i == n i && nat_le d.row.number e.row.number)
+    worse_alike d e n m = grind (arith, nat_tests, n, m)
 
     rival_alike : (d e : Dup) → IsCounted d → IsCounted e → is_no_rival (tree_of knobs row) row.bytes knobs.max_page_sharing d e ≡ is_no_rival_row knobs rows row d.row e.row
     rival_alike d e n m = λ i. not (joins_alike e m i) || worse_alike d e n m i
@@ -77,15 +77,11 @@ module _ (rows : List Row) where
 
   place_alike : (is_empty : Bool) (empty : ℕ) (d : Option Dup) {c : Choice} → chosen (if is_empty then Some empty else None) d ≡ Some c
       → place_in c ≡ (if is_empty then empty else place_or empty (option_map (λ e. e.row) d))
-  place_alike true empty d {c} is = sym (ap place_in (same_Some _ c is))
-  place_alike false empty (Some d) {c} is = sym (ap place_in (same_Some _ c is))
-  place_alike false empty None is = cc
+  place_alike is_empty empty d is = grind (arith, nat_tests, is)
 
   choice_there : (is_empty : Bool) (empty places : ℕ) (d : Option Dup) → nat_lt empty places ≡ is_empty
       → (if is_empty then empty else place_or empty (option_map (λ e. e.row) d)) < places → is_some (chosen (if is_empty then Some empty else None) d) ≡ true
-  choice_there true empty places d is inside = refl
-  choice_there false empty places (Some d) is inside = refl
-  choice_there false empty places None is inside = absurd (grind (arith, nat_tests, is, inside))
+  choice_there is_empty empty places d is inside = grind (arith, nat_tests, is, inside)
 
   -- the place of a new dup, where its stale dups are found with their items
   new_alike : (s : DupsState) → AreCounted rows s.dups

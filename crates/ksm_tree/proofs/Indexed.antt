@@ -1,5 +1,5 @@
 -- The index over dups: what it finds, and how it stays with a change of items and with a dup that goes.
-use Rattle.ksm_tree.proofs.Names.{[], All, All-filter, All-weaker, AllPairs-filter, ap, AreIndexed, arith, Bool, bytes_eq, cases_Bool, change_at, change_items, content_in, content_of, Dup, dup_at, dup_of, DupRow, dups_seen, DupsState, eqb-true, false, false≢true, filter, find, find_nothing, find_passes, get, get_or, Group, group_places, GuestPage, if◌then◌else◌, in_group, Index, inl, InPlaceOrder, inr, is_some, items_in, IsRegrouped, length, List, nat_tests, None, none-some, not, number_of, Option, option_map, pairs_head, pairs_tail, place_of, places_in, places_of, refl, row_place, rows_of, same_Some, SlotsState, Some, stands_at, sym, Tells, true, under, without, without_place, ℕ, ◌&&◌, ◌<◌, ◌==◌, ◌∙◌, ◌∷◌, ◌≡◌, subst, LeadTheSame}
+use Rattle.ksm_tree.proofs.Names.{[], All, All-filter, All-weaker, AllPairs-filter, ap, AreIndexed, arith, Bool, bytes_eq, cases_Bool, change_at, change_items, content_in, content_of, Dup, dup_at, dup_of, DupRow, dups_seen, DupsState, eqb-true, false, false≢true, filter, find, find_nothing, find_passes, get, get_or, Group, group_places, GuestPage, if◌then◌else◌, in_group, Index, inl, InPlaceOrder, inr, is_some, items_in, IsRegrouped, length, List, nat_tests, None, none-some, not, number_of, Option, option_map, pairs_head, pairs_tail, place_of, places_of, refl, row_place, rows_of, same_Some, SlotsState, Some, stands_at, sym, Tells, true, without, without_place, ℕ, ◌&&◌, ◌<◌, ◌==◌, ◌∙◌, ◌∷◌, ◌≡◌, subst, LeadTheSame}
 use Rattle.ksm_tree.proofs.Alike.{chosen, find_alike}
 use Rattle.ksm_tree.proofs.Grouped.{chains_kept, dups_kept, more_there, totals_moved, totals_tell}
 use Rattle.ksm_tree.proofs.Keys.{own_group, self_group}
@@ -8,12 +8,10 @@ use Rattle.ksm_tree.proofs.Rows.{only_one, place_gone, group_unlike, IsOne}
 use Rattle.ksm_tree.proofs.Changes.{all_rows, rows_changed, rows_without, row_found, number_place_found, number_place_changed, unchanged_items}
 
 dup_some : {p : ℕ} (d : Option Dup) → option_map (λ e. e.row.place) d ≡ Some p → is_some d ≡ true
-dup_some {p} None is = absurd (none-some p is)
-dup_some {p} (Some e) is = refl
+dup_some d is = grind (arith, nat_tests, is)
 
 no_place : (d : Option Dup) → None ≡ option_map (λ e. e.row.place) d → d ≡ None
-no_place None none = refl
-no_place (Some e) none = absurd (none-some _ none)
+no_place d none = grind (arith, nat_tests, none)
 
 place_of_row : (d : Option Dup) → option_map (λ r. r.place) (option_map (λ e. e.row) d) ≡ option_map (λ e. e.row.place) d
 place_of_row None = refl
@@ -85,15 +83,14 @@ module _ (q : ℕ) {p : ℕ} {s : SlotsState} {next : ℕ} {index : Index} {seen
   pub told_changed : (f : List GuestPage → List GuestPage) (ready : Bool) → dups_seen (record { places = s.places; dups = change_at p f s.dups; ready = ready }) next index ≡ record seen { dups = change_items q f seen.dups }
   told_changed f ready =
       let changed = number_place_changed q f _ h.lawful.in_place_order (row_placed q _ ∙ sym is_inside) in
-      (λ i. record (dups_seen s next index) { dups = sym changed i })
-      ∙ ap {A = DupsState} {B = DupsState} (λ v. record v { dups = change_items q f v.dups }) view
+      grind (arith, nat_tests, changed)
 
 -- the group under the number of a tree and bytes is of these, and has the places of their dups
 module _ {s : SlotsState} {next : ℕ} {index : Index} (h : AreIndexed s next index) (tree : ℕ) (bytes : List ℕ) where
   module _ {number : ℕ} {g : Group} (is : number_of tree bytes index.groups.numbers.entries ≡ Some number) (at : Some g ≡ get index.groups.groups number) where
     -- the group under the number of a tree and bytes lists the places of the dups of that tree and bytes
     pub group_here : g.places.list.items ≡ group_places tree bytes (rows_of s.dups)
-    group_here = sym (ap (under [] (λ n. places_in (get index.groups.groups n))) is ∙ ap places_in (sym at)) ∙ h.grouped tree bytes
+    group_here = grind (arith, nat_tests)
 
     -- the group under the number of a tree and bytes has that tree and those bytes as its content
     pub content_here : g.content ≡ content_of tree bytes
@@ -101,7 +98,7 @@ module _ {s : SlotsState} {next : ℕ} {index : Index} (h : AreIndexed s next in
 
   -- a tree and bytes without a number have no dup
   pub group_absent : number_of tree bytes index.groups.numbers.entries ≡ None → [] ≡ group_places tree bytes (rows_of s.dups)
-  group_absent none = sym (ap (under [] (λ n. places_in (get index.groups.groups n))) none) ∙ h.grouped tree bytes
+  group_absent none = grind (arith, nat_tests, none)
 
 -- the totals tell of the group of each tree and bytes
 pub told : {s : SlotsState} {next : ℕ} {index : Index} → AreIndexed s next index → (t : ℕ) (b : List ℕ) → Tells (length (places_of t b index)) index.groups.totals
@@ -124,8 +121,7 @@ not_in_group p t b dups {d} rise found outside =
 
 -- what is one value where a test passes and another where it fails is the choice between both by the test
 pub cond_if : {X : Type 0} (s : Bool) (x y z : X) → (s ≡ true → z ≡ x) → (s ≡ false → z ≡ y) → z ≡ (if s then x else y)
-cond_if true x y z yes_case no_case = yes_case refl
-cond_if false x y z yes_case no_case = no_case refl
+cond_if s x y z yes_case no_case = grind (arith, nat_tests, yes_case, no_case)
 
 -- where a dup goes from its place and from the index, the index stays right
 pub gone_indexed : {s : SlotsState} {next : ℕ} {index new : Index} (p : ℕ) (d : Dup) (ready : Bool) → AreIndexed s next index → dup_at p s.dups ≡ Some d → d.row.place ≡ p → ((q : ℕ) → place_of q new ≡ (if q == d.row.number then None else place_of q index)) → ((t : ℕ) (b : List ℕ) → places_of t b new ≡ (if t == d.row.tree && bytes_eq b d.row.bytes then without d.row.place (places_of t b index) else places_of t b index))

@@ -1,5 +1,5 @@
 -- The best dup to join: a walk over a group, keeping the better of two, ends at the one that the definition chooses of all.
-use Rattle.ksm_tree.proofs.Names.{[], add-one, All, All-cons, All-filter, All-head, All-map, All-tail, All-weaker, and_parts, ap, ArePlacesToJoin, arith, best_of, Bool, cases_Bool, cond, drop, drop-cons, Dup, dup_at, DupRow, false, false≢true, filter, find, get_or, group_places, if◌then◌else◌, in_group, inl, InPlaceOrder, inr, is_behind, is_no_worse, is_open, items_in, length, List, list_all, map, may_join, nat_le, nat_lt, nat_tests, None, none-some, not, of_group, Option, pairs_head, pairs_tail, places_open, refl, rows_of, Some, sym, true, unless_behind, ℕ, ◌%◌, ◌&&◌, ◌+◌, ◌-◌, ◌<◌, ◌==◌, ◌^◌, ◌||◌, ◌∙◌, ◌∷◌, ◌≡◌, ◌≤◌}
+use Rattle.ksm_tree.proofs.Names.{[], add-one, All, All-cons, All-filter, All-head, All-map, All-tail, All-weaker, ap, ArePlacesToJoin, arith, best_of, Bool, cases_Bool, cond, drop, drop-cons, Dup, dup_at, DupRow, false, filter, find, get_or, group_places, if◌then◌else◌, in_group, inl, InPlaceOrder, inr, is_no_worse, is_open, items_in, length, List, list_all, map, may_join, nat_le, nat_lt, nat_tests, None, not, of_group, Option, pairs_head, pairs_tail, places_open, refl, rows_of, Some, sym, true, unless_behind, ℕ, ◌%◌, ◌&&◌, ◌+◌, ◌-◌, ◌<◌, ◌==◌, ◌^◌, ◌||◌, ◌∙◌, ◌∷◌, ◌≡◌, ◌≤◌}
 use Rattle.ksm_tree.proofs.Alike.{filter_mapped, map_mapped}
 use Rattle.ksm_tree.proofs.Changes.{all_rows}
 
@@ -32,23 +32,15 @@ module _ (may : Dup → Bool) where
 
   -- of three tests in a row, one that another implies does not matter
   skip_second : (m a b all : Bool) → (a ≡ true → b ≡ true) → (m && (a && (b && all))) ≡ (m && (a && all))
-  skip_second m true b all implied = ap (λ q. m && (q && all)) (implied refl)
-  skip_second m false b all implied = refl
+  skip_second m a b all implied = grind (arith, implied)
 
   skip_first : (m a b all : Bool) → (b ≡ true → a ≡ true) → (m && (a && (b && all))) ≡ (m && (b && all))
-  skip_first m a true all implied = ap (λ q. m && (q && all)) (implied refl)
-  skip_first m true false all implied = refl
-  skip_first m false false all implied = refl
+  skip_first m a b all implied = grind (arith, implied)
 
   -- where b is not at the top, no dup is that b is no worse than
   below : (b d : Dup) (dups : List Dup) → may b ≡ true → rival b d ≡ true → top (b ∷ dups) b ≡ false → top (b ∷ dups) d ≡ false
   below b d dups first r other =
-      elim (cases_Bool (top (b ∷ dups) d)) [
-        | inl best ↦
-            let of_d = and_parts (may d) (list_all (rival d) (b ∷ dups)) best in
-            absurd (false≢true (sym other ∙ (grind (arith, first))))
-        | inr fails ↦ fails
-      ]
+      grind (arith, nat_tests, first, r, other)
 
   -- a dup that b is no worse than changes nothing behind b
   passed_by : (b d : Dup) (dups : List Dup) → may b ≡ true → rival b d ≡ true → find (top (b ∷ dups)) (b ∷ dups) ≡ find (top (b ∷ d ∷ dups)) (b ∷ d ∷ dups)
@@ -146,9 +138,7 @@ out_of_room items least limit above fits least_fits limit_fits is outside = grin
 
 -- a dup with fewer items than the least, or with the limit or more, leaves the best so far
 pub stepped_over : (limit : ℕ) (acc slot : Option Dup) → (nat_lt (length (items_in slot)) (least_of acc) || nat_le limit (length (items_in slot))) ≡ true → joined limit acc slot ≡ acc
-stepped_over limit acc None outside = refl
-stepped_over limit None (Some d) outside = grind (arith, nat_tests, outside)
-stepped_over limit (Some best) (Some d) outside = grind (arith, nat_tests, outside)
+stepped_over limit acc slot outside = grind (arith, nat_tests, outside)
 
 -- the dup that is taken, or where there is none the best so far
 abbrev pub or_else : Option Dup → Option Dup → Option Dup
@@ -158,45 +148,26 @@ or_else acc (Some d) = Some d
 -- a dup with room that has as many items as the best so far, or more, is the better of the two, but where it is no more and the number is greater
 better_is : (limit : ℕ) (acc : Option Dup) (d : Dup) {least : ℕ} → least ≡ least_of acc → 1 ≤ least → least ≤ length d.items → length d.items < limit
     → joined limit acc (Some d) ≡ or_else acc (unless_behind (if length d.items == least then acc else None) (Some d))
-better_is limit None d is one above below = grind (arith, nat_tests, is, one, above, below)
-better_is limit (Some best) d is one above below = grind (arith, nat_tests, is, one, above, below)
+better_is limit acc d is one above below = grind (arith, nat_tests, is, one, above, below)
 
 -- the dup at a place is taken where it is the better one
 pub stepped_to : (t : ℕ) (b : List ℕ) (limit : ℕ) (acc slot : Option Dup) {items least : ℕ} → items ≡ length (items_in slot) → least ≡ least_of acc → 1 ≤ least → least ≤ items → items < limit
     → joined limit acc (of_group t b slot) ≡ or_else acc (unless_behind (if items == least then acc else None) (of_group t b slot))
-stepped_to t b limit acc None has is one above below = refl
-stepped_to t b limit acc (Some d) has is one above below =
-    elim (cases_Bool (in_group t b d.row)) [
-      | inl inside ↦ rw (inside, has) (better_is _ acc d is one (rw (← has) above) (rw (← has) below))
-      | inr outside ↦ rw outside refl
-    ]
+stepped_to t b limit acc slot has is one above below = grind (arith, nat_tests, has, is, one, above, below)
 
 -- a dup taken from a slot is the dup in that slot
 pub taken_so : (t : ℕ) (b : List ℕ) (rival slot : Option Dup) {d : Dup} → Some d ≡ unless_behind rival (of_group t b slot) → Some d ≡ slot
-taken_so t b rival None is = is
-taken_so t b rival (Some e) {d} is =
-    elim (cases_Bool (in_group t b e.row)) [
-      | inl inside ↦ elim (cases_Bool (is_behind e rival)) [
-        | inl behind ↦ absurd (none-some d (sym (is ∙ (grind (arith, inside, behind)))))
-        | inr before ↦ grind (arith, is, inside, before)
-      ]
-      | inr outside ↦ absurd (none-some d (sym (is ∙ (grind (arith, outside)))))
-    ]
+taken_so t b rival slot is = grind (arith, nat_tests, is)
 
 -- one place looked at is one step of the fold over places
 pub stepped : (t : ℕ) (b : List ℕ) (limit : ℕ) (dups : List Dup) (acc next : Option Dup) (places : List ℕ) (i : ℕ) → i < length places → joined limit acc (of_group t b (dup_at (get_or places i 0) dups)) ≡ next → folded t b limit dups next (drop (i + 1) places) ≡ folded t b limit dups acc (drop i places)
 stepped t b limit dups acc next places i within is =
     let rest : drop i places ≡ get_or places i 0 ∷ drop (i + 1) places = rw (add-one, drop-cons places i 0) in
-    ap (λ best. folded t b limit dups best (drop (i + 1) places)) (sym is) ∙ ap (folded t b limit dups acc) (sym rest)
+    grind (arith, nat_tests, within, is, rest)
 
 -- a slot that cannot be joined leaves the best as it is
 pub passed_over_so : (t : ℕ) (b : List ℕ) (limit : ℕ) {acc : Option Dup} (slot : Option Dup) → joined limit acc slot ≡ acc → joined limit acc (of_group t b slot) ≡ acc
-passed_over_so t b limit None over = refl
-passed_over_so t b limit (Some d) over =
-    elim (cases_Bool (in_group t b d.row)) [
-      | inl inside ↦ rw inside over
-      | inr outside ↦ rw outside refl
-    ]
+passed_over_so t b limit slot over = grind (arith, nat_tests, over)
 
 -- the places of a group lie below how many there are
 pub places_within : (t : ℕ) (b : List ℕ) (places : ℕ) (rows : List DupRow) → All (λ r. r.place < places) rows → All (λ p. p < places) (group_places t b rows)
@@ -220,12 +191,7 @@ group_found t b all [] found = λ k d lt. absurd (omega arith)
 group_found t b all (d ∷ dups) found =
     let here = All-head (λ e. dup_at e.row.place all ≡ Some e) d _ found in
     let rest = group_found t b all dups (All-tail (λ e. dup_at e.row.place all ≡ Some e) d _ found) in
-    elim (cases_Bool (in_group t b d.row)) [
-      | inl inside ↦
-          let is : of_group t b (Some d) ≡ Some d = rw inside refl in
-          rw inside (All-cons (λ p. of_group t b (dup_at p all) ≡ dup_at p all) d.row.place (group_places t b (rows_of dups)) (ap (of_group t b) here ∙ is ∙ sym here) rest)
-      | inr outside ↦ rw outside rest
-    ]
+    grind (arith, nat_tests, found, here, rest)
 
 -- a dup of the chain needs no comparison: its place is one of the group
 pub candidate_is : (t : ℕ) (b : List ℕ) (limit : ℕ) (dups : List Dup) (found : List ℕ) (is_chain : Bool) (i : ℕ) → InPlaceOrder (rows_of dups) → ArePlacesToJoin (group_places t b (rows_of dups)) limit dups found is_chain → i < length found
@@ -236,12 +202,10 @@ candidate_is t b limit dups found true i rise group within =
 candidate_is t b limit dups found false i rise opens within = refl
 
 kept_so : (t : ℕ) (b : List ℕ) (limit : ℕ) (acc : Option Dup) (d : Dup) → joined limit acc (of_group t b (Some d)) ≡ kept (may_join t b limit) acc d
-kept_so t b limit None d = grind arith
-kept_so t b limit (Some best) d = grind arith
+kept_so t b limit acc d = grind (arith, nat_tests)
 
 passed_group : (t : ℕ) (b : List ℕ) (limit : ℕ) (acc : Option Dup) (d : Dup) → may_join t b limit d ≡ false → acc ≡ kept (may_join t b limit) acc d
-passed_group t b limit None d fails = grind (arith, fails)
-passed_group t b limit (Some best) d fails = grind (arith, fails)
+passed_group t b limit acc d fails = grind (arith, nat_tests, fails)
 
 -- a walk over the places of those dups that pass a test, which all that may be joined pass
 module _ (t : ℕ) (b : List ℕ) (limit : ℕ) (test : Dup → Bool) (passes : (d : Dup) → test d ≡ false → may_join t b limit d ≡ false) where
@@ -279,8 +243,7 @@ folded_best t b limit dups found false rise opens =
 
 -- where none of the dups at some places is open, a walk over these finds none
 not_joined : (limit : ℕ) (slot : Option Dup) → is_open limit (length (items_in slot)) ≡ false → joined limit None slot ≡ None
-not_joined limit None closed = refl
-not_joined limit (Some d) closed = rw closed refl
+not_joined limit slot closed = grind (arith, nat_tests, closed)
 
 none_folded : (t : ℕ) (b : List ℕ) (limit : ℕ) (dups : List Dup) (places : List ℕ) → All (λ p. is_open limit (length (items_in (dup_at p dups))) ≡ false) places → folded t b limit dups None places ≡ None
 none_folded t b limit dups [] closed = refl

@@ -69,10 +69,7 @@ module _ {s : SlotsState} {next : ℕ} {index : Index} (new : Index) (dup : Dup)
   swap_tests q m n x y z apart = grind (arith, nat_tests, apart)
 
   group_swap : (old_group new_group : Bool) (p : ℕ) (group : List ℕ) → (old_group ≡ false → without p group ≡ group) → (let mid = if new_group then with_place p group else group in if old_group && not new_group then without p mid else mid) ≡ (if new_group then with_place p group else without p group)
-  group_swap true true p group unlike = refl
-  group_swap true false p group unlike = refl
-  group_swap false true p group unlike = refl
-  group_swap false false p group unlike = sym (unlike refl)
+  group_swap old_group new_group p group unlike = grind (arith, nat_tests, unlike)
 
   -- the rows as they were, those that stay, and those that are there then
   record Swapped (old : Dup) : Type 0 where
@@ -185,8 +182,7 @@ module _ {s : SlotsState} {next : ℕ} {index : Index} (new : Index) (dup : Dup)
 pub seen_made : (s : SlotsState) (next : ℕ) (index new : Index) (dup : ℕ → Dup) (ready : Bool) {old : DupsState} → dups_seen s next index ≡ old → SameWaits index.groups new.groups
     → dups_seen (record { places = s.places; dups = with_new (dup next) s.dups; ready = ready }) (next + 1) new ≡ record old { dups = with_new (dup old.next) old.dups; next = old.next + 1 }
 seen_made s next index new dup ready view same =
-    (λ i. record { places = s.places; dups = with_new (dup next) s.dups; next = next + 1; waiting = same.waiting i; numbers = same.numbers i; most = same.most i })
-    ∙ ap {A = DupsState} {B = DupsState} (λ o. record o { dups = with_new (dup o.next) o.dups; next = o.next + 1 }) view
+    grind (arith, nat_tests, view, same)
 
 -- the next number is that of no dup
 pub next_unused : {s : SlotsState} {next : ℕ} {index : Index} → AreIndexed s next index → place_of next index ≡ None

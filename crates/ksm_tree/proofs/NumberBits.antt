@@ -1,17 +1,15 @@
 -- What the words of a set, and their summary, say of its numbers.
-use Rattle.ksm_tree.proofs.Names.{AreSummed, ap, arith, Bool, bit_at, bit_at-zero, bit_at_above, bit_at_clear_other, bit_at_clear_same, bit_at_ones, bit_at_set_other, bit_at_set_same, bit_and, bit_or, cases_eq, cases_lt, eqb-true, false, get_or, get_or-set_other, get_or-set_same, get_or_past, get_or-replicate, has, HasNoBit, HasNone, inl, inr, IsLeast, IsLowestBit, IsSummed, length, length-set, List, Marks, MatchOption, nat_tests, ne_eqb, None, not, Option, replicate, set, shr-shr, Some, sym, true, w64, ℕ, ◌%◌, ◌*◌, ◌+◌, ◌-◌, ◌/◌, ◌<◌, ◌==◌, ◌^◌, ◌∙◌, ◌≡◌, ◌≢◌, ◌≤◌}
+use Rattle.ksm_tree.proofs.Names.{AreSummed, ap, arith, Bool, bit_at, bit_at-zero, bit_at_above, bit_at_clear_other, bit_at_clear_same, bit_at_ones, bit_at_set_other, bit_at_set_same, bit_and, bit_or, cases_eq, cases_lt, eqb-true, false, get_or, get_or-set_other, get_or-set_same, get_or_past, get_or-replicate, has, HasNoBit, HasNone, inl, inr, IsLeast, IsLowestBit, IsSummed, length, length-set, List, Marks, MatchOption, nat_tests, ne_eqb, not, Option, replicate, set, shr-shr, sym, true, w64, ℕ, ◌%◌, ◌*◌, ◌+◌, ◌-◌, ◌/◌, ◌<◌, ◌==◌, ◌^◌, ◌∙◌, ◌≡◌, ◌≢◌, ◌≤◌}
 use Rattle.std.proofs.lemmas.List.{length-replicate}
 
 -- a word in which a bit is set is not 0
 some_bit : (word i : ℕ) → bit_at word i ≡ 1 → word ≢ 0
-some_bit word i one zero = omega (arith, sym one ∙ ap (λ n. bit_at n i) zero ∙ bit_at-zero i)
+some_bit word i one = grind (arith, nat_tests, one)
 
 module _ (words : List ℕ) where
   -- a number is in the set exactly where its bit is set in its word
   in_word : (w n : ℕ) → w * 64 ≤ n → n < (w + 1) * 64 → has words n ≡ (bit_at (get_or words w 0) (n % 64) == 1)
-  in_word w n from below =
-      let at : n / 64 ≡ w = omega (arith, from, below) in
-      ap (λ v. bit_at (get_or words v 0) (n % 64) == 1) at
+  in_word w n from below = grind (arith, nat_tests, from, below)
 
   -- the lowest bit set in a word, from that of a number on, is of the least number from there on
   found_in_word : (w : ℕ) {r low high bit : ℕ} → r < 64 → low ≡ w * 64 + r → IsLowestBit (get_or words w 0) r bit → w * 64 + bit < high → IsLeast words low high (w * 64 + bit)
@@ -29,14 +27,11 @@ module _ (words : List ℕ) where
   -- none of the numbers of words that are 0 is in the set
   none_in_zeros : (low high : ℕ) → ((w : ℕ) → low ≤ w → w < high → get_or words w 0 ≡ 0) → HasNone words (low * 64) (high * 64)
   none_in_zeros low high zeros n from below =
-      ap (λ v. bit_at v (n % 64) == 1) (zeros (n / 64) (omega (arith, from)) (omega (arith, below))) ∙ ap (λ b. b == 1) (bit_at-zero _)
+      grind (arith, nat_tests, zeros, from, below)
 
   -- what is not in the set below a number, nor from it on, is not in the set
   none_further : (low middle high : ℕ) → HasNone words low middle → HasNone words middle high → HasNone words low high
-  none_further low middle high before behind n from below = elim (cases_lt n middle) [
-    | inl less ↦ before n from less
-    | inr more ↦ behind n more below
-  ]
+  none_further low middle high before behind n from below = grind (arith, nat_tests, before, behind, from, below)
 
   -- the least number from one on is the least from a lower one on, where none is in between
   least_further : {low middle high n : ℕ} → low ≤ middle → HasNone words low middle → IsLeast words middle high n → IsLeast words low high n
@@ -57,8 +52,7 @@ module _ (words : List ℕ) where
 
     of : (found : Option ℕ) → MatchOption found (HasNone words ((w + 1) * 64) (64 * length words)) (IsLeast words ((w + 1) * 64) (64 * length words))
         → MatchOption found (HasNone words from (64 * length words)) (IsLeast words from (64 * length words))
-    of None h = none_further _ _ _ before h
-    of (Some n) h = least_further (omega (arith, at)) before h
+    of found h = grind (arith, nat_tests, h)
 
   module _ {upper : List ℕ} (h : IsSummed words upper) where
     -- a word whose number is not in the upper set is 0

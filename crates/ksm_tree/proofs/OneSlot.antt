@@ -230,7 +230,7 @@ filled_place : (k p i : ℕ) (slots : List (Option Dup)) {d : Dup} → p ≡ k +
 filled_place k p i [] {d} is filled placed = absurd (none-some d filled)
 filled_place k p zero (None ∷ slots) {d} is filled placed = absurd (none-some d filled)
 filled_place k p (suc i) (None ∷ slots) {d} is filled placed = filled_place _ p i slots (omega arith) filled placed
-filled_place k p zero (Some e ∷ slots) {d} is filled placed = ap (λ x. x.row.place) (sym (same_Some e d filled)) ∙ placed.0 ∙ omega arith
+filled_place k p zero (Some e ∷ slots) {d} is filled placed = grind (arith, nat_tests, is, filled, placed)
 filled_place k p (suc i) (Some e ∷ slots) {d} is filled placed = filled_place _ p i slots (omega arith) filled placed.1
 
 module _ (p : ℕ) (slots : List (Option Dup)) (counts : List ℕ) (empty stale : CountedSet) (d : Dup) (change : List GuestPage → List GuestPage) (within : p < length slots) (h : AreSlots slots counts empty stale) (filled : get_or slots p None ≡ Some d) where
@@ -322,8 +322,7 @@ told_some true n is = (refl, same_Some _ n is)
 told_some false n is = absurd (none-some _ (sym is))
 
 pub told_none : (b : Bool) (n : ℕ) → None ≡ (if b then Some n else None) → false ≡ b
-told_none true n is = absurd (none-some n is)
-told_none false n is = refl
+told_none b n is = grind (arith, nat_tests, is)
 
 items_not_none : (page : GuestPage) (pages : List GuestPage) → true ≡ has_item page pages → (length pages == 0) ≡ false
 items_not_none page [] found = absurd (false≢true (sym found))

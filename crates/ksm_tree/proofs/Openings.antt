@@ -1,21 +1,16 @@
 -- The open places, as the counts change.
-use Rattle.ksm_tree.proofs.Names.{[], ap, AreCounts, ArePlaced, arith, Bool, count_in, Dup, false, false≢true, get_or, is_open, length, length-set, List, map, nat_tests, None, Option, places_open, places_where, present, refl, replicate, set, SmallVec, Some, suc, sym, true, with_place, without, zero, ℕ, ◌%◌, ◌+◌, ◌-◌, ◌<◌, ◌^◌, ◌∙◌, ◌∷◌, ◌≡◌, ◌≤◌}
+use Rattle.ksm_tree.proofs.Names.{[], ap, AreCounts, ArePlaced, arith, Bool, count_in, Dup, false, get_or, is_open, length, length-set, List, map, nat_tests, None, Option, places_open, places_where, present, refl, replicate, set, SmallVec, Some, suc, sym, true, with_place, without, zero, ℕ, ◌%◌, ◌+◌, ◌-◌, ◌<◌, ◌^◌, ◌∙◌, ◌∷◌, ◌≡◌, ◌≤◌}
 use mathlib.Core.Bool.{beq}
 use Rattle.std.proofs.lemmas.List.{length-replicate}
 use Rattle.ksm_tree.proofs.Where.{where_with, where_without, where_same, where_room}
 
 -- two answers that test as alike are the same
 pub agree : (a b : Bool) → beq a b ≡ true → a ≡ b
-agree true true same = refl
-agree true false same = grind (arith, same)
-agree false true same = grind (arith, same)
-agree false false same = refl
+agree a b same = grind (arith, same)
 
 -- of two tests that differ, where one passes the other fails
 pub differ : (a b : Bool) → beq a b ≡ false → a ≡ true → b ≡ false
-differ true true apart opens = grind (arith, apart)
-differ false true apart opens = absurd (false≢true opens)
-differ a false apart opens = refl
+differ a b apart opens = grind (arith, apart, opens)
 
 -- a count that wraps round to the room below the limit, or more, is not open
 pub closed_count : (limit items : ℕ) → items < 2 ^ 32 → limit < 2 ^ 32 → limit - 1 ≤ (items + (2 ^ 32 - 1)) % 2 ^ 32 → is_open limit items ≡ false

@@ -61,12 +61,6 @@ place_kept q row rows rise other =
 abbrev pub IsOne : ℕ → DupRow → DupRow → Type 0
 IsOne p e r = ((r.place == p) ≡ (r.number == e.number)) × ((r.place == p) ≡ true → r ≡ e)
 
--- tests of which each passes where the other does give one answer
-same_answer : (a b : Bool) → (a ≡ true → b ≡ true) → (b ≡ true → a ≡ true) → a ≡ b
-same_answer true b to from = sym (to refl)
-same_answer false true to from = from refl
-same_answer false false to from = refl
-
 -- a row is the only one of its place, or of its number
 abbrev OneBy : (DupRow → ℕ) → List DupRow → DupRow → Type 0
 OneBy of rows e = All (λ r. (of r == of e) ≡ true → r ≡ e) rows
@@ -85,11 +79,8 @@ only_one p rows e rise found k d lt =
     let r = get_or rows k d in
     let at = find_passes (λ r. r.place == p) rows e found in
     let alone = found_alone (λ r. r.place == p) rows e rise found in
-    let is : (r.place == p) ≡ true → r ≡ e = λ here. alone.0 k d lt (grind (arith, nat_tests, at, here)) in (
-      same_answer (r.place == p) (r.number == e.number) (λ here. let same = is here in grind (arith, nat_tests, same))
-          (λ here. grind (arith, at)),
-      is,
-    )
+    let is : (r.place == p) ≡ true → r ≡ e = λ here. alone.0 k d lt (grind (arith, nat_tests, at, here)) in
+    grind (arith, nat_tests, lt, at, alone, is)
 
 -- the row of a number is the only one of its number, and the only one at its place
 abbrev pub IsThat : ℕ → DupRow → DupRow → Type 0
@@ -98,11 +89,9 @@ IsThat q e r = (r.number == q) ≡ (r.place == e.place)
 -- the row found by a number is the only row of that number, and the only one at its place
 pub only_number : (q : ℕ) (rows : List DupRow) {e : DupRow} → InPlaceOrder rows → find (numbered q) rows ≡ Some e → All (IsThat q e) rows
 only_number q rows {e} rise found k d lt =
-    let r = get_or rows k d in
     let has = find_passes (numbered q) rows e found in
     let alone = found_alone (numbered q) rows e rise found in
-    same_answer (r.number == q) (r.place == e.place) (λ here. let same = alone.1 k d lt (grind (arith, nat_tests, has, here)) in grind (arith, nat_tests, same))
-    (λ here. grind (arith, has))
+    grind (arith, nat_tests, lt, has, alone)
 
 -- the places of the numbers once the row at a place has gone
 left : (p q : ℕ) (e : DupRow) (rows : List DupRow) → All (IsOne p e) rows → row_place q (filter (elsewhere p) rows) ≡ (if q == e.number then None else row_place q rows)

@@ -1,5 +1,5 @@
 -- What a change of one key, or of what lies under it, does to the slots of a shelf.
-use Rattle.ksm_tree.proofs.Names.{[], ap, arith, cases_eq, cases_lt, change_items_of, change_slot, get, get_or, get_or_default, GuestPage, has_room, inl, inr, items_in, Kept, kept_at, length, List, None, none-some, ne_eqb, eq-eqb, Option, option_map, refl, replicate, same_Some, set, set-get_or, ShelfState, Slab, slots_by, Some, suc, sym, true, false≢true, is_some, zero, ℕ, ◌+◌, ◌<◌, ◌≤◌, ◌∙◌, ◌∷◌, ◌≡◌, ◌≢◌}
+use Rattle.ksm_tree.proofs.Names.{[], ap, arith, cases_lt, change_items_of, change_slot, get, get_or, get_or_default, GuestPage, has_room, inl, inr, items_in, Kept, kept_at, length, List, None, none-some, ne_eqb, eq-eqb, Option, option_map, refl, replicate, same_Some, set, set-get_or, ShelfState, Slab, slots_by, Some, suc, sym, true, false≢true, is_some, zero, ℕ, ◌+◌, ◌<◌, ◌≤◌, ◌∙◌, ◌∷◌, ◌≡◌, ◌≢◌}
 use Rattle.slab.specs.Slab.{Updates as Fills}
 
 -- there are as many slots as keys
@@ -31,10 +31,7 @@ elsewhere q kept is apart = at_other q kept (λ same. apart (sym same ∙ is))
 
 -- what is at a place by its key, where one key changed what lies under it, and that is of no other place
 one_by : (q n : ℕ) {key : ℕ} {old new : Slab Kept} {slot : Option Kept} → Fills old new key slot → kept_at q slot ≡ kept_at q (get old key) → kept_at q (get new n) ≡ kept_at q (get old n)
-one_by q n {key} {old} {new} fills same = elim (cases_eq n key) [
-  | inl is ↦ ap (λ m. kept_at q (get new m)) is ∙ ap (kept_at q) fills.changed ∙ same ∙ ap (λ m. kept_at q (get old m)) (sym is)
-  | inr apart ↦ ap (kept_at q) (fills.others n apart)
-]
+one_by q n {key} {old} {new} fills same = grind (arith, fills, same)
 
 -- what lies under one key is of a place below these
 same_by : (k : ℕ) {key : ℕ} (keys : List ℕ) {old new : Slab Kept} {slot : Option Kept} → Fills old new key slot → ((q : ℕ) → k ≤ q → kept_at q slot ≡ kept_at q (get old key)) → slots_by k keys new ≡ slots_by k keys old
@@ -60,10 +57,7 @@ moved_by k p (suc i) {key} (n ∷ keys) {old} {new} {slot} is within fills same 
 -- what is at a place lies under its key, and is of that place
 there : (p : ℕ) (o : Option Kept) → is_some (kept_at p o) ≡ true → (kept : Kept) × (o ≡ Some kept) × (kept.dup.row.place ≡ p)
 there p None none = absurd (false≢true none)
-there p (Some kept) some = elim (cases_eq kept.dup.row.place p) [
-  | inl here ↦ (kept, refl, here)
-  | inr apart ↦ absurd (false≢true (ap is_some (sym (at_other p kept apart)) ∙ some))
-]
+there p (Some kept) some = grind (arith, some)
 
 module _ (p : ℕ) (keys : List ℕ) (dups : Slab Kept) {s : ShelfState} (view : record { slots = slots_by 0 keys dups; ready = has_room dups } ≡ s) where
   -- there is a slot for each key

@@ -263,10 +263,7 @@ module _ (numbers_old numbers_new : BTreeMap Content ℕ) {pass : ℕ} {old new 
   idle_stands = record { changed = ap content_in fills.changed; others = λ n apart. ap content_in (fills.others n apart) }
 
   idle_passes : ForSome slot (λ g. g.pass ≤ pass) → (n : ℕ) → ForSome (get new n) (λ g. g.pass ≤ pass)
-  idle_passes here n = elim (cases_Bool (n == number)) [
-    | inl same ↦ subst (λ o. ForSome o (λ g. g.pass ≤ pass)) (sym (ap (get new) ((Decides-eqb n _).0 same) ∙ fills.changed)) here
-    | inr other ↦ subst (λ o. ForSome o (λ g. g.pass ≤ pass)) (sym (fills.others n (eqb-false n _ other))) (are.passes n)
-  ]
+  idle_passes here n = grind (arith, here)
 
   -- the groups are right once one came with a content that had no number
   pub came_groups : {g : Group} → slot ≡ Some g → g.content ≡ k → g.pass ≤ pass → named ≡ Some number → its_number k numbers_old.entries ≡ None → get old number ≡ None → AreGroups numbers_new.entries new pass

@@ -1,5 +1,5 @@
 -- The items of each dup stay the pages of the rows merged into it: the dups after a change of one row, and after a change of all.
-use Rattle.ksm_tree.proofs.Names.{[], absent_kept, All, All-append, All-cons, All-filter, All-head, All-map, All-tail, All-weaker, ap, AreTied, arith, cases_Bool, change_items, change_row, cond_both, Dup, dup_of, DupRow, each_at_page, eqb-true, false, false≢true, filter, filter_all, filter_none, find_all, find_none, find_passes, get_or, GuestPage, has_item, has_number, inl, InPageOrder, inr, is_some, item_count, items_in, items_of, length, let_out, List, map, Merged, merged_into, merged_state, nat_tests, ne_eqb, None, none_found, not, not_an_item, Option, ordered_map, pages_ordered, PageState, Private, refl, Row, row_at, rows_of, same_page, same_Some, Some, sym, true, Waiting, with_item, with_new, with_row, without_item, without_page, without_place, Zero, ℕ, if◌then◌else◌, ◌++◌, ◌<◌, ◌==◌, ◌∙◌, ◌∷◌, ◌≡◌}
+use Rattle.ksm_tree.proofs.Names.{[], absent_kept, All, All-append, All-cons, All-filter, All-head, All-map, All-tail, All-weaker, ap, AreTied, arith, change_items, change_row, cond_both, Dup, dup_of, DupRow, each_at_page, eqb-true, false, filter, filter_all, filter_none, find_all, find_none, find_passes, get_or, GuestPage, has_item, has_number, InPageOrder, is_some, item_count, items_in, items_of, length, let_out, List, map, Merged, merged_into, merged_state, nat_tests, ne_eqb, None, none_found, not, not_an_item, Option, ordered_map, pages_ordered, PageState, Private, refl, Row, row_at, rows_of, same_page, same_Some, Some, sym, true, Waiting, with_item, with_new, with_row, without_item, without_page, without_place, Zero, ℕ, if◌then◌else◌, ◌++◌, ◌<◌, ◌==◌, ◌∙◌, ◌∷◌, ◌≡◌}
 use Rattle.ksm_tree.specs.Dups.{items_of as items_numbered}
 use Rattle.ksm_tree.proofs.Alike.{kept_append}
 use Rattle.ksm_tree.proofs.Changes.{all_rows}
@@ -21,13 +21,7 @@ no_item page d [] none = refl
 no_item page d (r ∷ rows) none =
     let here = All-head (λ s. same_page s.page page ≡ true → merged_into d.number s.state ≡ false) r _ none in
     let rest = no_item _ d rows (All-tail (λ s. same_page s.page page ≡ true → merged_into d.number s.state ≡ false) r _ none) in
-    elim (cases_Bool (merged_into d.number r.state)) [
-      | inl passes ↦ elim (cases_Bool (same_page r.page page)) [
-        | inl same ↦ absurd (false≢true (sym (here same) ∙ passes))
-        | inr other ↦ grind (arith, passes, other, rest)
-      ]
-      | inr fails ↦ grind (arith, fails, rest)
-    ]
+    grind (arith, nat_tests, none, here, rest)
 
 module _ (rows : List Row) (page : GuestPage) (old : Row) (rise : InPageOrder rows) (found : row_at page rows ≡ Some old) where
   -- a page is an item of no dup but that of its row
@@ -126,8 +120,7 @@ module _ (rows : List Row) (first second : Row) (row : DupRow) (rise : InPageOrd
   whole = change_row second.page (λ _. second_in) half
 
   keeps_page : (r : Row) → (if same_page r.page first.page then first_in else r).page ≡ r.page
-  keeps_page r =
-      cond_both _ _ r (λ x. x.page ≡ r.page) (λ same. sym (pages_ordered.same_eq r.page first.page same)) (λ _. refl)
+  keeps_page r = grind (arith, nat_tests)
 
   half_rises : InPageOrder half
   half_rises = ordered_map _ _ keeps_page rise

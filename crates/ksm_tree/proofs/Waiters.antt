@@ -1,5 +1,5 @@
 -- The waiting pages beside the rows that wait: what a look-up tells, and what a change of rows does.
-use Rattle.ksm_tree.proofs.Names.{[], All, All-head, All-tail, ap, AreWaiting, arith, Bool, bytes_eq, bytes_eq-Decides, cases_Bool, change_row, change_rows, comes_before, cond, cond_both, each_at_page, eq-eqb, false, false≢true, filter, find-append, find_all, find_nothing, get_or, GuestPage, if◌then◌else◌, inl, InPageOrder, inr, is_some, IsAdded, IsAlike, IsStopped, Knobs, List, map, names, nat_tests, None, not, Option, option_and_then, option_map, option_or, partner, refl, Row, row_at, same_page, same_page_eq, same_page_refl, Some, subst, sym, tree_of, true, Waiting, waiting_page, waiting_state, WaitingPage, waits_there, with_row, without_page, ℕ, ◌&&◌, ◌==◌, ◌∙◌, ◌∷◌, ◌≡◌}
+use Rattle.ksm_tree.proofs.Names.{[], All, All-head, All-tail, ap, AreWaiting, arith, Bool, bytes_eq, bytes_eq-Decides, cases_Bool, change_row, change_rows, comes_before, cond_both, each_at_page, eq-eqb, false, filter, find-append, find_all, find_nothing, get_or, GuestPage, if◌then◌else◌, inl, InPageOrder, inr, is_some, IsAdded, IsAlike, IsStopped, Knobs, List, map, names, nat_tests, None, not, Option, option_and_then, option_map, option_or, partner, refl, Row, row_at, same_page, same_page_eq, same_page_refl, Some, subst, sym, tree_of, true, Waiting, waiting_page, waiting_state, WaitingPage, waits_there, with_row, without_page, ℕ, ◌&&◌, ◌==◌, ◌∙◌, ◌∷◌, ◌≡◌}
 use Rattle.ksm_base.specs.Visit.{waits_for}
 use Rattle.ksm_tree.proofs.Alike.{find_alike}
 use Rattle.ksm_tree.proofs.Keys.{eq_bytes}
@@ -8,7 +8,7 @@ use Rattle.ksm_tree.proofs.Keys.{eq_bytes}
 
 -- of three pages, of which the first two are one
 same_alike : (p q x : GuestPage) → same_page p q ≡ true → same_page p x ≡ same_page q x
-same_alike p q x same = ap (λ (r : GuestPage). same_page r x) (same_page_eq p q same)
+same_alike p q x same = grind (arith, nat_tests, same)
 
 -- a write of the row of one page leaves the rows of other pages as they were
 pub at_others : (row : Row) (q : GuestPage) (rows : List Row) → same_page row.page q ≡ false → row_at q (change_row row.page (λ _. row) rows) ≡ row_at q rows
@@ -31,10 +31,7 @@ at_chosen : (by : GuestPage → Bool) (q : GuestPage) (rows : List Row) → row_
 at_chosen by q [] = cond_both _ _ _ (λ o. None ≡ o) (λ _. refl) (λ _. refl)
 at_chosen by q (r ∷ rs) =
     let rest = at_chosen by q rs in
-    elim (cases_Bool (same_page r.page q)) [
-      | inl same ↦ grind (arith, same, rest)
-      | inr other ↦ grind (arith, other, rest)
-    ]
+    grind (arith, nat_tests, rest)
 
 at_without : (page q : GuestPage) (rows : List Row) → row_at q (without_page page rows) ≡ (if same_page page q then None else row_at q rows)
 at_without page q rows =
@@ -65,13 +62,12 @@ at_mapped f q (r ∷ rs) keeps =
 
 -- a page that is named is that page alone
 only_one : (o : Option GuestPage) (p q : GuestPage) → names p o ≡ true → same_page p q ≡ false → names q o ≡ false
-only_one None p q here other = absurd (false≢true here)
-only_one (Some w) p q here other = same_alike w p q here ∙ other
+only_one o p q here other = grind (arith, nat_tests, here, other)
 
 -- a page that a look-up of a tree and bytes finds has a row that waits there
 pub look_up_found : (knobs : Knobs) (rows : List Row) (w : List WaitingPage) (t : ℕ) (b : List ℕ) (page : GuestPage) → AreWaiting knobs rows w
     → waiting_page t b w ≡ Some page → waits_there knobs t b (row_at page rows) ≡ true
-look_up_found knobs rows w t b page are is = sym (are t b page) ∙ ap (names page) is ∙ same_page_refl page
+look_up_found knobs rows w t b page are is = grind (arith, nat_tests, are, is)
 
 -- a look-up of a row's tree and bytes finds the row's own page exactly where the row waits
 pub own_found : (knobs : Knobs) (rows : List Row) (w : List WaitingPage) (row : Row) → row_at row.page rows ≡ Some row → AreWaiting knobs rows w
@@ -80,29 +76,11 @@ own_found knobs rows w row found are =
     let t = tree_of knobs row in
     let tree = eq-eqb t t refl in
     let bytes : bytes_eq row.bytes row.bytes ≡ true = (bytes_eq-Decides _ row.bytes).1 refl in
-    are t row.bytes row.page ∙ ap (waits_there knobs t row.bytes) found ∙ (λ i. waiting_state row.state && (tree i && bytes i)) ∙ and_true _
-  where
-    and_true : (b : Bool) → (b && true) ≡ b
-    and_true true = refl
-    and_true false = refl
+    grind (arith, nat_tests, found, are, tree, bytes)
 
 -- another row waits for a row where it is a waiting row of its tree and bytes
 waits_apart : (knobs : Knobs) (row r : Row) → waits_for knobs row r ≡ (waits_there knobs (tree_of knobs row) row.bytes (Some r) && not (same_page r.page row.page))
-waits_apart knobs row r =
-    let bytes = eq_bytes r.bytes row.bytes in
-    let t = tree_of knobs row in
-    let u = tree_of knobs r in
-    let trees : (u == t) ≡ (t == u) = grind (arith, nat_tests) in
-    (λ i. waiting_state r.state && not (same_page r.page row.page) && trees i && bytes i) ∙ turned _ _ _ (bytes_eq row.bytes r.bytes)
-  where
-    turned : (a s c d : Bool) → (a && not s && c && d) ≡ ((a && (c && d)) && not s)
-    turned true true true true = refl
-    turned true true true false = refl
-    turned true true false d = refl
-    turned true false true true = refl
-    turned true false true false = refl
-    turned true false false d = refl
-    turned false s c d = refl
+waits_apart knobs row r = let bytes = eq_bytes r.bytes row.bytes in grind (arith, nat_tests, bytes)
 
 module _ (knobs : Knobs) (rows : List Row) (w : List WaitingPage) (row : Row) (rise : InPageOrder rows) (are : AreWaiting knobs rows w) where
   abbrev looked_up : Option GuestPage
@@ -147,13 +125,7 @@ edited : (knobs : Knobs) (page : GuestPage) (now : Option Row) (rows changed : L
     → ((t : ℕ) (b : List ℕ) (q : GuestPage) → same_page page q ≡ false → names q (waiting_page t b new) ≡ names q (waiting_page t b w))
     → AreWaiting knobs rows w → AreWaiting knobs changed new
 edited knobs page now rows changed w new at here others are t b q =
-    elim (cases_Bool (same_page page q)) [
-      | inl same ↦
-          subst (λ (p : GuestPage). names p (waiting_page t b new) ≡ waits_there knobs t b now) (same_page_eq _ q same) (here t b)
-          ∙ ap (waits_there knobs t b) (sym (at q ∙ ap (λ c. cond c now (row_at q rows)) same))
-      | inr other ↦
-          others t b q other ∙ are t b q ∙ ap (waits_there knobs t b) (sym (at q ∙ ap (λ c. cond c now (row_at q rows)) other))
-    ]
+    grind (arith, nat_tests, at, here, others, are)
 
 module _ (knobs : Knobs) (rows : List Row) (w : List WaitingPage) (are : AreWaiting knobs rows w) where
   -- whether the page of a row is named is whether it waits there
@@ -218,7 +190,7 @@ module _ (knobs : Knobs) (rows : List Row) (w : List WaitingPage) (are : AreWait
 -- ---------------------------------------------------------------- all rows
 
 alike_waits : (knobs : Knobs) (t : ℕ) (b : List ℕ) (old new : Row) → IsAlike old new → waits_there knobs t b (Some new) ≡ waits_there knobs t b (Some old)
-alike_waits knobs t b old new alike = λ i. alike.3 i && (t == (if knobs.merge_across_nodes == 1 then 0 else alike.1 i) && bytes_eq b (alike.2 i))
+alike_waits knobs t b old new alike = grind (arith, nat_tests, alike)
 
 module _ (knobs : Knobs) (rows : List Row) (w : List WaitingPage) (are : AreWaiting knobs rows w) where
   -- a row that changes into one that waits alike changes no waiting page
