@@ -37,7 +37,7 @@ module _ {X Y : Type 0} (g : X → Y) (p : Y → Bool) (q : X → Bool) where
   count_mapped (x ∷ xs) same =
       let here = All-head (λ z. p (g z) ≡ q z) x xs same in
       let rest = count_mapped xs (All-tail (λ z. p (g z) ≡ q z) x xs same) in
-      let more = count_more p (g x) (map g xs) in
+      let more = count_more p _ (map g xs) in
       let also = count_more q x xs in
       more ∙ ap₂ (λ b n. cond b 1 0 + n) here rest ∙ sym also
 
@@ -45,23 +45,23 @@ module _ {X Y : Type 0} (g : X → Y) (p : Y → Bool) (q : X → Bool) where
 pub pairs_mapped : {X Y : Type 0} (S : X → X → Type 0) (R : Y → Y → Type 0) (P : X → Type 0) (g : X → Y) → ((a b : X) → P a → P b → S a b → R (g a) (g b)) → (xs : List X) → All P xs → AllPairs S xs → AllPairs R (map g xs)
 pairs_mapped S R P g step [] all rise = λ i j d less lt. absurd (omega arith)
 pairs_mapped S R P g step (x ∷ xs) all rise =
-    AllPairs-cons R (g x) (map g xs)
+    AllPairs-cons R _ _
     (All-map (R (g x)) g xs (λ k d lt. step x (get_or xs k d) (All-head P x xs all) (all (suc k) d (omega arith)) (pairs_head S x xs rise k d lt)))
     (pairs_mapped S R P g step xs (All-tail P x xs all) (pairs_tail S x xs rise))
 
 -- two tests that agree at each element of a list find the same element
 pub find_alike : {X : Type 0} (p q : X → Bool) (xs : List X) → All (λ x. p x ≡ q x) xs → find p xs ≡ find q xs
-find_alike p q xs same = ap (find p) (sym (map-id xs)) ∙ find_mapped (λ x. x) p q xs same ∙ option_map_id (find q xs)
+find_alike p q xs same = ap (find p) (sym (map-id xs)) ∙ find_mapped _ p q xs same ∙ option_map_id _
 
 -- two tests that agree at each element of a list count alike
 pub count_alike : {X : Type 0} (p q : X → Bool) (xs : List X) → All (λ x. p x ≡ q x) xs → count_by p xs ≡ count_by q xs
-count_alike p q xs same = ap (count_by p) (sym (map-id xs)) ∙ count_mapped (λ x. x) p q xs same
+count_alike p q xs same = ap (count_by p) (sym (map-id xs)) ∙ count_mapped _ p q xs same
 
 -- where no element passes a test, a change of those that pass changes nothing
 pub change_none : {X : Type 0} (test : X → Bool) (f : X → X) (xs : List X) → All (λ x. test x ≡ false) xs
     → map (λ x. if test x then f x else x) xs ≡ xs
 change_none test f xs none =
-    map_alike (λ x. if test x then f x else x) (λ x. x) xs (λ k d lt. (λ i. if none k d lt i then f (get_or xs k d) else get_or xs k d))
+    map_alike _ _ xs (λ k d lt. (λ i. if none k d lt i then f (get_or xs k d) else get_or xs k d))
     ∙ map-id xs
 
 -- a choice by what a map makes may come before the choice of elements, or after the map
@@ -73,4 +73,4 @@ chosen f test by (x ∷ xs) = let rest = chosen f test by xs in grind (arith, re
 -- what a map makes of those kept of two lists in a row is what it makes of those of the first, then of the second
 pub kept_append : {X Y : Type 0} (f : X → Y) (test : X → Bool) (xs ys : List X)
     → map f (filter test (xs ++ ys)) ≡ map f (filter test xs) ++ map f (filter test ys)
-kept_append f test xs ys = ap (map f) (filter-append test xs ys) ∙ map-append f (filter test xs) (filter test ys)
+kept_append f test xs ys = ap (map f) (filter-append _ xs ys) ∙ map-append f _ _

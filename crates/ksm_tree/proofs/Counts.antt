@@ -24,7 +24,6 @@ three_kinds (None ∷ slots) =
     grind (arith, first, second, rest)
 three_kinds (Some d ∷ slots) =
     let rest = three_kinds slots in
-    let first = count_more is_empty_slot (Some d) slots in
     let second = count_more is_stale_slot (Some d) slots in
     let third = count_more is_live d (present slots) in
-    grind (arith, nat_tests, first, second, third, rest)
+    grind (arith, nat_tests, second, third, rest)

@@ -11,8 +11,8 @@ pub record IsMore (r : DupRow) (less more : List DupRow) : Type 0 where
   pub counts : (p : DupRow → Bool) → count_by p more ≡ (if p r then 1 else 0) + count_by p less
   pub all : (p : DupRow → Bool) → list_all p more ≡ (p r && list_all p less)
 
-more_between : (r : DupRow) (xs ys : List DupRow) → IsMore r (xs ++ ys) (xs ++ r ∷ ys)
-more_between r xs ys = record {
+more_between : {r : DupRow} (xs ys : List DupRow) → IsMore r (xs ++ ys) (xs ++ r ∷ ys)
+more_between {r} xs ys = record {
   counts = λ p. (let first = count-append p xs (r ∷ ys) in
       let second = count-append p xs ys in
       let more = count_more p r ys in
@@ -23,19 +23,19 @@ more_between r xs ys = record {
 }
 
 -- a new row is one row more than those at other places
-pub more_with : (r : DupRow) (rows : List DupRow) → InPlaceOrder rows → IsMore r (filter (λ e. not (e.place == r.place)) rows) (with_dup r rows)
-more_with r rows rise =
-    rw (rows_parted r.place rows rise) (more_between r (filter (λ e. nat_lt e.place r.place) rows) (filter (λ e. nat_lt r.place e.place) rows))
+pub more_with : {r : DupRow} (rows : List DupRow) → InPlaceOrder rows → IsMore r (filter (λ e. not (e.place == r.place)) rows) (with_dup r rows)
+more_with {r} rows rise =
+    rw (rows_parted r.place rows rise) (more_between _ _)
 
 -- the row at a place is one row more than those at other places
 pub more_there : (p : ℕ) (rows : List DupRow) (e : DupRow) → InPlaceOrder rows → find (λ r. r.place == p) rows ≡ Some e → IsMore e (filter (λ r. not (r.place == p)) rows) rows
 more_there p [] e rise found = absurd (none-some e found)
 more_there p (r ∷ rows) e rise found =
-    let first = pairs_head Lower r rows rise in
+    let first = pairs_head Lower r _ rise in
     elim (cases_Bool (r.place == p)) [
       | inl here ↦
           let same : r ≡ e = same_Some r e (grind (arith, here, found)) in
-          let kept = filter_all (λ s. not (s.place == p)) rows (All-weaker (Lower r) (λ s. not (s.place == p) ≡ true) (λ s h. let later = h.0 in grind (arith, nat_tests, here, later)) rows first) in
+          let kept = filter_all (λ s. not (s.place == p)) rows (All-weaker (Lower r) (λ s. not (s.place == p) ≡ true) (λ s h. grind (arith, nat_tests, here)) rows first) in
           record {
             counts = λ q. (let more = count_more q r rows in grind (arith, here, kept, same, more));
             all = λ q. grind (arith, here, kept, same);
@@ -43,8 +43,8 @@ more_there p (r ∷ rows) e rise found =
       | inr away ↦
           let rest = more_there p rows e (pairs_tail Lower r rows rise) (grind (arith, away, found)) in
           record {
-            counts = λ q. (let one = rest.counts q in let more = count_more q r rows in let less = count_more q r (filter (λ s. not (s.place == p)) rows) in grind (arith, away, one, more, less));
-            all = λ q. (let one = rest.all q in grind (arith, away, one));
+            counts = λ q. (let more = count_more q r rows in let less = count_more q r (filter (λ s. not (s.place == p)) rows) in grind (arith, away, more, less));
+            all = λ q. (grind (arith, away));
           }
     ]
 
@@ -63,9 +63,7 @@ count_where : (s : DupRow → Bool) (b : Bool) (rows : List DupRow) → count_by
 count_where s b [] = grind arith
 count_where s b (r ∷ rows) =
     let rest = count_where s b rows in
-    let all = count_more s r rows in
-    let both = count_more (λ d. s d && b) r rows in
-    grind (arith, rest, all, both)
+    grind (arith, rest)
 
 -- ---------------------------------------------------------------- one group
 
@@ -76,16 +74,16 @@ module _ (t : ℕ) (b : List ℕ) where
   -- a dup of the group has just the group's dups beside it, and another none of them
   group_own : (d e : DupRow) → of_it d ≡ true → same_group d e ≡ of_it e
   group_own d e inside =
-      let parts = and_parts (d.tree == t) (bytes_eq d.bytes b) inside in
+      let parts = and_parts _ (bytes_eq d.bytes b) inside in
       let tree : d.tree ≡ t = grind (arith, nat_tests, parts.0) in
-      let bytes : d.bytes ≡ b = (bytes_eq-Decides d.bytes b).0 parts.1 in
+      let bytes : d.bytes ≡ b = (bytes_eq-Decides _ b).0 parts.1 in
       (λ i. tree i == e.tree && bytes_eq (bytes i) e.bytes) ∙ sym (own_group t b e)
 
   group_apart : (d e : DupRow) → of_it d ≡ false → of_it e ≡ true → same_group d e ≡ false
   group_apart d e outside inside =
-      let parts = and_parts (e.tree == t) (bytes_eq e.bytes b) inside in
+      let parts = and_parts _ (bytes_eq e.bytes b) inside in
       let tree : e.tree ≡ t = grind (arith, nat_tests, parts.0) in
-      let bytes : e.bytes ≡ b = (bytes_eq-Decides e.bytes b).0 parts.1 in
+      let bytes : e.bytes ≡ b = (bytes_eq-Decides _ b).0 parts.1 in
       (λ i. d.tree == tree i && bytes_eq d.bytes (bytes i)) ∙ outside
 
   -- how many dups the group has
@@ -94,7 +92,7 @@ module _ (t : ℕ) (b : List ℕ) where
 
   -- a group has as many places as dups
   pub places_size : (rows : List DupRow) → length (group_places t b rows) ≡ size rows
-  places_size rows = length-map (filter of_it rows) (λ r. r.place) ∙ length-filter of_it rows
+  places_size rows = length-map (filter of_it rows) _ ∙ length-filter _ rows
 
   -- how many dups of other groups are in chains
   abbrev pub dups_apart : List DupRow → ℕ
@@ -108,7 +106,7 @@ module _ (t : ℕ) (b : List ℕ) where
   chains_apart rows = count_by (λ d. not (of_it d) && leads rows d) rows
 
   own_size : (rows : List DupRow) (d : DupRow) → of_it d ≡ true → group_size rows d ≡ size rows
-  own_size rows d inside = count_alike (same_group d) of_it rows (λ k e lt. group_own d (get_or rows k e) inside)
+  own_size rows d inside = count_alike _ _ rows (λ k e lt. group_own d (get_or rows k e) inside)
 
   -- of a group one dup leads
   one_leads : (rows : List DupRow) → InPlaceOrder rows → count_by (λ d. of_it d && leads_group rows d) rows ≡ (if size rows == 0 then 0 else 1)
@@ -165,25 +163,23 @@ module _ (t : ℕ) (b : List ℕ) where
       grind (arith, nat_tests, parts, own, all, one)
 
   -- another group's row changes nothing of what the others make
-  module _ (r : DupRow) (less more : List DupRow) (h : IsMore r less more) (inside : of_it r ≡ true) where
+  module _ {r : DupRow} {less more : List DupRow} (h : IsMore r less more) (inside : of_it r ≡ true) where
     same_size : (d : DupRow) → of_it d ≡ false → group_size more d ≡ group_size less d
-    same_size d outside = let one = h.counts (same_group d) in let apart = group_apart d r outside inside in grind (arith, one, apart)
+    same_size d outside = let apart = group_apart d r outside inside in grind (arith, apart)
 
     -- one dup row more in the group changes nothing of the number of other groups' dups that are in chains
     pub dups_kept : dups_apart more ≡ dups_apart less
     dups_kept =
-        let one = h.counts (λ d. not (of_it d) && in_chain more d) in
         let alike = count_alike (λ d. not (of_it d) && in_chain more d) (λ d. not (of_it d) && in_chain less d) less
         (λ k e lt. let d = get_or less k e in elim (cases_Bool (of_it d)) [
           | inl too ↦ grind (arith, too)
           | inr outside ↦ ap (λ n. not (of_it d) && nat_lt 1 n) (same_size d outside)
         ]) in
-        grind (arith, one, alike, inside)
+        grind (arith, alike, inside)
 
     -- one dup row more in the group changes nothing of the number of other groups' chains
     pub chains_kept : chains_apart more ≡ chains_apart less
     chains_kept =
-        let one = h.counts (λ d. not (of_it d) && leads more d) in
         let alike = count_alike (λ d. not (of_it d) && leads more d) (λ d. not (of_it d) && leads less d) less
         (λ k e lt. let d = get_or less k e in elim (cases_Bool (of_it d)) [
           | inl too ↦ grind (arith, too)
@@ -193,7 +189,7 @@ module _ (t : ℕ) (b : List ℕ) where
               let every = h.all (λ e. not (same_group d e) || nat_le d.place e.place) in
               grind (arith, outside, n, apart, every)
         ]) in
-        grind (arith, one, alike, inside)
+        grind (arith, alike, inside)
 
 -- ---------------------------------------------------------------- the totals
 
@@ -201,42 +197,38 @@ module _ (t : ℕ) (b : List ℕ) where
 rows_fit : (k p : ℕ) (rows : List DupRow) → k ≤ p → All (λ r. k ≤ r.place) rows → All (λ r. r.place < p) rows → InPlaceOrder rows → length rows + k ≤ p
 rows_fit k p [] least above below rise = omega arith
 rows_fit k p (r ∷ rows) least above below rise =
-    let here = All-head (λ e. k ≤ e.place) r rows above in
-    let under = All-head (λ e. e.place < p) r rows below in
-    let first = pairs_head Lower r rows rise in
+    let here = All-head (λ e. k ≤ e.place) r _ above in
+    let under = All-head (λ e. e.place < p) r _ below in
+    let first = pairs_head Lower r _ rise in
     let rest = rows_fit (suc r.place) p rows (omega (arith, under)) (All-weaker (Lower r) (λ e. suc r.place ≤ e.place) (λ e h. let later = h.0 in omega (arith, later)) rows first) (All-tail (λ e. e.place < p) r rows below) (pairs_tail Lower r rows rise) in
     omega (arith, rest, here)
 
 -- there are at most as many chains as frames, and as many dups in them
-pub totals_few : (p : ℕ) (rows : List DupRow) (totals : Totals) → p ≤ MOST_FRAMES → All (λ r. r.place < p) rows → InPlaceOrder rows → AreTotals rows totals → (totals.chains ≤ MOST_FRAMES) × (totals.dups ≤ MOST_FRAMES)
-totals_few p rows totals few below rise are =
-    let fit = rows_fit 0 p rows (omega arith) (λ k d lt. omega arith) below rise in
+pub totals_few : (p : ℕ) {rows : List DupRow} {totals : Totals} → p ≤ MOST_FRAMES → All (λ r. r.place < p) rows → InPlaceOrder rows → AreTotals rows totals → (totals.chains ≤ MOST_FRAMES) × (totals.dups ≤ MOST_FRAMES)
+totals_few p {rows} few below rise are =
+    let fit = rows_fit 0 p _ (omega arith) (λ k d lt. omega arith) below rise in
     let dups = count_by-le-length (in_chain rows) rows in
     let chains = count_by-le-length (λ d. in_chain rows d && leads_group rows d) rows in
-    let first = are.chains in
-    let second = are.dups in
-    (omega (arith, first, chains, fit, few), omega (arith, second, dups, fit, few))
+    (omega (arith, chains, fit, few), omega (arith, dups, fit, few))
 
 -- the totals have room for each group as it is
-pub totals_tell : (t : ℕ) (b : List ℕ) (p : ℕ) (rows : List DupRow) (totals : Totals) → p ≤ MOST_FRAMES → All (λ r. r.place < p) rows → InPlaceOrder rows → AreTotals rows totals → Tells (length (group_places t b rows)) totals
-totals_tell t b p rows totals few below rise are =
+pub totals_tell : (t : ℕ) (b : List ℕ) (p : ℕ) {rows : List DupRow} {totals : Totals} → p ≤ MOST_FRAMES → All (λ r. r.place < p) rows → InPlaceOrder rows → AreTotals rows totals → Tells (length (group_places t b rows)) totals
+totals_tell t b p {rows} {totals} few below rise are =
     let n = places_size t b rows in
     let dups = dups_parted t b rows in
-    let chains = chains_parted t b rows rise in
-    let small = totals_few p rows totals few below rise are in
-    let first = are.chains in
-    let second = are.dups in
+    let chains = chains_parted t b _ rise in
+    let small = totals_few p few below rise are in
     record {
-      chains = rw n (omega (arith, first, chains));
-      dups = rw n (omega (arith, second, dups));
+      chains = rw n (omega (arith, chains));
+      dups = rw n (omega (arith, dups));
       few = omega (arith, small.0);
       small = omega (arith, small.1);
     }
 
 -- the totals are right once one group alone has changed
-pub totals_moved : (t : ℕ) (b : List ℕ) (rows new : List DupRow) (old_totals new_totals : Totals) → InPlaceOrder rows → InPlaceOrder new → dups_apart t b new ≡ dups_apart t b rows → chains_apart t b new ≡ chains_apart t b rows
+pub totals_moved : (t : ℕ) (b : List ℕ) {rows new : List DupRow} {old_totals new_totals : Totals} → InPlaceOrder rows → InPlaceOrder new → dups_apart t b new ≡ dups_apart t b rows → chains_apart t b new ≡ chains_apart t b rows
     → IsRegrouped (length (group_places t b rows)) (length (group_places t b new)) old_totals new_totals → AreTotals rows old_totals → AreTotals new new_totals
-totals_moved t b rows new old_totals new_totals rise new_rise dups chains regrouped are =
+totals_moved t b {rows} {new} {old_totals} {new_totals} rise new_rise dups chains regrouped are =
     let r : IsRegrouped (size t b rows) (size t b new) old_totals new_totals = rw (← places_size t b rows, ← places_size t b new) regrouped in
     let d_old = dups_parted t b rows in
     let d_new = dups_parted t b new in
@@ -248,47 +240,47 @@ totals_moved t b rows new old_totals new_totals rise new_rise dups chains regrou
     }
 
 -- twice in one group
-regrouped_twice : (a b c : ℕ) (t u v : Totals) → IsRegrouped a b t u → IsRegrouped b c u v → IsRegrouped a c t v
-regrouped_twice a b c t u v first second = record {
+regrouped_twice : {a b c : ℕ} {t u v : Totals} → IsRegrouped a b t u → IsRegrouped b c u v → IsRegrouped a c t v
+regrouped_twice first second = record {
   chains = omega (arith, first.chains, second.chains);
   dups = omega (arith, first.dups, second.dups);
 }
 
 -- a row in the stead of another: first the one comes, then the other goes
-module _ (old r : DupRow) (less rows new : List DupRow) (there : IsMore old less rows) (here : IsMore r less new)
+module _ {old r : DupRow} {less rows new : List DupRow} (there : IsMore old less rows) (here : IsMore r less new)
     (rise : InPlaceOrder rows) (less_rise : InPlaceOrder less) (new_rise : InPlaceOrder new) where
   -- the totals are right once a dup of the same group stands in the stead of one that goes
-  pub totals_same : (t u v : Totals) (n : ℕ) → in_group r.tree r.bytes old ≡ true
+  pub totals_same : {t u v : Totals} {n : ℕ} → in_group r.tree r.bytes old ≡ true
       → IsRegrouped (length (group_places r.tree r.bytes rows)) n t u → IsRegrouped n (length (group_places r.tree r.bytes new)) u v → AreTotals rows t → AreTotals new v
-  totals_same t u v n same first second are =
+  totals_same {t} {u} {v} {n} same first second are =
       let own = self_group r in
-      totals_moved r.tree r.bytes rows new t v rise new_rise
-      (dups_kept r.tree r.bytes r less new here own ∙ sym (dups_kept r.tree r.bytes old less rows there same))
-      (chains_kept r.tree r.bytes r less new here own ∙ sym (chains_kept r.tree r.bytes old less rows there same))
-      (regrouped_twice _ n _ t u v first second) are
+      totals_moved _ _ rise new_rise
+      (dups_kept r.tree r.bytes here own ∙ sym (dups_kept r.tree r.bytes there same))
+      (chains_kept r.tree r.bytes here own ∙ sym (chains_kept r.tree r.bytes there same))
+      (regrouped_twice first second) are
 
   -- the totals are right once a dup of another group stands in the stead of one that goes
-  pub totals_apart : (t u v : Totals) → in_group r.tree r.bytes old ≡ false
+  pub totals_apart : {t : Totals} (u : Totals) {v : Totals} → in_group r.tree r.bytes old ≡ false
       → IsRegrouped (length (group_places r.tree r.bytes rows)) (length (group_places r.tree r.bytes new)) t u
       → IsRegrouped (length (group_places old.tree old.bytes rows)) (length (group_places old.tree old.bytes new)) u v → AreTotals rows t → AreTotals new v
-  totals_apart t u v other first second are =
+  totals_apart {t} u {v} other first second are =
       let also : in_group old.tree old.bytes r ≡ false = sym (own_group r.tree r.bytes old) ∙ other in
       let from : IsRegrouped (size r.tree r.bytes rows) (size r.tree r.bytes new) t u = rw (← places_size r.tree r.bytes rows, ← places_size r.tree r.bytes new) first in
       let to : IsRegrouped (size old.tree old.bytes rows) (size old.tree old.bytes new) u v = rw (← places_size old.tree old.bytes rows, ← places_size old.tree old.bytes new) second in
       let one : size r.tree r.bytes rows ≡ size r.tree r.bytes less = (let h = there.counts (in_group r.tree r.bytes) in grind (arith, h, other)) in
-      let two : size old.tree old.bytes new ≡ size old.tree old.bytes less = (let h = here.counts (in_group old.tree old.bytes) in grind (arith, h, also)) in
+      let two : size old.tree old.bytes new ≡ size old.tree old.bytes less = (grind (arith, also)) in
       let d1 = dups_parted old.tree old.bytes rows in
       let d2 = dups_parted old.tree old.bytes less in
       let d3 = dups_parted r.tree r.bytes less in
       let d4 = dups_parted r.tree r.bytes new in
-      let dk = dups_kept old.tree old.bytes old less rows there (self_group old) in
-      let dm = dups_kept r.tree r.bytes r less new here (self_group r) in
+      let dk = dups_kept old.tree old.bytes there (self_group old) in
+      let dm = dups_kept r.tree r.bytes here (self_group r) in
       let c1 = chains_parted old.tree old.bytes rows rise in
       let c2 = chains_parted old.tree old.bytes less less_rise in
       let c3 = chains_parted r.tree r.bytes less less_rise in
       let c4 = chains_parted r.tree r.bytes new new_rise in
-      let ck = chains_kept old.tree old.bytes old less rows there (self_group old) in
-      let cm = chains_kept r.tree r.bytes r less new here (self_group r) in
+      let ck = chains_kept old.tree old.bytes there (self_group old) in
+      let cm = chains_kept r.tree r.bytes here (self_group r) in
       let same_d1 = ap chained_of one in
       let same_d2 = ap chained_of two in
       let same_c1 = ap chains_of one in
@@ -299,9 +291,9 @@ module _ (old r : DupRow) (less rows new : List DupRow) (there : IsMore old less
       }
 
   -- after a dup came and before another went, the totals tell of a group of any size that they told of
-  pub totals_between : (t u : Totals) → IsRegrouped (length (group_places r.tree r.bytes rows)) (length (group_places r.tree r.bytes new)) t u → (n : ℕ) → t.chains ≤ MOST_FRAMES → t.dups ≤ MOST_FRAMES → Tells n t → Tells n u
-  totals_between t u first n few small tells =
-      let from : IsRegrouped (size r.tree r.bytes rows) (size r.tree r.bytes new) t u = rw (← places_size r.tree r.bytes rows, ← places_size r.tree r.bytes new) first in
+  pub totals_between : {t u : Totals} → IsRegrouped (length (group_places r.tree r.bytes rows)) (length (group_places r.tree r.bytes new)) t u → (n : ℕ) → t.chains ≤ MOST_FRAMES → t.dups ≤ MOST_FRAMES → Tells n t → Tells n u
+  totals_between {t} {u} first n few small tells =
+      let from : IsRegrouped (size r.tree r.bytes rows) (size r.tree r.bytes new) t u = rw (← places_size _ _ rows, ← places_size _ _ new) first in
       let one = there.counts (in_group r.tree r.bytes) in
       let two = here.counts (in_group r.tree r.bytes) in
       let own = self_group r in

@@ -14,12 +14,12 @@ own_group t b row = let swapped = eq_bytes row.bytes b in grind (arith, nat_test
 
 -- a dup is in the group of its own tree and bytes
 pub self_group : (row : DupRow) → in_group row.tree row.bytes row ≡ true
-self_group row = let bytes = (bytes_eq-Decides row.bytes row.bytes).1 refl in grind (arith, nat_tests, bytes)
+self_group row = let bytes = (bytes_eq-Decides _ row.bytes).1 refl in grind (arith, nat_tests, bytes)
 
 -- a row of a group has the tree of that group
-pub own_tree : (t : ℕ) (b : List ℕ) (row : DupRow) → in_group t b row ≡ true → row.tree ≡ t
-own_tree t b row inside = let tree = (and_parts (row.tree == t) (bytes_eq row.bytes b) inside).0 in grind (arith, nat_tests, tree)
+pub own_tree : {t : ℕ} (b : List ℕ) (row : DupRow) → in_group t b row ≡ true → row.tree ≡ t
+own_tree b row inside = grind (arith, nat_tests)
 
 -- a dup of a group has the group's bytes
-pub own_bytes : (t : ℕ) (b : List ℕ) (row : DupRow) → in_group t b row ≡ true → row.bytes ≡ b
-own_bytes t b row inside = (bytes_eq-Decides row.bytes b).0 (and_parts (row.tree == t) (bytes_eq row.bytes b) inside).1
+pub own_bytes : (t : ℕ) {b : List ℕ} (row : DupRow) → in_group t b row ≡ true → row.bytes ≡ b
+own_bytes t {b} row inside = (bytes_eq-Decides _ b).0 (and_parts _ _ inside).1

@@ -1,7 +1,7 @@
 -- The definitions, and the laws of the libraries and crates below, by their names, for proofs.
 pub use Rattle.ksm_base.proofs.Edits.{count-append, count_more, count_none, find_all, find_none, find_nothing, find_over, find_passes}
 pub use Rattle.ksm_base.proofs.Orders.{filter_none, ordered_map, pairs_head, pairs_tail}
-pub use Rattle.ksm_base.proofs.Pages.{same_page_eq, same_page_refl, same_page_sym}
+pub use Rattle.ksm_base.proofs.Pages.{same_page_eq, same_page_refl}
 pub use Rattle.ksm_base.proofs.RowCounts.{each_at_page, filter_all}
 pub use Rattle.ksm_base.proofs.SoundCounts.{not_an_item}
 pub use Rattle.ksm_base.specs.Counting.{group_size, in_chain, leads_group}
@@ -10,7 +10,7 @@ pub use Rattle.ksm_base.specs.Rows.{change_row, change_rows, comes_before, has_i
 pub use Rattle.ksm_base.specs.State.{tree_of}
 pub use Rattle.ksm_base.specs.Visit.{best_dup, empty_from, new_place, partner, place_or}
 pub use Rattle.ksm_base.specs.declared.knobs.Knobs.{Knobs}
-pub use Rattle.ksm_base.specs.declared.limits.TheConstants.{MOST_FRAMES, MOST_REFERENCES}
+pub use Rattle.ksm_base.specs.declared.limits.TheConstants.{MOST_FRAMES}
 pub use Rattle.ksm_base.specs.declared.page.GuestPage.{GuestPage}
 pub use Rattle.ksm_base.specs.declared.row.DupRow.{DupRow}
 pub use Rattle.ksm_base.specs.declared.row.PageState.{PageState}
@@ -35,7 +35,6 @@ pub use Rattle.ksm_tree.specs.Slots.{ArePlaced, AreSlots, change_at, count_in, i
 pub use Rattle.ksm_tree.specs.Totals.{AreTotals, chained_of, chains_of, IsRegrouped, Tells}
 pub use Rattle.ksm_tree.specs.Waits.{AreWaiting, IsAdded, IsAlike, IsStopped, names, waiting_page, WaitingPage, waits_there}
 pub use Rattle.ksm_tree.specs.declared.choice.Choice.{Choice}
-pub use Rattle.ksm_tree.specs.declared.choice.Choice.TheVariants.{Empty, Stale}
 pub use Rattle.ksm_tree.specs.declared.content.Content.{Content}
 pub use Rattle.ksm_tree.specs.declared.counted_set.CountedSet.{CountedSet}
 pub use Rattle.ksm_tree.specs.declared.dup.Dup.{Dup}
@@ -51,24 +50,22 @@ pub use Rattle.std.proofs.Common.{[], add-one, ap, arith, Bool, count_by, drop, 
 pub use Rattle.std.proofs.Math.ListN.{drop_of_length-le, get_or-map}
 pub use Rattle.std.proofs.lemmas.Bool.{and_parts, cases_Bool, cases_eq, cases_lt, cond_both, eq-eqb, eqb-true, false≢true, le-ltb, ne_eqb}
 pub use Rattle.std.proofs.lemmas.Bool.Decides.{Decides-eqb, nat_tests}
-pub use Rattle.std.proofs.lemmas.List.{map-append, get_or_default, get_or_past, get_or-replicate, length-map, map-set, replicate-append-replicate, set-get_or}
+pub use Rattle.std.proofs.lemmas.List.{map-append, get_or_default, get_or_past, get_or-replicate, length-map, map-set, set-get_or}
 pub use Rattle.std.proofs.lemmas.List.Elements.{All-append, All-cons, All-filter, All-head, All-map, All-tail, All-weaker, filter-append, filter_passes}
 pub use Rattle.std.proofs.lemmas.List.Folds.{find-append, list_all_more, list_all-append}
 pub use Rattle.std.proofs.lemmas.List.Kept.{AllPairs-cons, AllPairs-filter}
 pub use Rattle.std.proofs.lemmas.List.Sorted.{IsPartitionPoint-from_clause}
 pub use Rattle.std.proofs.lemmas.List.Sums.{AllPass-from_list_all, count_by-le-length, get_or-le-sum_by, length-filter, list_all-from_AllPass, sum_by-set}
 pub use Rattle.std.proofs.lemmas.Map.Lookups.{exact_bytes, exact_pairs, exact_unsigned}
-pub use Rattle.std.proofs.lemmas.Nat.Bits.{bit_at-trailing_zeros, bit_at-zero, bit_at_above, bit_at_clear_other, bit_at_clear_same, bit_at_ones, bit_at_ones_above, bit_at_set_other, bit_at_set_same}
+pub use Rattle.std.proofs.lemmas.Nat.Bits.{bit_at-trailing_zeros, bit_at-zero, bit_at_above, bit_at_clear_other, bit_at_clear_same, bit_at_ones, bit_at_set_other, bit_at_set_same}
 pub use Rattle.std.proofs.lemmas.Option.{get_or_from_slice_get, none-some, same_Some, slice_get_within}
 pub use Rattle.std.proofs.lemmas.Slice.Eq.{bytes_eq-Decides}
 pub use Rattle.std.specs.BTreeMap.{BTreeMap, is_at, Updates}
 pub use Rattle.std.specs.Bool.{then_some}
 pub use Rattle.std.specs.Cmp.{Equal-is}
-pub use Rattle.std.specs.Cmp.Lexicographic.{slice_cmp}
 pub use Rattle.std.specs.Int.{bit_at}
 pub use Rattle.std.specs.Int.Bits.{bit_and}
 pub use Rattle.std.specs.Int.RustNames.{bit_or}
 pub use Rattle.std.specs.List.{list_all, list_any}
 pub use Rattle.std.specs.Option.{ForSome, option_and_then, option_or, unwrap_or}
-pub use Rattle.std.specs.Ordering.{nat_cmp}
 pub use Rattle.std.specs.Prelude.{All, AllPairs, bytes_eq, cond, Err, filter, filter_map, find, if◌then◌else◌, is_some, IsOk, MatchOption, nat_le, nat_lt, not, Ok, OnErr, OnOk, option_copied, option_map, Result, ◌%◌, ◌&&◌, ◌==◌, ◌^◌, ◌||◌}

@@ -1,10 +1,9 @@
 -- The order of places, and what is promised of a result that is `Ok` or an error.
-use Rattle.ksm_tree.proofs.Names.{arith, Err, false≢true, IsOk, IsOrder, nat_lt, nat_tests, Ok, OnErr, OnOk, Result, ◌==◌}
+use Rattle.ksm_tree.proofs.Names.{arith, Err, IsOk, IsOrder, nat_lt, nat_tests, Ok, OnErr, OnOk, Result, ◌==◌}
 
 -- what is promised where a result is `Ok` holds where the result is `Ok`
 pub at_ok : {T E : Type 0} {P : Type 0} (r : Result T E) → IsOk r → OnOk r P → P
-at_ok (Ok x) good holds = holds
-at_ok (Err e) bad holds = absurd (false≢true bad)
+at_ok r good holds = grind (arith, nat_tests, good, holds)
 
 -- what holds anyway may be promised where a result is an error
 pub on_err : {T E : Type 0} {P : Type 0} (r : Result T E) → P → OnErr r P

@@ -1,5 +1,5 @@
 -- Slots that are all empty.
-use Rattle.ksm_tree.proofs.Names.{[], ap, ArePlaced, AreSlots, arith, Bool, cond, count_by, count_in, count_more, CountedSet, Dup, false, get_or-replicate, has, is_empty_slot, is_stale_slot, IsSetOf, length, List, map, MOST_FRAMES, None, Option, present, refl, replicate, ShelfState, slots_seen, suc, suc-mul, sym, true, zero, zero-mul, ℕ, ◌*◌, ◌<◌, ◌∙◌, ◌∷◌, ◌≡◌, ◌≤◌}
+use Rattle.ksm_tree.proofs.Names.{[], ap, ArePlaced, AreSlots, arith, Bool, cond, count_by, count_in, count_more, CountedSet, Dup, false, get_or-replicate, has, IsSetOf, length, List, map, MOST_FRAMES, None, Option, present, refl, replicate, ShelfState, slots_seen, suc, suc-mul, sym, true, zero, zero-mul, ℕ, ◌*◌, ◌<◌, ◌∙◌, ◌∷◌, ◌≡◌, ◌≤◌}
 use Rattle.std.proofs.lemmas.List.{length-replicate}
 
 -- a list of n empty slots
@@ -13,7 +13,7 @@ none_present (suc n) = none_present n
 
 none_placed : (k n : ℕ) → ArePlaced k (none_of n)
 none_placed k zero = tt
-none_placed k (suc n) = none_placed (suc k) n
+none_placed k (suc n) = none_placed _ n
 
 none_passes : (test : Option Dup → Bool) (n : ℕ) → count_by test (none_of n) ≡ n * cond (test None) 1 0
 none_passes test zero = sym (zero-mul (cond (test None) 1 0))
@@ -23,13 +23,13 @@ none_passes test (suc n) =
     omega (arith, rest, more, suc-mul n (cond (test None) 1 0))
 
 -- a set that has all of so many places, or none, is that of the empty slots that pass a test
-none_set : (test : Option Dup → Bool) (n : ℕ) (places : CountedSet) → n ≤ 64 * length places.set → ((p : ℕ) → p < n → has places.set p ≡ test None) → places.count ≡ n * cond (test None) 1 0 → IsSetOf test (none_of n) places
-none_set test n places wide each count =
+none_set : {test : Option Dup → Bool} (n : ℕ) {places : CountedSet} → n ≤ 64 * length places.set → ((p : ℕ) → p < n → has places.set p ≡ test None) → places.count ≡ n * cond (test None) 1 0 → IsSetOf test (none_of n) places
+none_set {test} n wide each count =
     let many = length-replicate {A = Option Dup} n None in
     record {
       room = omega (arith, many, wide);
-      each = λ p low. each p (omega (arith, many, low)) ∙ ap test (sym (get_or-replicate n p None None (omega (arith, many, low))));
-      count = count ∙ sym (none_passes test n);
+      each = λ p low. each p (omega (arith, many, low)) ∙ ap test (sym (get_or-replicate n p _ _ (omega (arith, many, low))));
+      count = count ∙ sym (none_passes _ n);
     }
 
 -- in empty slots no dup is seen
@@ -43,12 +43,12 @@ none_counted zero = refl
 none_counted (suc n) = ap (λ counts. 0 ∷ counts) (none_counted n)
 
 -- empty slots are right with counts of 0, all places empty, and none stale
-pub none_slots : (n : ℕ) (counts : List ℕ) (empty stale : CountedSet) → n ≤ MOST_FRAMES → counts ≡ replicate n 0 → n ≤ 64 * length empty.set → ((p : ℕ) → p < n → has empty.set p ≡ true) → empty.count ≡ n → n ≤ 64 * length stale.set → ((p : ℕ) → has stale.set p ≡ false) → stale.count ≡ 0 → AreSlots (none_of n) counts empty stale
-none_slots n counts empty stale few counted wide all each wide_stale none zero_count =
+pub none_slots : (n : ℕ) {counts : List ℕ} {empty stale : CountedSet} → n ≤ MOST_FRAMES → counts ≡ replicate n 0 → n ≤ 64 * length empty.set → ((p : ℕ) → p < n → has empty.set p ≡ true) → empty.count ≡ n → n ≤ 64 * length stale.set → ((p : ℕ) → has stale.set p ≡ false) → stale.count ≡ 0 → AreSlots (none_of n) counts empty stale
+none_slots n {empty} {stale} few counted wide all each wide_stale none zero_count =
     record {
       few = rw length-replicate few;
       placed = none_placed 0 n;
       counted = counted ∙ none_counted n;
-      empties = none_set is_empty_slot n empty wide all (omega (arith, each));
-      stales = none_set is_stale_slot n stale wide_stale (λ p _. none p) (omega (arith, zero_count));
+      empties = none_set n wide all (omega (arith, each));
+      stales = none_set n wide_stale (λ p _. none p) (omega (arith, zero_count));
     }

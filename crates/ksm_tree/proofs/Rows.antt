@@ -1,7 +1,7 @@
 -- Dup rows in the order of their places: what a new row and a row that goes change of what is found.
-use Rattle.ksm_tree.proofs.Names.{[], All, All-cons, All-filter, All-head, All-tail, All-weaker, ap, arith, Bool, cases_Bool, cond, DupRow, false, false≢true, filter, find, find-append, find_all, find_nothing, find_over, group_places, if◌then◌else◌, in_group, inl, InPlaceOrder, inr, List, nat_lt, nat_tests, ne_eqb, None, none-some, not, option_map, option_or, pairs_head, pairs_tail, refl, row_place, same_Some, Some, sym, true, with_dup, with_place, without, ℕ, ◌&&◌, ◌++◌, ◌<◌, ◌==◌, ◌∙◌, ◌∷◌, ◌≡◌}
+use Rattle.ksm_tree.proofs.Names.{[], All, All-filter, All-head, All-tail, All-weaker, ap, arith, Bool, cond, DupRow, false, filter, find, find-append, find_all, find_nothing, find_over, find_passes, get_or, group_places, if◌then◌else◌, in_group, InPlaceOrder, List, nat_lt, nat_tests, ne_eqb, None, not, option_map, option_or, refl, row_place, Some, sym, true, with_dup, with_place, without, ℕ, ◌&&◌, ◌++◌, ◌<◌, ◌==◌, ◌∙◌, ◌∷◌, ◌≡◌}
 use Rattle.ksm_tree.proofs.Alike.{chosen, kept_append}
-use Rattle.ksm_base.proofs.Orders.{above, below, dups_parted, elsewhere, Lower}
+use Rattle.ksm_base.proofs.Orders.{above, below, dups_parted, elsewhere, Lower, one_of_each, one_of_each_place}
 
 abbrev numbered : ℕ → DupRow → Bool
 numbered q r = r.number == q
@@ -10,8 +10,8 @@ numbered q r = r.number == q
 pub group_unlike : (p : ℕ) (t : ℕ) (b : List ℕ) (rows : List DupRow) → All (λ r. (r.place == p && in_group t b r) ≡ false) rows → without p (group_places t b rows) ≡ group_places t b rows
 group_unlike p t b [] none = refl
 group_unlike p t b (r ∷ rows) none =
-    let rest = group_unlike p t b rows (All-tail (λ s. (s.place == p && in_group t b s) ≡ false) r rows none) in
-    let here = All-head (λ s. (s.place == p && in_group t b s) ≡ false) r rows none in
+    let rest = group_unlike p t b rows (All-tail (λ s. (s.place == p && in_group t b s) ≡ false) r _ none) in
+    let here = All-head (λ s. (s.place == p && in_group t b s) ≡ false) r _ none in
     grind (arith, here, rest)
 
 -- a new row of a group adds its place to the places of the group
@@ -31,9 +31,9 @@ group_passed t b row rows rise outside =
     let lower = filter (below row.place) rows in
     let higher = filter (above row.place) rows in
     let first : group_places t b (row ∷ higher) ≡ group_places t b higher = grind (arith, outside) in
-    kept_append (λ (r : DupRow). r.place) (in_group t b) lower (row ∷ higher)
+    kept_append _ _ lower _
     ∙ (λ i. group_places t b lower ++ first i)
-    ∙ sym (kept_append (λ (r : DupRow). r.place) (in_group t b) lower higher)
+    ∙ sym (kept_append _ _ lower higher)
     ∙ ap (group_places t b) (sym (dups_parted row.place rows rise))
     ∙ chosen (λ (r : DupRow). r.place) (in_group t b) (λ q. not (q == row.place)) rows
 
@@ -46,86 +46,61 @@ place_new row rows fresh =
     let higher = filter (above row.place) rows in
     let here : numbered row.number row ≡ true = grind (arith, nat_tests) in
     ap (option_map (λ r. r.place))
-    (find-append (numbered row.number) lower (row ∷ higher)
-    ∙ ap (λ o. option_or o (find (numbered row.number) (row ∷ higher))) (find_nothing (numbered row.number) lower none)
+    (find-append _ lower _
+    ∙ ap (λ o. option_or o (find (numbered row.number) (row ∷ higher))) (find_nothing _ _ none)
     ∙ ap (λ b. cond b (Some row) (find (numbered row.number) higher)) here)
 
 -- a new dup changes the place of no other number that stays
 pub place_kept : (q : ℕ) (row : DupRow) (rows : List DupRow) → InPlaceOrder rows → (q == row.number) ≡ false → row_place q (with_dup row rows) ≡ row_place q (filter (elsewhere row.place) rows)
 place_kept q row rows rise other =
     let lower = filter (below row.place) rows in
-    let higher = filter (above row.place) rows in
     let fails : numbered q row ≡ false = grind (arith, nat_tests, other) in
-    ap (option_map (λ r. r.place)) (find_over (numbered q) lower higher row fails ∙ ap (find (numbered q)) (sym (dups_parted row.place rows rise)))
+    ap (option_map (λ r. r.place)) (find_over _ lower _ row fails ∙ ap (find (numbered q)) (sym (dups_parted _ _ rise)))
 
 -- the row that stands at a place is the only one there, and the only one of its number
 abbrev pub IsOne : ℕ → DupRow → DupRow → Type 0
 IsOne p e r = ((r.place == p) ≡ (r.number == e.number)) × ((r.place == p) ≡ true → r ≡ e)
 
+-- a row is the only one of its place, or of its number
+abbrev OneBy : (DupRow → ℕ) → List DupRow → DupRow → Type 0
+OneBy of rows e = All (λ r. (of r == of e) ≡ true → r ≡ e) rows
+
+-- the row that a test finds is the only one of its place, and the only one of its number
+found_alone : (test : DupRow → Bool) (rows : List DupRow) (e : DupRow) → InPlaceOrder rows → find test rows ≡ Some e → OneBy (λ r. r.place) rows e × OneBy (λ r. r.number) rows e
+found_alone test rows e rise found = (
+  find_all test (OneBy (λ r. r.place) rows) rows e found (one_of_each_place rows rise),
+  find_all test (OneBy (λ r. r.number) rows) rows e found
+      (one_of_each Lower (λ d e. d.number == e.number) rows (λ d e h. h.1) (λ d e h. grind (arith, nat_tests)) rise),
+)
+
 -- the row found at a place is the only row there, and the only one of its number
 pub only_one : (p : ℕ) (rows : List DupRow) (e : DupRow) → InPlaceOrder rows → find (λ r. r.place == p) rows ≡ Some e → All (IsOne p e) rows
-only_one p [] e rise found = absurd (none-some e found)
-only_one p (r ∷ rows) e rise found =
-    let first = pairs_head Lower r rows rise in
-    elim (cases_Bool (r.place == p)) [
-      | inl here ↦
-          let same : r ≡ e = same_Some r e (grind (arith, here, found)) in
-          All-cons (IsOne p e) r rows (grind (arith, nat_tests, here, same), λ _. same)
-          (All-weaker (Lower r) (IsOne p e) (λ s h.
-          let away : (s.place == p) ≡ false = (let h_place = h.0 in grind (arith, nat_tests, here, h_place)) in
-          let other : (s.number == e.number) ≡ false = (let h_number = h.1 in grind (arith, nat_tests, same, h_number)) in
-          (away ∙ sym other, λ at. absurd (false≢true (sym away ∙ at)))) rows first)
-      | inr away ↦
-          let found_rest : find (λ s. s.place == p) rows ≡ Some e = grind (arith, away, found) in
-          let apart = find_all (λ s. s.place == p) (Lower r) rows e found_rest first in
-          let rest = only_one p rows e (pairs_tail Lower r rows rise) found_rest in
-          All-cons (IsOne p e) r rows (away ∙ sym apart.1, λ at. absurd (false≢true (sym away ∙ at))) rest
-    ]
+only_one p rows e rise found k d lt =
+    let r = get_or rows k d in
+    let at = find_passes (λ r. r.place == p) rows e found in
+    let alone = found_alone (λ r. r.place == p) rows e rise found in
+    let is : (r.place == p) ≡ true → r ≡ e = λ here. alone.0 k d lt (grind (arith, nat_tests, at, here)) in
+    grind (arith, nat_tests, lt, at, alone, is)
 
 -- the row of a number is the only one of its number, and the only one at its place
 abbrev pub IsThat : ℕ → DupRow → DupRow → Type 0
 IsThat q e r = (r.number == q) ≡ (r.place == e.place)
 
 -- the row found by a number is the only row of that number, and the only one at its place
-pub only_number : (q : ℕ) (rows : List DupRow) (e : DupRow) → InPlaceOrder rows → find (numbered q) rows ≡ Some e → All (IsThat q e) rows
-only_number q [] e rise found = absurd (none-some e found)
-only_number q (r ∷ rows) e rise found =
-    let first = pairs_head Lower r rows rise in
-    elim (cases_Bool (r.number == q)) [
-      | inl here ↦
-          let same : r ≡ e = same_Some r e (grind (arith, here, found)) in
-          All-cons (IsThat q e) r rows (grind (arith, nat_tests, here, same))
-          (All-weaker (Lower r) (IsThat q e) (λ s h.
-          let away : (s.place == e.place) ≡ false = (let h_place = h.0 in grind (arith, nat_tests, same, h_place)) in
-          let other : (s.number == q) ≡ false = (let h_number = h.1 in grind (arith, nat_tests, here, h_number)) in
-          other ∙ sym away) rows first)
-      | inr other ↦
-          let found_rest : find (numbered q) rows ≡ Some e = grind (arith, other, found) in
-          let apart = find_all (numbered q) (Lower r) rows e found_rest first in
-          let away : (r.place == e.place) ≡ false = (let h_place = apart.0 in grind (arith, nat_tests, h_place)) in
-          All-cons (IsThat q e) r rows (other ∙ sym away) (only_number q rows e (pairs_tail Lower r rows rise) found_rest)
-    ]
+pub only_number : (q : ℕ) (rows : List DupRow) {e : DupRow} → InPlaceOrder rows → find (numbered q) rows ≡ Some e → All (IsThat q e) rows
+only_number q rows {e} rise found k d lt =
+    let has = find_passes (numbered q) rows e found in
+    let alone = found_alone (numbered q) rows e rise found in
+    grind (arith, nat_tests, lt, has, alone)
 
--- the place of a number once the row at a place has gone
-gone : (p q : ℕ) (e : DupRow) (rows : List DupRow) → (q == e.number) ≡ true → All (IsOne p e) rows → row_place q (filter (elsewhere p) rows) ≡ None
-gone p q e [] this only = refl
-gone p q e (r ∷ rows) this only =
-    let rest = gone p q e rows this (All-tail (IsOne p e) r rows only) in
-    let here = (All-head (IsOne p e) r rows only).0 in
-    grind (arith, nat_tests, this, here, rest)
-
-stayed : (p q : ℕ) (e : DupRow) (rows : List DupRow) → (q == e.number) ≡ false → All (IsOne p e) rows → row_place q (filter (elsewhere p) rows) ≡ row_place q rows
-stayed p q e [] other only = refl
-stayed p q e (r ∷ rows) other only =
-    let rest = stayed p q e rows other (All-tail (IsOne p e) r rows only) in
-    let here = (All-head (IsOne p e) r rows only).0 in
-    grind (arith, nat_tests, other, here, rest)
+-- the places of the numbers once the row at a place has gone
+left : (p q : ℕ) (e : DupRow) (rows : List DupRow) → All (IsOne p e) rows → row_place q (filter (elsewhere p) rows) ≡ (if q == e.number then None else row_place q rows)
+left p q e [] only = grind arith
+left p q e (r ∷ rows) only =
+    let rest = left p q e rows (All-tail (IsOne p e) r _ only) in
+    let here = (only 0 r (omega arith)).0 in
+    grind (arith, nat_tests, here, rest)
 
 -- once the dup at a place goes, its number has no place, and each other number has the place it had
-pub place_gone : (p q : ℕ) (rows : List DupRow) (e : DupRow) → InPlaceOrder rows → find (λ r. r.place == p) rows ≡ Some e → row_place q (filter (elsewhere p) rows) ≡ (if q == e.number then None else row_place q rows)
-place_gone p q rows e rise found =
-    let only = only_one p rows e rise found in
-    elim (cases_Bool (q == e.number)) [
-      | inl this ↦ rw this (gone p q e rows this only)
-      | inr other ↦ rw other (stayed p q e rows other only)
-    ]
+pub place_gone : (p q : ℕ) (rows : List DupRow) {e : DupRow} → InPlaceOrder rows → find (λ r. r.place == p) rows ≡ Some e → row_place q (filter (elsewhere p) rows) ≡ (if q == e.number then None else row_place q rows)
+place_gone p q rows {e} rise found = left p q e rows (only_one p rows e rise found)

@@ -6,9 +6,9 @@ module _ {X : Type 0} (test : X → Bool) where
   where_above : (k : ℕ) (xs : List X) → All (λ p. k ≤ p) (places_where test k xs)
   where_above k [] = λ i d lt. absurd (omega arith)
   where_above k (y ∷ xs) =
-      let rest = All-weaker (λ p. suc k ≤ p) (λ p. k ≤ p) (λ p h. omega arith) (places_where test (suc k) xs) (where_above (suc k) xs) in
+      let rest = All-weaker (λ p. suc k ≤ p) (λ p. k ≤ p) (λ p h. omega arith) _ (where_above _ xs) in
       elim (test y) as (λ b. All (λ p. k ≤ p) (if b then k ∷ places_where test (suc k) xs else places_where test (suc k) xs)) [
-        | true ↦ All-cons (λ p. k ≤ p) k (places_where test (suc k) xs) (omega arith) rest
+        | true ↦ All-cons (λ p. k ≤ p) k _ (omega arith) rest
         | false ↦ rest
       ]
 
@@ -30,8 +30,6 @@ module _ {X : Type 0} (test : X → Bool) where
       let each = filter_all (λ q. nat_lt p q) rest (where_behind (suc k) p xs (omega arith)) in
       grind (arith, nat_tests, none, each, passes)
   where_with k p (suc i) (y ∷ xs) x is within passes =
-      let rest = places_where test (suc k) xs in
-      let new = places_where test (suc k) (set xs i x) in
       let so_far = where_with (suc k) p i xs x (omega arith) (omega arith) passes in
       grind (arith, nat_tests, so_far)
 
@@ -43,8 +41,6 @@ module _ {X : Type 0} (test : X → Bool) where
       let each = filter_all (λ q. not (q == p)) rest (where_apart (suc k) p xs (omega arith)) in
       grind (arith, nat_tests, each, fails)
   where_without k p (suc i) (y ∷ xs) x is within fails =
-      let rest = places_where test (suc k) xs in
-      let new = places_where test (suc k) (set xs i x) in
       let so_far = where_without (suc k) p i xs x (omega arith) (omega arith) fails in
       grind (arith, nat_tests, so_far)
 
@@ -67,10 +63,8 @@ module _ {X : Type 0} (test : X → Bool) where
   -- the places among one element more: it passes, or fails
   where_more : (d : X) (k p i : ℕ) (xs : List X) → p ≡ k + i → i < length xs → test (get_or xs i d) ≡ true → places_where test k (take (suc i) xs) ≡ with_place p (places_where test k (take i xs))
   where_more d k p i [] is within passes = absurd (omega arith)
-  where_more d k p zero (y ∷ xs) is within passes = let e : p ≡ k = omega arith in grind (arith, nat_tests, passes, e)
+  where_more d k p zero (y ∷ xs) is within passes = grind (arith, nat_tests, passes)
   where_more d k p (suc i) (y ∷ xs) is within passes =
-      let rest = places_where test (suc k) (take i xs) in
-      let new = places_where test (suc k) (take (suc i) xs) in
       let so_far = where_more d (suc k) p i xs (omega arith) (omega arith) passes in
       grind (arith, nat_tests, so_far)
 

@@ -2,4 +2,4 @@ use Rattle.ksm_tree.proofs.Tied.{tied_counted}
 use Rattle.ksm_tree.proofs.laws.tied_is_counted.Goals as goal
 
 pub returns : goal.returns
-returns c rows dups tied = tied_counted rows dups tied
+returns c rows dups tied = tied_counted rows _ tied

@@ -9,4 +9,4 @@ returns-clause-room c =
     omega (arith, many)
 
 pub returns-clause-none : goal.returns-clause-none
-returns-clause-none c n = ap (λ set. has set n) c.in_ok-all.ensures.none ∙ none_there (c.args.words / 64 + 1) n
+returns-clause-none c n = ap (λ set. has set n) c.in_ok-all.ensures.none ∙ none_there _ n

@@ -9,4 +9,4 @@ returns c =
     let low : n < 64 = omega (arith, c.requires, ap length c.self.view_is) in
     let at : n / 64 ≡ 0 = omega (arith, low) in
     rw (← c.self.view_is)
-    (subst (λ k. Marks (w ∷ []) (set (w ∷ []) k (bit_or (get_or (w ∷ []) k 0) (1 * 2 ^ (n % 64) % 18446744073709551616))) n true) at (marks_more (w ∷ []) n (omega (arith, low))))
+    (subst (λ k. Marks (w ∷ []) (set (w ∷ []) k (bit_or (get_or (w ∷ []) k 0) (1 * 2 ^ (n % 64) % 18446744073709551616))) n true) at (marks_more _ n (omega (arith, low))))

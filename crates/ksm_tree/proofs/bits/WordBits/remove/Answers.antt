@@ -9,4 +9,4 @@ returns c =
     let low : n < 64 = omega (arith, c.requires, ap length c.self.view_is) in
     let at : n / 64 ≡ 0 = omega (arith, low) in
     rw (← c.self.view_is)
-    (subst (λ k. Marks (w ∷ []) (set (w ∷ []) k (bit_and (get_or (w ∷ []) k 0) (18446744073709551615 - 1 * 2 ^ (n % 64) % 18446744073709551616))) n false) at (marks_less (w ∷ []) n (omega (arith, low))))
+    (subst (λ k. Marks (w ∷ []) (set (w ∷ []) k (bit_and (get_or (w ∷ []) k 0) (18446744073709551615 - 1 * 2 ^ (n % 64) % 18446744073709551616))) n false) at (marks_less _ n (omega (arith, low))))

@@ -1,19 +1,16 @@
-use Rattle.ksm_tree.proofs.Names.{ap, arith, get_or_default, IsLowestBit, length, subst, sym, ◌+◌, ◌∙◌, ℕ}
+use Rattle.ksm_tree.proofs.Names.{ap, arith, get_or_default, IsLowestBit, length, subst, sym, ◌∙◌, ℕ}
 use Rattle.ksm_tree.proofs.NumberBits.{alone_behind, found_behind, within_named}
 use Rattle.ksm_tree.proofs.bits.Words.first_behind.Goals as goal
 
 pub returns-then-this-le1 : goal.returns-then-this-le1
 returns-then-this-le1 g c =
     rw (← c.self.view_is)
-    (alone_behind _ c.args.at c.self.inside.words.items (omega (arith, c.if-this-le1.true)) c.self.invariant.few (omega (arith, c.requires, ap length c.self.view_is)))
+    (alone_behind _ _ _ (omega (arith, c.if-this-le1.true)) c.self.invariant.few (omega (arith, c.requires, ap length c.self.view_is)))
 
 pub returns : goal.returns
 returns g c =
-    let words = c.self.inside.words.items in
-    let upper = g.S.Bits.words c.self.inside.summary in
-    let next = c.in_ok-next.next in
     let summed = c.self.invariant.summed (omega (arith, c.if-this-le1.false)) in
-    let within = within_named words upper summed (c.args.at + 1) next c.in_ok-next.ensures in
-    let read = get_or_default words next 0 c.index.result.now within ∙ sym c.index.ensures in
+    let within = within_named _ summed c.in_ok-next.ensures in
+    let read = get_or_default _ c.in_ok-next.next 0 _ within ∙ sym c.index.ensures in
     let lowest = subst (λ (word : ℕ). IsLowestBit word 0 c.lowest.result) (sym read) c.lowest.ensures in
-    rw (← c.self.view_is) (found_behind words upper summed c.args.at next c.lowest.result c.in_ok-next.ensures lowest)
+    rw (← c.self.view_is) (found_behind _ summed _ c.in_ok-next.ensures lowest)

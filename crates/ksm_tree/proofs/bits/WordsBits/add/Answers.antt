@@ -7,26 +7,26 @@ invariant_of-self g c =
     let words = c.self.inside.words.items in
     let at = c.word_of-at.result in
     let within : at < length words = omega (arith, c.word_of-at.ensures, c.requires, ap length c.self.view_is) in
-    let read = get_or_default words at 0 c.index_mut.result.now within ∙ sym c.index_mut.ensures.value in
+    let read = get_or_default _ at 0 _ within ∙ sym c.index_mut.ensures.value in
     subst (λ (word : ℕ). AreSummed g.row.MOST (set words at (bit_or word (1 * 2 ^ (c.args.number % 64) % 18446744073709551616))) (g.S.Bits.words c.add.new.self)) read
-    (stay_more g.row.MOST words (g.S.Bits.words c.self.inside.summary) c.self.invariant at (c.args.number % 64) _ within (omega arith) c.if-this-gt1.true c.add.ensures)
+    (stay_more c.self.invariant (c.args.number % 64) within (omega arith) c.if-this-gt1.true c.add.ensures)
 
 pub invariant_of-self-else-this-gt1 : goal.invariant_of-self-else-this-gt1
 invariant_of-self-else-this-gt1 g c =
-    stay_alone g.row.MOST c.self.inside.words.items (g.S.Bits.words c.self.inside.summary) c.self.invariant c.word_of-at.result _ c.if-this-gt1.false
+    stay_alone c.self.invariant c.word_of-at.result _ c.if-this-gt1.false
 
 pub returns-then-this-gt1 : goal.returns-then-this-gt1
 returns-then-this-gt1 g c =
     let words = c.self.inside.words.items in
     let at = c.word_of-at.result in
     let within : at < length words = omega (arith, c.word_of-at.ensures, c.requires, ap length c.self.view_is) in
-    let read = get_or_default words at 0 c.index_mut.result.now within ∙ sym c.index_mut.ensures.value in
-    rw (← read, ← c.self.view_is, c.word_of-at.ensures) (marks_more words c.args.number (omega (arith, c.requires, ap length c.self.view_is)))
+    let read = get_or_default _ at 0 _ within ∙ sym c.index_mut.ensures.value in
+    rw (← read, ← c.self.view_is, c.word_of-at.ensures) (marks_more _ _ (omega (arith, c.requires, ap length c.self.view_is)))
 
 pub returns-else-this-gt1 : goal.returns-else-this-gt1
 returns-else-this-gt1 g c =
     let words = c.self.inside.words.items in
     let at = c.word_of-at.result in
     let within : at < length words = omega (arith, c.word_of-at.ensures, c.requires, ap length c.self.view_is) in
-    let read = get_or_default words at 0 c.index_mut.result.now within ∙ sym c.index_mut.ensures.value in
-    rw (← read, ← c.self.view_is, c.word_of-at.ensures) (marks_more words c.args.number (omega (arith, c.requires, ap length c.self.view_is)))
+    let read = get_or_default _ at 0 _ within ∙ sym c.index_mut.ensures.value in
+    rw (← read, ← c.self.view_is, c.word_of-at.ensures) (marks_more _ _ (omega (arith, c.requires, ap length c.self.view_is)))

@@ -7,6 +7,6 @@ returns-in-None g c =
     let words = c.self.inside.words.items in
     let at = c.word_of-at.result in
     let within : at < length words = omega (arith, c.word_of-at.ensures, c.requires, ap length c.self.view_is) in
-    let read = ap (λ (ws : List ℕ). get_or ws at 0) (sym c.self.view_is) ∙ get_or_default words at 0 c.index.result.now within ∙ sym c.index.ensures in
+    let read = ap (λ (ws : List ℕ). get_or ws at 0) (sym c.self.view_is) ∙ get_or_default _ at 0 _ within ∙ sym c.index.ensures in
     let none = subst (λ (word : ℕ). HasNoBit word (c.args.from % 64)) (sym read) c.in-None.ensures in
-    further c.args.self.now c.args.from at c.word_of-at.ensures none c.first_behind.result c.first_behind.ensures
+    further _ _ c.word_of-at.ensures none _ c.first_behind.ensures

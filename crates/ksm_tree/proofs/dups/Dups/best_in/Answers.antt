@@ -7,9 +7,8 @@ pub bounds-counts-place : goal.bounds-counts-place
 bounds-counts-place c =
     let seen = c.self.view_is in
     let below : All (λ r. r.place < c.args.self.now.places) (rows_of c.args.self.now.dups) = rw (← seen) c.self.invariant.lawful.places_below in
-    let within = candidates_within c.args.tree c.args.bytes.now c.args.limit c.args.self.now.places c.args.self.now.dups c.places_to_join-is_chain.result.0.now c.places_to_join-is_chain.result.1 below (rw c.requires at c.places_to_join-is_chain.ensures) in
-    let here = within c.loop-place.place-index 0 (omega (arith, c.loop-place-test.true)) in
-    omega (arith, here, c.counts-counts.ensures.places, ap (λ s. s.places) seen)
+    let within = candidates_within _ _ _ _ _ _ _ below (rw c.requires at c.places_to_join-is_chain.ensures) in
+    omega (arith, c.counts-counts.ensures.places, ap (λ s. s.places) seen)
 
 pub loop-place-preserved : goal.loop-place-preserved
 loop-place-preserved c =
@@ -35,7 +34,7 @@ loop-place-preserved c =
     let is = candidate_is tree bytes limit dups places c.places_to_join-is_chain.result.1 at rise (rw c.requires at c.places_to_join-is_chain.ensures) within in
     let taken : (rival : Option Dup) → rival ≡ (if items == least then best else None) → (found : Option Dup) → found ≡ unless_behind rival (of_group tree bytes slot) → items < limit → least ≤ items → joined limit best (of_group tree bytes slot) ≡ or_else best found =
     λ rival tied found is below above.
-    stepped_to tree bytes limit best slot items least count was.1 was.0 above below
+    stepped_to tree bytes limit best slot count was.1 was.0 above below
     ∙ ap (λ r. or_else best (unless_behind r (of_group tree bytes slot))) (sym tied)
     ∙ ap (or_else best) (sym is) in
     elim c.if-items-least.branch [
@@ -45,7 +44,7 @@ loop-place-preserved c =
           let here : Some dup ≡ unless_behind rival (of_group tree bytes slot) = w.in-Some.ensures ∙ ap (unless_behind rival) is in
           let more = above_least items least limit above fits least_fits limit_fits refl (rw (← was.2) w.if-items-least.true) in
           let next = taken rival w.rival_of-rival.ensures (Some dup) here (omega (arith, more, was.2, w.if-items-least.true)) (omega (arith, more)) in
-          let has : items ≡ length dup.items = count ∙ sym (ap (λ slot. length (items_in slot)) (taken_so tree bytes rival slot dup here)) in
+          let has : items ≡ length dup.items = count ∙ sym (ap (λ slot. length (items_in slot)) (taken_so tree bytes rival slot here)) in
           rw (w.least-is, w.room-is, w.best-is) (omega (arith, more, was.0), has, refl, stepped tree bytes limit dups best (Some dup) places at within next ∙ was.3)
       | then-items-least+in_default w ↦
           let rival = option_copied w.rival_of-rival.result in
@@ -55,19 +54,18 @@ loop-place-preserved c =
           rw (w.least-is, w.room-is, w.best-is) (was.0, was.1, was.2, stepped tree bytes limit dups best best places at within next ∙ was.3)
       | else-items-least w ↦
           let outside = out_of_room items least limit above fits least_fits limit_fits refl (rw (← was.2) w.if-items-least.false) in
-          let next = passed_over_so tree bytes limit best slot (stepped_over limit best slot (rw (← count, ← was.1) outside)) in
+          let next = passed_over_so tree bytes limit slot (stepped_over limit best slot (rw (← count, ← was.1) outside)) in
           rw (w.least-is, w.room-is, w.best-is) (was.0, was.1, was.2, stepped tree bytes limit dups best best places at within next ∙ was.3)
     ]
 
 -- over all places the loop comes to the best of them
 ended : (c : After-loop-place) → option_copied c.loop-place.best ≡ best_of c.args.tree c.args.bytes.now c.args.limit c.args.self.now.dups
 ended c =
-    let places = c.places_to_join-is_chain.result.0.now in
-    let over = drop_of_length-le places {i = c.loop-place.place-index} (omega arith) in
+    let over = drop_of_length-le c.places_to_join-is_chain.result.0.now {i = c.loop-place.place-index} (omega arith) in
     let rise : InPlaceOrder (rows_of c.args.self.now.dups) = rw (← c.self.view_is) c.self.invariant.lawful.in_place_order in
     ap (folded c.args.tree c.args.bytes.now c.args.limit c.args.self.now.dups (option_copied c.loop-place.best)) (sym over)
     ∙ c.loop-place.invariant.3
-    ∙ folded_best c.args.tree c.args.bytes.now c.args.limit c.args.self.now.dups places c.places_to_join-is_chain.result.1 rise
+    ∙ folded_best _ _ _ _ _ _ rise
     (rw c.requires at c.places_to_join-is_chain.ensures)
 
 pub returns-in-Some-best : goal.returns-in-Some-best

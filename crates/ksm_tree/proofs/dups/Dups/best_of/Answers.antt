@@ -11,13 +11,13 @@ none_of (x ∷ xs) none = grind (arith, nat_tests, none)
 
 pub returns-in_err-found-clause-best : goal.returns-in_err-found-clause-best
 returns-in_err-found-clause-best c tree bytes is =
-    absurd (stands_under c.self.inside.index.groups tree bytes c.args.group (ap (λ s. number_of tree bytes s.numbers) c.self.view_is ∙ is) c.in_err-found.ensures)
+    absurd (stands_under c.self.inside.index.groups tree bytes (ap (λ s. number_of tree bytes s.numbers) c.self.view_is ∙ is) c.in_err-found.ensures)
 
 pub returns-then-is_empty-clause-best : goal.returns-then-is_empty-clause-best
 returns-then-is_empty-clause-best c tree bytes is =
     let s = c.self.inside in
-    let chain = group_here s.slots s.next s.index c.self.invariant tree bytes c.args.group c.in_ok-found.found.now (ap (λ s. number_of tree bytes s.numbers) c.self.view_is ∙ is) c.in_ok-found.ensures in
-    ap (option_map found_at) (none_best tree bytes c.args.limit s.slots.dups c.self.invariant.lawful.in_place_order (none_of _ c.if-is_empty.ensures ∙ c.as_slice-chain.ensures ∙ chain))
+    let chain = group_here c.self.invariant _ _ (ap (λ s. number_of tree bytes s.numbers) c.self.view_is ∙ is) c.in_ok-found.ensures in
+    ap (option_map found_at) (none_best _ _ _ _ c.self.invariant.lawful.in_place_order (none_of _ c.if-is_empty.ensures ∙ c.as_slice-chain.ensures ∙ chain))
     ∙ ap (λ s. option_map found_at (best_of tree bytes c.args.limit s.dups)) c.self.view_is
 
 pub best_in-requires : goal.best_in-requires
@@ -25,16 +25,16 @@ best_in-requires c =
     let s = c.self.inside in
     let g = c.in_ok-found.found.now in
     let own = (s.index.groups.lawful.numbered g.content c.args.group).1 (ap content_in (sym c.in_ok-found.ensures)) in
-    c.as_slice-chain.ensures ∙ group_here s.slots s.next s.index c.self.invariant g.content.tree g.content.bytes c.args.group g own c.in_ok-found.ensures
+    c.as_slice-chain.ensures ∙ group_here c.self.invariant _ _ own c.in_ok-found.ensures
     ∙ ap (λ s. group_places g.content.tree g.content.bytes (rows_of s.dups)) c.self.view_is
 
 pub returns-clause-best : goal.returns-clause-best
 returns-clause-best c tree bytes is =
     let s = c.self.inside in
-    let one = content_here s.slots s.next s.index c.self.invariant tree bytes c.args.group c.in_ok-found.found.now (ap (λ s. number_of tree bytes s.numbers) c.self.view_is ∙ is) c.in_ok-found.ensures in
+    let one = content_here c.self.invariant _ _ (ap (λ s. number_of tree bytes s.numbers) c.self.view_is ∙ is) c.in_ok-found.ensures in
     c.best_in.ensures ∙ ap (λ k. option_map found_at (best_of k.tree k.bytes c.args.limit c.args.self.now.dups)) one
 
 pub returns-clause-none : goal.returns-clause-none
 returns-clause-none c unused =
     let none = subst (IsUnused c.args.group) (sym (ap (λ v. v.numbers) c.self.view_is)) unused in
-    absurd (not_unused c.self.inside.index.groups c.args.group c.in_ok-found.found.now c.in_ok-found.ensures none)
+    absurd (not_unused c.self.inside.index.groups c.args.group c.in_ok-found.ensures none)

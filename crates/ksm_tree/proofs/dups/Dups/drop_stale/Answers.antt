@@ -8,8 +8,8 @@ unreachable-requires c = none_there c.args.place is_stale c.args.self.now.dups (
 pub invariant_of-self : goal.invariant_of-self
 invariant_of-self c =
     let found = sym c.in-Some.ensures in
-    let at = found_stands c.args.place c.self.inside.slots.dups c.in-Some.dup.now found in
-    rw c.clear.ensures (gone_indexed c.self.inside.slots c.self.inside.next c.self.inside.index c.remove.new.self c.args.place c.in-Some.dup.now _ c.self.invariant found at c.remove.ensures.numbers c.remove.ensures.groups c.remove.ensures.totals)
+    let at = found_stands c.self.inside.slots.dups found in
+    rw c.clear.ensures (gone_indexed c.args.place c.in-Some.dup.now _ c.self.invariant found at c.remove.ensures.numbers c.remove.ensures.groups c.remove.ensures.totals)
 
 pub remove-requires : goal.remove-requires
-remove-requires c = told c.self.inside.slots c.self.inside.next c.self.inside.index c.self.invariant c.in-Some.dup.now.row.tree c.in-Some.dup.now.row.bytes
+remove-requires c = told c.self.invariant c.in-Some.dup.now.row.tree c.in-Some.dup.now.row.bytes

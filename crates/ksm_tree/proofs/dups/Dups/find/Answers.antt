@@ -1,10 +1,9 @@
-use Rattle.ksm_tree.proofs.Names.{ap, dup_at, InPlaceOrder, rows_of, sym, ◌∙◌}
+use Rattle.ksm_tree.proofs.Names.{ap, dup_at, sym, ◌∙◌}
 use Rattle.ksm_tree.proofs.Indexed.{placed_found}
 use Rattle.ksm_tree.proofs.dups.Dups.find.Goals as goal
 
 pub returns-in-Some : goal.returns-in-Some
 returns-in-Some c =
-    let rise : InPlaceOrder (rows_of c.args.self.now.dups) = c.place.ensures.lawful.in_place_order in
     c.at.ensures
     ∙ ap (λ s. dup_at c.in-Some.place s.dups) c.self.view_is
-    ∙ sym (placed_found c.args.number c.in-Some.place c.args.self.now.dups rise c.in-Some.ensures.place)
+    ∙ sym (placed_found _ _ c.place.ensures.lawful.in_place_order c.in-Some.ensures.place)

@@ -6,7 +6,7 @@ use Rattle.ksm_tree.proofs.dups.Dups.found.Goals.{After-reserve, in-Some, in-Non
 
 -- the dups are found and counted by the index as before, with room for one more
 roomy : (c : After-reserve) → AreIndexed c.reserve.new.self c.self.inside.next c.self.inside.index
-roomy c = room_indexed c.self.inside.slots c.reserve.new.self c.self.inside.next c.self.inside.index c.reserve.ensures.kept c.self.invariant
+roomy c = room_indexed c.reserve.ensures.kept c.self.invariant
 
 seen : (c : After-reserve) → dups_seen c.reserve.new.self c.self.inside.next c.self.inside.index ≡ c.args.self.now
 seen c = ap (λ s. dups_seen s c.self.inside.next c.self.inside.index) c.reserve.ensures.kept ∙ c.self.view_is
@@ -19,21 +19,21 @@ invariant_of-self c = roomy (goal.at.invariant_of-self c).After-reserve
 
 pub invariant_of-self-in_err-add : goal.invariant_of-self-in_err-add
 invariant_of-self-in_err-add c =
-    led_indexed c.reserve.new.self c.self.inside.next c.self.inside.index c.add.new.self c.in_err-add.ensures.kept
+    led_indexed c.in_err-add.ensures.kept
     (roomy (goal.at.invariant_of-self-in_err-add c).After-reserve)
 
 pub add-requires-clause-fresh : goal.add-requires-clause-fresh
-add-requires-clause-fresh c = next_unused c.reserve.new.self c.self.inside.next c.self.inside.index (roomy (goal.at.add-requires-clause-fresh c).After-reserve)
+add-requires-clause-fresh c = next_unused (roomy (goal.at.add-requires-clause-fresh c).After-reserve)
 
 pub add-requires-clause-counted : goal.add-requires-clause-counted
 add-requires-clause-counted c =
-    told c.reserve.new.self c.self.inside.next c.self.inside.index (roomy (goal.at.add-requires-clause-counted c).After-reserve) c.args.tree c.args.bytes.now
+    told (roomy (goal.at.add-requires-clause-counted c).After-reserve) c.args.tree c.args.bytes.now
 
 pub replace-requires : goal.replace-requires
 replace-requires c =
     let here = (goal.at.replace-requires c).After-reserve in
     let dup : Dup = record { row = record { number = c.self.inside.next; place = c.args.place; tree = c.args.tree; bytes = c.args.bytes.now }; items = c.in_ok-items.items } in
-    told_between c.reserve.new.self c.self.inside.next c.self.inside.index c.add.new.self dup (roomy here) refl (within here) c.add.new.self c.in-Some.old.now c.in-Some.ensures c.in_ok-add.ensures.entered
+    told_between c.add.new.self dup (roomy here) refl (within here) c.in-Some.old.now c.in-Some.ensures c.in_ok-add.ensures.entered
 
 pub invariant_of-self-2 : goal.invariant_of-self-2
 invariant_of-self-2 c =
@@ -43,8 +43,8 @@ invariant_of-self-2 c =
     let index = c.self.inside.index in
     let dup : Dup = record { row = record { number = next; place = c.args.place; tree = c.args.tree; bytes = c.args.bytes.now }; items = c.in_ok-items.items } in
     elim c.match-old.branch [
-      | in-Some w ↦ rw (c.put.ensures, w.self-inside-is) (taken_indexed s next index w.replace.new.self dup (roomy here) refl (within here) _ c.add.new.self w.in-Some.old.now w.in-Some.ensures c.in_ok-add.ensures.entered w.replace.ensures.numbers w.replace.ensures.groups w.replace.ensures.totals)
-      | in-None w ↦ rw (c.put.ensures, w.self-inside-is) (fresh_indexed s next index c.add.new.self dup (roomy here) refl (within here) _ w.in-None.ensures c.in_ok-add.ensures.entered)
+      | in-Some w ↦ rw (c.put.ensures, w.self-inside-is) (taken_indexed w.replace.new.self dup (roomy here) refl (within here) _ w.in-Some.old.now w.in-Some.ensures c.in_ok-add.ensures.entered w.replace.ensures.numbers w.replace.ensures.groups w.replace.ensures.totals)
+      | in-None w ↦ rw (c.put.ensures, w.self-inside-is) (fresh_indexed c.add.new.self dup (roomy here) refl (within here) _ w.in-None.ensures c.in_ok-add.ensures.entered)
     ]
 
 pub returns-clause-made : goal.returns-clause-made
@@ -58,6 +58,6 @@ returns-clause-made c =
       | in-Some w ↦
           let waits : SameWaits index.groups w.replace.new.self.groups =
           (record { waiting = w.replace.ensures.waits.waiting ∙ c.add.ensures.waits.waiting; numbers = w.replace.ensures.waits.numbers ∙ c.add.ensures.waits.numbers; most = w.replace.ensures.waits.most ∙ c.add.ensures.waits.most }) in
-          c.keep_open.ensures ∙ rw (c.put.ensures, w.self-inside-is, c.in_ok-items.ensures.both) (seen_made s next index w.replace.new.self dup c.put.new.self.ready c.args.self.now seen waits)
-      | in-None w ↦ c.keep_open.ensures ∙ rw (c.put.ensures, w.self-inside-is, c.in_ok-items.ensures.both) (seen_made s next index c.add.new.self dup c.put.new.self.ready c.args.self.now seen c.add.ensures.waits)
+          c.keep_open.ensures ∙ rw (c.put.ensures, w.self-inside-is, c.in_ok-items.ensures.both) (seen_made s next index w.replace.new.self dup c.put.new.self.ready seen waits)
+      | in-None w ↦ c.keep_open.ensures ∙ rw (c.put.ensures, w.self-inside-is, c.in_ok-items.ensures.both) (seen_made s next index c.add.new.self dup c.put.new.self.ready seen c.add.ensures.waits)
     ]

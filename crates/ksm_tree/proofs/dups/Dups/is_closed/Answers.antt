@@ -9,7 +9,7 @@ none_open-requires c k d within =
     let g = c.in-Some.found.now in
     let own = (s.index.groups.lawful.numbered g.content c.args.group).1 (ap content_in (sym c.in-Some.ensures)) in
     let chain = c.as_slice-chain.ensures
-    ∙ group_here s.slots s.next s.index c.self.invariant g.content.tree g.content.bytes c.args.group g own c.in-Some.ensures in
+    ∙ group_here c.self.invariant g.content.tree g.content.bytes own c.in-Some.ensures in
     let below : All (λ p. p < s.slots.places) c.as_slice-chain.result.now =
     rw chain (places_within g.content.tree g.content.bytes s.slots.places (rows_of s.slots.dups) c.self.invariant.lawful.places_below) in
     omega (arith, below k d within, c.counts.ensures.places)
@@ -25,9 +25,9 @@ returns-then-chain-le-SHORT_CHAIN c closed t b is =
     let counts = c.counts.result.now in
     let places = c.as_slice-chain.result.now in
     let chain = c.as_slice-chain.ensures
-    ∙ group_here s.slots s.next s.index c.self.invariant t b c.args.group c.in-Some.found.now (ap (λ v. number_of t b v.numbers) c.self.view_is ∙ is) c.in-Some.ensures in
+    ∙ group_here c.self.invariant t b (ap (λ v. number_of t b v.numbers) c.self.view_is ∙ is) c.in-Some.ensures in
     let each = AllPass-from_list_all (λ p. not (is_open limit (get_or counts p 0))) places (sym c.none_open.ensures ∙ closed) in
     let none = All-weaker (λ p. not (is_open limit (get_or counts p 0)) ≡ true) (λ p. is_open limit (length (items_in (dup_at p s.slots.dups))) ≡ false)
     (λ p h. ap (is_open limit) (sym (c.counts.ensures.each p)) ∙ not_open _ h) places each in
     sym (ap (λ v. best_of t b limit v.dups) c.self.view_is)
-    ∙ closed_best t b limit s.slots.dups places c.self.invariant.lawful.in_place_order chain none
+    ∙ closed_best t b limit s.slots.dups c.self.invariant.lawful.in_place_order chain none

@@ -5,27 +5,27 @@ use Rattle.ksm_tree.proofs.dups.Dups.join_at.Goals as goal
 pub add_item-requires-clause-known : goal.add_item-requires-clause-known
 add_item-requires-clause-known c =
     let s = c.self.inside in
-    told_there c.args.dup c.in-Some.place s.slots s.next s.index c.args.self.now c.self.invariant c.self.view_is c.in-Some.ensures
+    told_there c.args.dup c.self.invariant c.self.view_is c.in-Some.ensures
 
 pub add_item-requires-clause-fewer : goal.add_item-requires-clause-fewer
 add_item-requires-clause-fewer c =
     let s = c.self.inside in
-    rw (told_items c.args.dup c.in-Some.place s.slots s.next s.index c.args.self.now c.self.invariant c.self.view_is c.in-Some.ensures) c.requires.fewer
+    rw (told_items c.args.dup c.self.invariant c.self.view_is c.in-Some.ensures) c.requires.fewer
 
 pub add_item-requires-clause-absent : goal.add_item-requires-clause-absent
 add_item-requires-clause-absent c =
     let s = c.self.inside in
-    rw (told_items c.args.dup c.in-Some.place s.slots s.next s.index c.args.self.now c.self.invariant c.self.view_is c.in-Some.ensures) c.requires.absent
+    rw (told_items c.args.dup c.self.invariant c.self.view_is c.in-Some.ensures) c.requires.absent
 
 pub invariant_of-self : goal.invariant_of-self
 invariant_of-self c =
-    room_indexed c.self.inside.slots c.add_item.new.self c.self.inside.next c.self.inside.index c.in_err-add_item-in-Some.ensures.kept c.self.invariant
+    room_indexed c.in_err-add_item-in-Some.ensures.kept c.self.invariant
 
 pub invariant_of-self-in-Some : goal.invariant_of-self-in-Some
-invariant_of-self-in-Some c = rw c.in_ok-add_item-in-Some.ensures.added (stays_indexed c.self.inside.slots c.self.inside.next c.self.inside.index c.self.invariant c.in-Some.place (with_item c.args.page) _)
+invariant_of-self-in-Some c = rw c.in_ok-add_item-in-Some.ensures.added (stays_indexed c.self.invariant c.in-Some.place _ _)
 
 pub returns-clause-joined : goal.returns-clause-joined
 returns-clause-joined c =
     let s = c.self.inside in
     ap (λ slots. dups_seen slots s.next s.index) c.in_ok-add_item-in-Some.ensures.added
-    ∙ told_changed c.args.dup c.in-Some.place s.slots s.next s.index c.args.self.now c.self.invariant c.self.view_is c.in-Some.ensures (with_item c.args.page) c.add_item.new.self.ready
+    ∙ told_changed c.args.dup c.self.invariant c.self.view_is c.in-Some.ensures (with_item c.args.page) c.add_item.new.self.ready

@@ -5,17 +5,17 @@ use Rattle.ksm_tree.proofs.dups.Dups.leave_at.Goals as goal
 pub remove_item-requires : goal.remove_item-requires
 remove_item-requires c =
     let s = c.self.inside in
-    told_there c.args.dup c.in_ok-place.place s.slots s.next s.index c.args.self.now c.self.invariant c.self.view_is c.in_ok-place.ensures
+    told_there c.args.dup c.self.invariant c.self.view_is c.in_ok-place.ensures
 
 pub invariant_of-self : goal.invariant_of-self
-invariant_of-self c = rw c.remove_item.ensures (stays_indexed c.self.inside.slots c.self.inside.next c.self.inside.index c.self.invariant c.in_ok-place.place (without_item c.args.page) _)
+invariant_of-self c = rw c.remove_item.ensures (stays_indexed c.self.invariant c.in_ok-place.place _ _)
 
 pub returns-clause-left : goal.returns-clause-left
 returns-clause-left c =
     let s = c.self.inside in
     ap (λ slots. dups_seen slots s.next s.index) c.remove_item.ensures
-    ∙ told_changed c.args.dup c.in_ok-place.place s.slots s.next s.index c.args.self.now c.self.invariant c.self.view_is c.in_ok-place.ensures (without_item c.args.page) c.remove_item.new.self.ready
+    ∙ told_changed c.args.dup c.self.invariant c.self.view_is c.in_ok-place.ensures (without_item c.args.page) c.remove_item.new.self.ready
 
 pub returns-in_err-place-clause-left : goal.returns-in_err-place-clause-left
 returns-in_err-place-clause-left c =
-    ap (λ dups. record c.args.self.now { dups = dups }) (unplaced_changed c.args.dup c.args.self.now.dups c.in_err-place.ensures (without_item c.args.page))
+    ap (λ dups. record c.args.self.now { dups = dups }) (unplaced_changed c.args.dup c.in_err-place.ensures _)

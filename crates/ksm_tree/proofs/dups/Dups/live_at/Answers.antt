@@ -4,15 +4,12 @@ use Rattle.ksm_tree.proofs.dups.Dups.live_at.Goals as goal
 
 pub returns-in-Some : goal.returns-in-Some
 returns-in-Some c =
-    let place = c.args.place in
-    let count = c.len.ensures.count in
-    let kept : c.then_some.result ≡ option_map (λ d. d.row) (passing is_live (Some c.in-Some.dup.now)) = grind (arith, nat_tests, count, c.then_some.ensures) in
+    let kept : c.then_some.result ≡ option_map (λ d. d.row) (passing is_live (Some c.in-Some.dup.now)) = grind (arith, nat_tests, c.then_some.ensures) in
     kept
-    ∙ ap (option_map (λ d. d.row)) (ap (passing is_live) c.in-Some.ensures ∙ sym (found_passing place is_live c.self.inside.slots.dups c.self.invariant.lawful.in_place_order))
-    ∙ ap (λ s. option_map (λ d. d.row) (find (λ d. stands_at place d && is_live d) s.dups)) c.self.view_is
+    ∙ ap (option_map (λ d. d.row)) (ap (passing is_live) c.in-Some.ensures ∙ sym (found_passing _ _ _ c.self.invariant.lawful.in_place_order))
+    ∙ ap (λ s. option_map (λ d. d.row) (find (λ d. stands_at c.args.place d && is_live d) s.dups)) c.self.view_is
 
 pub returns-in-None : goal.returns-in-None
 returns-in-None c =
-    let place = c.args.place in
-    ap (option_map (λ d. d.row)) (ap (passing is_live) c.in-None.ensures ∙ sym (found_passing place is_live c.self.inside.slots.dups c.self.invariant.lawful.in_place_order))
-    ∙ ap (λ s. option_map (λ d. d.row) (find (λ d. stands_at place d && is_live d) s.dups)) c.self.view_is
+    ap (option_map (λ d. d.row)) (ap (passing is_live) c.in-None.ensures ∙ sym (found_passing _ _ _ c.self.invariant.lawful.in_place_order))
+    ∙ ap (λ s. option_map (λ d. d.row) (find (λ d. stands_at c.args.place d && is_live d) s.dups)) c.self.view_is

@@ -5,5 +5,5 @@ use Rattle.ksm_tree.proofs.dups.Dups.place.Goals as goal
 pub returns-clause-place : goal.returns-clause-place
 returns-clause-place c =
     c.place.ensures
-    ∙ indexed_place c.self.inside.slots c.self.inside.next c.self.inside.index c.self.invariant c.args.dup
+    ∙ indexed_place c.self.invariant _
     ∙ ap (λ s. option_map (λ d. d.row.place) (dup_of c.args.dup s.dups)) c.self.view_is

@@ -4,5 +4,5 @@ use Rattle.ksm_tree.proofs.dups.Dups.place_by.Goals as goal
 
 pub returns-in-Some : goal.returns-in-Some
 returns-in-Some c =
-    stands_numbered c.args.guess c.args.dup c.self.inside.slots.dups c.in-Some.found.now c.self.invariant.lawful.in_place_order (sym c.in-Some.ensures) c.if-found-dup.true
+    stands_numbered _ _ _ _ c.self.invariant.lawful.in_place_order (sym c.in-Some.ensures) c.if-found-dup.true
     ∙ ap (λ s. option_map (λ d. d.row.place) (dup_of c.args.dup s.dups)) c.self.view_is

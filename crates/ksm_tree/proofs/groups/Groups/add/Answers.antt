@@ -3,7 +3,7 @@ use Rattle.ksm_tree.proofs.Standing.{rechained, rewritten, same_waiting, stands_
 use Rattle.ksm_tree.proofs.groups.Groups.add.Goals as goal
 
 pub unreachable-requires-in_default-get_mut : goal.unreachable-requires-in_default-get_mut
-unreachable-requires-in_default-get_mut c = stands_under c.args.self.now c.args.tree c.args.bytes.now c.in-Some.number (sym c.in-Some.ensures) c.in_default-get_mut.ensures.value
+unreachable-requires-in_default-get_mut c = stands_under c.args.self.now _ _ (sym c.in-Some.ensures) c.in_default-get_mut.ensures.value
 
 pub invariant_of-self : goal.invariant_of-self
 invariant_of-self c =
@@ -15,7 +15,7 @@ invariant_of-self c =
 pub returns-in_err-reserve-clause-waits : goal.returns-in_err-reserve-clause-waits
 returns-in_err-reserve-clause-waits c =
     let now : Group = record c.in-Some-get_mut.group.now { places = c.reserve.new.self } in
-    record { waiting = same_waiting c.args.self.now c.in-Some.number _ now c.in-Some-get_mut.ensures.value refl refl; numbers = refl; most = refl }
+    record { waiting = same_waiting c.args.self.now _ _ now c.in-Some-get_mut.ensures.value refl refl; numbers = refl; most = refl }
 
 pub invariant_of-self-2 : goal.invariant_of-self-2
 invariant_of-self-2 c =
@@ -33,4 +33,4 @@ returns-clause-added c =
 pub returns-clause-waits : goal.returns-clause-waits
 returns-clause-waits c =
     let now : Group = record c.in-Some-get_mut.group.now { places = c.insert.new.self } in
-    record { waiting = same_waiting c.args.self.now c.in-Some.number _ now c.in-Some-get_mut.ensures.value refl refl; numbers = refl; most = refl }
+    record { waiting = same_waiting c.args.self.now _ _ now c.in-Some-get_mut.ensures.value refl refl; numbers = refl; most = refl }

@@ -7,13 +7,13 @@ use Rattle.ksm_tree.proofs.groups.Groups.enter.Goals as goal
 use Rattle.ksm_tree.proofs.groups.Groups.enter.Goals.{After-insert_reserved}
 
 pub returns-in_err-reserve_one-clause-absent : goal.returns-in_err-reserve_one-clause-absent
-returns-in_err-reserve_one-clause-absent c = on_err _ (none_here c.args.self.now c.args.tree c.args.bytes.now c.requires)
+returns-in_err-reserve_one-clause-absent c = on_err _ (none_here c.args.self.now _ _ c.requires)
 
 pub returns-in_default-clause-absent : goal.returns-in_default-clause-absent
-returns-in_default-clause-absent c = none_here c.args.self.now c.args.tree c.args.bytes.now c.requires
+returns-in_default-clause-absent c = none_here c.args.self.now _ _ c.requires
 
 pub returns-in_err-insert-clause-absent : goal.returns-in_err-insert-clause-absent
-returns-in_err-insert-clause-absent c = on_err _ (none_here c.args.self.now c.args.tree c.args.bytes.now c.requires)
+returns-in_err-insert-clause-absent c = on_err _ (none_here c.args.self.now _ _ c.requires)
 
 entered : (c : After-insert_reserved) → Entered c.args.self.now c.insert_reserved.new.self c.insert.new.self
 entered c =
@@ -22,7 +22,7 @@ entered c =
     let key : c.insert_reserved.result ≡ c.in-Ok.number = search rules in
     let vacant = ap (λ n. get c.reserve_one.new.slab n) (sym key) ∙ c.insert_reserved.ensures.was_vacant in
     let fills = subst (λ n. Fills c.reserve_one.new.slab c.insert_reserved.new.self n (Some fresh)) key c.insert_reserved.ensures.updates in
-    entered_fresh c.args.self.now c.reserve_one.new.slab c.insert_reserved.new.self c.insert.new.self k c.in-Ok.number fresh c.reserve_one.ensures.rest c.requires vacant
+    entered_fresh _ _ _ c.reserve_one.ensures.rest c.requires vacant
     c.in_ok-insert.ensures.updates fills refl refl c.new.ensures.none
 
 pub invariant_of-self-2 : goal.invariant_of-self-2

@@ -4,4 +4,4 @@ use Rattle.ksm_tree.proofs.groups.Groups.forget_pass.Goals as goal
 
 pub invariant_of-self : goal.invariant_of-self
 invariant_of-self c =
-    record { lawful = rewritten c.args.self.now c.args.number _ (record c.in-Some.group.now { pass = 0 }) c.in-Some.ensures.value refl (omega arith); bounded = c.args.self.now.bounded }
+    record { lawful = rewritten c.args.self.now _ _ _ c.in-Some.ensures.value refl (omega arith); bounded = c.args.self.now.bounded }

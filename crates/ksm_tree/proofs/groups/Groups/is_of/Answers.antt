@@ -4,4 +4,4 @@ use Rattle.ksm_tree.proofs.groups.Groups.is_of.Goals as goal
 
 pub returns-then-group-tree : goal.returns-then-group-tree
 returns-then-group-tree c is =
-    sym (guessed c.args.self.now c.args.number c.in-Some.group.now c.args.tree c.args.bytes.now c.in-Some.ensures c.if-group-tree.true (sym is ∙ c.eq.ensures))
+    sym (guessed c.args.self.now _ c.in-Some.ensures c.if-group-tree.true (sym is ∙ c.eq.ensures))

@@ -4,10 +4,10 @@ use Rattle.ksm_tree.proofs.Used.{reserve_left}
 use Rattle.ksm_tree.proofs.groups.Groups.search_or_enter.Goals as goal
 
 pub returns-in-Some-clause-reserve : goal.returns-in-Some-clause-reserve
-returns-in-Some-clause-reserve c = reserve_left c.args.self.now c.make_room.new.self c.args.tree c.args.bytes.now c.make_room.ensures.room
+returns-in-Some-clause-reserve c = reserve_left c.args.self.now c.make_room.ensures.room
 
 pub returns-in-None-2-clause-reserve : goal.returns-in-None-2-clause-reserve
-returns-in-None-2-clause-reserve c = reserve_left c.args.self.now c.make_room.new.self c.args.tree c.args.bytes.now c.make_room.ensures.room
+returns-in-None-2-clause-reserve c = reserve_left c.args.self.now c.make_room.ensures.room
 
 pub returns-in-None-2-clause-absent : goal.returns-in-None-2-clause-absent
 returns-in-None-2-clause-absent c =

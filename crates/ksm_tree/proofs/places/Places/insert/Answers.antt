@@ -21,5 +21,5 @@ returns-then-not-stands_at-clause-with c = inserted (goal.at.returns-then-not-st
 
 pub returns-else-not-stands_at-clause-with : goal.returns-else-not-stands_at-clause-with
 returns-else-not-stands_at-clause-with c =
-    with_found places_ordered c.args.place c.args.self.now.list.items c.args.self.now.ascending
+    with_found places_ordered _ _ c.args.self.now.ascending
     (sym (c.if-not-stands_at.ensures.found ∙ ap (λ ps. list_any (λ p. p == c.args.place) ps) c.as_slice-places.ensures))

@@ -7,13 +7,13 @@ taken : (c : After-remove) → c.remove.new.self.items ≡ without c.args.place 
 taken c =
     let seen = c.as_slice-places.ensures in
     c.remove.ensures.items
-    ∙ remove_at places_ordered (λ p. p) c.args.place c.args.self.now.list.items c.args.self.now.ascending seen seen c.place_in-at.ensures.count 0
+    ∙ remove_at places_ordered (λ p. p) c.args.place _ c.args.self.now.ascending seen seen c.place_in-at.ensures.count 0
     (c.if-stands_at.ensures.within refl) (c.if-stands_at.ensures.here refl 0)
 
 pub invariant_of-self : goal.invariant_of-self
 invariant_of-self c =
     let is = taken (goal.at.invariant_of-self c).After-remove in
-    record { ascending = rw is (without_rises places_ordered (λ p. p) c.args.place c.args.self.now.list.items c.args.self.now.ascending) }
+    record { ascending = rw is (without_rises places_ordered (λ p. p) c.args.place _ c.args.self.now.ascending) }
 
 pub returns-then-stands_at-clause-without : goal.returns-then-stands_at-clause-without
 returns-then-stands_at-clause-without c = taken (goal.at.returns-then-stands_at-clause-without c).After-remove

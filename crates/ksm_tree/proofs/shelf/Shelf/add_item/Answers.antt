@@ -5,23 +5,23 @@ use Rattle.ksm_tree.proofs.shelf.Shelf.add_item.Goals.{In-Some}
 
 pub index-key-requires : goal.index-key-requires
 index-key-requires c =
-    omega (arith, filled_key c.args.place c.self.inside.keys.items c.self.inside.dups c.args.self.now c.self.view_is c.requires.known, c.self.inside.keys.ok.0)
+    omega (arith, filled_key _ _ _ c.self.view_is c.requires.known, c.self.inside.keys.ok.0)
 
 pub unreachable-requires : goal.unreachable-requires
 unreachable-requires c =
-    not_none c.args.place c.self.inside.keys.items c.self.inside.dups c.args.self.now c.self.view_is c.index-key.result.now
-    (key_read c.args.place c.self.inside.keys.items c.self.inside.dups c.args.self.now c.self.view_is c.index-key.result.now c.index-key.ensures c.requires.known)
+    not_none _ _ _ c.self.view_is
+    (key_read _ _ _ c.self.view_is c.index-key.ensures c.requires.known)
     c.requires.known c.in-None.ensures.value
 
 -- the key is that of the place
 read : (c : In-Some) → c.index-key.result.now ≡ get_or c.self.inside.keys.items c.args.place 0
 read c =
-    key_read c.args.place c.self.inside.keys.items c.self.inside.dups c.args.self.now c.self.view_is c.index-key.result.now c.index-key.ensures c.requires.known
+    key_read _ _ _ c.self.view_is c.index-key.ensures c.requires.known
 
 -- the items at the place are those of the dup
 items : (c : In-Some) → items_in (get_or c.args.self.now.slots c.args.place None) ≡ c.in-Some.kept.now.dup.items
 items c =
-    items_there c.args.place c.self.inside.keys.items c.self.inside.dups c.args.self.now c.self.view_is c.index-key.result.now c.in-Some.kept.now
+    items_there _ _ _ c.self.view_is
     (read c) c.requires.known c.in-Some.ensures.value
 
 pub add-requires-clause-fewer : goal.add-requires-clause-fewer

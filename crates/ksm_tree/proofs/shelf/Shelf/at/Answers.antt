@@ -5,17 +5,15 @@ use Rattle.ksm_tree.proofs.shelf.Shelf.at.Goals.{In_ok-key}
 
 pub returns-in_err-key : goal.returns-in_err-key
 returns-in_err-key c =
-    let none = c.in_err-key.ensures.lookup.0 in
-    let past : length c.self.inside.keys.items ≤ c.args.place = grind (arith, nat_tests, none, c.deref.ensures.value) in
-    ap option_copied c.from_residual.ensures ∙ seen_past c.args.place c.self.inside.keys.items c.self.inside.dups c.args.self.now c.self.view_is past
+    let past : length c.self.inside.keys.items ≤ c.args.place = grind (arith, nat_tests, c.deref.ensures.value) in
+    ap option_copied c.from_residual.ensures ∙ seen_past _ _ _ c.self.view_is past
 
 -- what is at the place lies under its key
 seen : (c : In_ok-key) → kept_at c.args.place (get c.self.inside.dups c.in_ok-key.field-0.now) ≡ get_or c.args.self.now.slots c.args.place None
 seen c =
-    let keys = c.self.inside.keys.items in
     let place = c.args.place in
-    let within : place < length keys = omega (arith, c.in_ok-key.ensures.lookup.3.0, ap length c.deref.ensures.value) in
-    seen_by place keys c.self.inside.dups c.args.self.now c.self.view_is c.in_ok-key.field-0.now within
+    let within : place < length c.self.inside.keys.items = omega (arith, c.in_ok-key.ensures.lookup.3.0, ap length c.deref.ensures.value) in
+    seen_by _ _ _ c.self.view_is within
     (c.in_ok-key.ensures.lookup.3.1 0 ∙ ap (λ l. get_or l place 0) c.deref.ensures.value)
 
 pub returns-in_err-kept : goal.returns-in_err-kept
@@ -24,12 +22,12 @@ returns-in_err-kept c =
 
 pub returns-then-kept-place : goal.returns-then-kept-place
 returns-then-kept-place c =
-    sym (at_here c.args.place c.in_ok-kept.kept.now c.if-kept-place.true)
+    sym (at_here c.in_ok-kept.kept.now c.if-kept-place.true)
     ∙ ap (kept_at c.args.place) c.in_ok-kept.ensures
     ∙ seen (goal.at.returns-then-kept-place c).In_ok-key
 
 pub returns-else-kept-place : goal.returns-else-kept-place
 returns-else-kept-place c =
-    sym (at_other c.args.place c.in_ok-kept.kept.now c.if-kept-place.false)
+    sym (at_other _ c.in_ok-kept.kept.now c.if-kept-place.false)
     ∙ ap (kept_at c.args.place) c.in_ok-kept.ensures
     ∙ seen (goal.at.returns-else-kept-place c).In_ok-key

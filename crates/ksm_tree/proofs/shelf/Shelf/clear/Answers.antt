@@ -5,16 +5,14 @@ use Rattle.ksm_tree.proofs.shelf.Shelf.clear.Goals.{Then-is_some}
 
 -- a dup is at the place
 there : (c : Then-is_some) → is_some (get_or c.args.self.now.slots c.args.place None) ≡ true
-there c = let found = c.if-is_some.true in grind (arith, c.at.ensures, found)
+there c = grind (arith, c.at.ensures)
 
 pub index-key-requires : goal.index-key-requires
 index-key-requires c =
-    omega (arith, filled_key c.args.place c.self.inside.keys.items c.self.inside.dups c.args.self.now c.self.view_is (there (goal.at.index-key-requires c).Then-is_some), c.self.inside.keys.ok.0)
+    omega (arith, filled_key _ _ _ c.self.view_is (there (goal.at.index-key-requires c).Then-is_some), c.self.inside.keys.ok.0)
 
 pub returns-then-is_some-clause-slots : goal.returns-then-is_some-clause-slots
 returns-then-is_some-clause-slots c =
     let there = there (goal.at.returns-then-is_some-clause-slots c).Then-is_some in
-    let keys = c.self.inside.keys.items in
-    let old = c.self.inside.dups in
-    emptied c.args.place c.index-key.result.now keys old c.try_remove.new.self c.args.self.now c.self.view_is
-    (key_read c.args.place keys old c.args.self.now c.self.view_is c.index-key.result.now c.index-key.ensures there) there c.try_remove.ensures.updates
+    emptied c.args.place c.self.inside.keys.items c.args.self.now c.self.view_is
+    (key_read _ _ c.self.inside.dups c.self.view_is c.index-key.ensures there) there c.try_remove.ensures.updates

@@ -8,7 +8,7 @@ use Rattle.ksm_tree.proofs.shelf.Shelf.put.Goals.{After-insert_reserved-key}
 within : (c : After-insert_reserved-key) → c.args.dup.row.place < length c.self.inside.keys.items
 within c =
     let slots = ap length c.clear.ensures.slots ∙ length-set c.args.self.now.slots c.args.dup.row.place None in
-    omega (arith, c.requires.place, slots, many c.args.dup.row.place c.self.inside.keys.items c.self.inside.dups c.clear.new.self c.self.view_is)
+    omega (arith, c.requires.place, slots, many c.args.dup.row.place c.self.inside.keys.items c.self.inside.dups c.self.view_is)
 
 pub index_mut-requires : goal.index_mut-requires
 index_mut-requires c = omega (arith, within (goal.at.index_mut-requires c).After-insert_reserved-key, c.self.inside.keys.ok.0)
@@ -20,4 +20,4 @@ returns c =
     filled place c.insert_reserved-key.result c.self.inside.keys.items c.self.inside.dups c.insert_reserved-key.new.self c.clear.new.self c.self.view_is kept refl
     (within (goal.at.returns c).After-insert_reserved-key) c.insert_reserved-key.ensures.was_vacant c.insert_reserved-key.ensures.updates
     ∙ ap (λ l. set l place (Some c.args.dup)) c.clear.ensures.slots
-    ∙ set-set c.args.self.now.slots place None (Some c.args.dup)
+    ∙ set-set c.args.self.now.slots place None _

@@ -5,23 +5,23 @@ use Rattle.ksm_tree.proofs.shelf.Shelf.remove_item.Goals.{In-Some}
 
 pub index-key-requires : goal.index-key-requires
 index-key-requires c =
-    omega (arith, filled_key c.args.place c.self.inside.keys.items c.self.inside.dups c.args.self.now c.self.view_is c.requires, c.self.inside.keys.ok.0)
+    omega (arith, filled_key _ _ _ c.self.view_is c.requires, c.self.inside.keys.ok.0)
 
 pub unreachable-requires : goal.unreachable-requires
 unreachable-requires c =
-    not_none c.args.place c.self.inside.keys.items c.self.inside.dups c.args.self.now c.self.view_is c.index-key.result.now
-    (key_read c.args.place c.self.inside.keys.items c.self.inside.dups c.args.self.now c.self.view_is c.index-key.result.now c.index-key.ensures c.requires)
+    not_none _ _ _ c.self.view_is
+    (key_read _ _ _ c.self.view_is c.index-key.ensures c.requires)
     c.requires c.in-None.ensures.value
 
 -- the key is that of the place
 read : (c : In-Some) → c.index-key.result.now ≡ get_or c.self.inside.keys.items c.args.place 0
 read c =
-    key_read c.args.place c.self.inside.keys.items c.self.inside.dups c.args.self.now c.self.view_is c.index-key.result.now c.index-key.ensures c.requires
+    key_read _ _ _ c.self.view_is c.index-key.ensures c.requires
 
 -- the items at the place are those of the dup
 items : (c : In-Some) → items_in (get_or c.args.self.now.slots c.args.place None) ≡ c.in-Some.kept.now.dup.items
 items c =
-    items_there c.args.place c.self.inside.keys.items c.self.inside.dups c.args.self.now c.self.view_is c.index-key.result.now c.in-Some.kept.now
+    items_there _ _ _ c.self.view_is
     (read c) c.requires c.in-Some.ensures.value
 
 pub returns-then-not-remove-clause-removed : goal.returns-then-not-remove-clause-removed
@@ -37,8 +37,7 @@ returns-then-not-remove-clause-removed c =
 
 pub returns-then-not-remove-clause-count : goal.returns-then-not-remove-clause-count
 returns-then-not-remove-clause-count c =
-    let none = c.if-not-remove.ensures.found in
-    rw (items (goal.at.returns-then-not-remove-clause-count c).In-Some, ← none) refl
+    rw (items (goal.at.returns-then-not-remove-clause-count c).In-Some, ← c.if-not-remove.ensures.found) refl
 
 pub returns-clause-removed : goal.returns-clause-removed
 returns-clause-removed c =
@@ -53,6 +52,5 @@ returns-clause-removed c =
 
 pub returns-clause-count : goal.returns-clause-count
 returns-clause-count c =
-    let found = c.if-not-remove.ensures.found in
     let count = c.len.ensures.count ∙ ap length c.remove.ensures.removed in
-    rw (items (goal.at.returns-clause-count c).In-Some, ← found, count) refl
+    rw (items (goal.at.returns-clause-count c).In-Some, ← c.if-not-remove.ensures.found, count) refl

@@ -3,4 +3,4 @@ use Rattle.ksm_tree.proofs.OneSlot.{seen_slot}
 use Rattle.ksm_tree.proofs.slots.Slots.at.Goals as goal
 
 pub returns : goal.returns
-returns c = c.at.ensures ∙ sym (seen_slot c.args.place c.self.inside.dups c.args.self.now c.self.view_is c.self.invariant.placed)
+returns c = c.at.ensures ∙ sym (seen_slot _ c.self.inside.dups c.self.view_is c.self.invariant.placed)

@@ -4,6 +4,6 @@ use Rattle.ksm_tree.proofs.slots.Slots.first_empty.Goals as goal
 
 pub returns : goal.returns
 returns c =
-    first_empty c.self.inside.dups.slots c.self.inside.counts c.self.inside.empty c.self.inside.stale c.self.invariant c.least.result
+    first_empty c.self.invariant c.least.result
     (rw c.len.ensures at c.least.ensures)
     ∙ ap (λ s. empty_place s.places (rows_of s.dups)) c.self.view_is

@@ -4,6 +4,6 @@ use Rattle.ksm_tree.proofs.slots.Slots.first_stale.Goals as goal
 
 pub returns : goal.returns
 returns c =
-    first_stale c.self.inside.dups.slots c.self.inside.counts c.self.inside.empty c.self.inside.stale c.self.invariant c.least.result
+    first_stale c.self.invariant c.least.result
     (rw c.len.ensures at c.least.ensures)
     ∙ ap (λ s. option_map (λ d. d.row.place) (find is_stale s.dups)) c.self.view_is

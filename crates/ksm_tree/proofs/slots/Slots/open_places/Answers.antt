@@ -6,6 +6,6 @@ pub returns : goal.returns
 returns c =
     let seen =
     ap (places_where (is_open c.args.limit) 0) c.self.invariant.counted
-    ∙ open_seen c.args.limit 0 c.self.inside.dups.slots c.self.invariant.placed
+    ∙ open_seen _ 0 c.self.inside.dups.slots c.self.invariant.placed
     ∙ ap (λ s. places_open c.args.limit s.dups) c.self.view_is in
     rw (← seen) c.open_places.ensures

@@ -4,4 +4,4 @@ use Rattle.ksm_tree.proofs.waiting.Waiting.find.Goals as goal
 
 pub returns-in_err-number : goal.returns-in_err-number
 returns-in_err-number c =
-    c.from_residual.ensures ∙ sym (none_here c.self.inside.groups c.args.tree c.args.bytes.now (sym c.in_err-number.ensures)) ∙ ap (waiting_page c.args.tree c.args.bytes.now) c.self.view_is
+    c.from_residual.ensures ∙ sym (none_here c.self.inside.groups _ _ (sym c.in_err-number.ensures)) ∙ ap (waiting_page c.args.tree c.args.bytes.now) c.self.view_is
