@@ -389,8 +389,7 @@ impl<N: Naming> Session<N> {
         tell_other::<P, S>(to, answer)
     }
 
-    // Makes a command. Inlined for speed: so its answer is told where it arises, and not packed for the way there.
-    #[inline(always)]
+    // Makes a command.
     fn apply<R: Wait>(&mut self, rt: &R, command: &Command) -> Result<Reply, Fault>
         ensures answers { Commands command.now self.old.state (Some (reply_to result)) self.new.state }
     {
