@@ -87,7 +87,7 @@ impl Due {
 
     /// No page is due yet. So many may become so: where there are more, a pass may as well visit all pages.
     pub fn begin(&mut self, room: usize)
-        ensures { self.new.pages ≡ [] }
+        ensures { self.new ≡ record { pages = []; known = true; ready = true } }
     {
         self.order = Order::new(self.alloc);
         self.added.clear();

@@ -1,4 +1,4 @@
-use Rattle.ksm_book.proofs.Names.{AreDue, part_visited, subst, sym, ◌∙◌}
+use Rattle.ksm_book.proofs.Names.{ap, AreDue, DueView, part_visited, subst, sym, ◌∙◌}
 use Rattle.ksm_book.specs.Scanned.{HasVisited}
 use Rattle.ksm_book.proofs.Dues.{same_due}
 use Rattle.ksm_book.proofs.DueSteps.{begun_cursor, part_stopped, part_visits}
@@ -19,7 +19,7 @@ returns-else-whole-2-clause-visited c = visits (goal.at.returns-else-whole-2-cla
 pub returns-then-quiet-clause-due : goal.returns-then-quiet-clause-due
 returns-then-quiet-clause-due c = λ _.
     let whole = c.is_whole-whole.ensures c.if-whole-2.true in
-    subst (AreDue c.visit_up_to.new.self.state) (sym c.begin.ensures)
+    subst (AreDue c.visit_up_to.new.self.state) (sym (ap (λ (d : DueView). d.pages) c.begin.ensures))
     (c.in-Ok.ensures.due c.if-quiet.true
     (begun_cursor c.args.self.now c.begin_pass.new.self c.begin_pass.ensures.comes ∙ whole.0) whole.1)
 
