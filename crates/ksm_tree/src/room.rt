@@ -1,6 +1,6 @@
 //! Room for one value more. A small slab doubles; a large one grows by a quarter, so that it leaves less of it empty.
 
-ghost use Rattle.std.specs.Prelude.{◌≡◌, IfErr, OnOk};
+ghost use Rattle.std.specs.Prelude.{◌≡◌, IfErr, IsOk, OnOk};
 ghost use Rattle.slab.specs.Slab.{HasRoomFor};
 
 use ksm_base::Fault;
@@ -12,6 +12,7 @@ const LARGE: usize = 65_536;
 /// Takes room for one value more, or for more of them. The one fault is `Memory`.
 pub fn reserve_one<T>(slab: &mut Slab<T>) -> Result<(), Fault>
     ensures room { OnOk result (HasRoomFor slab.new 1) }
+    ensures succeeds { HasRoomFor slab.old 1 → IsOk result }
     ensures rest { slab.new ≡ record slab.old { capacity = slab.new.capacity } }
     ensures memory { IfErr result (λ fault. fault ≡ Fault.Memory) }
 {
