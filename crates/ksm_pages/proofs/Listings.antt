@@ -1,5 +1,5 @@
 -- The pages that a visit may change, once a page is listed, or is not any more.
-use Rattle.ksm_pages.proofs.Names.{any-filter_same, ap, ap₂, arith, Bool, cases_Bool, comes_before, false, filter, GuestPage, has_item, inl, inr, List, list_any-append, not, one_before, same_page, same_page_eq, same_page_refl, true, with_item, without_item, ◌&&◌, ◌||◌, ◌∙◌, ◌∷◌, ◌≡◌, ◌⊎◌}
+use Rattle.ksm_pages.proofs.Names.{any-filter_same, ap, ap₂, arith, Bool, cases_Bool, comes_before, filter, GuestPage, has_item, inl, inr, List, list_any-append, not, one_before, same_page, same_page_eq, true, with_item, ◌&&◌, ◌||◌, ◌∙◌, ◌∷◌, ◌≡◌, ◌⊎◌}
 
 -- what a search for a page finds of a part of a list
 part_has : (test : GuestPage → Bool) (p : GuestPage) (pages : List GuestPage) → has_item p (filter test pages) ≡ (test p && has_item p pages)
@@ -20,11 +20,3 @@ with_has p q pages either =
         ]
       ]
     ]
-
--- a list without a page has the others
-pub without_has : (p q : GuestPage) (pages : List GuestPage) → same_page p q ≡ false → has_item p pages ≡ true → has_item p (without_item q pages) ≡ true
-without_has p q pages differ has = part_has (λ x. not (same_page x q)) p pages ∙ ap₂ (λ a b. not a && b) differ has
-
--- a list without a page does not have that page
-pub without_lacks : (p : GuestPage) (pages : List GuestPage) → has_item p (without_item p pages) ≡ false
-without_lacks p pages = part_has (λ x. not (same_page x p)) p pages ∙ ap (λ same. not same && has_item p pages) (same_page_refl p)

@@ -1,6 +1,7 @@
 -- Spots in the order of their pages: the pages of them, once one was put in, written or taken away.
-use Rattle.ksm_pages.proofs.Names.{[], add-one, and_parts, ap, append-nil, append_assoc, ap₂, AreInOrder, arith, Bool, cases_Bool, comes_before, cond_both, drop, drop_all, Entry, false, filter, find, find_filter, find_passes, get, get_or, get_or_default, GuestPage, has_item, if◌then◌else◌, inl, inr, insert, is_restless, is_some, is_useless, IsCalm, length, length-append, length-map, length-take-le, List, map, map-append, None, not, not-true, Option, pages_of, pages_ordered, point_is_count, refl, same_page, same_page_eq, set, Slab, Some, Spot, subst, sym, take, true, true≢false, with_found, with_item, ℕ, ◌++◌, ◌+◌, ◌-◌, ◌<◌, ◌∙◌, ◌∷◌, ◌≡◌, ◌≤◌, ◌⊎◌}
+use Rattle.ksm_pages.proofs.Names.{[], add-one, ap, append-nil, append_assoc, ap₂, AreInOrder, arith, Bool, cases_Bool, comes_before, cond_both, drop, drop_all, Entry, false, filter, find, find_filter, find_passes, get, get_or, get_or_default, GuestPage, has_item, if◌then◌else◌, inl, inr, insert, is_of, is_restless, is_some, is_useless, IsInVain, length, length-append, length-map, length-take-le, List, map, map-append, Named, None, not, not-true, Option, pages_of, pages_ordered, point_is_count, refl, same_page, same_page_eq, set, Slab, Some, Spot, subst, sym, take, true, true≢false, with_found, with_item, ℕ, ◌++◌, ◌+◌, ◌-◌, ◌<◌, ◌∙◌, ◌∷◌, ◌≡◌, ◌≤◌, ◌⊎◌}
 use Rattle.std.specs.List.{copy_within}
+use Rattle.std.specs.Option.{is_none}
 use Rattle.std.proofs.Math.Seq.{take-append_seam, take-suc}
 use Rattle.std.proofs.lemmas.Bool.{false_from_ne_true}
 use Rattle.std.proofs.lemmas.List.{drop-take, set_at, take-append-le}
@@ -62,31 +63,47 @@ module _ (spot : Spot) (spots : List Spot) (rise : AreInOrder spots) where
   pub written_pages : has_item spot.page (pages_of spots) ≡ true → pages_of written ≡ with_item spot.page (pages_of spots)
   written_pages has = same_pages ∙ with_found pages_ordered spot.page (pages_of spots) (pages_rise spots rise) has
 
--- a page that is swept out of the list has a row that no visit changes
-calm_of : (entries : Slab Entry) (s : Spot) → is_useless s (get entries s.key) ≡ true → IsCalm entries s.page
-calm_of entries s useless = go (get entries s.key) refl useless
-  where
-    go : (o : Option Entry) → get entries s.key ≡ o → is_useless s o ≡ true → IsCalm entries s.page
-    go None is none = absurd (true≢false (sym none))
-    go (Some e) is both =
-        let parts = and_parts (same_page e.page s.page) (not (is_restless e)) both in
-        record { key = s.key; entry = e; stands = is; of_page = same_page_eq e.page s.page parts.0; calm = not-true (is_restless e) parts.1 }
+no_value : {X : Type 0} (found : Option X) → is_none found ≡ true → found ≡ None
+no_value None is = refl
+no_value (Some x) is = absurd (true≢false (sym is))
 
--- a page of the spots stays once useless spots are swept out, or no visit changes its row
-pub swept : (entries : Slab Entry) (spots : List Spot) (page : GuestPage) → has_item page (pages_of spots) ≡ true
-    → (has_item page (pages_of (filter (λ s. not (is_useless s (get entries s.key))) spots)) ≡ true) ⊎ IsCalm entries page
-swept entries spots page has = go (find it spots) refl (sym (listed_found page spots) ∙ has)
+-- a page that is swept out of the list is there in vain
+vain_of : (entries : Slab Entry) (order : List Named) (s : Spot) → is_useless order s (get entries s.key) ≡ true → IsInVain entries order s.page
+vain_of entries order s useless = go (get entries s.key) refl useless
+  where
+    unnamed : is_none (find (is_of s.page) order) ≡ true → IsInVain entries order s.page
+    unnamed none = inl (no_value (find (is_of s.page) order) none)
+
+    go : (o : Option Entry) → get entries s.key ≡ o → is_useless order s o ≡ true → IsInVain entries order s.page
+    go None is none = unnamed none
+    go (Some e) is useless =
+        let either : Bool → Bool = λ same. if same then not (is_restless e) else is_none (find (is_of s.page) order) in
+        elim (cases_Bool (same_page e.page s.page)) [
+          | inl same ↦ inr (record {
+              key = s.key;
+              entry = e;
+              stands = is;
+              of_page = same_page_eq e.page s.page same;
+              calm = not-true (is_restless e) (sym (ap either same) ∙ useless);
+            })
+          | inr other ↦ unnamed (sym (ap either other) ∙ useless)
+        ]
+
+-- a page of the spots stays once useless spots are swept out, or is there in vain
+pub swept : (entries : Slab Entry) (order : List Named) (spots : List Spot) (page : GuestPage) → has_item page (pages_of spots) ≡ true
+    → (has_item page (pages_of (filter (λ s. not (is_useless order s (get entries s.key))) spots)) ≡ true) ⊎ IsInVain entries order page
+swept entries order spots page has = go (find it spots) refl (sym (listed_found page spots) ∙ has)
   where
     it : Spot → Bool
     it s = same_page s.page page
 
     keeps : Spot → Bool
-    keeps s = not (is_useless s (get entries s.key))
+    keeps s = not (is_useless order s (get entries s.key))
 
-    go : (o : Option Spot) → find it spots ≡ o → is_some o ≡ true → (has_item page (pages_of (filter keeps spots)) ≡ true) ⊎ IsCalm entries page
+    go : (o : Option Spot) → find it spots ≡ o → is_some o ≡ true → (has_item page (pages_of (filter keeps spots)) ≡ true) ⊎ IsInVain entries order page
     go None is none = absurd (true≢false (sym none))
-    go (Some s) is some = elim (cases_Bool (is_useless s (get entries s.key))) [
-      | inl useless ↦ inr (subst (IsCalm entries) (same_page_eq s.page page (find_passes it spots s is)) (calm_of entries s useless))
+    go (Some s) is some = elim (cases_Bool (is_useless order s (get entries s.key))) [
+      | inl useless ↦ inr (subst (IsInVain entries order) (same_page_eq s.page page (find_passes it spots s is)) (vain_of entries order s useless))
       | inr kept ↦ inl (listed_found page (filter keeps spots) ∙ ap is_some (find_filter it keeps spots s is (ap not kept)))
     ]
 

@@ -1,5 +1,5 @@
 -- What each change of one row, found under its key, leaves: rows still, and what is seen of them.
-use Rattle.ksm_pages.proofs.Names.{ap, ap₂, AreBegun, AreFiled, AreListed, arith, Bool, CanMove, change_held, Decides-eqb, Entry, false, find, forgotten, get, GuestPage, has_item, Held, held_at, held_in, held_of, held_under, IfSome, inl, InPageOrder, inr, is_of, is_own, is_restless, is_some, IsAddedTo, IsCalm, IsMoved, IsRows, IsTakenFrom, IsTally, IsUnder, key_in, Kind, length, length-map, List, Listing, marked, Named, named_of, ne_eqb, None, number_left, on_row, own_state, pages_ordered, PageState, Private, refl, Row, row_at, rows_of, RowsView, same_page, same_page_refl, same_Some, settled, settled_state, shared_state, Slab, Some, state_of, subst, sym, Tally, true, true≢false, Updates-with_value, Waiting, with_held, with_item, with_named, with_value, without_held, without_named, ℕ, ◌&&◌, ◌<◌, ◌==◌, ◌^◌, ◌∙◌, ◌≡◌, ◌≢◌, ◌≤◌, ◌⊎◌}
+use Rattle.ksm_pages.proofs.Names.{ap, ap₂, AreBegun, AreFiled, AreListed, arith, Bool, CanMove, change_held, Decides-eqb, Entry, false, find, forgotten, get, GuestPage, has_item, Held, held_at, held_in, held_of, held_under, IfSome, inl, InPageOrder, inr, is_of, is_own, is_restless, is_some, IsAddedTo, IsInVain, IsMoved, IsRows, IsTally, IsUnder, key_in, Kind, length, length-map, List, Listing, marked, Named, named_of, ne_eqb, None, number_left, on_row, option_map, own_state, pages_ordered, PageState, Private, refl, Row, row_at, rows_of, RowsView, same_page, same_page_refl, same_Some, settled, settled_state, shared_state, Slab, Some, state_of, subst, sym, Tally, true, true≢false, Updates-with_value, Waiting, with_held, with_item, with_named, with_value, without_held, without_named, ℕ, ◌&&◌, ◌<◌, ◌==◌, ◌^◌, ◌∙◌, ◌≡◌, ◌≢◌, ◌≤◌, ◌⊎◌}
 use Rattle.slab.specs.Slab.{Updates as Fills}
 use Rattle.ksm_pages.specs.declared.row.Kind.TheVariants as kinds
 use Rattle.ksm_pages.specs.declared.rows.Rows.TheInside.{Inside}
@@ -9,7 +9,7 @@ use Rattle.ksm_pages.proofs.Filing.{all_filled, elsewhere, filed_kept, filed_mar
 use Rattle.ksm_pages.proofs.Gathering.{own_either}
 use Rattle.ksm_pages.proofs.Keyed.{absent_unchanged, write_rises}
 use Rattle.ksm_rmap.proofs.Ordered.{absent_kept, with_rises, without_rises}
-use Rattle.ksm_pages.proofs.Listings.{with_has, without_has}
+use Rattle.ksm_pages.proofs.Listings.{with_has}
 use Rattle.ksm_pages.proofs.Tallying.{can_move, tally_changed, tally_gone, tally_put}
 
 -- what is seen of the rows inside
@@ -266,19 +266,14 @@ module _ (s : Inside) (are : AreRows s) where
       held_gone =
           subst (λ p. held_in s.pass later (without_named p s.order) ≡ without_held p held) of_page (taken s.entries s.order are.ascending are.filed key e stood later fills s.pass)
 
-      -- rows are lawful once a page's entry is gone, with its name, its place in the list and its count
-      pub still_gone : (now : Listing) → IsTakenFrom page s.restless now → {from : PageState} {tally : Tally} → from ≡ state_of e.kind e.number s.pass
-          → IsMoved from Private s.tally tally → IsRows later (without_named page s.order) now tally s.pass
-      still_gone now taken_from {from} {tally} was moved = record {
+      -- rows are lawful once a page's entry is gone, with its name and its count
+      pub still_gone : {from : PageState} {tally : Tally} → from ≡ state_of e.kind e.number s.pass
+          → IsMoved from Private s.tally tally → IsRows later (without_named page s.order) s.restless tally s.pass
+      still_gone {from} {tally} was moved = record {
         ascending = without_rises pages_ordered (λ (n : Named). n.page) page s.order are.ascending;
         filed =
             subst (λ p. AreFiled later (without_named p s.order)) of_page (filed_taken s.entries s.order are.ascending are.filed key e stood later fills);
-        listed = λ known. elim taken_from [
-          | inl is ↦
-              subst (λ (l : Listing). AreListed later l.pages) (sym is)
-              (λ k f stands may. let was = stood_before k f stands in without_has f.page page s.restless.pages (other_page k f was.0 was.1) (are.listed (listed_known s.restless now _ is known) k f was.0 may))
-          | inr is ↦ absurd (true≢false (sym known ∙ ap (λ (l : Listing). l.known) is))
-        ];
+        listed = λ known k f stands may. are.listed known k f (stood_before k f stands).0 may;
         counted = subst (λ rs. IsTally rs tally) (sym (ap rows_of held_gone ∙ rows_without page held))
             (tally_gone (rows_of held) rise page (held_of s.pass e).row found_row s.tally tally are.counted (subst (λ st. IsMoved st Private s.tally tally) was moved));
         begun = λ k f stands. are.begun k f (stood_before k f stands).0;
@@ -286,10 +281,10 @@ module _ (s : Inside) (are : AreRows s) where
       }
 
       -- once the entry of a page is gone with the page's name, the rows are seen without that page
-      pub viewed_gone : (now : Listing) (v : RowsView) → view_of s ≡ v
-          → record { held = held_in s.pass later (without_named page s.order); restless = now; pass = s.pass } ≡ record v { held = without_held page v.held; restless = now }
-      viewed_gone now v seen_as =
-          ap (λ held. record { held = held; restless = now; pass = s.pass }) held_gone ∙ ap (λ (w : RowsView). record w { held = without_held page w.held; restless = now }) seen_as
+      pub viewed_gone : (v : RowsView) → view_of s ≡ v
+          → record { held = held_in s.pass later (without_named page s.order); restless = s.restless; pass = s.pass } ≡ record v { held = without_held page v.held }
+      viewed_gone v seen_as =
+          ap (λ held. record { held = held; restless = s.restless; pass = s.pass }) held_gone ∙ ap (λ (w : RowsView). record w { held = without_held page w.held }) seen_as
 
 -- where a page has no row, none is seen
 pub nowhere_seen : (s : Inside) → AreRows s → (page : GuestPage) → None ≡ key_in s.order page → (v : RowsView) → view_of s ≡ v → held_at page v.held ≡ None
@@ -363,15 +358,16 @@ module _ (s : Inside) (are : AreRows s) (v : RowsView) (seen_as : view_of s ≡ 
 pub relisted : (s : Inside) → AreRows s → (now : Listing) → (now.known ≡ true → AreListed s.entries now.pages) → IsRows s.entries s.order now s.tally s.pass
 relisted s are now listed = record { ascending = are.ascending; filed = are.filed; listed = listed; counted = are.counted; begun = are.begun; counting = are.counting }
 
--- rows are lawful under a list that lost only pages whose rows no visit changes
+-- rows are lawful under a list that lost only pages that were there in vain
 pub swept_rows : (s : Inside) → AreRows s → (now : Listing) → now.known ≡ s.restless.known
-    → ((page : GuestPage) → has_item page s.restless.pages ≡ true → (has_item page now.pages ≡ true) ⊎ IsCalm s.entries page) → IsRows s.entries s.order now s.tally s.pass
+    → ((page : GuestPage) → has_item page s.restless.pages ≡ true → (has_item page now.pages ≡ true) ⊎ IsInVain s.entries s.order page) → IsRows s.entries s.order now s.tally s.pass
 swept_rows s are now known kept = relisted s are now listed
   where
     listed : now.known ≡ true → AreListed s.entries now.pages
     listed is k e stands may = elim (kept e.page (are.listed (sym known ∙ is) k e stands may)) [
       | inl there ↦ there
-      | inr calm ↦
+      | inr (inl none) ↦ absurd (true≢false (ap is_some (sym ((are.filed (named_of k e)).1 (ap (option_map (named_of k)) stands)) ∙ none)))
+      | inr (inr calm) ↦
           let at : calm.key ≡ k = one_key s.entries s.order are.filed calm.key k calm.entry e calm.stands stands calm.of_page in
           let same : calm.entry ≡ e = same_Some calm.entry e (sym calm.stands ∙ ap (get s.entries) at ∙ stands) in
           absurd (true≢false (sym may ∙ ap is_restless (sym same) ∙ calm.calm))

@@ -1,6 +1,6 @@
 -- Entries in a slab, with the order of their pages, the pages that a visit may change, and a tally. (own)
-use Rattle.std.specs.Prelude.{◌≡◌, ◌↔◌, ℕ, ◌+◌, ◌≤◌, ◌<◌, ◌^◌, Bool, true, false, not, ◌&&◌, List, [], count_by, find}
-use Rattle.std.specs.Prelude.{map, option_map, Option, None, Some, if◌then◌else◌}
+use Rattle.std.specs.Prelude.{◌≡◌, ◌⊎◌, ◌↔◌, ℕ, ◌+◌, ◌≤◌, ◌<◌, ◌^◌, Bool, true, false, not, List, [], count_by, find}
+use Rattle.std.specs.Prelude.{is_none, map, option_map, Option, None, Some, if◌then◌else◌}
 use Rattle.ksm_base.specs.declared.page.GuestPage.{GuestPage}
 use Rattle.ksm_base.specs.declared.row.PageState.{PageState}
 use Rattle.ksm_base.specs.declared.row.PageState.TheVariants.{Private}
@@ -68,10 +68,12 @@ abbrev pub AreListed : Slab Entry → List GuestPage → Type 0
 AreListed slab pages = (key : ℕ) (e : Entry)
     → get slab key ≡ Some e → is_restless e ≡ true → has_item e.page pages ≡ true
 
--- it is certain that no visit changes the row of a spot: what stands under its key is of its page, and such
-abbrev pub is_useless : Spot → Option Entry → Bool
-is_useless spot None = false
-is_useless spot (Some e) = same_page e.page spot.page && not (is_restless e)
+-- it is certain that a spot is listed in vain: no visit changes the entry under its key, which is of its page, or else
+-- there is no name of the page
+abbrev pub is_useless : List Named → Spot → Option Entry → Bool
+is_useless order spot None = is_none (find (is_of spot.page) order)
+is_useless order spot (Some e) =
+    if same_page e.page spot.page then not (is_restless e) else is_none (find (is_of spot.page) order)
 
 -- an entry of the page is such that no visit changes it
 pub record IsCalm (slab : Slab Entry) (page : GuestPage) : Type 0 where
@@ -80,6 +82,10 @@ pub record IsCalm (slab : Slab Entry) (page : GuestPage) : Type 0 where
   pub stands : get slab key ≡ Some entry
   pub of_page : entry.page ≡ page
   pub calm : is_restless entry ≡ false
+
+-- a page has no name, or no visit changes its entry
+abbrev pub IsInVain : Slab Entry → List Named → GuestPage → Type 0
+IsInVain slab order page = (find (is_of page) order ≡ None) ⊎ IsCalm slab page
 
 -- the number of no entry with a frame of its own is beyond the pass
 abbrev pub AreBegun : Slab Entry → ℕ → Type 0

@@ -1,5 +1,5 @@
 -- Rows as they are kept, in the order of their pages, each with the frame of its own if it has one. (own)
-use Rattle.std.specs.Prelude.{◌≡◌, ◌⊎◌, ℕ, ◌<◌, ◌≤◌, ◌-◌, [], Bool, true, false, not, ◌&&◌, ◌==◌, All, AllPairs, List, ◌∷◌}
+use Rattle.std.specs.Prelude.{◌≡◌, ◌⊎◌, ℕ, ◌<◌, ◌≤◌, ◌-◌, Bool, true, false, not, ◌&&◌, ◌==◌, All, AllPairs, List, ◌∷◌}
 use Rattle.std.specs.Prelude.{◌++◌, filter, find, length, map, slice_get, Option, None, Some, if◌then◌else◌}
 use Rattle.std.specs.Option.{option_or}
 use Rattle.ksm_base.specs.declared.page.GuestPage.{GuestPage}
@@ -8,7 +8,7 @@ use Rattle.ksm_base.specs.declared.row.PageState.TheVariants.{Private, Waiting, 
 use Rattle.ksm_base.specs.declared.row.Row.{Row}
 use Rattle.ksm_base.specs.Rows.{comes_before, same_page, shared_state}
 use Rattle.ksm_base.specs.Visit.{after_cursor}
-use Rattle.ksm_rmap.specs.Items.{has_item, with_item, without_item}
+use Rattle.ksm_rmap.specs.Items.{has_item, with_item}
 use Rattle.ksm_pages.specs.declared.ahead.Ahead.{Ahead}
 use Rattle.ksm_pages.specs.declared.ahead.Ahead.TheVariants.{At, End}
 use Rattle.ksm_pages.specs.declared.row.Kind.{Kind}
@@ -37,11 +37,6 @@ pages_of spots = map (λ s. s.page) spots
 -- a page is listed from now on, or else the list stays as it was and is no longer known
 abbrev pub IsAddedTo : GuestPage → Listing → Listing → Type 0
 IsAddedTo page old new = (new ≡ record old { pages = with_item page old.pages }) ⊎ (new ≡ record old { known = false })
-
--- a page is not listed from now on, or else none is, and the list is no longer known
-abbrev pub IsTakenFrom : GuestPage → Listing → Listing → Type 0
-IsTakenFrom page old new =
-    (new ≡ record old { pages = without_item page old.pages }) ⊎ (new ≡ record { pages = []; known = false })
 
 -- what is seen of the rows: each with its frame, the pages that a visit may change, and the number of the pass
 pub record RowsView : Type 0 where

@@ -5,7 +5,6 @@ ghost use Rattle.ksm_base.specs.declared.fault.Fault.TheVariants.{Memory};
 ghost use Rattle.ksm_base.specs.Apply.{fresh_row, let_go as as_let_go, stored, unshared as as_unshared};
 ghost use Rattle.ksm_base.specs.Rows.{row_at, with_row, without_page, change_row, shared_state, private_state};
 ghost use Rattle.ksm_base.specs.Rows.{settled as as_settled};
-ghost use Rattle.ksm_rmap.specs.Items.{has_item};
 ghost use Rattle.ksm_pages.specs.Paged.{HasRow, IsAlone, IsKnown, lies_on, on_its_own, seen};
 
 use crate::left::{leave, left_by_any};
@@ -50,17 +49,14 @@ impl Pages {
         left
     }
 
-    /// The page goes, leaves its dup if it was merged, and is not listed any more. Gives the frame where it lay, if it
-    /// had one.
+    /// The page goes, and leaves its dup if it was merged. Gives the frame where it lay, if it had one.
     pub fn remove(&mut self, spot: Spot) -> Option<u32>
         requires { IsKnown spot.page self.old.rows }
         ensures left { result ≡ (seen self.old).frame spot.page }
         ensures gone { seen self.new ≡ record (seen self.old) {
           rows = without_page spot.page self.old.rows;
           frame = lies_on spot.page None (seen self.old).frame;
-          restless = self.new.restless;
         } }
-        ensures unlisted { has_item spot.page self.new.restless.pages ≡ false }
     {
         let left = leave(&mut self.dups, &self.frames, &self.knobs, &self.rows, spot);
         self.rows.remove(spot);

@@ -1,21 +1,23 @@
 //! The pages that a visit of the scan may change: those of mergeable rows with frames of their own, so there are never
 //! more of these than frames.
 //!
-//! Some other pages may be listed too: whoever visits a page looks at its row anyhow. So a row stays listed in vain
-//! once it is merged, or no scan visits it any more, until many may be so. Where memory for a page is refused, the list
-//! is no longer known to have all, and the next scan makes it anew: so no command is refused for it. So it is where
-//! pages that came or went in another order have moved so many others that a walk over all rows costs no more.
+//! Some other pages may be listed too: whoever visits a page looks at its row anyhow. So a page stays listed in vain
+//! once it is merged, its row is gone, or no scan visits it any more, until many may be so. Where memory for a page is
+//! refused, the list is no longer known to have all, and the next scan makes it anew: so no command is refused for it.
+//! So it is where pages that came in another order have moved so many others that a walk over all rows costs no more,
+//! and where more than half of the list is there in vain.
 
 ghost use Rattle.std.specs.Prelude.{◌≡◌, ◌⊎◌, ◌≤◌, [], true, false, filter, find, is_some, length, not, slice_get};
-ghost use Rattle.std.specs.Prelude.{slice_index_or, option_map, IsTrue, OnErr, OnOk, insert, remove, ◌<◌};
+ghost use Rattle.std.specs.Prelude.{slice_index_or, option_map, IsTrue, OnErr, OnOk, insert, ◌<◌};
 ghost use Rattle.ksm_base.specs.declared.page.GuestPage.{GuestPage};
 ghost use Rattle.ksm_base.specs.Rows.{comes_before, same_page};
 ghost use Rattle.ksm_base.specs.Visit.{after_cursor};
 ghost use Rattle.ksm_rmap.specs.Items.{AreAscending, has_item};
-ghost use Rattle.ksm_pages.specs.Filed.{IsCalm, is_useless as is_of_no_use};
-ghost use Rattle.ksm_pages.specs.Held.{AreInOrder, IsAddedTo, IsTakenFrom};
+ghost use Rattle.ksm_pages.specs.Filed.{IsInVain, is_useless as is_of_no_use};
+ghost use Rattle.ksm_pages.specs.Held.{AreInOrder, IsAddedTo};
 ghost use Rattle.slab.specs.Slab.{get};
 
+use crate::order::Order;
 use crate::row::{Entry, Spot};
 use ksm_base::{Fault, GuestPage};
 use slab::Slab;
@@ -28,16 +30,19 @@ const LONG: usize = 16_384;
 /// So many moves of a page cost what a walk comes to for one row.
 const MOVES_A_ROW: usize = 256;
 
+/// A visit of a page without a row searches for it, so it weighs as much as so many whose row is found.
+const WEIGHT_OF_A_SEARCH: usize = 4;
+
 /// Pages in order, each with a guess of the key of its row, and whether all that a visit may change are among them.
 ///
-/// `add` and `remove` cost the logarithm of the number of pages, and a move of those behind. Where pages are added one
-/// behind the other, no search is made. Once moves of `LONG` pages and more come to `MOVES_A_ROW` pages for each row,
-/// the next scan makes the list anew by a walk.
+/// `add` costs the logarithm of the number of pages, and a move of those behind. Where pages are added one behind the
+/// other, no search is made. Once moves of `LONG` pages and more come to `MOVES_A_ROW` pages for each row, or there are
+/// more than two pages for each row, the next scan makes the list anew by a walk.
 #[derive(Drop)]
 pub struct Restless {
     spots: Vec<Spot>,
     known: bool,
-    /// How many rows have become such that no visit changes them, since `sweep` looked.
+    /// How many pages have come to be listed in vain since `sweep` looked, by their weight.
     useless: usize,
     /// How many pages were moved, many at a time, since the last walk.
     moved: usize,
@@ -112,16 +117,6 @@ fn put_in(spots: &mut Vec<Spot>, at: usize, spot: Spot) -> Result<(), Fault>
     Ok(())
 }
 
-/// Takes the spot at an index out, and moves those behind it down by one, as `put_in` does.
-fn take_out(spots: &mut Vec<Spot>, at: usize)
-    requires { at < length spots.old.items }
-    ensures { spots.new.items ≡ remove spots.old.items at }
-{
-    let len = spots.len();
-    spots.copy_within(at + 1..len, at);
-    spots.truncate(len - 1);
-}
-
 /// Counts so many pages that would be moved, if they are many. Tells whether those counted come to a walk over so many
 /// rows.
 #[inline(always)]
@@ -133,14 +128,13 @@ fn is_dear(moved: &mut usize, pages: usize, rows: usize) -> bool {
     *moved / MOVES_A_ROW >= rows
 }
 
-/// Whether it is certain that no visit changes the row of a spot.
-#[inline(always)]
-fn is_useless(entries: &Slab<Entry>, spot: &Spot) -> bool
-    ensures { result ≡ is_of_no_use spot.now (get entries.now spot.now.key) }
+/// Whether it is certain that a spot is listed in vain.
+fn is_useless(entries: &Slab<Entry>, order: &Order, spot: &Spot) -> bool
+    ensures { result ≡ is_of_no_use order.now spot.now (get entries.now spot.now.key) }
 {
     match entries.get(spot.key) {
-        Some(entry) => entry.page == spot.page && !entry.is_restless(),
-        None => false,
+        Some(entry) if entry.page == spot.page => !entry.is_restless(),
+        _ => order.find(spot.page).is_none(),
     }
 }
 
@@ -218,8 +212,9 @@ impl Restless {
             self.spots[at] = spot;
             return;
         }
-        let dear = is_dear(&mut self.moved, self.spots.len() - at, rows);
-        if dear || !self.known {
+        let len = self.spots.len();
+        let dear = is_dear(&mut self.moved, len - at, rows);
+        if dear || len / 2 > rows || !self.known {
             self.known = false;
             return;
         }
@@ -227,32 +222,6 @@ impl Restless {
             Ok(()) => {}
             Err(_) => self.known = false,
         }
-    }
-
-    /// A page is not listed any more, where there are so many rows. Where many pages were moved already, none is, and
-    /// the list is no longer known.
-    pub fn remove(&mut self, page: GuestPage, rows: usize)
-        ensures { IsTakenFrom page self.old self.new }
-    {
-        let at = place_of(self.spots.as_slice(), page);
-        let found = stands_at(self.spots.as_slice(), at, page);
-        if !found {
-            return;
-        }
-        let dear = is_dear(&mut self.moved, self.spots.len() - at, rows);
-        if dear {
-            self.give_up();
-            return;
-        }
-        take_out(&mut self.spots, at);
-    }
-
-    // No page is listed any more, and it is no longer known which are to be.
-    fn give_up(&mut self)
-        ensures { self.new ≡ record { pages = []; known = false } }
-    {
-        self.clear();
-        self.known = false;
     }
 
     /// A listed page has become one that no visit changes.
@@ -263,14 +232,21 @@ impl Restless {
         self.useless = self.useless.saturating_add(1);
     }
 
-    /// Once many pages may be such that no visit changes their rows, those are not listed any more.
-    pub fn sweep(&mut self, entries: &Slab<Entry>)
+    /// A page that may be listed has no row any more.
+    pub fn lose_row(&mut self)
+        ensures { self.new ≡ self.old }
+    {
+        self.useless = self.useless.saturating_add(WEIGHT_OF_A_SEARCH);
+    }
+
+    /// Once many pages may be listed in vain, those are not listed any more.
+    pub fn sweep(&mut self, entries: &Slab<Entry>, order: &Order)
         ensures known { self.new.known ≡ self.old.known }
         ensures kept { (page : GuestPage) → has_item page self.old.pages ≡ true
-            → (has_item page self.new.pages ≡ true) ⊎ IsCalm entries.now page }
+            → (has_item page self.new.pages ≡ true) ⊎ IsInVain entries.now order.now page }
     {
         if self.useless > self.spots.len() / 2 {
-            self.spots.retain(|spot| !is_useless(entries, spot));
+            self.spots.retain(|spot| !is_useless(entries, order, spot));
             self.useless = 0;
         }
     }

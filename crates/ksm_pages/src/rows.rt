@@ -12,13 +12,13 @@ ghost use Rattle.ksm_base.specs.declared.limits.TheConstants.{MOST_FRAMES};
 ghost use Rattle.ksm_base.specs.declared.page.GuestPage.{GuestPage};
 ghost use Rattle.ksm_base.specs.declared.row.PageState.TheVariants.{Private, Waiting, Merged, Zero};
 ghost use Rattle.ksm_base.specs.Apply.{fresh_row};
-ghost use Rattle.ksm_base.specs.Rows.{InPageOrder, comes_before, settled, shared_state};
+ghost use Rattle.ksm_base.specs.Rows.{InPageOrder, settled, shared_state};
 ghost use Rattle.ksm_base.specs.Visit.{after_cursor};
-ghost use Rattle.ksm_rmap.specs.Items.{AreAscending as AreRising, has_item};
+ghost use Rattle.ksm_rmap.specs.Items.{AreAscending as AreRising};
 ghost use Rattle.ksm_pages.specs.Filed.{AreFiled, AreListed, IsTally, IsUnder, key_in};
 ghost use Rattle.ksm_pages.specs.Held.{AreAllListed, Reaches, change_held, held_at, held_of, last_or, mapped, on_row};
 ghost use Rattle.ksm_pages.specs.Held.{pages_ahead, pages_between, rows_of, with_held, without_held};
-ghost use Rattle.ksm_pages.specs.Ordered.{AreAscending, is_of};
+ghost use Rattle.ksm_pages.specs.Ordered.{AreAscending};
 
 use crate::ahead::Ahead;
 use crate::order::Order;
@@ -295,14 +295,9 @@ impl Rows {
         Ok(spot)
     }
 
-    /// The row of a page goes, if it has one, and the page is not listed any more.
+    /// The row of a page goes, if it has one.
     pub fn remove(&mut self, spot: Spot)
-        ensures gone { self.new ≡ record self.old {
-          held = without_held spot.page self.old.held;
-          restless = self.new.restless;
-        } }
-        ensures unlisted { is_some (held_at spot.page self.old.held) ≡ true
-            → has_item spot.page self.new.restless.pages ≡ false }
+        ensures { self.new ≡ record self.old { held = without_held spot.page self.old.held } }
     {
         let Some(key) = key_of(&self.entries, &self.order, spot) else {
             return;
@@ -310,7 +305,7 @@ impl Rows {
         let gone = self.entries.remove(key);
         self.tally.change(gone.state(self.pass), PageState::Private);
         self.order.remove(spot.page);
-        self.restless.remove(spot.page, self.order.len());
+        self.restless.lose_row();
     }
 
     // ------------------------------------------------------------ how a page is mapped
@@ -591,6 +586,6 @@ impl Rows {
         ensures rest { self.new ≡ record self.old { restless = self.new.restless } }
         ensures known { self.new.restless.known ≡ self.old.restless.known }
     {
-        self.restless.sweep(&self.entries);
+        self.restless.sweep(&self.entries, &self.order);
     }
 }
