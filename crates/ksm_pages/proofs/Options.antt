@@ -10,12 +10,12 @@ some_mapped f (Some x) = refl
 -- an option that is empty once it is mapped was empty
 pub none_mapped : {X Y : Type 0} (f : X → Y) (o : Option X) → option_map f o ≡ None → o ≡ None
 none_mapped f None none = refl
-none_mapped f (Some x) none = absurd (none-some (f x) (sym none))
+none_mapped f (Some x) none = absurd (none-some _ (sym none))
 
 -- an option that is full once it is mapped was full, with something that is mapped to what it has
-pub mapped_some : {X Y : Type 0} (f : X → Y) (o : Option X) (y : Y) → option_map f o ≡ Some y → (x : X) × (o ≡ Some x) × (f x ≡ y)
-mapped_some f None y none = absurd (none-some y none)
-mapped_some f (Some x) y some = (x, refl, same_Some (f x) y some)
+pub mapped_some : {X Y : Type 0} (f : X → Y) (o : Option X) {y : Y} → option_map f o ≡ Some y → (x : X) × (o ≡ Some x) × (f x ≡ y)
+mapped_some f None none = absurd (none-some _ none)
+mapped_some f (Some x) some = (x, refl, same_Some _ _ some)
 
 -- two maps of an option, one after the other, are one map
 pub mapped_twice : {X Y Z : Type 0} (f : Y → Z) (g : X → Y) (o : Option X) → option_map f (option_map g o) ≡ option_map (λ x. f (g x)) o

@@ -15,22 +15,22 @@ page_of s = s.page
 
 -- the pages of spots in order ascend
 pub pages_rise : (spots : List Spot) → AreInOrder spots → AreAscending (pages_of spots)
-pages_rise spots rise = pairs_mapped (λ s t. comes_before s.page t.page ≡ true) (λ p q. comes_before p q ≡ true) (λ s. s ≡ s) page_of (λ s t e f less. less) spots (λ k d lt. refl) rise
+pages_rise spots rise = pairs_mapped _ (λ p q. comes_before p q ≡ true) (λ s. s ≡ s) _ (λ s t e f less. less) spots (λ k d lt. refl) rise
 
 -- the pages of spots that pass a test are the pages of those spots whose page passes
 pub pages_kept : (test : GuestPage → Bool) (spots : List Spot) → filter test (pages_of spots) ≡ pages_of (filter (λ s. test s.page) spots)
-pages_kept test spots = filter_mapped page_of test (λ s. test s.page) spots (λ k d lt. refl)
+pages_kept test spots = filter_mapped _ test (λ s. test s.page) _ (λ k d lt. refl)
 
 -- as many spots have a page that passes a test as their pages pass
 pub many_kept : (test : GuestPage → Bool) (spots : List Spot) → length (filter (λ s. test s.page) spots) ≡ length (filter test (pages_of spots))
-many_kept test spots = sym (length-map (filter (λ (s : Spot). test s.page) spots) page_of) ∙ ap length (sym (pages_kept test spots))
+many_kept test spots = sym (length-map (filter (λ (s : Spot). test s.page) spots) page_of) ∙ ap length (sym (pages_kept test _))
 
 -- a page is among the pages of spots exactly where a search finds a spot of that page
 pub listed_found : (page : GuestPage) (spots : List Spot) → has_item page (pages_of spots) ≡ is_some (find (λ s. same_page s.page page) spots)
 listed_found page spots =
     any_found (λ p. same_page p page) (pages_of spots)
-    ∙ ap is_some (find_mapped page_of (λ p. same_page p page) (λ s. same_page s.page page) spots (λ k d lt. refl))
-    ∙ some_mapped page_of (find (λ s. same_page s.page page) spots)
+    ∙ ap is_some (find_mapped page_of (λ p. same_page p page) (λ s. same_page s.page page) _ (λ k d lt. refl))
+    ∙ some_mapped page_of _
 
 module _ (spot : Spot) (spots : List Spot) (rise : AreInOrder spots) where
   abbrev before : Spot → Bool
@@ -47,35 +47,35 @@ module _ (spot : Spot) (spots : List Spot) (rise : AreInOrder spots) where
 
   -- spots in order stay in order with a spot put in at its place
   pub put_rises : AreInOrder put_in
-  put_rises = with_rises pages_ordered page_of spot.page spot spots refl rise
+  put_rises = with_rises pages_ordered page_of _ spot _ refl rise
 
   abbrev written : List Spot
   written = map (λ s. if same_page s.page spot.page then spot else s) spots
 
   same_pages : pages_of written ≡ pages_of spots
-  same_pages = map_mapped page_of (λ s. if same_page s.page spot.page then spot else s) page_of spots (λ k d lt. here (get_or spots k d))
+  same_pages = map_mapped _ _ _ _ (λ k d lt. here _)
     where
       here : (s : Spot) → (if same_page s.page spot.page then spot else s).page ≡ s.page
-      here s = cond_both (same_page s.page spot.page) spot s (λ x. x.page ≡ s.page) (λ same. sym (same_page_eq s.page spot.page same)) (λ _. refl)
+      here s = cond_both _ spot s (λ x. x.page ≡ s.page) (λ same. sym (same_page_eq _ _ same)) (λ _. refl)
 
   -- with a spot written over the one of its page, the pages are those with the page of that spot
   pub written_pages : has_item spot.page (pages_of spots) ≡ true → pages_of written ≡ with_item spot.page (pages_of spots)
-  written_pages has = same_pages ∙ with_found pages_ordered spot.page (pages_of spots) (pages_rise spots rise) has
+  written_pages has = same_pages ∙ with_found pages_ordered _ _ (pages_rise _ rise) has
 
 -- a page that is swept out of the list has a row that no visit changes
-calm_of : (entries : Slab Entry) (s : Spot) → is_useless s (get entries s.key) ≡ true → IsCalm entries s.page
-calm_of entries s useless = go (get entries s.key) refl useless
+calm_of : {entries : Slab Entry} (s : Spot) → is_useless s (get entries s.key) ≡ true → IsCalm entries s.page
+calm_of {entries} s useless = go _ refl useless
   where
     go : (o : Option Entry) → get entries s.key ≡ o → is_useless s o ≡ true → IsCalm entries s.page
     go None is none = absurd (true≢false (sym none))
     go (Some e) is both =
-        let parts = and_parts (same_page e.page s.page) (not (is_restless e)) both in
-        record { key = s.key; entry = e; stands = is; of_page = same_page_eq e.page s.page parts.0; calm = not-true (is_restless e) parts.1 }
+        let parts = and_parts _ _ both in
+        record { key = s.key; entry = e; stands = is; of_page = same_page_eq _ _ parts.0; calm = not-true (is_restless e) parts.1 }
 
 -- a page of the spots stays once useless spots are swept out, or no visit changes its row
-pub swept : (entries : Slab Entry) (spots : List Spot) (page : GuestPage) → has_item page (pages_of spots) ≡ true
+pub swept : {entries : Slab Entry} (spots : List Spot) {page : GuestPage} → has_item page (pages_of spots) ≡ true
     → (has_item page (pages_of (filter (λ s. not (is_useless s (get entries s.key))) spots)) ≡ true) ⊎ IsCalm entries page
-swept entries spots page has = go (find it spots) refl (sym (listed_found page spots) ∙ has)
+swept {entries} spots {page} has = go _ refl (sym (listed_found page _) ∙ has)
   where
     it : Spot → Bool
     it s = same_page s.page page
@@ -86,8 +86,8 @@ swept entries spots page has = go (find it spots) refl (sym (listed_found page s
     go : (o : Option Spot) → find it spots ≡ o → is_some o ≡ true → (has_item page (pages_of (filter keeps spots)) ≡ true) ⊎ IsCalm entries page
     go None is none = absurd (true≢false (sym none))
     go (Some s) is some = elim (cases_Bool (is_useless s (get entries s.key))) [
-      | inl useless ↦ inr (subst (IsCalm entries) (same_page_eq s.page page (find_passes it spots s is)) (calm_of entries s useless))
-      | inr kept ↦ inl (listed_found page (filter keeps spots) ∙ ap is_some (find_filter it keeps spots s is (ap not kept)))
+      | inl useless ↦ inr (subst (IsCalm entries) (same_page_eq s.page page (find_passes it spots s is)) (calm_of _ useless))
+      | inr kept ↦ inl (listed_found _ (filter keeps spots) ∙ ap is_some (find_filter _ _ spots s is (ap not kept)))
     ]
 
 -- one more behind a list, the elements from an index on moved up by one, and that one written there: it is put in
@@ -98,7 +98,7 @@ moved_up xs at x within =
     let front : take (at + 1) l ≡ take at xs ++ get_or l at x ∷ [] =
     ap (λ n. take n l) (add-one at) ∙ take-suc l at x (omega (arith, many)) ∙ ap (λ ys. ys ++ get_or l at x ∷ []) (take-append-le at xs (x ∷ []) within) in
     let back : take (length xs - at) (drop at l) ≡ drop at xs =
-    sym (drop-take at (length xs - at) l) ∙ ap (λ n. drop at (take n l)) (omega arith) ∙ ap (drop at) (take-append_seam xs (x ∷ [])) in
+    sym (drop-take at _ l) ∙ ap (λ n. drop at (take n l)) (omega arith) ∙ ap (drop at) (take-append_seam xs (x ∷ [])) in
     let none : drop (at + 1 + (length xs - at)) l ≡ [] = drop_all _ l (omega (arith, many)) in
     ap (λ ys. set ys at x) (ap₂ (λ a b. a ++ b) (ap₂ (λ a b. a ++ b) front back) none
     ∙ append-nil ((take at xs ++ get_or l at x ∷ []) ++ drop at xs)
@@ -106,13 +106,13 @@ moved_up xs at x within =
     ∙ set_at (take at xs) (get_or l at x) (drop at xs) x at (length-take-le at xs within)
 
 -- where a spot of a list in order comes before a page, and the next one does not, as many come before it as stand up to there
-pub place_between : (page : GuestPage) (spots : List Spot) → AreInOrder spots → (at : ℕ) (d e : Spot) → 0 < at → at < length spots
+pub place_between : (page : GuestPage) (spots : List Spot) → AreInOrder spots → {at : ℕ} (d e : Spot) → 0 < at → at < length spots
     → comes_before (get_or spots (at - 1) d).page page ≡ true → comes_before (get_or spots at e).page page ≡ false
     → at ≡ length (filter (λ s. comes_before s.page page) spots)
-place_between page spots rise at d e some within low high =
+place_between page spots rise {at} d e some within low high =
     let before : Spot → Bool = λ s. comes_before s.page page in
-    let split = parted pages_ordered page_of page spots rise in
-    point_is_count before spots at (omega arith)
+    let split = parted pages_ordered page_of page _ rise in
+    point_is_count _ _ at (omega arith)
     (λ k x from lt. split k (at - 1) x (omega arith) (omega arith) (rw (get_or_default spots (at - 1) x d (omega arith)) low))
-    (λ k x from lt. false_from_ne_true (before (get_or spots k x)) (λ is.
-    absurd (true≢false (sym (split at k x from lt is) ∙ ap before (get_or_default spots at x e within) ∙ high))))
+    (λ k x from lt. false_from_ne_true _ (λ is.
+    absurd (true≢false (sym (split at k x from lt is) ∙ ap before (get_or_default _ _ x e within) ∙ high))))

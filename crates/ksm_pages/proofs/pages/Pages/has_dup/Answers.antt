@@ -4,5 +4,5 @@ use Rattle.ksm_pages.proofs.pages.Pages.has_dup.Goals as goal
 
 pub returns : goal.returns
 returns c =
-    c.is_some.ensures ∙ ap is_some c.at.ensures.number ∙ any_at c.args.place c.self.inside.dups.dups
+    c.is_some.ensures ∙ ap is_some c.at.ensures.number ∙ any_at c.args.place _
     ∙ ap (λ (v : PagesValue). list_any (λ d. d.place == c.args.place) v.dups) c.self.view_is

@@ -14,9 +14,9 @@ invariant_of-self c =
       tied = c.self.invariant.tied;
       places = c.self.invariant.places;
       waits = elim c.requires [
-        | inl same ↦ knobs_tuned s.knobs rows s.dups.waiting c.self.invariant.waits c.args.knobs
+        | inl same ↦ knobs_tuned s.knobs _ _ c.self.invariant.waits c.args.knobs
             (same ∙ sym (ap (λ (v : PagesValue). v.knobs.merge_across_nodes) c.self.view_is))
-        | inr still ↦ knobs_free s.knobs c.args.knobs rows s.dups.waiting c.self.invariant.waits
+        | inr still ↦ knobs_free s.knobs c.args.knobs _ _ c.self.invariant.waits
             (subst (λ (v : PagesValue). All (λ r. waiting_state r.state ≡ false) v.rows) (sym c.self.view_is) still)
       ];
       room = c.self.invariant.room;

@@ -17,8 +17,8 @@ stopped : (c : goal.After-stop_waiting) → Comes c.self.inside c.stop_waiting.n
     (record (seen (view_of c.self.inside)) { rows = change_row c.args.spot.page on_its_own (view_of c.self.inside).rows })
 stopped c =
     let row = (gone c).held.row in
-    rested (gone c) c.stop_waiting.new.self (ap (λ (r : RowsView). r.restless) c.stop_waiting.ensures) settled on_its_own
-    (λ r. refl) (λ r. refl) (alone c) (λ own i. record row { state = rests row.state own i }) (held_as c.stop_waiting.ensures)
+    rested (gone c) _ (ap (λ (r : RowsView). r.restless) c.stop_waiting.ensures) settled on_its_own
+    (λ r. refl) (λ r. refl) (alone c) (λ own i. record row { state = rests _ own i }) (held_as c.stop_waiting.ensures)
 
 pub invariant_of-self : goal.invariant_of-self
 invariant_of-self c = (stopped c).lawful

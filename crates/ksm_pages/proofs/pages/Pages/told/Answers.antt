@@ -9,7 +9,7 @@ use Rattle.ksm_pages.proofs.pages.Pages.told.Goals as goal
 pub returns-in_err-spot : goal.returns-in_err-spot
 returns-in_err-spot c =
     let page = c.args.spot.page in
-    let gone : row_at page c.args.self.now.rows ≡ None = ap (λ (v : PagesValue). row_at page v.rows) (sym c.self.view_is) ∙ row_told page c.self.inside.rows.held c.in_err-spot.ensures in
+    let gone : row_at page c.args.self.now.rows ≡ None = ap (λ (v : PagesValue). row_at page v.rows) (sym c.self.view_is) ∙ row_told page _ c.in_err-spot.ensures in
     subst (λ o. MatchOption o (row_at page c.args.self.now.rows ≡ None) (IsHeld (seen c.args.self.now) page)) (sym c.from_residual.ensures) gone
 
 pub returns : goal.returns
@@ -22,10 +22,10 @@ returns c =
     subst (λ (v : PagesValue). IsHeld (seen v) page (record { spot = c.in_ok-spot.spot; home = e.home; shared = c.is_none.result; frame = c.frame_of.result })) c.self.view_is
     (record {
       row = h.row;
-      found = row_told page s.rows.held c.in_ok-spot.ensures.1;
+      found = row_told page _ c.in_ok-spot.ensures.1;
       spot = c.in_ok-spot.ensures.0;
       home = refl;
-      shared = shared_by c.is_none.result e.kind e.number s.rows.pass e.at (sym c.is_none.ensures ∙ ap is_some c.own_frame.ensures);
+      shared = shared_by _ _ _ _ (sym c.is_none.ensures ∙ ap is_some c.own_frame.ensures);
       frame = c.frame_of.ensures
           ∙ ap₂ (λ (frames : List ℕ) pass. seat (lodging (dup_rows s.dups.dups) frames) (Some (held_of pass e))) c.deref.ensures.value c.pass.ensures
           ∙ ap (seat of_dup) (sym c.in_ok-spot.ensures.1)

@@ -9,7 +9,7 @@ told : (c : After-state) (b : Bool) → b ≡ waiting_state c.state.result
 told c b is =
     let e = c.in-Some.entry.now in
     subst (λ (o : Option Row). MatchOption o (b ≡ false) (λ r. b ≡ waiting_state r.state))
-    (sym (row_seen c.self.inside c.args.self.now c.self.view_is c.args.spot.page c.in-Some.ensures))
+    (sym (row_seen c.self.inside c.self.view_is _ c.in-Some.ensures))
     (is ∙ ap waiting_state (c.state.ensures ∙ ap (state_of e.kind e.number) c.pass.ensures))
 
 pub returns-in-Waiting : goal.returns-in-Waiting
@@ -27,4 +27,4 @@ returns-in-Zero c = told (goal.at.returns-in-Zero c).After-state _ (ap waiting_s
 pub returns-in_default : goal.returns-in_default
 returns-in_default c =
     subst (λ (o : Option Row). MatchOption o (false ≡ false) (λ r. false ≡ waiting_state r.state))
-    (sym (row_seen c.self.inside c.args.self.now c.self.view_is c.args.spot.page c.in_default.ensures)) refl
+    (sym (row_seen c.self.inside c.self.view_is _ c.in_default.ensures)) refl

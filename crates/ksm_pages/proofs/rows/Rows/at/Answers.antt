@@ -7,7 +7,7 @@ returns-in-Some c =
     let s = c.self.inside in
     let page = c.args.spot.page in
     let e = c.in-Some.entry.now in
-    let there : IsUnder s.entries page c.args.spot.key = record { entry = e; stands = sym c.in-Some.ensures; of_page = same_page_eq e.page page (sym c.if-eq.ensures) } in
+    let there : IsUnder s.entries page c.args.spot.key = record { entry = e; stands = sym c.in-Some.ensures; of_page = same_page_eq _ _ (sym c.if-eq.ensures) } in
     ap (λ (v : RowsView). held_at page v.held) (sym c.self.view_is)
     ∙ row_there s c.self.invariant there (sym c.in-Some.ensures)
     ∙ ap (λ (v : RowsView). Some (held_of v.pass e)) c.self.view_is

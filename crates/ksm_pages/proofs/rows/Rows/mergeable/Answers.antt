@@ -6,5 +6,5 @@ pub returns : goal.returns
 returns c =
     let s = c.self.inside in
     c.mergeable.ensures
-    ∙ sym (flags_counted s.pass s.entries s.order c.self.invariant.ascending c.self.invariant.filed)
+    ∙ sym (flags_counted _ s.entries _ c.self.invariant.ascending c.self.invariant.filed)
     ∙ ap (λ (v : RowsView). count_by (λ r. r.mergeable) (rows_of v.held)) c.self.view_is

@@ -1,19 +1,19 @@
-use Rattle.ksm_pages.proofs.Names.{ap, find, has_item, held_in, inl, inr, is_of, is_some, IsRows, Listing, Named, Private, subst, sym, true≢false, ◌∙◌}
+use Rattle.ksm_pages.proofs.Names.{ap, has_item, held_in, inl, inr, is_some, IsRows, Listing, subst, sym, true≢false, ◌∙◌}
 use Rattle.ksm_pages.proofs.Listings.{without_lacks}
 use Rattle.ksm_pages.proofs.Writing.{can_be, nothing_gone, nowhere_seen, still_gone, viewed_gone}
 use Rattle.ksm_pages.proofs.Options.{some_mapped}
 use Rattle.ksm_pages.proofs.rows.Rows.remove.Goals as goal
 
 pub returns-in_default-clause-gone : goal.returns-in_default-clause-gone
-returns-in_default-clause-gone c = nothing_gone c.self.inside c.self.invariant c.args.spot.page c.in_default.ensures.told c.args.self.now c.self.view_is
+returns-in_default-clause-gone c = nothing_gone c.self.inside c.self.invariant _ c.in_default.ensures.told c.self.view_is
 
 pub change-requires : goal.change-requires
 change-requires c =
-    can_be c.self.inside c.self.invariant c.in-Some.ensures.there c.remove-gone.ensures.value c.state.ensures Private c.in-Some.ensures.few
+    can_be c.self.inside c.self.invariant c.in-Some.ensures.there c.remove-gone.ensures.value c.state.ensures c.in-Some.ensures.few
 
 pub remove-requires : goal.remove-requires
 remove-requires c = record {
-  there = sym (some_mapped (λ (n : Named). n.key) (find (is_of c.args.spot.page) c.self.inside.order)) ∙ ap is_some (sym c.in-Some.ensures.told);
+  there = sym (some_mapped _ _) ∙ ap is_some (sym c.in-Some.ensures.told);
 }
 
 pub invariant_of-self : goal.invariant_of-self
@@ -21,21 +21,20 @@ invariant_of-self c =
     let s = c.self.inside in
     subst (λ order. IsRows c.remove-gone.new.self order c.remove-2.new.self c.change.new.self s.pass) (sym c.remove.ensures)
     (still_gone s c.self.invariant c.in-Some.ensures.there c.remove-gone.ensures.value
-    c.remove-gone.new.self c.remove-gone.ensures.updates c.remove-2.new.self c.remove-2.ensures c.state.ensures c.change.ensures)
+    c.remove-gone.ensures.updates c.remove-2.ensures c.state.ensures c.change.ensures)
 
 pub returns-clause-gone : goal.returns-clause-gone
 returns-clause-gone c =
     let s = c.self.inside in
     ap (λ order. record { held = held_in s.pass c.remove-gone.new.self order; restless = c.remove-2.new.self; pass = s.pass }) c.remove.ensures
-    ∙ viewed_gone s c.self.invariant c.in-Some.ensures.there c.remove-gone.ensures.value c.remove-gone.new.self c.remove-gone.ensures.updates c.remove-2.new.self c.args.self.now c.self.view_is
+    ∙ viewed_gone s c.self.invariant c.in-Some.ensures.there c.remove-gone.ensures.value c.remove-gone.ensures.updates _ c.self.view_is
 
 pub returns-in_default-clause-unlisted : goal.returns-in_default-clause-unlisted
 returns-in_default-clause-unlisted c known =
-    absurd (true≢false (sym known ∙ ap is_some (nowhere_seen c.self.inside c.self.invariant c.args.spot.page c.in_default.ensures.told c.args.self.now c.self.view_is)))
+    absurd (true≢false (sym known ∙ ap is_some (nowhere_seen c.self.inside c.self.invariant _ c.in_default.ensures.told c.self.view_is)))
 
 pub returns-clause-unlisted : goal.returns-clause-unlisted
 returns-clause-unlisted c _ = elim c.remove-2.ensures [
-  | inl is ↦
-      ap (λ (l : Listing). has_item c.args.spot.page l.pages) is ∙ without_lacks c.args.spot.page c.self.inside.restless.pages
+  | inl is ↦ ap (λ (l : Listing). has_item c.args.spot.page l.pages) is ∙ without_lacks c.args.spot.page _
   | inr is ↦ ap (λ (l : Listing). has_item c.args.spot.page l.pages) is
 ]
