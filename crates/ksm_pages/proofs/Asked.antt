@@ -1,18 +1,17 @@
 -- What is asked of the pages: the place of a page's dup, and the first page after a cursor.
-use Rattle.ksm_pages.proofs.Names.{[], after_cursor, All-cons, ap, arith, Bool, cases_Bool, comes_before, DupRow, each_at_page, Entry, eq-eqb, false, find, find_all, find_none, find_nothing, find_passes, get_or, GuestPage, held_at, held_of, inl, InPageOrder, inr, Inside, is_next, IsHeld, Kind, List, nat_tests, None, none-some, of_guest, Option, option_map, PagesValue, pairs_head, pairs_tail, place_of, refl, Row, row_at, rows_of, same_page, same_page_eq, seen, Some, state_of, subst, sym, true, true≢false, ℕ, ◌&&◌, ◌==◌, ◌∙◌, ◌∷◌, ◌≡◌, ◌≤◌}
+use Rattle.ksm_pages.proofs.Names.{[], after_cursor, All-cons, ap, arith, Bool, cases_Bool, comes_before, DupRow, each_at_page, Entry, false, find, find_all, find_none, find_nothing, find_passes, get_or, GuestPage, held_at, held_of, inl, InPageOrder, inr, Inside, is_next, IsHeld, Kind, List, nat_tests, None, none-some, of_guest, Option, option_map, PagesValue, pairs_head, pairs_tail, place_of, Row, row_at, rows_of, same_page, same_page_eq, seen, Some, state_of, subst, sym, true, true≢false, ℕ, ◌&&◌, ◌==◌, ◌∙◌, ◌∷◌, ◌≡◌, ◌≤◌}
 use Rattle.ksm_pages.proofs.Options.{mapped_some, none_mapped}
 use Rattle.std.specs.Prelude.{IfSome, MatchOption, option_and_then}
 use Rattle.ksm_tree.specs.Dups.{rows_of as dup_rows}
 use Rattle.ksm_pages.specs.declared.pages.Held.{Held as Told}
 use Rattle.ksm_pages.specs.declared.row.Kind.TheVariants as kinds
-use Rattle.ksm_pages.proofs.Gathering.{own_either}
 use Rattle.ksm_pages.proofs.Leaving.{AreLawful, row_seen, view_of}
 
 -- ---------------------------------------------------------------- the place of a page's dup
 
 -- a row with a frame of its own is in no dup
 pub placed_own : (number pass : ℕ) (dups : List DupRow) → None ≡ place_of (state_of kinds.Own number pass) dups
-placed_own number pass dups = own_either (λ state. None ≡ place_of state dups) refl refl _
+placed_own number pass dups = grind (arith, nat_tests)
 
 -- the place of the dup of a page is what the state of its entry says
 pub ticket_told : (s : Inside) {p : PagesValue} → view_of s ≡ p → {page known : GuestPage} → known ≡ page → (e : Entry)
@@ -31,13 +30,11 @@ find_narrower : {X : Type 0} (p q : X → Bool) → ((x : X) → q x ≡ true �
 find_narrower p q less [] x is passes = is
 find_narrower p q less (y ∷ ys) x is passes = elim (cases_Bool (p y)) [
   | inl first ↦
-      let same : y ≡ x = grind (arith, first, is) in
-      let here = ap q same ∙ passes in
-      grind (arith, here, same)
+      let same : y ≡ x = grind (arith) in
+      grind (arith)
   | inr out ↦
-      let narrow = less y in
-      let rest = find_narrower p q less ys x (grind (arith, out, is)) passes in
-      grind (arith, out, narrow, rest)
+      let rest = find_narrower p q less ys x (grind (arith)) passes in
+      grind (arith, rest)
 ]
 
 -- where no row in front of a page passes, and that of the page does, that is the first that passes, if it is there
@@ -50,10 +47,10 @@ first_at next page here ahead (x ∷ xs) up r found = elim (cases_Bool _) [
       let passes = here x (same_page_eq _ _ is) in
       grind (arith, is, passes, found)
   | inr other ↦
-      let there : row_at page xs ≡ Some r = grind (arith, other, found) in
-      let before : comes_before x.page r.page ≡ true =
+      let there : row_at page xs ≡ Some r = grind (arith) in
+      let before =
       find_all _ (λ s. comes_before x.page s.page ≡ true) _ r there (pairs_head (λ (a b : Row). comes_before a.page b.page ≡ true) x _ up) in
-      let at : r.page ≡ page = same_page_eq _ _ (find_passes (λ s. same_page s.page page) xs r there) in
+      let at = same_page_eq _ _ (find_passes (λ s. same_page s.page page) xs r there) in
       let out = ahead x (ap (comes_before x.page) (sym at) ∙ before) in
       let rest = first_at _ page here ahead xs (pairs_tail (λ (a b : Row). comes_before a.page b.page ≡ true) x xs up) r there in
       grind (arith, out, rest)
@@ -66,7 +63,7 @@ guests_rise p q before = grind (arith, nat_tests)
 -- a row at a page of the guest is a row of that guest
 pub of_some : {guest : Option ℕ} {g : ℕ} {page : GuestPage} → guest ≡ Some g → page.guest ≡ g → (x : Row) → x.page ≡ page
     → of_guest guest x ≡ true
-of_some {g} is at x of_page = ap (λ o. of_guest o x) is ∙ eq-eqb x.page.guest g (ap (λ (q : GuestPage). q.guest) of_page ∙ at)
+of_some is at x of_page = grind (arith, nat_tests, is, at, of_page)
 
 module _ (p : PagesValue) (guest : Option ℕ) (cursor : Option GuestPage) where
   abbrev next : Row → Bool
@@ -93,7 +90,7 @@ module _ (p : PagesValue) (guest : Option ℕ) (cursor : Option GuestPage) where
     rise = subst (λ (v : PagesValue). InPageOrder v.rows) seen_as are.order
 
     first_page : option_map (λ (r : Row). r.page) (find behind (rows_of s.rows.held)) ≡ option_map (λ (r : Row). r.page) (find behind p.rows)
-    first_page = ap (λ (v : PagesValue). option_map (λ (r : Row). r.page) (find behind v.rows)) seen_as
+    first_page = grind (arith, nat_tests)
 
     less : (r : Row) → next r ≡ true → behind r ≡ true
     less r is = elim (cases_Bool _) [
@@ -115,9 +112,7 @@ module _ (p : PagesValue) (guest : Option ℕ) (cursor : Option GuestPage) where
 
     module _ (page : GuestPage) (first : Some page ≡ option_map (λ (r : Row). r.page) (find behind (rows_of s.rows.held))) where
       there : (r : Row) × (find behind p.rows ≡ Some r) × (page ≡ r.page)
-      there =
-          let at = mapped_some _ _ (sym (first ∙ first_page)) in
-          (at.0, at.1, sym at.2)
+      there = grind (arith, nat_tests)
 
       abbrev r : Row
       r = there.0
@@ -139,14 +134,13 @@ module _ (p : PagesValue) (guest : Option ℕ) (cursor : Option GuestPage) where
           past [] up found = absurd (none-some r found)
           past (x ∷ xs) up found = elim (cases_Bool (behind x)) [
             | inl yes_it ↦
-                let is_first : x ≡ r = grind (arith, yes_it, found) in
-                let at : page.guest ≡ x.page.guest = ap (λ (q : GuestPage). q.guest) there.2 ∙ ap (λ (y : Row). y.page.guest) (sym is_first) in
-                find_nothing next (x ∷ xs) (All-cons (λ y. next y ≡ false) x xs (other x (omega (arith, at)))
+                let is_first : x ≡ r = grind (arith) in
+                let at = (λ i. (there.2 i).guest) ∙ (λ i. (sym is_first i).page.guest) in
+                find_nothing next (x ∷ xs) (All-cons (λ y. next y ≡ false) x xs (other x (omega (arith)))
                 (λ k d lt. let le = guests_rise x.page (get_or xs k d).page (pairs_head (λ (a b : Row). comes_before a.page b.page ≡ true) x xs up k d lt) in other (get_or xs k d) (omega (arith, at, le))))
             | inr not_it ↦
-                let out = not_next x not_it in
-                let rest = past xs (pairs_tail (λ (a b : Row). comes_before a.page b.page ≡ true) x xs up) (grind (arith, not_it, found)) in
-                grind (arith, out, rest)
+                let rest = past xs (pairs_tail (λ (a b : Row). comes_before a.page b.page ≡ true) x xs up) (grind (arith)) in
+                grind (arith, rest)
           ]
 
       -- where the first row behind the start is of the guest, what is told of that row is what comes next
@@ -154,5 +148,5 @@ module _ (p : PagesValue) (guest : Option ℕ) (cursor : Option GuestPage) where
           → MatchOption told (row_at page p.rows ≡ None) (IsHeld (seen p) page) → IsNext told
       next_told own told is =
           let of_it = own r (sym there.2) in
-          let passes : next r ≡ true = ap (λ b. b && after_cursor cursor r.page) of_it ∙ sym (same r of_it) ∙ find_passes behind p.rows r there.1 in
+          let passes = ap (λ b. b && after_cursor cursor r.page) of_it ∙ sym (same r of_it) ∙ find_passes behind p.rows r there.1 in
           told_next rise (ap (option_map (λ (x : Row). x.page)) (find_narrower _ _ less _ r there.1 passes) ∙ ap Some (sym there.2)) _ is

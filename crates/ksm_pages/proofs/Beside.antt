@@ -27,7 +27,7 @@ module _ (knobs : Knobs) (rows : List Row) (w : List WaitingPage) {row : Row} (r
       by : (o : Option GuestPage) → waits ≡ o → waits ≡ option_map (λ r. r.page) (partner knobs rows row)
       by None at = at ∙ looked_up at
       by (Some page) at =
-          let other : same_page page row.page ≡ false = ap (names row.page) (sym at) ∙ own_found knobs _ w _ found are ∙ still in
+          let other = ap (names row.page) (sym at) ∙ own_found knobs _ w _ found are ∙ still in
           at ∙ it at _ refl
           ∙ ap (λ z. option_map (λ (r : Row). r.page) (cond z None (row_at page rows))) (sym other)
           ∙ looked_up at
@@ -44,7 +44,7 @@ module _ (s : Inside) (are : AreLawful s) (p : PagesValue) (seen_as : view_of s 
   seen_beside : page_beside p.knobs p.rows (row_at page p.rows) ≡ waits_if (merged_state row.state)
   seen_beside =
       ap (page_beside p.knobs p.rows) (row_seen s seen_as _ found)
-      ∙ ap (λ (v : PagesValue). page_beside v.knobs v.rows (Some row)) (sym seen_as)
+      ∙ (λ i. page_beside (sym seen_as i).knobs (sym seen_as i).rows (Some row))
 
   none_beside : merged_state row.state ≡ false → None ≡ page_beside p.knobs p.rows (row_at page p.rows)
   none_beside alone = sym (seen_beside ∙ ap waits_if alone)
@@ -61,9 +61,9 @@ module _ (s : Inside) (are : AreLawful s) (p : PagesValue) (seen_as : view_of s 
   pub merged_beside : e.kind ≡ kinds.Merged → {tree : ℕ} → ((r : Row) → r.home ≡ e.home → tree ≡ tree_of s.knobs r)
       → waiting_page tree e.bytes s.dups.waiting ≡ page_beside p.knobs p.rows (row_at page p.rows)
   merged_beside is in_tree =
-      let merged : row.state ≡ Merged e.number = ap (λ k. state_of k e.number s.rows.pass) is in
+      let merged = ap (λ k. state_of k e.number s.rows.pass) is in
       let h = held_of s.rows.pass e in
-      let there : row_at row.page (rows_of s.rows.held) ≡ Some row =
+      let there =
       ap (λ q. row_at q (rows_of s.rows.held)) (of_page s are _ found) ∙ row_there s are _ found in
       ap (λ t. waiting_page t e.bytes s.dups.waiting) (in_tree row refl)
       ∙ partner_page s.knobs _ _ are.order are.waits there (ap waiting_state merged)

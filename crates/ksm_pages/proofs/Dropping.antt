@@ -1,5 +1,5 @@
 -- The pages once the stale dup at a place went.
-use Rattle.ksm_pages.proofs.Names.{[], All, All-head, All-tail, all_rows, ap, AreTied, arith, Bool, cases_Bool, Dup, dup_at, dup_numbered, DupRow, elsewhere, eq-eqb, eqb-true, false, filter, find, find_all, find_nothing, find_passes, frame_of, frame_seen, get_or, GuestPage, Held, inl, inr, is_live, is_some, is_stale, IsVacant, item_count, length, List, list_any, lodging, lodgings_of, Merged, merged_into, nat_lt, nat_tests, None, none_counted, not, Option, option_and_then, option_map, PageState, Private, refl, Row, row_at, rows_of, slice_get, Some, stands_at, sym, tied_counted, true, true≢false, Waiting, Zero, ℕ, ◌&&◌, ◌==◌, ◌∙◌, ◌∷◌, ◌≡◌, filter_all, find_none}
+use Rattle.ksm_pages.proofs.Names.{[], All, All-head, All-tail, all_rows, ap, AreTied, arith, Bool, cases_Bool, Dup, dup_at, dup_numbered, DupRow, elsewhere, eq-eqb, eqb-true, false, filter, find, find_all, find_nothing, find_passes, frame_of, frame_seen, get_or, GuestPage, Held, inl, inr, is_live, is_some, is_stale, IsVacant, item_count, length, List, list_any, lodging, lodgings_of, Merged, merged_into, nat_lt, nat_tests, None, none_counted, not, Option, option_and_then, option_map, PageState, refl, Row, row_at, rows_of, slice_get, Some, stands_at, sym, tied_counted, true, true≢false, ℕ, ◌&&◌, ◌==◌, ◌∙◌, ◌∷◌, ◌≡◌, filter_all, find_none}
 use Rattle.ksm_tree.specs.Dups.{rows_of as dup_rows}
 use Rattle.ksm_pages.proofs.Changing.{row_found}
 use Rattle.ksm_pages.proofs.Found.{find_kept}
@@ -11,8 +11,7 @@ vacant_stale : {place : ℕ} (rows : List Row) (dups : List Dup) → AreTied row
     → All (λ d. stands_at place d ≡ true → is_stale d ≡ true) dups
 vacant_stale {place} rows dups tied vacant k e lt at =
     let d = get_or dups k e in
-    let none : item_count rows d.row ≡ 0 = all_rows (λ r. r.place ≡ place → item_count rows r ≡ 0) dups vacant k e lt
-    (eqb-true d.row.place place at) in
+    let none = all_rows (λ r. r.place ≡ place → item_count rows r ≡ 0) dups vacant k e lt (eqb-true d.row.place place at) in
     eq-eqb (length d.items) 0 (tied_counted rows _ tied k e lt ∙ none)
 
 found_stale : (place : ℕ) (dups : List Dup) → All (λ d. stands_at place d ≡ true → is_stale d ≡ true) dups
@@ -46,15 +45,14 @@ none_live rows dups tied vacant =
     find_nothing _ _ (λ k e lt. live_or_stale _ _ (vacant_stale rows _ tied vacant k e lt))
   where
     live_or_stale : (at : Bool) (n : ℕ) → (at ≡ true → (n == 0) ≡ true) → (at && nat_lt 0 n) ≡ false
-    live_or_stale true n stale = let none = stale refl in grind (arith, nat_tests, none)
-    live_or_stale false n stale = refl
+    live_or_stale at n stale = grind (arith, nat_tests, stale)
 
 -- the dup into which a row is merged stands at no vacant place
 pub not_vacant : (rows : List Row) (dups : List DupRow) {place n : ℕ} (page : GuestPage) {r : Row} → IsVacant place rows dups
     → row_at page rows ≡ Some r → r.state ≡ Merged n
     → (e : DupRow) → dup_numbered n dups ≡ Some e → (e.place == place) ≡ false
 not_vacant rows dups {place} {n} page vacant there merged e found =
-    let number : e.number ≡ n = eqb-true e.number n (find_passes (λ d. d.number == n) dups e found) in
+    let number = eqb-true e.number n (find_passes (λ d. d.number == n) dups e found) in
     elim (cases_Bool _) [
       | inl here ↦
           let none = find_all (λ d. d.number == n) (λ d. d.place ≡ place → item_count rows d ≡ 0) dups e found vacant
@@ -73,14 +71,10 @@ lodged_alike {of} {to} held same = λ i page. (frame_by of held page ∙ go page
   where
     at : (state : PageState) (own : Option ℕ) → ((n : ℕ) → state ≡ Merged n → of n ≡ to n)
         → frame_seen of state own ≡ frame_seen to state own
-    at Private own alike = refl
-    at Waiting own alike = refl
-    at Zero own alike = refl
-    at (Merged n) own alike = alike n refl
+    at state own alike = grind (arith, nat_tests, alike)
 
     go : (page : GuestPage) (o : Option Held) → row_at page (rows_of held) ≡ option_map (λ h. h.row) o → seat of o ≡ seat to o
-    go page None is = refl
-    go page (Some h) is = at _ _ (λ n. same page h.row n is)
+    go page o is = grind (arith, nat_tests, is)
 
 -- without the dup at a vacant place every page lies where it lay
 pub lodged_dropped : {place : ℕ} (frames : List ℕ) (dups : List DupRow) (held : List Held) → IsVacant place (rows_of held) dups

@@ -1,5 +1,5 @@
 -- Entries under keys and the order of their pages: what is found, and what one entry that came, went or changed leaves.
-use Rattle.ksm_pages.proofs.Names.{All, All-append, All-cons, All-filter, All-map, ap, ap₂, AreAscending, AreFiled, Bool, cases_Bool, change_held, comes_before, cond, Decides-eqb, Entry, false, filter, filter_passes, find, find_all, find_passes, get, get_or, GuestPage, Held, held_at, held_in, held_of, held_under, holds, if◌then◌else◌, inl, InPageOrder, inr, is_of, IsUnder, key_in, List, map, map-append, marked, Named, named_of, None, not, option_map, refl, rows_of, same_page, same_page_eq, same_page_refl, same_page_sym, same_Some, Slab, Some, subst, sym, true, true≢false, with_held, with_named, without_held, without_named, ℕ, ◌++◌, ◌==◌, ◌∙◌, ◌∷◌, ◌≡◌, ◌≢◌}
+use Rattle.ksm_pages.proofs.Names.{All, All-append, All-cons, All-filter, All-map, ap, ap₂, AreAscending, AreFiled, arith, Bool, cases_Bool, change_held, comes_before, cond, Decides-eqb, Entry, false, filter, filter_passes, find, find_all, find_passes, get, get_or, GuestPage, Held, held_at, held_in, held_of, held_under, holds, if◌then◌else◌, inl, InPageOrder, inr, is_of, IsUnder, key_in, List, map, map-append, marked, Named, named_of, nat_tests, None, not, option_map, refl, rows_of, same_page, same_page_eq, same_page_refl, same_page_sym, same_Some, Slab, Some, subst, sym, true, true≢false, with_held, with_named, without_held, without_named, ℕ, ◌++◌, ◌==◌, ◌∙◌, ◌∷◌, ◌≡◌, ◌≢◌}
 use Rattle.ksm_pages.proofs.Options.{mapped_some, none_mapped}
 use Rattle.slab.specs.Slab.{Updates as Fills}
 use Rattle.ksm_tree.proofs.Numbering.{full}
@@ -25,18 +25,15 @@ Stands slab n = option_map (named_of n.key) (get slab n.key) ≡ Some n
 pub under_named : (slab : Slab Entry) (n : Named) → Stands slab n → IsUnder slab n.page n.key
 under_named slab n told =
     let at = mapped_some _ _ told in
-    record { entry = at.0; stands = at.1; of_page = ap (λ (m : Named). m.page) at.2 }
+    record { entry = at.0; stands = at.1; of_page = (λ i. (at.2 i).page) }
 
 -- the row under a key is of the page that the order names
 pub page_under : (pass : ℕ) (slab : Slab Entry) {n : Named} → Stands slab n → (held_under pass (get slab n.key)).row.page ≡ n.page
-page_under pass slab told = let u = under_named slab _ told in ap (λ o. (held_under pass o).row.page) u.stands ∙ u.of_page
+page_under pass slab told = grind (arith, nat_tests, told)
 
 -- a scan visits the row under a key exactly where the order says so of its page
 pub flag_under : (pass : ℕ) (slab : Slab Entry) {n : Named} → Stands slab n → (held_under pass (get slab n.key)).row.mergeable ≡ n.mergeable
-flag_under pass slab {n} told =
-    let u = under_named slab n told in
-    ap (λ o. (held_under pass o).row.mergeable) u.stands
-    ∙ ap (λ (m : Named). m.mergeable) (same_Some _ _ (sym (ap (option_map (named_of n.key)) u.stands) ∙ told))
+flag_under pass slab told = grind (arith, nat_tests, told)
 
 -- pages are named as their entries say, where those that are named stand so, and those that stand are named so
 pub filed_by : (slab : Slab Entry) (order : List Named) → All (Stands slab) order
@@ -72,7 +69,7 @@ module _ (slab : Slab Entry) (order : List Named) (filed : AreFiled slab order) 
   pub under : {page : GuestPage} {key : ℕ} → key_in order page ≡ Some key → IsUnder slab page key
   under {page} told =
       let at = mapped_some _ _ told in
-      let of_it : at.0.page ≡ page = same_page_eq _ _ (find_passes (is_of page) order _ at.1) in
+      let of_it = same_page_eq _ _ (find_passes (is_of page) order _ at.1) in
       let u = under_named slab _ ((filed at.0).0 (ap (λ p. find (is_of p) order) of_it ∙ at.1)) in
       record { entry = u.entry; stands = ap (get slab) (sym at.2) ∙ u.stands; of_page = u.of_page ∙ of_it }
 
@@ -130,10 +127,7 @@ module _ (slab : Slab Entry) (order : List Named) (rise : AreAscending order) (f
 
     -- under the key stands the entry of its page
     same_entry : (n : Named) → Stands slab n → n.key ≡ key → n.page ≡ e.page
-    same_entry n stands at =
-        let u = under_named slab n stands in
-        let same : e ≡ u.entry = same_Some e _ (sym stood ∙ ap (get slab) (sym at) ∙ u.stands) in
-        sym u.of_page ∙ ap (λ (x : Entry). x.page) (sym same)
+    same_entry n stands at = grind (arith, nat_tests, stands, at)
 
     module _ {later : Slab Entry} {e' : Entry} (fills : Fills slab later key (Some e')) (same : e'.page ≡ e.page) where
       -- where one entry is written anew, the row of its page is changed, and no other
@@ -143,16 +137,16 @@ module _ (slab : Slab Entry) (order : List Named) (rise : AreAscending order) (f
           at : (n : Named) → Stands slab n → (if holds e.page (held_by pass slab n) then f (held_by pass slab n) else held_by pass slab n) ≡ held_by pass later n
           at n stands = elim (cases_Bool _) [
             | inl here ↦
-                let is_key : n.key ≡ key = (Decides-eqb _ _).0 here in
-                let was : held_by pass slab n ≡ held_of pass e = ap (λ k. held_under pass (get slab k)) is_key ∙ ap (held_under pass) stood in
-                let now : held_by pass later n ≡ held_of pass e' = ap (λ k. held_under pass (get later k)) is_key ∙ ap (held_under pass) fills.changed in
+                let is_key = (Decides-eqb _ _).0 here in
+                let was = ap (λ k. held_under pass (get slab k)) is_key ∙ ap (held_under pass) stood in
+                let now = ap (λ k. held_under pass (get later k)) is_key ∙ ap (held_under pass) fills.changed in
                 ap (λ (h : Held). if holds e.page h then f h else h) was
                 ∙ ap (λ b. cond b (f (held_of pass e)) (held_of pass e)) (same_page_refl e.page)
                 ∙ sym is
                 ∙ sym now
             | inr other ↦
-                let apart : n.key ≢ key = differ_by other in
-                let no : holds e.page (held_by pass slab n) ≡ false = ap (λ p. same_page p e.page) (page_under _ slab stands) ∙ named_elsewhere stands apart in
+                let apart = differ_by other in
+                let no = ap (λ p. same_page p e.page) (page_under _ slab stands) ∙ named_elsewhere stands apart in
                 ap (λ b. cond b (f (held_by pass slab n)) (held_by pass slab n)) no ∙ ap (held_under pass) (sym (fills.others n.key apart))
           ]
 
@@ -160,8 +154,8 @@ module _ (slab : Slab Entry) (order : List Named) (rise : AreAscending order) (f
       named_later : e'.mergeable ≡ e.mergeable → (k : ℕ) → option_map (named_of k) (get later k) ≡ option_map (named_of k) (get slab k)
       named_later flag k = elim (cases_Bool _) [
         | inl here ↦
-            let is_key : k ≡ key = (Decides-eqb k _).0 here in
-            let named : named_of key e' ≡ named_of key e = ap₂ (λ p b. record { page = p; key = key; mergeable = b }) same flag in
+            let is_key = (Decides-eqb k _).0 here in
+            let named = ap₂ (λ p b. record { page = p; key = key; mergeable = b }) same flag in
             ap (λ j. option_map (named_of j) (get later j)) is_key
             ∙ ap (option_map (named_of key)) fills.changed
             ∙ ap Some named
@@ -194,22 +188,22 @@ module _ (slab : Slab Entry) (order : List Named) (rise : AreAscending order) (f
           marked_here = ap (λ b. cond b (record (named_of key e) { mergeable = e'.mergeable }) (named_of key e)) (same_page_refl e.page)
 
           marked_other : {m : Named} → same_page m.page e.page ≡ false → mark m ≡ m
-          marked_other {m} differ = ap (λ b. cond b (record m { mergeable = e'.mergeable }) m) differ
+          marked_other differ = grind (arith, nat_tests, differ)
 
           -- a page that stands in the order is named as its entry says later
           stands_later : {m : Named} → option_map (named_of m.key) (get slab m.key) ≡ Some m → option_map (named_of (mark m).key) (get later (mark m).key) ≡ Some (mark m)
           stands_later {m} stands = elim (cases_Bool _) [
             | inl here ↦
-                let is_key : m.key ≡ key = (Decides-eqb _ _).0 here in
-                let is : named_of key e ≡ m = same_Some _ _ (sym (ap (λ k. option_map (named_of k) (get slab k)) is_key ∙ ap (option_map (named_of key)) stood) ∙ stands) in
-                ap (λ (x : Named). option_map (named_of (mark x).key) (get later (mark x).key)) (sym is)
+                let is_key = (Decides-eqb _ _).0 here in
+                let is = same_Some _ _ (sym (ap (λ k. option_map (named_of k) (get slab k)) is_key ∙ ap (option_map (named_of key)) stood) ∙ stands) in
+                (λ i. option_map (named_of (mark (sym is i)).key) (get later (mark (sym is i)).key))
                 ∙ ap (λ (x : Named). option_map (named_of x.key) (get later x.key)) marked_here
                 ∙ ap (option_map (named_of key)) fills.changed
                 ∙ ap Some (here_named ∙ sym marked_here ∙ ap mark is)
             | inr other ↦
-                let apart : m.key ≢ key = differ_by other in
+                let apart = differ_by other in
                 let kept = marked_other (named_elsewhere stands apart) in
-                ap (λ (x : Named). option_map (named_of x.key) (get later x.key)) kept
+                (λ i. option_map (named_of (kept i).key) (get later (kept i).key))
                 ∙ ap (option_map (named_of m.key)) (fills.others m.key apart)
                 ∙ stands
                 ∙ ap Some (sym kept)

@@ -10,14 +10,14 @@ find_kept test keep [] o is kept = is
 find_kept test keep (x ∷ xs) o is kept =
     elim (cases_Bool (test x)) [
       | inl passes ↦
-          let here : o ≡ Some x = grind (arith, passes, is) in
+          let here : o ≡ Some x = grind (arith) in
           let stays = kept x here in
-          grind (arith, passes, stays, here)
+          grind (arith)
       | inr fails ↦
-          let rest = find_kept test keep xs o (grind (arith, fails, is)) kept in
+          let rest = find_kept test keep xs o (grind (arith)) kept in
           elim (cases_Bool (keep x)) [
-            | inl stays ↦ grind (arith, fails, stays, rest)
-            | inr goes ↦ grind (arith, goes, rest)
+            | inl stays ↦ grind (arith)
+            | inr goes ↦ grind (arith)
           ]
     ]
 
@@ -36,7 +36,7 @@ module _ {X : Type 0} (key : X → GuestPage) where
       (ap (λ b. cond b (Some x) (find (is_of_page (key x)) xs)) (same_page_refl (key x)))
       (λ k d lt.
       let z = get_or xs k d in
-      let apart : same_page (key x) (key z) ≡ false = pages_ordered.apart (key x) (key z) (pairs_head Before x _ rise k d lt) in
+      let apart = pages_ordered.apart (key x) (key z) (pairs_head Before x _ rise k d lt) in
       ap (λ b. cond b (Some x) (find (is_of_page (key z)) xs)) apart ∙ each_found xs (pairs_tail Before x _ rise) k d lt)
 
   module _ (page : GuestPage) where

@@ -1,27 +1,18 @@
 -- The pages once a page with a frame of its own joined a dup.
-use Rattle.ksm_pages.proofs.Names.{All, ap, AreKept, AreTied, AreWaiting, arith, both_ways, change_held, change_items, change_row, count_by, Dup, dup_numbered, dup_of, DupRow, DupsState, each_at_page, Entry, eq-eqb, eqb-true, false, find_none, frame_of, frame_seen, Frames, get_or, GuestPage, HasRoom, Held, held_at, held_of, InPageOrder, Inside, is_some, IsStopped, item_count, items_in, length, let_out, lies_on, List, Listing, lodging, lodgings_of, mapped, Merged, merged_into, merged_state, MOST_REFERENCES, None, none-some, number_found, Option, option_map, PageState, PagesValue, PagesView, Private, refl, Row, row_at, row_found, row_stopped, rows_items, rows_of, RowsView, same_Some, seen, shared_state, Some, state_of, subst, sym, tied_count, tied_joined, true, true≢false, Waiting, with_item, Zero, ℕ, ◌<◌, ◌==◌, ◌∙◌, ◌≡◌}
+use Rattle.ksm_pages.proofs.Names.{All, ap, AreKept, AreTied, AreWaiting, arith, both_ways, change_held, change_items, change_row, count_by, Dup, dup_numbered, dup_of, DupRow, DupsState, each_at_page, Entry, eq-eqb, false, find_none, frame_of, get_or, GuestPage, HasRoom, Held, held_at, held_of, InPageOrder, Inside, is_some, IsStopped, items_in, length, let_out, lies_on, List, Listing, lodging, lodgings_of, mapped, Merged, merged_into, merged_state, MOST_REFERENCES, nat_tests, None, number_found, Option, option_map, PageState, PagesValue, PagesView, refl, Row, row_at, row_found, row_stopped, rows_items, rows_of, RowsView, seen, shared_state, Some, subst, sym, tied_count, tied_joined, true, true≢false, with_item, ℕ, ◌<◌, ◌==◌, ◌∙◌, ◌≡◌}
 use Rattle.ksm_tree.specs.Dups.{items_of as items_numbered, rows_of as dup_rows}
-use Rattle.ksm_pages.specs.Held.{frame_of as own_frame}
-use Rattle.ksm_pages.proofs.Writing.{own_kind}
 use Rattle.ksm_pages.proofs.Changing.{row_found as found_rows}
-use Rattle.ksm_pages.proofs.Gathering.{own_either}
 use Rattle.ksm_pages.proofs.Options.{some_mapped}
 use Rattle.ksm_pages.proofs.Leaving.{AreLawful, lawful_turned, of_dup, of_page, row_there, told, view_of}
 use Rattle.ksm_pages.proofs.Lodgings.{frame_by, seat}
 
 -- a page with a frame of its own is not merged
 pub own_not_merged : (s : PageState) → shared_state s ≡ false → merged_state s ≡ false
-own_not_merged Private e = refl
-own_not_merged Waiting e = refl
-own_not_merged (Merged d) e = absurd (true≢false e)
-own_not_merged Zero e = refl
+own_not_merged s e = grind (arith, nat_tests, e)
 
 -- a page with a frame of its own leaves no dup, so letting it out changes none
 pub let_out_alone : (state : PageState) (page : GuestPage) {dups : List Dup} → shared_state state ≡ false → let_out state page dups ≡ dups
-let_out_alone Private page alone = refl
-let_out_alone Waiting page alone = refl
-let_out_alone Zero page alone = refl
-let_out_alone (Merged n) page alone = absurd (true≢false alone)
+let_out_alone state page alone = grind (arith, nat_tests, alone)
 
 known_at : {number : ℕ} (ds : List DupRow) (o : Option DupRow) → dup_numbered number ds ≡ o → (k : ℕ) (d : DupRow) → k < length ds
     → (get_or ds k d).number ≡ number → is_some o ≡ true
@@ -32,15 +23,14 @@ known_at ds (Some e) is k d lt at = refl
 has_known : (rows : List Row) (dups : List Dup) {number : ℕ} → HasRoom rows (dup_rows dups) number → is_some (dup_of number dups) ≡ true
 has_known rows dups room =
     sym (some_mapped (λ (d : Dup). d.row) _) ∙ ap is_some (row_found _ _ (λ d. refl) dups)
-    ∙ known_at _ _ refl _ _ room.1.1 (ap (λ (d : DupRow). d.number) room.1.2 ∙ room.2)
+    ∙ known_at _ _ refl _ _ room.1.1 ((λ i. (room.1.2 i).number) ∙ room.2)
 
 found_room : (rows : List Row) (dups : List Dup) {number : ℕ} (o : Option Dup) → AreTied rows dups → dup_of number dups ≡ o
     → HasRoom rows (dup_rows dups) number → (is_some o ≡ true) × (length (items_in o) < MOST_REFERENCES)
 found_room rows dups None tied is room = absurd (true≢false (sym (has_known rows dups room) ∙ ap is_some is))
 found_room rows dups {number} (Some d) tied is room =
     let counted = ap (λ o. length (items_in o)) (sym is) ∙ tied_count rows dups number d tied is in
-    let same : item_count rows d.row ≡ item_count rows room.0 = ap (λ n. count_by (λ r. merged_into n r.state) rows)
-    (number_found number dups d is ∙ sym room.2) in
+    let same = ap (λ n. count_by (λ r. merged_into n r.state) rows) (number_found number dups d is ∙ sym room.2) in
     (refl, omega (arith, counted, same, room.3))
 
 -- a dup with room for an item is found by its number
@@ -53,17 +43,9 @@ pub fewer_room : (rows : List Row) (dups : List Dup) {number : ℕ} → AreTied 
     → length (items_numbered number dups) < MOST_REFERENCES
 fewer_room rows dups tied room = (found_room rows _ _ tied refl room).1
 
-in_state : (of : ℕ → Option ℕ) (number : ℕ) (state : PageState) (own : Option ℕ) → merged_into number state ≡ true
-    → frame_seen of state own ≡ of number
-in_state of number Private own is = absurd (true≢false (sym is))
-in_state of number Waiting own is = absurd (true≢false (sym is))
-in_state of number Zero own is = absurd (true≢false (sym is))
-in_state of number (Merged n) own is = ap of (eqb-true n number is)
-
 item_seat : (of : ℕ → Option ℕ) (number : ℕ) {r : Row} → merged_into number r.state ≡ true → (o : Option Held)
     → option_map (λ (h : Held). h.row) o ≡ Some r → seat of o ≡ of number
-item_seat of number merged None is = absurd (none-some _ is)
-item_seat of number merged (Some h) is = in_state of _ _ _ (ap (λ (x : Row). merged_into number x.state) (same_Some _ _ is) ∙ merged)
+item_seat of number merged o is = grind (arith, nat_tests, merged, is)
 
 -- an item of a dup lies where all its items do
 pub item_lies : (of : ℕ → Option ℕ) (held : List Held) → InPageOrder (rows_of held) → (number : ℕ)
@@ -75,8 +57,7 @@ item_lies of held rise number k d lt merged =
 -- a page with a frame of its own lies on that frame
 pub own_seat : (of : ℕ → Option ℕ) (pass : ℕ) (e : Entry) → shared_state (held_of pass e).row.state ≡ false
     → seat of (Some (held_of pass e)) ≡ Some e.at
-own_seat of pass e alone = ap (λ k. frame_seen of (state_of k e.number pass) (own_frame k e.at)) (own_kind _ _ pass alone)
-    ∙ own_either (λ state. frame_seen of state (Some e.at) ≡ Some e.at) refl refl _
+own_seat of pass e alone = grind (arith, nat_tests, alone)
 
 module _ (s : Inside) (are : AreLawful s) (page : GuestPage) {h : Held} (found : held_at page s.rows.held ≡ Some h)
     (alone : shared_state h.row.state ≡ false) (number : ℕ)
@@ -84,27 +65,27 @@ module _ (s : Inside) (are : AreLawful s) (page : GuestPage) {h : Held} (found :
     (out : later ≡ record joined { dups = let_out h.row.state h.row.page joined.dups; waiting = later.waiting })
     (stopped : IsStopped s.knobs h.row joined.waiting later.waiting) where
   now_in : later.dups ≡ change_items number (with_item page) s.dups.dups
-  now_in = ap (λ (d : DupsState). d.dups) out ∙ let_out_alone _ _ alone ∙ ap (λ (d : DupsState). d.dups) into
+  now_in = grind (arith, nat_tests)
 
   joined_dups : dup_rows later.dups ≡ dup_rows s.dups.dups
   joined_dups = ap dup_rows now_in ∙ rows_items _ _ _
 
   joined_next : later.next ≡ s.dups.next
-  joined_next = ap (λ (d : DupsState). d.next) out ∙ ap (λ (d : DupsState). d.next) into
+  joined_next = grind (arith, nat_tests)
 
   -- the pages are lawful once a page with a frame of its own joined a dup
   pub lawful_joined : (rows : RowsView) → rows.held ≡ change_held page (mapped (Merged number) None) s.rows.held
       → AreKept s.shape s.knobs (rows_of rows.held) later s.frames.items
   lawful_joined rows turned =
       let before = rows_of s.rows.held in
-      let item : Row = record h.row { state = Merged number } in
-      let at : h.row.page ≡ page = of_page s are _ found in
+      let item = record h.row { state = Merged number } in
+      let at = of_page s are _ found in
       lawful_turned s are _ found (mapped (Merged number) None) (λ r. record r { state = Merged number }) (λ x. refl)
-      (λ r. refl) rows turned (ap (λ (d : DupsState). d.places) out ∙ ap (λ (d : DupsState). d.places) into)
+      (λ r. refl) rows turned ((λ i. (out i).places) ∙ (λ i. (into i).places))
       (subst (AreTied (change_row page (λ _. item) before)) (sym now_in) (tied_joined _ _ _ are.order (row_there s are _ found) _ _ _
       (own_not_merged _ alone) at refl are.tied)) (subst (λ q. AreWaiting s.knobs (change_row q (λ _. item) before) later.waiting) at
       (row_stopped s.knobs _ _ are.waits _ _ _ (ap (λ q. row_at q before) at ∙ row_there s are _ found) refl
-      (subst (λ w. IsStopped s.knobs h.row w later.waiting) (ap (λ (d : DupsState). d.waiting) into) stopped)))
+      (subst (λ w. IsStopped s.knobs h.row w later.waiting) (λ i. (into i).waiting) stopped)))
 
   -- once a page joined a dup, it lies where the dup's items do, and else all is seen as it was
   pub told_joined : {rows : RowsView} → rows ≡ record s.rows { held = change_held page (mapped (Merged number) None) s.rows.held }
@@ -114,13 +95,11 @@ module _ (s : Inside) (are : AreLawful s) (page : GuestPage) {h : Held} (found :
       × All (λ r. merged_into number r.state ≡ true → now.frame ≡ lies_on page ((seen p).frame r.page) (seen p).frame) p.rows
   told_joined {rows} turned {p} seen_as =
       let item : Row → Row = λ r. record r { state = Merged number } in
-      let lies_there : Frames = lies_on page (of_dup s number) (frame_of p.lodgings) in
-      let whole : seen (view_of (record s { rows = rows; dups = later })) ≡ record
-      (seen p) { rows = change_row page item p.rows; frame = lies_there } =
-      told s are _ found _ item (λ x. refl) (λ r. refl) rows
-      (ap (λ (r : RowsView). r.held) turned) seen_as later joined_dups joined_next _ refl refl
+      let lies_there = lies_on page (of_dup s number) (frame_of p.lodgings) in
+      let whole =
+      told s are _ found _ item (λ x. refl) (λ r. refl) rows (λ i. (turned i).held) seen_as later joined_dups joined_next _ refl refl
       ∙ ap (λ (l : Listing). record (seen p) { rows = change_row page item p.rows; frame = lies_there; restless = l })
-      (ap (λ (r : RowsView). r.restless) turned ∙ ap (λ (v : PagesValue). v.restless) seen_as) in
+      ((λ i. (turned i).restless) ∙ (λ i. (seen_as i).restless)) in
       let frame : frame_of (lodgings_of (lodging (dup_rows later.dups) s.frames.items) rows.held) ≡ lies_there = ap
       (λ (v : PagesView). v.frame) whole in
       let lain = subst (λ (v : PagesValue). All

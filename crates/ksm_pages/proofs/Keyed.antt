@@ -35,7 +35,7 @@ module _ {X : Type 0} (key : X → GuestPage) where
     pub kept_all : (f : X → X) (ys : List X) → All (λ z. is_it z ≡ false) ys → map (λ y. if is_it y then f y else y) ys ≡ ys
     kept_all f [] none = refl
     kept_all f (y ∷ ys) none =
-        let here : is_it y ≡ false = none 0 y (omega arith) in
+        let here = none 0 y (omega arith) in
         let rest = kept_all f ys (λ k d lt. none (suc k) d (omega arith)) in
         grind (arith, here, rest)
 

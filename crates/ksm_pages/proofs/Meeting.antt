@@ -1,5 +1,5 @@
 -- The page that waits in the tree of a row with its bytes once the row was visited, and the row that is its partner.
-use Rattle.ksm_pages.proofs.Names.{ap, AreWaiting, change_row, cond, false, find_passes, GuestPage, if◌then◌else◌, InPageOrder, IsAdded, Knobs, List, look_up_found, MatchOption, names, None, Option, option_and_then, own_found, partner, partner_found, refl, Row, row_at, row_begun, row_kept, same_page, same_page_eq, same_page_refl, Some, subst, sym, tree_of, true, true≢false, unwrap_or, Waiting, waiting_page, waiting_state, WaitingPage, waits_there, ◌∙◌, ◌≡◌}
+use Rattle.ksm_pages.proofs.Names.{ap, AreWaiting, arith, change_row, cond, false, find_passes, GuestPage, if◌then◌else◌, InPageOrder, IsAdded, Knobs, List, look_up_found, MatchOption, names, nat_tests, None, Option, option_and_then, own_found, partner, partner_found, refl, Row, row_at, row_begun, row_kept, same_page, same_page_eq, Some, subst, sym, tree_of, true, unwrap_or, Waiting, waiting_page, WaitingPage, waits_there, ◌∙◌, ◌≡◌}
 use Rattle.std.specs.Option.{is_some}
 
 module _ (knobs : Knobs) (rows : List Row) (w : List WaitingPage) (row : Row) (rise : InPageOrder rows) (are : AreWaiting knobs rows w)
@@ -23,15 +23,11 @@ module _ (knobs : Knobs) (rows : List Row) (w : List WaitingPage) (row : Row) (r
       go : (o : Option GuestPage) → waits ≡ o → partner knobs rows row ≡ None
       go None at = looked_up at
       go (Some page) at = looked_up at
-          ∙ ap (λ b. cond b None (row_at page rows)) (ap (λ (p : GuestPage). same_page p row.page) (sym (met_so at)) ∙ own)
+          ∙ ap (λ b. cond b None (row_at page rows)) ((λ i. same_page (sym (met_so at) i) row.page) ∙ own)
 
   -- where the page that waits with the row's bytes is another page, that page waited before
   pub met_other : same_page met row.page ≡ false → waits ≡ Some met
-  met_other other = go _ refl
-    where
-      go : (o : Option GuestPage) → waits ≡ o → waits ≡ Some met
-      go None at = absurd (true≢false (sym (ap (λ (p : GuestPage). same_page p row.page) (met_so at) ∙ same_page_refl row.page) ∙ other))
-      go (Some page) at = at ∙ ap Some (sym (met_so at))
+  met_other other = grind (arith, nat_tests, other)
 
   -- where the page that waits with the row's bytes is another page, its row is the partner
   pub met_partner : same_page met row.page ≡ false → MatchOption (partner knobs rows row) (true ≡ false) (λ r. met ≡ r.page)
@@ -55,7 +51,7 @@ module _ (knobs : Knobs) (rows : List Row) (w : List WaitingPage) (row : Row) (r
           row_begun knobs _ w are _ _ _ found (sym (own_found knobs _ w _ found are) ∙ ap (names row.page) at) refl at
           (subst (λ (p : GuestPage). IsAdded (tree_of knobs row) row.bytes p w new) (met_so at) added)
       go (Some page) at =
-          let before : waiting_state row.state ≡ true = sym (own_found knobs _ w _ found are) ∙ ap (names row.page) at
-          ∙ ap (λ (p : GuestPage). same_page p row.page) (sym (met_so at)) ∙ own in
+          let before = sym (own_found knobs _ w _ found are) ∙ ap (names row.page) at
+          ∙ (λ i. same_page (sym (met_so at) i) row.page) ∙ own in
           subst (AreWaiting knobs (change_row row.page (λ _. record row { state = Waiting }) rows)) (sym (again (ap is_some at)))
           (row_kept knobs _ w are _ _ found (refl, refl, refl, sym before))

@@ -1,5 +1,5 @@
 -- What is read of the pages: rows and dups found by their pages, places and numbers.
-use Rattle.ksm_pages.proofs.Names.{[], Ahead, All, ap, AreAllListed, AreDups, AreTied, AreWaiting, arith, At, Bool, cases_Bool, comes_before, cond, Contains, Contains-from_any, Dup, dup_at, dup_numbered, dup_of, DupRow, DupsState, each_has_number, End, false, filter, find, find_all, found_passing, frame_seen, get_or, GuestPage, has_items, Held, held_at, inl, InPageOrder, InPlaceOrder, inr, is_live, is_some, is_stale, items_in, items_of, Kind, Knobs, last_or, last_page, length, length-map, List, list_any, live_placed, lodging, lodgings_of, map, merged_into, None, not, not-not, Option, option_and_then, option_map, option_or, pages_ahead, passing, Reaches, refl, Row, row_at, rows_between, rows_of, same_page, same_page_eq, shared_state, slice_get, slice_get-get_or, slice_get-map, Some, stale_alike, stands_at, stands_numbered, state_of, subst, suc, sym, tied_counted, true, unwrap_or-slice_get, waiting_state, WaitingPage, waits_there, ℕ, ◌&&◌, ◌-◌, ◌<◌, ◌==◌, ◌∙◌, ◌∷◌, ◌≡◌}
+use Rattle.ksm_pages.proofs.Names.{[], Ahead, All, ap, AreAllListed, AreDups, AreTied, AreWaiting, arith, At, Bool, cases_Bool, comes_before, cond, Contains, Contains-from_any, Dup, dup_at, dup_numbered, dup_of, DupRow, DupsState, each_has_number, End, false, filter, find, find_all, found_passing, frame_seen, get_or, GuestPage, has_items, Held, held_at, inl, InPageOrder, InPlaceOrder, inr, is_live, is_some, is_stale, items_in, items_of, Kind, Knobs, last_or, last_page, length, length-map, List, list_any, live_placed, lodging, lodgings_of, map, merged_into, nat_tests, None, not, Option, option_and_then, option_map, option_or, pages_ahead, passing, Reaches, refl, Row, row_at, rows_between, rows_of, same_page, same_page_eq, shared_state, slice_get, slice_get-get_or, slice_get-map, Some, stale_alike, stands_at, stands_numbered, state_of, subst, suc, sym, tied_counted, true, unwrap_or-slice_get, waiting_state, WaitingPage, waits_there, ℕ, ◌&&◌, ◌-◌, ◌<◌, ◌==◌, ◌∙◌, ◌∷◌, ◌≡◌}
 use Rattle.std.proofs.Common.{unwrap_or}
 use Rattle.ksm_base.specs.Rows.{is_stale as is_stale_row}
 use Rattle.ksm_tree.specs.Dups.{rows_of as dup_rows}
@@ -10,7 +10,6 @@ use Rattle.ksm_pages.specs.Paged.{ComesTo, frame_of as lies_at, is_restless}
 use Rattle.ksm_tree.proofs.Alike.{filter_mapped}
 use Rattle.ksm_rmap.proofs.Ordered.{any_found}
 use Rattle.ksm_pages.proofs.Changing.{nothing_held, row_found}
-use Rattle.ksm_pages.proofs.Gathering.{framed, own_either}
 use Rattle.ksm_pages.proofs.Joined.{item_lies}
 use Rattle.ksm_pages.proofs.Options.{mapped_some, mapped_twice, some_mapped}
 use Rattle.ksm_pages.proofs.Lodgings.{frame_by, seat}
@@ -24,11 +23,11 @@ row_known page held = sym (some_mapped (λ (h : Held). h.row) _) ∙ ap is_some 
 -- a row is shared exactly where it has no frame of its own
 pub shared_by : {b : Bool} (kind : Kind) (number pass at : ℕ) → not b ≡ is_some (frame_of kind at)
     → b ≡ shared_state (state_of kind number pass)
-shared_by {b} kind number pass at is = sym (not-not b) ∙ ap not (is ∙ framed _ _ _ _) ∙ not-not (shared_state (state_of kind number pass))
+shared_by kind number pass at is = grind (arith, nat_tests, is)
 
 -- a row with a frame of its own lies on it
 pub lies_own : (of_dup : ℕ → Option ℕ) (number pass : ℕ) {at : ℕ} → Some at ≡ frame_seen of_dup (state_of kinds.Own number pass) (Some at)
-lies_own of_dup number pass {at} = own_either (λ state. Some at ≡ frame_seen of_dup state (Some at)) refl refl _
+lies_own of_dup number pass = grind (arith, nat_tests)
 
 -- where no row waits, the waiting pages are right for any knobs
 pub knobs_free : (knobs tuned : Knobs) (rows : List Row) (w : List WaitingPage) → AreWaiting knobs rows w → All (λ r. waiting_state r.state ≡ false) rows → AreWaiting tuned rows w
@@ -93,10 +92,10 @@ pub items_lodge : (held : List Held) {s : DupsState} (frames : List ℕ) → InP
 items_lodge held {s} frames rise lawful as_many {frame} is k e lt at i f lt_row merged =
     let of_dup = lodging (dup_rows s.dups) frames in
     let d = get_or (dup_rows s.dups) k e in
-    let lodges : of_dup d.number ≡ Some frame =
+    let lodges =
     ap (option_and_then (λ (x : DupRow). slice_get frames x.place)) (each_has_number _ lawful.in_place_order k e lt)
     ∙ ap (slice_get frames) at
-    ∙ within _ (let below = lawful.places_below k e lt in omega (arith, below, at, as_many))
+    ∙ within _ (omega (arith))
     ∙ ap Some (sym is) in
     item_lies _ _ rise _ i f lt_row merged ∙ lodges
   where
@@ -117,13 +116,13 @@ module _ (rows : List Row) (dups : List Dup) (place : ℕ) (tied : AreTied rows 
     where
       go : (o : Option Dup) → dup_at place dups ≡ o → Some row ≡ option_map (λ (d : Dup). d.row) (passing is_live o)
           → option_map (items_of rows) (option_map (λ (d : Dup). d.row) (find (λ d. stands_at place d && is_live d) dups)) ≡ Some (items_in (dup_at place dups))
-      go None there no_it = absurd (grind (arith, no_it))
+      go None there no_it = absurd (grind (arith))
       go (Some d) there one = elim (cases_Bool _) [
         | inl live ↦
             ap (λ o. option_map (items_of rows) (option_map (λ (d : Dup). d.row) o)) (found_passing _ _ _ rise ∙ ap (passing is_live) there ∙ ap (λ b. cond b (Some d) None) live)
             ∙ ap Some (sym (find_all _ (λ e. e.items ≡ items_of rows e.row) _ d there tied))
             ∙ ap (λ o. Some (items_in o)) (sym there)
-        | inr stale ↦ absurd (grind (arith, one, stale))
+        | inr stale ↦ absurd (grind (arith))
       ]
 
 -- ---------------------------------------------------------------- the scan's way

@@ -65,7 +65,7 @@ both_changed q p f same apart rows =
         ≡ cond (same_page r.page q || same_page r.page p) (f r) r
     at r = elim (cases_Bool _) [
       | inl here ↦
-          let away : same_page (f r).page p ≡ false = ap (λ x. same_page x p) (same r ∙ same_page_eq _ q here) ∙ apart in
+          let away = ap (λ x. same_page x p) (same r ∙ same_page_eq _ q here) ∙ apart in
           ap (λ b. (λ (x : Row). cond (same_page x.page p) (f x) x) (cond b (f r) r)) here ∙ ap (λ b. cond b (f (f r)) (f r)) away
           ∙ ap (λ b. cond (b || same_page r.page p) (f r) r) (sym here)
       | inr other ↦ ap (λ b. (λ (x : Row). cond (same_page x.page p) (f x) x) (cond b (f r) r)) other
@@ -205,9 +205,9 @@ module _ {s : Inside} {p : PagesValue} {place : ℕ} {first second : GuestPage} 
 
     now_dups : later.dups ≡ with_new (record { row = dup; items = with_item b.row.page (a.row.page ∷ []) }) s.dups.dups
     now_dups =
-        ap (λ (d : DupsState). d.dups) out_too ∙ let_out_alone _ _ may.second_alone
-        ∙ ap (λ (d : DupsState). d.dups) out ∙ let_out_alone _ _ may.first_alone
-        ∙ ap (λ (d : DupsState). d.dups) is_made
+        (λ i. (out_too i).dups) ∙ let_out_alone _ _ may.second_alone
+        ∙ (λ i. (out i).dups) ∙ let_out_alone _ _ may.first_alone
+        ∙ (λ i. (is_made i).dups)
         ∙ ap₂ (λ q r. with_new (record { row = dup; items = with_item r (q ∷ []) }) s.dups.dups) at_first at_second
 
     now_rows : dup_rows later.dups ≡ with_dup dup (dup_rows s.dups.dups)
@@ -217,7 +217,7 @@ module _ {s : Inside} {p : PagesValue} {place : ℕ} {first second : GuestPage} 
 
     now_held : rows.held ≡ change_held b.row.page into half
     now_held =
-        ap (λ (r : RowsView). r.held) turned
+        (λ i. (turned i).held)
         ∙ ap (λ n. both_merged n first second s.rows.held) is_number
         ∙ ap₂ (λ q r. both_merged s.dups.next q r s.rows.held) at_first at_second
 
@@ -256,11 +256,11 @@ module _ {s : Inside} {p : PagesValue} {place : ℕ} {first second : GuestPage} 
           (subst (AreTied (change_row b.row.page (λ _. item b.row) one_row)) (sym now_dups)
           (tied_made _ _ _ _ are.order may.first_is may.second_is (own_not_merged _ may.first_alone)
           (own_not_merged _ may.second_alone) may.fresh _ lawful.numbers_below are.tied));
-      places = ap (λ (d : DupsState). d.places) out_too ∙ ap (λ (d : DupsState). d.places) out ∙ ap (λ (d : DupsState). d.places) is_made
+      places = (λ i. (out_too i).places) ∙ (λ i. (out i).places) ∙ (λ i. (is_made i).places)
           ∙ are.places;
       waits = subst (λ rs. AreWaiting s.knobs rs later.waiting) (sym whole) (row_stopped s.knobs _ _
           (row_stopped s.knobs _ _ are.waits _ _ _ may.first_is refl
-          (subst (λ w. IsStopped s.knobs a.row w between.waiting) (ap (λ (d : DupsState). d.waiting) is_made) stopped))
+          (subst (λ w. IsStopped s.knobs a.row w between.waiting) (λ i. (is_made i).waiting) stopped))
           _ _ _ (at_others _ b.row.page before may.apart ∙ may.second_is) refl stopped_too);
       room = length-set s.frames.items place frame ∙ are.room;
     }
@@ -309,7 +309,7 @@ module _ {s : Inside} {p : PagesValue} {place : ℕ} {first second : GuestPage} 
         let changed = both_rows ∙ ap (change_row b.row.page item) half_rows
         ∙ both_changed _ _ _ (λ r. refl) may.apart _ in
         let dups = now_rows ∙ ap (λ t. with_dup (record dup { tree = t }) (dup_rows s.dups.dups)) (in_tree b.row refl) in
-        let next = ap (λ (d : DupsState). d.next) out_too ∙ ap (λ (d : DupsState). d.next) out ∙ ap (λ (d : DupsState). d.next) is_made in
+        let next = (λ i. (out_too i).next) ∙ (λ i. (out i).next) ∙ (λ i. (is_made i).next) in
         let listed = ap (λ (r : RowsView). r.restless) turned in
         λ i. record (seen (view_of s)) { rows = changed i; frame = now_lie i; dups = dups i; next = next i; restless = listed i }
 

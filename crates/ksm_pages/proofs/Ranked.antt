@@ -15,19 +15,19 @@ use Rattle.ksm_order.proofs.Parts.{up_to_few}
 
 module _ (page : GuestPage) (few : page.page < 2 ^ 32) where
   pub is_its : (x : Item) → is_of page (named_by x) ≡ is_at (key_of page) x
-  is_its x = grind (arith, nat_tests, few)
+  is_its x = grind (arith, nat_tests)
 
   pub before_its : (x : Item) → comes_before (named_by x).page page ≡ nat_lt x.key (key_of page)
-  before_its x = grind (arith, nat_tests, few)
+  before_its x = grind (arith, nat_tests)
 
   pub behind_its : (x : Item) → comes_before page (named_by x).page ≡ nat_lt (key_of page) x.key
-  behind_its x = grind (arith, nat_tests, few)
+  behind_its x = grind (arith, nat_tests)
 
   pub from_its : (x : Item) → comes_before page (named_by x).page ≡ is_from (key_of page + 1) x
-  from_its x = grind (arith, nat_tests, few)
+  from_its x = grind (arith, nat_tests)
 
   pub page_is : page_of (key_of page) ≡ page
-  page_is = grind (arith, few)
+  page_is = grind (arith)
 
 -- ---------------------------------------------------------------- all pages and all items
 
@@ -44,8 +44,7 @@ pub absent_by : (page : GuestPage) → page.page < 2 ^ 32 → (items : List Item
 absent_by page few items absent = go _ (sym (found_by _ few _) ∙ absent)
   where
     go : (o : Option Item) → option_map named_by o ≡ None → o ≡ None
-    go None is = refl
-    go (Some x) is = absurd (none-some _ (sym is))
+    go o is = grind (arith, nat_tests, is)
 
 pub with_by : {page : GuestPage} → page.page < 2 ^ 32 → (x : Item) → x.key ≡ key_of page → {n : Named} → named_by x ≡ n → n.page ≡ page → (items : List Item)
     → with_named n (map named_by items) ≡ map named_by (with_item x items)
@@ -89,24 +88,24 @@ module _ (key : ℕ) where
       elim (cases_Bool x.marked) [
         | inl is ↦ elim (cases_lt x.key key) [
           | inl less ↦
-              let n : up_to key (x ∷ xs) ≡ suc (up_to key xs) = grind (arith, nat_tests, is, less, counts) in
-              let fails : (x.marked && is_from key x) ≡ false = grind (arith, nat_tests, less) in
-              let all : kept_marked (x ∷ xs) ≡ x ∷ kept_marked xs = grind (arith, is) in
+              let n : up_to key (x ∷ xs) ≡ suc (up_to key xs) = grind (arith, nat_tests) in
+              let fails : (x.marked && is_from key x) ≡ false = grind (arith, nat_tests) in
+              let all : kept_marked (x ∷ xs) ≡ x ∷ kept_marked xs = grind (arith) in
               let kept : filter (λ y. y.marked && is_from key y) (x ∷ xs) ≡ filter (λ y. y.marked && is_from key y) xs = grind (arith, fails) in
               kept ∙ rest ∙ sym (ap₂ (λ m ys. drop m ys) n all)
           | inr more ↦
-              let later : All (λ y. key ≤ y.key) xs = λ k d lt. let up : x.key < (get_or xs k d).key = pairs_head Less x xs rise k d lt in omega (arith, up, more) in
+              let later : All (λ y. key ≤ y.key) xs = λ k d lt. let up = pairs_head Less x xs rise k d lt in omega (arith, up) in
               let none = up_to_behind key xs later in
-              let n : up_to key (x ∷ xs) ≡ 0 = grind (arith, nat_tests, more, none, counts) in
-              let passes : (x.marked && is_from key x) ≡ true = grind (arith, nat_tests, is, more) in
-              let all : kept_marked (x ∷ xs) ≡ x ∷ kept_marked xs = grind (arith, is) in
+              let n : up_to key (x ∷ xs) ≡ 0 = grind (arith, nat_tests) in
+              let passes : (x.marked && is_from key x) ≡ true = grind (arith, nat_tests) in
+              let all : kept_marked (x ∷ xs) ≡ x ∷ kept_marked xs = grind (arith) in
               let kept : filter (λ y. y.marked && is_from key y) (x ∷ xs) ≡ x ∷ filter (λ y. y.marked && is_from key y) xs = grind (arith, passes) in
               kept ∙ ap (λ ys. x ∷ ys) (rest ∙ ap (λ m. drop m (kept_marked xs)) none) ∙ sym (ap₂ (λ m ys. drop m ys) n all)
         ]
         | inr other ↦
-            let n : up_to key (x ∷ xs) ≡ up_to key xs = grind (arith, other, counts) in
-            let all : kept_marked (x ∷ xs) ≡ kept_marked xs = grind (arith, other) in
-            let kept : filter (λ y. y.marked && is_from key y) (x ∷ xs) ≡ filter (λ y. y.marked && is_from key y) xs = grind (arith, other) in
+            let n : up_to key (x ∷ xs) ≡ up_to key xs = grind (arith) in
+            let all : kept_marked (x ∷ xs) ≡ kept_marked xs = grind (arith) in
+            let kept : filter (λ y. y.marked && is_from key y) (x ∷ xs) ≡ filter (λ y. y.marked && is_from key y) xs = grind (arith) in
             kept ∙ rest ∙ sym (ap₂ (λ m ys. drop m ys) n all)
       ]
 
@@ -121,18 +120,18 @@ module _ (key : ℕ) where
       let counts = count_more (λ y. y.marked && nat_lt y.key key) x xs in
       elim (cases_Bool x.marked) [
         | inl is ↦
-            let all : kept_marked (x ∷ xs) ≡ x ∷ kept_marked xs = grind (arith, is) in
+            let all : kept_marked (x ∷ xs) ≡ x ∷ kept_marked xs = grind (arith) in
             let more = count_more below x (kept_marked xs) in
-            let same : (x.marked && nat_lt x.key key) ≡ below x = grind (arith, is) in
+            let same : (x.marked && nat_lt x.key key) ≡ below x = grind (arith) in
             counts ∙ ap₂ (λ b m. (if b then 1 else 0) + m) same rest ∙ sym (ap (count_by below) all ∙ more)
         | inr other ↦
-            let all : kept_marked (x ∷ xs) ≡ kept_marked xs = grind (arith, other) in
-            let n : up_to key (x ∷ xs) ≡ up_to key xs = grind (arith, other, counts) in
+            let all : kept_marked (x ∷ xs) ≡ kept_marked xs = grind (arith) in
+            let n : up_to key (x ∷ xs) ≡ up_to key xs = grind (arith) in
             n ∙ rest ∙ sym (ap (count_by below) all)
       ]
 
   nothing_below : (x : Item) (xs : List Item) → AreAscending (x ∷ xs) → key ≤ x.key → All (λ y. below y ≡ false) xs
-  nothing_below x xs rise more k d lt = let up : x.key < (get_or xs k d).key = pairs_head Less x _ rise k d lt in grind (arith, nat_tests, up, more)
+  nothing_below x xs rise more k d lt = let up = pairs_head Less x _ rise k d lt in grind (arith, nat_tests, up)
 
   -- where items are in order, those before a key stand first
   kept_first : (xs : List Item) → AreAscending xs → filter below xs ≡ take (count_by below xs) xs
@@ -143,12 +142,12 @@ module _ (key : ℕ) where
       elim (cases_lt x.key key) [
         | inl less ↦
             let n : count_by below (x ∷ xs) ≡ suc (count_by below xs) = grind (arith, nat_tests, less, counts) in
-            let kept : filter below (x ∷ xs) ≡ x ∷ filter below xs = grind (arith, nat_tests, less) in
+            let kept : filter below (x ∷ xs) ≡ x ∷ filter below xs = grind (arith, nat_tests) in
             kept ∙ ap (λ ys. x ∷ ys) rest ∙ sym (ap (λ m. take m (x ∷ xs)) n)
         | inr more ↦
-            let all : All (λ y. below y ≡ false) (x ∷ xs) = All-cons (λ y. below y ≡ false) x xs (grind (arith, nat_tests, more)) (nothing_below x _ rise more) in
+            let all = All-cons (λ y. below y ≡ false) x xs (grind (arith, nat_tests)) (nothing_below x _ rise more) in
             let none = filter_none below (x ∷ xs) all in
-            let n : count_by below (x ∷ xs) ≡ 0 = sym (length-filter below (x ∷ xs)) ∙ ap length none in
+            let n = sym (length-filter below (x ∷ xs)) ∙ ap length none in
             none ∙ sym (ap (λ m. take m (x ∷ xs)) n)
       ]
 
@@ -167,11 +166,11 @@ module _ (key : ℕ) where
       let rest = kept_between n xs (pairs_tail Less x _ rise) in
       let counts = count_more below x xs in
       let same : count_by below (x ∷ xs) - suc n ≡ count_by below xs - n = elim (cases_lt x.key key) [
-        | inl less ↦ let m : count_by below (x ∷ xs) ≡ 1 + count_by below xs = grind (arith, nat_tests, less, counts) in omega (arith, m)
+        | inl less ↦ let m : count_by below (x ∷ xs) ≡ 1 + count_by below xs = grind (arith, nat_tests) in omega (arith)
         | inr more ↦
-            let m : count_by below (x ∷ xs) ≡ count_by below xs = grind (arith, nat_tests, more, counts) in
-            let none : count_by below xs ≡ 0 = sym (length-filter below xs) ∙ ap length (filter_none below _ (nothing_below x _ rise more)) in
-            omega (arith, m, none)
+            let m : count_by below (x ∷ xs) ≡ count_by below xs = grind (arith, nat_tests) in
+            let none = sym (length-filter below xs) ∙ ap length (filter_none below _ (nothing_below x _ rise more)) in
+            omega (arith, none)
       ] in
       rest ∙ ap (λ m. take m (drop n xs)) (sym same)
 
@@ -179,7 +178,7 @@ module _ (key : ℕ) where
 pub rises_by : (items : List Item) → AreAscending items → AreInOrder (map named_by items)
 rises_by items rise =
     pairs_mapped Less (λ (m n : Named). comes_before m.page n.page ≡ true) (λ (x : Item). x.key ≡ x.key) _
-    (λ a b _ _ less. grind (arith, nat_tests, less)) items (λ k d lt. refl) rise
+    (λ a b _ _ less. grind (arith, nat_tests)) items (λ k d lt. refl) rise
 
 -- one item more
 pub longer_by : (n : Named) (x : Item) (items : List Item) → AreAscending items → find (is_of n.page) (map named_by items) ≡ None
@@ -224,13 +223,13 @@ pub gone_one : (key : ℕ) (xs : List Item) → AreAscending xs → is_some (fin
 gone_one key [] rise there = absurd (true≢false (sym there))
 gone_one key (x ∷ xs) rise there = elim (cases_Bool _) [
   | inl is ↦
-      let at : x.key ≡ key = eqb-true x.key key is in
-      let others = filter_all (λ y. not (is_at key y)) xs (λ k d lt. let up : x.key < (get_or xs k d).key = pairs_head Less x xs rise k d lt in grind (arith, nat_tests, up, at)) in
-      let kept : without key (x ∷ xs) ≡ without key xs = grind (arith, is) in
+      let at = eqb-true x.key key is in
+      let others = filter_all (λ y. not (is_at key y)) xs (λ k d lt. let up = pairs_head Less x xs rise k d lt in grind (arith, nat_tests, up, at)) in
+      let kept : without key (x ∷ xs) ≡ without key xs = grind (arith) in
       omega (arith, ap length kept, ap length others)
   | inr other ↦
-      let later : is_some (find (is_at key) xs) ≡ true = grind (arith, other, there) in
-      let kept : without key (x ∷ xs) ≡ x ∷ without key xs = grind (arith, other) in
+      let later : is_some (find (is_at key) xs) ≡ true = grind (arith) in
+      let kept : without key (x ∷ xs) ≡ x ∷ without key xs = grind (arith) in
       omega (arith, ap length kept, gone_one key xs (pairs_tail Less x _ rise) later)
 ]
 
@@ -255,7 +254,7 @@ module _ (items : List Item) {now : List Named} (seen_as : map named_by items �
     pub passed_is : passed_to cursor page now ≡ take (before - passed) (drop passed (visited now))
     passed_is =
         let marked_ones = kept_marked items in
-        let whole : drop passed (visited now) ≡ map named_by (drop passed marked_ones) = ap (drop passed) visited_is ∙ drop-map named_by passed marked_ones in
+        let whole = ap (drop passed) visited_is ∙ drop-map named_by passed marked_ones in
         let count = many ∙ counted_marked (key_of page) items in
         ap (filter (λ n. comes_before n.page page)) (ahead ∙ whole)
         ∙ filter_mapped named_by (λ n. comes_before n.page page) (below (key_of page)) _ (λ k d lt. before_its _ few (get_or (drop passed marked_ones) k d))
@@ -274,5 +273,5 @@ module _ (items : List Item) {now : List Named} (seen_as : map named_by items �
         → page_at (passed_to cursor page now) (length (passed_to cursor page now) - 1) ≡ Some (page_of key)
     passed_last some key is =
         ap₂ (λ ns n. page_at ns (n - 1)) passed_is passed_many
-        ∙ ap (option_map (λ n. n.page)) (get_taken (before - passed) (before - passed - 1) _ (omega (arith, some)) ∙ get_dropped _ _ (visited now))
-        ∙ ap (page_at (visited now)) (omega (arith, some)) ∙ visited_at (before - 1) key is
+        ∙ ap (option_map (λ n. n.page)) (get_taken (before - passed) (before - passed - 1) _ (omega (arith)) ∙ get_dropped _ _ (visited now))
+        ∙ ap (page_at (visited now)) (omega (arith)) ∙ visited_at (before - 1) key is

@@ -1,13 +1,12 @@
 -- The rows once each entry was changed, or the next pass began.
-use Rattle.ksm_pages.proofs.Names.{[], ap, ap₂, AreFiled, AreListed, arith, Bool, CalledAt, cond, count_by, count_none, Entry, false, forgotten, get, get_or, has_item, Held, held_in, held_of, held_under, is_restless, IsRows, IsTally, Kind, List, Listing, map, Merged, MutBor, Named, named_of, None, on_row, Option, option_map, PageState, Private, refl, RetainsFrom, rows_of, settled, settled_state, Slab, Some, state_of, subst, sym, Tally, true, Waiting, Zero, ℕ, ◌+◌, ◌∙◌, ◌∷◌, ◌≡◌, ◌≢◌, ◌≤◌, holds}
+use Rattle.ksm_pages.proofs.Names.{[], ap, ap₂, AreFiled, AreListed, arith, Bool, CalledAt, cond, count_by, count_none, Entry, false, forgotten, get, get_or, has_item, Held, held_in, held_of, held_under, is_restless, IsRows, IsTally, List, Listing, map, Merged, MutBor, Named, named_of, nat_tests, None, on_row, Option, option_map, PageState, Private, refl, RetainsFrom, rows_of, settled, Slab, Some, subst, sym, Tally, true, Waiting, Zero, ℕ, ◌+◌, ◌∙◌, ◌∷◌, ◌≡◌, ◌≤◌, holds}
 use Rattle.ksm_pages.proofs.Options.{mapped_some}
 use Rattle.std.proofs.Math.ListN.{get_or-map}
 use Rattle.ksm_pages.specs.declared.row.Kind.TheVariants as kinds
 use Rattle.ksm_tree.proofs.Alike.{count_mapped, map_mapped}
-use Rattle.ksm_pages.proofs.Filing.{all_stand, under_named}
-use Rattle.ksm_pages.proofs.Gathering.{own_either}
+use Rattle.ksm_pages.proofs.Filing.{all_stand}
 use Rattle.ksm_pages.proofs.Resting.{settled_by}
-use Rattle.ksm_pages.proofs.Writing.{left_fits, rest_of, rests_apart}
+use Rattle.ksm_pages.proofs.Writing.{left_fits}
 
 -- where each call of a retain keeps its value and changes it by g, all full slots are changed by g
 pub retained_all : {T F : Type 0} (step : F → ℕ → MutBor T → Bool → MutBor T → F → Type 0) (g : T → T) → ((f : F) (k : ℕ) (old : T) (keep : Bool) (new : T) (next : F) → CalledAt step f k old keep new next → (keep ≡ true) × (new ≡ g old))
@@ -19,12 +18,6 @@ retained_all step g says f key (Some old ∷ rest) kept (keep, new, next, called
     is
     ∙ ap (λ b. cond b (Some new) None ∷ later) told.0
     ∙ ap₂ (λ x xs. Some x ∷ xs) told.1 (retained_all step g says next (key + 1) rest later r)
-
--- an entry's state is settled where the number of an own page is not the pass, and any other number stays
-pub state_settled : (kind : Kind) {number left : ℕ} (pass : ℕ) {after : ℕ} → (kind ≡ kinds.Own → left ≢ after) → (kind ≢ kinds.Own → left ≡ number) → state_of kind left after ≡ settled_state (state_of kind number pass)
-state_settled kinds.Own pass {after} own other = rests_apart after (own refl) ∙ sym (own_either (λ state. settled_state state ≡ Private) refl refl _)
-state_settled kinds.Merged pass own other = ap Merged (other (λ is. cc))
-state_settled kinds.Zero pass own other = refl
 
 -- rows whose states are read alike before and after a change are counted alike
 counts_alike : (f : Held → Held) (p q : PageState → Bool) → ((h : Held) → p (f h).row.state ≡ q h.row.state) → (held : List Held)
@@ -60,11 +53,7 @@ module _ {slab : Slab Entry} {order : List Named} {restless : Listing} {tally : 
     (later : Slab Entry) (after : ℕ) (g : Entry → Entry) (all : (k : ℕ) → get later k ≡ option_map g (get slab k))
     (same : (e : Entry) → (g e).page ≡ e.page) (flag : (e : Entry) → (g e).mergeable ≡ e.mergeable) (kind : (e : Entry) → (g e).kind ≡ e.kind) where
   named_all : (k : ℕ) → option_map (named_of k) (get later k) ≡ option_map (named_of k) (get slab k)
-  named_all k = ap (option_map (named_of k)) (all k) ∙ go _
-    where
-      go : (o : Option Entry) → option_map (named_of k) (option_map g o) ≡ option_map (named_of k) o
-      go None = refl
-      go (Some e) = ap₂ (λ p b. Some (record { page = p; key = k; mergeable = b })) (same e) (flag e)
+  named_all k = grind (arith, nat_tests)
 
   -- once each entry is changed, but for its page, flag and kind, pages are named as their entries say
   pub all_filed : AreFiled later order
@@ -83,19 +72,14 @@ module _ {slab : Slab Entry} {order : List Named} {restless : Listing} {tally : 
       (λ k e stands may. ap (λ p. has_item p restless.pages) (same e) ∙ are.listed known k e stands (sym (restless_same e) ∙ may))
     where
       restless_same : (e : Entry) → is_restless (g e) ≡ is_restless e
-      restless_same e = ap₂ (λ m k. is_restless (record e { mergeable = m; kind = k })) (flag e) (kind e)
+      restless_same e = grind (arith, nat_tests)
 
   -- once each entry is changed so that its row is changed by f, all rows are changed by f
   pub all_seen : (f : Held → Held) → ((k : ℕ) (e : Entry) → get slab k ≡ Some e → held_of after (g e) ≡ f (held_of pass e)) → held_in after later order ≡ map f (held_in pass slab order)
   all_seen f is = sym (map_mapped _ _ _ _ (λ k d lt. at _ (all_stand slab _ are.ascending are.filed k d lt)))
     where
       at : (n : Named) → option_map (named_of n.key) (get slab n.key) ≡ Some n → f (held_under pass (get slab n.key)) ≡ held_under after (get later n.key)
-      at n stands =
-          let u = under_named slab n stands in
-          ap (λ o. f (held_under pass o)) u.stands
-          ∙ sym (is n.key u.entry u.stands)
-          ∙ sym (ap (λ o. held_under after (option_map g o)) u.stands)
-          ∙ ap (held_under after) (sym (all n.key))
+      at n stands = grind (arith, nat_tests, stands)
 
   -- once each entry is changed so that its row is settled, the rows are lawful, and none waits
   pub all_settled : ((k : ℕ) (e : Entry) → get slab k ≡ Some e → held_of after (g e) ≡ on_row settled (held_of pass e)) → ((k : ℕ) (e : Entry) → get slab k ≡ Some e → (g e).kind ≡ kinds.Own → (g e).number ≤ after) → 1 ≤ after
@@ -109,24 +93,14 @@ module _ {slab : Slab Entry} {order : List Named} {restless : Listing} {tally : 
     counting = counting;
   }
 
--- an entry whose state is another
-abbrev in_state : PageState → Held → Held
-in_state state h = on_row (λ r. record r { state = state }) h
-
 module _ {slab : Slab Entry} {order : List Named} {restless : Listing} {tally : Tally} {pass : ℕ} (are : IsRows slab order restless tally pass) where
   -- ---------------------------------------------------------------- the next pass
 
   itself : (k : ℕ) → get slab k ≡ option_map (λ (e : Entry). e) (get slab k)
-  itself k = go _
-    where
-      go : (o : Option Entry) → o ≡ option_map (λ (e : Entry). e) o
-      go None = refl
-      go (Some e) = refl
+  itself k = grind (arith, nat_tests)
 
   settled_next : (k : ℕ) (e : Entry) → get slab k ≡ Some e → held_of (pass + 1) e ≡ on_row settled (held_of pass e)
-  settled_next k e stands =
-      ap (λ st. in_state st (held_of pass e))
-      (state_settled _ _ (λ own same. let fits = are.begun k e stands own in absurd (omega (arith, fits, same))) (λ other. refl))
+  settled_next k e stands = grind (arith, nat_tests, stands)
 
   -- in the next pass each row is seen settled
   pub next_seen : held_in (pass + 1) slab order ≡ map (on_row settled) (held_in pass slab order)
@@ -145,7 +119,7 @@ module _ {slab : Slab Entry} {order : List Named} {restless : Listing} {tally : 
     forgot k = ap (λ xs. get_or xs k None) slots ∙ get_or-map (option_map forgotten) slab.slots k None
 
     settled_anew : (k : ℕ) (e : Entry) → get slab k ≡ Some e → held_of 1 (forgotten e) ≡ on_row settled (held_of pass e)
-    settled_anew k e stands = ap (λ st. in_state st (held_of pass e)) (rest_of _ _ pass 1 (omega arith))
+    settled_anew k e stands = grind (arith, nat_tests, stands)
 
     -- once each entry forgot its pass, each row is seen settled in pass 1
     pub anew_seen : held_in 1 later order ≡ map (on_row settled) (held_in pass slab order)

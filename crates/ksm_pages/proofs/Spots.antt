@@ -1,5 +1,5 @@
 -- Spots in the order of their pages: the pages of them, once one was put in, written or taken away.
-use Rattle.ksm_pages.proofs.Names.{[], add-one, and_parts, ap, append-nil, append_assoc, ap₂, AreInOrder, arith, Bool, cases_Bool, comes_before, cond_both, drop, drop_all, Entry, false, filter, find, find_filter, find_passes, get, get_or, get_or_default, GuestPage, has_item, if◌then◌else◌, inl, inr, insert, is_restless, is_some, is_useless, IsCalm, length, length-append, length-map, length-take-le, List, map, map-append, None, not, not-true, Option, pages_of, pages_ordered, point_is_count, refl, same_page, same_page_eq, set, Slab, Some, Spot, subst, sym, take, true, true≢false, with_found, with_item, ℕ, ◌++◌, ◌+◌, ◌-◌, ◌<◌, ◌∙◌, ◌∷◌, ◌≡◌, ◌≤◌, ◌⊎◌}
+use Rattle.ksm_pages.proofs.Names.{[], add-one, and_parts, ap, append-nil, append_assoc, ap₂, AreInOrder, arith, Bool, cases_Bool, comes_before, drop, drop_all, Entry, false, filter, find, find_filter, find_passes, get, get_or, get_or_default, GuestPage, has_item, if◌then◌else◌, inl, inr, insert, is_restless, is_some, is_useless, IsCalm, length, length-append, length-map, length-take-le, List, map, map-append, nat_tests, None, not, not-true, Option, pages_of, pages_ordered, point_is_count, refl, same_page, same_page_eq, set, Slab, Some, Spot, subst, sym, take, true, true≢false, with_found, with_item, ℕ, ◌++◌, ◌+◌, ◌-◌, ◌<◌, ◌∙◌, ◌∷◌, ◌≡◌, ◌≤◌, ◌⊎◌}
 use Rattle.std.specs.List.{copy_within}
 use Rattle.std.proofs.Math.Seq.{take-append_seam, take-suc}
 use Rattle.std.proofs.lemmas.Bool.{false_from_ne_true}
@@ -56,7 +56,7 @@ module _ (spot : Spot) (spots : List Spot) (rise : AreInOrder spots) where
   same_pages = map_mapped _ _ _ _ (λ k d lt. here _)
     where
       here : (s : Spot) → (if same_page s.page spot.page then spot else s).page ≡ s.page
-      here s = cond_both _ spot s (λ x. x.page ≡ s.page) (λ same. sym (same_page_eq _ _ same)) (λ _. refl)
+      here s = grind (arith, nat_tests)
 
   -- with a spot written over the one of its page, the pages are those with the page of that spot
   pub written_pages : has_item spot.page (pages_of spots) ≡ true → pages_of written ≡ with_item spot.page (pages_of spots)
@@ -94,12 +94,12 @@ swept {entries} spots {page} has = go _ refl (sym (listed_found page _) ∙ has)
 pub moved_up : {X : Type 0} (xs : List X) (at : ℕ) (x : X) → at ≤ length xs → set (copy_within (xs ++ x ∷ []) at (length xs) (at + 1)) at x ≡ insert xs at x
 moved_up xs at x within =
     let l = xs ++ x ∷ [] in
-    let many : length l ≡ length xs + 1 = length-append xs (x ∷ []) in
-    let front : take (at + 1) l ≡ take at xs ++ get_or l at x ∷ [] =
-    ap (λ n. take n l) (add-one at) ∙ take-suc l at x (omega (arith, many)) ∙ ap (λ ys. ys ++ get_or l at x ∷ []) (take-append-le at xs (x ∷ []) within) in
-    let back : take (length xs - at) (drop at l) ≡ drop at xs =
+    let many = length-append xs (x ∷ []) in
+    let front =
+    ap (λ n. take n l) (add-one at) ∙ take-suc l at x (omega (arith)) ∙ ap (λ ys. ys ++ get_or l at x ∷ []) (take-append-le at xs (x ∷ []) within) in
+    let back =
     sym (drop-take at _ l) ∙ ap (λ n. drop at (take n l)) (omega arith) ∙ ap (drop at) (take-append_seam xs (x ∷ [])) in
-    let none : drop (at + 1 + (length xs - at)) l ≡ [] = drop_all _ l (omega (arith, many)) in
+    let none = drop_all _ l (omega (arith)) in
     ap (λ ys. set ys at x) (ap₂ (λ a b. a ++ b) (ap₂ (λ a b. a ++ b) front back) none
     ∙ append-nil ((take at xs ++ get_or l at x ∷ []) ++ drop at xs)
     ∙ append_assoc (take at xs) (get_or l at x ∷ []) (drop at xs))

@@ -1,9 +1,9 @@
 -- The pages once a call changed the row of one page: they are lawful, and what is seen of them changed so.
-use Rattle.ksm_pages.proofs.Names.{[], All-map, ap, ap₂, AreKept, AreTied, AreWaiting, at_mapped, cases_Bool, change_held, change_row, cond, cond_both, DupsState, false, find_passes, frame_of, frame_seen, get_or, GuestPage, Held, held_at, holds, if◌then◌else◌, inl, InPageOrder, inr, Inside, IsAlone, IsKnown, IsLeft, lies_on, List, Listing, Lodging, lodging, lodgings_of, map, mapped, MatchOption, merged_state, None, none_waiting, on_row, Option, option_map, ordered_map, PageState, PagesValue, PagesView, Private, refl, Row, row_at, rows_of, RowsView, same_page, same_page_eq, seen, settled_state, shared_state, Some, subst, sym, tied_mapped, true≢false, waiting_state, waits_there, without_held, without_page, ℕ, ⊤, ◌∙◌, ◌≡◌}
+use Rattle.ksm_pages.proofs.Names.{[], All-map, ap, ap₂, AreKept, AreTied, AreWaiting, arith, at_mapped, cases_Bool, change_held, change_row, cond, cond_both, DupsState, false, find_passes, frame_of, frame_seen, get_or, GuestPage, Held, held_at, holds, if◌then◌else◌, inl, InPageOrder, inr, Inside, IsAlone, IsKnown, IsLeft, lies_on, List, Listing, lodging, lodgings_of, map, mapped, MatchOption, merged_state, nat_tests, None, none_waiting, on_row, Option, option_map, ordered_map, PageState, PagesValue, PagesView, Private, refl, Row, row_at, rows_of, RowsView, same_page, same_page_eq, seen, settled_state, shared_state, Some, subst, sym, tied_mapped, true≢false, waiting_state, waits_there, without_held, without_page, ℕ, ⊤, ◌∙◌, ◌≡◌}
 use Rattle.std.proofs.lemmas.Bool.{some_since}
 use Rattle.ksm_tree.specs.Dups.{rows_of as dup_rows}
 use Rattle.ksm_tree.proofs.Alike.{map_alike, map_mapped}
-use Rattle.ksm_pages.proofs.Leaving.{AreLawful, alone_found, held_twice, lawful_gone, lawful_left, lies, of_dup, same_dups, same_next, told, told_gone, told_still, view_of}
+use Rattle.ksm_pages.proofs.Leaving.{AreLawful, alone_found, held_twice, lawful_gone, lawful_left, lies, of_dup, same_dups, told, told_gone, told_still, view_of}
 use Rattle.ksm_pages.proofs.Lodgings.{seat}
 use Rattle.ksm_pages.proofs.Resting.{item_alike, known_row, lies_alike, lies_settled, rests, settled_again, settled_still}
 
@@ -14,7 +14,7 @@ pub record Comes (s : Inside) (rows : RowsView) (later : DupsState) (new : Pages
 
 -- equal values of the rows hold the same
 pub held_as : {old new : RowsView} → new ≡ old → new.held ≡ old.held
-held_as same = ap (λ (r : RowsView). r.held) same
+held_as same = λ i. (same i).held
 
 -- two changes of the row of a page, one after the other, are one change
 pub and_then : (page : GuestPage) (f g : Row → Row) → ((r : Row) → (f r).page ≡ r.page) → (old : List Held) {first second : List Held}
@@ -62,7 +62,7 @@ module _ {s : Inside} {p : PagesValue} {page : GuestPage} {later : DupsState} {f
     dups_same = same_dups s it.lawful _ it.found it.left.dups it.left.waiting
 
     next_same : later.next ≡ s.dups.next
-    next_same = same_next s it.lawful _ it.found it.left.dups it.left.waiting
+    next_same = grind (arith, nat_tests)
 
     module _ (rows : RowsView) {restless : Listing} (listed : rows.restless ≡ restless) where
       -- a page that has left comes to another state and lies where that state and its frame say
@@ -94,7 +94,7 @@ module _ {s : Inside} {p : PagesValue} {page : GuestPage} {later : DupsState} {f
           → Comes s rows later (record (seen p) { rows = change_row page to p.rows; restless = restless })
       rested g to same rest alone_seen agree turned =
           let alone = alone_found s it.seen_as _ it.found alone_seen in
-          let private : (g it.held.row).state ≡ Private = ap (λ (r : Row). r.state) (agree alone) ∙ rest it.held.row in
+          let private = (λ i. (agree alone i).state) ∙ rest it.held.row in
           let stays = ap (λ st. frame_seen (of_dup s) st it.held.frame) (private ∙ sym (rests _ alone))
           ∙ lies_settled (of_dup s) _ it.held.frame in
           record {
@@ -103,7 +103,7 @@ module _ {s : Inside} {p : PagesValue} {page : GuestPage} {later : DupsState} {f
             told_as =
                 told_still s it.lawful _ it.found _ g
                 (λ x. refl) same rows turned it.seen_as later dups_same next_same _ (agree alone) stays
-                ∙ ap (λ (l : Listing). record (seen p) { rows = change_row page to p.rows; restless = l }) listed;
+                ∙ (λ i. record (seen p) { rows = change_row page to p.rows; restless = (listed i) });
           }
 
     -- a page that has left and whose row is gone is seen no more, and lies on no frame
@@ -134,9 +134,9 @@ module _ (s : Inside) (are : AreLawful s) {p : PagesValue} (seen_as : view_of s 
     lawful = record {
       small = are.small;
       order = subst InPageOrder (sym changed) (ordered_map f _ pages are.order);
-      tied = subst (λ rs. AreTied rs later.dups) (sym changed) (subst (AreTied (map f before)) (ap (λ (d : DupsState). d.dups) (sym rest))
+      tied = subst (λ rs. AreTied rs later.dups) (sym changed) (subst (AreTied (map f before)) (λ i. (sym rest i).dups)
           (tied_mapped f _ _ (λ k d lt. let r = get_or before k d in (pages r, λ number. item_alike _ _ _ (like r))) are.tied));
-      places = ap (λ (d : DupsState). d.places) rest ∙ are.places;
+      places = (λ i. (rest i).places) ∙ are.places;
       waits = subst (λ rs. AreWaiting s.knobs rs later.waiting) (sym changed) waits;
       room = are.room;
     };
@@ -148,7 +148,7 @@ module _ (s : Inside) (are : AreLawful s) {p : PagesValue} (seen_as : view_of s 
           next = ap (λ (d : DupsState). d.next) rest i;
           restless = listed i;
         })
-        ∙ ap (λ (v : PagesValue). record (seen v) { rows = map f v.rows; restless = restless }) seen_as;
+        ∙ (λ i. record (seen (seen_as i)) { rows = map f (seen_as i).rows; restless = restless });
   }
     where
       changed : rows_of rows.held ≡ map f before
@@ -158,10 +158,7 @@ module _ (s : Inside) (are : AreLawful s) {p : PagesValue} (seen_as : view_of s 
           ∙ sym (map_mapped _ _ _ _ (λ k d lt. refl))
 
       dups : dup_rows later.dups ≡ dup_rows s.dups.dups
-      dups = ap (λ (d : DupsState). dup_rows d.dups) rest
-
-      lodged : Held → Lodging
-      lodged h = record { page = h.row.page; frame = frame_seen (of_dup s) h.row.state h.frame }
+      dups = λ i. dup_rows (rest i).dups
 
       lain : frame_of (lodgings_of (lodging (dup_rows later.dups) s.frames.items) rows.held) ≡ frame_of (lodgings_of (of_dup s) s.rows.held)
       lain =
@@ -178,7 +175,7 @@ module _ (s : Inside) (are : AreLawful s) {p : PagesValue} (seen_as : view_of s 
   rest_all f pages states rows turned listed cleared =
       still f pages (λ r. ap settled_state (states r) ∙ settled_again _) _ turned listed _
       (cleared ∙ (λ i. record s.dups { waiting = (sym cleared i).waiting }))
-      (subst (AreWaiting s.knobs (map f before)) (ap (λ (d : DupsState). d.waiting) (sym cleared))
+      (subst (AreWaiting s.knobs (map f before)) (λ i. (sym cleared i).waiting)
       (none_waiting s.knobs _ (All-map (λ r. waiting_state r.state ≡ false) f _
       (λ k d lt. ap waiting_state (states (get_or before k d)) ∙ settled_still _))))
 
@@ -221,5 +218,4 @@ module _ (s : Inside) (are : AreLawful s) {p : PagesValue} (seen_as : view_of s 
               cond_both _ _ _ (λ x. waits_there s.knobs t b (Some r) ≡ waits_there s.knobs t b (Some x))
               (λ at. let here = sym (same_page_eq _ _ at) ∙ same_page_eq _ q
               (find_passes (λ r. same_page r.page q) _ r is) in
-              sym (alike r (ap (λ (v : PagesValue). row_at page v.rows) (sym seen_as) ∙ ap (λ q. row_at q before) here ∙ is) t b))
-              (λ _. refl)
+              sym (alike r ((λ i. row_at page (sym seen_as i).rows) ∙ ap (λ q. row_at q before) here ∙ is) t b)) (λ _. refl)

@@ -1,5 +1,5 @@
 -- What a visit finds of a row that it may change, and the pages once the row waits.
-use Rattle.ksm_pages.proofs.Names.{all_zero, ap, AreKept, AreTied, AreWaiting, Best, best_dup, best_found, best_of, Bool, change_held, change_row, Dup, DupRow, DupsState, Entry, false, Find, Finds, FindsAt, found_at, GuestPage, Held, held_at, held_of, Inside, is_for_zero, IsAdded, IsAlone, List, Listing, MatchOption, None, none-some, not, number_of, on_row, Option, option_map, PagesValue, PagesView, partner, Private, refl, Row, row_at, rows_of, RowsView, same_page, same_Some, seen, shared_state, Some, subst, sym, tied_counted, tied_left, tree_of, true, unwrap_or, Waiting, waiting_page, ℕ, ◌&&◌, ◌==◌, ◌∙◌, ◌≡◌, and_parts, not-true}
+use Rattle.ksm_pages.proofs.Names.{all_zero, ap, AreKept, AreTied, AreWaiting, arith, Best, best_dup, best_found, best_of, Bool, change_held, change_row, Dup, DupRow, DupsState, Entry, false, Find, Finds, FindsAt, found_at, GuestPage, Held, held_at, held_of, Inside, is_for_zero, IsAdded, IsAlone, List, MatchOption, nat_tests, None, not, number_of, on_row, Option, option_map, PagesValue, PagesView, partner, Private, refl, Row, row_at, rows_of, RowsView, same_page, seen, shared_state, Some, subst, sym, tied_counted, tied_left, tree_of, true, unwrap_or, Waiting, waiting_page, ℕ, ◌&&◌, ◌==◌, ◌∙◌, ◌≡◌, and_parts, not-true}
 use Rattle.ksm_pages.proofs.Options.{none_mapped}
 use Rattle.std.specs.Option.{is_some}
 use Rattle.ksm_tree.specs.Dups.{rows_of as dup_rows}
@@ -23,7 +23,7 @@ module _ (s : Inside) {later : DupsState} (kept : later ≡ record s.dups { numb
 
   -- groups that got other numbers leave what is seen of the pages as it was
   pub seen_numbered : view_of (record s { dups = later }) ≡ view_of s
-  seen_numbered = ap (λ (d : DupsState). view_of (record s { dups = d })) kept
+  seen_numbered = λ i. view_of (record s { dups = (kept i) })
 
 -- ---------------------------------------------------------------- one row
 
@@ -135,8 +135,7 @@ module _ {s : Inside} {p : PagesValue} {page : GuestPage} {e : Entry} {group : �
     where
       go : (o : Option Dup) → Some b ≡ option_map found_at o
           → MatchOption (option_map (λ d. d.row) o) (true ≡ false) (λ (d : DupRow). (b.number ≡ d.number) × (b.place ≡ d.place))
-      go None no_it = absurd (none-some b (sym no_it))
-      go (Some d) that = let same = same_Some _ _ that in (ap (λ (x : Best). x.number) same, ap (λ (x : Best). x.place) same)
+      go o no_it = grind (arith, nat_tests, no_it)
 
   module _ (none : IsOfGroup (λ tree bytes. None ≡ option_map found_at (best tree bytes))) where
     no_best : best_dup p.knobs p.rows p.dups row ≡ None
@@ -148,12 +147,12 @@ module _ {s : Inside} {p : PagesValue} {page : GuestPage} {e : Entry} {group : �
         → Finds (seen p) new page finds.Changed
     finds_changed other is =
         let to = λ (r : Row). record r { unchanged = true; state = Private } in
-        let now = is ∙ ap (λ (v : PagesValue). visited page to (seen v)) it.seen_as ∙ ap (λ q. visited q to (seen p)) (sym at_row) in
+        let now = is ∙ (λ i. visited page to (seen (it.seen_as i))) ∙ ap (λ q. visited q to (seen p)) (sym at_row) in
         finds_at _ _ (may, no_best, other, now)
 
     module _ (stayed : e.unchanged ≡ true) where
       zero_as : is_for_zero p.knobs row ≡ (s.knobs.use_zero_pages == 1 && all_zero e.bytes)
-      zero_as = ap (λ (v : PagesValue). is_for_zero v.knobs row) (sym it.seen_as)
+      zero_as = grind (arith, nat_tests)
 
       -- without a best dup, an unchanged row of zeroes is found to become Zero, if zero pages are used
       pub finds_zero : (s.knobs.use_zero_pages == 1 && all_zero e.bytes) ≡ true → Finds (seen p) (seen (view_of s)) page finds.Zero
@@ -180,7 +179,7 @@ module _ {s : Inside} {p : PagesValue} {page : GuestPage} {e : Entry} {group : �
             let other_row = met_partner s.knobs _ _ row it.lawful.order it.lawful.waits met_is from in
             let partner_is = subst (λ (v : PagesValue). MatchOption (partner v.knobs v.rows row) (true ≡ false)
             (λ w. met ≡ w.page)) it.seen_as other_row in
-            let same = ap (λ (d : DupsState). seen (view_of (record s { dups = d }))) (same_again (ap is_some that)) ∙ ap seen it.seen_as in
+            let same = (λ i. seen (view_of (record s { dups = (same_again (ap is_some that) i) }))) ∙ ap seen it.seen_as in
             finds_at _ _ (may, no_best, stayed, zero_as ∙ other, partner_is, same)
 
         module _ (own : same_page met page ≡ true) (kept : later ≡ record s.dups { waiting = later.waiting })
@@ -193,31 +192,30 @@ module _ {s : Inside} {p : PagesValue} {page : GuestPage} {e : Entry} {group : �
           same_own = ap (same_page met) at_row ∙ own
 
           held_now : rows.held ≡ change_held page (on_row to) s.rows.held
-          held_now = ap (λ (r : RowsView). r.held) turned
+          held_now = λ i. (turned i).held
 
           now_waits : AreWaiting s.knobs (change_row page (λ _. to row) before) later.waiting
           now_waits =
               subst (λ q. AreWaiting s.knobs (change_row q (λ _. to row) before) later.waiting) at_row
               (met_waits s.knobs _ _ _ it.lawful.order it.lawful.waits met_is (ap (λ q. row_at q before) at_row ∙ there) same_own
-              (added (tree_of s.knobs row) row.bytes it.numbered) (λ that. ap (λ (d : DupsState). d.waiting) (same_again that)))
+              (added (tree_of s.knobs row) row.bytes it.numbered) (λ that. (λ i. (same_again that i).waiting)))
 
           -- the pages are lawful once the row waits
           pub lawful_waits : AreKept s.shape s.knobs (rows_of rows.held) later s.frames.items
           lawful_waits =
-              lawful_turned s it.lawful _ it.found _ to (λ x. refl) (λ r. refl) rows held_now (ap (λ (d : DupsState). d.places) kept)
-              (subst (AreTied (change_row page (λ _. to row) before)) (let_out_alone _ _ alone ∙ ap (λ (d : DupsState). d.dups) (sym kept))
+              lawful_turned s it.lawful _ it.found _ to (λ x. refl) (λ r. refl) rows held_now (λ i. (kept i).places)
+              (subst (AreTied (change_row page (λ _. to row) before)) (let_out_alone _ _ alone ∙ (λ i. (sym kept i).dups))
               (tied_left _ _ _ it.lawful.order there _ _ refl it.lawful.tied)) now_waits
 
           -- a row that stays, without a dup, not for Zero and without a partner, is found to wait
           pub finds_waits : Finds (seen p) (seen (view_of (record s { rows = rows; dups = later }))) page finds.Waits
           finds_waits =
               let met_none = met_own s.knobs _ _ row it.lawful.order it.lawful.waits met_is same_own in
-              let none_waits = ap (λ (v : PagesValue). partner v.knobs v.rows row) (sym it.seen_as) ∙ met_none in
-              let listed = ap (λ (r : RowsView). r.restless) turned ∙ ap (λ (v : PagesValue). v.restless) it.seen_as in
+              let none_waits = (λ i. partner (sym it.seen_as i).knobs (sym it.seen_as i).rows row) ∙ met_none in
+              let listed = (λ i. (turned i).restless) ∙ (λ i. (it.seen_as i).restless) in
               let now =
               told_still s it.lawful _ it.found _ to (λ x. refl) (λ r. refl) rows held_now it.seen_as later
-              (ap (λ (d : DupsState). dup_rows d.dups) kept) (ap (λ (d : DupsState). d.next) kept) _ refl
-              (lies_alike _ Waiting _ _ (sym (rests _ alone)))
-              ∙ ap (λ (l : Listing). record (seen p) { rows = change_row page to p.rows; restless = l }) listed
+              (λ i. dup_rows (kept i).dups) (λ i. (kept i).next) _ refl (lies_alike _ Waiting _ _ (sym (rests _ alone)))
+              ∙ (λ i. record (seen p) { rows = change_row page to p.rows; restless = (listed i) })
               ∙ ap (λ q. visited q to (seen p)) (sym at_row) in
               finds_at _ _ (may, no_best, stayed, zero_as ∙ other, none_waits, now)

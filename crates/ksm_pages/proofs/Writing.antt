@@ -1,12 +1,10 @@
 -- What each change of one row, found under its key, leaves: rows still, and what is seen of them.
-use Rattle.ksm_pages.proofs.Names.{ap, ap₂, AreBegun, AreFiled, AreListed, arith, Bool, CanMove, change_held, Decides-eqb, Entry, false, find, forgotten, get, GuestPage, has_item, Held, held_at, held_in, held_of, held_under, IfSome, inl, InPageOrder, inr, is_of, is_own, is_restless, is_some, IsAddedTo, IsCalm, IsMoved, IsRows, IsTakenFrom, IsTally, IsUnder, key_in, Kind, length, length-map, List, Listing, marked, Named, named_of, ne_eqb, None, number_left, on_row, own_state, pages_ordered, PageState, Private, refl, Row, row_at, rows_of, RowsView, same_page, same_page_refl, same_Some, settled, settled_state, shared_state, Slab, Some, state_of, subst, sym, Tally, true, true≢false, Updates-with_value, Waiting, with_held, with_named, with_value, without_held, without_named, ℕ, ◌&&◌, ◌<◌, ◌^◌, ◌∙◌, ◌≡◌, ◌≢◌, ◌≤◌, ◌⊎◌}
+use Rattle.ksm_pages.proofs.Names.{ap, ap₂, AreBegun, AreFiled, AreListed, arith, Bool, CanMove, change_held, Entry, false, find, forgotten, get, GuestPage, has_item, Held, held_at, held_in, held_of, held_under, IfSome, inl, InPageOrder, inr, is_of, is_own, is_restless, is_some, IsAddedTo, IsCalm, IsMoved, IsRows, IsTakenFrom, IsTally, IsUnder, key_in, Kind, length, length-map, List, Listing, marked, Named, named_of, nat_tests, ne_eqb, None, number_left, on_row, own_state, pages_ordered, PageState, Private, refl, Row, row_at, rows_of, RowsView, same_page, same_page_refl, same_Some, settled, settled_state, shared_state, Slab, Some, state_of, subst, sym, Tally, true, true≢false, Updates-with_value, Waiting, with_held, with_named, with_value, without_held, without_named, ℕ, ◌&&◌, ◌<◌, ◌^◌, ◌∙◌, ◌≡◌, ◌≢◌, ◌≤◌, ◌⊎◌}
 use Rattle.slab.specs.Slab.{Updates as Fills}
 use Rattle.ksm_pages.specs.declared.row.Kind.TheVariants as kinds
 use Rattle.ksm_pages.specs.declared.rows.Rows.TheInside.{Inside}
 use Rattle.ksm_pages.proofs.Changing.{marked_same, row_told, rows_changed, rows_with, rows_without}
-use Rattle.ksm_tree.proofs.Numbering.{full}
 use Rattle.ksm_pages.proofs.Filing.{all_filled, elsewhere, filed_kept, filed_marked, filed_put, filed_taken, held_nowhere, held_there, key_nowhere, one_key, put, rows_rise, taken, written}
-use Rattle.ksm_pages.proofs.Gathering.{own_either}
 use Rattle.ksm_pages.proofs.Keyed.{absent_unchanged, write_rises}
 use Rattle.ksm_rmap.proofs.Ordered.{absent_kept, with_rises, without_rises}
 use Rattle.ksm_pages.proofs.Listings.{with_has, without_has}
@@ -27,13 +25,11 @@ never false both = absurd (true≢false (sym both))
 
 -- a row that is not shared has a frame of its own
 pub own_kind : (kind : Kind) (number pass : ℕ) → shared_state (state_of kind number pass) ≡ false → kind ≡ kinds.Own
-own_kind kinds.Own number pass alone = refl
-own_kind kinds.Merged number pass alone = absurd (true≢false alone)
-own_kind kinds.Zero number pass alone = absurd (true≢false alone)
+own_kind kind number pass alone = grind (arith, nat_tests, alone)
 
 -- a row with a frame of its own waits where its number is that of the pass
 pub waits_now : {kind : Kind} (pass : ℕ) → kind ≡ kinds.Own → state_of kind pass pass ≡ Waiting
-waits_now pass own = ap (λ k. state_of k pass pass) own ∙ ap own_state ((Decides-eqb _ _).1 refl)
+waits_now pass own = grind (arith, nat_tests, own)
 
 -- a row with a frame of its own is Private where its number is not that of the pass
 pub rests_apart : {number : ℕ} (pass : ℕ) → number ≢ pass → state_of kinds.Own number pass ≡ Private
@@ -41,20 +37,16 @@ rests_apart {number} pass apart = ap own_state (ne_eqb number pass apart)
 
 -- a row with a frame of its own and number 0 is Private in any pass from 1 on
 pub rests_now : (pass : ℕ) → 1 ≤ pass → state_of kinds.Own 0 pass ≡ Private
-rests_now pass counting = rests_apart _ (λ same. absurd (omega (arith, same)))
+rests_now pass counting = rests_apart _ (λ same. absurd (omega (arith)))
 
 -- an entry that has forgotten its pass is settled in any pass from 1 on
 pub rest_of : (kind : Kind) (number pass after : ℕ) → 1 ≤ after
     → state_of kind (number_left kind number) after ≡ settled_state (state_of kind number pass)
-rest_of kinds.Own number pass after counting = rests_now after counting ∙ sym (own_either (λ state. settled_state state ≡ Private) refl refl _)
-rest_of kinds.Merged number pass after counting = refl
-rest_of kinds.Zero number pass after counting = refl
+rest_of kind number pass after counting = grind (arith, nat_tests, counting)
 
 -- an entry with a frame of its own that has forgotten its pass has a number not beyond any pass
 pub left_fits : (kind : Kind) (number pass : ℕ) → kind ≡ kinds.Own → number_left kind number ≤ pass
-left_fits kinds.Own number pass own = omega arith
-left_fits kinds.Merged number pass own = cc
-left_fits kinds.Zero number pass own = cc
+left_fits kind number pass own = grind (arith, nat_tests, own)
 
 -- a change of a page without a row leaves what is seen of the rows as it is
 pub nothing : (s : Inside) → AreRows s → (page : GuestPage) → None ≡ key_in s.order page → (f : Held → Held) {v : RowsView} → view_of s ≡ v → v ≡ record v { held = change_held page f v.held }
@@ -62,11 +54,11 @@ nothing s are page told f is =
     let absent = held_nowhere s.entries _ are.ascending are.filed _ _ (sym told) in
     sym is
     ∙ ap (λ held. record { held = held; restless = s.restless; pass = s.pass }) (absent_unchanged (λ (h : Held). h.row.page) page _ absent)
-    ∙ ap (λ (w : RowsView). record w { held = change_held page f w.held }) is
+    ∙ (λ i. record (is i) { held = change_held page f (is i).held })
 
 -- what is listed later was listed before
 listed_known : (old : Listing) {now : Listing} (pages : List GuestPage) → now ≡ record old { pages = pages } → now.known ≡ true → old.known ≡ true
-listed_known old pages is known = ap (λ (l : Listing). l.known) (sym is) ∙ known
+listed_known old pages is known = (λ i. (sym is i).known) ∙ known
 
 module _ (s : Inside) (are : AreRows s) where
   abbrev held : List Held
@@ -78,7 +70,7 @@ module _ (s : Inside) (are : AreRows s) where
   module _ {page : GuestPage} {key : ℕ} (there : IsUnder s.entries page key) {e : Entry} (stood : get s.entries key ≡ Some e) where
     -- the entry is that of the page
     of_page : e.page ≡ page
-    of_page = ap (λ (x : Entry). x.page) (same_Some e _ (sym stood ∙ there.stands)) ∙ there.of_page
+    of_page = grind (arith, nat_tests)
 
     -- a page with an entry under its key has the row that the entry says
     pub row_there : held_at page held ≡ Some (held_of s.pass e)
@@ -92,7 +84,7 @@ module _ (s : Inside) (are : AreRows s) where
         → e.kind ≡ kinds.Own
     own_there seen_as alone =
         own_kind _ _ _
-        (subst (λ o. IfSome o (λ (h : Held). shared_state h.row.state ≡ false)) (ap (λ (w : RowsView). held_at page w.held) (sym seen_as) ∙ row_there) alone)
+        (subst (λ o. IfSome o (λ (h : Held). shared_state h.row.state ≡ false)) ((λ i. held_at page (sym seen_as i).held) ∙ row_there) alone)
 
     -- the tally can take the row of an entry from its state to any other
     pub can_be : {from : PageState} → from ≡ state_of e.kind e.number s.pass → {state : PageState} → length s.order < 2 ^ 64
@@ -142,14 +134,14 @@ module _ (s : Inside) (are : AreRows s) where
             subst (λ (l : Listing). AreListed later l.pages) (sym is) (listed_still _
             (λ k f stands apart may. with_has _ page _ (inr (are.listed (listed_known s.restless _ is known) k f stands may)))
             (λ may. with_has page page _ (inl (same_page_refl page))))
-        | inr is ↦ absurd (true≢false (sym known ∙ ap (λ (l : Listing). l.known) is))
+        | inr is ↦ absurd (true≢false (sym known ∙ (λ i. (is i).known)))
       ]
 
       -- the list as it was is right for a new entry that no visit changes
       pub listed_calm : is_restless e' ≡ false → {now : Listing} → now ≡ s.restless → now.known ≡ true → AreListed later now.pages
       listed_calm calm is known =
           subst (λ (l : Listing). AreListed later l.pages) (sym is) (listed_still _
-          (λ k f stands apart may. are.listed (sym (ap (λ (l : Listing). l.known) is) ∙ known) k f stands may)
+          (λ k f stands apart may. are.listed (sym (λ i. (is i).known) ∙ known) k f stands may)
           (λ may. absurd (true≢false (sym may ∙ calm))))
 
       -- rows with an entry written anew are lawful where its flag stays, the list is right and the tally moved
@@ -178,10 +170,10 @@ module _ (s : Inside) (are : AreRows s) where
 
       module _ (kind : e'.kind ≡ e.kind) (number : e'.number ≡ e.number) where
         fits_still : e'.kind ≡ kinds.Own → e'.number ≤ s.pass
-        fits_still own = subst (λ n. n ≤ s.pass) (sym number) (are.begun key e stood (sym kind ∙ own))
+        fits_still own = grind (arith, nat_tests, own)
 
         same_state : state_of e.kind e.number s.pass ≡ state_of e'.kind e'.number s.pass
-        same_state = ap₂ (λ k n. state_of k n s.pass) (sym kind) (sym number)
+        same_state = grind (arith, nat_tests)
 
         unmoved : {state : PageState} → IsMoved state state s.tally s.tally
         unmoved = record { merged = refl; waiting = refl; zero = refl }
@@ -208,7 +200,7 @@ module _ (s : Inside) (are : AreRows s) where
           → record { held = held_in s.pass later s.order; restless = now; pass = s.pass } ≡ record v { held = change_held page f v.held; restless = now }
       viewed f is now seen_as =
           ap (λ held. record { held = held; restless = now; pass = s.pass }) (held_later f is)
-          ∙ ap (λ (w : RowsView). record w { held = change_held page f w.held; restless = now }) seen_as
+          ∙ (λ i. record (seen_as i) { held = change_held page f (seen_as i).held; restless = now })
 
       -- with an entry written anew whose row is changed by f, the rows are seen with f at that page
       pub viewed_same : (f : Held → Held) → held_of s.pass e' ≡ f (held_of s.pass e) → {now : Listing} → now ≡ s.restless → {v : RowsView}
@@ -216,7 +208,7 @@ module _ (s : Inside) (are : AreRows s) where
           → record { held = held_in s.pass later s.order; restless = now; pass = s.pass } ≡ record v { held = change_held page f v.held }
       viewed_same f is same_list {v} seen_as =
           viewed f is _ seen_as
-          ∙ ap (λ l. record v { held = change_held page f v.held; restless = l }) (same_list ∙ ap (λ (w : RowsView). w.restless) seen_as)
+          ∙ ap (λ l. record v { held = change_held page f v.held; restless = l }) (same_list ∙ (λ i. (seen_as i).restless))
 
       -- with an entry written anew and its page marked, the rows are seen with f at that page, and the new list
       pub viewed_marked : (f : Held → Held) → held_of s.pass e' ≡ f (held_of s.pass e) → (m : Bool) (now : Listing) {v : RowsView}
@@ -234,7 +226,7 @@ module _ (s : Inside) (are : AreRows s) where
     kept_forgotten e' is same flag kind {from} {to} {tally} was told moved =
         subst (λ x. IsRows (with_value s.entries key x) s.order s.restless tally s.pass) (sym is)
         (kept _ same flag (left_fits _ _ _) (λ may. sym (ap₂ (λ m k. m && is_own k) flag kind) ∙ may)
-        _ refl was (told ∙ ap (λ (x : Entry). state_of x.kind x.number s.pass) is) moved)
+        _ refl was (told ∙ (λ i. state_of (is i).kind (is i).number s.pass)) moved)
 
     -- the row of an entry that is changed, and then forgets its pass, is seen changed and settled
     pub viewed_forgotten : (e' : Entry) {now : Entry} → now ≡ forgotten e' → e'.page ≡ e.page → (f : Row → Row)
@@ -251,9 +243,7 @@ module _ (s : Inside) (are : AreRows s) where
     module _ {later : Slab Entry} (fills : Fills s.entries later key None) where
       -- what stands later stood before, under another key
       stood_before : {k : ℕ} {f : Entry} → get later k ≡ Some f → (get s.entries k ≡ Some f) × (k ≢ key)
-      stood_before {k} stands =
-          let apart : k ≢ key = λ at. full _ _ (ap (get later) at ∙ fills.changed) stands in
-          (sym (fills.others k apart) ∙ stands, apart)
+      stood_before stands = grind (arith, nat_tests, stands)
 
       held_gone : held_in s.pass later (without_named page s.order) ≡ without_held page held
       held_gone =
@@ -269,7 +259,7 @@ module _ (s : Inside) (are : AreRows s) where
           | inl is ↦
               subst (λ (l : Listing). AreListed later l.pages) (sym is)
               (λ k f stands may. let was = stood_before stands in without_has f.page page _ (other_page was.0 was.1) (are.listed (listed_known s.restless _ is known) k f was.0 may))
-          | inr is ↦ absurd (true≢false (sym known ∙ ap (λ (l : Listing). l.known) is))
+          | inr is ↦ absurd (true≢false (sym known ∙ (λ i. (is i).known)))
         ];
         counted = subst (λ rs. IsTally rs tally) (sym (ap rows_of held_gone ∙ rows_without page held))
             (tally_gone rise _ found_row _ are.counted (subst (λ st. IsMoved st Private s.tally tally) was moved));
@@ -281,12 +271,11 @@ module _ (s : Inside) (are : AreRows s) where
       pub viewed_gone : (now : Listing) {v : RowsView} → view_of s ≡ v
           → record { held = held_in s.pass later (without_named page s.order); restless = now; pass = s.pass } ≡ record v { held = without_held page v.held; restless = now }
       viewed_gone now seen_as =
-          ap (λ held. record { held = held; restless = now; pass = s.pass }) held_gone ∙ ap (λ (w : RowsView). record w { held = without_held page w.held; restless = now }) seen_as
+          ap (λ held. record { held = held; restless = now; pass = s.pass }) held_gone ∙ (λ i. record (seen_as i) { held = without_held page (seen_as i).held; restless = now })
 
 -- where a page has no row, none is seen
 pub nowhere_seen : (s : Inside) → AreRows s → (page : GuestPage) → None ≡ key_in s.order page → {v : RowsView} → view_of s ≡ v → held_at page v.held ≡ None
-nowhere_seen s are page told is =
-    ap (λ (w : RowsView). held_at page w.held) (sym is) ∙ held_nowhere s.entries _ are.ascending are.filed _ _ (sym told)
+nowhere_seen s are page told is = (λ i. held_at page (sym is i).held) ∙ held_nowhere s.entries _ are.ascending are.filed _ _ (sym told)
 
 -- where a page has no row, the rows without that page are seen as before
 pub nothing_gone : (s : Inside) → AreRows s → (page : GuestPage) → None ≡ key_in s.order page → {v : RowsView} → view_of s ≡ v → v ≡ record v { held = without_held page v.held }
@@ -295,7 +284,7 @@ nothing_gone s are page told is =
     sym is
     ∙ ap (λ held. record { held = held; restless = s.restless; pass = s.pass })
     (absent_kept pages_ordered (λ (h : Held). h.row.page) page _ absent)
-    ∙ ap (λ (w : RowsView). record w { held = without_held page w.held }) is
+    ∙ (λ i. record (is i) { held = without_held page (is i).held })
 
 -- a slab with more room has the same rows
 pub with_room : (s : Inside) → AreRows s → {room : Slab Entry} → room ≡ record s.entries { capacity = room.capacity } → IsRows room s.order s.restless s.tally s.pass
@@ -310,7 +299,7 @@ seen_with_room s seen_as is = ap (λ slab. view_of (record s { entries = slab })
 
 -- a page that is seen without a row has no name in the order
 pub no_name : (s : Inside) → AreRows s → (page : GuestPage) {v : RowsView} → view_of s ≡ v → held_at page v.held ≡ None → find (is_of page) s.order ≡ None
-no_name s are page seen_as absent = key_nowhere s.entries _ are.ascending are.filed _ _ (ap (λ (w : RowsView). held_at page w.held) seen_as ∙ absent)
+no_name s are page seen_as absent = key_nowhere s.entries _ are.ascending are.filed _ _ ((λ i. held_at page (seen_as i).held) ∙ absent)
 
 -- the row of a page came, with a frame of its own, under a key where nothing stood
 module _ (s : Inside) (are : AreRows s) {v : RowsView} (seen_as : view_of s ≡ v) {key : ℕ} {e : Entry} {later : Slab Entry} (vacant : get s.entries key ≡ None)
@@ -319,7 +308,7 @@ module _ (s : Inside) (are : AreRows s) {v : RowsView} (seen_as : view_of s ≡ 
   before = held_in s.pass s.entries s.order
 
   held_absent : held_at e.page before ≡ None
-  held_absent = ap (λ (w : RowsView). held_at e.page w.held) seen_as ∙ absent
+  held_absent = grind (arith, nat_tests)
 
   not_named : find (is_of e.page) s.order ≡ None
   not_named = no_name s are _ seen_as absent
@@ -337,7 +326,7 @@ module _ (s : Inside) (are : AreRows s) {v : RowsView} (seen_as : view_of s ≡ 
           subst (λ (l : Listing). AreListed later l.pages) (sym is)
           (all_filled fills (λ may. with_has e.page e.page s.restless.pages (inl (same_page_refl e.page)))
           (λ k f stands apart may. with_has f.page e.page s.restless.pages (inr (are.listed (listed_known s.restless _ is known) k f stands may))))
-      | inr is ↦ absurd (true≢false (sym known ∙ ap (λ (l : Listing). l.known) is))
+      | inr is ↦ absurd (true≢false (sym known ∙ (λ i. (is i).known)))
     ];
     counted = subst (λ rs. IsTally rs s.tally) (sym (ap rows_of held_put ∙ rows_with (held_of s.pass e) before))
         (tally_put _ (row_told e.page before held_absent) alone are.counted);
@@ -349,7 +338,7 @@ module _ (s : Inside) (are : AreRows s) {v : RowsView} (seen_as : view_of s ≡ 
   pub viewed_put : (now : Listing) → record { held = held_in s.pass later (with_named (named_of key e) s.order); restless = now; pass = s.pass } ≡ record v { held = with_held (held_of s.pass e) v.held; restless = now }
   viewed_put now =
       ap (λ held. record { held = held; restless = now; pass = s.pass }) held_put
-      ∙ ap (λ (w : RowsView). record w { held = with_held (held_of s.pass e) w.held; restless = now }) seen_as
+      ∙ (λ i. record (seen_as i) { held = with_held (held_of s.pass e) (seen_as i).held; restless = now })
 
 -- rows are lawful under another list that has all pages that a visit may change
 pub relisted : (s : Inside) → AreRows s → {now : Listing} → (now.known ≡ true → AreListed s.entries now.pages) → IsRows s.entries s.order now s.tally s.pass
@@ -364,7 +353,7 @@ swept_rows s are {now} known kept = relisted s are listed
     listed is k e stands may = elim (kept _ (are.listed (sym known ∙ is) k e stands may)) [
       | inl there ↦ there
       | inr calm ↦
-          let at : calm.key ≡ k = one_key s.entries _ are.filed calm.stands stands calm.of_page in
-          let same : calm.entry ≡ e = same_Some _ e (sym calm.stands ∙ ap (get s.entries) at ∙ stands) in
+          let at = one_key s.entries _ are.filed calm.stands stands calm.of_page in
+          let same = same_Some _ e (sym calm.stands ∙ ap (get s.entries) at ∙ stands) in
           absurd (true≢false (sym may ∙ ap is_restless (sym same) ∙ calm.calm))
     ]

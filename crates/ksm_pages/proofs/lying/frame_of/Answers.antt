@@ -8,7 +8,7 @@ pub returns-in-Own : goal.returns-in-Own
 returns-in-Own c =
     let e = c.args.entry.now in
     lies_own _ _ _
-    ∙ ap (λ (kind : Kind). frame_seen (lodging (dup_rows c.args.dups.now.dups) c.args.frames.now) (state_of kind e.number c.args.pass) (frame_of kind e.at)) (sym c.in-Own.is)
+    ∙ (λ i. frame_seen (lodging (dup_rows c.args.dups.now.dups) c.args.frames.now) (state_of (sym c.in-Own.is i) e.number c.args.pass) (frame_of (sym c.in-Own.is i) e.at))
 
 pub returns-in-Merged : goal.returns-in-Merged
 returns-in-Merged c =

@@ -1,10 +1,10 @@
-use Rattle.ksm_pages.proofs.Names.{get, IfSome, IsUnder, None, Option, refl, same_page_eq, Some, sym, ℕ, ◌∙◌, ◌≡◌}
+use Rattle.ksm_pages.proofs.Names.{IfSome, IsUnder, None, Option, refl, same_page_eq, Some, sym, ℕ, ◌∙◌, ◌≡◌}
 use Rattle.ksm_pages.proofs.Filing.{key_under, under}
 use Rattle.ksm_pages.proofs.rows.key_of.Goals as goal
 
 pub returns-then-eq : goal.returns-then-eq
 returns-then-eq c =
-    let stands : get c.args.entries.now c.args.spot.key ≡ Some c.in-Some.entry.now = sym c.in-Some.ensures in
+    let stands = sym c.in-Some.ensures in
     let here : IsUnder c.args.entries.now c.args.spot.page c.args.spot.key = record {
       entry = c.in-Some.entry.now;
       stands = stands;

@@ -38,7 +38,7 @@ returns-in-Some-clause-last c =
     let a = (goal.at.returns-in-Some-clause-last c).After-up_to-before in
     ap Some c.page_of.ensures
     ∙ sym (ap (λ o. option_or o c.args.cursor) (passed_last _ c.self.view_is _ _ c.key_of.ensures.few c.self.invariant.ascending
-    _ c.passed-passed.ensures.ahead (before a) (omega (arith, c.if-before-passed.false)) c.in-Some.key (sym c.nth.ensures ∙ c.in-Some.is)))
+    _ c.passed-passed.ensures.ahead (before a) (omega (arith)) c.in-Some.key (sym c.nth.ensures ∙ c.in-Some.is)))
 
 no_such : (c : goal.In-None) → ⊥
 no_such c =

@@ -34,7 +34,7 @@ invariant_of-self-2 c =
     let x = item k in
     let come = c.in_ok-insert.ensures.added in
     let rise = c.self.invariant.ascending in
-    let one_more : c.in-Some.len ≡ c.self.inside.len + 1 = grind (arith, c.checked_add.ensures, c.in-Some.is) in
+    let one_more : c.in-Some.len ≡ c.self.inside.len + 1 = grind (arith) in
     let Small : Item → Type 0 = λ y. y.key < 2 ^ 48 in
     record {
       ascending = subst AreAscending (sym come) (with_rises x _ rise);

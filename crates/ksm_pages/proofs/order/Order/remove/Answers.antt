@@ -1,4 +1,4 @@
-use Rattle.ksm_pages.proofs.Names.{All, All-filter, ap, arith, find, is_of, is_some, key_of, length, map, named_by, subst, sym, true, without_named, ◌<◌, ◌^◌, ◌∙◌, ◌≡◌}
+use Rattle.ksm_pages.proofs.Names.{All, All-filter, ap, arith, find, is_of, is_some, key_of, length, map, named_by, subst, sym, without_named, ◌<◌, ◌^◌, ◌∙◌}
 use Rattle.std.proofs.lemmas.List.Kept.{AllPairs-filter}
 use Rattle.ksm_order.specs.declared.item.Item.{Item}
 use Rattle.ksm_order.specs.Listed.{AreAscending, is_at, without}
@@ -10,7 +10,7 @@ pub invariant_of-self : goal.invariant_of-self
 invariant_of-self c =
     let items = c.self.inside.pages in
     let key = c.key_of.result in
-    let there : is_some (find (is_at key) items) ≡ true =
+    let there =
     ap (λ n. is_some (find (is_at n) items)) c.key_of.ensures.key
     ∙ sym (some_mapped _ _)
     ∙ ap is_some (sym (found_by _ c.key_of.ensures.few _) ∙ ap (find (is_of c.args.page)) c.self.view_is)

@@ -1,4 +1,4 @@
-use Rattle.ksm_pages.proofs.Names.{ap, AreTied, DupRow, DupsState, elsewhere, filter, frame_of, is_some, IsVacant, List, lodging, lodgings_of, PagesValue, rows_of, rows_without, seen, subst, sym, tied_pruned, ◌∙◌, ◌≡◌}
+use Rattle.ksm_pages.proofs.Names.{ap, AreTied, DupRow, DupsState, elsewhere, filter, frame_of, is_some, IsVacant, List, lodging, lodgings_of, PagesValue, rows_of, rows_without, seen, subst, sym, tied_pruned, ◌∙◌}
 use Rattle.ksm_tree.specs.Dups.{rows_of as dup_rows}
 use Rattle.ksm_pages.proofs.Dropping.{all_elsewhere, lodged_dropped, stale_there}
 use Rattle.ksm_pages.proofs.Paging.{any_at}
@@ -17,9 +17,9 @@ invariant_of-self c =
     record {
       small = c.self.invariant.small;
       order = c.self.invariant.order;
-      tied = subst (AreTied (rows_of s.rows.held)) (ap (λ (d : DupsState). d.dups) (sym c.drop_stale.ensures))
+      tied = subst (AreTied (rows_of s.rows.held)) (λ i. (sym c.drop_stale.ensures i).dups)
           (tied_pruned (rows_of s.rows.held) _ _ c.self.invariant.tied);
-      places = ap (λ (d : DupsState). d.places) c.drop_stale.ensures ∙ c.self.invariant.places;
+      places = (λ i. (c.drop_stale.ensures i).places) ∙ c.self.invariant.places;
       waits = rw c.drop_stale.ensures c.self.invariant.waits;
       room = c.self.invariant.room;
     }
@@ -30,10 +30,8 @@ returns-then-is_some c =
     let place = c.args.place in
     let vacant = subst (λ (v : PagesValue). IsVacant place v.rows v.dups) (sym c.self.view_is) c.requires in
     let left = dup_rows s.dups.dups in
-    let dropped : dup_rows c.drop_stale.new.self.dups ≡ filter (elsewhere place) left = ap
-    (λ (d : DupsState). dup_rows d.dups) c.drop_stale.ensures ∙ rows_without place _ in
-    let lain : frame_of (lodgings_of (lodging (dup_rows c.drop_stale.new.self.dups) s.frames.items) s.rows.held) ≡ frame_of
-    (lodgings_of (lodging left s.frames.items) s.rows.held) =
+    let dropped = (λ i. dup_rows (c.drop_stale.ensures i).dups) ∙ rows_without place _ in
+    let lain =
     ap (λ (ds : List DupRow). frame_of (lodgings_of (lodging ds s.frames.items) s.rows.held)) dropped
     ∙ lodged_dropped _ _ _ vacant in
     (λ i. record (seen (view_of s)) { dups = dropped i; frame = lain i; next = ap (λ (d : DupsState). d.next) c.drop_stale.ensures i })

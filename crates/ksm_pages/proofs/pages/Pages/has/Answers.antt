@@ -1,4 +1,4 @@
-use Rattle.ksm_pages.proofs.Names.{ap, is_some, PagesValue, row_at, ◌∙◌}
+use Rattle.ksm_pages.proofs.Names.{is_some, row_at, ◌∙◌}
 use Rattle.ksm_pages.proofs.Options.{both_full}
 use Rattle.ksm_pages.proofs.Paging.{row_known}
 use Rattle.ksm_pages.proofs.pages.Pages.has.Goals as goal
@@ -9,4 +9,4 @@ returns c =
     c.is_some.ensures
     ∙ both_full _ _ _ c.find.ensures
     ∙ row_known _ rows.held
-    ∙ ap (λ (v : PagesValue). is_some (row_at c.args.page v.rows)) c.self.view_is
+    ∙ (λ i. is_some (row_at c.args.page (c.self.view_is i).rows))

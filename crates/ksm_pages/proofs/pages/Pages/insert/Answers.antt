@@ -1,4 +1,4 @@
-use Rattle.ksm_pages.proofs.Names.{ap, fresh_row, Held, PagesValue, refl, row_at, RowsView, seen, Some, ◌∙◌}
+use Rattle.ksm_pages.proofs.Names.{ap, fresh_row, Held, refl, row_at, RowsView, seen, Some, ◌∙◌}
 use Rattle.ksm_pages.proofs.Entering.{but_there, either_way, entered, lay_nowhere}
 use Rattle.std.proofs.lemmas.Result.{on_err_weaker, on_ok_weaker}
 use Rattle.ksm_pages.proofs.Changing.{nothing_held}
@@ -9,7 +9,7 @@ use Rattle.ksm_pages.proofs.pages.Pages.insert.Goals as goal
 pub insert-requires : goal.insert-requires
 insert-requires c =
     record {
-      absent = nothing_held c.args.page _ (ap (λ (v : PagesValue). row_at c.args.page v.rows) c.self.view_is ∙ c.requires);
+      absent = nothing_held c.args.page _ ((λ i. row_at c.args.page (c.self.view_is i).rows) ∙ c.requires);
     }
 
 abbrev fresh : (c : goal.After-insert) → Held

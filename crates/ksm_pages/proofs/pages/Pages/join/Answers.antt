@@ -1,4 +1,4 @@
-use Rattle.ksm_pages.proofs.Names.{ap, false, HasRoom, held_at, held_of, PagesValue, rows_of, RowsView, shared_state, Some, subst, sym, tied_absent, true≢false, ◌∙◌, ◌≡◌}
+use Rattle.ksm_pages.proofs.Names.{ap, false, HasRoom, held_at, held_of, PagesValue, rows_of, shared_state, Some, subst, sym, tied_absent, true≢false, ◌∙◌, ◌≡◌}
 use Rattle.ksm_pages.proofs.Joined.{fewer_room, known_room, lawful_joined, own_not_merged, own_seat, told_joined}
 use Rattle.ksm_pages.proofs.Leaving.{alone_found, alone_there, lies, row_there}
 use Rattle.ksm_pages.proofs.pages.Pages.join.Goals as goal
@@ -36,7 +36,7 @@ pub invariant_of-self-2 : goal.invariant_of-self-2
 invariant_of-self-2 c =
     let b = (goal.at.invariant_of-self-2 c).After-left_by in
     lawful_joined c.self.inside c.self.invariant _ (found b) (alone b) _
-    c.in_ok-place.ensures.joined c.left_by.ensures.dups c.left_by.ensures.waiting c.merge.new.self (ap (λ (r : RowsView). r.held) c.merge.ensures)
+    c.in_ok-place.ensures.joined c.left_by.ensures.dups c.left_by.ensures.waiting c.merge.new.self (λ i. (c.merge.ensures i).held)
 
 pub returns-clause-left : goal.returns-clause-left
 returns-clause-left c =

@@ -1,4 +1,4 @@
-use Rattle.ksm_pages.proofs.Names.{ap, PagesValue, refl, RowsView, ◌∙◌}
+use Rattle.ksm_pages.proofs.Names.{refl, ◌∙◌}
 use Rattle.ksm_pages.proofs.Turning.{held_as, rest_all}
 use Rattle.ksm_pages.proofs.pages.Pages.settle_all.Goals as goal
 
@@ -9,6 +9,6 @@ invariant_of-self c =
 
 pub returns : goal.returns
 returns c =
-    let listed = ap (λ (r : RowsView). r.restless) c.settle_all.ensures ∙ ap (λ (v : PagesValue). v.restless) c.self.view_is in
+    let listed = (λ i. (c.settle_all.ensures i).restless) ∙ (λ i. (c.self.view_is i).restless) in
     (rest_all c.self.inside c.self.invariant c.self.view_is _ (λ r. refl) (λ r. refl) c.settle_all.new.self
     (held_as c.settle_all.ensures) listed c.clear_waiting.ensures).told_as

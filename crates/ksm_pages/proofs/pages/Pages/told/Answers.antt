@@ -9,7 +9,7 @@ use Rattle.ksm_pages.proofs.pages.Pages.told.Goals as goal
 pub returns-in_err-spot : goal.returns-in_err-spot
 returns-in_err-spot c =
     let page = c.args.spot.page in
-    let gone : row_at page c.args.self.now.rows ≡ None = ap (λ (v : PagesValue). row_at page v.rows) (sym c.self.view_is) ∙ row_told page _ c.in_err-spot.ensures in
+    let gone = (λ i. row_at page (sym c.self.view_is i).rows) ∙ row_told page _ c.in_err-spot.ensures in
     subst (λ o. MatchOption o (row_at page c.args.self.now.rows ≡ None) (IsHeld (seen c.args.self.now) page)) (sym c.from_residual.ensures) gone
 
 pub returns : goal.returns

@@ -1,10 +1,7 @@
-use Rattle.ksm_pages.proofs.Names.{ap, false, refl, Row, seen, settled, ◌∙◌}
+use Rattle.ksm_pages.proofs.Names.{ap, refl, seen, ◌∙◌}
 use Rattle.ksm_pages.proofs.Resting.{all_unshared}
 use Rattle.ksm_pages.proofs.Turning.{held_as, rest_all}
 use Rattle.ksm_pages.proofs.pages.Pages.unshare_all.Goals as goal
-
-abbrev plain : Row → Row
-plain r = record (settled r) { unchanged = false }
 
 pub invariant_of-self : goal.invariant_of-self
 invariant_of-self c =

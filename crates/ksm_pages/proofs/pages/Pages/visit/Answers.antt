@@ -1,4 +1,4 @@
-use Rattle.ksm_pages.proofs.Names.{ap, held_of, Private, refl, Row, RowsView, seen, settled, Some, sym, true, ◌∙◌}
+use Rattle.ksm_pages.proofs.Names.{ap, held_of, Private, refl, Row, seen, settled, Some, sym, true, ◌∙◌}
 use Rattle.ksm_pages.specs.Paged.{visited}
 use Rattle.ksm_pages.proofs.Leaving.{view_of}
 use Rattle.ksm_pages.proofs.Resting.{rests}
@@ -42,7 +42,7 @@ went c it =
     let row = (held_of c.pass-pass.result c.in-Some.entry.now).row in
     let there = it.found ∙ ap (λ n. Some (held_of n c.in-Some.entry.now)) (sym c.pass-pass.ensures) in
     rested (found_left {s = s} {p = view_of s} it.lawful refl there c.left_by.ensures) c.become_unchanged.new.self
-    (ap (λ (r : RowsView). r.restless) c.become_unchanged.ensures)
+    (λ i. (c.become_unchanged.ensures i).restless)
     kept found (λ r. refl) (λ r. refl) (is_alone s it.lawful _ c.in-Some.entry.now it.found it.restless)
     (λ alone i. record row { unchanged = true; state = rests _ alone i }) (held_as c.become_unchanged.ensures)
 

@@ -1,4 +1,4 @@
-use Rattle.ksm_pages.proofs.Names.{ap, AreInOrder, comes_before, filter, find, has_item, if◌then◌else◌, inl, is_some, Listing, map, pages_of, pages_ordered, refl, same_page, set, Spot, subst, sym, true, with_item, ◌++◌, ◌∙◌, ◌∷◌, ◌≡◌}
+use Rattle.ksm_pages.proofs.Names.{ap, AreInOrder, comes_before, filter, find, inl, is_some, Listing, pages_of, pages_ordered, refl, same_page, Spot, subst, sym, with_item, ◌++◌, ◌∙◌, ◌∷◌, ◌≡◌}
 use Rattle.ksm_pages.proofs.Keyed.{write_at}
 use Rattle.ksm_rmap.proofs.Ordered.{insert_at, none_of}
 use Rattle.ksm_pages.proofs.Spots.{listed_found, page_of, put_pages, put_rises, written_pages}
@@ -11,10 +11,10 @@ returns-then-found c =
     let spots = c.self.inside.spots.items in
     let d = c.index_mut.result.now in
     let seen = c.as_slice-2.ensures.value in
-    let is : set spots c.place_near-at.result spot ≡ map (λ s. if same_page s.page spot.page then spot else s) spots =
+    let is =
     write_at page_of spot.page _ c.self.invariant c.as_slice.ensures.value seen c.place_near-at.ensures.count d
     (c.if-found.ensures.within refl) (c.if-found.ensures.here refl d) in
-    let has : has_item spot.page (pages_of spots) ≡ true = listed_found _ spots ∙ ap (λ ss. is_some (find (λ (s : Spot). same_page s.page spot.page) ss)) (sym seen) ∙ sym c.if-found.ensures.found in
+    let has = listed_found _ spots ∙ ap (λ ss. is_some (find (λ (s : Spot). same_page s.page spot.page) ss)) (sym seen) ∙ sym c.if-found.ensures.found in
     inl (ap (λ ss. record { pages = pages_of ss; known = c.self.inside.known }) is
     ∙ ap (λ ps. record { pages = ps; known = c.self.inside.known }) (written_pages _ _ c.self.invariant has)
     ∙ ap (λ (l : Listing). record l { pages = with_item spot.page l.pages }) c.self.view_is)

@@ -1,4 +1,4 @@
-use Rattle.ksm_pages.proofs.Names.{ap, filter, find, inl, is_some, Listing, None, not, pages_of, pages_ordered, refl, same_page, Spot, sym, without_item, ◌∙◌, ◌≡◌}
+use Rattle.ksm_pages.proofs.Names.{ap, filter, find, inl, is_some, Listing, not, pages_of, pages_ordered, refl, same_page, Spot, sym, without_item, ◌∙◌, ◌≡◌}
 use Rattle.ksm_rmap.proofs.Ordered.{absent_kept, none_of, remove_at, without_rises}
 use Rattle.ksm_pages.proofs.Spots.{page_of, pages_kept}
 use Rattle.ksm_pages.proofs.restless.Restless.remove.Goals as goal
@@ -27,9 +27,9 @@ pub returns-then-not-found : goal.returns-then-not-found
 returns-then-not-found c =
     let page = c.args.page in
     let spots = c.self.inside.spots.items in
-    let absent : find (λ s. same_page s.page page) spots ≡ None =
+    let absent =
     none_of _ (ap (λ ss. is_some (find (λ (s : Spot). same_page s.page page) ss)) (sym c.as_slice-2.ensures.value) ∙ sym c.stands_at-found.ensures.found ∙ c.if-not-found.true) in
-    let same : pages_of spots ≡ without_item page (pages_of spots) =
+    let same =
     ap pages_of (absent_kept pages_ordered page_of page _ absent) ∙ sym (pages_kept (λ p. not (same_page p page)) _) in
     inl (sym c.self.view_is
     ∙ ap (λ ps. record { pages = ps; known = c.self.inside.known }) same

@@ -1,4 +1,4 @@
-use Rattle.ksm_pages.proofs.Names.{AllPairs-filter, ap, AreInOrder, comes_before, filter, filter_same, get, has_item, is_useless, Listing, not, rules, subst, sym, true, ◌∙◌, ◌≡◌}
+use Rattle.ksm_pages.proofs.Names.{AllPairs-filter, AreInOrder, comes_before, filter, filter_same, get, has_item, is_useless, not, rules, subst, sym, true, ◌∙◌, ◌≡◌}
 use Rattle.ksm_pages.proofs.Spots.{swept}
 use Rattle.ksm_pages.proofs.restless.Restless.sweep.Goals as goal
 
@@ -11,4 +11,4 @@ invariant_of-self c =
     subst AreInOrder (sym (left c)) (AllPairs-filter (λ s t. comes_before s.page t.page ≡ true) (λ s. not (is_useless s (get c.args.entries.now s.key))) _ c.self.invariant)
 
 pub returns-then-self-len-clause-kept : goal.returns-then-self-len-clause-kept
-returns-then-self-len-clause-kept c page has = rw (left c) (swept _ (ap (λ (l : Listing). has_item page l.pages) c.self.view_is ∙ has))
+returns-then-self-len-clause-kept c page has = rw (left c) (swept _ ((λ i. has_item page (c.self.view_is i).pages) ∙ has))

@@ -1,9 +1,6 @@
-use Rattle.ksm_pages.proofs.Names.{Entry, refl, Row, settled, true, ℕ}
+use Rattle.ksm_pages.proofs.Names.{Entry, refl, true, ℕ}
 use Rattle.ksm_pages.proofs.Writing.{can_be, kept_forgotten, nothing, viewed_forgotten}
 use Rattle.ksm_pages.proofs.rows.Rows.become_unchanged.Goals as goal
-
-abbrev found : Row → Row
-found r = record (settled r) { unchanged = true }
 
 -- the entry that is unchanged, with the number of its group
 abbrev marked : ℕ → Entry → Entry

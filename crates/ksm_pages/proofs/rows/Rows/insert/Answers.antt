@@ -1,4 +1,4 @@
-use Rattle.ksm_pages.proofs.Names.{ap, arith, Entry, false, get, held_in, held_of, IsRows, mapped, PageState, rules, Some, subst, sym, true, with_held, ◌∙◌, ◌≡◌}
+use Rattle.ksm_pages.proofs.Names.{ap, arith, Entry, false, get, held_in, held_of, IsRows, mapped, rules, Some, subst, sym, true, with_held, ◌∙◌, ◌≡◌}
 use Rattle.slab.specs.Slab.{Updates as Fills}
 use Rattle.ksm_pages.specs.declared.row.Kind.TheVariants as kinds
 use Rattle.ksm_pages.proofs.Writing.{no_name, rests_now, seen_with_room, still_put, viewed_put, with_room}
@@ -29,4 +29,4 @@ returns-clause-added c =
     ap (λ order. record { held = held_in s.pass c.insert_reserved.new.self order; restless = c.add.new.self; pass = s.pass }) c.in_ok-insert.ensures.added
     ∙ viewed_put (record s { entries = c.reserve_one.new.slab }) (with_room s c.self.invariant c.reserve_one.ensures.rest)
     (seen_with_room s c.self.view_is c.reserve_one.ensures.rest) vacant c.requires.absent fills _
-    ∙ ap (λ (st : PageState). record c.args.self.now { held = with_held (mapped st (Some c.args.frame) (held_of s.pass e)) c.args.self.now.held; restless = c.add.new.self }) (rests_now _ c.self.invariant.counting)
+    ∙ (λ i. record c.args.self.now { held = with_held (mapped (rests_now _ c.self.invariant.counting i) (Some c.args.frame) (held_of s.pass e)) c.args.self.now.held; restless = c.add.new.self })

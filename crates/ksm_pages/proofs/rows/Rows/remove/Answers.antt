@@ -1,4 +1,4 @@
-use Rattle.ksm_pages.proofs.Names.{ap, has_item, held_in, inl, inr, is_some, IsRows, Listing, subst, sym, true≢false, ◌∙◌}
+use Rattle.ksm_pages.proofs.Names.{ap, has_item, held_in, inl, inr, is_some, IsRows, subst, sym, true≢false, ◌∙◌}
 use Rattle.ksm_pages.proofs.Listings.{without_lacks}
 use Rattle.ksm_pages.proofs.Writing.{can_be, nothing_gone, nowhere_seen, still_gone, viewed_gone}
 use Rattle.ksm_pages.proofs.Options.{some_mapped}
@@ -35,6 +35,6 @@ returns-in_default-clause-unlisted c known =
 
 pub returns-clause-unlisted : goal.returns-clause-unlisted
 returns-clause-unlisted c _ = elim c.remove-2.ensures [
-  | inl is ↦ ap (λ (l : Listing). has_item c.args.spot.page l.pages) is ∙ without_lacks c.args.spot.page _
-  | inr is ↦ ap (λ (l : Listing). has_item c.args.spot.page l.pages) is
+  | inl is ↦ (λ i. has_item c.args.spot.page (is i).pages) ∙ without_lacks c.args.spot.page _
+  | inr is ↦ λ i. has_item c.args.spot.page (is i).pages
 ]

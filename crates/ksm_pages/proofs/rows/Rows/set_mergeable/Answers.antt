@@ -9,8 +9,7 @@ returns-in_default c = nothing c.self.inside c.self.invariant _ c.in_default.ens
 pub invariant_of-self : goal.invariant_of-self
 invariant_of-self c =
     let e' = record c.index_mut-entry.result.now { mergeable = c.args.mergeable } in
-    let same = c.if-was-mergeable.true in
-    untouched c.self.inside c.self.invariant c.in-Some.ensures.there c.index_mut-entry.ensures.value _ refl refl refl (grind (arith, same))
+    untouched c.self.inside c.self.invariant c.in-Some.ensures.there c.index_mut-entry.ensures.value _ refl refl refl (grind (arith))
 
 pub returns-then-was-mergeable : goal.returns-then-was-mergeable
 returns-then-was-mergeable c =

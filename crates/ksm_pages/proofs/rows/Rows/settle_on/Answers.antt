@@ -25,8 +25,7 @@ invariant_of-self-else-restless-was_restless c =
     let s = c.self.inside in
     let e = c.index_mut-entry.result.now in
     kept s c.self.invariant c.in-Some.ensures.there c.index_mut-entry.ensures.value _ refl refl (λ own. omega arith)
-    (λ may. let w = c.is_restless-was_restless.ensures in let f = c.if-restless-was_restless.false in grind (arith, w, f, may)) _ refl
-    c.state-old.ensures (sym (rests_now _ c.self.invariant.counting)) c.change.ensures
+    (λ may. grind (arith)) _ refl c.state-old.ensures (sym (rests_now _ c.self.invariant.counting)) c.change.ensures
 
 pub returns-then-restless-was_restless : goal.returns-then-restless-was_restless
 returns-then-restless-was_restless c =
