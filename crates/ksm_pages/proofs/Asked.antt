@@ -30,10 +30,10 @@ find_narrower : {X : Type 0} (p q : X → Bool) → ((x : X) → q x ≡ true �
 find_narrower p q less [] x is passes = is
 find_narrower p q less (y ∷ ys) x is passes = elim (cases_Bool (p y)) [
   | inl first ↦
-      let same : y ≡ x = grind (arith) in
-      grind (arith)
+      let same : y ≡ x = grind arith in
+      grind arith
   | inr out ↦
-      let rest = find_narrower p q less ys x (grind (arith)) passes in
+      let rest = find_narrower p q less ys x (grind arith) passes in
       grind (arith, rest)
 ]
 
@@ -47,7 +47,7 @@ first_at next page here ahead (x ∷ xs) up r found = elim (cases_Bool _) [
       let passes = here x (same_page_eq _ _ is) in
       grind (arith, is, passes, found)
   | inr other ↦
-      let there : row_at page xs ≡ Some r = grind (arith) in
+      let there : row_at page xs ≡ Some r = grind arith in
       let before =
       find_all _ (λ s. comes_before x.page s.page ≡ true) _ r there (pairs_head (λ (a b : Row). comes_before a.page b.page ≡ true) x _ up) in
       let at = same_page_eq _ _ (find_passes (λ s. same_page s.page page) xs r there) in
@@ -134,12 +134,12 @@ module _ (p : PagesValue) (guest : Option ℕ) (cursor : Option GuestPage) where
           past [] up found = absurd (none-some r found)
           past (x ∷ xs) up found = elim (cases_Bool (behind x)) [
             | inl yes_it ↦
-                let is_first : x ≡ r = grind (arith) in
+                let is_first : x ≡ r = grind arith in
                 let at = (λ i. (there.2 i).guest) ∙ (λ i. (sym is_first i).page.guest) in
-                find_nothing next (x ∷ xs) (All-cons (λ y. next y ≡ false) x xs (other x (omega (arith)))
+                find_nothing next (x ∷ xs) (All-cons (λ y. next y ≡ false) x xs (other x (omega arith))
                 (λ k d lt. let le = guests_rise x.page (get_or xs k d).page (pairs_head (λ (a b : Row). comes_before a.page b.page ≡ true) x xs up k d lt) in other (get_or xs k d) (omega (arith, at, le))))
             | inr not_it ↦
-                let rest = past xs (pairs_tail (λ (a b : Row). comes_before a.page b.page ≡ true) x xs up) (grind (arith)) in
+                let rest = past xs (pairs_tail (λ (a b : Row). comes_before a.page b.page ≡ true) x xs up) (grind arith) in
                 grind (arith, rest)
           ]
 

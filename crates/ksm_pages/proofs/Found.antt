@@ -10,14 +10,14 @@ find_kept test keep [] o is kept = is
 find_kept test keep (x ∷ xs) o is kept =
     elim (cases_Bool (test x)) [
       | inl passes ↦
-          let here : o ≡ Some x = grind (arith) in
+          let here : o ≡ Some x = grind arith in
           let stays = kept x here in
-          grind (arith)
+          grind arith
       | inr fails ↦
-          let rest = find_kept test keep xs o (grind (arith)) kept in
+          let rest = find_kept test keep xs o (grind arith) kept in
           elim (cases_Bool (keep x)) [
-            | inl stays ↦ grind (arith)
-            | inr goes ↦ grind (arith)
+            | inl stays ↦ grind arith
+            | inr goes ↦ grind arith
           ]
     ]
 

@@ -27,8 +27,8 @@ filter_least p q (z ∷ zs) less =
     elim (cases_Bool _) [
       | inl passes ↦ let also = less z passes in grind (arith, passes, also, rest)
       | inr fails ↦ elim (cases_Bool (p z)) [
-        | inl passes ↦ grind (arith)
-        | inr out_too ↦ grind (arith)
+        | inl passes ↦ grind arith
+        | inr out_too ↦ grind arith
       ]
     ]
 
@@ -38,17 +38,17 @@ filter_fewer p q [] x found out less = cc
 filter_fewer p q (y ∷ ys) x found out less =
     elim (cases_Bool (p y)) [
       | inl passes ↦
-          let same : y ≡ x = grind (arith) in
+          let same : y ≡ x = grind arith in
           let none = ap q same ∙ out in
           let few = filter_least p q ys less in
-          grind (arith)
+          grind arith
       | inr fails ↦
           let none : q y ≡ false = elim (cases_Bool (q y)) [
             | inl also ↦ absurd (true≢false (sym (less y also) ∙ fails))
             | inr out_too ↦ out_too
           ] in
-          let few = filter_fewer p q ys x (grind (arith)) out less in
-          grind (arith)
+          let few = filter_fewer p q ys x (grind arith) out less in
+          grind arith
     ]
 
 -- what a search finds first comes before all others that pass
@@ -57,12 +57,12 @@ first_found p [] n rise found = λ k d lt. absurd (omega arith)
 first_found p (y ∷ ys) n rise found =
     elim (cases_Bool (p y)) [
       | inl passes ↦
-          let same : y ≡ n = grind (arith) in
+          let same : y ≡ n = grind arith in
           All-cons (λ m. p m ≡ true → (m.page ≡ n.page) ⊎ (comes_before n.page m.page ≡ true)) y ys (λ also. inl (λ i. (same i).page))
           (λ k d lt also. inr ((λ i. comes_before (sym same i).page (get_or ys k d).page) ∙ pairs_head (λ a b. comes_before a.page b.page ≡ true) y ys rise k d lt))
       | inr fails ↦
           All-cons (λ m. p m ≡ true → (m.page ≡ n.page) ⊎ (comes_before n.page m.page ≡ true)) y ys (λ also. absurd (true≢false (sym also ∙ fails)))
-          (first_found p ys n (pairs_tail (λ a b. comes_before a.page b.page ≡ true) y ys rise) (grind (arith)))
+          (first_found p ys n (pairs_tail (λ a b. comes_before a.page b.page ≡ true) y ys rise) (grind arith))
     ]
 
 module _ (slab : Slab Entry) (order : List Named) (rise : AreAscending order) (filed : AreFiled slab order) where

@@ -11,7 +11,7 @@ pub any_below : (place n : ℕ) (dups : List DupRow) → All (λ d. d.place < n)
 any_below place n [] below there = cc
 any_below place n (d ∷ dups) below there = elim (cases_Bool _) [
   | inl here ↦ subst (λ p. p < n) (eqb-true d.place place here) (All-head (λ e. e.place < n) d _ below)
-  | inr away ↦ any_below _ n dups (All-tail (λ e. e.place < n) d dups below) (grind (arith))
+  | inr away ↦ any_below _ n dups (All-tail (λ e. e.place < n) d dups below) (grind arith)
 ]
 
 module _ (dups : List DupRow) (rise : InPlaceOrder dups) (frames : List ℕ) (place frame : ℕ) (inside : place < length frames) where

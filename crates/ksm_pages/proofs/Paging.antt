@@ -95,7 +95,7 @@ items_lodge held {s} frames rise lawful as_many {frame} is k e lt at i f lt_row 
     let lodges =
     ap (option_and_then (λ (x : DupRow). slice_get frames x.place)) (each_has_number _ lawful.in_place_order k e lt)
     ∙ ap (slice_get frames) at
-    ∙ within _ (omega (arith))
+    ∙ within _ (omega arith)
     ∙ ap Some (sym is) in
     item_lies _ _ rise _ i f lt_row merged ∙ lodges
   where
@@ -116,13 +116,13 @@ module _ (rows : List Row) (dups : List Dup) (place : ℕ) (tied : AreTied rows 
     where
       go : (o : Option Dup) → dup_at place dups ≡ o → Some row ≡ option_map (λ (d : Dup). d.row) (passing is_live o)
           → option_map (items_of rows) (option_map (λ (d : Dup). d.row) (find (λ d. stands_at place d && is_live d) dups)) ≡ Some (items_in (dup_at place dups))
-      go None there no_it = absurd (grind (arith))
+      go None there no_it = absurd (grind arith)
       go (Some d) there one = elim (cases_Bool _) [
         | inl live ↦
             ap (λ o. option_map (items_of rows) (option_map (λ (d : Dup). d.row) o)) (found_passing _ _ _ rise ∙ ap (passing is_live) there ∙ ap (λ b. cond b (Some d) None) live)
             ∙ ap Some (sym (find_all _ (λ e. e.items ≡ items_of rows e.row) _ d there tied))
             ∙ ap (λ o. Some (items_in o)) (sym there)
-        | inr stale ↦ absurd (grind (arith))
+        | inr stale ↦ absurd (grind arith)
       ]
 
 -- ---------------------------------------------------------------- the scan's way

@@ -27,7 +27,7 @@ module _ (page : GuestPage) (few : page.page < 2 ^ 32) where
   from_its x = grind (arith, nat_tests)
 
   pub page_is : page_of (key_of page) ≡ page
-  page_is = grind (arith)
+  page_is = grind arith
 
 -- ---------------------------------------------------------------- all pages and all items
 
@@ -90,7 +90,7 @@ module _ (key : ℕ) where
           | inl less ↦
               let n : up_to key (x ∷ xs) ≡ suc (up_to key xs) = grind (arith, nat_tests) in
               let fails : (x.marked && is_from key x) ≡ false = grind (arith, nat_tests) in
-              let all : kept_marked (x ∷ xs) ≡ x ∷ kept_marked xs = grind (arith) in
+              let all : kept_marked (x ∷ xs) ≡ x ∷ kept_marked xs = grind arith in
               let kept : filter (λ y. y.marked && is_from key y) (x ∷ xs) ≡ filter (λ y. y.marked && is_from key y) xs = grind (arith, fails) in
               kept ∙ rest ∙ sym (ap₂ (λ m ys. drop m ys) n all)
           | inr more ↦
@@ -98,14 +98,14 @@ module _ (key : ℕ) where
               let none = up_to_behind key xs later in
               let n : up_to key (x ∷ xs) ≡ 0 = grind (arith, nat_tests) in
               let passes : (x.marked && is_from key x) ≡ true = grind (arith, nat_tests) in
-              let all : kept_marked (x ∷ xs) ≡ x ∷ kept_marked xs = grind (arith) in
+              let all : kept_marked (x ∷ xs) ≡ x ∷ kept_marked xs = grind arith in
               let kept : filter (λ y. y.marked && is_from key y) (x ∷ xs) ≡ x ∷ filter (λ y. y.marked && is_from key y) xs = grind (arith, passes) in
               kept ∙ ap (λ ys. x ∷ ys) (rest ∙ ap (λ m. drop m (kept_marked xs)) none) ∙ sym (ap₂ (λ m ys. drop m ys) n all)
         ]
         | inr other ↦
-            let n : up_to key (x ∷ xs) ≡ up_to key xs = grind (arith) in
-            let all : kept_marked (x ∷ xs) ≡ kept_marked xs = grind (arith) in
-            let kept : filter (λ y. y.marked && is_from key y) (x ∷ xs) ≡ filter (λ y. y.marked && is_from key y) xs = grind (arith) in
+            let n : up_to key (x ∷ xs) ≡ up_to key xs = grind arith in
+            let all : kept_marked (x ∷ xs) ≡ kept_marked xs = grind arith in
+            let kept : filter (λ y. y.marked && is_from key y) (x ∷ xs) ≡ filter (λ y. y.marked && is_from key y) xs = grind arith in
             kept ∙ rest ∙ sym (ap₂ (λ m ys. drop m ys) n all)
       ]
 
@@ -120,13 +120,13 @@ module _ (key : ℕ) where
       let counts = count_more (λ y. y.marked && nat_lt y.key key) x xs in
       elim (cases_Bool x.marked) [
         | inl is ↦
-            let all : kept_marked (x ∷ xs) ≡ x ∷ kept_marked xs = grind (arith) in
+            let all : kept_marked (x ∷ xs) ≡ x ∷ kept_marked xs = grind arith in
             let more = count_more below x (kept_marked xs) in
-            let same : (x.marked && nat_lt x.key key) ≡ below x = grind (arith) in
+            let same : (x.marked && nat_lt x.key key) ≡ below x = grind arith in
             counts ∙ ap₂ (λ b m. (if b then 1 else 0) + m) same rest ∙ sym (ap (count_by below) all ∙ more)
         | inr other ↦
-            let all : kept_marked (x ∷ xs) ≡ kept_marked xs = grind (arith) in
-            let n : up_to key (x ∷ xs) ≡ up_to key xs = grind (arith) in
+            let all : kept_marked (x ∷ xs) ≡ kept_marked xs = grind arith in
+            let n : up_to key (x ∷ xs) ≡ up_to key xs = grind arith in
             n ∙ rest ∙ sym (ap (count_by below) all)
       ]
 
@@ -166,7 +166,7 @@ module _ (key : ℕ) where
       let rest = kept_between n xs (pairs_tail Less x _ rise) in
       let counts = count_more below x xs in
       let same : count_by below (x ∷ xs) - suc n ≡ count_by below xs - n = elim (cases_lt x.key key) [
-        | inl less ↦ let m : count_by below (x ∷ xs) ≡ 1 + count_by below xs = grind (arith, nat_tests) in omega (arith)
+        | inl less ↦ let m : count_by below (x ∷ xs) ≡ 1 + count_by below xs = grind (arith, nat_tests) in omega arith
         | inr more ↦
             let m : count_by below (x ∷ xs) ≡ count_by below xs = grind (arith, nat_tests) in
             let none = sym (length-filter below xs) ∙ ap length (filter_none below _ (nothing_below x _ rise more)) in
@@ -225,11 +225,11 @@ gone_one key (x ∷ xs) rise there = elim (cases_Bool _) [
   | inl is ↦
       let at = eqb-true x.key key is in
       let others = filter_all (λ y. not (is_at key y)) xs (λ k d lt. let up = pairs_head Less x xs rise k d lt in grind (arith, nat_tests, up, at)) in
-      let kept : without key (x ∷ xs) ≡ without key xs = grind (arith) in
+      let kept : without key (x ∷ xs) ≡ without key xs = grind arith in
       omega (arith, ap length kept, ap length others)
   | inr other ↦
-      let later : is_some (find (is_at key) xs) ≡ true = grind (arith) in
-      let kept : without key (x ∷ xs) ≡ x ∷ without key xs = grind (arith) in
+      let later : is_some (find (is_at key) xs) ≡ true = grind arith in
+      let kept : without key (x ∷ xs) ≡ x ∷ without key xs = grind arith in
       omega (arith, ap length kept, gone_one key xs (pairs_tail Less x _ rise) later)
 ]
 
@@ -273,5 +273,5 @@ module _ (items : List Item) {now : List Named} (seen_as : map named_by items �
         → page_at (passed_to cursor page now) (length (passed_to cursor page now) - 1) ≡ Some (page_of key)
     passed_last some key is =
         ap₂ (λ ns n. page_at ns (n - 1)) passed_is passed_many
-        ∙ ap (option_map (λ n. n.page)) (get_taken (before - passed) (before - passed - 1) _ (omega (arith)) ∙ get_dropped _ _ (visited now))
-        ∙ ap (page_at (visited now)) (omega (arith)) ∙ visited_at (before - 1) key is
+        ∙ ap (option_map (λ n. n.page)) (get_taken (before - passed) (before - passed - 1) _ (omega arith) ∙ get_dropped _ _ (visited now))
+        ∙ ap (page_at (visited now)) (omega arith) ∙ visited_at (before - 1) key is

@@ -96,10 +96,10 @@ moved_up xs at x within =
     let l = xs ++ x ∷ [] in
     let many = length-append xs (x ∷ []) in
     let front =
-    ap (λ n. take n l) (add-one at) ∙ take-suc l at x (omega (arith)) ∙ ap (λ ys. ys ++ get_or l at x ∷ []) (take-append-le at xs (x ∷ []) within) in
+    ap (λ n. take n l) (add-one at) ∙ take-suc l at x (omega arith) ∙ ap (λ ys. ys ++ get_or l at x ∷ []) (take-append-le at xs (x ∷ []) within) in
     let back =
     sym (drop-take at _ l) ∙ ap (λ n. drop at (take n l)) (omega arith) ∙ ap (drop at) (take-append_seam xs (x ∷ [])) in
-    let none = drop_all _ l (omega (arith)) in
+    let none = drop_all _ l (omega arith) in
     ap (λ ys. set ys at x) (ap₂ (λ a b. a ++ b) (ap₂ (λ a b. a ++ b) front back) none
     ∙ append-nil ((take at xs ++ get_or l at x ∷ []) ++ drop at xs)
     ∙ append_assoc (take at xs) (get_or l at x ∷ []) (drop at xs))

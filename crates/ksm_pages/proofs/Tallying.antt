@@ -62,7 +62,7 @@ pub tally_put : {rows : List Row} (row : Row) {tally : Tally} → row_at row.pag
 tally_put {rows} row absent alone are =
     let more : (p : Row → Bool) → count_by p (with_row row rows) ≡ count_by p rows + one_if (p row) = λ p. count_with_row p row _ absent in
     record {
-      merged = let m = more (λ r. merged_state r.state) in let n = ap (λ s. one_if (merged_state s)) alone in omega (arith);
-      waiting = let m = more (λ r. waiting_state r.state) in let n = ap (λ s. one_if (waiting_state s)) alone in omega (arith);
-      zero = let m = more (λ r. zero_state r.state) in let n = ap (λ s. one_if (zero_state s)) alone in omega (arith);
+      merged = let m = more (λ r. merged_state r.state) in let n = ap (λ s. one_if (merged_state s)) alone in omega arith;
+      waiting = let m = more (λ r. waiting_state r.state) in let n = ap (λ s. one_if (waiting_state s)) alone in omega arith;
+      zero = let m = more (λ r. zero_state r.state) in let n = ap (λ s. one_if (zero_state s)) alone in omega arith;
     }

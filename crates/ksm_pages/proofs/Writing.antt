@@ -37,7 +37,7 @@ rests_apart {number} pass apart = ap own_state (ne_eqb number pass apart)
 
 -- a row with a frame of its own and number 0 is Private in any pass from 1 on
 pub rests_now : (pass : ℕ) → 1 ≤ pass → state_of kinds.Own 0 pass ≡ Private
-rests_now pass counting = rests_apart _ (λ same. absurd (omega (arith)))
+rests_now pass counting = rests_apart _ (λ same. absurd (omega arith))
 
 -- an entry that has forgotten its pass is settled in any pass from 1 on
 pub rest_of : (kind : Kind) (number pass after : ℕ) → 1 ≤ after

@@ -1,7 +1,6 @@
-use Rattle.ksm_pages.proofs.Names.{ahead_of, ap, arith, length, option_map, page_at, Some, sym, visited, ◌-◌, ◌<◌, ◌^◌, ◌∙◌, ◌≡◌}
+use Rattle.ksm_pages.proofs.Names.{ahead_of, ap, arith, length, option_map, page_at, rules, Some, sym, visited, ◌-◌, ◌<◌, ◌^◌, ◌∙◌, ◌≡◌}
 use Rattle.std.proofs.lemmas.List.{length-drop}
 use Rattle.ksm_order.specs.declared.item.Item.{Item}
-use Rattle.ksm_order.specs.Listed.{marked}
 use Rattle.ksm_pages.proofs.Names.{All-filter, length-filter}
 use Rattle.ksm_pages.proofs.Ranked.{get_dropped, small_at, some_at, visited_at, visited_many}
 use Rattle.ksm_pages.proofs.order.Order.ahead.Goals as goal
@@ -13,7 +12,7 @@ many c = ap length c.passed-passed.ensures.ahead ∙ length-drop c.passed-passed
     ∙ ap (λ n. n - c.passed-passed.result) (visited_many _ c.self.view_is ∙ sym c.count.ensures)
 
 pub overflow_sub-left : goal.overflow_sub-left
-overflow_sub-left c = omega (arith, c.passed-passed.ensures.within, visited_many _ c.self.view_is, c.count.ensures)
+overflow_sub-left c = search (rules, visited_many)
 
 pub returns-then-left-visits : goal.returns-then-left-visits
 returns-then-left-visits c = (sym (many (goal.at.returns-then-left-visits c).After-count), c.if-left-visits.true)
@@ -32,6 +31,4 @@ returns-in-Some c = (
 )
 
 pub returns-in-None : goal.returns-in-None
-returns-in-None c =
-    let items = c.self.inside.pages in
-    absurd (some_at (marked items) _ (omega (arith, c.if-left-visits.false, c.count.ensures, length-filter (λ (x : Item). x.marked) items, c.requires)) (sym c.nth.ensures ∙ c.in-None.is))
+returns-in-None c = search (rules, some_at, length-filter)

@@ -1,4 +1,4 @@
-use Rattle.ksm_pages.proofs.Names.{All, All-append, All-cons, All-filter, ap, arith, find, GuestPage, is_of, length, map, Named, named_by, None, page_of, subst, sym, true, with_named, ◌+◌, ◌<◌, ◌^◌, ◌∙◌, ◌≡◌}
+use Rattle.ksm_pages.proofs.Names.{All, All-append, All-cons, All-filter, ap, arith, find, GuestPage, is_of, length, map, Named, named_by, None, page_of, rules, subst, sym, true, with_named, ◌+◌, ◌<◌, ◌^◌, ◌∙◌, ◌≡◌}
 use Rattle.ksm_order.specs.declared.item.Item.{Item}
 use Rattle.ksm_order.specs.Listed.{AreAscending, is_at, with_item}
 use Rattle.ksm_order.proofs.Changes.{with_rises}
@@ -34,7 +34,7 @@ invariant_of-self-2 c =
     let x = item k in
     let come = c.in_ok-insert.ensures.added in
     let rise = c.self.invariant.ascending in
-    let one_more : c.in-Some.len ≡ c.self.inside.len + 1 = grind (arith) in
+    let one_more : c.in-Some.len ≡ c.self.inside.len + 1 = grind arith in
     let Small : Item → Type 0 = λ y. y.key < 2 ^ 48 in
     record {
       ascending = subst AreAscending (sym come) (with_rises x _ rise);
@@ -44,6 +44,4 @@ invariant_of-self-2 c =
     }
 
 pub returns-clause-added : goal.returns-clause-added
-returns-clause-added c =
-    let k = (goal.at.returns-clause-added c).After-key_of in
-    ap (map named_by) c.in_ok-insert.ensures.added ∙ sym (put k) ∙ ap (with_named (named k)) c.self.view_is
+returns-clause-added c = search (rules, put)

@@ -1,6 +1,6 @@
-use Rattle.ksm_pages.proofs.Names.{All, All-map, ap, arith, length, length-map, map, marked, named_by, subst, sym, ◌<◌, ◌^◌, ◌∙◌}
+use Rattle.ksm_pages.proofs.Names.{All, All-map, ap, arith, length, length-map, rules, subst, sym, ◌<◌, ◌^◌}
 use Rattle.ksm_order.specs.declared.item.Item.{Item}
-use Rattle.ksm_order.specs.Listed.{AreAscending, with_mark}
+use Rattle.ksm_order.specs.Listed.{AreAscending}
 use Rattle.ksm_order.proofs.Changes.{mark_of, mark_rises, same_key}
 use Rattle.ksm_pages.proofs.Ranked.{marked_by}
 use Rattle.ksm_pages.proofs.order.Order.mark.Goals as goal
@@ -19,7 +19,4 @@ invariant_of-self c =
     }
 
 pub returns : goal.returns
-returns c =
-    let items = c.self.inside.pages in
-    ap (map named_by) (c.set_mark.ensures ∙ ap (λ key. with_mark key c.args.mergeable items) c.key_of.ensures.key)
-    ∙ sym (marked_by _ c.key_of.ensures.few _ _) ∙ ap (marked c.args.page c.args.mergeable) c.self.view_is
+returns c = search (rules, marked_by)

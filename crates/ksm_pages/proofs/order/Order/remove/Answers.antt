@@ -1,7 +1,7 @@
-use Rattle.ksm_pages.proofs.Names.{All, All-filter, ap, arith, find, is_of, is_some, key_of, length, map, named_by, subst, sym, without_named, ◌<◌, ◌^◌, ◌∙◌}
+use Rattle.ksm_pages.proofs.Names.{All, All-filter, ap, arith, find, is_of, is_some, key_of, length, rules, subst, sym, ◌<◌, ◌^◌, ◌∙◌}
 use Rattle.std.proofs.lemmas.List.Kept.{AllPairs-filter}
 use Rattle.ksm_order.specs.declared.item.Item.{Item}
-use Rattle.ksm_order.specs.Listed.{AreAscending, is_at, without}
+use Rattle.ksm_order.specs.Listed.{AreAscending, is_at}
 use Rattle.ksm_pages.proofs.Options.{some_mapped}
 use Rattle.ksm_pages.proofs.Ranked.{found_by, gone_one, without_by}
 use Rattle.ksm_pages.proofs.order.Order.remove.Goals as goal
@@ -22,7 +22,4 @@ invariant_of-self c =
     }
 
 pub returns : goal.returns
-returns c =
-    let items = c.self.inside.pages in
-    ap (map named_by) (c.remove.ensures ∙ ap (λ key. without key items) c.key_of.ensures.key)
-    ∙ sym (without_by _ c.key_of.ensures.few _) ∙ ap (without_named c.args.page) c.self.view_is
+returns c = search (rules, without_by)

@@ -1,4 +1,4 @@
-use Rattle.ksm_pages.proofs.Names.{ap, AreTied, DupRow, DupsState, elsewhere, filter, frame_of, is_some, IsVacant, List, lodging, lodgings_of, PagesValue, rows_of, rows_without, seen, subst, sym, tied_pruned, ◌∙◌}
+use Rattle.ksm_pages.proofs.Names.{ap, DupRow, DupsState, elsewhere, filter, frame_of, is_some, IsVacant, List, lodging, lodgings_of, PagesValue, rows_of, rows_without, rules, seen, subst, sym, tied_pruned, ◌∙◌}
 use Rattle.ksm_tree.specs.Dups.{rows_of as dup_rows}
 use Rattle.ksm_pages.proofs.Dropping.{all_elsewhere, lodged_dropped, stale_there}
 use Rattle.ksm_pages.proofs.Paging.{any_at}
@@ -12,17 +12,7 @@ drop_stale-requires c =
     (sym (c.is_some.ensures ∙ ap is_some c.at.ensures.number) ∙ c.if-is_some.true)
 
 pub invariant_of-self : goal.invariant_of-self
-invariant_of-self c =
-    let s = c.self.inside in
-    record {
-      small = c.self.invariant.small;
-      order = c.self.invariant.order;
-      tied = subst (AreTied (rows_of s.rows.held)) (λ i. (sym c.drop_stale.ensures i).dups)
-          (tied_pruned (rows_of s.rows.held) _ _ c.self.invariant.tied);
-      places = (λ i. (c.drop_stale.ensures i).places) ∙ c.self.invariant.places;
-      waits = rw c.drop_stale.ensures c.self.invariant.waits;
-      room = c.self.invariant.room;
-    }
+invariant_of-self c = search (rules, tied_pruned)
 
 pub returns-then-is_some : goal.returns-then-is_some
 returns-then-is_some c =
@@ -38,10 +28,4 @@ returns-then-is_some c =
     ∙ ap (λ (v : PagesValue). record (seen v) { dups = filter (elsewhere place) v.dups }) c.self.view_is
 
 pub returns-else-is_some : goal.returns-else-is_some
-returns-else-is_some c =
-    let s = c.self.inside in
-    let place = c.args.place in
-    let none = sym (any_at place _) ∙ sym (c.is_some.ensures ∙ ap is_some c.at.ensures.number) ∙ c.if-is_some.false in
-    ap seen (sym c.self.view_is)
-    ∙ ap (λ (ds : List DupRow). record (seen (view_of s)) { dups = ds }) (sym (all_elsewhere _ none))
-    ∙ ap (λ (v : PagesValue). record (seen v) { dups = filter (elsewhere place) v.dups }) c.self.view_is
+returns-else-is_some c = search (rules, any_at, all_elsewhere)

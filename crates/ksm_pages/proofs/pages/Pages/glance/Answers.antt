@@ -1,4 +1,4 @@
-use Rattle.ksm_pages.proofs.Names.{ap, found_at, option_map, refl, same_page, same_page_refl, subst, sym, true, unwrap_or, ◌∙◌, ◌≡◌}
+use Rattle.ksm_pages.proofs.Names.{ap, found_at, option_map, refl, rules, same_page, same_page_refl, subst, sym, true, unwrap_or, ◌∙◌, ◌≡◌}
 use Rattle.ksm_pages.proofs.Visiting.{IsAsked, asked, finds_gone, finds_waits, lawful_waits}
 use Rattle.ksm_pages.proofs.pages.Pages.glance.Goals as goal
 
@@ -30,5 +30,4 @@ returns-clause-waits c _ =
     _ c.wait.ensures
 
 pub returns-then-not-is_restless-clause-gone : goal.returns-then-not-is_restless-clause-gone
-returns-then-not-is_restless-clause-gone c _ =
-    finds_gone c.self.inside c.self.view_is _ c.in-Some.entry.now c.in-Some.ensures (sym c.if-not-is_restless.ensures)
+returns-then-not-is_restless-clause-gone c = search (rules, finds_gone)

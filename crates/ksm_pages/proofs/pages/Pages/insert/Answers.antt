@@ -1,16 +1,12 @@
-use Rattle.ksm_pages.proofs.Names.{ap, fresh_row, Held, refl, row_at, RowsView, seen, Some, ◌∙◌}
+use Rattle.ksm_pages.proofs.Names.{fresh_row, Held, refl, rules, seen, Some}
 use Rattle.ksm_pages.proofs.Entering.{but_there, either_way, entered, lay_nowhere}
 use Rattle.std.proofs.lemmas.Result.{on_err_weaker, on_ok_weaker}
 use Rattle.ksm_pages.proofs.Changing.{nothing_held}
-use Rattle.ksm_pages.proofs.Leaving.{view_of}
 use Rattle.ksm_pages.proofs.Turning.{held_as}
 use Rattle.ksm_pages.proofs.pages.Pages.insert.Goals as goal
 
 pub insert-requires : goal.insert-requires
-insert-requires c =
-    record {
-      absent = nothing_held c.args.page _ ((λ i. row_at c.args.page (c.self.view_is i).rows) ∙ c.requires);
-    }
+insert-requires c = search (rules, nothing_held)
 
 abbrev fresh : (c : goal.After-insert) → Held
 fresh c = record { row = fresh_row c.args.page c.args.node c.args.bytes.now; frame = Some 0 }
@@ -37,6 +33,4 @@ pub returns-clause-nowhere : goal.returns-clause-nowhere
 returns-clause-nowhere c = lay_nowhere c.self.inside c.self.invariant c.self.view_is (fresh c) c.requires
 
 pub returns-clause-refused : goal.returns-clause-refused
-returns-clause-refused c =
-    on_err_weaker c.insert.result
-    (λ kept. ap (λ (rows : RowsView). view_of (record c.self.inside { rows = rows })) kept ∙ c.self.view_is) c.insert.ensures.kept
+returns-clause-refused c = search (rules, on_err_weaker)

@@ -1,4 +1,4 @@
-use Rattle.ksm_pages.proofs.Names.{ap, false, HasRoom, held_at, held_of, PagesValue, rows_of, shared_state, Some, subst, sym, tied_absent, true≢false, ◌∙◌, ◌≡◌}
+use Rattle.ksm_pages.proofs.Names.{ap, false, HasRoom, held_at, held_of, PagesValue, rows_of, rules, shared_state, Some, subst, sym, tied_absent, ◌∙◌, ◌≡◌}
 use Rattle.ksm_pages.proofs.Joined.{fewer_room, known_room, lawful_joined, own_not_merged, own_seat, told_joined}
 use Rattle.ksm_pages.proofs.Leaving.{alone_found, alone_there, lies, row_there}
 use Rattle.ksm_pages.proofs.pages.Pages.join.Goals as goal
@@ -24,7 +24,7 @@ join_at-requires-clause-absent c =
     (own_not_merged _ alone) c.self.invariant.tied
 
 pub unreachable-requires : goal.unreachable-requires
-unreachable-requires c = true≢false (alone_there c.self.inside c.self.view_is _ c.in_default.ensures c.requires.alone)
+unreachable-requires c = search (rules, alone_there)
 
 found : (c : After-left_by) → held_at c.args.spot.page c.self.inside.rows.held ≡ Some (held_of c.pass.result c.in-Some.entry.now)
 found c = c.in-Some.ensures ∙ ap (λ n. Some (held_of n c.in-Some.entry.now)) (sym c.pass.ensures)
@@ -39,10 +39,7 @@ invariant_of-self-2 c =
     c.in_ok-place.ensures.joined c.left_by.ensures.dups c.left_by.ensures.waiting c.merge.new.self (λ i. (c.merge.ensures i).held)
 
 pub returns-clause-left : goal.returns-clause-left
-returns-clause-left c =
-    let b = (goal.at.returns-clause-left c).After-left_by in
-    sym (lies c.self.inside c.self.invariant _ (found b) c.self.view_is)
-    ∙ own_seat _ c.pass.result c.in-Some.entry.now (alone b)
+returns-clause-left c = search (rules, lies, found, own_seat, alone)
 
 pub returns-clause-joined : goal.returns-clause-joined
 returns-clause-joined c =

@@ -1,4 +1,4 @@
-use Rattle.ksm_pages.proofs.Names.{false, List, private_state, refl, Row, row_at, Some, subst, true, waits_there, ℕ, ◌≡◌}
+use Rattle.ksm_pages.proofs.Names.{false, List, private_state, refl, Row, row_at, rules, Some, subst, true, waits_there, ℕ, ◌≡◌}
 use Rattle.std.specs.Prelude.{MatchOption}
 use Rattle.ksm_pages.proofs.Resting.{private_still}
 use Rattle.ksm_pages.proofs.Turning.{held_as, stays}
@@ -18,6 +18,4 @@ invariant_of-self c =
     (alike c) c.set_home.new.self (held_as c.set_home.ensures)).lawful
 
 pub returns : goal.returns
-returns c =
-    (stays c.self.inside c.self.invariant c.self.view_is _ _ (λ r. refl) (λ r. refl)
-    (alike c) c.set_home.new.self (held_as c.set_home.ensures)).told_as
+returns c = search (rules, stays, alike, held_as)

@@ -1,4 +1,4 @@
-use Rattle.ksm_pages.proofs.Names.{ap, change_row, IsAlone, PagesValue, refl, seen, settled, subst, sym, ◌∙◌}
+use Rattle.ksm_pages.proofs.Names.{change_row, IsAlone, PagesValue, refl, rules, seen, settled, subst, sym}
 use Rattle.ksm_pages.specs.Paged.{on_its_own}
 use Rattle.ksm_pages.proofs.Leaving.{view_of}
 use Rattle.ksm_pages.proofs.Resting.{rests}
@@ -24,6 +24,4 @@ pub invariant_of-self : goal.invariant_of-self
 invariant_of-self c = (stopped c).lawful
 
 pub returns : goal.returns
-returns c =
-    (stopped c).told_as
-    ∙ ap (λ (v : PagesValue). record (seen v) { rows = change_row c.args.spot.page on_its_own v.rows }) c.self.view_is
+returns c = search (rules, stopped)

@@ -1,11 +1,11 @@
-use Rattle.ksm_pages.proofs.Names.{ap, change_row, held_of, refl, seen, settled, Some, stored, sym, true≢false, ◌∙◌}
+use Rattle.ksm_pages.proofs.Names.{ap, change_row, held_of, refl, rules, seen, settled, Some, stored, sym, ◌∙◌}
 use Rattle.ksm_pages.proofs.Leaving.{alone_there}
 use Rattle.ksm_pages.proofs.Resting.{put_bytes, stored_settled}
 use Rattle.ksm_pages.proofs.Turning.{Comes, HasLeft, and_then, found_left, held_as, rested}
 use Rattle.ksm_pages.proofs.pages.Pages.store_any.Goals as goal
 
 pub returns-in_default : goal.returns-in_default
-returns-in_default c = absurd (true≢false (alone_there c.self.inside c.self.view_is _ c.in_default.ensures c.requires))
+returns-in_default c = search (rules, alone_there)
 
 left : (c : goal.After-store)
     → HasLeft c.self.inside c.args.self.now c.args.spot.page c.left_by_any.new.dups c.deref.result.now c.left_by_any.result

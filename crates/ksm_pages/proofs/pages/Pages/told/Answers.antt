@@ -1,5 +1,4 @@
-use Rattle.ksm_pages.proofs.Names.{ap, ap₂, held_of, is_some, IsHeld, List, lodging, None, PagesValue, refl, row_at, seen, Some, subst, sym, ℕ, ◌∙◌, ◌≡◌}
-use Rattle.std.specs.Prelude.{MatchOption}
+use Rattle.ksm_pages.proofs.Names.{ap, ap₂, held_of, is_some, IsHeld, List, lodging, PagesValue, refl, rules, seen, Some, subst, sym, ℕ, ◌∙◌}
 use Rattle.ksm_tree.specs.Dups.{rows_of as dup_rows}
 use Rattle.ksm_pages.proofs.Lodgings.{frame_by, seat}
 use Rattle.ksm_pages.proofs.Changing.{row_told}
@@ -7,10 +6,7 @@ use Rattle.ksm_pages.proofs.Paging.{shared_by}
 use Rattle.ksm_pages.proofs.pages.Pages.told.Goals as goal
 
 pub returns-in_err-spot : goal.returns-in_err-spot
-returns-in_err-spot c =
-    let page = c.args.spot.page in
-    let gone = (λ i. row_at page (sym c.self.view_is i).rows) ∙ row_told page _ c.in_err-spot.ensures in
-    subst (λ o. MatchOption o (row_at page c.args.self.now.rows ≡ None) (IsHeld (seen c.args.self.now) page)) (sym c.from_residual.ensures) gone
+returns-in_err-spot c = search (rules, row_told)
 
 pub returns : goal.returns
 returns c =

@@ -1,4 +1,4 @@
-use Rattle.ksm_pages.proofs.Names.{ap, held_of, Private, refl, Row, seen, settled, Some, sym, true, ◌∙◌}
+use Rattle.ksm_pages.proofs.Names.{ap, held_of, Private, refl, Row, rules, seen, settled, Some, sym, true, ◌∙◌}
 use Rattle.ksm_pages.specs.Paged.{visited}
 use Rattle.ksm_pages.proofs.Leaving.{view_of}
 use Rattle.ksm_pages.proofs.Resting.{rests}
@@ -9,11 +9,10 @@ use Rattle.ksm_pages.proofs.pages.Pages.visit.Goals as goal
 use Rattle.ksm_pages.proofs.pages.Pages.visit.Goals.{After-best_of}
 
 pub returns-in_default-clause-found : goal.returns-in_default-clause-found
-returns-in_default-clause-found c = finds_none c.self.inside c.self.view_is _ c.in_default.ensures
+returns-in_default-clause-found c = search (rules, finds_none)
 
 pub returns-then-not-is_restless-clause-found : goal.returns-then-not-is_restless-clause-found
-returns-then-not-is_restless-clause-found c =
-    finds_gone c.self.inside c.self.view_is _ c.in-Some.entry.now c.in-Some.ensures (sym c.if-not-is_restless.ensures)
+returns-then-not-is_restless-clause-found c = search (rules, finds_gone)
 
 -- a visit may change the row, and its group has a number
 known : (c : After-best_of)
@@ -47,7 +46,7 @@ went c it =
     (λ alone i. record row { unchanged = true; state = rests _ alone i }) (held_as c.become_unchanged.ensures)
 
 pub invariant_of-self-then-not-entry : goal.invariant_of-self-then-not-entry
-invariant_of-self-then-not-entry c = (went c (known (goal.at.invariant_of-self-then-not-entry c).After-best_of)).lawful
+invariant_of-self-then-not-entry c = search (rules, went, known)
 
 pub returns-then-not-entry-clause-found : goal.returns-then-not-entry-clause-found
 returns-then-not-entry-clause-found c =
@@ -76,5 +75,4 @@ returns-clause-found c =
     (sym c.if-is_for_zero.ensures) c.meet-other.ensures.met c.meet-other.ensures.again (sym c.if-eq.ensures)
 
 pub returns-in_err-group-clause-restless : goal.returns-in_err-group-clause-restless
-returns-in_err-group-clause-restless c =
-    on_err _ (is_seen_restless c.self.inside c.self.view_is _ c.in-Some.entry.now c.in-Some.ensures (sym c.if-not-is_restless.ensures))
+returns-in_err-group-clause-restless c = search (rules, on_err, is_seen_restless)

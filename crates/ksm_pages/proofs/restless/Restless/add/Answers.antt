@@ -1,4 +1,4 @@
-use Rattle.ksm_pages.proofs.Names.{ap, AreInOrder, comes_before, filter, find, inl, is_some, Listing, pages_of, pages_ordered, refl, same_page, Spot, subst, sym, with_item, ◌++◌, ◌∙◌, ◌∷◌, ◌≡◌}
+use Rattle.ksm_pages.proofs.Names.{ap, comes_before, filter, find, inl, is_some, Listing, pages_of, pages_ordered, refl, rules, same_page, Spot, sym, with_item, ◌++◌, ◌∙◌, ◌∷◌, ◌≡◌}
 use Rattle.ksm_pages.proofs.Keyed.{write_at}
 use Rattle.ksm_rmap.proofs.Ordered.{insert_at, none_of}
 use Rattle.ksm_pages.proofs.Spots.{listed_found, page_of, put_pages, put_rises, written_pages}
@@ -27,7 +27,7 @@ put c =
     _ (none_of _ (sym c.if-found.ensures.found))
 
 pub invariant_of-self-in-Ok : goal.invariant_of-self-in-Ok
-invariant_of-self-in-Ok c = subst AreInOrder (sym (put c)) (put_rises c.args.spot _ c.self.invariant)
+invariant_of-self-in-Ok c = search (rules, put, put_rises)
 
 pub returns-in-Ok : goal.returns-in-Ok
 returns-in-Ok c =

@@ -1,4 +1,4 @@
-use Rattle.ksm_pages.proofs.Names.{Entry, refl, true, ℕ}
+use Rattle.ksm_pages.proofs.Names.{Entry, refl, rules, true, ℕ}
 use Rattle.ksm_pages.proofs.Writing.{can_be, kept_forgotten, nothing, viewed_forgotten}
 use Rattle.ksm_pages.proofs.rows.Rows.become_unchanged.Goals as goal
 
@@ -7,7 +7,7 @@ abbrev marked : ℕ → Entry → Entry
 marked group e = record e { unchanged = true; group = group }
 
 pub returns-in_default : goal.returns-in_default
-returns-in_default c = nothing c.self.inside c.self.invariant _ c.in_default.ensures.told _ c.self.view_is
+returns-in_default c = search (rules, nothing)
 
 pub change-requires : goal.change-requires
 change-requires c =

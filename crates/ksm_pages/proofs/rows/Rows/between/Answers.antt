@@ -1,4 +1,4 @@
-use Rattle.ksm_pages.proofs.Names.{ap, comes_before, filter, last_or, length, length-map, map, Named, pages_ahead, passed_to, rows_of, RowsView, sym, ◌∙◌, ◌≡◌}
+use Rattle.ksm_pages.proofs.Names.{ap, comes_before, filter, length, length-map, map, Named, pages_ahead, passed_to, rows_of, RowsView, rules, sym, ◌∙◌, ◌≡◌}
 use Rattle.ksm_pages.proofs.Reading.{between_by, last_mapped}
 use Rattle.ksm_pages.proofs.rows.Rows.between.Goals as goal
 
@@ -13,4 +13,4 @@ pub returns-clause-many : goal.returns-clause-many
 returns-clause-many c = c.between.ensures.count ∙ sym (length-map (passed_to c.args.cursor c.args.page c.self.inside.order) (λ (n : Named). n.page)) ∙ ap length (between c)
 
 pub returns-clause-last : goal.returns-clause-last
-returns-clause-last c = c.between.ensures.last ∙ last_mapped c.args.cursor (passed_to c.args.cursor c.args.page c.self.inside.order) ∙ ap (last_or c.args.cursor) (between c)
+returns-clause-last c = search (rules, last_mapped, between)

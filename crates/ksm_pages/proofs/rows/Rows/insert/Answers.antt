@@ -5,7 +5,7 @@ use Rattle.ksm_pages.proofs.Writing.{no_name, rests_now, seen_with_room, still_p
 use Rattle.ksm_pages.proofs.rows.Rows.insert.Goals as goal
 
 pub insert-requires : goal.insert-requires
-insert-requires c = record { absent = no_name c.self.inside c.self.invariant _ c.self.view_is c.requires.absent }
+insert-requires c = search (rules, no_name)
 
 pub invariant_of-self-2 : goal.invariant_of-self-2
 invariant_of-self-2 c =

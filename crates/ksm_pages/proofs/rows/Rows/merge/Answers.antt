@@ -1,9 +1,9 @@
-use Rattle.ksm_pages.proofs.Names.{refl}
+use Rattle.ksm_pages.proofs.Names.{refl, rules}
 use Rattle.ksm_pages.proofs.Writing.{can_be, kept, never, nothing, viewed_same}
 use Rattle.ksm_pages.proofs.rows.Rows.merge.Goals as goal
 
 pub returns-in_default : goal.returns-in_default
-returns-in_default c = nothing c.self.inside c.self.invariant _ c.in_default.ensures.told _ c.self.view_is
+returns-in_default c = search (rules, nothing)
 
 pub change-requires : goal.change-requires
 change-requires c =
@@ -16,6 +16,4 @@ invariant_of-self c =
     refl (λ is. cc) (λ may. never _ may) _ c.let_be.ensures c.state-old.ensures refl c.change.ensures
 
 pub returns : goal.returns
-returns c =
-    viewed_same c.self.inside c.self.invariant c.in-Some.ensures.there c.index_mut-entry.ensures.value _ refl
-    _ refl c.let_be.ensures c.self.view_is
+returns c = search (rules, viewed_same)

@@ -1,11 +1,11 @@
-use Rattle.ksm_pages.proofs.Names.{ap, has_item, held_in, inl, inr, is_some, IsRows, subst, sym, true≢false, ◌∙◌}
+use Rattle.ksm_pages.proofs.Names.{ap, has_item, held_in, inl, inr, is_some, IsRows, rules, subst, sym, ◌∙◌}
 use Rattle.ksm_pages.proofs.Listings.{without_lacks}
 use Rattle.ksm_pages.proofs.Writing.{can_be, nothing_gone, nowhere_seen, still_gone, viewed_gone}
 use Rattle.ksm_pages.proofs.Options.{some_mapped}
 use Rattle.ksm_pages.proofs.rows.Rows.remove.Goals as goal
 
 pub returns-in_default-clause-gone : goal.returns-in_default-clause-gone
-returns-in_default-clause-gone c = nothing_gone c.self.inside c.self.invariant _ c.in_default.ensures.told c.self.view_is
+returns-in_default-clause-gone c = search (rules, nothing_gone)
 
 pub change-requires : goal.change-requires
 change-requires c =
@@ -30,8 +30,7 @@ returns-clause-gone c =
     ∙ viewed_gone s c.self.invariant c.in-Some.ensures.there c.remove-gone.ensures.value c.remove-gone.ensures.updates _ c.self.view_is
 
 pub returns-in_default-clause-unlisted : goal.returns-in_default-clause-unlisted
-returns-in_default-clause-unlisted c known =
-    absurd (true≢false (sym known ∙ ap is_some (nowhere_seen c.self.inside c.self.invariant _ c.in_default.ensures.told c.self.view_is)))
+returns-in_default-clause-unlisted c = search (rules, nowhere_seen)
 
 pub returns-clause-unlisted : goal.returns-clause-unlisted
 returns-clause-unlisted c _ = elim c.remove-2.ensures [

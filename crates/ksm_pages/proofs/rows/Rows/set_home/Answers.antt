@@ -1,9 +1,9 @@
-use Rattle.ksm_pages.proofs.Names.{refl}
+use Rattle.ksm_pages.proofs.Names.{refl, rules}
 use Rattle.ksm_pages.proofs.Writing.{nothing, untouched, viewed_same}
 use Rattle.ksm_pages.proofs.rows.Rows.set_home.Goals as goal
 
 pub returns-in_default : goal.returns-in_default
-returns-in_default c = nothing c.self.inside c.self.invariant _ c.in_default.ensures.told _ c.self.view_is
+returns-in_default c = search (rules, nothing)
 
 pub invariant_of-self : goal.invariant_of-self
 invariant_of-self c = untouched c.self.inside c.self.invariant c.in-Some.ensures.there c.index_mut.ensures.value _ refl refl refl refl

@@ -1,15 +1,15 @@
-use Rattle.ksm_pages.proofs.Names.{ap, arith, held_in, IsRows, refl, subst, sym, with_value, ◌∙◌}
+use Rattle.ksm_pages.proofs.Names.{ap, arith, held_in, IsRows, refl, rules, subst, sym, with_value, ◌∙◌}
 use Rattle.ksm_pages.proofs.Writing.{listed_calm, listed_now, nothing, still_marked, untouched, viewed, viewed_marked}
 use Rattle.ksm_pages.proofs.rows.Rows.set_mergeable.Goals as goal
 
 pub returns-in_default : goal.returns-in_default
-returns-in_default c = nothing c.self.inside c.self.invariant _ c.in_default.ensures.told _ c.self.view_is
+returns-in_default c = search (rules, nothing)
 
 -- the flag is what it was
 pub invariant_of-self : goal.invariant_of-self
 invariant_of-self c =
     let e' = record c.index_mut-entry.result.now { mergeable = c.args.mergeable } in
-    untouched c.self.inside c.self.invariant c.in-Some.ensures.there c.index_mut-entry.ensures.value _ refl refl refl (grind (arith))
+    untouched c.self.inside c.self.invariant c.in-Some.ensures.there c.index_mut-entry.ensures.value _ refl refl refl (grind arith)
 
 pub returns-then-was-mergeable : goal.returns-then-was-mergeable
 returns-then-was-mergeable c =

@@ -1,10 +1,10 @@
-use Rattle.ksm_pages.proofs.Names.{ap, arith, held_of, mapped, refl, Some, sym}
+use Rattle.ksm_pages.proofs.Names.{ap, arith, held_of, mapped, refl, rules, Some, sym}
 use Rattle.ksm_pages.specs.declared.row.Kind.TheVariants as kinds
 use Rattle.ksm_pages.proofs.Writing.{can_be, kept, listed_now, nothing, rests_now, still, viewed}
 use Rattle.ksm_pages.proofs.rows.Rows.settle_on.Goals as goal
 
 pub returns-in_default : goal.returns-in_default
-returns-in_default c = nothing c.self.inside c.self.invariant _ c.in_default.ensures.told _ c.self.view_is
+returns-in_default c = search (rules, nothing)
 
 pub change-requires : goal.change-requires
 change-requires c =
@@ -25,7 +25,7 @@ invariant_of-self-else-restless-was_restless c =
     let s = c.self.inside in
     let e = c.index_mut-entry.result.now in
     kept s c.self.invariant c.in-Some.ensures.there c.index_mut-entry.ensures.value _ refl refl (λ own. omega arith)
-    (λ may. grind (arith)) _ refl c.state-old.ensures (sym (rests_now _ c.self.invariant.counting)) c.change.ensures
+    (λ may. grind arith) _ refl c.state-old.ensures (sym (rests_now _ c.self.invariant.counting)) c.change.ensures
 
 pub returns-then-restless-was_restless : goal.returns-then-restless-was_restless
 returns-then-restless-was_restless c =

@@ -1,9 +1,9 @@
-use Rattle.ksm_pages.proofs.Names.{refl}
+use Rattle.ksm_pages.proofs.Names.{refl, rules}
 use Rattle.ksm_pages.proofs.Writing.{can_be, kept_forgotten, nothing, viewed_forgotten}
 use Rattle.ksm_pages.proofs.rows.Rows.stop_waiting.Goals as goal
 
 pub returns-in_default : goal.returns-in_default
-returns-in_default c = nothing c.self.inside c.self.invariant _ c.in_default.ensures.told _ c.self.view_is
+returns-in_default c = search (rules, nothing)
 
 pub change-requires : goal.change-requires
 change-requires c =
@@ -15,6 +15,4 @@ invariant_of-self c =
     c.forget_pass.ensures refl refl refl c.state-old.ensures c.state-new.ensures c.change.ensures
 
 pub returns : goal.returns
-returns c =
-    viewed_forgotten c.self.inside c.self.invariant c.in-Some.ensures.there c.index_mut-entry.ensures.value _
-    c.forget_pass.ensures refl _ refl c.self.view_is
+returns c = search (rules, viewed_forgotten)

@@ -1,4 +1,4 @@
-use Rattle.ksm_pages.proofs.Names.{ap, bytes_eq, Entry, held_in, IsRows, List, refl, subst, sym, with_value, ℕ, ◌&&◌, ◌∙◌}
+use Rattle.ksm_pages.proofs.Names.{ap, bytes_eq, Entry, held_in, IsRows, List, refl, rules, subst, sym, with_value, ℕ, ◌&&◌, ◌∙◌}
 use Rattle.ksm_pages.proofs.Writing.{nothing, untouched, viewed_same}
 use Rattle.ksm_pages.proofs.rows.Rows.store.Goals as goal
 
@@ -7,7 +7,7 @@ abbrev written : List ℕ → Entry → Entry
 written bytes e = record e { bytes = bytes; unchanged = e.unchanged && bytes_eq e.bytes bytes }
 
 pub returns-in_default : goal.returns-in_default
-returns-in_default c = nothing c.self.inside c.self.invariant _ c.in_default.ensures.told _ c.self.view_is
+returns-in_default c = search (rules, nothing)
 
 pub invariant_of-self : goal.invariant_of-self
 invariant_of-self c =

@@ -1,12 +1,12 @@
-use Rattle.ksm_pages.proofs.Names.{ap, arith, held_of, on_row, PageState, refl, sym}
+use Rattle.ksm_pages.proofs.Names.{arith, refl, rules, sym}
 use Rattle.ksm_pages.proofs.Writing.{can_be, kept, nothing, own_there, viewed_same, waits_now}
 use Rattle.ksm_pages.proofs.rows.Rows.wait.Goals as goal
 
 pub returns-in_default : goal.returns-in_default
-returns-in_default c = nothing c.self.inside c.self.invariant _ c.in_default.ensures.told _ c.self.view_is
+returns-in_default c = search (rules, nothing)
 
 pub state_alone-old-requires : goal.state_alone-old-requires
-state_alone-old-requires c = own_there c.self.inside c.self.invariant c.in-Some.ensures.there c.index_mut-entry.ensures.value c.self.view_is c.requires.own
+state_alone-old-requires c = search (rules, own_there)
 
 pub change-requires : goal.change-requires
 change-requires c =
@@ -21,9 +21,4 @@ invariant_of-self c =
     refl (λ own. omega arith) (λ may. may) _ refl c.state_alone-old.ensures (sym waits) c.change.ensures
 
 pub returns : goal.returns
-returns c =
-    let s = c.self.inside in
-    let e = c.index_mut-entry.result.now in
-    let waits = waits_now _ (own_there s c.self.invariant c.in-Some.ensures.there c.index_mut-entry.ensures.value c.self.view_is c.requires.own) in
-    viewed_same s c.self.invariant c.in-Some.ensures.there c.index_mut-entry.ensures.value _ refl
-    _ (ap (λ (st : PageState). on_row (λ r. record r { state = st }) (held_of s.pass e)) waits) refl c.self.view_is
+returns c = search (rules, waits_now, own_there, viewed_same)
