@@ -1,26 +1,25 @@
 -- What is asked of the pages: the place of a page's dup, and the first page after a cursor.
-use Rattle.ksm_pages.proofs.Names.{[], after_cursor, All-cons, ap, arith, Bool, cases_Bool, comes_before, DupRow, each_at_page, Entry, eq-eqb, false, find, find_all, find_none, find_nothing, find_passes, get_or, GuestPage, held_at, held_of, inl, InPageOrder, inr, Inside, is_next, IsHeld, Kind, List, nat_tests, None, none-some, of_guest, Option, option_map, PagesValue, pairs_head, pairs_tail, place_of, refl, Row, row_at, rows_of, same_page, same_page_eq, seen, Some, state_of, subst, sym, true, true≢false, ℕ, ◌&&◌, ◌==◌, ◌∙◌, ◌∷◌, ◌≡◌, ◌≤◌}
+use Rattle.ksm_pages.proofs.Names.{[], after_cursor, All-cons, ap, arith, Bool, cases_Bool, comes_before, DupRow, each_at_page, Entry, false, find, find_all, find_none, find_nothing, find_passes, get_or, GuestPage, held_at, held_of, inl, InPageOrder, inr, Inside, is_next, IsHeld, Kind, List, nat_tests, None, none-some, of_guest, Option, option_map, PagesValue, pairs_head, pairs_tail, place_of, Row, row_at, rows_of, same_page, same_page_eq, seen, Some, state_of, subst, sym, true, true≢false, ℕ, ◌&&◌, ◌==◌, ◌∙◌, ◌∷◌, ◌≡◌, ◌≤◌}
 use Rattle.ksm_pages.proofs.Options.{mapped_some, none_mapped}
 use Rattle.std.specs.Prelude.{IfSome, MatchOption, option_and_then}
 use Rattle.ksm_tree.specs.Dups.{rows_of as dup_rows}
 use Rattle.ksm_pages.specs.declared.pages.Held.{Held as Told}
 use Rattle.ksm_pages.specs.declared.row.Kind.TheVariants as kinds
-use Rattle.ksm_pages.proofs.Gathering.{own_either}
 use Rattle.ksm_pages.proofs.Leaving.{AreLawful, row_seen, view_of}
 
 -- ---------------------------------------------------------------- the place of a page's dup
 
 -- a row with a frame of its own is in no dup
 pub placed_own : (number pass : ℕ) (dups : List DupRow) → None ≡ place_of (state_of kinds.Own number pass) dups
-placed_own number pass dups = own_either (λ state. None ≡ place_of state dups) refl refl (number == pass)
+placed_own number pass dups = grind (arith, nat_tests)
 
 -- the place of the dup of a page is what the state of its entry says
-pub ticket_told : (s : Inside) (p : PagesValue) → view_of s ≡ p → (page known : GuestPage) → known ≡ page → (e : Entry)
-    → held_at known s.rows.held ≡ Some (held_of s.rows.pass e) → (kind : Kind) → e.kind ≡ kind
+pub ticket_told : (s : Inside) {p : PagesValue} → view_of s ≡ p → {page known : GuestPage} → known ≡ page → (e : Entry)
+    → held_at known s.rows.held ≡ Some (held_of s.rows.pass e) → {kind : Kind} → e.kind ≡ kind
     → place_of (state_of kind e.number s.rows.pass) (dup_rows s.dups.dups) ≡ option_and_then (λ r. place_of r.state p.dups) (row_at page p.rows)
-ticket_told s p seen_as page known at e found kind is =
+ticket_told s {p} seen_as {page} at e found is =
     ap (λ k. place_of (state_of k e.number s.rows.pass) (dup_rows s.dups.dups)) (sym is)
-    ∙ ap (option_and_then (λ (r : Row). place_of r.state (dup_rows s.dups.dups))) (sym (row_seen s p seen_as known found) ∙ ap (λ q. row_at q p.rows) at)
+    ∙ ap (option_and_then (λ (r : Row). place_of r.state (dup_rows s.dups.dups))) (sym (row_seen s seen_as _ found) ∙ ap (λ q. row_at q p.rows) at)
     ∙ ap (λ (v : PagesValue). option_and_then (λ (r : Row). place_of r.state v.dups) (row_at page p.rows)) seen_as
 
 -- ---------------------------------------------------------------- the first page after a cursor
@@ -31,13 +30,11 @@ find_narrower : {X : Type 0} (p q : X → Bool) → ((x : X) → q x ≡ true �
 find_narrower p q less [] x is passes = is
 find_narrower p q less (y ∷ ys) x is passes = elim (cases_Bool (p y)) [
   | inl first ↦
-      let same : y ≡ x = grind (arith, first, is) in
-      let here = ap q same ∙ passes in
-      grind (arith, here, same)
+      let same : y ≡ x = grind arith in
+      grind arith
   | inr out ↦
-      let narrow = less y in
-      let rest = find_narrower p q less ys x (grind (arith, out, is)) passes in
-      grind (arith, out, narrow, rest)
+      let rest = find_narrower p q less ys x (grind arith) passes in
+      grind (arith, rest)
 ]
 
 -- where no row in front of a page passes, and that of the page does, that is the first that passes, if it is there
@@ -45,17 +42,17 @@ pub first_at : (next : Row → Bool) (page : GuestPage) → ((r : Row) → r.pag
     → ((r : Row) → comes_before r.page page ≡ true → next r ≡ false) → (rows : List Row) → InPageOrder rows → (r : Row)
     → row_at page rows ≡ Some r → find next rows ≡ Some r
 first_at next page here ahead [] up r found = cc
-first_at next page here ahead (x ∷ xs) up r found = elim (cases_Bool (same_page x.page page)) [
+first_at next page here ahead (x ∷ xs) up r found = elim (cases_Bool _) [
   | inl is ↦
-      let passes = here x (same_page_eq x.page page is) in
+      let passes = here x (same_page_eq _ _ is) in
       grind (arith, is, passes, found)
   | inr other ↦
-      let there : row_at page xs ≡ Some r = grind (arith, other, found) in
-      let before : comes_before x.page r.page ≡ true =
-      find_all (λ s. same_page s.page page) (λ s. comes_before x.page s.page ≡ true) xs r there (pairs_head (λ (a b : Row). comes_before a.page b.page ≡ true) x xs up) in
-      let at : r.page ≡ page = same_page_eq r.page page (find_passes (λ s. same_page s.page page) xs r there) in
+      let there : row_at page xs ≡ Some r = grind arith in
+      let before =
+      find_all _ (λ s. comes_before x.page s.page ≡ true) _ r there (pairs_head (λ (a b : Row). comes_before a.page b.page ≡ true) x _ up) in
+      let at = same_page_eq _ _ (find_passes (λ s. same_page s.page page) xs r there) in
       let out = ahead x (ap (comes_before x.page) (sym at) ∙ before) in
-      let rest = first_at next page here ahead xs (pairs_tail (λ (a b : Row). comes_before a.page b.page ≡ true) x xs up) r there in
+      let rest = first_at _ page here ahead xs (pairs_tail (λ (a b : Row). comes_before a.page b.page ≡ true) x xs up) r there in
       grind (arith, out, rest)
 ]
 
@@ -64,9 +61,9 @@ guests_rise : (p q : GuestPage) → comes_before p q ≡ true → p.guest ≤ q.
 guests_rise p q before = grind (arith, nat_tests)
 
 -- a row at a page of the guest is a row of that guest
-pub of_some : (guest : Option ℕ) (g : ℕ) (page : GuestPage) → guest ≡ Some g → page.guest ≡ g → (x : Row) → x.page ≡ page
+pub of_some : {guest : Option ℕ} {g : ℕ} {page : GuestPage} → guest ≡ Some g → page.guest ≡ g → (x : Row) → x.page ≡ page
     → of_guest guest x ≡ true
-of_some guest g page is at x of_page = ap (λ o. of_guest o x) is ∙ eq-eqb x.page.guest g (ap (λ (q : GuestPage). q.guest) of_page ∙ at)
+of_some is at x of_page = grind (arith, nat_tests, is, at, of_page)
 
 module _ (p : PagesValue) (guest : Option ℕ) (cursor : Option GuestPage) where
   abbrev next : Row → Bool
@@ -77,12 +74,12 @@ module _ (p : PagesValue) (guest : Option ℕ) (cursor : Option GuestPage) where
   IsNext told = MatchOption told (find next p.rows ≡ None) (λ held. IsHeld (seen p) held.spot.page held × (option_map (λ r. r.page) (find next p.rows) ≡ Some held.spot.page))
 
   -- what is told of the page that comes next is what comes next
-  pub told_next : InPageOrder p.rows → (page : GuestPage) → option_map (λ (r : Row). r.page) (find next p.rows) ≡ Some page → (told : Option Told)
+  pub told_next : InPageOrder p.rows → {page : GuestPage} → option_map (λ (r : Row). r.page) (find next p.rows) ≡ Some page → (told : Option Told)
       → MatchOption told (row_at page p.rows ≡ None) (IsHeld (seen p) page) → IsNext told
-  told_next up page is None gone =
-      let at = mapped_some (λ (r : Row). r.page) (find next p.rows) page is in
-      absurd (none-some at.0 (sym gone ∙ ap (λ q. row_at q p.rows) (sym at.2) ∙ find_all next (λ x. row_at x.page p.rows ≡ Some x) p.rows at.0 at.1 (each_at_page p.rows up)))
-  told_next up page is (Some held) of_it = (subst (λ q. IsHeld (seen p) q held) (sym of_it.spot) of_it, is ∙ ap Some (sym of_it.spot))
+  told_next up is None gone =
+      let at = mapped_some _ _ is in
+      absurd (none-some at.0 (sym gone ∙ ap (λ q. row_at q p.rows) (sym at.2) ∙ find_all _ (λ x. row_at x.page p.rows ≡ Some x) _ _ at.1 (each_at_page _ up)))
+  told_next up is (Some held) of_it = (subst (λ q. IsHeld (seen p) q held) (sym of_it.spot) of_it, is ∙ ap Some (sym of_it.spot))
 
   module _ (s : Inside) (are : AreLawful s) (seen_as : view_of s ≡ p) (start : Option GuestPage)
       (same : (row : Row) → of_guest guest row ≡ true → after_cursor start row.page ≡ after_cursor cursor row.page) where
@@ -93,43 +90,40 @@ module _ (p : PagesValue) (guest : Option ℕ) (cursor : Option GuestPage) where
     rise = subst (λ (v : PagesValue). InPageOrder v.rows) seen_as are.order
 
     first_page : option_map (λ (r : Row). r.page) (find behind (rows_of s.rows.held)) ≡ option_map (λ (r : Row). r.page) (find behind p.rows)
-    first_page = ap (λ (v : PagesValue). option_map (λ (r : Row). r.page) (find behind v.rows)) seen_as
+    first_page = grind (arith, nat_tests)
 
     less : (r : Row) → next r ≡ true → behind r ≡ true
-    less r is = elim (cases_Bool (of_guest guest r)) [
+    less r is = elim (cases_Bool _) [
       | inl own ↦ let at = same r own in grind (arith, own, at, is)
       | inr other ↦ absurd (grind (arith, other, is))
     ]
 
     not_next : (r : Row) → behind r ≡ false → next r ≡ false
-    not_next r out = elim (cases_Bool (next r)) [
+    not_next r out = elim (cases_Bool _) [
       | inl is ↦ absurd (true≢false (sym (less r is) ∙ out))
       | inr is ↦ is
     ]
 
     -- where no row is behind the start, none comes next
-    pub next_none : None ≡ option_map (λ (r : Row). r.page) (find behind (rows_of s.rows.held)) → (told : Option Told) → told ≡ None
+    pub next_none : None ≡ option_map (λ (r : Row). r.page) (find behind (rows_of s.rows.held)) → {told : Option Told} → told ≡ None
         → IsNext told
-    next_none none told is =
-        subst IsNext (sym is) (find_nothing next p.rows (λ k d lt. not_next (get_or p.rows k d) (find_none behind p.rows (none_mapped (λ (r : Row). r.page) (find behind p.rows) (sym (none ∙ first_page))) k d lt)))
+    next_none none is =
+        subst IsNext (sym is) (find_nothing next _ (λ k d lt. not_next _ (find_none _ p.rows (none_mapped _ _ (sym (none ∙ first_page))) k d lt)))
 
     module _ (page : GuestPage) (first : Some page ≡ option_map (λ (r : Row). r.page) (find behind (rows_of s.rows.held))) where
       there : (r : Row) × (find behind p.rows ≡ Some r) × (page ≡ r.page)
-      there =
-          let at = mapped_some (λ (r : Row). r.page) (find behind p.rows) page (sym (first ∙ first_page)) in
-          (at.0, at.1, sym at.2)
+      there = grind (arith, nat_tests)
 
       abbrev r : Row
       r = there.0
 
       -- where the first row behind the start is of another guest, no row comes next
-      pub next_past : (g : ℕ) → guest ≡ Some g → (page.guest ≡ g → ⊥)
+      pub next_past : {g : ℕ} → guest ≡ Some g → (page.guest ≡ g → ⊥)
           → (after_cursor start page ≡ true → IfSome guest (λ h. h ≤ page.guest)) → find next p.rows ≡ None
-      next_past g is differs begun = past p.rows rise there.1
+      next_past {g} is differs begun = past _ rise there.1
         where
           later : g ≤ page.guest
-          later =
-              subst (λ o. IfSome o (λ h. h ≤ page.guest)) is (begun (ap (after_cursor start) there.2 ∙ find_passes behind p.rows r there.1))
+          later = subst (λ o. IfSome o (λ h. h ≤ page.guest)) is (begun (ap (after_cursor start) there.2 ∙ find_passes behind _ r there.1))
 
           other : (x : Row) → page.guest ≤ x.page.guest → next x ≡ false
           other x le =
@@ -140,14 +134,13 @@ module _ (p : PagesValue) (guest : Option ℕ) (cursor : Option GuestPage) where
           past [] up found = absurd (none-some r found)
           past (x ∷ xs) up found = elim (cases_Bool (behind x)) [
             | inl yes_it ↦
-                let is_first : x ≡ r = grind (arith, yes_it, found) in
-                let at : page.guest ≡ x.page.guest = ap (λ (q : GuestPage). q.guest) there.2 ∙ ap (λ (y : Row). y.page.guest) (sym is_first) in
-                find_nothing next (x ∷ xs) (All-cons (λ y. next y ≡ false) x xs (other x (omega (arith, at)))
+                let is_first : x ≡ r = grind arith in
+                let at = (λ i. (there.2 i).guest) ∙ (λ i. (sym is_first i).page.guest) in
+                find_nothing next (x ∷ xs) (All-cons (λ y. next y ≡ false) x xs (other x (omega arith))
                 (λ k d lt. let le = guests_rise x.page (get_or xs k d).page (pairs_head (λ (a b : Row). comes_before a.page b.page ≡ true) x xs up k d lt) in other (get_or xs k d) (omega (arith, at, le))))
             | inr not_it ↦
-                let out = not_next x not_it in
-                let rest = past xs (pairs_tail (λ (a b : Row). comes_before a.page b.page ≡ true) x xs up) (grind (arith, not_it, found)) in
-                grind (arith, out, rest)
+                let rest = past xs (pairs_tail (λ (a b : Row). comes_before a.page b.page ≡ true) x xs up) (grind arith) in
+                grind (arith, rest)
           ]
 
       -- where the first row behind the start is of the guest, what is told of that row is what comes next
@@ -155,5 +148,5 @@ module _ (p : PagesValue) (guest : Option ℕ) (cursor : Option GuestPage) where
           → MatchOption told (row_at page p.rows ≡ None) (IsHeld (seen p) page) → IsNext told
       next_told own told is =
           let of_it = own r (sym there.2) in
-          let passes : next r ≡ true = ap (λ b. b && after_cursor cursor r.page) of_it ∙ sym (same r of_it) ∙ find_passes behind p.rows r there.1 in
-          told_next rise page (ap (option_map (λ (x : Row). x.page)) (find_narrower behind next less p.rows r there.1 passes) ∙ ap Some (sym there.2)) told is
+          let passes = ap (λ b. b && after_cursor cursor r.page) of_it ∙ sym (same r of_it) ∙ find_passes behind p.rows r there.1 in
+          told_next rise (ap (option_map (λ (x : Row). x.page)) (find_narrower _ _ less _ r there.1 passes) ∙ ap Some (sym there.2)) _ is

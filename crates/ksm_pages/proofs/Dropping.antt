@@ -1,5 +1,5 @@
 -- The pages once the stale dup at a place went.
-use Rattle.ksm_pages.proofs.Names.{[], All, All-head, All-tail, all_rows, ap, AreTied, arith, Bool, cases_Bool, Dup, dup_at, dup_numbered, DupRow, elsewhere, eq-eqb, eqb-true, false, filter, find, find_all, find_nothing, find_passes, frame_of, frame_seen, get_or, GuestPage, Held, held_at, inl, inr, is_live, is_some, is_stale, IsVacant, item_count, length, List, list_any, lodging, lodgings_of, Merged, merged_into, nat_lt, nat_tests, None, none_counted, not, Option, option_and_then, option_map, PageState, Private, refl, Row, row_at, rows_of, same_page, slice_get, Some, stands_at, sym, tied_counted, true, true≢false, Waiting, Zero, ℕ, ◌&&◌, ◌==◌, ◌∙◌, ◌∷◌, ◌≡◌, filter_all, find_none}
+use Rattle.ksm_pages.proofs.Names.{[], All, All-head, All-tail, all_rows, ap, AreTied, arith, Bool, cases_Bool, Dup, dup_at, dup_numbered, DupRow, elsewhere, eq-eqb, eqb-true, false, filter, find, find_all, find_nothing, find_passes, frame_of, frame_seen, get_or, GuestPage, Held, inl, inr, is_live, is_some, is_stale, IsVacant, item_count, length, List, list_any, lodging, lodgings_of, Merged, merged_into, nat_lt, nat_tests, None, none_counted, not, Option, option_and_then, option_map, PageState, refl, Row, row_at, rows_of, slice_get, Some, stands_at, sym, tied_counted, true, true≢false, ℕ, ◌&&◌, ◌==◌, ◌∙◌, ◌∷◌, ◌≡◌, filter_all, find_none}
 use Rattle.ksm_tree.specs.Dups.{rows_of as dup_rows}
 use Rattle.ksm_pages.proofs.Changing.{row_found}
 use Rattle.ksm_pages.proofs.Found.{find_kept}
@@ -7,13 +7,12 @@ use Rattle.ksm_pages.proofs.Lodgings.{frame_by, seat}
 use Rattle.ksm_pages.proofs.Options.{some_mapped}
 use Rattle.ksm_rmap.proofs.Ordered.{none_found}
 
-vacant_stale : (place : ℕ) (rows : List Row) (dups : List Dup) → AreTied rows dups → IsVacant place rows (dup_rows dups)
+vacant_stale : {place : ℕ} (rows : List Row) (dups : List Dup) → AreTied rows dups → IsVacant place rows (dup_rows dups)
     → All (λ d. stands_at place d ≡ true → is_stale d ≡ true) dups
-vacant_stale place rows dups tied vacant k e lt at =
+vacant_stale {place} rows dups tied vacant k e lt at =
     let d = get_or dups k e in
-    let none : item_count rows d.row ≡ 0 = all_rows (λ r. r.place ≡ place → item_count rows r ≡ 0) dups vacant k e lt
-    (eqb-true d.row.place place at) in
-    eq-eqb (length d.items) 0 (tied_counted rows dups tied k e lt ∙ none)
+    let none = all_rows (λ r. r.place ≡ place → item_count rows r ≡ 0) dups vacant k e lt (eqb-true d.row.place place at) in
+    eq-eqb (length d.items) 0 (tied_counted rows _ tied k e lt ∙ none)
 
 found_stale : (place : ℕ) (dups : List Dup) → All (λ d. stands_at place d ≡ true → is_stale d ≡ true) dups
     → find (λ d. stands_at place d && is_stale d) dups ≡ dup_at place dups
@@ -21,75 +20,65 @@ found_stale place [] stale = refl
 found_stale place (d ∷ dups) stale =
     let here = All-head (λ e. stands_at place e ≡ true → is_stale e ≡ true) d dups stale in
     let rest = found_stale place dups (All-tail (λ e. stands_at place e ≡ true → is_stale e ≡ true) d dups stale) in
-    elim (cases_Bool (stands_at place d)) [
+    elim (cases_Bool _) [
       | inl at ↦ let empty = here at in grind (arith, at, empty)
       | inr away ↦ grind (arith, away, rest)
     ]
 
 -- the dup at a vacant place is stale
-pub stale_there : (place : ℕ) (rows : List Row) (dups : List Dup) → AreTied rows dups → IsVacant place rows (dup_rows dups)
+pub stale_there : {place : ℕ} (rows : List Row) (dups : List Dup) → AreTied rows dups → IsVacant place rows (dup_rows dups)
     → is_some (option_map (λ d. d.row.number) (dup_at place dups)) ≡ true
     → is_some (find (λ d. stands_at place d && is_stale d) dups) ≡ true
-stale_there place rows dups tied vacant there = ap is_some (found_stale place dups (vacant_stale place rows dups tied vacant))
-    ∙ sym (some_mapped (λ (d : Dup). d.row.number) (dup_at place dups)) ∙ there
+stale_there rows dups tied vacant there = ap is_some (found_stale _ _ (vacant_stale rows _ tied vacant))
+    ∙ sym (some_mapped _ _) ∙ there
 
 -- where no dup stands at a place, all stand elsewhere
-pub all_elsewhere : (place : ℕ) (ds : List DupRow) → list_any (λ d. d.place == place) ds ≡ false → filter (elsewhere place) ds ≡ ds
-all_elsewhere place ds none =
+pub all_elsewhere : (place : ℕ) {ds : List DupRow} → list_any (λ d. d.place == place) ds ≡ false → filter (elsewhere place) ds ≡ ds
+all_elsewhere place none =
     let at : DupRow → Bool = λ d. d.place == place in
-    filter_all (elsewhere place) ds (λ k e lt. ap not (find_none at ds (none_found at ds none) k e lt))
+    filter_all _ _ (λ k e lt. ap not (find_none at _ (none_found at _ none) k e lt))
 
 -- no dup with items stands at a vacant place
-pub none_live : (place : ℕ) (rows : List Row) (dups : List Dup) → AreTied rows dups → IsVacant place rows (dup_rows dups)
+pub none_live : {place : ℕ} (rows : List Row) (dups : List Dup) → AreTied rows dups → IsVacant place rows (dup_rows dups)
     → find (λ d. stands_at place d && is_live d) dups ≡ None
-none_live place rows dups tied vacant =
-    find_nothing (λ d. stands_at place d && is_live d) dups
-    (λ k e lt. live_or_stale (stands_at place (get_or dups k e)) (length (get_or dups k e).items)
-    (vacant_stale place rows dups tied vacant k e lt))
+none_live rows dups tied vacant =
+    find_nothing _ _ (λ k e lt. live_or_stale _ _ (vacant_stale rows _ tied vacant k e lt))
   where
     live_or_stale : (at : Bool) (n : ℕ) → (at ≡ true → (n == 0) ≡ true) → (at && nat_lt 0 n) ≡ false
-    live_or_stale true n stale = let none = stale refl in grind (arith, nat_tests, none)
-    live_or_stale false n stale = refl
+    live_or_stale at n stale = grind (arith, nat_tests, stale)
 
 -- the dup into which a row is merged stands at no vacant place
-pub not_vacant : (rows : List Row) (dups : List DupRow) (place n : ℕ) (page : GuestPage) (r : Row) → IsVacant place rows dups
+pub not_vacant : (rows : List Row) (dups : List DupRow) {place n : ℕ} (page : GuestPage) {r : Row} → IsVacant place rows dups
     → row_at page rows ≡ Some r → r.state ≡ Merged n
     → (e : DupRow) → dup_numbered n dups ≡ Some e → (e.place == place) ≡ false
-not_vacant rows dups place n page r vacant there merged e found =
-    let number : e.number ≡ n = eqb-true e.number n (find_passes (λ d. d.number == n) dups e found) in
-    elim (cases_Bool (e.place == place)) [
+not_vacant rows dups {place} {n} page vacant there merged e found =
+    let number = eqb-true e.number n (find_passes (λ d. d.number == n) dups e found) in
+    elim (cases_Bool _) [
       | inl here ↦
           let none = find_all (λ d. d.number == n) (λ d. d.place ≡ place → item_count rows d ≡ 0) dups e found vacant
           (eqb-true e.place place here) in
           absurd (true≢false (sym (eq-eqb n n refl) ∙ ap (λ m. n == m) (sym number) ∙ ap (merged_into e.number) (sym merged)
-          ∙ find_all (λ x. same_page x.page page) (λ x. merged_into e.number x.state ≡ false) rows r there
-          (none_counted (λ x. merged_into e.number x.state) rows none)))
+          ∙ find_all _ (λ x. merged_into e.number x.state ≡ false) rows _ there (none_counted _ rows none)))
       | inr away ↦ away
     ]
 
 -- pages lie where they lay where the dups into which rows are merged keep their frames
-pub lodged_alike : (of to : ℕ → Option ℕ) (held : List Held)
+pub lodged_alike : {of to : ℕ → Option ℕ} (held : List Held)
     → ((page : GuestPage) (r : Row) (n : ℕ) → row_at page (rows_of held) ≡ Some r → r.state ≡ Merged n → of n ≡ to n)
     → frame_of (lodgings_of of held) ≡ frame_of (lodgings_of to held)
-lodged_alike of to held same = λ i page. (frame_by of held page ∙ go page (held_at page held) (row_found page held)
+lodged_alike {of} {to} held same = λ i page. (frame_by of held page ∙ go page _ (row_found page _)
     ∙ sym (frame_by to held page)) i
   where
     at : (state : PageState) (own : Option ℕ) → ((n : ℕ) → state ≡ Merged n → of n ≡ to n)
         → frame_seen of state own ≡ frame_seen to state own
-    at Private own alike = refl
-    at Waiting own alike = refl
-    at Zero own alike = refl
-    at (Merged n) own alike = alike n refl
+    at state own alike = grind (arith, nat_tests, alike)
 
     go : (page : GuestPage) (o : Option Held) → row_at page (rows_of held) ≡ option_map (λ h. h.row) o → seat of o ≡ seat to o
-    go page None is = refl
-    go page (Some h) is = at h.row.state h.frame (λ n. same page h.row n is)
+    go page o is = grind (arith, nat_tests, is)
 
 -- without the dup at a vacant place every page lies where it lay
-pub lodged_dropped : (place : ℕ) (frames : List ℕ) (dups : List DupRow) (held : List Held) → IsVacant place (rows_of held) dups
+pub lodged_dropped : {place : ℕ} (frames : List ℕ) (dups : List DupRow) (held : List Held) → IsVacant place (rows_of held) dups
     → frame_of (lodgings_of (lodging (filter (elsewhere place) dups) frames) held) ≡ frame_of (lodgings_of (lodging dups frames) held)
-lodged_dropped place frames dups held vacant =
-    lodged_alike (lodging (filter (elsewhere place) dups) frames) (lodging dups frames) held
-    (λ page r n there merged. ap (option_and_then (λ (d : DupRow). slice_get frames d.place))
-    (find_kept (λ d. d.number == n) (elsewhere place) dups (dup_numbered n dups) refl
-    (λ e is. ap not (not_vacant (rows_of held) dups place n page r vacant there merged e is))))
+lodged_dropped frames dups held vacant =
+    lodged_alike _ (λ page r n there merged. ap (option_and_then (λ (d : DupRow). slice_get frames d.place)) (find_kept _ _ _ _ refl
+    (λ e is. ap not (not_vacant _ _ page vacant there merged e is))))

@@ -1,5 +1,5 @@
 -- Entries under keys and the order of their pages: what is found, and what one entry that came, went or changed leaves.
-use Rattle.ksm_pages.proofs.Names.{All, All-append, All-cons, All-filter, All-map, ap, ap₂, AreAscending, AreFiled, Bool, cases_Bool, change_held, comes_before, cond, Decides-eqb, Entry, false, filter, filter_passes, find, find_all, find_passes, get, get_or, GuestPage, Held, held_at, held_in, held_of, held_under, holds, if◌then◌else◌, inl, InPageOrder, inr, is_of, IsUnder, key_in, List, map, map-append, marked, Named, named_of, None, not, option_map, refl, rows_of, same_page, same_page_eq, same_page_refl, same_page_sym, same_Some, Slab, Some, subst, sym, true, true≢false, with_held, with_named, without_held, without_named, ℕ, ◌++◌, ◌==◌, ◌∙◌, ◌∷◌, ◌≡◌, ◌≢◌}
+use Rattle.ksm_pages.proofs.Names.{All, All-append, All-cons, All-filter, All-map, ap, ap₂, AreAscending, AreFiled, arith, Bool, cases_Bool, change_held, comes_before, cond, Decides-eqb, Entry, false, filter, filter_passes, find, find_all, find_passes, get, get_or, GuestPage, Held, held_at, held_in, held_of, held_under, holds, if◌then◌else◌, inl, InPageOrder, inr, is_of, IsUnder, key_in, List, map, map-append, marked, Named, named_of, nat_tests, None, not, option_map, refl, rows_of, same_page, same_page_eq, same_page_refl, same_page_sym, same_Some, Slab, Some, subst, sym, true, true≢false, with_held, with_named, without_held, without_named, ℕ, ◌++◌, ◌==◌, ◌∙◌, ◌∷◌, ◌≡◌, ◌≢◌}
 use Rattle.ksm_pages.proofs.Options.{mapped_some, none_mapped}
 use Rattle.slab.specs.Slab.{Updates as Fills}
 use Rattle.ksm_tree.proofs.Numbering.{full}
@@ -14,8 +14,8 @@ abbrev pub held_by : ℕ → Slab Entry → Named → Held
 held_by pass slab n = held_under pass (get slab n.key)
 
 -- numbers that are told apart differ
-pub differ_by : (m n : ℕ) → (m == n) ≡ false → m ≢ n
-differ_by m n told same = true≢false (sym ((Decides-eqb m n).1 same) ∙ told)
+pub differ_by : {m n : ℕ} → (m == n) ≡ false → m ≢ n
+differ_by told same = true≢false (sym ((Decides-eqb _ _).1 same) ∙ told)
 
 -- a name of the order says what the entry under the name's key says
 abbrev pub Stands : Slab Entry → Named → Type 0
@@ -24,38 +24,35 @@ Stands slab n = option_map (named_of n.key) (get slab n.key) ≡ Some n
 -- where a name says what stands under its key, an entry of the name's page stands under that key
 pub under_named : (slab : Slab Entry) (n : Named) → Stands slab n → IsUnder slab n.page n.key
 under_named slab n told =
-    let at = mapped_some (named_of n.key) (get slab n.key) n told in
-    record { entry = at.0; stands = at.1; of_page = ap (λ (m : Named). m.page) at.2 }
+    let at = mapped_some _ _ told in
+    record { entry = at.0; stands = at.1; of_page = (λ i. (at.2 i).page) }
 
 -- the row under a key is of the page that the order names
-pub page_under : (pass : ℕ) (slab : Slab Entry) (n : Named) → Stands slab n → (held_under pass (get slab n.key)).row.page ≡ n.page
-page_under pass slab n told = let u = under_named slab n told in ap (λ o. (held_under pass o).row.page) u.stands ∙ u.of_page
+pub page_under : (pass : ℕ) (slab : Slab Entry) {n : Named} → Stands slab n → (held_under pass (get slab n.key)).row.page ≡ n.page
+page_under pass slab told = grind (arith, nat_tests, told)
 
 -- a scan visits the row under a key exactly where the order says so of its page
-pub flag_under : (pass : ℕ) (slab : Slab Entry) (n : Named) → Stands slab n → (held_under pass (get slab n.key)).row.mergeable ≡ n.mergeable
-flag_under pass slab n told =
-    let u = under_named slab n told in
-    ap (λ o. (held_under pass o).row.mergeable) u.stands
-    ∙ ap (λ (m : Named). m.mergeable) (same_Some (named_of n.key u.entry) n (sym (ap (option_map (named_of n.key)) u.stands) ∙ told))
+pub flag_under : (pass : ℕ) (slab : Slab Entry) {n : Named} → Stands slab n → (held_under pass (get slab n.key)).row.mergeable ≡ n.mergeable
+flag_under pass slab told = grind (arith, nat_tests, told)
 
 -- pages are named as their entries say, where those that are named stand so, and those that stand are named so
 pub filed_by : (slab : Slab Entry) (order : List Named) → All (Stands slab) order
     → ((key : ℕ) (e : Entry) → get slab key ≡ Some e → find (is_of e.page) order ≡ Some (named_of key e)) → AreFiled slab order
 filed_by slab order stand named n = (
-  λ found. find_all (is_of n.page) (Stands slab) order n found stand,
+  λ found. find_all _ (Stands slab) _ n found stand,
   λ told.
-      let at = mapped_some (named_of n.key) (get slab n.key) n told in
+      let at = mapped_some _ _ told in
       subst (λ (m : Named). find (is_of m.page) order ≡ Some m) at.2 (named n.key at.0 at.1),
 )
 
 -- what holds of the entry that a slab was given, and of all others that stood, holds of all that stand now
-pub all_filled : {slab later : Slab Entry} {key : ℕ} {e : Entry} → Fills slab later key (Some e) → (P : ℕ → Entry → Type 0) → P key e
+pub all_filled : {slab later : Slab Entry} {key : ℕ} {e : Entry} → Fills slab later key (Some e) → {P : ℕ → Entry → Type 0} → P key e
     → ((k : ℕ) (f : Entry) → get slab k ≡ Some f → k ≢ key → P k f) → (k : ℕ) (f : Entry) → get later k ≡ Some f → P k f
-all_filled {slab} {later} {key} {e} fills P new others k f stands = elim (cases_Bool (k == key)) [
+all_filled {slab} {later} {key} {e} fills {P} new others k f stands = elim (cases_Bool _) [
   | inl here ↦
-      let at = (Decides-eqb k key).0 here in
+      let at = (Decides-eqb k _).0 here in
       subst (P k) (same_Some e f (sym (ap (get later) at ∙ fills.changed) ∙ stands)) (subst (λ n. P n e) (sym at) new)
-  | inr other ↦ let apart = differ_by k key other in others k f (sym (fills.others k apart) ∙ stands) apart
+  | inr other ↦ let apart = differ_by other in others k f (sym (fills.others k apart) ∙ stands) apart
 ]
 
 module _ (slab : Slab Entry) (order : List Named) (filed : AreFiled slab order) where
@@ -64,131 +61,125 @@ module _ (slab : Slab Entry) (order : List Named) (filed : AreFiled slab order) 
   named_under key e stands = (filed (named_of key e)).1 (ap (option_map (named_of key)) stands)
 
   -- entries of one page stand under one key
-  pub one_key : (k l : ℕ) (e f : Entry) → get slab k ≡ Some e → get slab l ≡ Some f → e.page ≡ f.page → k ≡ l
-  one_key k l e f first second same =
-      ap (λ (n : Named). n.key)
-      (same_Some (named_of k e) (named_of l f) (sym (named_under k e first) ∙ ap (λ p. find (is_of p) order) same ∙ named_under l f second))
+  pub one_key : {k l : ℕ} {e f : Entry} → get slab k ≡ Some e → get slab l ≡ Some f → e.page ≡ f.page → k ≡ l
+  one_key first second same =
+      ap (λ (n : Named). n.key) (same_Some _ _ (sym (named_under _ _ first) ∙ ap (λ p. find (is_of p) order) same ∙ named_under _ _ second))
 
   -- the entry of a page stands under the page's key
-  pub under : (page : GuestPage) (key : ℕ) → key_in order page ≡ Some key → IsUnder slab page key
-  under page key told =
-      let at = mapped_some (λ n. n.key) (find (is_of page) order) key told in
-      let of_it : at.0.page ≡ page = same_page_eq at.0.page page (find_passes (is_of page) order at.0 at.1) in
-      let u = under_named slab at.0 ((filed at.0).0 (ap (λ p. find (is_of p) order) of_it ∙ at.1)) in
+  pub under : {page : GuestPage} {key : ℕ} → key_in order page ≡ Some key → IsUnder slab page key
+  under {page} told =
+      let at = mapped_some _ _ told in
+      let of_it = same_page_eq _ _ (find_passes (is_of page) order _ at.1) in
+      let u = under_named slab _ ((filed at.0).0 (ap (λ p. find (is_of p) order) of_it ∙ at.1)) in
       record { entry = u.entry; stands = ap (get slab) (sym at.2) ∙ u.stands; of_page = u.of_page ∙ of_it }
 
   -- a page whose entry stands under a key has that key in the order
-  pub key_under : (page : GuestPage) (key : ℕ) → IsUnder slab page key → key_in order page ≡ Some key
-  key_under page key u =
+  pub key_under : {page : GuestPage} {key : ℕ} → IsUnder slab page key → key_in order page ≡ Some key
+  key_under u =
       ap (λ p. option_map (λ (n : Named). n.key) (find (is_of p) order)) (sym u.of_page)
-      ∙ ap (option_map (λ (n : Named). n.key)) (named_under key u.entry u.stands)
+      ∙ ap (option_map (λ (n : Named). n.key)) (named_under _ _ u.stands)
 
 module _ (slab : Slab Entry) (order : List Named) (rise : AreAscending order) (filed : AreFiled slab order) where
   -- each page that the order names stands under its key
   pub all_stand : All (Stands slab) order
-  all_stand k d lt = (filed (get_or order k d)).0 (each_found page_of order rise k d lt)
+  all_stand k d lt = (filed (get_or order k d)).0 (each_found page_of _ rise k d lt)
 
   module _ (pass : ℕ) where
     -- what is held of a page is what stands under the key that the order names for the page
     pub held_found : (page : GuestPage) → held_at page (held_in pass slab order) ≡ option_map (held_by pass slab) (find (is_of page) order)
-    held_found page = find_mapped (held_by pass slab) (holds page) (is_of page) order (λ k d lt. ap (λ p. same_page p page) (page_under pass slab (get_or order k d) (all_stand k d lt)))
+    held_found page = find_mapped _ _ _ _ (λ k d lt. ap (λ p. same_page p page) (page_under _ slab (all_stand k d lt)))
 
     -- what is held of a page is what its entry says
-    pub held_there : (page : GuestPage) (key : ℕ) (e : Entry) → get slab key ≡ Some e → e.page ≡ page → held_at page (held_in pass slab order) ≡ Some (held_of pass e)
-    held_there page key e stands of_page =
-        held_found page
+    pub held_there : {page : GuestPage} (key : ℕ) {e : Entry} → get slab key ≡ Some e → e.page ≡ page → held_at page (held_in pass slab order) ≡ Some (held_of pass e)
+    held_there key stands of_page =
+        held_found _
         ∙ ap (λ p. option_map (held_by pass slab) (find (is_of p) order)) (sym of_page)
-        ∙ ap (option_map (held_by pass slab)) (named_under slab order filed key e stands)
+        ∙ ap (option_map (held_by pass slab)) (named_under slab _ filed _ _ stands)
         ∙ ap (λ o. Some (held_under pass o)) stands
 
     -- a page that has no key in the order has no row
     pub held_nowhere : (page : GuestPage) → key_in order page ≡ None → held_at page (held_in pass slab order) ≡ None
-    held_nowhere page told =
-        held_found page ∙ ap (option_map (held_by pass slab)) (none_mapped (λ n. n.key) (find (is_of page) order) told)
+    held_nowhere page told = held_found _ ∙ ap (option_map (held_by pass slab)) (none_mapped _ _ told)
 
     -- a page that has no row has no name in the order
     pub key_nowhere : (page : GuestPage) → held_at page (held_in pass slab order) ≡ None → find (is_of page) order ≡ None
-    key_nowhere page told = none_mapped (held_by pass slab) (find (is_of page) order) (sym (held_found page) ∙ told)
+    key_nowhere page told = none_mapped _ _ (sym (held_found _) ∙ told)
 
     -- the rows are in the order of their pages
     pub rows_rise : InPageOrder (rows_of (held_in pass slab order))
     rows_rise =
-        pairs_mapped (λ h g. comes_before h.row.page g.row.page ≡ true) (λ r s. comes_before r.page s.page ≡ true) (λ h. h ≡ h) (λ h. h.row) (λ h g p q less. less) (held_in pass slab order) (λ k d lt. refl)
+        pairs_mapped _ (λ r s. comes_before r.page s.page ≡ true) (λ h. h ≡ h) (λ h. h.row) (λ h g p q less. less) _ (λ k d lt. refl)
         (pairs_mapped (λ m n. comes_before m.page n.page ≡ true) (λ h g. comes_before h.row.page g.row.page ≡ true) (λ n. (held_by pass slab n).row.page ≡ n.page) (held_by pass slab)
-        (λ m n p q less. ap₂ comes_before p q ∙ less) order (λ k d lt. page_under pass slab (get_or order k d) (all_stand k d lt)) rise)
+        (λ m n p q less. ap₂ comes_before p q ∙ less) order (λ k d lt. page_under _ slab (all_stand k d lt)) rise)
 
   -- ---------------------------------------------------------------- one entry changed
 
-  module _ (key : ℕ) (e : Entry) (stood : get slab key ≡ Some e) where
+  module _ {key : ℕ} {e : Entry} (stood : get slab key ≡ Some e) where
     -- under another key stands an entry of another page
-    pub elsewhere : (k : ℕ) (f : Entry) → get slab k ≡ Some f → k ≢ key → same_page f.page e.page ≡ false
-    elsewhere k f stands apart = elim (cases_Bool (same_page f.page e.page)) [
-      | inl same ↦ absurd (apart (one_key slab order filed k key f e stands stood (same_page_eq f.page e.page same)))
+    pub elsewhere : {k : ℕ} {f : Entry} → get slab k ≡ Some f → k ≢ key → same_page f.page e.page ≡ false
+    elsewhere stands apart = elim (cases_Bool _) [
+      | inl same ↦ absurd (apart (one_key slab _ filed stands stood (same_page_eq _ _ same)))
       | inr other ↦ other
     ]
 
-    named_elsewhere : (n : Named) → Stands slab n → n.key ≢ key → same_page n.page e.page ≡ false
-    named_elsewhere n stands apart = let u = under_named slab n stands in ap (λ p. same_page p e.page) (sym u.of_page) ∙ elsewhere n.key u.entry u.stands apart
+    named_elsewhere : {n : Named} → Stands slab n → n.key ≢ key → same_page n.page e.page ≡ false
+    named_elsewhere stands apart = let u = under_named slab _ stands in ap (λ p. same_page p e.page) (sym u.of_page) ∙ elsewhere u.stands apart
 
     -- under the key stands the entry of its page
     same_entry : (n : Named) → Stands slab n → n.key ≡ key → n.page ≡ e.page
-    same_entry n stands at =
-        let u = under_named slab n stands in
-        let same : e ≡ u.entry = same_Some e u.entry (sym stood ∙ ap (get slab) (sym at) ∙ u.stands) in
-        sym u.of_page ∙ ap (λ (x : Entry). x.page) (sym same)
+    same_entry n stands at = grind (arith, nat_tests, stands, at)
 
-    module _ (later : Slab Entry) (e' : Entry) (fills : Fills slab later key (Some e')) (same : e'.page ≡ e.page) where
+    module _ {later : Slab Entry} {e' : Entry} (fills : Fills slab later key (Some e')) (same : e'.page ≡ e.page) where
       -- where one entry is written anew, the row of its page is changed, and no other
       pub written : (pass : ℕ) (f : Held → Held) → held_of pass e' ≡ f (held_of pass e) → held_in pass later order ≡ change_held e.page f (held_in pass slab order)
-      written pass f is = sym (map_mapped (λ h. if holds e.page h then f h else h) (held_by pass slab) (held_by pass later) order (λ k d lt. at (get_or order k d) (all_stand k d lt)))
+      written pass f is = sym (map_mapped _ _ _ _ (λ k d lt. at _ (all_stand k d lt)))
         where
           at : (n : Named) → Stands slab n → (if holds e.page (held_by pass slab n) then f (held_by pass slab n) else held_by pass slab n) ≡ held_by pass later n
-          at n stands = elim (cases_Bool (n.key == key)) [
+          at n stands = elim (cases_Bool _) [
             | inl here ↦
-                let is_key : n.key ≡ key = (Decides-eqb n.key key).0 here in
-                let was : held_by pass slab n ≡ held_of pass e = ap (λ k. held_under pass (get slab k)) is_key ∙ ap (held_under pass) stood in
-                let now : held_by pass later n ≡ held_of pass e' = ap (λ k. held_under pass (get later k)) is_key ∙ ap (held_under pass) fills.changed in
+                let is_key = (Decides-eqb _ _).0 here in
+                let was = ap (λ k. held_under pass (get slab k)) is_key ∙ ap (held_under pass) stood in
+                let now = ap (λ k. held_under pass (get later k)) is_key ∙ ap (held_under pass) fills.changed in
                 ap (λ (h : Held). if holds e.page h then f h else h) was
                 ∙ ap (λ b. cond b (f (held_of pass e)) (held_of pass e)) (same_page_refl e.page)
                 ∙ sym is
                 ∙ sym now
             | inr other ↦
-                let apart : n.key ≢ key = differ_by n.key key other in
-                let no : holds e.page (held_by pass slab n) ≡ false = ap (λ p. same_page p e.page) (page_under pass slab n stands) ∙ named_elsewhere n stands apart in
+                let apart = differ_by other in
+                let no = ap (λ p. same_page p e.page) (page_under _ slab stands) ∙ named_elsewhere stands apart in
                 ap (λ b. cond b (f (held_by pass slab n)) (held_by pass slab n)) no ∙ ap (held_under pass) (sym (fills.others n.key apart))
           ]
 
       -- how the order names what stands under a key
       named_later : e'.mergeable ≡ e.mergeable → (k : ℕ) → option_map (named_of k) (get later k) ≡ option_map (named_of k) (get slab k)
-      named_later flag k = elim (cases_Bool (k == key)) [
+      named_later flag k = elim (cases_Bool _) [
         | inl here ↦
-            let is_key : k ≡ key = (Decides-eqb k key).0 here in
-            let named : named_of key e' ≡ named_of key e = ap₂ (λ p b. record { page = p; key = key; mergeable = b }) same flag in
+            let is_key = (Decides-eqb k _).0 here in
+            let named = ap₂ (λ p b. record { page = p; key = key; mergeable = b }) same flag in
             ap (λ j. option_map (named_of j) (get later j)) is_key
             ∙ ap (option_map (named_of key)) fills.changed
             ∙ ap Some named
             ∙ ap (option_map (named_of key)) (sym stood)
             ∙ ap (λ j. option_map (named_of j) (get slab j)) (sym is_key)
-        | inr other ↦ ap (option_map (named_of k)) (fills.others k (differ_by k key other))
+        | inr other ↦ ap (option_map (named_of k)) (fills.others k (differ_by other))
       ]
 
       -- where one entry is written anew and its mergeable flag stays, pages are named as their entries say
       pub filed_kept : e'.mergeable ≡ e.mergeable → AreFiled later order
-      filed_kept flag n = (λ h. named_later flag n.key ∙ (filed n).0 h, λ h. (filed n).1 (sym (named_later flag n.key) ∙ h))
+      filed_kept flag n = (λ h. named_later flag _ ∙ (filed n).0 h, λ h. (filed n).1 (sym (named_later flag _) ∙ h))
 
       abbrev mark : Named → Named
       mark n = if is_of e.page n then record n { mergeable = e'.mergeable } else n
 
       find_marked : (page : GuestPage) → find (is_of page) (marked e.page e'.mergeable order) ≡ option_map mark (find (is_of page) order)
-      find_marked page = find_change page_of e.page (λ n. record n { mergeable = e'.mergeable }) (λ n. refl) page order
+      find_marked page = find_change _ e.page _ (λ n. refl) page _
 
       -- where one entry is written anew and its page marked with its flag, pages are named as their entries say
       pub filed_marked : AreFiled later (marked e.page e'.mergeable order)
       filed_marked =
-          filed_by later (marked e.page e'.mergeable order) (All-map (Stands later) mark order (λ k d lt. stands_later (get_or order k d) (all_stand k d lt)))
-          (all_filled fills (λ k f. find (is_of f.page) (marked e.page e'.mergeable order) ≡ Some (named_of k f))
-          (ap (λ p. find (is_of p) (marked e.page e'.mergeable order)) same ∙ find_marked e.page ∙ ap (option_map mark) (named_under slab order filed key e stood) ∙ ap Some (marked_here ∙ sym here_named))
-          (λ k f was apart. find_marked f.page ∙ ap (option_map mark) (named_under slab order filed k f was) ∙ ap Some (marked_other (named_of k f) (elsewhere k f was apart))))
+          filed_by later _ (All-map (Stands later) _ _ (λ k d lt. stands_later (all_stand k d lt))) (all_filled fills
+          (ap (λ p. find (is_of p) (marked e.page e'.mergeable order)) same ∙ find_marked _ ∙ ap (option_map mark) (named_under slab _ filed _ e stood) ∙ ap Some (marked_here ∙ sym here_named))
+          (λ k f was apart. find_marked _ ∙ ap (option_map mark) (named_under slab _ filed k f was) ∙ ap Some (marked_other (elsewhere was apart))))
         where
           here_named : named_of key e' ≡ record (named_of key e) { mergeable = e'.mergeable }
           here_named = ap (λ p. record { page = p; key = key; mergeable = e'.mergeable }) same
@@ -196,23 +187,23 @@ module _ (slab : Slab Entry) (order : List Named) (rise : AreAscending order) (f
           marked_here : mark (named_of key e) ≡ record (named_of key e) { mergeable = e'.mergeable }
           marked_here = ap (λ b. cond b (record (named_of key e) { mergeable = e'.mergeable }) (named_of key e)) (same_page_refl e.page)
 
-          marked_other : (m : Named) → same_page m.page e.page ≡ false → mark m ≡ m
-          marked_other m differ = ap (λ b. cond b (record m { mergeable = e'.mergeable }) m) differ
+          marked_other : {m : Named} → same_page m.page e.page ≡ false → mark m ≡ m
+          marked_other differ = grind (arith, nat_tests, differ)
 
           -- a page that stands in the order is named as its entry says later
-          stands_later : (m : Named) → option_map (named_of m.key) (get slab m.key) ≡ Some m → option_map (named_of (mark m).key) (get later (mark m).key) ≡ Some (mark m)
-          stands_later m stands = elim (cases_Bool (m.key == key)) [
+          stands_later : {m : Named} → option_map (named_of m.key) (get slab m.key) ≡ Some m → option_map (named_of (mark m).key) (get later (mark m).key) ≡ Some (mark m)
+          stands_later {m} stands = elim (cases_Bool _) [
             | inl here ↦
-                let is_key : m.key ≡ key = (Decides-eqb m.key key).0 here in
-                let is : named_of key e ≡ m = same_Some (named_of key e) m (sym (ap (λ k. option_map (named_of k) (get slab k)) is_key ∙ ap (option_map (named_of key)) stood) ∙ stands) in
-                ap (λ (x : Named). option_map (named_of (mark x).key) (get later (mark x).key)) (sym is)
+                let is_key = (Decides-eqb _ _).0 here in
+                let is = same_Some _ _ (sym (ap (λ k. option_map (named_of k) (get slab k)) is_key ∙ ap (option_map (named_of key)) stood) ∙ stands) in
+                (λ i. option_map (named_of (mark (sym is i)).key) (get later (mark (sym is i)).key))
                 ∙ ap (λ (x : Named). option_map (named_of x.key) (get later x.key)) marked_here
                 ∙ ap (option_map (named_of key)) fills.changed
                 ∙ ap Some (here_named ∙ sym marked_here ∙ ap mark is)
             | inr other ↦
-                let apart : m.key ≢ key = differ_by m.key key other in
-                let kept = marked_other m (named_elsewhere m stands apart) in
-                ap (λ (x : Named). option_map (named_of x.key) (get later x.key)) kept
+                let apart = differ_by other in
+                let kept = marked_other (named_elsewhere stands apart) in
+                (λ i. option_map (named_of (kept i).key) (get later (kept i).key))
                 ∙ ap (option_map (named_of m.key)) (fills.others m.key apart)
                 ∙ stands
                 ∙ ap Some (sym kept)
@@ -220,70 +211,67 @@ module _ (slab : Slab Entry) (order : List Named) (rise : AreAscending order) (f
 
     -- ---------------------------------------------------------------- one entry gone
 
-    module _ (later : Slab Entry) (fills : Fills slab later key None) where
+    module _ {later : Slab Entry} (fills : Fills slab later key None) where
       -- the other pages stand under other keys
       away : All (λ n. Stands slab n × (n.key ≢ key)) (without_named e.page order)
       away k d lt =
           let n = get_or (without_named e.page order) k d in
-          let stands = All-filter (λ m. not (is_of e.page m)) (Stands slab) order all_stand k d lt in
-          let passes = filter_passes (λ m. not (is_of e.page m)) order k d lt in
+          let stands = All-filter _ (Stands slab) _ all_stand k d lt in
+          let passes = filter_passes _ order k d lt in
           (stands, λ at. true≢false (sym passes ∙ ap not (ap (λ p. same_page p e.page) (same_entry n stands at) ∙ same_page_refl e.page)))
 
       -- where one entry is gone with the name of its page, the row of that page is gone, and no other
       pub taken : (pass : ℕ) → held_in pass later (without_named e.page order) ≡ without_held e.page (held_in pass slab order)
       taken pass =
-          map_alike (held_by pass later) (held_by pass slab) (without_named e.page order)
-          (λ k d lt. ap (held_under pass) (fills.others (get_or (without_named e.page order) k d).key (away k d lt).1))
-          ∙ sym (filter_mapped (held_by pass slab) (λ h. not (holds e.page h)) (λ n. not (is_of e.page n)) order (λ k d lt. ap (λ p. not (same_page p e.page)) (page_under pass slab (get_or order k d) (all_stand k d lt))))
+          map_alike _ _ _ (λ k d lt. ap (held_under pass) (fills.others (get_or (without_named e.page order) k d).key (away k d lt).1))
+          ∙ sym (filter_mapped _ _ _ _ (λ k d lt. ap (λ p. not (same_page p e.page)) (page_under _ slab (all_stand k d lt))))
 
       -- where one entry is gone with the name of its page, the other pages are named as their entries say
       pub filed_taken : AreFiled later (without_named e.page order)
       filed_taken =
-          filed_by later (without_named e.page order)
+          filed_by later _
           (λ k d lt. let n = get_or (without_named e.page order) k d in ap (option_map (named_of n.key)) (fills.others n.key (away k d lt).1) ∙ (away k d lt).0)
           (λ k f stands.
-          let apart : k ≢ key = λ at. full f (get later k) (ap (get later) at ∙ fills.changed) stands in
+          let apart : k ≢ key = λ at. full _ _ (ap (get later) at ∙ fills.changed) stands in
           let was = sym (fills.others k apart) ∙ stands in
-          find_gone_other page_of e.page f.page order (same_page_sym e.page f.page ∙ elsewhere k f was apart) ∙ named_under slab order filed k f was)
+          find_gone_other page_of _ _ order (same_page_sym e.page f.page ∙ elsewhere was apart) ∙ named_under slab _ filed k f was)
 
   -- ---------------------------------------------------------------- one entry more
 
-  module _ (key : ℕ) (e : Entry) (later : Slab Entry) (vacant : get slab key ≡ None) (absent : find (is_of e.page) order ≡ None) (fills : Fills slab later key (Some e)) where
+  module _ {key : ℕ} {e : Entry} {later : Slab Entry} (vacant : get slab key ≡ None) (absent : find (is_of e.page) order ≡ None) (fills : Fills slab later key (Some e)) where
     -- no page that the order names stands under the new key
-    taken_key : (n : Named) → Stands slab n → n.key ≢ key
-    taken_key n stands at = let u = under_named slab n stands in full u.entry (get slab n.key) (ap (get slab) at ∙ vacant) u.stands
+    taken_key : {n : Named} → Stands slab n → n.key ≢ key
+    taken_key stands at = let u = under_named slab _ stands in full _ _ (ap (get slab) at ∙ vacant) u.stands
 
     -- where an entry came under a vacant key with a name, the rows have its row at the place of its page
     pub put : (pass : ℕ) → held_in pass later (with_named (named_of key e) order) ≡ with_held (held_of pass e) (held_in pass slab order)
     put pass =
         map-append (held_by pass later) (filter (λ n. comes_before n.page e.page) order) (named_of key e ∷ filter (λ n. comes_before e.page n.page) order)
-        ∙ ap₂ (λ front back. front ++ back) (part (λ p. comes_before p e.page)) (ap₂ (λ h hs. h ∷ hs) (ap (held_under pass) fills.changed) (part (comes_before e.page)))
+        ∙ ap₂ (λ front back. front ++ back) (part _) (ap₂ (λ h hs. h ∷ hs) (ap (held_under pass) fills.changed) (part _))
       where
         part : (test : GuestPage → Bool) → map (held_by pass later) (filter (λ n. test n.page) order) ≡ filter (λ h. test h.row.page) (held_in pass slab order)
         part test =
-            map_alike (held_by pass later) (held_by pass slab) (filter (λ n. test n.page) order)
-            (λ k d lt.
+            map_alike _ _ _ (λ k d lt.
             let n = get_or (filter (λ (m : Named). test m.page) order) k d in
-            let stands = All-filter (λ (m : Named). test m.page) (Stands slab) order all_stand k d lt in
-            ap (held_under pass) (fills.others n.key (taken_key n stands)))
-            ∙ sym (filter_mapped (held_by pass slab) (λ h. test h.row.page) (λ n. test n.page) order (λ k d lt. ap test (page_under pass slab (get_or order k d) (all_stand k d lt))))
+            let stands = All-filter _ (Stands slab) _ all_stand k d lt in
+            ap (held_under pass) (fills.others n.key (taken_key stands)))
+            ∙ sym (filter_mapped _ _ _ _ (λ k d lt. ap test (page_under _ slab (all_stand k d lt))))
 
     -- where an entry came under a vacant key with a name, all pages are named as their entries say
     pub filed_put : AreFiled later (with_named (named_of key e) order)
     filed_put =
-        filed_by later (with_named (named_of key e) order)
-        (All-append (Stands later) (filter (λ n. comes_before n.page e.page) order) (named_of key e ∷ filter (λ n. comes_before e.page n.page) order) (part_stands (λ p. comes_before p e.page))
-        (All-cons (Stands later) (named_of key e) (filter (λ n. comes_before e.page n.page) order) (ap (option_map (named_of key)) fills.changed) (part_stands (comes_before e.page))))
-        (all_filled fills (λ k f. find (is_of f.page) (with_named (named_of key e) order) ≡ Some (named_of k f)) (find_put page_of e.page (named_of key e) order refl)
-        (λ k f was apart. find_put_other page_of e.page f.page (named_of key e) order refl rise absent (differ k f was) ∙ named_under slab order filed k f was))
+        filed_by later _ (All-append (Stands later) _ _ (part_stands _)
+        (All-cons (Stands later) (named_of key e) _ (ap (option_map (named_of key)) fills.changed) (part_stands (comes_before e.page))))
+        (all_filled fills (find_put page_of _ _ order refl)
+        (λ k f was apart. find_put_other _ _ f.page _ _ refl rise absent (differ k f was) ∙ named_under slab _ filed k f was))
       where
         part_stands : (test : GuestPage → Bool) → All (Stands later) (filter (λ n. test n.page) order)
         part_stands test =
-            All-filter (λ n. test n.page) (Stands later) order
-            (λ k d lt. let n = get_or order k d in ap (option_map (named_of n.key)) (fills.others n.key (taken_key n (all_stand k d lt))) ∙ all_stand k d lt)
+            All-filter _ (Stands later) _
+            (λ k d lt. let n = get_or order k d in ap (option_map (named_of n.key)) (fills.others n.key (taken_key (all_stand k d lt))) ∙ all_stand k d lt)
 
         differ : (k : ℕ) (f : Entry) → get slab k ≡ Some f → same_page e.page f.page ≡ false
-        differ k f was = elim (cases_Bool (same_page e.page f.page)) [
-          | inl same ↦ absurd (full (named_of k f) (find (is_of f.page) order) (ap (λ p. find (is_of p) order) (sym (same_page_eq e.page f.page same)) ∙ absent) (named_under slab order filed k f was))
+        differ k f was = elim (cases_Bool _) [
+          | inl same ↦ absurd (full _ _ (ap (λ p. find (is_of p) order) (sym (same_page_eq _ _ same)) ∙ absent) (named_under slab _ filed k f was))
           | inr other ↦ other
         ]

@@ -10,14 +10,14 @@ find_kept test keep [] o is kept = is
 find_kept test keep (x ∷ xs) o is kept =
     elim (cases_Bool (test x)) [
       | inl passes ↦
-          let here : o ≡ Some x = grind (arith, passes, is) in
+          let here : o ≡ Some x = grind arith in
           let stays = kept x here in
-          grind (arith, passes, stays, here)
+          grind arith
       | inr fails ↦
-          let rest = find_kept test keep xs o (grind (arith, fails, is)) kept in
+          let rest = find_kept test keep xs o (grind arith) kept in
           elim (cases_Bool (keep x)) [
-            | inl stays ↦ grind (arith, fails, stays, rest)
-            | inr goes ↦ grind (arith, goes, rest)
+            | inl stays ↦ grind arith
+            | inr goes ↦ grind arith
           ]
     ]
 
@@ -32,12 +32,12 @@ module _ {X : Type 0} (key : X → GuestPage) where
   pub each_found : (xs : List X) → AllPairs Before xs → All (λ x. find (is_of_page (key x)) xs ≡ Some x) xs
   each_found [] rise = λ k d lt. absurd (omega arith)
   each_found (x ∷ xs) rise =
-      All-cons (λ z. find (is_of_page (key z)) (x ∷ xs) ≡ Some z) x xs
+      All-cons (λ z. find (is_of_page (key z)) (x ∷ xs) ≡ Some z) x _
       (ap (λ b. cond b (Some x) (find (is_of_page (key x)) xs)) (same_page_refl (key x)))
       (λ k d lt.
       let z = get_or xs k d in
-      let apart : same_page (key x) (key z) ≡ false = pages_ordered.apart (key x) (key z) (pairs_head Before x xs rise k d lt) in
-      ap (λ b. cond b (Some x) (find (is_of_page (key z)) xs)) apart ∙ each_found xs (pairs_tail Before x xs rise) k d lt)
+      let apart = pages_ordered.apart (key x) (key z) (pairs_head Before x _ rise k d lt) in
+      ap (λ b. cond b (Some x) (find (is_of_page (key z)) xs)) apart ∙ each_found xs (pairs_tail Before x _ rise) k d lt)
 
   module _ (page : GuestPage) where
     abbrev low : X → Bool
@@ -52,7 +52,7 @@ module _ {X : Type 0} (key : X → GuestPage) where
     -- in a list with one more element of the page, a search for the page finds that element
     pub find_put : (x : X) (xs : List X) → key x ≡ page → find is_it (filter low xs ++ x ∷ filter high xs) ≡ Some x
     find_put x xs at =
-        let none = find_nothing is_it (filter low xs) (λ k d lt. pages_ordered.apart (key (get_or (filter low xs) k d)) page (filter_passes low xs k d lt)) in
+        let none = find_nothing is_it _ (λ k d lt. pages_ordered.apart (key (get_or (filter low xs) k d)) page (filter_passes low xs k d lt)) in
         find-append is_it (filter low xs) (x ∷ filter high xs)
         ∙ ap (λ found. option_or found (find is_it (x ∷ filter high xs))) none
         ∙ ap (λ b. cond b (Some x) (find is_it (filter high xs))) (ap (λ p. same_page p page) at ∙ same_page_refl page)
@@ -61,21 +61,20 @@ module _ {X : Type 0} (key : X → GuestPage) where
     pub find_put_other : (other : GuestPage) (x : X) (xs : List X) → key x ≡ page → AllPairs Before xs → find is_it xs ≡ None → same_page page other ≡ false → find (is_of_page other) (filter low xs ++ x ∷ filter high xs) ≡ find (is_of_page other) xs
     find_put_other other x xs at rise absent differ =
         find_over (is_of_page other) (filter low xs) (filter high xs) x (ap (λ p. same_page p other) at ∙ differ)
-        ∙ ap (find (is_of_page other)) (sym (absent_parts pages_ordered key page xs rise absent))
+        ∙ ap (find (is_of_page other)) (sym (absent_parts pages_ordered key page _ rise absent))
 
     -- without the elements of the page, a search for the page finds nothing
     pub find_gone : (xs : List X) → find is_it (filter (λ y. not (is_it y)) xs) ≡ None
     find_gone xs = find_nothing is_it (filter (λ y. not (is_it y)) xs) (λ k d lt. not-true (is_it (get_or (filter (λ y. not (is_it y)) xs) k d)) (filter_passes (λ y. not (is_it y)) xs k d lt))
 
     -- an element that a search for another page finds is not of the page
-    not_it : (other : GuestPage) (xs : List X) → same_page page other ≡ false → (y : X) → find (is_of_page other) xs ≡ Some y → is_it y ≡ false
-    not_it other xs differ y is =
-        ap (λ p. same_page p page) (same_page_eq (key y) other (find_passes (is_of_page other) xs y is)) ∙ same_page_sym other page ∙ differ
+    not_it : (other : GuestPage) (xs : List X) → same_page page other ≡ false → {y : X} → find (is_of_page other) xs ≡ Some y → is_it y ≡ false
+    not_it other xs differ {y} is =
+        ap (λ p. same_page p page) (same_page_eq (key y) other (find_passes (is_of_page other) xs y is)) ∙ same_page_sym _ page ∙ differ
 
     -- without the elements of a page, a search for another page finds what it found before
     pub find_gone_other : (other : GuestPage) (xs : List X) → same_page page other ≡ false → find (is_of_page other) (filter (λ y. not (is_it y)) xs) ≡ find (is_of_page other) xs
-    find_gone_other other xs differ =
-        find_kept (is_of_page other) (λ y. not (is_it y)) xs (find (is_of_page other) xs) refl (λ y is. ap not (not_it other xs differ y is))
+    find_gone_other other xs differ = find_kept _ _ _ _ refl (λ y is. ap not (not_it _ _ differ is))
 
     -- the element of the page is changed, but for its page
     module _ (f : X → X) (same : (y : X) → key (f y) ≡ key y) where
@@ -85,19 +84,18 @@ module _ {X : Type 0} (key : X → GuestPage) where
       -- a search finds what it found, changed
       pub find_change : (other : GuestPage) (xs : List X) → find (is_of_page other) (map change xs) ≡ option_map change (find (is_of_page other) xs)
       find_change other xs =
-          find_mapped change (is_of_page other) (is_of_page other) xs
+          find_mapped change _ _ xs
           (λ k d lt. let y = get_or xs k d in
-          cond_both (is_it y) (f y) y (λ z. same_page (key z) other ≡ same_page (key y) other) (λ _. ap (λ p. same_page p other) (same y)) (λ _. refl))
+          cond_both _ (f y) y (λ z. same_page (key z) other ≡ same_page (key y) other) (λ _. ap (λ p. same_page p other) (same y)) (λ _. refl))
 
       -- a search for the page finds the changed element
       pub find_changed : (xs : List X) (x : X) → find is_it xs ≡ Some x → find is_it (map change xs) ≡ Some (f x)
-      find_changed xs x found =
-          find_change page xs ∙ ap (option_map change) found ∙ ap (λ b. Some (cond b (f x) x)) (find_passes is_it xs x found)
+      find_changed xs x found = find_change _ _ ∙ ap (option_map change) found ∙ ap (λ b. Some (cond b (f x) x)) (find_passes _ xs x found)
 
       -- a search for another page finds what it found before
       pub find_changed_other : (other : GuestPage) (xs : List X) → same_page page other ≡ false → find (is_of_page other) (map change xs) ≡ find (is_of_page other) xs
-      find_changed_other other xs differ = find_change other xs ∙ go (find (is_of_page other) xs) refl
+      find_changed_other other xs differ = find_change _ _ ∙ go _ refl
         where
           go : (o : Option X) → find (is_of_page other) xs ≡ o → option_map change o ≡ o
           go None is = refl
-          go (Some y) is = ap (λ b. Some (cond b (f y) y)) (not_it other xs differ y is)
+          go (Some y) is = ap (λ b. Some (cond b (f y) y)) (not_it _ _ differ is)

@@ -1,7 +1,5 @@
 -- A walk along the order that lists the pages that a visit may change.
-use Rattle.ksm_pages.proofs.Names.{[], after_cursor, All, All-cons, All-map, ap, AreAllListed, AreAscending, AreFiled, AreListed, arith, before_irrefl, before_trans, Bool, cases_Bool, comes_before, Entry, false, filter, find, find_all, find_none, find_passes, get, get_or, GuestPage, has_item, Held, held_in, held_under, inl, inr, is_of, is_own, is_restless, is_some, IsAddedTo, IsUnder, Kind, length, List, Listing, may_change, Named, named_of, None, not, Option, option_map, own_state, PageState, pairs_head, pairs_tail, Private, refl, rows_of, same_page, same_page_refl, same_Some, shared_state, Slab, Some, state_of, sym, true, true≢false, Waiting, ℕ, ◌&&◌, ◌<◌, ◌==◌, ◌∙◌, ◌∷◌, ◌≡◌, ◌≤◌, ◌⊎◌, held_of}
-use Rattle.ksm_pages.specs.declared.row.Kind.TheVariants as kinds
-use Rattle.ksm_pages.specs.Held.{frame_of}
+use Rattle.ksm_pages.proofs.Names.{[], after_cursor, All, All-cons, All-map, ap, AreAllListed, AreAscending, AreFiled, AreListed, arith, before_irrefl, Bool, cases_Bool, comes_before, Entry, false, filter, find, find_all, find_none, find_passes, get, get_or, GuestPage, has_item, Held, held_in, held_under, inl, inr, is_of, is_own, is_restless, is_some, IsAddedTo, IsUnder, Kind, length, List, Listing, may_change, Named, named_of, nat_tests, None, not, Option, option_map, own_state, PageState, pairs_head, pairs_tail, Private, rows_of, same_page, same_page_refl, same_Some, shared_state, Slab, Some, state_of, sym, true, true≢false, Waiting, ℕ, ◌&&◌, ◌<◌, ◌∙◌, ◌∷◌, ◌≡◌, ◌≤◌, ◌⊎◌, held_of}
 use Rattle.ksm_pages.proofs.Filing.{all_stand, named_under, one_key, under_named}
 use Rattle.ksm_pages.proofs.Listings.{with_has}
 
@@ -10,20 +8,12 @@ pub own_either : (P : PageState → Type 0) → P Private → P Waiting → (b :
 own_either P rests waits false = rests
 own_either P rests waits true = waits
 
--- a kind has a frame of its own where its rows are not shared
-pub framed : (kind : Kind) (number pass at : ℕ) → is_some (frame_of kind at) ≡ not (shared_state (state_of kind number pass))
-framed kinds.Own number pass at = own_either (λ state. true ≡ not (shared_state state)) refl refl (number == pass)
-framed kinds.Merged number pass at = refl
-framed kinds.Zero number pass at = refl
-
 own_by : (kind : Kind) (number pass : ℕ) → not (shared_state (state_of kind number pass)) ≡ is_own kind
-own_by kinds.Own number pass = own_either (λ state. not (shared_state state) ≡ true) refl refl (number == pass)
-own_by kinds.Merged number pass = refl
-own_by kinds.Zero number pass = refl
+own_by kind number pass = grind (arith, nat_tests)
 
 -- a visit may change a row exactly where it may change its entry
 pub restless_as : (pass : ℕ) (e : Entry) → may_change (held_of pass e).row ≡ is_restless e
-restless_as pass e = ap (λ b. e.mergeable && b) (own_by e.kind e.number pass)
+restless_as pass e = ap (λ b. e.mergeable && b) (own_by _ _ _)
 
 -- of the pages up to a cursor those that a visit may change are listed
 abbrev pub AreListedUpTo : Slab Entry → Option GuestPage → Listing → Type 0
@@ -34,11 +24,11 @@ filter_least : {X : Type 0} (p q : X → Bool) (ys : List X) → ((y : X) → q 
 filter_least p q [] less = omega arith
 filter_least p q (z ∷ zs) less =
     let rest = filter_least p q zs less in
-    elim (cases_Bool (q z)) [
+    elim (cases_Bool _) [
       | inl passes ↦ let also = less z passes in grind (arith, passes, also, rest)
       | inr fails ↦ elim (cases_Bool (p z)) [
-        | inl passes ↦ grind (arith, fails, passes, rest)
-        | inr out_too ↦ grind (arith, fails, out_too, rest)
+        | inl passes ↦ grind arith
+        | inr out_too ↦ grind arith
       ]
     ]
 
@@ -48,17 +38,17 @@ filter_fewer p q [] x found out less = cc
 filter_fewer p q (y ∷ ys) x found out less =
     elim (cases_Bool (p y)) [
       | inl passes ↦
-          let same : y ≡ x = grind (arith, passes, found) in
-          let none : q y ≡ false = ap q same ∙ out in
+          let same : y ≡ x = grind arith in
+          let none = ap q same ∙ out in
           let few = filter_least p q ys less in
-          grind (arith, passes, none, few)
+          grind arith
       | inr fails ↦
           let none : q y ≡ false = elim (cases_Bool (q y)) [
             | inl also ↦ absurd (true≢false (sym (less y also) ∙ fails))
             | inr out_too ↦ out_too
           ] in
-          let few = filter_fewer p q ys x (grind (arith, fails, found)) out less in
-          grind (arith, fails, none, few)
+          let few = filter_fewer p q ys x (grind arith) out less in
+          grind arith
     ]
 
 -- what a search finds first comes before all others that pass
@@ -67,33 +57,31 @@ first_found p [] n rise found = λ k d lt. absurd (omega arith)
 first_found p (y ∷ ys) n rise found =
     elim (cases_Bool (p y)) [
       | inl passes ↦
-          let same : y ≡ n = grind (arith, passes, found) in
-          All-cons (λ m. p m ≡ true → (m.page ≡ n.page) ⊎ (comes_before n.page m.page ≡ true)) y ys (λ also. inl (ap (λ (m : Named). m.page) same))
-          (λ k d lt also. inr (ap (λ (m : Named). comes_before m.page (get_or ys k d).page) (sym same) ∙ pairs_head (λ a b. comes_before a.page b.page ≡ true) y ys rise k d lt))
+          let same : y ≡ n = grind arith in
+          All-cons (λ m. p m ≡ true → (m.page ≡ n.page) ⊎ (comes_before n.page m.page ≡ true)) y ys (λ also. inl (λ i. (same i).page))
+          (λ k d lt also. inr ((λ i. comes_before (sym same i).page (get_or ys k d).page) ∙ pairs_head (λ a b. comes_before a.page b.page ≡ true) y ys rise k d lt))
       | inr fails ↦
           All-cons (λ m. p m ≡ true → (m.page ≡ n.page) ⊎ (comes_before n.page m.page ≡ true)) y ys (λ also. absurd (true≢false (sym also ∙ fails)))
-          (first_found p ys n (pairs_tail (λ a b. comes_before a.page b.page ≡ true) y ys rise) (grind (arith, fails, found)))
+          (first_found p ys n (pairs_tail (λ a b. comes_before a.page b.page ≡ true) y ys rise) (grind arith))
     ]
 
 module _ (slab : Slab Entry) (order : List Named) (rise : AreAscending order) (filed : AreFiled slab order) where
-  module _ (last : Option GuestPage) (n : Named) (found : find (λ m. after_cursor last m.page) order ≡ Some n) where
+  module _ (last : Option GuestPage) {n : Named} (found : find (λ m. after_cursor last m.page) order ≡ Some n) where
     -- the next page behind the cursor has an entry under the key that the order names
     pub next_stands : IsUnder slab n.page n.key
-    next_stands = under_named slab n (find_all (λ m. after_cursor last m.page) (λ m. option_map (named_of m.key) (get slab m.key) ≡ Some m) order n found (all_stand slab order rise filed))
+    next_stands = under_named _ n (find_all _ (λ m. option_map (named_of m.key) (get slab m.key) ≡ Some m) _ n found (all_stand slab _ rise filed))
 
     -- behind the next page there are fewer pages than behind the cursor
     pub fewer_behind : length (filter (λ m. comes_before n.page m.page) order) < length (filter (λ m. after_cursor last m.page) order)
     fewer_behind =
-        filter_fewer (λ m. after_cursor last m.page) (λ m. comes_before n.page m.page) order n found (before_irrefl n.page)
-        (λ m behind. further last n.page m.page (find_passes (λ m. after_cursor last m.page) order n found) behind)
+        filter_fewer _ _ order n found (before_irrefl n.page) (λ m behind. further last n.page m.page (find_passes _ order n found) behind)
       where
         further : (last : Option GuestPage) (p q : GuestPage) → after_cursor last p ≡ true → comes_before p q ≡ true → after_cursor last q ≡ true
-        further None p q after less = refl
-        further (Some l) p q after less = before_trans l p q after less
+        further last p q after less = grind (arith, nat_tests, after, less)
 
     -- an entry that is not behind it is its own, or was not behind the last
-    passed : (key : ℕ) (e : Entry) → get slab key ≡ Some e → comes_before n.page e.page ≡ false → (e.page ≡ n.page) ⊎ (after_cursor last e.page ≡ false)
-    passed key e stands not_behind = elim (cases_Bool (after_cursor last e.page)) [
+    passed : (key : ℕ) {e : Entry} → get slab key ≡ Some e → comes_before n.page e.page ≡ false → (e.page ≡ n.page) ⊎ (after_cursor last e.page ≡ false)
+    passed key {e} stands not_behind = elim (cases_Bool _) [
       | inl after ↦
           let first = find_all (is_of e.page) (λ m. after_cursor last m.page ≡ true → (m.page ≡ n.page) ⊎ (comes_before n.page m.page ≡ true)) order (named_of key e) (named_under slab order filed key e stands)
           (first_found (λ m. after_cursor last m.page) order n rise found) in
@@ -104,58 +92,50 @@ module _ (slab : Slab Entry) (order : List Named) (rise : AreAscending order) (f
       | inr before ↦ inr before
     ]
 
-    module _ (old new : Listing) (listed : AreListedUpTo slab last old) where
+    module _ {old new : Listing} (listed : AreListedUpTo slab last old) where
       -- where the next page is added, the pages up to that page are listed that a visit may change
       pub one_added : IsAddedTo n.page old new → AreListedUpTo slab (Some n.page) new
       one_added added known key e stands may not_behind = elim added [
         | inl is ↦
-            ap (λ (l : Listing). has_item e.page l.pages) is
-            ∙ with_has e.page n.page old.pages (elim (passed key e stands not_behind) [
+            (λ i. has_item e.page (is i).pages)
+            ∙ with_has _ n.page _ (elim (passed _ stands not_behind) [
               | inl same ↦ inl (ap (same_page n.page) same ∙ same_page_refl n.page)
-              | inr before ↦ inr (listed (ap (λ (l : Listing). l.known) (sym is) ∙ known) key e stands may before)
+              | inr before ↦ inr (listed ((λ i. (sym is i).known) ∙ known) key e stands may before)
             ])
-        | inr is ↦ absurd (true≢false (sym known ∙ ap (λ (l : Listing). l.known) is))
+        | inr is ↦ absurd (true≢false (sym known ∙ (λ i. (is i).known)))
       ]
 
       -- where no visit changes the next page, the list has all up to that page that a visit may change
-      pub one_passed : (e : Entry) → get slab n.key ≡ Some e → is_restless e ≡ false → new ≡ old → AreListedUpTo slab (Some n.page) new
-      one_passed e here calm is known key f stands may not_behind = elim (passed key f stands not_behind) [
+      pub one_passed : {e : Entry} → get slab n.key ≡ Some e → is_restless e ≡ false → new ≡ old → AreListedUpTo slab (Some n.page) new
+      one_passed {e} here calm is known key f stands may not_behind = elim (passed _ stands not_behind) [
         | inl same ↦
             let u = next_stands in
-            let at : key ≡ n.key = one_key slab order filed key n.key f u.entry stands u.stands (same ∙ sym u.of_page) in
-            let is_it : f ≡ e = same_Some f e (sym stands ∙ ap (get slab) at ∙ here) in
+            let at = one_key slab _ filed stands u.stands (same ∙ sym u.of_page) in
+            let is_it = same_Some f e (sym stands ∙ ap (get slab) at ∙ here) in
             absurd (true≢false (sym may ∙ ap is_restless is_it ∙ calm))
-        | inr before ↦ ap (λ (l : Listing). has_item f.page l.pages) is ∙ listed (ap (λ (l : Listing). l.known) (sym is) ∙ known) key f stands may before
+        | inr before ↦ (λ i. has_item f.page (is i).pages) ∙ listed ((λ i. (sym is i).known) ∙ known) key f stands may before
       ]
 
   -- where no page is behind the cursor, all pages are listed that a visit may change
   pub all_passed : (last : Option GuestPage) → find (λ m. after_cursor last m.page) order ≡ None → (l : Listing) → AreListedUpTo slab last l → l.known ≡ true → AreListed slab l.pages
   all_passed last none l listed known key e stands may =
       listed known key e stands may
-      (find_all (is_of e.page) (λ m. after_cursor last m.page ≡ false) order (named_of key e) (named_under slab order filed key e stands) (find_none (λ m. after_cursor last m.page) order none))
+      (find_all _ (λ m. after_cursor last m.page ≡ false) _ _ (named_under slab _ filed _ e stands) (find_none _ order none))
 
   -- where the pages of all entries that a visit may change are listed, so are the pages of all such rows
   pub rows_listed : (pass : ℕ) (pages : List GuestPage) → AreListed slab pages → AreAllListed (rows_of (held_in pass slab order)) pages
   rows_listed pass pages listed =
-      All-map (λ r. may_change r ≡ true → has_item r.page pages ≡ true) (λ (h : Held). h.row) (held_in pass slab order)
-      (All-map (λ (h : Held). may_change h.row ≡ true → has_item h.row.page pages ≡ true) (λ n. held_under pass (get slab n.key)) order
-      (λ k d lt. at (get_or order k d) (all_stand slab order rise filed k d lt)))
+      All-map (λ r. may_change r ≡ true → has_item r.page pages ≡ true) _ _
+      (All-map (λ (h : Held). may_change h.row ≡ true → has_item h.row.page pages ≡ true) _ _
+      (λ k d lt. at _ (all_stand slab _ rise filed k d lt)))
     where
       at : (n : Named) → option_map (named_of n.key) (get slab n.key) ≡ Some n → may_change (held_under pass (get slab n.key)).row ≡ true → has_item (held_under pass (get slab n.key)).row.page pages ≡ true
-      at n stands may =
-          let u = under_named slab n stands in
-          let e = u.entry in
-          let may_e = ap (λ o. may_change (held_under pass o).row) (sym u.stands) ∙ may in
-          ap (λ o. has_item (held_under pass o).row.page pages) u.stands
-          ∙ listed n.key e u.stands (sym (restless_as pass e) ∙ may_e)
+      at n stands may = grind (arith, nat_tests, stands, may)
 
   -- a row has a frame of its own exactly where it is not shared
   pub rows_framed : (pass : ℕ) → All (λ h. is_some h.frame ≡ not (shared_state h.row.state)) (held_in pass slab order)
   rows_framed pass =
-      All-map (λ (h : Held). is_some h.frame ≡ not (shared_state h.row.state)) (λ n. held_under pass (get slab n.key)) order
-      (λ k d lt. at (get_or order k d) (all_stand slab order rise filed k d lt))
+      All-map (λ (h : Held). is_some h.frame ≡ not (shared_state h.row.state)) _ _ (λ k d lt. at _ (all_stand slab _ rise filed k d lt))
     where
       at : (n : Named) → option_map (named_of n.key) (get slab n.key) ≡ Some n → is_some (held_under pass (get slab n.key)).frame ≡ not (shared_state (held_under pass (get slab n.key)).row.state)
-      at n stands =
-          let u = under_named slab n stands in
-          ap (λ o. is_some (held_under pass o).frame) u.stands ∙ framed u.entry.kind u.entry.number pass u.entry.at ∙ ap (λ o. not (shared_state (held_under pass o).row.state)) (sym u.stands)
+      at n stands = grind (arith, nat_tests, stands)

@@ -1,138 +1,110 @@
 -- The pages once a page with a frame of its own joined a dup.
-use Rattle.ksm_pages.proofs.Names.{All, ap, AreKept, AreTied, AreWaiting, arith, both_ways, change_held, change_items, change_row, count_by, Dup, dup_numbered, dup_of, DupRow, DupsState, each_at_page, Entry, eq-eqb, eqb-true, false, find_none, frame_of, frame_seen, Frames, get_or, GuestPage, has_number, HasRoom, Held, held_at, held_of, InPageOrder, Inside, is_some, IsStopped, item_count, items_in, length, let_out, lies_on, List, Listing, lodging, lodgings_of, mapped, Merged, merged_into, merged_state, MOST_REFERENCES, None, none-some, number_found, Option, option_map, PageState, PagesValue, PagesView, Private, refl, Row, row_at, row_found, row_stopped, rows_items, rows_of, RowsView, same_Some, seen, shared_state, Some, state_of, subst, sym, tied_count, tied_joined, true, true≢false, Waiting, with_item, Zero, ℕ, ◌<◌, ◌==◌, ◌∙◌, ◌≡◌}
+use Rattle.ksm_pages.proofs.Names.{All, ap, AreKept, AreTied, AreWaiting, arith, both_ways, change_held, change_items, change_row, count_by, Dup, dup_numbered, dup_of, DupRow, DupsState, each_at_page, Entry, eq-eqb, false, find_none, frame_of, get_or, GuestPage, HasRoom, Held, held_at, held_of, InPageOrder, Inside, is_some, IsStopped, items_in, length, let_out, lies_on, List, Listing, lodging, lodgings_of, mapped, Merged, merged_into, merged_state, MOST_REFERENCES, nat_tests, None, number_found, Option, option_map, PageState, PagesValue, PagesView, refl, Row, row_at, row_found, row_stopped, rows_items, rows_of, RowsView, seen, shared_state, Some, subst, sym, tied_count, tied_joined, true, true≢false, with_item, ℕ, ◌<◌, ◌==◌, ◌∙◌, ◌≡◌}
 use Rattle.ksm_tree.specs.Dups.{items_of as items_numbered, rows_of as dup_rows}
-use Rattle.ksm_pages.specs.Held.{frame_of as own_frame}
-use Rattle.ksm_pages.proofs.Writing.{own_kind}
 use Rattle.ksm_pages.proofs.Changing.{row_found as found_rows}
-use Rattle.ksm_pages.proofs.Gathering.{own_either}
 use Rattle.ksm_pages.proofs.Options.{some_mapped}
 use Rattle.ksm_pages.proofs.Leaving.{AreLawful, lawful_turned, of_dup, of_page, row_there, told, view_of}
 use Rattle.ksm_pages.proofs.Lodgings.{frame_by, seat}
 
 -- a page with a frame of its own is not merged
 pub own_not_merged : (s : PageState) → shared_state s ≡ false → merged_state s ≡ false
-own_not_merged Private e = refl
-own_not_merged Waiting e = refl
-own_not_merged (Merged d) e = absurd (true≢false e)
-own_not_merged Zero e = refl
+own_not_merged s e = grind (arith, nat_tests, e)
 
 -- a page with a frame of its own leaves no dup, so letting it out changes none
-pub let_out_alone : (state : PageState) (page : GuestPage) (dups : List Dup) → shared_state state ≡ false → let_out state page dups ≡ dups
-let_out_alone Private page dups alone = refl
-let_out_alone Waiting page dups alone = refl
-let_out_alone Zero page dups alone = refl
-let_out_alone (Merged n) page dups alone = absurd (true≢false alone)
+pub let_out_alone : (state : PageState) (page : GuestPage) {dups : List Dup} → shared_state state ≡ false → let_out state page dups ≡ dups
+let_out_alone state page alone = grind (arith, nat_tests, alone)
 
-known_at : (number : ℕ) (ds : List DupRow) (o : Option DupRow) → dup_numbered number ds ≡ o → (k : ℕ) (d : DupRow) → k < length ds
+known_at : {number : ℕ} (ds : List DupRow) (o : Option DupRow) → dup_numbered number ds ≡ o → (k : ℕ) (d : DupRow) → k < length ds
     → (get_or ds k d).number ≡ number → is_some o ≡ true
-known_at number ds None is k d lt at =
-    absurd (both_ways ((get_or ds k d).number == number) (find_none (λ e. e.number == number) ds is k d lt)
-    (eq-eqb (get_or ds k d).number number at))
-known_at number ds (Some e) is k d lt at = refl
+known_at {number} ds None is k d lt at =
+    absurd (both_ways ((get_or ds k d).number == number) (find_none _ _ is k d lt) (eq-eqb (get_or ds k d).number number at))
+known_at ds (Some e) is k d lt at = refl
 
-has_known : (rows : List Row) (dups : List Dup) (number : ℕ) → HasRoom rows (dup_rows dups) number → is_some (dup_of number dups) ≡ true
-has_known rows dups number room =
-    sym (some_mapped (λ (d : Dup). d.row) (dup_of number dups)) ∙ ap is_some (row_found (has_number number) (λ r. r.number == number) (λ d. refl) dups)
-    ∙ known_at number (dup_rows dups) (dup_numbered number (dup_rows dups)) refl room.1.0 room.0 room.1.1
-    (ap (λ (d : DupRow). d.number) room.1.2 ∙ room.2)
+has_known : (rows : List Row) (dups : List Dup) {number : ℕ} → HasRoom rows (dup_rows dups) number → is_some (dup_of number dups) ≡ true
+has_known rows dups room =
+    sym (some_mapped (λ (d : Dup). d.row) _) ∙ ap is_some (row_found _ _ (λ d. refl) dups)
+    ∙ known_at _ _ refl _ _ room.1.1 ((λ i. (room.1.2 i).number) ∙ room.2)
 
-found_room : (rows : List Row) (dups : List Dup) (number : ℕ) (o : Option Dup) → AreTied rows dups → dup_of number dups ≡ o
+found_room : (rows : List Row) (dups : List Dup) {number : ℕ} (o : Option Dup) → AreTied rows dups → dup_of number dups ≡ o
     → HasRoom rows (dup_rows dups) number → (is_some o ≡ true) × (length (items_in o) < MOST_REFERENCES)
-found_room rows dups number None tied is room = absurd (true≢false (sym (has_known rows dups number room) ∙ ap is_some is))
-found_room rows dups number (Some d) tied is room =
+found_room rows dups None tied is room = absurd (true≢false (sym (has_known rows dups room) ∙ ap is_some is))
+found_room rows dups {number} (Some d) tied is room =
     let counted = ap (λ o. length (items_in o)) (sym is) ∙ tied_count rows dups number d tied is in
-    let same : item_count rows d.row ≡ item_count rows room.0 = ap (λ n. count_by (λ r. merged_into n r.state) rows)
-    (number_found number dups d is ∙ sym room.2) in
+    let same = ap (λ n. count_by (λ r. merged_into n r.state) rows) (number_found number dups d is ∙ sym room.2) in
     (refl, omega (arith, counted, same, room.3))
 
 -- a dup with room for an item is found by its number
-pub known_room : (rows : List Row) (dups : List Dup) (number : ℕ) → AreTied rows dups → HasRoom rows (dup_rows dups) number
+pub known_room : (rows : List Row) (dups : List Dup) {number : ℕ} → AreTied rows dups → HasRoom rows (dup_rows dups) number
     → is_some (dup_of number dups) ≡ true
-known_room rows dups number tied room = (found_room rows dups number (dup_of number dups) tied refl room).0
+known_room rows dups tied room = (found_room rows _ _ tied refl room).0
 
 -- a dup with room has fewer items than there are references at most
-pub fewer_room : (rows : List Row) (dups : List Dup) (number : ℕ) → AreTied rows dups → HasRoom rows (dup_rows dups) number
+pub fewer_room : (rows : List Row) (dups : List Dup) {number : ℕ} → AreTied rows dups → HasRoom rows (dup_rows dups) number
     → length (items_numbered number dups) < MOST_REFERENCES
-fewer_room rows dups number tied room = (found_room rows dups number (dup_of number dups) tied refl room).1
+fewer_room rows dups tied room = (found_room rows _ _ tied refl room).1
 
-in_state : (of : ℕ → Option ℕ) (number : ℕ) (state : PageState) (own : Option ℕ) → merged_into number state ≡ true
-    → frame_seen of state own ≡ of number
-in_state of number Private own is = absurd (true≢false (sym is))
-in_state of number Waiting own is = absurd (true≢false (sym is))
-in_state of number Zero own is = absurd (true≢false (sym is))
-in_state of number (Merged n) own is = ap of (eqb-true n number is)
-
-item_seat : (of : ℕ → Option ℕ) (number : ℕ) (r : Row) → merged_into number r.state ≡ true → (o : Option Held)
+item_seat : (of : ℕ → Option ℕ) (number : ℕ) {r : Row} → merged_into number r.state ≡ true → (o : Option Held)
     → option_map (λ (h : Held). h.row) o ≡ Some r → seat of o ≡ of number
-item_seat of number r merged None is = absurd (none-some r is)
-item_seat of number r merged (Some h) is =
-    in_state of number h.row.state h.frame (ap (λ (x : Row). merged_into number x.state) (same_Some h.row r is) ∙ merged)
+item_seat of number merged o is = grind (arith, nat_tests, merged, is)
 
 -- an item of a dup lies where all its items do
 pub item_lies : (of : ℕ → Option ℕ) (held : List Held) → InPageOrder (rows_of held) → (number : ℕ)
     → All (λ r. merged_into number r.state ≡ true → frame_of (lodgings_of of held) r.page ≡ of number) (rows_of held)
 item_lies of held rise number k d lt merged =
     let r = get_or (rows_of held) k d in
-    frame_by of held r.page ∙ item_seat of number r merged (held_at r.page held) (sym (found_rows r.page held) ∙ each_at_page (rows_of held) rise k d lt)
+    frame_by of held _ ∙ item_seat of _ merged _ (sym (found_rows _ held) ∙ each_at_page _ rise k d lt)
 
 -- a page with a frame of its own lies on that frame
 pub own_seat : (of : ℕ → Option ℕ) (pass : ℕ) (e : Entry) → shared_state (held_of pass e).row.state ≡ false
     → seat of (Some (held_of pass e)) ≡ Some e.at
-own_seat of pass e alone = ap (λ k. frame_seen of (state_of k e.number pass) (own_frame k e.at)) (own_kind e.kind e.number pass alone)
-    ∙ own_either (λ state. frame_seen of state (Some e.at) ≡ Some e.at) refl refl (e.number == pass)
+own_seat of pass e alone = grind (arith, nat_tests, alone)
 
-module _ (s : Inside) (are : AreLawful s) (page : GuestPage) (h : Held) (found : held_at page s.rows.held ≡ Some h)
+module _ (s : Inside) (are : AreLawful s) (page : GuestPage) {h : Held} (found : held_at page s.rows.held ≡ Some h)
     (alone : shared_state h.row.state ≡ false) (number : ℕ)
-    (joined later : DupsState) (into : joined ≡ record s.dups { dups = change_items number (with_item page) s.dups.dups })
+    {joined later : DupsState} (into : joined ≡ record s.dups { dups = change_items number (with_item page) s.dups.dups })
     (out : later ≡ record joined { dups = let_out h.row.state h.row.page joined.dups; waiting = later.waiting })
     (stopped : IsStopped s.knobs h.row joined.waiting later.waiting) where
   now_in : later.dups ≡ change_items number (with_item page) s.dups.dups
-  now_in = ap (λ (d : DupsState). d.dups) out ∙ let_out_alone h.row.state h.row.page joined.dups alone ∙ ap (λ (d : DupsState). d.dups) into
+  now_in = grind (arith, nat_tests)
 
   joined_dups : dup_rows later.dups ≡ dup_rows s.dups.dups
-  joined_dups = ap dup_rows now_in ∙ rows_items number (with_item page) s.dups.dups
+  joined_dups = ap dup_rows now_in ∙ rows_items _ _ _
 
   joined_next : later.next ≡ s.dups.next
-  joined_next = ap (λ (d : DupsState). d.next) out ∙ ap (λ (d : DupsState). d.next) into
+  joined_next = grind (arith, nat_tests)
 
   -- the pages are lawful once a page with a frame of its own joined a dup
   pub lawful_joined : (rows : RowsView) → rows.held ≡ change_held page (mapped (Merged number) None) s.rows.held
       → AreKept s.shape s.knobs (rows_of rows.held) later s.frames.items
   lawful_joined rows turned =
       let before = rows_of s.rows.held in
-      let item : Row = record h.row { state = Merged number } in
-      let at : h.row.page ≡ page = of_page s are page h found in
-      lawful_turned s are page h found (mapped (Merged number) None) (λ r. record r { state = Merged number }) (λ x. refl)
-      (λ r. refl) rows turned later
-      (ap (λ (d : DupsState). d.places) out ∙ ap (λ (d : DupsState). d.places) into)
-      (subst (AreTied (change_row page (λ _. item) before)) (sym now_in)
-      (tied_joined before page h.row are.order (row_there s are page h found) item number s.dups.dups
-      (own_not_merged h.row.state alone) at refl are.tied))
-      (subst (λ q. AreWaiting s.knobs (change_row q (λ _. item) before) later.waiting) at
-      (row_stopped s.knobs before s.dups.waiting are.waits later.waiting item h.row
-      (ap (λ q. row_at q before) at ∙ row_there s are page h found) refl
-      (subst (λ w. IsStopped s.knobs h.row w later.waiting) (ap (λ (d : DupsState). d.waiting) into) stopped)))
+      let item = record h.row { state = Merged number } in
+      let at = of_page s are _ found in
+      lawful_turned s are _ found (mapped (Merged number) None) (λ r. record r { state = Merged number }) (λ x. refl)
+      (λ r. refl) rows turned ((λ i. (out i).places) ∙ (λ i. (into i).places))
+      (subst (AreTied (change_row page (λ _. item) before)) (sym now_in) (tied_joined _ _ _ are.order (row_there s are _ found) _ _ _
+      (own_not_merged _ alone) at refl are.tied)) (subst (λ q. AreWaiting s.knobs (change_row q (λ _. item) before) later.waiting) at
+      (row_stopped s.knobs _ _ are.waits _ _ _ (ap (λ q. row_at q before) at ∙ row_there s are _ found) refl
+      (subst (λ w. IsStopped s.knobs h.row w later.waiting) (λ i. (into i).waiting) stopped)))
 
   -- once a page joined a dup, it lies where the dup's items do, and else all is seen as it was
-  pub told_joined : (rows : RowsView) → rows ≡ record s.rows { held = change_held page (mapped (Merged number) None) s.rows.held }
-      → (p : PagesValue) → view_of s ≡ p
+  pub told_joined : {rows : RowsView} → rows ≡ record s.rows { held = change_held page (mapped (Merged number) None) s.rows.held }
+      → {p : PagesValue} → view_of s ≡ p
       → let now = seen (view_of (record s { rows = rows; dups = later })) in
       (now ≡ record (seen p) { rows = change_row page (λ r. record r { state = Merged number }) p.rows; frame = now.frame })
       × All (λ r. merged_into number r.state ≡ true → now.frame ≡ lies_on page ((seen p).frame r.page) (seen p).frame) p.rows
-  told_joined rows turned p seen_as =
+  told_joined {rows} turned {p} seen_as =
       let item : Row → Row = λ r. record r { state = Merged number } in
-      let lies_there : Frames = lies_on page (of_dup s number) (frame_of p.lodgings) in
-      let whole : seen (view_of (record s { rows = rows; dups = later })) ≡ record
-      (seen p) { rows = change_row page item p.rows; frame = lies_there } =
-      told s are page h found (mapped (Merged number) None) item (λ x. refl) (λ r. refl) rows
-      (ap (λ (r : RowsView). r.held) turned) p seen_as later joined_dups joined_next item refl (of_dup s number) refl
+      let lies_there = lies_on page (of_dup s number) (frame_of p.lodgings) in
+      let whole =
+      told s are _ found _ item (λ x. refl) (λ r. refl) rows (λ i. (turned i).held) seen_as later joined_dups joined_next _ refl refl
       ∙ ap (λ (l : Listing). record (seen p) { rows = change_row page item p.rows; frame = lies_there; restless = l })
-      (ap (λ (r : RowsView). r.restless) turned ∙ ap (λ (v : PagesValue). v.restless) seen_as) in
+      ((λ i. (turned i).restless) ∙ (λ i. (seen_as i).restless)) in
       let frame : frame_of (lodgings_of (lodging (dup_rows later.dups) s.frames.items) rows.held) ≡ lies_there = ap
       (λ (v : PagesView). v.frame) whole in
       let lain = subst (λ (v : PagesValue). All
       (λ r. merged_into number r.state ≡ true → frame_of v.lodgings r.page ≡ of_dup s number) v.rows) seen_as
-      (item_lies (of_dup s) s.rows.held are.order number) in (
+      (item_lies _ _ are.order _) in (
         whole ∙ (λ i. record (seen p) { rows = change_row page item p.rows; frame = sym frame i }),
         λ k r lt merged. frame ∙ ap (λ o. lies_on page o (frame_of p.lodgings)) (sym (lain k r lt merged)),
       )

@@ -24,7 +24,7 @@ module _ {X : Type 0} (key : X → GuestPage) where
     pub parted_behind : (xs : List X) → AllPairs Before xs → IsPartitionedBy (λ y. not (high y)) xs
     parted_behind xs rise i j d le lt later =
         elim (cases_lt i j) [
-          | inl less ↦ elim (cases_Bool (high (get_or xs i d))) [
+          | inl less ↦ elim (cases_Bool _) [
             | inl first ↦ absurd (both_ways (high (get_or xs j d)) (not-true _ later) (pages_ordered.trans page (key (get_or xs i d)) (key (get_or xs j d)) first (rise i j d less lt)))
             | inr fine ↦ ap not fine
           ]
@@ -35,7 +35,7 @@ module _ {X : Type 0} (key : X → GuestPage) where
     pub kept_all : (f : X → X) (ys : List X) → All (λ z. is_it z ≡ false) ys → map (λ y. if is_it y then f y else y) ys ≡ ys
     kept_all f [] none = refl
     kept_all f (y ∷ ys) none =
-        let here : is_it y ≡ false = none 0 y (omega arith) in
+        let here = none 0 y (omega arith) in
         let rest = kept_all f ys (λ k d lt. none (suc k) d (omega arith)) in
         grind (arith, here, rest)
 
@@ -44,26 +44,26 @@ module _ {X : Type 0} (key : X → GuestPage) where
       pub changed_between : (f : X → X) → map (λ y. if is_it y then f y else y) (xs ++ (run ++ ys)) ≡ xs ++ (map (λ y. if is_it y then f y else y) run ++ ys)
       changed_between f =
           let change = λ (y : X). if is_it y then f y else y in
-          let e = kept_all f xs (none_same_low pages_ordered key page xs ahead) in
-          let g = kept_all f ys (none_same pages_ordered key page ys behind) in
+          let e = kept_all f _ (none_same_low pages_ordered key page _ ahead) in
+          let g = kept_all f _ (none_same pages_ordered key page _ behind) in
           map-append change xs (run ++ ys)
           ∙ ap₂ (λ front back. front ++ back) e (map-append change run ys ∙ ap (λ back. map change run ++ back) g)
 
     -- a change of a page that is not there leaves the list
-    pub absent_unchanged : (f : X → X) (xs : List X) → find is_it xs ≡ None → xs ≡ map (λ y. if is_it y then f y else y) xs
-    absent_unchanged f xs absent = sym (kept_all f xs (find_none is_it xs absent))
+    pub absent_unchanged : (f : X → X) {xs : List X} → find is_it xs ≡ None → xs ≡ map (λ y. if is_it y then f y else y) xs
+    absent_unchanged f absent = sym (kept_all f _ (find_none _ _ absent))
 
     -- a write behind those before a page that is there changes the element of that page, and no other
-    pub write_at : (f : X → X) (xs : List X) → AllPairs Before xs → {s t : List X} → s ≡ xs → t ≡ xs → {n : ℕ} → n ≡ place s → (d : X) → n < length t
+    pub write_at : (f : X → X) {xs : List X} → AllPairs Before xs → {s t : List X} → s ≡ xs → t ≡ xs → {n : ℕ} → n ≡ place s → (d : X) → n < length t
         → is_it (get_or t n d) ≡ true → set xs n (f (get_or xs n d)) ≡ map (λ y. if is_it y then f y else y) xs
-    write_at f xs rise {s} {t} read again {n} count d within here =
+    write_at f {xs} rise {s} {t} read again {n} count d within here =
         let x = get_or xs n d in
-        let split = found_parts pages_ordered key page xs x rise (found_at pages_ordered key page xs rise read again count d within here) in
+        let split = found_parts pages_ordered key page _ x rise (found_at pages_ordered key page _ rise read again count d within here) in
         ap (λ i. set xs i (f x)) (count ∙ ap place read)
         ∙ ap (λ ys. set ys (place xs) (f x)) split
         ∙ set-append_seam (filter low xs) x (filter high xs) (f x)
         ∙ ap (λ b. filter low xs ++ cond b (f x) x ∷ filter high xs) (sym here ∙ ap (λ ys. is_it (get_or ys n d)) again)
-        ∙ sym (changed_between (filter low xs) (x ∷ []) (filter high xs) (filter_passes low xs) (filter_passes high xs) f)
+        ∙ sym (changed_between _ (x ∷ []) _ (filter_passes low xs) (filter_passes high xs) f)
         ∙ ap (map (λ y. if is_it y then f y else y)) (sym split)
 
     -- a list in order stays in order where the element of a page is changed, but for its page
@@ -79,4 +79,4 @@ module _ {X : Type 0} (key : X → GuestPage) where
     pub length_with : (x : X) (xs : List X) → AllPairs Before xs → find is_it xs ≡ None → length (filter low xs ++ x ∷ filter high xs) ≡ length xs + 1
     length_with x xs rise absent =
         let few : place xs ≤ length xs = omega (arith, length-filter low xs, count_by-le-length low xs) in
-        ap length (sym (insert_at pages_ordered key page xs rise refl refl refl x absent)) ∙ length-insert xs (place xs) x few
+        ap length (sym (insert_at pages_ordered key page xs rise refl refl refl x absent)) ∙ length-insert _ _ _ few

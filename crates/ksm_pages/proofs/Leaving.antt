@@ -1,8 +1,7 @@
 -- The pages once the row of one page changed, or went: they are lawful still, and what is seen of them is changed so.
-use Rattle.ksm_pages.proofs.Names.{ap, ap₂, AreKept, AreTied, AreWaiting, change_held, change_row, cond, DupsState, false, find_passes, frame_of, Frames, GuestPage, Held, held_at, holds, if◌then◌else◌, InPageOrder, Inside, is_some, IsAlone, IsKnown, IsStopped, let_out, lies_on, List, lodging, lodgings_of, MatchOption, merged_state, None, Option, option_map, ordered_map, ordered_without, PagesValue, Row, row_at, row_dropped, row_stopped, rows_of, rows_out, RowsView, same_page, same_page_eq, seen, shared_state, Some, subst, sym, tied_dropped, tied_left, true, waiting_state, without_held, without_page, ℕ, ◌∙◌, ◌≡◌, cond_both, refl}
+use Rattle.ksm_pages.proofs.Names.{ap, ap₂, AreKept, AreTied, AreWaiting, arith, change_held, change_row, DupsState, false, find_passes, frame_of, Frames, GuestPage, Held, held_at, holds, if◌then◌else◌, InPageOrder, Inside, is_some, IsAlone, IsKnown, IsStopped, let_out, lies_on, List, lodging, lodgings_of, MatchOption, merged_state, nat_tests, None, Option, option_map, ordered_map, ordered_without, PagesValue, Row, row_at, row_dropped, row_stopped, rows_of, rows_out, RowsView, same_page, same_page_eq, seen, shared_state, Some, subst, sym, tied_dropped, tied_left, true, waiting_state, without_held, without_page, ℕ, ◌∙◌, ◌≡◌}
 use Rattle.ksm_tree.specs.Dups.{rows_of as dup_rows}
 use Rattle.ksm_tree.proofs.Alike.{map_mapped}
-use Rattle.ksm_tree.proofs.Indexed.{cond_if}
 use Rattle.ksm_pages.proofs.Changing.{row_told, rows_changed, rows_without}
 use Rattle.ksm_pages.proofs.Lodgings.{changed_to, frame_by, lodged_changed, lodged_gone, seat}
 
@@ -28,30 +27,22 @@ AreLawful s = AreKept s.shape s.knobs (rows_of s.rows.held) s.dups s.frames.item
 
 -- two changes of what is held of a page, one after the other, are one change
 pub held_twice : (page : GuestPage) (f g : Held → Held) → ((h : Held) → (f h).row.page ≡ h.row.page) → (held : List Held) → change_held page g (change_held page f held) ≡ change_held page (λ h. g (f h)) held
-held_twice page f g same held =
-    map_mapped (λ h. if holds page h then g h else h) (λ h. if holds page h then f h else h) (λ h. if holds page h then g (f h) else h) held (λ k d lt. at _)
+held_twice page f g same held = map_mapped _ _ _ _ (λ k d lt. at _)
   where
     at : (h : Held) → (λ (x : Held). if holds page x then g x else x) (if holds page h then f h else h) ≡ (if holds page h then g (f h) else h)
-    at h =
-        let then_g : Held → Held = λ x. cond (holds page x) (g x) x in
-        cond_if (holds page h) (g (f h)) h (then_g (cond (holds page h) (f h) h))
-        (λ yes_it. ap (λ b. then_g (cond b (f h) h)) yes_it ∙ ap (λ b. cond b (g (f h)) (f h)) (ap (λ q. same_page q page) (same h) ∙ yes_it))
-        (λ not_it. ap (λ b. then_g (cond b (f h) h)) not_it ∙ ap (λ b. cond b (g h) h) not_it)
+    at h = grind (arith, nat_tests)
 
 -- a page that comes to lie where it lay does not move
-pub lies_same : (page : GuestPage) (frames : Frames) → lies_on page (frames page) frames ≡ frames
-lies_same page frames = λ i p. at p i
-  where
-    at : (p : GuestPage) → (if same_page p page then frames page else frames p) ≡ frames p
-    at p = cond_both (same_page p page) (frames page) (frames p) (λ o. o ≡ frames p) (λ yes_it. ap frames (sym (same_page_eq p page yes_it))) (λ _. refl)
+pub lies_same : (page : GuestPage) {frames : Frames} → lies_on page (frames page) frames ≡ frames
+lies_same page = grind (arith, nat_tests)
 
-module _ (s : Inside) (p : PagesValue) (seen_as : view_of s ≡ p) (page : GuestPage) where
+module _ (s : Inside) {p : PagesValue} (seen_as : view_of s ≡ p) (page : GuestPage) where
   rows_seen : rows_of s.rows.held ≡ p.rows
-  rows_seen = ap (λ (v : PagesValue). v.rows) seen_as
+  rows_seen = λ i. (seen_as i).rows
 
   -- the row of a page that is seen is the row of what is held of the page
   pub row_seen : {o : Option Held} → held_at page s.rows.held ≡ o → row_at page p.rows ≡ option_map (λ g. g.row) o
-  row_seen is = ap (row_at page) (sym rows_seen) ∙ row_told page s.rows.held is
+  row_seen is = ap (row_at page) (sym rows_seen) ∙ row_told page _ is
 
   -- a page that has a row among those seen is held
   pub known_there : held_at page s.rows.held ≡ None → IsKnown page p.rows → true ≡ false
@@ -62,61 +53,61 @@ module _ (s : Inside) (p : PagesValue) (seen_as : view_of s ≡ p) (page : Guest
   alone_there gone alone = subst (λ o. MatchOption o (true ≡ false) (λ (r : Row). shared_state r.state ≡ false)) (row_seen gone) alone
 
   -- what is held of a page with a frame of its own has a row that is not shared
-  pub alone_found : (h : Held) → held_at page s.rows.held ≡ Some h → IsAlone page p.rows → shared_state h.row.state ≡ false
-  alone_found h found alone = subst (λ o. MatchOption o (true ≡ false) (λ (r : Row). shared_state r.state ≡ false)) (row_seen found) alone
+  pub alone_found : {h : Held} → held_at page s.rows.held ≡ Some h → IsAlone page p.rows → shared_state h.row.state ≡ false
+  alone_found found alone = subst (λ o. MatchOption o (true ≡ false) (λ (r : Row). shared_state r.state ≡ false)) (row_seen found) alone
 
-module _ (s : Inside) (are : AreLawful s) (page : GuestPage) (h : Held) (found : held_at page s.rows.held ≡ Some h) where
+module _ (s : Inside) (are : AreLawful s) (page : GuestPage) {h : Held} (found : held_at page s.rows.held ≡ Some h) where
   abbrev old : Row
   old = h.row
 
   -- what is held of a page tells its row among the rows
   pub row_there : row_at page (rows_of s.rows.held) ≡ Some old
-  row_there = row_told page s.rows.held found
+  row_there = row_told page _ found
 
   -- the row that is held of a page is of that page
   pub of_page : old.page ≡ page
-  of_page = same_page_eq old.page page (find_passes (λ r. same_page r.page page) (rows_of s.rows.held) old row_there)
+  of_page = same_page_eq _ _ (find_passes (λ r. same_page r.page page) (rows_of s.rows.held) _ row_there)
 
-  module _ (p : PagesValue) (seen_as : view_of s ≡ p) where
+  module _ {p : PagesValue} (seen_as : view_of s ≡ p) where
     -- the page lies where its row says
     pub lies : seat (of_dup s) (Some h) ≡ frame_of p.lodgings page
-    lies = ap (seat (of_dup s)) (sym found) ∙ sym (frame_by (of_dup s) s.rows.held page) ∙ ap (λ (v : PagesValue). frame_of v.lodgings page) seen_as
+    lies = ap (seat (of_dup s)) (sym found) ∙ sym (frame_by _ _ page) ∙ (λ i. frame_of (seen_as i).lodgings page)
 
   module _ (f : Held → Held) (g : Row → Row) (is : (x : Held) → (f x).row ≡ g x.row) (same : (r : Row) → (g r).page ≡ r.page) (rows : RowsView) (turned : rows.held ≡ change_held page f s.rows.held) where
     -- once a page's row changed, the rows are those with the new row in place of the old one
     pub rows_turned : rows_of rows.held ≡ change_row page (λ _. g old) (rows_of s.rows.held)
-    rows_turned = ap rows_of turned ∙ rows_changed page f g s.rows.held is ∙ changed_to page g (rows_of s.rows.held) old are.order row_there
+    rows_turned = ap rows_of turned ∙ rows_changed _ f g _ is ∙ changed_to _ _ _ are.order row_there
 
     -- a change of the row of one page alone leaves the page of every row
     pub keeps : (r : Row) → (if same_page r.page page then g r else r).page ≡ r.page
-    keeps r = cond_both (same_page r.page page) (g r) r (λ x. x.page ≡ r.page) (λ _. same r) (λ _. refl)
+    keeps r = grind (arith, nat_tests)
 
     -- once a page's row changed, the pages are lawful if the dups and waiting pages are those of the new rows
-    pub lawful_turned : (later : DupsState) → later.places ≡ s.dups.places → AreTied (change_row page (λ _. g old) (rows_of s.rows.held)) later.dups
+    pub lawful_turned : {later : DupsState} → later.places ≡ s.dups.places → AreTied (change_row page (λ _. g old) (rows_of s.rows.held)) later.dups
         → AreWaiting s.knobs (change_row page (λ _. g old) (rows_of s.rows.held)) later.waiting → AreKept s.shape s.knobs (rows_of rows.held) later s.frames.items
-    lawful_turned later places tied waits =
-        let changed : change_row page (λ _. g old) (rows_of s.rows.held) ≡ rows_of rows.held = sym rows_turned in
-        let as_map = changed_to page g (rows_of s.rows.held) old are.order row_there in
+    lawful_turned {later} places tied waits =
+        let changed = sym rows_turned in
+        let as_map = changed_to _ _ _ are.order row_there in
         record {
           small = are.small;
-          order = subst InPageOrder (as_map ∙ changed) (ordered_map (λ r. if same_page r.page page then g r else r) (rows_of s.rows.held) keeps are.order);
+          order = subst InPageOrder (as_map ∙ changed) (ordered_map _ _ keeps are.order);
           tied = subst (λ rs. AreTied rs later.dups) changed tied;
           places = places ∙ are.places;
           waits = subst (λ rs. AreWaiting s.knobs rs later.waiting) changed waits;
           room = are.room;
         }
 
-    module _ (p : PagesValue) (seen_as : view_of s ≡ p) (later : DupsState) (dups : dup_rows later.dups ≡ dup_rows s.dups.dups) (next : later.next ≡ s.dups.next)
+    module _ {p : PagesValue} (seen_as : view_of s ≡ p) (later : DupsState) (dups : dup_rows later.dups ≡ dup_rows s.dups.dups) (next : later.next ≡ s.dups.next)
         (to : Row → Row) (agree : g old ≡ to old) where
       -- once a page's row changed, the page is seen with the new row, on the frame that the new row says
-      pub told : (frame : Option ℕ) → seat (of_dup s) (Some (f h)) ≡ frame
+      pub told : {frame : Option ℕ} → seat (of_dup s) (Some (f h)) ≡ frame
           → seen (view_of (record s { rows = rows; dups = later })) ≡ record (seen p) { rows = change_row page to p.rows; frame = lies_on page frame (frame_of p.lodgings); restless = rows.restless }
-      told frame lodged =
+      told {frame} lodged =
           let before = rows_of s.rows.held in
-          let new : rows_of rows.held ≡ change_row page to before = rows_turned ∙ ap (λ r. change_row page (λ _. r) before) agree ∙ sym (changed_to page to before old are.order row_there) in
-          let lain : frame_of (lodgings_of (lodging (dup_rows later.dups) s.frames.items) rows.held) ≡ lies_on page frame (frame_of (lodgings_of (of_dup s) s.rows.held)) =
+          let new = rows_turned ∙ ap (λ r. change_row page (λ _. r) before) agree ∙ sym (changed_to _ _ _ are.order row_there) in
+          let lain =
           ap₂ (λ ds held. frame_of (lodgings_of (lodging ds s.frames.items) held)) dups turned
-          ∙ lodged_changed page f (λ x. ap (λ (r : Row). r.page) (is x) ∙ same x.row) (of_dup s) s.rows.held h found
+          ∙ lodged_changed _ f (λ x. (λ i. (is x i).page) ∙ same x.row) _ _ found
           ∙ ap (λ o. lies_on page o (frame_of (lodgings_of (of_dup s) s.rows.held))) lodged in
           (λ i. record (seen (view_of (record s { rows = rows; dups = later }))) { rows = new i; frame = lain i; dups = dups i; next = next i })
           ∙ ap (λ (v : PagesValue). record (seen v) { rows = change_row page to v.rows; frame = lies_on page frame (frame_of v.lodgings); restless = rows.restless }) seen_as
@@ -125,56 +116,56 @@ module _ (s : Inside) (are : AreLawful s) (page : GuestPage) (h : Held) (found :
       pub told_still : seat (of_dup s) (Some (f h)) ≡ seat (of_dup s) (Some h)
           → seen (view_of (record s { rows = rows; dups = later })) ≡ record (seen p) { rows = change_row page to p.rows; restless = rows.restless }
       told_still stays =
-          told (frame_of p.lodgings page) (stays ∙ lies p seen_as)
-          ∙ ap (λ (frames : Frames). record (seen p) { rows = change_row page to p.rows; frame = frames; restless = rows.restless }) (lies_same page (frame_of p.lodgings))
+          told (stays ∙ lies seen_as)
+          ∙ ap (λ (frames : Frames). record (seen p) { rows = change_row page to p.rows; frame = frames; restless = rows.restless }) (lies_same _)
 
   -- the page left its dup, or stopped waiting
-  module _ (later : DupsState) (out : later ≡ record s.dups { dups = let_out old.state old.page s.dups.dups; waiting = later.waiting }) (stopped : IsStopped s.knobs old s.dups.waiting later.waiting) where
+  module _ {later : DupsState} (out : later ≡ record s.dups { dups = let_out old.state old.page s.dups.dups; waiting = later.waiting }) (stopped : IsStopped s.knobs old s.dups.waiting later.waiting) where
     -- once a page was let out, the dups are as they were, but for their items
     pub same_dups : dup_rows later.dups ≡ dup_rows s.dups.dups
-    same_dups = ap (λ (d : DupsState). dup_rows d.dups) out ∙ rows_out old.state old.page s.dups.dups
+    same_dups = (λ i. dup_rows (out i).dups) ∙ rows_out _ _ _
 
     -- once a page was let out, the number of the next dup is what it was
     pub same_next : later.next ≡ s.dups.next
-    same_next = ap (λ (d : DupsState). d.next) out
+    same_next = λ i. (out i).next
 
     dups_out : later.dups ≡ let_out old.state page s.dups.dups
-    dups_out = ap (λ (d : DupsState). d.dups) out ∙ ap (λ q. let_out old.state q s.dups.dups) of_page
+    dups_out = (λ i. (out i).dups) ∙ ap (λ q. let_out old.state q s.dups.dups) of_page
 
     -- once a page was let out and its new row is neither merged nor waiting, the pages are lawful
     pub lawful_left : (f : Held → Held) (g : Row → Row) → ((x : Held) → (f x).row ≡ g x.row) → ((r : Row) → (g r).page ≡ r.page) → (rows : RowsView) → rows.held ≡ change_held page f s.rows.held
         → merged_state (g old).state ≡ false → waiting_state (g old).state ≡ false → AreKept s.shape s.knobs (rows_of rows.held) later s.frames.items
     lawful_left f g is same rows turned alone still =
         let before = rows_of s.rows.held in
-        let at : (g old).page ≡ page = same old ∙ of_page in
-        lawful_turned f g is same rows turned later (ap (λ (d : DupsState). d.places) out)
-        (subst (AreTied (change_row page (λ _. g old) before)) (sym dups_out) (tied_left before page old are.order row_there (g old) s.dups.dups alone are.tied))
+        let at = same old ∙ of_page in
+        lawful_turned f g is same rows turned (λ i. (out i).places)
+        (subst (AreTied (change_row page (λ _. g old) before)) (sym dups_out) (tied_left _ _ _ are.order row_there _ _ alone are.tied))
         (subst (λ q. AreWaiting s.knobs (change_row q (λ _. g old) before) later.waiting) at
-        (row_stopped s.knobs before s.dups.waiting are.waits later.waiting (g old) old (ap (λ q. row_at q before) at ∙ row_there) still stopped))
+        (row_stopped s.knobs _ _ are.waits _ _ _ (ap (λ q. row_at q before) at ∙ row_there) still stopped))
 
     module _ (rows : RowsView) (gone : rows.held ≡ without_held page s.rows.held) where
       rows_gone : rows_of rows.held ≡ without_page page (rows_of s.rows.held)
-      rows_gone = ap rows_of gone ∙ rows_without page s.rows.held
+      rows_gone = ap rows_of gone ∙ rows_without page _
 
       -- once a page was let out and its row is gone, the pages are lawful
       pub lawful_gone : AreKept s.shape s.knobs (rows_of rows.held) later s.frames.items
       lawful_gone =
           let before = rows_of s.rows.held in
-          let to : without_page page before ≡ rows_of rows.held = sym rows_gone in
+          let to = sym rows_gone in
           record {
             small = are.small;
-            order = subst InPageOrder to (ordered_without page before are.order);
-            tied = subst (λ rs. AreTied rs later.dups) to (subst (AreTied (without_page page before)) (sym dups_out) (tied_dropped before page old are.order row_there s.dups.dups are.tied));
-            places = ap (λ (d : DupsState). d.places) out ∙ are.places;
-            waits = subst (λ rs. AreWaiting s.knobs rs later.waiting) to (row_dropped s.knobs before s.dups.waiting are.waits later.waiting page old row_there stopped);
+            order = subst InPageOrder to (ordered_without _ _ are.order);
+            tied = subst (λ rs. AreTied rs later.dups) to (subst (AreTied (without_page page before)) (sym dups_out) (tied_dropped _ _ _ are.order row_there _ are.tied));
+            places = (λ i. (out i).places) ∙ are.places;
+            waits = subst (λ rs. AreWaiting s.knobs rs later.waiting) to (row_dropped s.knobs _ _ are.waits _ _ _ row_there stopped);
             room = are.room;
           }
 
       -- once a page was let out and its row is gone, the page is seen without a row and lies on no frame
-      pub told_gone : (p : PagesValue) → view_of s ≡ p
+      pub told_gone : {p : PagesValue} → view_of s ≡ p
           → seen (view_of (record s { rows = rows; dups = later })) ≡ record (seen p) { rows = without_page page p.rows; frame = lies_on page None (frame_of p.lodgings); restless = rows.restless }
-      told_gone p seen_as =
-          let lain : frame_of (lodgings_of (lodging (dup_rows later.dups) s.frames.items) rows.held) ≡ lies_on page None (frame_of (lodgings_of (of_dup s) s.rows.held)) =
-          ap₂ (λ ds held. frame_of (lodgings_of (lodging ds s.frames.items) held)) same_dups gone ∙ lodged_gone page (of_dup s) s.rows.held in
+      told_gone seen_as =
+          let lain =
+          ap₂ (λ ds held. frame_of (lodgings_of (lodging ds s.frames.items) held)) same_dups gone ∙ lodged_gone _ _ _ in
           (λ i. record (seen (view_of (record s { rows = rows; dups = later }))) { rows = rows_gone i; frame = lain i; dups = same_dups i; next = same_next i })
           ∙ ap (λ (v : PagesValue). record (seen v) { rows = without_page page v.rows; frame = lies_on page None (frame_of v.lodgings); restless = rows.restless }) seen_as

@@ -1,5 +1,5 @@
 -- Where the pages lie, once the row of one was changed, came or went, and the dups kept their frames.
-use Rattle.ksm_pages.proofs.Names.{All, ap, change_held, change_row, cond, find_all, find_passes, frame_of, frame_seen, get_or, GuestPage, Held, held_at, holds, if◌then◌else◌, InPageOrder, lies_on, List, Lodging, lodgings_of, None, one_of_each_page, Option, option_and_then, option_map, refl, Row, row_at, same_page, same_page_eq, same_page_sym, Some, sym, true, without_held, ℕ, ◌∙◌, ◌≡◌, false}
+use Rattle.ksm_pages.proofs.Names.{All, ap, change_held, change_row, cond, find_all, find_passes, frame_of, frame_seen, GuestPage, Held, held_at, holds, if◌then◌else◌, InPageOrder, lies_on, List, Lodging, lodgings_of, None, one_of_each_page, Option, option_and_then, option_map, refl, Row, row_at, same_page, same_page_eq, same_page_sym, Some, sym, true, without_held, ℕ, ◌∙◌, ◌≡◌, false}
 use Rattle.ksm_tree.proofs.Alike.{find_mapped, map_alike}
 use Rattle.ksm_tree.proofs.Indexed.{cond_if}
 use Rattle.ksm_pages.proofs.Found.{find_changed, find_changed_other, find_gone, find_gone_other}
@@ -15,7 +15,7 @@ lodging_by of_dup h = record { page = h.row.page; frame = frame_seen of_dup h.ro
 -- a page lies where what is held of it says
 pub frame_by : (of_dup : ℕ → Option ℕ) (held : List Held) (page : GuestPage) → frame_of (lodgings_of of_dup held) page ≡ seat of_dup (held_at page held)
 frame_by of_dup held page =
-    ap (option_and_then (λ (l : Lodging). l.frame)) (find_mapped (lodging_by of_dup) (λ l. same_page l.page page) (holds page) held (λ k d lt. refl))
+    ap (option_and_then (λ (l : Lodging). l.frame)) (find_mapped _ (λ l. same_page l.page page) (holds page) _ (λ k d lt. refl))
     ∙ go (held_at page held)
   where
     go : (o : Option Held) → option_and_then (λ (l : Lodging). l.frame) (option_map (lodging_by of_dup) o) ≡ seat of_dup o
@@ -30,38 +30,34 @@ lodged_one of_dup page held later {o} here others = λ i p. at p i
   where
     at : (p : GuestPage) → frame_of (lodgings_of of_dup later) p ≡ (if same_page p page then seat of_dup o else frame_of (lodgings_of of_dup held) p)
     at p =
-        cond_if (same_page p page) (seat of_dup o) (frame_of (lodgings_of of_dup held) p) (frame_of (lodgings_of of_dup later) p)
-        (λ yes_it. ap (frame_of (lodgings_of of_dup later)) (same_page_eq p page yes_it) ∙ frame_by of_dup later page ∙ ap (seat of_dup) here)
-        (λ not_it. frame_by of_dup later p ∙ ap (seat of_dup) (others p (same_page_sym page p ∙ not_it)) ∙ sym (frame_by of_dup held p))
+        cond_if _ _ _ _
+        (λ yes_it. ap (frame_of (lodgings_of of_dup later)) (same_page_eq p _ yes_it) ∙ frame_by _ later _ ∙ ap (seat of_dup) here)
+        (λ not_it. frame_by _ later p ∙ ap (seat of_dup) (others p (same_page_sym page p ∙ not_it)) ∙ sym (frame_by _ held p))
 
 abbrev page_of : Held → GuestPage
 page_of h = h.row.page
 
 -- the page comes to lie where its changed row says, and no other page moves
-pub lodged_changed : (page : GuestPage) (f : Held → Held) → ((h : Held) → (f h).row.page ≡ h.row.page) → (of_dup : ℕ → Option ℕ) (held : List Held) (h : Held)
+pub lodged_changed : (page : GuestPage) (f : Held → Held) → ((h : Held) → (f h).row.page ≡ h.row.page) → (of_dup : ℕ → Option ℕ) (held : List Held) {h : Held}
     → held_at page held ≡ Some h → frame_of (lodgings_of of_dup (change_held page f held)) ≡ lies_on page (seat of_dup (Some (f h))) (frame_of (lodgings_of of_dup held))
-lodged_changed page f same of_dup held h found =
-    lodged_one of_dup page held (change_held page f held) (find_changed page_of page f same held h found)
-    (λ p apart. find_changed_other page_of page f same p held apart)
+lodged_changed page f same of_dup held found =
+    lodged_one _ _ _ _ (find_changed _ page f same _ _ found) (λ p apart. find_changed_other _ _ f same p _ apart)
 
 -- a page whose row is gone lies on no frame
 pub lodged_gone : (page : GuestPage) (of_dup : ℕ → Option ℕ) (held : List Held) → frame_of (lodgings_of of_dup (without_held page held)) ≡ lies_on page None (frame_of (lodgings_of of_dup held))
-lodged_gone page of_dup held =
-    lodged_one of_dup page held (without_held page held) (find_gone page_of page held) (λ p apart. find_gone_other page_of page p held apart)
+lodged_gone page of_dup held = lodged_one _ _ _ _ (find_gone page_of page _) (λ p apart. find_gone_other page_of _ p held apart)
 
 -- a change of the row of a page writes there what the change makes of the old row
-pub changed_to : (page : GuestPage) (g : Row → Row) (rows : List Row) (old : Row) → InPageOrder rows → row_at page rows ≡ Some old → change_row page g rows ≡ change_row page (λ _. g old) rows
-changed_to page g rows old rise found =
-    map_alike (λ r. if same_page r.page page then g r else r) (λ r. if same_page r.page page then g old else r) rows (λ k d lt. at (get_or rows k d) (only k d lt))
+pub changed_to : (page : GuestPage) (g : Row → Row) (rows : List Row) {old : Row} → InPageOrder rows → row_at page rows ≡ Some old → change_row page g rows ≡ change_row page (λ _. g old) rows
+changed_to page g rows {old} rise found = map_alike _ _ _ (λ k d lt. at _ (only k d lt))
   where
     at_page : same_page old.page page ≡ true
-    at_page = find_passes (λ r. same_page r.page page) rows old found
+    at_page = find_passes (λ r. same_page r.page page) _ _ found
 
     only : All (λ r. same_page r.page old.page ≡ true → r ≡ old) rows
-    only = find_all (λ r. same_page r.page page) (λ r. All (λ s. same_page s.page r.page ≡ true → s ≡ r) rows) rows old found (one_of_each_page rows rise)
+    only = find_all _ (λ r. All (λ s. same_page s.page r.page ≡ true → s ≡ r) rows) _ _ found (one_of_each_page _ rise)
 
     at : (r : Row) → (same_page r.page old.page ≡ true → r ≡ old) → (if same_page r.page page then g r else r) ≡ (if same_page r.page page then g old else r)
     at r is =
-        cond_if (same_page r.page page) (g old) r (cond (same_page r.page page) (g r) r)
-        (λ yes_it. ap (λ b. cond b (g r) r) yes_it ∙ ap g (is (ap (same_page r.page) (same_page_eq old.page page at_page) ∙ yes_it)))
+        cond_if _ _ _ _ (λ yes_it. ap (λ b. cond b (g r) r) yes_it ∙ ap g (is (ap (same_page r.page) (same_page_eq _ _ at_page) ∙ yes_it)))
         (λ not_it. ap (λ b. cond b (g r) r) not_it)

@@ -1,5 +1,5 @@
 -- The pages once the items of a dup went to another frame.
-use Rattle.ksm_pages.proofs.Names.{[], All, All-head, All-tail, ap, arith, cases_Bool, dup_numbered, DupRow, each_has_number, eq-eqb, eqb-true, false, find_all, find_passes, frame_of, frame_seen, get_or, Held, held_at, if◌then◌else◌, inl, InPlaceOrder, inr, is_item, items_on, length, List, list_any, lodging, lodgings_of, Merged, merged_into, None, one_of_each_place, Option, option_and_then, option_map, PageState, Private, refl, rows_of, set, slice_get, Some, subst, sym, true, Waiting, Zero, ℕ, ◌<◌, ◌==◌, ◌∙◌, ◌∷◌, ◌≡◌}
+use Rattle.ksm_pages.proofs.Names.{[], All, All-head, All-tail, ap, arith, cases_Bool, dup_numbered, DupRow, each_has_number, eq-eqb, eqb-true, false, find_all, find_passes, frame_of, frame_seen, Held, held_at, if◌then◌else◌, inl, InPlaceOrder, inr, is_item, items_on, length, List, list_any, lodging, lodgings_of, Merged, merged_into, None, one_of_each_place, Option, option_and_then, option_map, PageState, Private, refl, rows_of, set, slice_get, Some, subst, sym, true, Waiting, Zero, ℕ, ◌<◌, ◌==◌, ◌∙◌, ◌∷◌, ◌≡◌}
 use Rattle.ksm_tree.proofs.Indexed.{cond_if}
 use Rattle.ksm_pages.proofs.Changing.{row_found}
 use Rattle.ksm_pages.proofs.Filing.{differ_by}
@@ -9,9 +9,9 @@ use Rattle.ksm_pages.proofs.Paired.{set_away, set_there}
 -- a place where a dup stands is below the bound of all places
 pub any_below : (place n : ℕ) (dups : List DupRow) → All (λ d. d.place < n) dups → list_any (λ d. d.place == place) dups ≡ true → place < n
 any_below place n [] below there = cc
-any_below place n (d ∷ dups) below there = elim (cases_Bool (d.place == place)) [
-  | inl here ↦ subst (λ p. p < n) (eqb-true d.place place here) (All-head (λ e. e.place < n) d dups below)
-  | inr away ↦ any_below place n dups (All-tail (λ e. e.place < n) d dups below) (grind (arith, away, there))
+any_below place n (d ∷ dups) below there = elim (cases_Bool _) [
+  | inl here ↦ subst (λ p. p < n) (eqb-true d.place place here) (All-head (λ e. e.place < n) d _ below)
+  | inr away ↦ any_below _ n dups (All-tail (λ e. e.place < n) d dups below) (grind arith)
 ]
 
 module _ (dups : List DupRow) (rise : InPlaceOrder dups) (frames : List ℕ) (place frame : ℕ) (inside : place < length frames) where
@@ -21,22 +21,20 @@ module _ (dups : List DupRow) (rise : InPlaceOrder dups) (frames : List ℕ) (pl
   abbrev of_now : ℕ → Option ℕ
   of_now = lodging dups (set frames place frame)
 
-  module _ (d : DupRow) (at : d.place ≡ place) (found : dup_numbered d.number dups ≡ Some d)
+  module _ {d : DupRow} (at : d.place ≡ place) (found : dup_numbered d.number dups ≡ Some d)
       (one : All (λ e. (e.place == d.place) ≡ true → e ≡ d) dups) where
     moved : of_now d.number ≡ Some frame
     moved = ap (option_and_then (λ (e : DupRow). slice_get (set frames place frame) e.place)) found
-        ∙ ap (slice_get (set frames place frame)) at ∙ set_there frames place frame inside
+        ∙ ap (slice_get (set frames place frame)) at ∙ set_there _ _ inside
 
     stayed : (n : ℕ) → (n == d.number) ≡ false → of_now n ≡ of n
-    stayed n other = go (dup_numbered n dups) refl
+    stayed n other = go _ refl
       where
         go : (o : Option DupRow) → dup_numbered n dups ≡ o
             → option_and_then (λ e. slice_get (set frames place frame) e.place) o ≡ option_and_then (λ e. slice_get frames e.place) o
         go None is = refl
         go (Some e) is =
-            set_away frames place e.place frame
-            (λ same. differ_by n d.number other
-            (sym (eqb-true e.number n (find_passes (λ x. x.number == n) dups e is))
+            set_away _ _ _ _ (λ same. differ_by other (sym (eqb-true e.number n (find_passes (λ x. x.number == n) _ e is))
             ∙ ap (λ (x : DupRow). x.number)
             (find_all (λ x. x.number == n) (λ x. (x.place == d.place) ≡ true → x ≡ d) dups e is one
             (eq-eqb e.place d.place (same ∙ sym at)))))
@@ -51,7 +49,7 @@ module _ (dups : List DupRow) (rise : InPlaceOrder dups) (frames : List ℕ) (pl
         at_state Private own = refl
         at_state Waiting own = refl
         at_state Zero own = refl
-        at_state (Merged n) own = cond_if (n == d.number) (Some frame) (of n) (of_now n) (λ same. ap of_now (eqb-true n d.number same) ∙ moved) (stayed n)
+        at_state (Merged n) own = cond_if _ _ _ _ (λ same. ap of_now (eqb-true n d.number same) ∙ moved) (stayed n)
 
     lie_now : (held : List Held)
         → frame_of (lodgings_of of_now held) ≡ items_on d.number frame (rows_of held) (frame_of (lodgings_of of held))
@@ -62,4 +60,4 @@ module _ (dups : List DupRow) (rise : InPlaceOrder dups) (frames : List ℕ) (pl
   pub items_moved : (held : List Held)
       → All (λ d. d.place ≡ place
       → frame_of (lodgings_of of_now held) ≡ items_on d.number frame (rows_of held) (frame_of (lodgings_of of held))) dups
-  items_moved held k e lt at = lie_now (get_or dups k e) at (each_has_number dups rise k e lt) (one_of_each_place dups rise k e lt) held
+  items_moved held k e lt at = lie_now at (each_has_number _ rise k e lt) (one_of_each_place _ rise k e lt) _

@@ -1,7 +1,7 @@
 -- The definitions, and the laws of the libraries and crates below, by their names, for proofs.
-pub use Rattle.ksm_base.proofs.Edits.{count-append, count_none, find_all, find_filter, find_none, find_nothing, find_over, find_passes, none_counted}
+pub use Rattle.ksm_base.proofs.Edits.{count_none, find_all, find_filter, find_none, find_nothing, find_over, find_passes, none_counted}
 pub use Rattle.ksm_base.proofs.Orders.{each_has_number, filter_none, one_of_each_page, one_of_each_place, ordered_change, ordered_map, ordered_with, ordered_without, pairs_head, pairs_tail}
-pub use Rattle.ksm_base.proofs.Pages.{before_irrefl, before_trans, one_before, same_page_eq, same_page_refl, same_page_sym}
+pub use Rattle.ksm_base.proofs.Pages.{before_irrefl, one_before, same_page_eq, same_page_refl, same_page_sym}
 pub use Rattle.ksm_base.proofs.RowCounts.{each_at_page, filter_all}
 pub use Rattle.ksm_base.proofs.Sums.{states-add}
 pub use Rattle.ksm_base.specs.Apply.{fresh_row, let_go, stored, unshared}
@@ -20,8 +20,8 @@ pub use Rattle.ksm_base.specs.declared.row.Row.{Row}
 pub use Rattle.ksm_pages.specs.Filed.{AreBegun, AreFiled, AreListed, CanMove, held_in, held_under, is_useless, IsCalm, IsInVain, IsMoved, IsRows, IsTally, IsUnder, key_in, named_of, one_if}
 pub use Rattle.ksm_pages.specs.Held.{AreAllListed, AreInOrder, change_held, forgotten, Held, held_at, held_of, holds, is_own, is_restless, IsAddedTo, last_or, Listing, mapped, may_change, number_left, on_row, own_state, pages_ahead, pages_of, Reaches, rows_of, RowsView, state_of, with_held, without_held}
 pub use Rattle.ksm_pages.specs.Left.{IsLeft}
-pub use Rattle.ksm_pages.specs.Ordered.{ahead_of, AreAscending, ComesTo, is_of, IsOrder, key_of, marked, named_by, page_at, page_of, passed_to, visited, with_named, without_named}
-pub use Rattle.ksm_pages.specs.Paged.{AreKept, elsewhere, Finds, FindsAt, frame_of, frame_seen, Frames, HasRoom, is_item, is_next, IsAlone, IsHeld, IsKnown, IsVacant, items_on, last_page, lies_on, Lodging, lodging, lodgings_of, MayPair, of_guest, page_beside, PagesValue, PagesView, paired, rows_ahead, rows_between, seen}
+pub use Rattle.ksm_pages.specs.Ordered.{ahead_of, AreAscending, ComesTo, is_of, key_of, marked, named_by, page_at, page_of, passed_to, visited, with_named, without_named}
+pub use Rattle.ksm_pages.specs.Paged.{AreKept, elsewhere, Finds, FindsAt, frame_of, frame_seen, Frames, HasRoom, is_item, is_next, IsAlone, IsHeld, IsKnown, IsVacant, items_on, last_page, lies_on, Lodging, lodging, lodgings_of, MayPair, of_guest, page_beside, PagesValue, PagesView, paired, rows_between, seen}
 pub use Rattle.ksm_pages.specs.declared.ahead.Ahead.{Ahead}
 pub use Rattle.ksm_pages.specs.declared.ahead.Ahead.TheVariants.{At, End}
 pub use Rattle.ksm_pages.specs.declared.named.Named.{Named}
@@ -29,7 +29,6 @@ pub use Rattle.ksm_pages.specs.declared.pages.Find.{Find}
 pub use Rattle.ksm_pages.specs.declared.pages.Pages.TheInside.{Inside}
 pub use Rattle.ksm_pages.specs.declared.row.Entry.{Entry}
 pub use Rattle.ksm_pages.specs.declared.row.Kind.{Kind}
-pub use Rattle.ksm_pages.specs.declared.row.Kind.TheVariants.{Own}
 pub use Rattle.ksm_pages.specs.declared.row.Spot.{Spot}
 pub use Rattle.ksm_pages.specs.declared.tally.Tally.{Tally}
 pub use Rattle.ksm_rmap.proofs.Ordered.{point_is_count, with_found}
@@ -44,35 +43,28 @@ pub use Rattle.ksm_tree.proofs.Ties.{number_found, tied_absent, tied_count, tied
 pub use Rattle.ksm_tree.proofs.Waiters.{at_mapped, at_others, knobs_tuned, look_up_found, none_waiting, own_found, partner_found, row_begun, row_dropped, row_inserted, row_kept, row_stopped}
 pub use Rattle.ksm_tree.specs.Bridge.{AreTied, let_out}
 pub use Rattle.ksm_tree.specs.Choosing.{best_of, found_at}
-pub use Rattle.ksm_tree.specs.Dups.{AreDups, change_items, dup_at, dup_of, DupsState, has_number, is_live, is_stale, items_in, stands_at, with_new}
+pub use Rattle.ksm_tree.specs.Dups.{AreDups, change_items, dup_at, dup_of, DupsState, is_live, is_stale, items_in, stands_at, with_new}
 pub use Rattle.ksm_tree.specs.Numbered.{number_of}
 pub use Rattle.ksm_tree.specs.Waits.{AreWaiting, IsAdded, IsStopped, names, waiting_page, WaitingPage, waits_there}
-pub use Rattle.ksm_tree.specs.declared.choice.Choice.TheVariants.{Stale}
 pub use Rattle.ksm_tree.specs.declared.dup.Best.{Best}
 pub use Rattle.ksm_tree.specs.declared.dup.Dup.{Dup}
 pub use Rattle.slab.proofs.SlabLemmas.{Updates-with_value}
 pub use Rattle.slab.specs.Slab.{CalledAt, get, RetainsFrom, Slab, with_value}
-pub use Rattle.std.proofs.Common.{[], add-one, ap, ap₂, arith, Bool, drop, false, get_or, inl, inr, is_some, length, length-set, List, map, min, MutBor, ne_eqb, None, Option, refl, rules, Some, subst, suc, sym, take, tests, true, true≢false, zero, ℕ, ◌++◌, ◌+◌, ◌-◌, ◌<◌, ◌^◌, ◌∙◌, ◌∷◌, ◌≡◌, ◌≢◌, ◌≤◌, ◌⊎◌}
-pub use Rattle.std.proofs.Math.Bool.{not-not}
-pub use Rattle.std.proofs.Math.Seq.{get_or-append_seam, set-append_seam}
-pub use Rattle.std.proofs.lemmas.Bool.{and_parts, both_ways, cases_Bool, cases_lt, cond_above, cond_below, cond_both, eq-eqb, eqb-true, le-ltb, lt-ltb, ltb-false, ltb-true, not-false, not-true}
+pub use Rattle.std.proofs.Common.{[], add-one, ap, ap₂, arith, Bool, drop, false, get_or, inl, inr, is_some, length, length-set, List, map, MutBor, ne_eqb, None, Option, refl, rules, Some, subst, suc, sym, take, true, true≢false, zero, ℕ, ◌++◌, ◌+◌, ◌-◌, ◌<◌, ◌^◌, ◌∙◌, ◌∷◌, ◌≡◌, ◌≢◌, ◌≤◌, ◌⊎◌}
+pub use Rattle.std.proofs.Math.Seq.{set-append_seam}
+pub use Rattle.std.proofs.lemmas.Bool.{and_parts, both_ways, cases_Bool, cases_lt, cond_both, eq-eqb, eqb-true, le-ltb, not-true}
 pub use Rattle.std.proofs.lemmas.Bool.Decides.{Decides-eqb, nat_tests}
 pub use Rattle.std.proofs.lemmas.Fn.{filter_same}
-pub use Rattle.std.proofs.lemmas.Iterator.{YieldsList-from_slice}
-pub use Rattle.std.proofs.lemmas.Iterator.Consumers.{nth_from_yields_List, YieldsList-from_filter}
-pub use Rattle.std.proofs.lemmas.List.{append-nil, append_assoc, drop-set-lt, drop_all, drop_at, drop_more, get_or-set_same, get_or_append_left, get_or_at, get_or_default, length-append, length-drop, length-map, length-take-le, map-append, nil_from_length, set_split, take-append-drop, take-set, take_all, take_at, take_rest}
-pub use Rattle.std.proofs.lemmas.List.Concat.{flat_map-append}
-pub use Rattle.std.proofs.lemmas.List.Edits.{length-insert, length-remove}
-pub use Rattle.std.proofs.lemmas.List.Elements.{All-append, All-cons, All-drop, All-filter, All-head, All-map, All-nil, All-set, All-tail, All-take, filter-append, filter_passes}
-pub use Rattle.std.proofs.lemmas.List.Filters.{length-filter_both}
+pub use Rattle.std.proofs.lemmas.List.{append-nil, append_assoc, drop_all, get_or-set_same, get_or_default, length-append, length-map, length-take-le, map-append}
+pub use Rattle.std.proofs.lemmas.List.Edits.{length-insert}
+pub use Rattle.std.proofs.lemmas.List.Elements.{All-append, All-cons, All-filter, All-head, All-map, All-tail, filter_passes}
 pub use Rattle.std.proofs.lemmas.List.Folds.{find-append, list_any-append}
 pub use Rattle.std.proofs.lemmas.List.Kept.{AllPairs-filter}
 pub use Rattle.std.proofs.lemmas.List.Sorted.{IsPartitionPoint-from_clause}
-pub use Rattle.std.proofs.lemmas.List.Sums.{count_by-le-length, length-filter, sum_by-insert, sum_by-remove, sum_by-set}
+pub use Rattle.std.proofs.lemmas.List.Sums.{count_by-le-length, length-filter}
 pub use Rattle.std.proofs.lemmas.Map.Views.{any-filter_same, Contains-from_any}
 pub use Rattle.std.proofs.lemmas.Option.{none-some, same_Some, slice_get-get_or, slice_get-map, slice_get_past, unwrap_or-slice_get}
-pub use Rattle.std.specs.Int.{from_bool}
-pub use Rattle.std.specs.List.{AllWithin, list_all, list_any}
+pub use Rattle.std.specs.List.{list_any}
 pub use Rattle.std.specs.List.Sorted.{IsPartitionedBy}
 pub use Rattle.std.specs.Option.{IfSome, MatchOption, option_and_then, option_or, unwrap_or}
-pub use Rattle.std.specs.Prelude.{All, AllPairs, bytes_eq, cond, Contains, count_by, Err, filter, find, if◌then◌else◌, insert, nat_lt, not, Ok, OnErr, OnOk, option_map, remove, Result, set, slice_get, ⊤, ◌&&◌, ◌==◌, ◌||◌}
+pub use Rattle.std.specs.Prelude.{All, AllPairs, bytes_eq, cond, Contains, count_by, Err, filter, find, if◌then◌else◌, insert, nat_lt, not, Ok, OnErr, OnOk, option_map, Result, set, slice_get, ⊤, ◌&&◌, ◌==◌, ◌||◌}

@@ -1,5 +1,5 @@
 -- What is read of the pages: rows and dups found by their pages, places and numbers.
-use Rattle.ksm_pages.proofs.Names.{[], Ahead, All, ap, AreAllListed, AreDups, AreTied, AreWaiting, arith, At, Bool, cases_Bool, comes_before, cond, Contains, Contains-from_any, Dup, dup_at, dup_numbered, dup_of, DupRow, DupsState, each_has_number, End, false, filter, find, find_all, found_passing, frame_seen, get_or, GuestPage, has_items, has_number, Held, held_at, inl, InPageOrder, InPlaceOrder, inr, is_live, is_some, is_stale, items_in, items_of, Kind, Knobs, last_or, last_page, length, length-map, List, list_any, live_placed, lodging, lodgings_of, map, merged_into, None, not, not-not, Option, option_and_then, option_map, option_or, pages_ahead, passing, Reaches, refl, Row, row_at, rows_ahead, rows_between, rows_of, same_page, same_page_eq, shared_state, slice_get, slice_get-get_or, slice_get-map, Some, stale_alike, stands_at, stands_numbered, state_of, subst, suc, sym, tied_counted, true, unwrap_or-slice_get, waiting_state, WaitingPage, waits_there, ℕ, ◌&&◌, ◌-◌, ◌<◌, ◌==◌, ◌∙◌, ◌∷◌, ◌≡◌}
+use Rattle.ksm_pages.proofs.Names.{[], Ahead, All, ap, AreAllListed, AreDups, AreTied, AreWaiting, arith, At, Bool, cases_Bool, comes_before, cond, Contains, Contains-from_any, Dup, dup_at, dup_numbered, dup_of, DupRow, DupsState, each_has_number, End, false, filter, find, find_all, found_passing, frame_seen, get_or, GuestPage, has_items, Held, held_at, inl, InPageOrder, InPlaceOrder, inr, is_live, is_some, is_stale, items_in, items_of, Kind, Knobs, last_or, last_page, length, length-map, List, list_any, live_placed, lodging, lodgings_of, map, merged_into, nat_tests, None, not, Option, option_and_then, option_map, option_or, pages_ahead, passing, Reaches, refl, Row, row_at, rows_between, rows_of, same_page, same_page_eq, shared_state, slice_get, slice_get-get_or, slice_get-map, Some, stale_alike, stands_at, stands_numbered, state_of, subst, suc, sym, tied_counted, true, unwrap_or-slice_get, waiting_state, WaitingPage, waits_there, ℕ, ◌&&◌, ◌-◌, ◌<◌, ◌==◌, ◌∙◌, ◌∷◌, ◌≡◌}
 use Rattle.std.proofs.Common.{unwrap_or}
 use Rattle.ksm_base.specs.Rows.{is_stale as is_stale_row}
 use Rattle.ksm_tree.specs.Dups.{rows_of as dup_rows}
@@ -10,7 +10,6 @@ use Rattle.ksm_pages.specs.Paged.{ComesTo, frame_of as lies_at, is_restless}
 use Rattle.ksm_tree.proofs.Alike.{filter_mapped}
 use Rattle.ksm_rmap.proofs.Ordered.{any_found}
 use Rattle.ksm_pages.proofs.Changing.{nothing_held, row_found}
-use Rattle.ksm_pages.proofs.Gathering.{framed, own_either}
 use Rattle.ksm_pages.proofs.Joined.{item_lies}
 use Rattle.ksm_pages.proofs.Options.{mapped_some, mapped_twice, some_mapped}
 use Rattle.ksm_pages.proofs.Lodgings.{frame_by, seat}
@@ -19,26 +18,25 @@ use Rattle.ksm_pages.proofs.Lodgings.{frame_by, seat}
 
 -- a page has a row among the rows exactly where something is held of it
 pub row_known : (page : GuestPage) (held : List Held) → is_some (held_at page held) ≡ is_some (row_at page (rows_of held))
-row_known page held = sym (some_mapped (λ (h : Held). h.row) (held_at page held)) ∙ ap is_some (sym (row_found page held))
+row_known page held = sym (some_mapped (λ (h : Held). h.row) _) ∙ ap is_some (sym (row_found page _))
 
 -- a row is shared exactly where it has no frame of its own
-pub shared_by : (b : Bool) (kind : Kind) (number pass at : ℕ) → not b ≡ is_some (frame_of kind at)
+pub shared_by : {b : Bool} (kind : Kind) (number pass at : ℕ) → not b ≡ is_some (frame_of kind at)
     → b ≡ shared_state (state_of kind number pass)
-shared_by b kind number pass at is =
-    sym (not-not b) ∙ ap not (is ∙ framed kind number pass at) ∙ not-not (shared_state (state_of kind number pass))
+shared_by kind number pass at is = grind (arith, nat_tests, is)
 
 -- a row with a frame of its own lies on it
-pub lies_own : (of_dup : ℕ → Option ℕ) (number pass at : ℕ) → Some at ≡ frame_seen of_dup (state_of kinds.Own number pass) (Some at)
-lies_own of_dup number pass at = own_either (λ state. Some at ≡ frame_seen of_dup state (Some at)) refl refl (number == pass)
+pub lies_own : (of_dup : ℕ → Option ℕ) (number pass : ℕ) {at : ℕ} → Some at ≡ frame_seen of_dup (state_of kinds.Own number pass) (Some at)
+lies_own of_dup number pass = grind (arith, nat_tests)
 
 -- where no row waits, the waiting pages are right for any knobs
 pub knobs_free : (knobs tuned : Knobs) (rows : List Row) (w : List WaitingPage) → AreWaiting knobs rows w → All (λ r. waiting_state r.state ≡ false) rows → AreWaiting tuned rows w
-knobs_free knobs tuned rows w are still t b q = are t b q ∙ go (row_at q rows) refl
+knobs_free knobs tuned rows w are still t b q = are t b q ∙ go _ refl
   where
     go : (o : Option Row) → row_at q rows ≡ o → waits_there knobs t b o ≡ waits_there tuned t b o
     go None found = refl
     go (Some r) found =
-        let alone = find_all (λ s. same_page s.page q) (λ s. waiting_state s.state ≡ false) rows r found still in
+        let alone = find_all _ (λ s. waiting_state s.state ≡ false) rows r found still in
         grind (arith, alone)
 
 -- ---------------------------------------------------------------- dups
@@ -46,28 +44,28 @@ knobs_free knobs tuned rows w are still t b q = are t b q ∙ go (row_at q rows)
 -- the dup with a number stands at the place that the dup row with that number tells
 pub place_numbered : (number : ℕ) (dups : List Dup) → option_map (λ d. d.row.place) (dup_of number dups) ≡ option_map (λ d. d.place) (dup_numbered number (dup_rows dups))
 place_numbered number dups =
-    sym (mapped_twice (λ (d : DupRow). d.place) (λ (d : Dup). d.row) (dup_of number dups))
-    ∙ ap (option_map (λ (d : DupRow). d.place)) (dup_row_found (has_number number) (λ r. r.number == number) (λ d. refl) dups)
+    sym (mapped_twice (λ (d : DupRow). d.place) (λ (d : Dup). d.row) _)
+    ∙ ap (option_map (λ (d : DupRow). d.place)) (dup_row_found _ _ (λ d. refl) dups)
 
 -- a dup that stands at a place with a number is the one with that number
-pub place_guessed : (guess number : ℕ) (dups : List Dup) → InPlaceOrder (dup_rows dups) → option_map (λ d. d.row.number) (dup_at guess dups) ≡ Some number → Some guess ≡ option_map (λ d. d.place) (dup_numbered number (dup_rows dups))
-place_guessed guess number dups rise is =
-    let at = mapped_some (λ (d : Dup). d.row.number) (dup_at guess dups) number is in
-    stands_numbered guess number dups at.0 rise at.1 at.2 ∙ place_numbered number dups
+pub place_guessed : {guess number : ℕ} (dups : List Dup) → InPlaceOrder (dup_rows dups) → option_map (λ d. d.row.number) (dup_at guess dups) ≡ Some number → Some guess ≡ option_map (λ d. d.place) (dup_numbered number (dup_rows dups))
+place_guessed dups rise is =
+    let at = mapped_some _ _ is in
+    stands_numbered _ _ _ _ rise at.1 at.2 ∙ place_numbered _ dups
 
 -- a dup is found at a place exactly where a row stands there
 pub any_at : (place : ℕ) (dups : List Dup) → is_some (option_map (λ d. d.row.number) (dup_at place dups)) ≡ list_any (λ d. d.place == place) (dup_rows dups)
 any_at place dups =
-    some_mapped (λ (d : Dup). d.row.number) (dup_at place dups)
-    ∙ sym (some_mapped (λ (d : Dup). d.row) (dup_at place dups))
-    ∙ ap is_some (dup_row_found (stands_at place) (λ r. r.place == place) (λ d. refl) dups)
+    some_mapped _ _
+    ∙ sym (some_mapped (λ (d : Dup). d.row) _)
+    ∙ ap is_some (dup_row_found _ _ (λ d. refl) dups)
     ∙ sym (any_found (λ (r : DupRow). r.place == place) (dup_rows dups))
 
 -- the first stale dup by its items stands at the place of the first stale dup by the rows
 pub stale_at : (rows : List Row) (dups : List Dup) → AreTied rows dups → option_map (λ d. d.row.place) (find is_stale dups) ≡ option_map (λ (r : DupRow). r.place) (find (is_stale_row rows) (dup_rows dups))
 stale_at rows dups tied =
-    sym (mapped_twice (λ (d : DupRow). d.place) (λ (d : Dup). d.row) (find is_stale dups))
-    ∙ ap (option_map (λ (r : DupRow). r.place)) (stale_alike rows dups (tied_counted rows dups tied))
+    sym (mapped_twice _ _ _)
+    ∙ ap (option_map (λ (r : DupRow). r.place)) (stale_alike rows _ (tied_counted rows _ tied))
 
 -- ---------------------------------------------------------------- frames
 
@@ -80,51 +78,51 @@ kept_at_place frames (Some d) = refl
 
 -- a page without a row lies on no frame
 pub lies_nowhere : (of_dup : ℕ → Option ℕ) (held : List Held) (page : GuestPage) → row_at page (rows_of held) ≡ None → lies_at (lodgings_of of_dup held) page ≡ None
-lies_nowhere of_dup held page gone = frame_by of_dup held page ∙ ap (seat of_dup) (nothing_held page held gone)
+lies_nowhere of_dup held page gone = frame_by _ held _ ∙ ap (seat of_dup) (nothing_held page held gone)
 
 -- where the pages of all rows that a visit may change are listed, each such row's page is in the list
 pub listed_pages : (rows : List Row) (pages : List GuestPage) → AreAllListed rows pages → All (λ r. is_restless r ≡ true → Contains pages r.page) rows
-listed_pages rows pages all k d lt may = Contains-from_any {eq = λ q p. same_page p q} (λ p q same. sym (same_page_eq q p same)) (get_or rows k d).page pages (all k d lt may)
+listed_pages rows pages all k d lt may = Contains-from_any {eq = λ q p. same_page p q} (λ p q same. sym (same_page_eq q p same)) _ _ (all k d lt may)
 
 -- ---------------------------------------------------------------- the dups at their places
 
 -- the items of a dup lie on the frame that is kept at its place
-pub items_lodge : (held : List Held) (s : DupsState) (frames : List ℕ) → InPageOrder (rows_of held) → AreDups s → s.places ≡ length frames → (place : ℕ) (frame : ℕ) → frame ≡ unwrap_or (slice_get frames place) 0
+pub items_lodge : (held : List Held) {s : DupsState} (frames : List ℕ) → InPageOrder (rows_of held) → AreDups s → s.places ≡ length frames → {place : ℕ} {frame : ℕ} → frame ≡ unwrap_or (slice_get frames place) 0
     → All (λ d. d.place ≡ place → All (λ r. merged_into d.number r.state ≡ true → lies_at (lodgings_of (lodging (dup_rows s.dups) frames) held) r.page ≡ Some frame) (rows_of held)) (dup_rows s.dups)
-items_lodge held s frames rise lawful as_many place frame is k e lt at i f lt_row merged =
+items_lodge held {s} frames rise lawful as_many {frame} is k e lt at i f lt_row merged =
     let of_dup = lodging (dup_rows s.dups) frames in
     let d = get_or (dup_rows s.dups) k e in
-    let lodges : of_dup d.number ≡ Some frame =
-    ap (option_and_then (λ (x : DupRow). slice_get frames x.place)) (each_has_number (dup_rows s.dups) lawful.in_place_order k e lt)
+    let lodges =
+    ap (option_and_then (λ (x : DupRow). slice_get frames x.place)) (each_has_number _ lawful.in_place_order k e lt)
     ∙ ap (slice_get frames) at
-    ∙ within place (let below = lawful.places_below k e lt in omega (arith, below, at, as_many))
+    ∙ within _ (omega arith)
     ∙ ap Some (sym is) in
-    item_lies of_dup held rise d.number i f lt_row merged ∙ lodges
+    item_lies _ _ rise _ i f lt_row merged ∙ lodges
   where
     within : (p : ℕ) → p < length frames → slice_get frames p ≡ Some (unwrap_or (slice_get frames p) 0)
-    within p lt = slice_get-get_or frames p 0 lt ∙ ap Some (sym (unwrap_or-slice_get frames p 0))
+    within p lt = slice_get-get_or _ p _ lt ∙ ap Some (sym (unwrap_or-slice_get frames p _))
 
 module _ (rows : List Row) (dups : List Dup) (place : ℕ) (tied : AreTied rows dups) where
   -- no dup with items stands at a place where none is found
   pub items_none : None ≡ option_map (λ (d : Dup). d.row) (find (λ d. stands_at place d && is_live d) dups) → find (λ d. d.place == place && has_items rows d) (dup_rows dups) ≡ None
-  items_none is = sym (live_placed rows place dups (tied_counted rows dups tied)) ∙ sym is
+  items_none is = sym (live_placed rows _ _ (tied_counted rows _ tied)) ∙ sym is
 
   -- the items of the dup at a place are the pages of the rows merged into it
-  pub items_there : (row : DupRow) → InPlaceOrder (dup_rows dups) → Some row ≡ option_map (λ (d : Dup). d.row) (find (λ d. stands_at place d && is_live d) dups)
+  pub items_there : {row : DupRow} → InPlaceOrder (dup_rows dups) → Some row ≡ option_map (λ (d : Dup). d.row) (find (λ d. stands_at place d && is_live d) dups)
       → option_map (items_of rows) (find (λ d. d.place == place && has_items rows d) (dup_rows dups)) ≡ Some (items_in (dup_at place dups))
-  items_there row rise is =
-      ap (option_map (items_of rows)) (sym (live_placed rows place dups (tied_counted rows dups tied)))
-      ∙ go (dup_at place dups) refl (is ∙ ap (option_map (λ (d : Dup). d.row)) (found_passing place is_live dups rise))
+  items_there {row} rise is =
+      ap (option_map (items_of rows)) (sym (live_placed rows _ _ (tied_counted rows _ tied)))
+      ∙ go _ refl (is ∙ ap (option_map (λ (d : Dup). d.row)) (found_passing _ _ _ rise))
     where
       go : (o : Option Dup) → dup_at place dups ≡ o → Some row ≡ option_map (λ (d : Dup). d.row) (passing is_live o)
           → option_map (items_of rows) (option_map (λ (d : Dup). d.row) (find (λ d. stands_at place d && is_live d) dups)) ≡ Some (items_in (dup_at place dups))
-      go None there no_it = absurd (grind (arith, no_it))
-      go (Some d) there one = elim (cases_Bool (is_live d)) [
+      go None there no_it = absurd (grind arith)
+      go (Some d) there one = elim (cases_Bool _) [
         | inl live ↦
-            ap (λ o. option_map (items_of rows) (option_map (λ (d : Dup). d.row) o)) (found_passing place is_live dups rise ∙ ap (passing is_live) there ∙ ap (λ b. cond b (Some d) None) live)
-            ∙ ap Some (sym (find_all (stands_at place) (λ e. e.items ≡ items_of rows e.row) dups d there tied))
+            ap (λ o. option_map (items_of rows) (option_map (λ (d : Dup). d.row) o)) (found_passing _ _ _ rise ∙ ap (passing is_live) there ∙ ap (λ b. cond b (Some d) None) live)
+            ∙ ap Some (sym (find_all _ (λ e. e.items ≡ items_of rows e.row) _ d there tied))
             ∙ ap (λ o. Some (items_in o)) (sym there)
-        | inr stale ↦ absurd (grind (arith, one, stale))
+        | inr stale ↦ absurd (grind arith)
       ]
 
 -- ---------------------------------------------------------------- the scan's way
@@ -134,12 +132,12 @@ page_of r = r.page
 
 -- visits that come to a page in a list of rows' pages come to the row of that page
 pub comes : (rows : List Row) (visits : ℕ) (to : Ahead) → Reaches (map page_of rows) visits to → ComesTo rows visits to
-comes rows visits (At page) is = (subst (λ n. visits < n) (length-map rows page_of) is.0, sym (slice_get-map page_of rows (visits - 1)) ∙ is.1)
+comes rows visits (At page) is = (subst (λ n. visits < n) (length-map rows page_of) is.0, sym (slice_get-map page_of rows _) ∙ is.1)
 comes rows visits (End made) is = (is.0 ∙ length-map rows page_of, is.1)
 
 -- the pages behind a cursor and before a page are those of the rows there
 pub passed : (cursor : Option GuestPage) (page : GuestPage) (rows : List Row) → filter (λ p. comes_before p page) (pages_ahead cursor rows) ≡ map page_of (rows_between cursor page rows)
-passed cursor page rows = filter_mapped page_of (λ p. comes_before p page) (λ r. comes_before r.page page) (rows_ahead cursor rows) (λ k d lt. refl)
+passed cursor page rows = filter_mapped _ (λ p. comes_before p page) (λ r. comes_before r.page page) _ (λ k d lt. refl)
 
 one_less : (n : ℕ) → suc n - 1 ≡ n
 one_less n = omega arith

@@ -1,5 +1,5 @@
 -- The pages once two of them became the items of a new dup.
-use Rattle.ksm_pages.proofs.Names.{[], All, ap, ap₂, AreDups, AreKept, AreTied, AreWaiting, arith, at_others, cases_Bool, change_held, change_row, change_rows, cond, dup_numbered, DupRow, DupsState, elsewhere, Entry, false, find, find_all, frame_of, Frames, get_or, GuestPage, Held, held_at, held_of, inl, InPageOrder, InPlaceOrder, inr, Inside, is_live, IsStopped, length, length-set, let_out, lies_on, List, lodging, lodgings_of, mapped, MatchOption, MayPair, Merged, merged_into, None, not, Option, option_and_then, option_map, ordered_change, PagesValue, paired, place_kept, place_new, refl, Row, row_at, row_stopped, rows_new, rows_of, RowsView, same_page, same_page_eq, seen, set, slice_get, Some, stands_at, subst, suc, sym, tied_made, tree_of, true, with_dup, with_item, with_new, zero, ℕ, ◌&&◌, ◌+◌, ◌<◌, ◌==◌, ◌||◌, ◌∙◌, ◌∷◌, ◌≡◌, ◌≢◌, get_or-set_same, slice_get-get_or}
+use Rattle.ksm_pages.proofs.Names.{[], All, ap, ap₂, AreDups, AreKept, AreTied, AreWaiting, arith, at_others, cases_Bool, change_held, change_row, change_rows, cond, dup_numbered, DupRow, DupsState, Entry, false, find, find_all, frame_of, Frames, GuestPage, Held, held_at, held_of, inl, InPageOrder, InPlaceOrder, inr, Inside, is_live, IsStopped, length, length-set, let_out, lies_on, List, lodging, lodgings_of, mapped, MatchOption, MayPair, Merged, merged_into, None, not, Option, option_and_then, option_map, ordered_change, PagesValue, paired, place_kept, place_new, refl, Row, row_at, row_stopped, rows_new, rows_of, RowsView, same_page, same_page_eq, seen, set, slice_get, Some, stands_at, subst, suc, sym, tied_made, tree_of, true, with_dup, with_item, with_new, zero, ℕ, ◌&&◌, ◌+◌, ◌<◌, ◌==◌, ◌||◌, ◌∙◌, ◌∷◌, ◌≡◌, ◌≢◌, get_or-set_same, slice_get-get_or}
 use Rattle.std.specs.Vec.{with_item as with_frame}
 use Rattle.ksm_tree.specs.Dups.{rows_of as dup_rows}
 use Rattle.ksm_tree.proofs.Alike.{map_mapped}
@@ -16,9 +16,8 @@ use Rattle.ksm_pages.proofs.Visiting.{lawful_numbered, seen_numbered}
 -- ---------------------------------------------------------------- what is kept at one place
 
 -- a number written at a place is found there
-pub set_there : (xs : List ℕ) (i x : ℕ) → i < length xs → slice_get (set xs i x) i ≡ Some x
-set_there xs i x lt =
-    slice_get-get_or (set xs i x) i x (omega (arith, lt, length-set xs i x)) ∙ ap Some (get_or-set_same xs i x x lt)
+pub set_there : (xs : List ℕ) (i : ℕ) {x : ℕ} → i < length xs → slice_get (set xs i x) i ≡ Some x
+set_there xs i {x} lt = slice_get-get_or _ i x (omega (arith, lt, length-set xs i x)) ∙ ap Some (get_or-set_same xs i x x lt)
 
 -- a number written at a place leaves all other places as they are
 pub set_away : (xs : List ℕ) (i j x : ℕ) → j ≢ i → slice_get (set xs i x) j ≡ slice_get xs j
@@ -36,25 +35,23 @@ module _ (dups : List DupRow) (dup : DupRow) (frames : List ℕ) (frame : ℕ) w
   pub lodged_new : All (λ d. d.number < dup.number) dups → dup.place < length frames → of_now dup.number ≡ Some frame
   lodged_new fresh inside =
       sym (kept_at_place (set frames dup.place frame) (dup_numbered dup.number (with_dup dup dups)))
-      ∙ ap (option_and_then (slice_get (set frames dup.place frame))) (place_new dup dups fresh)
-      ∙ set_there frames dup.place frame inside
+      ∙ ap (option_and_then (slice_get (set frames dup.place frame))) (place_new dup _ fresh)
+      ∙ set_there _ _ inside
 
   -- a dup that stands elsewhere keeps its frame where one is written for a new dup
   pub lodged_kept : InPlaceOrder dups → (n : ℕ) → (n == dup.number) ≡ false
       → ((e : DupRow) → dup_numbered n dups ≡ Some e → (e.place == dup.place) ≡ false) → of_now n ≡ lodging dups frames n
   lodged_kept rise n other away =
       sym (kept_at_place (set frames dup.place frame) (dup_numbered n (with_dup dup dups)))
-      ∙ ap (option_and_then (slice_get (set frames dup.place frame)))
-      (place_kept n dup dups rise other
-      ∙ ap (option_map (λ d. d.place))
-      (find_kept (λ d. d.number == n) (elsewhere dup.place) dups (dup_numbered n dups) refl (λ e is. ap not (away e is))))
-      ∙ kept_at_place (set frames dup.place frame) (dup_numbered n dups)
-      ∙ go (dup_numbered n dups) away
+      ∙ ap (option_and_then (slice_get (set frames dup.place frame))) (place_kept n dup _ rise other
+      ∙ ap (option_map (λ d. d.place)) (find_kept _ _ _ _ refl (λ e is. ap not (away e is))))
+      ∙ kept_at_place _ (dup_numbered n dups)
+      ∙ go _ away
     where
       go : (o : Option DupRow) → ((e : DupRow) → o ≡ Some e → (e.place == dup.place) ≡ false)
           → option_and_then (λ d. slice_get (set frames dup.place frame) d.place) o ≡ option_and_then (λ d. slice_get frames d.place) o
       go None apart = refl
-      go (Some e) apart = set_away frames dup.place e.place frame (differ_by e.place dup.place (apart e refl))
+      go (Some e) apart = set_away _ _ _ _ (differ_by (apart e refl))
 
 -- ---------------------------------------------------------------- two rows
 
@@ -62,14 +59,13 @@ module _ (dups : List DupRow) (dup : DupRow) (frames : List ℕ) (frame : ℕ) w
 pub both_changed : (q p : GuestPage) (f : Row → Row) → ((r : Row) → (f r).page ≡ r.page) → same_page q p ≡ false → (rows : List Row)
     → change_row p f (change_row q f rows) ≡ change_rows (λ r. same_page r.page q || same_page r.page p) f rows
 both_changed q p f same apart rows =
-    map_mapped (λ r. cond (same_page r.page p) (f r) r) (λ r. cond (same_page r.page q) (f r) r)
-    (λ r. cond (same_page r.page q || same_page r.page p) (f r) r) rows (λ k d lt. at (get_or rows k d))
+    map_mapped _ _ _ _ (λ k d lt. at _)
   where
     at : (r : Row) → (λ (x : Row). cond (same_page x.page p) (f x) x) (cond (same_page r.page q) (f r) r)
         ≡ cond (same_page r.page q || same_page r.page p) (f r) r
-    at r = elim (cases_Bool (same_page r.page q)) [
+    at r = elim (cases_Bool _) [
       | inl here ↦
-          let away : same_page (f r).page p ≡ false = ap (λ x. same_page x p) (same r ∙ same_page_eq r.page q here) ∙ apart in
+          let away = ap (λ x. same_page x p) (same r ∙ same_page_eq _ q here) ∙ apart in
           ap (λ b. (λ (x : Row). cond (same_page x.page p) (f x) x) (cond b (f r) r)) here ∙ ap (λ b. cond b (f (f r)) (f r)) away
           ∙ ap (λ b. cond (b || same_page r.page p) (f r) r) (sym here)
       | inr other ↦ ap (λ b. (λ (x : Row). cond (same_page x.page p) (f x) x) (cond b (f r) r)) other
@@ -80,15 +76,15 @@ both_changed q p f same apart rows =
 abbrev IsOfBoth : (Row → Row → Type 0) → Option Row → Option Row → Type 0
 IsOfBoth P o q = MatchOption o (true ≡ false) (λ r. MatchOption q (true ≡ false) (P r))
 
-module _ (s : Inside) (p : PagesValue) (seen_as : view_of s ≡ p) (place : ℕ) (first second : GuestPage)
+module _ (s : Inside) {p : PagesValue} (seen_as : view_of s ≡ p) (place : ℕ) (first second : GuestPage)
     (may : IsOfBoth (MayPair (seen p) place) (row_at first p.rows) (row_at second p.rows)) where
-  may_first : (o : Option Held) → held_at first s.rows.held ≡ o
+  may_first : {o : Option Held} → held_at first s.rows.held ≡ o
       → IsOfBoth (MayPair (seen p) place) (option_map (λ h. h.row) o) (row_at second p.rows)
-  may_first o is = subst (λ r. IsOfBoth (MayPair (seen p) place) r (row_at second p.rows)) (row_seen s p seen_as first is) may
+  may_first is = subst (λ r. IsOfBoth (MayPair (seen p) place) r (row_at second p.rows)) (row_seen s seen_as _ is) may
 
   -- the first of two pages that may pair is held
   pub first_there : held_at first s.rows.held ≡ None → true ≡ false
-  first_there gone = may_first None gone
+  first_there gone = may_first gone
 
   -- the second of two pages that may pair is held
   pub second_there : held_at second s.rows.held ≡ None → true ≡ false
@@ -96,14 +92,14 @@ module _ (s : Inside) (p : PagesValue) (seen_as : view_of s ≡ p) (place : ℕ)
     where
       go : (o : Option Held) → held_at first s.rows.held ≡ o → true ≡ false
       go None is = first_there is
-      go (Some a) is = subst (IsOfBoth (MayPair (seen p) place) (Some a.row)) (row_seen s p seen_as second gone) (may_first (Some a) is)
+      go (Some a) is = subst (IsOfBoth (MayPair (seen p) place) (Some a.row)) (row_seen s seen_as _ gone) (may_first is)
 
   -- and the rows may become items
-  may_both : (a b : Held) → held_at first s.rows.held ≡ Some a → held_at second s.rows.held ≡ Some b
+  may_both : {a b : Held} → held_at first s.rows.held ≡ Some a → held_at second s.rows.held ≡ Some b
       → MayPair (seen (view_of s)) place a.row b.row
-  may_both a b found also =
+  may_both {a} {b} found also =
       subst (λ v. MayPair (seen v) place a.row b.row) (sym seen_as)
-      (subst (IsOfBoth (MayPair (seen p) place) (Some a.row)) (row_seen s p seen_as second also) (may_first (Some a) found))
+      (subst (IsOfBoth (MayPair (seen p) place) (Some a.row)) (row_seen s seen_as _ also) (may_first found))
 
 -- the dups with a new one of two pages
 abbrev with_pair : DupRow → GuestPage → GuestPage → DupsState → DupsState
@@ -125,19 +121,19 @@ pub record CanPair (s : Inside) (p : PagesValue) (place : ℕ) (first second : G
   pub may : MayPair (seen (view_of s)) place (held_of pass one).row (held_of pass other).row
 
 -- two pages that may pair still may, with their entries, once groups got numbers
-pub can_pair : (s : Inside) → AreLawful s → {p : PagesValue} → view_of s ≡ p → (place : ℕ) (first second : GuestPage)
-    → IsOfBoth (MayPair (seen p) place) (row_at first p.rows) (row_at second p.rows) → (pass : ℕ) (one other : Entry)
+pub can_pair : {s : Inside} → AreLawful s → {p : PagesValue} → view_of s ≡ p → {place : ℕ} {first second : GuestPage}
+    → IsOfBoth (MayPair (seen p) place) (row_at first p.rows) (row_at second p.rows) → {pass : ℕ} {one other : Entry}
     → held_at first s.rows.held ≡ Some (held_of pass one) → held_at second s.rows.held ≡ Some (held_of pass other)
     → {later : DupsState} → later ≡ record s.dups { numbers = later.numbers; most = later.most }
     → CanPair (record s { dups = later }) p place first second pass one other
-can_pair s are {p = p} seen_as place first second required pass one other found also {later = later} same =
-    let now = seen_numbered s later same ∙ seen_as in
+can_pair {s} are {p = p} seen_as required found also {later = later} same =
+    let now = seen_numbered s same ∙ seen_as in
     record {
-      kept = lawful_numbered s later same are;
+      kept = lawful_numbered s same are;
       seen_as = now;
       found = found;
       also = also;
-      may = may_both (record s { dups = later }) p now place first second required (held_of pass one) (held_of pass other) found also;
+      may = may_both (record s { dups = later }) now _ _ _ required found also;
     }
 
 module _ {s : Inside} {p : PagesValue} {place : ℕ} {first second : GuestPage} {pass : ℕ} {one other : Entry}
@@ -158,29 +154,29 @@ module _ {s : Inside} {p : PagesValue} {place : ℕ} {first second : GuestPage} 
   before = rows_of s.rows.held
 
   at_first : first ≡ a.row.page
-  at_first = sym (of_page s are first a it.found)
+  at_first = sym (of_page s are _ it.found)
 
   at_second : second ≡ b.row.page
-  at_second = sym (of_page s are second b it.also)
+  at_second = sym (of_page s are _ it.also)
 
   -- where two pages can pair at a place, no dup with items stands there
   pub is_free : find (λ d. stands_at place d && is_live d) s.dups.dups ≡ None
-  is_free = none_live place before s.dups.dups are.tied may.vacant
+  is_free = none_live before _ are.tied may.vacant
 
   -- two pages that can pair differ
   pub are_apart : same_page first second ≡ false
   are_apart = ap₂ same_page at_first at_second ∙ may.apart
 
   own_first : seat (of_dup s) (Some a) ≡ Some one.at
-  own_first = own_seat (of_dup s) pass one may.first_alone
+  own_first = own_seat _ pass one may.first_alone
 
   -- the first of two pages that can pair lies on the frame of its own
   pub lay_first : frame_of p.lodgings first ≡ Some one.at
-  lay_first = sym (lies s are first a it.found p it.seen_as) ∙ own_first
+  lay_first = sym (lies s are _ it.found it.seen_as) ∙ own_first
 
   -- the second of two pages that can pair lies on the frame of its own
   pub lay_second : frame_of p.lodgings second ≡ Some other.at
-  lay_second = sym (lies s are second b it.also p it.seen_as) ∙ own_seat (of_dup s) pass other may.second_alone
+  lay_second = sym (lies s are _ it.also it.seen_as) ∙ own_seat _ pass other may.second_alone
 
   module _ {tree : ℕ} (in_tree : (r : Row) → r.home ≡ other.home → tree ≡ tree_of s.knobs r) {made between later : DupsState}
       (is_made : made ≡ with_pair (record { number = s.dups.next; place = place; tree = tree; bytes = b.row.bytes }) first second s.dups)
@@ -209,9 +205,9 @@ module _ {s : Inside} {p : PagesValue} {place : ℕ} {first second : GuestPage} 
 
     now_dups : later.dups ≡ with_new (record { row = dup; items = with_item b.row.page (a.row.page ∷ []) }) s.dups.dups
     now_dups =
-        ap (λ (d : DupsState). d.dups) out_too ∙ let_out_alone b.row.state b.row.page between.dups may.second_alone
-        ∙ ap (λ (d : DupsState). d.dups) out ∙ let_out_alone a.row.state a.row.page made.dups may.first_alone
-        ∙ ap (λ (d : DupsState). d.dups) is_made
+        (λ i. (out_too i).dups) ∙ let_out_alone _ _ may.second_alone
+        ∙ (λ i. (out i).dups) ∙ let_out_alone _ _ may.first_alone
+        ∙ (λ i. (is_made i).dups)
         ∙ ap₂ (λ q r. with_new (record { row = dup; items = with_item r (q ∷ []) }) s.dups.dups) at_first at_second
 
     now_rows : dup_rows later.dups ≡ with_dup dup (dup_rows s.dups.dups)
@@ -221,7 +217,7 @@ module _ {s : Inside} {p : PagesValue} {place : ℕ} {first second : GuestPage} 
 
     now_held : rows.held ≡ change_held b.row.page into half
     now_held =
-        ap (λ (r : RowsView). r.held) turned
+        (λ i. (turned i).held)
         ∙ ap (λ n. both_merged n first second s.rows.held) is_number
         ∙ ap₂ (λ q r. both_merged s.dups.next q r s.rows.held) at_first at_second
 
@@ -230,17 +226,17 @@ module _ {s : Inside} {p : PagesValue} {place : ℕ} {first second : GuestPage} 
 
     found_second : held_at b.row.page half ≡ Some b
     found_second =
-        find_changed_other (λ (h : Held). h.row.page) a.row.page into (λ h. refl) b.row.page s.rows.held may.apart
+        find_changed_other _ _ into (λ h. refl) b.row.page _ may.apart
         ∙ ap (λ q. held_at q s.rows.held) (sym at_second) ∙ it.also
 
     half_rows : rows_of half ≡ change_row a.row.page item before
-    half_rows = rows_changed a.row.page into item s.rows.held (λ h. refl)
+    half_rows = rows_changed _ _ _ _ (λ h. refl)
 
     both_rows : rows_of rows.held ≡ change_row b.row.page item (rows_of half)
-    both_rows = ap rows_of now_held ∙ rows_changed b.row.page into item half (λ h. refl)
+    both_rows = ap rows_of now_held ∙ rows_changed _ _ _ _ (λ h. refl)
 
     half_order : InPageOrder (rows_of half)
-    half_order = subst InPageOrder (sym half_rows) (ordered_change (λ r. same_page r.page a.row.page) item before (λ r. refl) are.order)
+    half_order = subst InPageOrder (sym half_rows) (ordered_change _ _ _ (λ r. refl) are.order)
 
     abbrev one_row : List Row
     one_row = change_row a.row.page (λ _. item a.row) before
@@ -248,26 +244,24 @@ module _ {s : Inside} {p : PagesValue} {place : ℕ} {first second : GuestPage} 
     whole : rows_of rows.held ≡ change_row b.row.page (λ _. item b.row) one_row
     whole =
         both_rows
-        ∙ changed_to b.row.page item (rows_of half) b.row half_order
-        (row_told b.row.page half found_second)
-        ∙ ap (change_row b.row.page (λ _. item b.row)) (half_rows ∙ changed_to a.row.page item before a.row are.order may.first_is)
+        ∙ changed_to _ _ _ half_order (row_told _ half found_second)
+        ∙ ap (change_row b.row.page (λ _. item b.row)) (half_rows ∙ changed_to _ _ _ are.order may.first_is)
 
     -- the pages are lawful once two of them became the items of a new dup
     pub lawful_paired : AreKept s.shape s.knobs (rows_of rows.held) later (set s.frames.items place frame)
     lawful_paired = record {
       small = are.small;
-      order = subst InPageOrder (sym both_rows)
-          (ordered_change (λ r. same_page r.page b.row.page) item (rows_of half) (λ r. refl) half_order);
+      order = subst InPageOrder (sym both_rows) (ordered_change _ _ _ (λ r. refl) half_order);
       tied = subst (λ rs. AreTied rs later.dups) (sym whole)
           (subst (AreTied (change_row b.row.page (λ _. item b.row) one_row)) (sym now_dups)
-          (tied_made before a.row b.row dup are.order may.first_is may.second_is (own_not_merged a.row.state may.first_alone)
-          (own_not_merged b.row.state may.second_alone) may.fresh s.dups.dups lawful.numbers_below are.tied));
-      places = ap (λ (d : DupsState). d.places) out_too ∙ ap (λ (d : DupsState). d.places) out ∙ ap (λ (d : DupsState). d.places) is_made
+          (tied_made _ _ _ _ are.order may.first_is may.second_is (own_not_merged _ may.first_alone)
+          (own_not_merged _ may.second_alone) may.fresh _ lawful.numbers_below are.tied));
+      places = (λ i. (out_too i).places) ∙ (λ i. (out i).places) ∙ (λ i. (is_made i).places)
           ∙ are.places;
-      waits = subst (λ rs. AreWaiting s.knobs rs later.waiting) (sym whole) (row_stopped s.knobs one_row between.waiting
-          (row_stopped s.knobs before s.dups.waiting are.waits between.waiting (item a.row) a.row may.first_is refl
-          (subst (λ w. IsStopped s.knobs a.row w between.waiting) (ap (λ (d : DupsState). d.waiting) is_made) stopped))
-          later.waiting (item b.row) b.row (at_others (item a.row) b.row.page before may.apart ∙ may.second_is) refl stopped_too);
+      waits = subst (λ rs. AreWaiting s.knobs rs later.waiting) (sym whole) (row_stopped s.knobs _ _
+          (row_stopped s.knobs _ _ are.waits _ _ _ may.first_is refl
+          (subst (λ w. IsStopped s.knobs a.row w between.waiting) (λ i. (is_made i).waiting) stopped))
+          _ _ _ (at_others _ b.row.page before may.apart ∙ may.second_is) refl stopped_too);
       room = length-set s.frames.items place frame ∙ are.room;
     }
 
@@ -283,41 +277,39 @@ module _ {s : Inside} {p : PagesValue} {place : ℕ} {first second : GuestPage} 
     lay = frame_of (lodgings_of (of_dup s) s.rows.held)
 
     lies_first : lay a.row.page ≡ Some frame
-    lies_first = frame_by (of_dup s) s.rows.held a.row.page ∙ ap (seat (of_dup s)) found_first ∙ own_first
+    lies_first = frame_by _ _ a.row.page ∙ ap (seat (of_dup s)) found_first ∙ own_first
 
     new_frame : of_new s.dups.next ≡ Some frame
     new_frame =
         ap (λ of. of s.dups.next) of_with
-        ∙ lodged_new (dup_rows s.dups.dups) dup s.frames.items frame lawful.numbers_below (subst (λ n. place < n) (sym are.room) may.inside)
+        ∙ lodged_new _ _ _ _ lawful.numbers_below (subst (λ n. place < n) (sym are.room) may.inside)
 
     others : frame_of (lodgings_of of_new s.rows.held) ≡ lay
     others =
-        lodged_alike of_new (of_dup s) s.rows.held
-        (λ page r n there merged.
+        lodged_alike _ (λ page r n there merged.
         ap (λ of. of n) of_with
-        ∙ lodged_kept (dup_rows s.dups.dups) dup s.frames.items frame lawful.in_place_order n (unlike page r n there merged)
-        (not_vacant before (dup_rows s.dups.dups) place n page r may.vacant there merged))
+        ∙ lodged_kept _ _ _ frame lawful.in_place_order n (unlike _ there merged) (not_vacant _ _ page may.vacant there merged))
       where
-        unlike : (page : GuestPage) (r : Row) (n : ℕ) → row_at page before ≡ Some r → r.state ≡ Merged n → (n == s.dups.next) ≡ false
-        unlike page r n there merged = ap (merged_into s.dups.next) (sym merged)
-            ∙ find_all (λ x. same_page x.page page) (λ x. merged_into s.dups.next x.state ≡ false) before r there may.fresh
+        unlike : (page : GuestPage) {r : Row} {n : ℕ} → row_at page before ≡ Some r → r.state ≡ Merged n → (n == s.dups.next) ≡ false
+        unlike page there merged = ap (merged_into s.dups.next) (sym merged)
+            ∙ find_all _ (λ x. merged_into s.dups.next x.state ≡ false) _ _ there may.fresh
 
     now_lie : frame_of (lodgings_of of_new rows.held) ≡ lies_on b.row.page (lay a.row.page) lay
     now_lie =
         ap (λ held. frame_of (lodgings_of of_new held)) now_held
-        ∙ lodged_changed b.row.page into (λ h. refl) of_new half b found_second
+        ∙ lodged_changed _ _ (λ h. refl) _ _ found_second
         ∙ ap (lies_on b.row.page (of_new s.dups.next))
-        (lodged_changed a.row.page into (λ h. refl) of_new s.rows.held a found_first ∙ ap (lies_on a.row.page (of_new s.dups.next)) others)
+        (lodged_changed _ _ (λ h. refl) _ _ found_first ∙ ap (lies_on a.row.page (of_new s.dups.next)) others)
         ∙ ap (λ o. lies_on b.row.page o (lies_on a.row.page o lay)) (new_frame ∙ sym lies_first)
-        ∙ ap (lies_on b.row.page (lay a.row.page)) (lies_same a.row.page lay)
+        ∙ ap (lies_on b.row.page (lay a.row.page)) (lies_same _)
 
     told : seen (view_of (record s { rows = rows; dups = later; frames = with_frame s.frames place frame }))
         ≡ paired place a.row b.row (seen (view_of s))
     told =
         let changed = both_rows ∙ ap (change_row b.row.page item) half_rows
-        ∙ both_changed a.row.page b.row.page item (λ r. refl) may.apart before in
+        ∙ both_changed _ _ _ (λ r. refl) may.apart _ in
         let dups = now_rows ∙ ap (λ t. with_dup (record dup { tree = t }) (dup_rows s.dups.dups)) (in_tree b.row refl) in
-        let next = ap (λ (d : DupsState). d.next) out_too ∙ ap (λ (d : DupsState). d.next) out ∙ ap (λ (d : DupsState). d.next) is_made in
+        let next = (λ i. (out_too i).next) ∙ (λ i. (out i).next) ∙ (λ i. (is_made i).next) in
         let listed = ap (λ (r : RowsView). r.restless) turned in
         λ i. record (seen (view_of s)) { rows = changed i; frame = now_lie i; dups = dups i; next = next i; restless = listed i }
 
@@ -327,5 +319,5 @@ module _ {s : Inside} {p : PagesValue} {place : ℕ} {first second : GuestPage} 
     told_paired =
         let now = seen (view_of (record s { rows = rows; dups = later; frames = with_frame s.frames place frame })) in
         let is = told ∙ ap (λ v. paired place a.row b.row (seen v)) it.seen_as in
-        subst (λ o. IsOfBoth (λ r t. now ≡ paired place r t (seen p)) o (row_at second p.rows)) (sym (row_seen s p it.seen_as first it.found))
-        (subst (IsOfBoth (λ r t. now ≡ paired place r t (seen p)) (Some a.row)) (sym (row_seen s p it.seen_as second it.also)) is)
+        subst (λ o. IsOfBoth (λ r t. now ≡ paired place r t (seen p)) o (row_at second p.rows)) (sym (row_seen s it.seen_as _ it.found))
+        (subst (IsOfBoth (λ r t. now ≡ paired place r t (seen p)) (Some a.row)) (sym (row_seen s it.seen_as _ it.also)) is)

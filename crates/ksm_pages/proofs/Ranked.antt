@@ -15,19 +15,19 @@ use Rattle.ksm_order.proofs.Parts.{up_to_few}
 
 module _ (page : GuestPage) (few : page.page < 2 ^ 32) where
   pub is_its : (x : Item) → is_of page (named_by x) ≡ is_at (key_of page) x
-  is_its x = grind (arith, nat_tests, few)
+  is_its x = grind (arith, nat_tests)
 
   pub before_its : (x : Item) → comes_before (named_by x).page page ≡ nat_lt x.key (key_of page)
-  before_its x = grind (arith, nat_tests, few)
+  before_its x = grind (arith, nat_tests)
 
   pub behind_its : (x : Item) → comes_before page (named_by x).page ≡ nat_lt (key_of page) x.key
-  behind_its x = grind (arith, nat_tests, few)
+  behind_its x = grind (arith, nat_tests)
 
   pub from_its : (x : Item) → comes_before page (named_by x).page ≡ is_from (key_of page + 1) x
-  from_its x = grind (arith, nat_tests, few)
+  from_its x = grind (arith, nat_tests)
 
   pub page_is : page_of (key_of page) ≡ page
-  page_is = grind (arith, few)
+  page_is = grind arith
 
 -- ---------------------------------------------------------------- all pages and all items
 
@@ -37,38 +37,37 @@ Less x y = x.key < y.key
 -- a search for a page finds what a search for its key finds
 pub found_by : (page : GuestPage) → page.page < 2 ^ 32 → (items : List Item)
     → find (is_of page) (map named_by items) ≡ option_map named_by (find (is_at (key_of page)) items)
-found_by page few items = find_mapped named_by (is_of page) (is_at (key_of page)) items (λ k d lt. is_its page few (get_or items k d))
+found_by page few items = find_mapped named_by (is_of page) _ _ (λ k d lt. is_its _ few (get_or items k d))
 
 pub absent_by : (page : GuestPage) → page.page < 2 ^ 32 → (items : List Item) → find (is_of page) (map named_by items) ≡ None
     → find (is_at (key_of page)) items ≡ None
-absent_by page few items absent = go (find (is_at (key_of page)) items) (sym (found_by page few items) ∙ absent)
+absent_by page few items absent = go _ (sym (found_by _ few _) ∙ absent)
   where
     go : (o : Option Item) → option_map named_by o ≡ None → o ≡ None
-    go None is = refl
-    go (Some x) is = absurd (none-some (named_by x) (sym is))
+    go o is = grind (arith, nat_tests, is)
 
-pub with_by : (page : GuestPage) → page.page < 2 ^ 32 → (x : Item) → x.key ≡ key_of page → (n : Named) → named_by x ≡ n → n.page ≡ page → (items : List Item)
+pub with_by : {page : GuestPage} → page.page < 2 ^ 32 → (x : Item) → x.key ≡ key_of page → {n : Named} → named_by x ≡ n → n.page ≡ page → (items : List Item)
     → with_named n (map named_by items) ≡ map named_by (with_item x items)
-with_by page few x at n is of items =
-    let lows = filter_mapped named_by (λ m. comes_before m.page n.page) (λ y. nat_lt y.key x.key) items
-    (λ k d lt. ap (comes_before (named_by (get_or items k d)).page) of ∙ before_its page few (get_or items k d) ∙ ap (nat_lt (get_or items k d).key) (sym at)) in
-    let highs = filter_mapped named_by (λ m. comes_before n.page m.page) (λ y. nat_lt x.key y.key) items
-    (λ k d lt. ap (λ p. comes_before p (named_by (get_or items k d)).page) of ∙ behind_its page few (get_or items k d) ∙ ap (λ key. nat_lt key (get_or items k d).key) (sym at)) in
+with_by few x at is of items =
+    let lows = filter_mapped named_by _ _ items
+    (λ k d lt. ap (comes_before (named_by (get_or items k d)).page) of ∙ before_its _ few (get_or items k d) ∙ ap (nat_lt (get_or items k d).key) (sym at)) in
+    let highs = filter_mapped named_by _ _ items
+    (λ k d lt. ap (λ p. comes_before p (named_by (get_or items k d)).page) of ∙ behind_its _ few (get_or items k d) ∙ ap (λ key. nat_lt key (get_or items k d).key) (sym at)) in
     ap₂ (λ front back. front ++ back) lows (ap₂ (λ m ms. m ∷ ms) (sym is) highs)
     ∙ sym (map-append named_by (filter (λ y. nat_lt y.key x.key) items) (x ∷ filter (λ y. nat_lt x.key y.key) items))
 
 pub without_by : (page : GuestPage) → page.page < 2 ^ 32 → (items : List Item)
     → without_named page (map named_by items) ≡ map named_by (without (key_of page) items)
 without_by page few items =
-    filter_mapped named_by (λ m. not (is_of page m)) (λ x. not (is_at (key_of page) x)) items (λ k d lt. ap not (is_its page few (get_or items k d)))
+    filter_mapped named_by (λ m. not (is_of page m)) (λ x. not (is_at (key_of page) x)) _ (λ k d lt. ap not (is_its _ few (get_or items k d)))
 
 pub marked_by : (page : GuestPage) → page.page < 2 ^ 32 → (mark : Bool) → (items : List Item)
     → marked page mark (map named_by items) ≡ map named_by (with_mark (key_of page) mark items)
 marked_by page few mark items =
     let change : Item → Item = λ x. if is_at (key_of page) x then record x { marked = mark } else x in
-    map_mapped (λ m. if is_of page m then record m { mergeable = mark } else m) named_by (λ x. named_by (change x)) items
-    (λ k d lt. ap (λ b. if b then record (named_by (get_or items k d)) { mergeable = mark } else named_by (get_or items k d)) (is_its page few (get_or items k d)) ∙ chosen mark (get_or items k d) (is_at (key_of page) (get_or items k d)))
-    ∙ sym (map_mapped named_by change (λ x. named_by (change x)) items (λ k d lt. refl))
+    map_mapped _ _ (λ x. named_by (change x)) _
+    (λ k d lt. ap (λ b. if b then record (named_by (get_or items k d)) { mergeable = mark } else named_by (get_or items k d)) (is_its _ few (get_or items k d)) ∙ chosen _ _ _)
+    ∙ sym (map_mapped _ _ _ _ (λ k d lt. refl))
   where
     chosen : (mark : Bool) (x : Item) (b : Bool) → (if b then record (named_by x) { mergeable = mark } else named_by x) ≡ named_by (if b then record x { marked = mark } else x)
     chosen mark x true = refl
@@ -77,7 +76,7 @@ marked_by page few mark items =
 -- ---------------------------------------------------------------- those that a scan visits
 
 pub visited_by : (items : List Item) → visited (map named_by items) ≡ map named_by (kept_marked items)
-visited_by items = filter_mapped named_by (λ n. n.mergeable) (λ x. x.marked) items (λ k d lt. refl)
+visited_by items = filter_mapped _ (λ n. n.mergeable) (λ x. x.marked) items (λ k d lt. refl)
 
 -- where items are in order, those that are marked and do not come before a key are the marked ones but for as many as come before
 module _ (key : ℕ) where
@@ -89,24 +88,24 @@ module _ (key : ℕ) where
       elim (cases_Bool x.marked) [
         | inl is ↦ elim (cases_lt x.key key) [
           | inl less ↦
-              let n : up_to key (x ∷ xs) ≡ suc (up_to key xs) = grind (arith, nat_tests, is, less, counts) in
-              let fails : (x.marked && is_from key x) ≡ false = grind (arith, nat_tests, less) in
-              let all : kept_marked (x ∷ xs) ≡ x ∷ kept_marked xs = grind (arith, is) in
+              let n : up_to key (x ∷ xs) ≡ suc (up_to key xs) = grind (arith, nat_tests) in
+              let fails : (x.marked && is_from key x) ≡ false = grind (arith, nat_tests) in
+              let all : kept_marked (x ∷ xs) ≡ x ∷ kept_marked xs = grind arith in
               let kept : filter (λ y. y.marked && is_from key y) (x ∷ xs) ≡ filter (λ y. y.marked && is_from key y) xs = grind (arith, fails) in
               kept ∙ rest ∙ sym (ap₂ (λ m ys. drop m ys) n all)
           | inr more ↦
-              let later : All (λ y. key ≤ y.key) xs = λ k d lt. let up : x.key < (get_or xs k d).key = pairs_head Less x xs rise k d lt in omega (arith, up, more) in
+              let later : All (λ y. key ≤ y.key) xs = λ k d lt. let up = pairs_head Less x xs rise k d lt in omega (arith, up) in
               let none = up_to_behind key xs later in
-              let n : up_to key (x ∷ xs) ≡ 0 = grind (arith, nat_tests, more, none, counts) in
-              let passes : (x.marked && is_from key x) ≡ true = grind (arith, nat_tests, is, more) in
-              let all : kept_marked (x ∷ xs) ≡ x ∷ kept_marked xs = grind (arith, is) in
+              let n : up_to key (x ∷ xs) ≡ 0 = grind (arith, nat_tests) in
+              let passes : (x.marked && is_from key x) ≡ true = grind (arith, nat_tests) in
+              let all : kept_marked (x ∷ xs) ≡ x ∷ kept_marked xs = grind arith in
               let kept : filter (λ y. y.marked && is_from key y) (x ∷ xs) ≡ x ∷ filter (λ y. y.marked && is_from key y) xs = grind (arith, passes) in
               kept ∙ ap (λ ys. x ∷ ys) (rest ∙ ap (λ m. drop m (kept_marked xs)) none) ∙ sym (ap₂ (λ m ys. drop m ys) n all)
         ]
         | inr other ↦
-            let n : up_to key (x ∷ xs) ≡ up_to key xs = grind (arith, other, counts) in
-            let all : kept_marked (x ∷ xs) ≡ kept_marked xs = grind (arith, other) in
-            let kept : filter (λ y. y.marked && is_from key y) (x ∷ xs) ≡ filter (λ y. y.marked && is_from key y) xs = grind (arith, other) in
+            let n : up_to key (x ∷ xs) ≡ up_to key xs = grind arith in
+            let all : kept_marked (x ∷ xs) ≡ kept_marked xs = grind arith in
+            let kept : filter (λ y. y.marked && is_from key y) (x ∷ xs) ≡ filter (λ y. y.marked && is_from key y) xs = grind arith in
             kept ∙ rest ∙ sym (ap₂ (λ m ys. drop m ys) n all)
       ]
 
@@ -121,18 +120,18 @@ module _ (key : ℕ) where
       let counts = count_more (λ y. y.marked && nat_lt y.key key) x xs in
       elim (cases_Bool x.marked) [
         | inl is ↦
-            let all : kept_marked (x ∷ xs) ≡ x ∷ kept_marked xs = grind (arith, is) in
+            let all : kept_marked (x ∷ xs) ≡ x ∷ kept_marked xs = grind arith in
             let more = count_more below x (kept_marked xs) in
-            let same : (x.marked && nat_lt x.key key) ≡ below x = grind (arith, is) in
+            let same : (x.marked && nat_lt x.key key) ≡ below x = grind arith in
             counts ∙ ap₂ (λ b m. (if b then 1 else 0) + m) same rest ∙ sym (ap (count_by below) all ∙ more)
         | inr other ↦
-            let all : kept_marked (x ∷ xs) ≡ kept_marked xs = grind (arith, other) in
-            let n : up_to key (x ∷ xs) ≡ up_to key xs = grind (arith, other, counts) in
+            let all : kept_marked (x ∷ xs) ≡ kept_marked xs = grind arith in
+            let n : up_to key (x ∷ xs) ≡ up_to key xs = grind arith in
             n ∙ rest ∙ sym (ap (count_by below) all)
       ]
 
   nothing_below : (x : Item) (xs : List Item) → AreAscending (x ∷ xs) → key ≤ x.key → All (λ y. below y ≡ false) xs
-  nothing_below x xs rise more k d lt = let up : x.key < (get_or xs k d).key = pairs_head Less x xs rise k d lt in grind (arith, nat_tests, up, more)
+  nothing_below x xs rise more k d lt = let up = pairs_head Less x _ rise k d lt in grind (arith, nat_tests, up)
 
   -- where items are in order, those before a key stand first
   kept_first : (xs : List Item) → AreAscending xs → filter below xs ≡ take (count_by below xs) xs
@@ -143,12 +142,12 @@ module _ (key : ℕ) where
       elim (cases_lt x.key key) [
         | inl less ↦
             let n : count_by below (x ∷ xs) ≡ suc (count_by below xs) = grind (arith, nat_tests, less, counts) in
-            let kept : filter below (x ∷ xs) ≡ x ∷ filter below xs = grind (arith, nat_tests, less) in
+            let kept : filter below (x ∷ xs) ≡ x ∷ filter below xs = grind (arith, nat_tests) in
             kept ∙ ap (λ ys. x ∷ ys) rest ∙ sym (ap (λ m. take m (x ∷ xs)) n)
         | inr more ↦
-            let all : All (λ y. below y ≡ false) (x ∷ xs) = All-cons (λ y. below y ≡ false) x xs (grind (arith, nat_tests, more)) (nothing_below x xs rise more) in
+            let all = All-cons (λ y. below y ≡ false) x xs (grind (arith, nat_tests)) (nothing_below x _ rise more) in
             let none = filter_none below (x ∷ xs) all in
-            let n : count_by below (x ∷ xs) ≡ 0 = sym (length-filter below (x ∷ xs)) ∙ ap length none in
+            let n = sym (length-filter below (x ∷ xs)) ∙ ap length none in
             none ∙ sym (ap (λ m. take m (x ∷ xs)) n)
       ]
 
@@ -161,37 +160,37 @@ module _ (key : ℕ) where
 
   -- also of those behind the first so many
   pub kept_between : (n : ℕ) (xs : List Item) → AreAscending xs → filter below (drop n xs) ≡ take (count_by below xs - n) (drop n xs)
-  kept_between zero xs rise = kept_first xs rise ∙ ap (λ m. take m xs) (omega arith)
-  kept_between (suc n) [] rise = take_none (0 - suc n)
+  kept_between zero xs rise = kept_first _ rise ∙ ap (λ m. take m xs) (omega arith)
+  kept_between (suc n) [] rise = take_none _
   kept_between (suc n) (x ∷ xs) rise =
-      let rest = kept_between n xs (pairs_tail Less x xs rise) in
+      let rest = kept_between n xs (pairs_tail Less x _ rise) in
       let counts = count_more below x xs in
       let same : count_by below (x ∷ xs) - suc n ≡ count_by below xs - n = elim (cases_lt x.key key) [
-        | inl less ↦ let m : count_by below (x ∷ xs) ≡ 1 + count_by below xs = grind (arith, nat_tests, less, counts) in omega (arith, m)
+        | inl less ↦ let m : count_by below (x ∷ xs) ≡ 1 + count_by below xs = grind (arith, nat_tests) in omega arith
         | inr more ↦
-            let m : count_by below (x ∷ xs) ≡ count_by below xs = grind (arith, nat_tests, more, counts) in
-            let none : count_by below xs ≡ 0 = sym (length-filter below xs) ∙ ap length (filter_none below xs (nothing_below x xs rise more)) in
-            omega (arith, m, none)
+            let m : count_by below (x ∷ xs) ≡ count_by below xs = grind (arith, nat_tests) in
+            let none = sym (length-filter below xs) ∙ ap length (filter_none below _ (nothing_below x _ rise more)) in
+            omega (arith, none)
       ] in
       rest ∙ ap (λ m. take m (drop n xs)) (sym same)
 
 -- the pages of items in order are in order
 pub rises_by : (items : List Item) → AreAscending items → AreInOrder (map named_by items)
 rises_by items rise =
-    pairs_mapped Less (λ (m n : Named). comes_before m.page n.page ≡ true) (λ (x : Item). x.key ≡ x.key) named_by
-    (λ a b _ _ less. grind (arith, nat_tests, less)) items (λ k d lt. refl) rise
+    pairs_mapped Less (λ (m n : Named). comes_before m.page n.page ≡ true) (λ (x : Item). x.key ≡ x.key) _
+    (λ a b _ _ less. grind (arith, nat_tests)) items (λ k d lt. refl) rise
 
 -- one item more
 pub longer_by : (n : Named) (x : Item) (items : List Item) → AreAscending items → find (is_of n.page) (map named_by items) ≡ None
     → with_named n (map named_by items) ≡ map named_by (with_item x items) → length (with_item x items) ≡ length items + 1
 longer_by n x items rise absent same =
-    let longer = length_with (λ m. m.page) n.page n (map named_by items) (rises_by items rise) absent in
+    let longer = length_with (λ m. m.page) n.page n _ (rises_by items rise) absent in
     omega (arith, longer, ap length same, length-map items named_by, length-map (with_item x items) named_by)
 
 -- there is a key at each place of a list
 pub some_at : (xs : List Item) (place : ℕ) → place < length xs → key_at xs place ≡ None → ⊥
 some_at [] place lt none = absurd (omega arith)
-some_at (x ∷ xs) zero lt none = none-some x.key (sym none)
+some_at (x ∷ xs) zero lt none = none-some _ (sym none)
 some_at (x ∷ xs) (suc n) lt none = some_at xs n (omega arith) none
 
 -- what stands at a place of a rest, and of a beginning
@@ -214,28 +213,28 @@ page_by None = refl
 page_by (Some x) = refl
 
 -- a key at a place is that of one of the items
-pub small_at : (P : ℕ → Type 0) (xs : List Item) (place key : ℕ) → All (λ x. P x.key) xs → key_at xs place ≡ Some key → P key
-small_at P [] place key all is = absurd (none-some key (sym (ap (option_map (λ (x : Item). x.key)) (slice_get_past [] place (omega arith))) ∙ is))
-small_at P (x ∷ xs) zero key all is = subst P (same_Some x.key key is) (All-head (λ y. P y.key) x xs all)
-small_at P (x ∷ xs) (suc n) key all is = small_at P xs n key (All-tail (λ y. P y.key) x xs all) is
+pub small_at : (P : ℕ → Type 0) (xs : List Item) (place : ℕ) {key : ℕ} → All (λ x. P x.key) xs → key_at xs place ≡ Some key → P key
+small_at P [] place all is = absurd (none-some _ (sym (ap (option_map (λ (x : Item). x.key)) (slice_get_past [] place (omega arith))) ∙ is))
+small_at P (x ∷ xs) zero all is = subst P (same_Some _ _ is) (All-head (λ y. P y.key) x _ all)
+small_at P (x ∷ xs) (suc n) all is = small_at P xs n (All-tail (λ y. P y.key) x _ all) is
 
 -- without an item that is there, the list has one fewer
 pub gone_one : (key : ℕ) (xs : List Item) → AreAscending xs → is_some (find (is_at key) xs) ≡ true → length (without key xs) + 1 ≡ length xs
 gone_one key [] rise there = absurd (true≢false (sym there))
-gone_one key (x ∷ xs) rise there = elim (cases_Bool (is_at key x)) [
+gone_one key (x ∷ xs) rise there = elim (cases_Bool _) [
   | inl is ↦
-      let at : x.key ≡ key = eqb-true x.key key is in
-      let others = filter_all (λ y. not (is_at key y)) xs (λ k d lt. let up : x.key < (get_or xs k d).key = pairs_head Less x xs rise k d lt in grind (arith, nat_tests, up, at)) in
-      let kept : without key (x ∷ xs) ≡ without key xs = grind (arith, is) in
+      let at = eqb-true x.key key is in
+      let others = filter_all (λ y. not (is_at key y)) xs (λ k d lt. let up = pairs_head Less x xs rise k d lt in grind (arith, nat_tests, up, at)) in
+      let kept : without key (x ∷ xs) ≡ without key xs = grind arith in
       omega (arith, ap length kept, ap length others)
   | inr other ↦
-      let later : is_some (find (is_at key) xs) ≡ true = grind (arith, other, there) in
-      let kept : without key (x ∷ xs) ≡ x ∷ without key xs = grind (arith, other) in
-      omega (arith, ap length kept, gone_one key xs (pairs_tail Less x xs rise) later)
+      let later : is_some (find (is_at key) xs) ≡ true = grind arith in
+      let kept : without key (x ∷ xs) ≡ x ∷ without key xs = grind arith in
+      omega (arith, ap length kept, gone_one key xs (pairs_tail Less x _ rise) later)
 ]
 
 -- the page at a place of those that a scan visits
-module _ (items : List Item) (now : List Named) (seen_as : map named_by items ≡ now) where
+module _ (items : List Item) {now : List Named} (seen_as : map named_by items ≡ now) where
   pub visited_is : visited now ≡ map named_by (kept_marked items)
   visited_is = ap visited (sym seen_as) ∙ visited_by items
 
@@ -245,22 +244,22 @@ module _ (items : List Item) (now : List Named) (seen_as : map named_by items �
   pub visited_at : (place key : ℕ) → key_at (kept_marked items) place ≡ Some key → page_at (visited now) place ≡ Some (page_of key)
   visited_at place key is =
       ap (λ ns. page_at ns place) visited_is
-      ∙ ap (option_map (λ n. n.page)) (slice_get-map named_by (kept_marked items) place)
-      ∙ page_by (slice_get (kept_marked items) place)
+      ∙ ap (option_map (λ n. n.page)) (slice_get-map named_by _ place)
+      ∙ page_by _
       ∙ ap (option_map page_of) is
 
   -- those behind a cursor and before a page, where it is known how many visited ones come before each
   module _ (cursor : Option GuestPage) (page : GuestPage) (few : page.page < 2 ^ 32) (rise : AreAscending items)
-      (passed before : ℕ) (ahead : ahead_of cursor now ≡ drop passed (visited now)) (many : before ≡ up_to (key_of page) items) where
+      (passed : ℕ) {before : ℕ} (ahead : ahead_of cursor now ≡ drop passed (visited now)) (many : before ≡ up_to (key_of page) items) where
     pub passed_is : passed_to cursor page now ≡ take (before - passed) (drop passed (visited now))
     passed_is =
         let marked_ones = kept_marked items in
-        let whole : drop passed (visited now) ≡ map named_by (drop passed marked_ones) = ap (drop passed) visited_is ∙ drop-map named_by passed marked_ones in
+        let whole = ap (drop passed) visited_is ∙ drop-map named_by passed marked_ones in
         let count = many ∙ counted_marked (key_of page) items in
         ap (filter (λ n. comes_before n.page page)) (ahead ∙ whole)
-        ∙ filter_mapped named_by (λ n. comes_before n.page page) (below (key_of page)) (drop passed marked_ones) (λ k d lt. before_its page few (get_or (drop passed marked_ones) k d))
-        ∙ ap (map named_by) (kept_between (key_of page) passed marked_ones (AllPairs-filter Less (λ x. x.marked) items rise) ∙ ap (λ n. take (n - passed) (drop passed marked_ones)) (sym count))
-        ∙ sym (take-map named_by (before - passed) (drop passed marked_ones)) ∙ ap (take (before - passed)) (sym whole)
+        ∙ filter_mapped named_by (λ n. comes_before n.page page) (below (key_of page)) _ (λ k d lt. before_its _ few (get_or (drop passed marked_ones) k d))
+        ∙ ap (map named_by) (kept_between (key_of page) _ _ (AllPairs-filter Less _ _ rise) ∙ ap (λ n. take (n - passed) (drop passed marked_ones)) (sym count))
+        ∙ sym (take-map _ _ _) ∙ ap (take (before - passed)) (sym whole)
 
     pub passed_many : length (passed_to cursor page now) ≡ before - passed
     passed_many =
@@ -268,11 +267,11 @@ module _ (items : List Item) (now : List Named) (seen_as : map named_by items �
         ∙ length-take-le (before - passed) (drop passed (visited now)) (omega (arith, length-drop passed (visited now), visited_many, many, up_to_few (key_of page) items))
 
     pub passed_none : before ≤ passed → passed_to cursor page now ≡ []
-    passed_none none = nil_from_length (passed_to cursor page now) (omega (arith, passed_many, none))
+    passed_none none = nil_from_length _ (omega (arith, passed_many, none))
 
     pub passed_last : passed < before → (key : ℕ) → key_at (kept_marked items) (before - 1) ≡ Some key
         → page_at (passed_to cursor page now) (length (passed_to cursor page now) - 1) ≡ Some (page_of key)
     passed_last some key is =
         ap₂ (λ ns n. page_at ns (n - 1)) passed_is passed_many
-        ∙ ap (option_map (λ n. n.page)) (get_taken (before - passed) (before - passed - 1) (drop passed (visited now)) (omega (arith, some)) ∙ get_dropped passed (before - passed - 1) (visited now))
-        ∙ ap (page_at (visited now)) (omega (arith, some)) ∙ visited_at (before - 1) key is
+        ∙ ap (option_map (λ n. n.page)) (get_taken (before - passed) (before - passed - 1) _ (omega arith) ∙ get_dropped _ _ (visited now))
+        ∙ ap (page_at (visited now)) (omega arith) ∙ visited_at (before - 1) key is

@@ -1,5 +1,5 @@
 -- What is read of the rows along their order.
-use Rattle.ksm_pages.proofs.Names.{after_cursor, Ahead, ahead_of, All, All-filter, ap, ap₂, AreAscending, AreFiled, At, Bool, comes_before, ComesTo, count_by, End, Entry, filter, find, find_all, get, get_or, GuestPage, Held, held_in, held_under, last_or, length, length-map, List, map, Named, None, Option, option_map, option_or, pages_ahead, passed_to, Reaches, refl, Row, rows_of, Slab, slice_get, slice_get-map, Some, subst, sym, ℕ, ◌&&◌, ◌-◌, ◌<◌, ◌∙◌, ◌≡◌}
+use Rattle.ksm_pages.proofs.Names.{after_cursor, Ahead, ahead_of, All, All-filter, ap, ap₂, AreAscending, AreFiled, At, Bool, comes_before, ComesTo, count_by, End, Entry, filter, find, find_all, get, GuestPage, held_in, held_under, last_or, length-map, List, map, Named, None, Option, option_map, option_or, pages_ahead, passed_to, Reaches, refl, Row, rows_of, Slab, slice_get, slice_get-map, Some, subst, sym, ℕ, ◌&&◌, ◌-◌, ◌<◌, ◌∙◌, ◌≡◌}
 use Rattle.ksm_pages.specs.Ordered.{last_or as last_named}
 use Rattle.ksm_tree.proofs.Alike.{count_mapped, filter_mapped, find_mapped, map_mapped}
 use Rattle.ksm_pages.proofs.Filing.{all_stand, flag_under, page_under}
@@ -9,13 +9,13 @@ page_of n = n.page
 
 -- visits that come to a name of the order reach the page of that name
 pub reached : (ahead : List Named) (visits : ℕ) (to : Ahead) → ComesTo ahead visits to → Reaches (map page_of ahead) visits to
-reached ahead visits (At page) comes = (subst (λ n. visits < n) (sym (length-map ahead page_of)) comes.0, slice_get-map page_of ahead (visits - 1) ∙ comes.1)
+reached ahead visits (At page) comes = (subst (λ n. visits < n) (sym (length-map ahead page_of)) comes.0, slice_get-map page_of ahead _ ∙ comes.1)
 reached ahead visits (End made) comes = (comes.0 ∙ sym (length-map ahead page_of), comes.1)
 
 -- the last page of named pages, or the cursor, is the last of their pages, or the cursor
 pub last_mapped : (cursor : Option GuestPage) (named : List Named) → last_named cursor named ≡ last_or cursor (map page_of named)
 last_mapped cursor named =
-    ap (λ o. option_or o cursor) (sym (slice_get-map page_of named (length named - 1)))
+    ap (λ o. option_or o cursor) (sym (slice_get-map page_of named _))
     ∙ ap (λ n. option_or (slice_get (map page_of named) (n - 1)) cursor) (sym (length-map named page_of))
 
 module _ (pass : ℕ) (slab : Slab Entry) (order : List Named) (rise : AreAscending order) (filed : AreFiled slab order) where
@@ -23,39 +23,39 @@ module _ (pass : ℕ) (slab : Slab Entry) (order : List Named) (rise : AreAscend
   row_by n = (held_under pass (get slab n.key)).row
 
   all_pages : All (λ n. (row_by n).page ≡ n.page) order
-  all_pages k d lt = page_under pass slab (get_or order k d) (all_stand slab order rise filed k d lt)
+  all_pages k d lt = page_under _ slab (all_stand slab _ rise filed k d lt)
 
   all_flags : All (λ n. (row_by n).mergeable ≡ n.mergeable) order
-  all_flags k d lt = flag_under pass slab (get_or order k d) (all_stand slab order rise filed k d lt)
+  all_flags k d lt = flag_under _ slab (all_stand slab _ rise filed k d lt)
 
   -- the rows, one for each page of the order
   rows_by : rows_of (held_in pass slab order) ≡ map row_by order
-  rows_by = map_mapped (λ (h : Held). h.row) (λ n. held_under pass (get slab n.key)) row_by order (λ k d lt. refl)
+  rows_by = map_mapped _ _ _ _ (λ k d lt. refl)
 
   -- the first page that passes a test is the same in the rows and in the order
   pub page_found : (test : GuestPage → Bool) → option_map (λ r. r.page) (find (λ r. test r.page) (rows_of (held_in pass slab order))) ≡ option_map page_of (find (λ n. test n.page) order)
   page_found test =
       ap (λ rows. option_map (λ (r : Row). r.page) (find (λ r. test r.page) rows)) rows_by
-      ∙ ap (option_map (λ (r : Row). r.page)) (find_mapped row_by (λ r. test r.page) (λ n. test n.page) order (λ k d lt. ap test (all_pages k d lt)))
-      ∙ go (find (λ n. test n.page) order) refl
+      ∙ ap (option_map (λ (r : Row). r.page)) (find_mapped _ _ _ _ (λ k d lt. ap test (all_pages k d lt)))
+      ∙ go _ refl
     where
       go : (o : Option Named) → find (λ n. test n.page) order ≡ o → option_map (λ (r : Row). r.page) (option_map row_by o) ≡ option_map page_of o
       go None is = refl
-      go (Some n) is = ap Some (find_all (λ m. test m.page) (λ m. (row_by m).page ≡ m.page) order n is all_pages)
+      go (Some n) is = ap Some (find_all _ (λ m. (row_by m).page ≡ m.page) _ n is all_pages)
 
   -- as many rows are mergeable as pages are named so in the order
   pub flags_counted : count_by (λ r. r.mergeable) (rows_of (held_in pass slab order)) ≡ count_by (λ n. n.mergeable) order
-  flags_counted = ap (count_by (λ r. r.mergeable)) rows_by ∙ count_mapped row_by (λ r. r.mergeable) (λ n. n.mergeable) order all_flags
+  flags_counted = ap (count_by (λ r. r.mergeable)) rows_by ∙ count_mapped _ _ _ _ all_flags
 
   -- the pages that a scan has behind a cursor are the same in the rows and in the order
   pub ahead_by : (cursor : Option GuestPage) → pages_ahead cursor (rows_of (held_in pass slab order)) ≡ map page_of (ahead_of cursor order)
   ahead_by cursor =
       ap (pages_ahead cursor) rows_by
-      ∙ ap (map (λ (r : Row). r.page)) (filter_mapped row_by (λ r. r.mergeable && after_cursor cursor r.page) (λ n. n.mergeable && after_cursor cursor n.page) order (λ k d lt. ap₂ (λ b p. b && after_cursor cursor p) (all_flags k d lt) (all_pages k d lt)))
-      ∙ map_mapped (λ (r : Row). r.page) row_by page_of (ahead_of cursor order) (All-filter (λ n. n.mergeable && after_cursor cursor n.page) (λ n. (row_by n).page ≡ n.page) order all_pages)
+      ∙ ap (map (λ (r : Row). r.page)) (filter_mapped _ _ _ _ (λ k d lt. ap₂ (λ b p. b && after_cursor cursor p) (all_flags k d lt) (all_pages k d lt)))
+      ∙ map_mapped _ _ _ _ (All-filter _ (λ n. (row_by n).page ≡ n.page) _ all_pages)
 
   -- the pages that a scan has behind a cursor and before a page are the same in the rows and in the order
   pub between_by : (cursor : Option GuestPage) (page : GuestPage) → filter (λ p. comes_before p page) (pages_ahead cursor (rows_of (held_in pass slab order))) ≡ map page_of (passed_to cursor page order)
   between_by cursor page =
-      ap (filter (λ p. comes_before p page)) (ahead_by cursor)
-      ∙ filter_mapped page_of (λ p. comes_before p page) (λ n. comes_before n.page page) (ahead_of cursor order) (λ k d lt. refl)
+      ap (filter (λ p. comes_before p page)) (ahead_by _)
+      ∙ filter_mapped _ (λ p. comes_before p page) (λ n. comes_before n.page page) _ (λ k d lt. refl)

@@ -1,103 +1,85 @@
 -- The rows once each entry was changed, or the next pass began.
-use Rattle.ksm_pages.proofs.Names.{[], ap, ap₂, AreFiled, AreListed, arith, Bool, CalledAt, cond, count_by, count_none, Entry, false, forgotten, get, get_or, has_item, Held, held_in, held_of, held_under, is_restless, IsRows, IsTally, Kind, List, Listing, map, Merged, merged_state, MutBor, Named, named_of, None, on_row, Option, option_map, PageState, Private, refl, RetainsFrom, rows_of, settled, settled_state, Slab, Some, state_of, subst, sym, Tally, true, Waiting, waiting_state, Zero, zero_state, ℕ, ◌+◌, ◌==◌, ◌∙◌, ◌∷◌, ◌≡◌, ◌≢◌, ◌≤◌, holds}
+use Rattle.ksm_pages.proofs.Names.{[], ap, ap₂, AreFiled, AreListed, arith, Bool, CalledAt, cond, count_by, count_none, Entry, false, forgotten, get, get_or, has_item, Held, held_in, held_of, held_under, is_restless, IsRows, IsTally, List, Listing, map, Merged, MutBor, Named, named_of, nat_tests, None, on_row, Option, option_map, PageState, Private, refl, RetainsFrom, rows_of, settled, Slab, Some, subst, sym, Tally, true, Waiting, Zero, ℕ, ◌+◌, ◌∙◌, ◌∷◌, ◌≡◌, ◌≤◌, holds}
 use Rattle.ksm_pages.proofs.Options.{mapped_some}
 use Rattle.std.proofs.Math.ListN.{get_or-map}
 use Rattle.ksm_pages.specs.declared.row.Kind.TheVariants as kinds
 use Rattle.ksm_tree.proofs.Alike.{count_mapped, map_mapped}
-use Rattle.ksm_pages.proofs.Filing.{all_stand, under_named}
-use Rattle.ksm_pages.proofs.Gathering.{own_either}
+use Rattle.ksm_pages.proofs.Filing.{all_stand}
 use Rattle.ksm_pages.proofs.Resting.{settled_by}
-use Rattle.ksm_pages.proofs.Writing.{left_fits, rest_of, rests_apart}
+use Rattle.ksm_pages.proofs.Writing.{left_fits}
 
 -- where each call of a retain keeps its value and changes it by g, all full slots are changed by g
 pub retained_all : {T F : Type 0} (step : F → ℕ → MutBor T → Bool → MutBor T → F → Type 0) (g : T → T) → ((f : F) (k : ℕ) (old : T) (keep : Bool) (new : T) (next : F) → CalledAt step f k old keep new next → (keep ≡ true) × (new ≡ g old))
     → (f : F) (key : ℕ) (slots kept : List (Option T)) → RetainsFrom step f key slots kept → kept ≡ map (option_map g) slots
 retained_all step g says f key [] kept r = r
-retained_all step g says f key (None ∷ rest) kept (later, is, r) = is ∙ ap (λ xs. None ∷ xs) (retained_all step g says f (key + 1) rest later r)
+retained_all step g says f key (None ∷ rest) kept (later, is, r) = is ∙ ap (λ xs. None ∷ xs) (retained_all step g says f _ rest later r)
 retained_all step g says f key (Some old ∷ rest) kept (keep, new, next, called, later, is, r) =
     let told = says f key old keep new next called in
     is
     ∙ ap (λ b. cond b (Some new) None ∷ later) told.0
     ∙ ap₂ (λ x xs. Some x ∷ xs) told.1 (retained_all step g says next (key + 1) rest later r)
 
--- an entry's state is settled where the number of an own page is not the pass, and any other number stays
-pub state_settled : (kind : Kind) (number left pass after : ℕ) → (kind ≡ kinds.Own → left ≢ after) → (kind ≢ kinds.Own → left ≡ number) → state_of kind left after ≡ settled_state (state_of kind number pass)
-state_settled kinds.Own number left pass after own other = rests_apart left after (own refl) ∙ sym (own_either (λ state. settled_state state ≡ Private) refl refl (number == pass))
-state_settled kinds.Merged number left pass after own other = ap Merged (other (λ is. cc))
-state_settled kinds.Zero number left pass after own other = refl
-
 -- rows whose states are read alike before and after a change are counted alike
 counts_alike : (f : Held → Held) (p q : PageState → Bool) → ((h : Held) → p (f h).row.state ≡ q h.row.state) → (held : List Held)
     → count_by (λ r. p r.state) (rows_of (map f held)) ≡ count_by (λ r. q r.state) (rows_of held)
 counts_alike f p q same held =
     ap (count_by (λ r. p r.state)) (map_mapped (λ (h : Held). h.row) f (λ (h : Held). (f h).row) held (λ k d lt. refl))
-    ∙ count_mapped (λ (h : Held). (f h).row) (λ r. p r.state) (λ h. q h.row.state) held (λ k d lt. same (get_or held k d))
+    ∙ count_mapped (λ (h : Held). (f h).row) (λ r. p r.state) (λ h. q h.row.state) _ (λ k d lt. same (get_or held k d))
     ∙ sym (count_mapped (λ (h : Held). h.row) (λ r. q r.state) (λ h. q h.row.state) held (λ k d lt. refl))
 
 -- the tally of rows of which none waits any more
-tally_settled : (held : List Held) (tally : Tally) → IsTally (rows_of held) tally
+tally_settled : (held : List Held) {tally : Tally} → IsTally (rows_of held) tally
     → IsTally (rows_of (map (on_row settled) held)) (record tally { waiting = 0 })
-tally_settled held tally are = record {
-  merged = are.merged ∙ sym (counts merged_state merged_state refl refl (λ n. refl) refl);
-  waiting = sym (counts waiting_state (λ s. false) refl refl (λ n. refl) refl ∙ count_none (λ r. false) (rows_of held) (λ k d lt. refl));
-  zero = are.zero ∙ sym (counts zero_state zero_state refl refl (λ n. refl) refl);
+tally_settled held are = record {
+  merged = are.merged ∙ sym (counts _ _ refl refl (λ n. refl) refl);
+  waiting = sym (counts _ (λ s. false) refl refl (λ n. refl) refl ∙ count_none (λ r. false) (rows_of held) (λ k d lt. refl));
+  zero = are.zero ∙ sym (counts _ _ refl refl (λ n. refl) refl);
 }
   where
     counts : (p q : PageState → Bool) → p Private ≡ q Private → p Private ≡ q Waiting → ((n : ℕ) → p (Merged n) ≡ q (Merged n))
         → p Zero ≡ q Zero
         → count_by (λ r. p r.state) (rows_of (map (on_row settled) held)) ≡ count_by (λ r. q r.state) (rows_of held)
-    counts p q own waits merged zero_too =
-        counts_alike (on_row settled) p q (λ h. settled_by p q own waits merged zero_too h.row.state) held
+    counts p q own waits merged zero_too = counts_alike _ _ _ (λ h. settled_by p q own waits merged zero_too _) held
 
 -- the tally of rows whose states stay
-tally_kept : (f : Held → Held) → ((h : Held) → (f h).row.state ≡ h.row.state) → (held : List Held) (tally : Tally)
+tally_kept : (f : Held → Held) → ((h : Held) → (f h).row.state ≡ h.row.state) → (held : List Held) {tally : Tally}
     → IsTally (rows_of held) tally → IsTally (rows_of (map f held)) tally
-tally_kept f same held tally are = record { merged = are.merged ∙ counts merged_state; waiting = are.waiting ∙ counts waiting_state; zero = are.zero ∙ counts zero_state }
+tally_kept f same held are = record { merged = are.merged ∙ counts _; waiting = are.waiting ∙ counts _; zero = are.zero ∙ counts _ }
   where
     counts : (p : PageState → Bool) → count_by (λ r. p r.state) (rows_of held) ≡ count_by (λ r. p r.state) (rows_of (map f held))
     counts p = sym (counts_alike f p p (λ h. ap p (same h)) held)
 
-module _ (slab : Slab Entry) (order : List Named) (restless : Listing) (tally : Tally) (pass : ℕ) (are : IsRows slab order restless tally pass)
+module _ {slab : Slab Entry} {order : List Named} {restless : Listing} {tally : Tally} {pass : ℕ} (are : IsRows slab order restless tally pass)
     (later : Slab Entry) (after : ℕ) (g : Entry → Entry) (all : (k : ℕ) → get later k ≡ option_map g (get slab k))
     (same : (e : Entry) → (g e).page ≡ e.page) (flag : (e : Entry) → (g e).mergeable ≡ e.mergeable) (kind : (e : Entry) → (g e).kind ≡ e.kind) where
   named_all : (k : ℕ) → option_map (named_of k) (get later k) ≡ option_map (named_of k) (get slab k)
-  named_all k = ap (option_map (named_of k)) (all k) ∙ go (get slab k)
-    where
-      go : (o : Option Entry) → option_map (named_of k) (option_map g o) ≡ option_map (named_of k) o
-      go None = refl
-      go (Some e) = ap₂ (λ p b. Some (record { page = p; key = k; mergeable = b })) (same e) (flag e)
+  named_all k = grind (arith, nat_tests)
 
   -- once each entry is changed, but for its page, flag and kind, pages are named as their entries say
   pub all_filed : AreFiled later order
-  all_filed n = (λ h. named_all n.key ∙ (are.filed n).0 h, λ h. (are.filed n).1 (sym (named_all n.key) ∙ h))
+  all_filed n = (λ h. named_all _ ∙ (are.filed n).0 h, λ h. (are.filed n).1 (sym (named_all _) ∙ h))
 
   -- what holds for each changed entry holds for all that stand once each entry is changed
   pub all_from : (P : Entry → Type 0) → ((k : ℕ) (e : Entry) → get slab k ≡ Some e → P (g e)) → (k : ℕ) (e : Entry) → get later k ≡ Some e → P e
   all_from P holds k e stands =
-      let at = mapped_some g (get slab k) e (sym (all k) ∙ stands) in
+      let at = mapped_some _ _ (sym (all k) ∙ stands) in
       subst P at.2 (holds k at.0 at.1)
 
   -- once each entry is changed, the pages that a visit may change are listed still
   pub all_listed : restless.known ≡ true → AreListed later restless.pages
   all_listed known =
-      all_from (λ e. is_restless e ≡ true → has_item e.page restless.pages ≡ true)
+      all_from _
       (λ k e stands may. ap (λ p. has_item p restless.pages) (same e) ∙ are.listed known k e stands (sym (restless_same e) ∙ may))
     where
       restless_same : (e : Entry) → is_restless (g e) ≡ is_restless e
-      restless_same e = ap₂ (λ m k. is_restless (record e { mergeable = m; kind = k })) (flag e) (kind e)
+      restless_same e = grind (arith, nat_tests)
 
   -- once each entry is changed so that its row is changed by f, all rows are changed by f
   pub all_seen : (f : Held → Held) → ((k : ℕ) (e : Entry) → get slab k ≡ Some e → held_of after (g e) ≡ f (held_of pass e)) → held_in after later order ≡ map f (held_in pass slab order)
-  all_seen f is =
-      sym (map_mapped f (λ n. held_under pass (get slab n.key)) (λ n. held_under after (get later n.key)) order (λ k d lt. at (get_or order k d) (all_stand slab order are.ascending are.filed k d lt)))
+  all_seen f is = sym (map_mapped _ _ _ _ (λ k d lt. at _ (all_stand slab _ are.ascending are.filed k d lt)))
     where
       at : (n : Named) → option_map (named_of n.key) (get slab n.key) ≡ Some n → f (held_under pass (get slab n.key)) ≡ held_under after (get later n.key)
-      at n stands =
-          let u = under_named slab n stands in
-          ap (λ o. f (held_under pass o)) u.stands
-          ∙ sym (is n.key u.entry u.stands)
-          ∙ sym (ap (λ o. held_under after (option_map g o)) u.stands)
-          ∙ ap (held_under after) (sym (all n.key))
+      at n stands = grind (arith, nat_tests, stands)
 
   -- once each entry is changed so that its row is settled, the rows are lawful, and none waits
   pub all_settled : ((k : ℕ) (e : Entry) → get slab k ≡ Some e → held_of after (g e) ≡ on_row settled (held_of pass e)) → ((k : ℕ) (e : Entry) → get slab k ≡ Some e → (g e).kind ≡ kinds.Own → (g e).number ≤ after) → 1 ≤ after
@@ -106,38 +88,28 @@ module _ (slab : Slab Entry) (order : List Named) (restless : Listing) (tally : 
     ascending = are.ascending;
     filed = all_filed;
     listed = all_listed;
-    counted = subst (λ held. IsTally (rows_of held) (record tally { waiting = 0 })) (sym (all_seen (on_row settled) is)) (tally_settled (held_in pass slab order) tally are.counted);
-    begun = all_from (λ e. e.kind ≡ kinds.Own → e.number ≤ after) fits;
+    counted = subst (λ held. IsTally (rows_of held) (record tally { waiting = 0 })) (sym (all_seen _ is)) (tally_settled _ are.counted);
+    begun = all_from _ fits;
     counting = counting;
   }
 
--- an entry whose state is another
-abbrev in_state : PageState → Held → Held
-in_state state h = on_row (λ r. record r { state = state }) h
-
-module _ (slab : Slab Entry) (order : List Named) (restless : Listing) (tally : Tally) (pass : ℕ) (are : IsRows slab order restless tally pass) where
+module _ {slab : Slab Entry} {order : List Named} {restless : Listing} {tally : Tally} {pass : ℕ} (are : IsRows slab order restless tally pass) where
   -- ---------------------------------------------------------------- the next pass
 
   itself : (k : ℕ) → get slab k ≡ option_map (λ (e : Entry). e) (get slab k)
-  itself k = go (get slab k)
-    where
-      go : (o : Option Entry) → o ≡ option_map (λ (e : Entry). e) o
-      go None = refl
-      go (Some e) = refl
+  itself k = grind (arith, nat_tests)
 
   settled_next : (k : ℕ) (e : Entry) → get slab k ≡ Some e → held_of (pass + 1) e ≡ on_row settled (held_of pass e)
-  settled_next k e stands =
-      ap (λ st. in_state st (held_of pass e))
-      (state_settled e.kind e.number e.number pass (pass + 1) (λ own same. let fits = are.begun k e stands own in absurd (omega (arith, fits, same))) (λ other. refl))
+  settled_next k e stands = grind (arith, nat_tests, stands)
 
   -- in the next pass each row is seen settled
   pub next_seen : held_in (pass + 1) slab order ≡ map (on_row settled) (held_in pass slab order)
-  next_seen = all_seen slab order restless tally pass are slab (pass + 1) (λ e. e) itself (λ e. refl) (λ e. refl) (λ e. refl) (on_row settled) settled_next
+  next_seen = all_seen are slab _ _ itself (λ e. refl) (λ e. refl) (λ e. refl) _ settled_next
 
   -- in the next pass the rows are lawful, with none that waits
   pub next_rows : IsRows slab order restless (record tally { waiting = 0 }) (pass + 1)
   next_rows =
-      all_settled slab order restless tally pass are slab (pass + 1) (λ e. e) itself (λ e. refl) (λ e. refl) (λ e. refl) settled_next
+      all_settled are _ _ _ itself (λ e. refl) (λ e. refl) (λ e. refl) settled_next
       (λ k e stands own. let fits = are.begun k e stands own in omega (arith, fits)) (omega arith)
 
   -- ---------------------------------------------------------------- passes are counted anew
@@ -147,17 +119,16 @@ module _ (slab : Slab Entry) (order : List Named) (restless : Listing) (tally : 
     forgot k = ap (λ xs. get_or xs k None) slots ∙ get_or-map (option_map forgotten) slab.slots k None
 
     settled_anew : (k : ℕ) (e : Entry) → get slab k ≡ Some e → held_of 1 (forgotten e) ≡ on_row settled (held_of pass e)
-    settled_anew k e stands = ap (λ st. in_state st (held_of pass e)) (rest_of e.kind e.number pass 1 (omega arith))
+    settled_anew k e stands = grind (arith, nat_tests, stands)
 
     -- once each entry forgot its pass, each row is seen settled in pass 1
     pub anew_seen : held_in 1 later order ≡ map (on_row settled) (held_in pass slab order)
-    anew_seen = all_seen slab order restless tally pass are later 1 forgotten forgot (λ e. refl) (λ e. refl) (λ e. refl) (on_row settled) settled_anew
+    anew_seen = all_seen are later _ _ forgot (λ e. refl) (λ e. refl) (λ e. refl) _ settled_anew
 
     -- once each entry forgot its pass, the rows are lawful in pass 1, with none that waits
     pub anew_rows : IsRows later order restless (record tally { waiting = 0 }) 1
     anew_rows =
-        all_settled slab order restless tally pass are later 1 forgotten forgot (λ e. refl) (λ e. refl) (λ e. refl) settled_anew
-        (λ k e stands own. left_fits e.kind e.number 1 own) (omega arith)
+        all_settled are _ _ _ forgot (λ e. refl) (λ e. refl) (λ e. refl) settled_anew (λ k e stands own. left_fits _ _ _ own) (omega arith)
 
   -- ---------------------------------------------------------------- none is unchanged
 
@@ -170,15 +141,15 @@ module _ (slab : Slab Entry) (order : List Named) (restless : Listing) (tally : 
 
     -- once no entry is unchanged any more, each row is seen as not unchanged, and else as it was
     pub plain_seen : held_in pass later order ≡ map (on_row (λ r. record r { unchanged = false })) (held_in pass slab order)
-    plain_seen = all_seen slab order restless tally pass are later pass plain made_plain (λ e. refl) (λ e. refl) (λ e. refl) (on_row (λ r. record r { unchanged = false })) (λ k e stands. refl)
+    plain_seen = all_seen are later _ _ made_plain (λ e. refl) (λ e. refl) (λ e. refl) _ (λ k e stands. refl)
 
     -- once no entry is unchanged any more, the rows are lawful as before
     pub plain_rows : IsRows later order restless tally pass
     plain_rows = record {
       ascending = are.ascending;
-      filed = all_filed slab order restless tally pass are later pass plain made_plain (λ e. refl) (λ e. refl) (λ e. refl);
-      listed = all_listed slab order restless tally pass are later pass plain made_plain (λ e. refl) (λ e. refl) (λ e. refl);
-      counted = subst (λ held. IsTally (rows_of held) tally) (sym plain_seen) (tally_kept (on_row (λ r. record r { unchanged = false })) (λ h. refl) (held_in pass slab order) tally are.counted);
-      begun = all_from slab order restless tally pass are later pass plain made_plain (λ e. refl) (λ e. refl) (λ e. refl) (λ e. e.kind ≡ kinds.Own → e.number ≤ pass) (λ k e stands. are.begun k e stands);
+      filed = all_filed are later pass _ made_plain (λ e. refl) (λ e. refl) (λ e. refl);
+      listed = all_listed are later pass _ made_plain (λ e. refl) (λ e. refl) (λ e. refl);
+      counted = subst (λ held. IsTally (rows_of held) tally) (sym plain_seen) (tally_kept _ (λ h. refl) _ are.counted);
+      begun = all_from are later pass _ made_plain (λ e. refl) (λ e. refl) (λ e. refl) _ (λ k e stands. are.begun k e stands);
       counting = are.counting;
     }

@@ -1,5 +1,5 @@
 -- Spots in the order of their pages: the pages of them, once one was put in, written or taken away.
-use Rattle.ksm_pages.proofs.Names.{[], add-one, ap, append-nil, append_assoc, ap₂, AreInOrder, arith, Bool, cases_Bool, comes_before, cond_both, drop, drop_all, Entry, false, filter, find, find_filter, find_passes, get, get_or, get_or_default, GuestPage, has_item, if◌then◌else◌, inl, inr, insert, is_of, is_restless, is_some, is_useless, IsInVain, length, length-append, length-map, length-take-le, List, map, map-append, Named, None, not, not-true, Option, pages_of, pages_ordered, point_is_count, refl, same_page, same_page_eq, set, Slab, Some, Spot, subst, sym, take, true, true≢false, with_found, with_item, ℕ, ◌++◌, ◌+◌, ◌-◌, ◌<◌, ◌∙◌, ◌∷◌, ◌≡◌, ◌≤◌, ◌⊎◌}
+use Rattle.ksm_pages.proofs.Names.{[], add-one, ap, append-nil, append_assoc, ap₂, AreInOrder, arith, Bool, cases_Bool, comes_before, drop, drop_all, Entry, false, filter, find, find_filter, find_passes, get, get_or, get_or_default, GuestPage, has_item, if◌then◌else◌, inl, inr, insert, is_of, is_restless, is_some, is_useless, IsInVain, length, length-append, length-map, length-take-le, List, map, map-append, Named, nat_tests, None, not, not-true, Option, pages_of, pages_ordered, point_is_count, refl, same_page, same_page_eq, set, Slab, Some, Spot, subst, sym, take, true, true≢false, with_found, with_item, ℕ, ◌++◌, ◌+◌, ◌-◌, ◌<◌, ◌∙◌, ◌∷◌, ◌≡◌, ◌≤◌, ◌⊎◌}
 use Rattle.std.specs.List.{copy_within}
 use Rattle.std.specs.Option.{is_none}
 use Rattle.std.proofs.Math.Seq.{take-append_seam, take-suc}
@@ -16,22 +16,22 @@ page_of s = s.page
 
 -- the pages of spots in order ascend
 pub pages_rise : (spots : List Spot) → AreInOrder spots → AreAscending (pages_of spots)
-pages_rise spots rise = pairs_mapped (λ s t. comes_before s.page t.page ≡ true) (λ p q. comes_before p q ≡ true) (λ s. s ≡ s) page_of (λ s t e f less. less) spots (λ k d lt. refl) rise
+pages_rise spots rise = pairs_mapped _ (λ p q. comes_before p q ≡ true) (λ s. s ≡ s) _ (λ s t e f less. less) spots (λ k d lt. refl) rise
 
 -- the pages of spots that pass a test are the pages of those spots whose page passes
 pub pages_kept : (test : GuestPage → Bool) (spots : List Spot) → filter test (pages_of spots) ≡ pages_of (filter (λ s. test s.page) spots)
-pages_kept test spots = filter_mapped page_of test (λ s. test s.page) spots (λ k d lt. refl)
+pages_kept test spots = filter_mapped _ test (λ s. test s.page) _ (λ k d lt. refl)
 
 -- as many spots have a page that passes a test as their pages pass
 pub many_kept : (test : GuestPage → Bool) (spots : List Spot) → length (filter (λ s. test s.page) spots) ≡ length (filter test (pages_of spots))
-many_kept test spots = sym (length-map (filter (λ (s : Spot). test s.page) spots) page_of) ∙ ap length (sym (pages_kept test spots))
+many_kept test spots = sym (length-map (filter (λ (s : Spot). test s.page) spots) page_of) ∙ ap length (sym (pages_kept test _))
 
 -- a page is among the pages of spots exactly where a search finds a spot of that page
 pub listed_found : (page : GuestPage) (spots : List Spot) → has_item page (pages_of spots) ≡ is_some (find (λ s. same_page s.page page) spots)
 listed_found page spots =
     any_found (λ p. same_page p page) (pages_of spots)
-    ∙ ap is_some (find_mapped page_of (λ p. same_page p page) (λ s. same_page s.page page) spots (λ k d lt. refl))
-    ∙ some_mapped page_of (find (λ s. same_page s.page page) spots)
+    ∙ ap is_some (find_mapped page_of (λ p. same_page p page) (λ s. same_page s.page page) _ (λ k d lt. refl))
+    ∙ some_mapped page_of _
 
 module _ (spot : Spot) (spots : List Spot) (rise : AreInOrder spots) where
   abbrev before : Spot → Bool
@@ -48,31 +48,31 @@ module _ (spot : Spot) (spots : List Spot) (rise : AreInOrder spots) where
 
   -- spots in order stay in order with a spot put in at its place
   pub put_rises : AreInOrder put_in
-  put_rises = with_rises pages_ordered page_of spot.page spot spots refl rise
+  put_rises = with_rises pages_ordered page_of _ spot _ refl rise
 
   abbrev written : List Spot
   written = map (λ s. if same_page s.page spot.page then spot else s) spots
 
   same_pages : pages_of written ≡ pages_of spots
-  same_pages = map_mapped page_of (λ s. if same_page s.page spot.page then spot else s) page_of spots (λ k d lt. here (get_or spots k d))
+  same_pages = map_mapped _ _ _ _ (λ k d lt. here _)
     where
       here : (s : Spot) → (if same_page s.page spot.page then spot else s).page ≡ s.page
-      here s = cond_both (same_page s.page spot.page) spot s (λ x. x.page ≡ s.page) (λ same. sym (same_page_eq s.page spot.page same)) (λ _. refl)
+      here s = grind (arith, nat_tests)
 
   -- with a spot written over the one of its page, the pages are those with the page of that spot
   pub written_pages : has_item spot.page (pages_of spots) ≡ true → pages_of written ≡ with_item spot.page (pages_of spots)
-  written_pages has = same_pages ∙ with_found pages_ordered spot.page (pages_of spots) (pages_rise spots rise) has
+  written_pages has = same_pages ∙ with_found pages_ordered _ _ (pages_rise _ rise) has
 
 no_value : {X : Type 0} (found : Option X) → is_none found ≡ true → found ≡ None
 no_value None is = refl
 no_value (Some x) is = absurd (true≢false (sym is))
 
 -- a page that is swept out of the list is there in vain
-vain_of : (entries : Slab Entry) (order : List Named) (s : Spot) → is_useless order s (get entries s.key) ≡ true → IsInVain entries order s.page
-vain_of entries order s useless = go (get entries s.key) refl useless
+vain_of : {entries : Slab Entry} {order : List Named} (s : Spot) → is_useless order s (get entries s.key) ≡ true → IsInVain entries order s.page
+vain_of {entries} {order} s useless = go _ refl useless
   where
     unnamed : is_none (find (is_of s.page) order) ≡ true → IsInVain entries order s.page
-    unnamed none = inl (no_value (find (is_of s.page) order) none)
+    unnamed none = inl (no_value _ none)
 
     go : (o : Option Entry) → get entries s.key ≡ o → is_useless order s o ≡ true → IsInVain entries order s.page
     go None is none = unnamed none
@@ -83,16 +83,16 @@ vain_of entries order s useless = go (get entries s.key) refl useless
               key = s.key;
               entry = e;
               stands = is;
-              of_page = same_page_eq e.page s.page same;
+              of_page = same_page_eq _ _ same;
               calm = not-true (is_restless e) (sym (ap either same) ∙ useless);
             })
           | inr other ↦ unnamed (sym (ap either other) ∙ useless)
         ]
 
 -- a page of the spots stays once useless spots are swept out, or is there in vain
-pub swept : (entries : Slab Entry) (order : List Named) (spots : List Spot) (page : GuestPage) → has_item page (pages_of spots) ≡ true
+pub swept : {entries : Slab Entry} {order : List Named} (spots : List Spot) {page : GuestPage} → has_item page (pages_of spots) ≡ true
     → (has_item page (pages_of (filter (λ s. not (is_useless order s (get entries s.key))) spots)) ≡ true) ⊎ IsInVain entries order page
-swept entries order spots page has = go (find it spots) refl (sym (listed_found page spots) ∙ has)
+swept {entries} {order} spots {page} has = go _ refl (sym (listed_found page _) ∙ has)
   where
     it : Spot → Bool
     it s = same_page s.page page
@@ -103,33 +103,33 @@ swept entries order spots page has = go (find it spots) refl (sym (listed_found 
     go : (o : Option Spot) → find it spots ≡ o → is_some o ≡ true → (has_item page (pages_of (filter keeps spots)) ≡ true) ⊎ IsInVain entries order page
     go None is none = absurd (true≢false (sym none))
     go (Some s) is some = elim (cases_Bool (is_useless order s (get entries s.key))) [
-      | inl useless ↦ inr (subst (IsInVain entries order) (same_page_eq s.page page (find_passes it spots s is)) (vain_of entries order s useless))
-      | inr kept ↦ inl (listed_found page (filter keeps spots) ∙ ap is_some (find_filter it keeps spots s is (ap not kept)))
+      | inl useless ↦ inr (subst (IsInVain entries order) (same_page_eq s.page page (find_passes it spots s is)) (vain_of _ useless))
+      | inr kept ↦ inl (listed_found _ (filter keeps spots) ∙ ap is_some (find_filter _ _ spots s is (ap not kept)))
     ]
 
 -- one more behind a list, the elements from an index on moved up by one, and that one written there: it is put in
 pub moved_up : {X : Type 0} (xs : List X) (at : ℕ) (x : X) → at ≤ length xs → set (copy_within (xs ++ x ∷ []) at (length xs) (at + 1)) at x ≡ insert xs at x
 moved_up xs at x within =
     let l = xs ++ x ∷ [] in
-    let many : length l ≡ length xs + 1 = length-append xs (x ∷ []) in
-    let front : take (at + 1) l ≡ take at xs ++ get_or l at x ∷ [] =
-    ap (λ n. take n l) (add-one at) ∙ take-suc l at x (omega (arith, many)) ∙ ap (λ ys. ys ++ get_or l at x ∷ []) (take-append-le at xs (x ∷ []) within) in
-    let back : take (length xs - at) (drop at l) ≡ drop at xs =
-    sym (drop-take at (length xs - at) l) ∙ ap (λ n. drop at (take n l)) (omega arith) ∙ ap (drop at) (take-append_seam xs (x ∷ [])) in
-    let none : drop (at + 1 + (length xs - at)) l ≡ [] = drop_all _ l (omega (arith, many)) in
+    let many = length-append xs (x ∷ []) in
+    let front =
+    ap (λ n. take n l) (add-one at) ∙ take-suc l at x (omega arith) ∙ ap (λ ys. ys ++ get_or l at x ∷ []) (take-append-le at xs (x ∷ []) within) in
+    let back =
+    sym (drop-take at _ l) ∙ ap (λ n. drop at (take n l)) (omega arith) ∙ ap (drop at) (take-append_seam xs (x ∷ [])) in
+    let none = drop_all _ l (omega arith) in
     ap (λ ys. set ys at x) (ap₂ (λ a b. a ++ b) (ap₂ (λ a b. a ++ b) front back) none
     ∙ append-nil ((take at xs ++ get_or l at x ∷ []) ++ drop at xs)
     ∙ append_assoc (take at xs) (get_or l at x ∷ []) (drop at xs))
     ∙ set_at (take at xs) (get_or l at x) (drop at xs) x at (length-take-le at xs within)
 
 -- where a spot of a list in order comes before a page, and the next one does not, as many come before it as stand up to there
-pub place_between : (page : GuestPage) (spots : List Spot) → AreInOrder spots → (at : ℕ) (d e : Spot) → 0 < at → at < length spots
+pub place_between : (page : GuestPage) (spots : List Spot) → AreInOrder spots → {at : ℕ} (d e : Spot) → 0 < at → at < length spots
     → comes_before (get_or spots (at - 1) d).page page ≡ true → comes_before (get_or spots at e).page page ≡ false
     → at ≡ length (filter (λ s. comes_before s.page page) spots)
-place_between page spots rise at d e some within low high =
+place_between page spots rise {at} d e some within low high =
     let before : Spot → Bool = λ s. comes_before s.page page in
-    let split = parted pages_ordered page_of page spots rise in
-    point_is_count before spots at (omega arith)
+    let split = parted pages_ordered page_of page _ rise in
+    point_is_count _ _ at (omega arith)
     (λ k x from lt. split k (at - 1) x (omega arith) (omega arith) (rw (get_or_default spots (at - 1) x d (omega arith)) low))
-    (λ k x from lt. false_from_ne_true (before (get_or spots k x)) (λ is.
-    absurd (true≢false (sym (split at k x from lt is) ∙ ap before (get_or_default spots at x e within) ∙ high))))
+    (λ k x from lt. false_from_ne_true _ (λ is.
+    absurd (true≢false (sym (split at k x from lt is) ∙ ap before (get_or_default _ _ x e within) ∙ high))))

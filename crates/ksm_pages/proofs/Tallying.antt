@@ -2,14 +2,14 @@
 use Rattle.ksm_pages.proofs.Names.{ap, arith, Bool, CanMove, change_row, count_by, count_by-le-length, GuestPage, if◌then◌else◌, InPageOrder, IsMoved, IsTally, length, length-map, List, merged_state, None, one_if, Private, Row, row_at, same_page, Some, Tally, waiting_state, with_row, without_page, zero_state, ℕ, ◌+◌, ◌<◌, ◌^◌, ◌≡◌, ◌≤◌}
 use Rattle.ksm_base.proofs.RowCounts.{count_change_row, count_with_row, count_without_page}
 
-module _ (rows : List Row) (rise : InPageOrder rows) (page : GuestPage) (old : Row) (found : row_at page rows ≡ Some old) (tally later : Tally) (are : IsTally rows tally) where
+module _ {rows : List Row} (rise : InPageOrder rows) (page : GuestPage) {old : Row} (found : row_at page rows ≡ Some old) {tally : Tally} (later : Tally) (are : IsTally rows tally) where
   -- the row of a page went to another state
   module _ (new : Row) where
     abbrev changed : List Row
     changed = change_row page (λ _. new) rows
 
     counts : (p : Row → Bool) → count_by p changed + one_if (p old) ≡ count_by p rows + one_if (p new)
-    counts p = count_change_row p page (λ _. new) rows old rise found
+    counts p = count_change_row _ _ _ _ _ rise found
 
     most : (p : Row → Bool) → count_by p changed ≤ length rows
     most p =
@@ -17,52 +17,52 @@ module _ (rows : List Row) (rise : InPageOrder rows) (page : GuestPage) (old : R
         let same = length-map rows (λ r. if same_page r.page page then new else r) in
         omega (arith, le, same)
 
-    room : length rows < 2 ^ 64 → (p : Row → Bool) (n : ℕ) → n ≡ count_by p rows → n + one_if (p new) < 2 ^ 64 + one_if (p old)
-    room few p n is = let c = counts p in let m = most p in omega (arith, c, m, is, few)
+    room : length rows < 2 ^ 64 → (p : Row → Bool) {n : ℕ} → n ≡ count_by p rows → n + one_if (p new) < 2 ^ 64 + one_if (p old)
+    room few p is = let c = counts p in let m = most p in omega (arith, c, m, is, few)
 
-    has : (p : Row → Bool) (n : ℕ) → n ≡ count_by p rows → one_if (p old) ≤ n
-    has p n is = let c = count_without_page p page rows old rise found in omega (arith, c, is)
+    has : (p : Row → Bool) {n : ℕ} → n ≡ count_by p rows → one_if (p old) ≤ n
+    has p is = let c = count_without_page p page rows old rise found in omega (arith, c, is)
 
     -- a tally of the rows can take one row from its state to another
     pub can_move : length rows < 2 ^ 64 → CanMove old.state new.state tally
     can_move few = record {
-      merged = has (λ r. merged_state r.state) tally.merged are.merged;
-      merged_room = room few (λ r. merged_state r.state) tally.merged are.merged;
-      waiting = has (λ r. waiting_state r.state) tally.waiting are.waiting;
-      waiting_room = room few (λ r. waiting_state r.state) tally.waiting are.waiting;
-      zero = has (λ r. zero_state r.state) tally.zero are.zero;
-      zero_room = room few (λ r. zero_state r.state) tally.zero are.zero;
+      merged = has _ are.merged;
+      merged_room = room few _ are.merged;
+      waiting = has _ are.waiting;
+      waiting_room = room few _ are.waiting;
+      zero = has _ are.zero;
+      zero_room = room few _ are.zero;
     }
 
-    meets : (p : Row → Bool) (n m : ℕ) → n ≡ count_by p rows → m + one_if (p old) ≡ n + one_if (p new) → m ≡ count_by p changed
-    meets p n m is moved = let c = counts p in omega (arith, c, is, moved)
+    meets : (p : Row → Bool) {n m : ℕ} → n ≡ count_by p rows → m + one_if (p old) ≡ n + one_if (p new) → m ≡ count_by p changed
+    meets p is moved = let c = counts p in omega (arith, c, is, moved)
 
     -- a tally moved from a row's old state to its new one counts the rows with that row changed
     pub tally_changed : IsMoved old.state new.state tally later → IsTally changed later
     tally_changed moved = record {
-      merged = meets (λ r. merged_state r.state) tally.merged later.merged are.merged moved.merged;
-      waiting = meets (λ r. waiting_state r.state) tally.waiting later.waiting are.waiting moved.waiting;
-      zero = meets (λ r. zero_state r.state) tally.zero later.zero are.zero moved.zero;
+      merged = meets _ are.merged moved.merged;
+      waiting = meets _ are.waiting moved.waiting;
+      zero = meets _ are.zero moved.zero;
     }
 
   -- the row of a page went
-  left : (p : Row → Bool) (n m : ℕ) → n ≡ count_by p rows → m + one_if (p old) ≡ n + 0 → m ≡ count_by p (without_page page rows)
-  left p n m is moved = let c = count_without_page p page rows old rise found in omega (arith, c, is, moved)
+  left : (p : Row → Bool) {n m : ℕ} → n ≡ count_by p rows → m + one_if (p old) ≡ n + 0 → m ≡ count_by p (without_page page rows)
+  left p is moved = let c = count_without_page p page rows old rise found in omega (arith, c, is, moved)
 
   -- a tally moved from a row's state to Private counts the rows without that row
   pub tally_gone : IsMoved old.state Private tally later → IsTally (without_page page rows) later
   tally_gone moved = record {
-    merged = left (λ r. merged_state r.state) tally.merged later.merged are.merged moved.merged;
-    waiting = left (λ r. waiting_state r.state) tally.waiting later.waiting are.waiting moved.waiting;
-    zero = left (λ r. zero_state r.state) tally.zero later.zero are.zero moved.zero;
+    merged = left _ are.merged moved.merged;
+    waiting = left _ are.waiting moved.waiting;
+    zero = left _ are.zero moved.zero;
   }
 
 -- a Private row that comes leaves the tally as it is
-pub tally_put : (rows : List Row) (row : Row) (tally : Tally) → row_at row.page rows ≡ None → row.state ≡ Private → IsTally rows tally → IsTally (with_row row rows) tally
-tally_put rows row tally absent alone are =
-    let more : (p : Row → Bool) → count_by p (with_row row rows) ≡ count_by p rows + one_if (p row) = λ p. count_with_row p row rows absent in
+pub tally_put : {rows : List Row} (row : Row) {tally : Tally} → row_at row.page rows ≡ None → row.state ≡ Private → IsTally rows tally → IsTally (with_row row rows) tally
+tally_put {rows} row absent alone are =
+    let more : (p : Row → Bool) → count_by p (with_row row rows) ≡ count_by p rows + one_if (p row) = λ p. count_with_row p row _ absent in
     record {
-      merged = let m = more (λ r. merged_state r.state) in let n = ap (λ s. one_if (merged_state s)) alone in omega (arith, m, n, are.merged);
-      waiting = let m = more (λ r. waiting_state r.state) in let n = ap (λ s. one_if (waiting_state s)) alone in omega (arith, m, n, are.waiting);
-      zero = let m = more (λ r. zero_state r.state) in let n = ap (λ s. one_if (zero_state s)) alone in omega (arith, m, n, are.zero);
+      merged = let m = more (λ r. merged_state r.state) in let n = ap (λ s. one_if (merged_state s)) alone in omega arith;
+      waiting = let m = more (λ r. waiting_state r.state) in let n = ap (λ s. one_if (waiting_state s)) alone in omega arith;
+      zero = let m = more (λ r. zero_state r.state) in let n = ap (λ s. one_if (zero_state s)) alone in omega arith;
     }

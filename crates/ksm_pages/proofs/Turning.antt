@@ -1,9 +1,9 @@
 -- The pages once a call changed the row of one page: they are lawful, and what is seen of them changed so.
-use Rattle.ksm_pages.proofs.Names.{[], All-map, ap, ap₂, AreKept, AreTied, AreWaiting, at_mapped, cases_Bool, change_held, change_row, cond, cond_both, DupsState, false, find_passes, frame_of, frame_seen, get_or, GuestPage, Held, held_at, holds, if◌then◌else◌, inl, InPageOrder, inr, Inside, IsAlone, IsKnown, IsLeft, lies_on, List, Listing, Lodging, lodging, lodgings_of, map, mapped, MatchOption, merged_state, None, none_waiting, on_row, Option, option_map, ordered_map, PageState, PagesValue, PagesView, Private, refl, Row, row_at, rows_of, RowsView, same_page, same_page_eq, seen, settled_state, shared_state, Some, subst, sym, tied_mapped, true, true≢false, waiting_state, waits_there, without_held, without_page, ℕ, ⊤, ◌∙◌, ◌≡◌}
+use Rattle.ksm_pages.proofs.Names.{[], All-map, ap, ap₂, AreKept, AreTied, AreWaiting, arith, at_mapped, cases_Bool, change_held, change_row, cond, cond_both, DupsState, false, find_passes, frame_of, frame_seen, get_or, GuestPage, Held, held_at, holds, if◌then◌else◌, inl, InPageOrder, inr, Inside, IsAlone, IsKnown, IsLeft, lies_on, List, Listing, lodging, lodgings_of, map, mapped, MatchOption, merged_state, nat_tests, None, none_waiting, on_row, Option, option_map, ordered_map, PageState, PagesValue, PagesView, Private, refl, Row, row_at, rows_of, RowsView, same_page, same_page_eq, seen, settled_state, shared_state, Some, subst, sym, tied_mapped, true≢false, waiting_state, waits_there, without_held, without_page, ℕ, ⊤, ◌∙◌, ◌≡◌}
 use Rattle.std.proofs.lemmas.Bool.{some_since}
 use Rattle.ksm_tree.specs.Dups.{rows_of as dup_rows}
 use Rattle.ksm_tree.proofs.Alike.{map_alike, map_mapped}
-use Rattle.ksm_pages.proofs.Leaving.{AreLawful, alone_found, held_twice, lawful_gone, lawful_left, lies, of_dup, same_dups, same_next, told, told_gone, told_still, view_of}
+use Rattle.ksm_pages.proofs.Leaving.{AreLawful, alone_found, held_twice, lawful_gone, lawful_left, lies, of_dup, same_dups, told, told_gone, told_still, view_of}
 use Rattle.ksm_pages.proofs.Lodgings.{seat}
 use Rattle.ksm_pages.proofs.Resting.{item_alike, known_row, lies_alike, lies_settled, rests, settled_again, settled_still}
 
@@ -14,14 +14,13 @@ pub record Comes (s : Inside) (rows : RowsView) (later : DupsState) (new : Pages
 
 -- equal values of the rows hold the same
 pub held_as : {old new : RowsView} → new ≡ old → new.held ≡ old.held
-held_as same = ap (λ (r : RowsView). r.held) same
+held_as same = λ i. (same i).held
 
 -- two changes of the row of a page, one after the other, are one change
 pub and_then : (page : GuestPage) (f g : Row → Row) → ((r : Row) → (f r).page ≡ r.page) → (old : List Held) {first second : List Held}
     → first ≡ change_held page (on_row f) old → second ≡ change_held page (on_row g) first
     → second ≡ change_held page (on_row (λ r. g (f r))) old
-and_then page f g same old first second =
-    second ∙ ap (change_held page (on_row g)) first ∙ held_twice page (on_row f) (on_row g) (λ h. same h.row) old
+and_then page f g same old first second = second ∙ ap (change_held page (on_row g)) first ∙ held_twice _ _ _ (λ h. same h.row) _
 
 -- ---------------------------------------------------------------- a page that leaves what it is in
 
@@ -43,14 +42,13 @@ module _ {s : Inside} {p : PagesValue} {page : GuestPage} {later : DupsState} {f
   pub known_left : AreLawful s → view_of s ≡ p → IsKnown page p.rows
       → MatchOption (held_at page s.rows.held) ⊤ (IsLeft s.knobs frames s.dups later lone) → HasLeft s p page later frames lone
   known_left are seen_as known left =
-      let there = known_row s p seen_as page known in
+      let there = known_row s seen_as _ known in
       found_left are seen_as there.1 (subst (λ o. MatchOption o ⊤ (IsLeft s.knobs frames s.dups later lone)) there.1 left)
 
   -- a page with a frame of its own, which was let out, has left
   pub alone_left : AreLawful s → view_of s ≡ p → IsAlone page p.rows
       → MatchOption (held_at page s.rows.held) ⊤ (IsLeft s.knobs frames s.dups later lone) → HasLeft s p page later frames lone
-  alone_left are seen_as alone =
-      known_left are seen_as (some_since (row_at page p.rows) (true ≡ false) (λ r. shared_state r.state ≡ false) alone true≢false)
+  alone_left are seen_as alone = known_left are seen_as (some_since _ _ _ alone true≢false)
 
   module _ (it : HasLeft s p page later frames lone) where
     -- a page that has left lay on the frame that is told
@@ -58,13 +56,13 @@ module _ {s : Inside} {p : PagesValue} {page : GuestPage} {later : DupsState} {f
     lay same =
         it.left.frame
         ∙ ap (λ (fs : List ℕ). seat (lodging (dup_rows s.dups.dups) fs) (Some it.held)) same
-        ∙ lies s it.lawful page it.held it.found p it.seen_as
+        ∙ lies s it.lawful _ it.found it.seen_as
 
     dups_same : dup_rows later.dups ≡ dup_rows s.dups.dups
-    dups_same = same_dups s it.lawful page it.held it.found later it.left.dups it.left.waiting
+    dups_same = same_dups s it.lawful _ it.found it.left.dups it.left.waiting
 
     next_same : later.next ≡ s.dups.next
-    next_same = same_next s it.lawful page it.held it.found later it.left.dups it.left.waiting
+    next_same = grind (arith, nat_tests)
 
     module _ (rows : RowsView) {restless : Listing} (listed : rows.restless ≡ restless) where
       -- a page that has left comes to another state and lies where that state and its frame say
@@ -79,11 +77,9 @@ module _ {s : Inside} {p : PagesValue} {page : GuestPage} {later : DupsState} {f
           let to = λ (r : Row). record r { state = state } in
           let lain = frame_seen (of_dup s) state own in
           record {
-            lawful = lawful_left s it.lawful page it.held it.found later it.left.dups it.left.waiting (mapped state own) to (λ x. refl)
-                (λ r. refl) rows turned apart still;
+            lawful = lawful_left s it.lawful _ it.found it.left.dups it.left.waiting _ to (λ x. refl) (λ r. refl) rows turned apart still;
             told_as =
-                told s it.lawful page it.held it.found (mapped state own) to (λ x. refl)
-                (λ r. refl) rows turned p it.seen_as later dups_same next_same to refl lain refl
+                told s it.lawful _ it.found _ to (λ x. refl) (λ r. refl) rows turned it.seen_as later dups_same next_same _ refl refl
                 ∙ ap (λ (l : Listing). record (seen p) {
                   rows = change_row page to p.rows;
                   frame = lies_on page lain (frame_of p.lodgings);
@@ -97,17 +93,17 @@ module _ {s : Inside} {p : PagesValue} {page : GuestPage} {later : DupsState} {f
           → rows.held ≡ change_held page (on_row g) s.rows.held
           → Comes s rows later (record (seen p) { rows = change_row page to p.rows; restless = restless })
       rested g to same rest alone_seen agree turned =
-          let alone = alone_found s p it.seen_as page it.held it.found alone_seen in
-          let private : (g it.held.row).state ≡ Private = ap (λ (r : Row). r.state) (agree alone) ∙ rest it.held.row in
-          let stays = ap (λ st. frame_seen (of_dup s) st it.held.frame) (private ∙ sym (rests it.held.row.state alone))
-          ∙ lies_settled (of_dup s) it.held.row.state it.held.frame in
+          let alone = alone_found s it.seen_as _ it.found alone_seen in
+          let private = (λ i. (agree alone i).state) ∙ rest it.held.row in
+          let stays = ap (λ st. frame_seen (of_dup s) st it.held.frame) (private ∙ sym (rests _ alone))
+          ∙ lies_settled (of_dup s) _ it.held.frame in
           record {
-            lawful = lawful_left s it.lawful page it.held it.found later it.left.dups it.left.waiting (on_row g) g
+            lawful = lawful_left s it.lawful _ it.found it.left.dups it.left.waiting _ g
                 (λ x. refl) same rows turned (ap merged_state private) (ap waiting_state private);
             told_as =
-                told_still s it.lawful page it.held it.found (on_row g) g
-                (λ x. refl) same rows turned p it.seen_as later dups_same next_same to (agree alone) stays
-                ∙ ap (λ (l : Listing). record (seen p) { rows = change_row page to p.rows; restless = l }) listed;
+                told_still s it.lawful _ it.found _ g
+                (λ x. refl) same rows turned it.seen_as later dups_same next_same _ (agree alone) stays
+                ∙ (λ i. record (seen p) { rows = change_row page to p.rows; restless = (listed i) });
           }
 
     -- a page that has left and whose row is gone is seen no more, and lies on no frame
@@ -118,8 +114,8 @@ module _ {s : Inside} {p : PagesValue} {page : GuestPage} {later : DupsState} {f
           restless = rows.restless;
         })
     parted rows gone = record {
-      lawful = lawful_gone s it.lawful page it.held it.found later it.left.dups it.left.waiting rows gone;
-      told_as = told_gone s it.lawful page it.held it.found later it.left.dups it.left.waiting rows gone p it.seen_as;
+      lawful = lawful_gone s it.lawful _ it.found it.left.dups it.left.waiting rows gone;
+      told_as = told_gone s it.lawful _ it.found it.left.dups it.left.waiting rows gone it.seen_as;
     }
 
 -- ---------------------------------------------------------------- rows that change where they lie
@@ -137,11 +133,10 @@ module _ (s : Inside) (are : AreLawful s) {p : PagesValue} (seen_as : view_of s 
   still f pages like rows turned {restless = restless} listed later rest waits = record {
     lawful = record {
       small = are.small;
-      order = subst InPageOrder (sym changed) (ordered_map f before pages are.order);
-      tied = subst (λ rs. AreTied rs later.dups) (sym changed) (subst (AreTied (map f before)) (ap (λ (d : DupsState). d.dups) (sym rest))
-          (tied_mapped f before s.dups.dups
-          (λ k d lt. let r = get_or before k d in (pages r, λ number. item_alike number (f r).state r.state (like r))) are.tied));
-      places = ap (λ (d : DupsState). d.places) rest ∙ are.places;
+      order = subst InPageOrder (sym changed) (ordered_map f _ pages are.order);
+      tied = subst (λ rs. AreTied rs later.dups) (sym changed) (subst (AreTied (map f before)) (λ i. (sym rest i).dups)
+          (tied_mapped f _ _ (λ k d lt. let r = get_or before k d in (pages r, λ number. item_alike _ _ _ (like r))) are.tied));
+      places = (λ i. (rest i).places) ∙ are.places;
       waits = subst (λ rs. AreWaiting s.knobs rs later.waiting) (sym changed) waits;
       room = are.room;
     };
@@ -153,40 +148,36 @@ module _ (s : Inside) (are : AreLawful s) {p : PagesValue} (seen_as : view_of s 
           next = ap (λ (d : DupsState). d.next) rest i;
           restless = listed i;
         })
-        ∙ ap (λ (v : PagesValue). record (seen v) { rows = map f v.rows; restless = restless }) seen_as;
+        ∙ (λ i. record (seen (seen_as i)) { rows = map f (seen_as i).rows; restless = restless });
   }
     where
       changed : rows_of rows.held ≡ map f before
       changed =
           ap rows_of turned
-          ∙ map_mapped (λ (h : Held). h.row) (on_row f) (λ h. f h.row) s.rows.held (λ k d lt. refl)
-          ∙ sym (map_mapped f (λ (h : Held). h.row) (λ h. f h.row) s.rows.held (λ k d lt. refl))
+          ∙ map_mapped _ _ (λ h. f h.row) _ (λ k d lt. refl)
+          ∙ sym (map_mapped _ _ _ _ (λ k d lt. refl))
 
       dups : dup_rows later.dups ≡ dup_rows s.dups.dups
-      dups = ap (λ (d : DupsState). dup_rows d.dups) rest
-
-      lodged : Held → Lodging
-      lodged h = record { page = h.row.page; frame = frame_seen (of_dup s) h.row.state h.frame }
+      dups = λ i. dup_rows (rest i).dups
 
       lain : frame_of (lodgings_of (lodging (dup_rows later.dups) s.frames.items) rows.held) ≡ frame_of (lodgings_of (of_dup s) s.rows.held)
       lain =
           ap₂ (λ ds held. frame_of (lodgings_of (lodging ds s.frames.items) held)) dups turned
-          ∙ ap frame_of (map_mapped lodged (on_row f) lodged s.rows.held (λ k d lt.
+          ∙ ap frame_of (map_mapped _ _ _ _ (λ k d lt.
           let h = get_or s.rows.held k d in
-          ap₂ (λ page frame. record { page = page; frame = frame }) (pages h.row)
-          (lies_alike (of_dup s) (f h.row).state h.row.state h.frame (like h.row))))
+          ap₂ (λ page frame. record { page = page; frame = frame }) (pages h.row) (lies_alike _ _ _ _ (like h.row))))
 
   -- where every row is settled by a change and no page waits any more, all rows are seen changed so
   pub rest_all : (f : Row → Row) → ((r : Row) → (f r).page ≡ r.page) → ((r : Row) → (f r).state ≡ settled_state r.state) → (rows : RowsView)
       → rows.held ≡ map (on_row f) s.rows.held
-      → {restless : Listing} → rows.restless ≡ restless → (later : DupsState) → later ≡ record s.dups { waiting = [] }
+      → {restless : Listing} → rows.restless ≡ restless → {later : DupsState} → later ≡ record s.dups { waiting = [] }
       → Comes s rows later (record (seen p) { rows = map f p.rows; restless = restless })
-  rest_all f pages states rows turned listed later cleared =
-      still f pages (λ r. ap settled_state (states r) ∙ settled_again r.state) rows turned listed later
+  rest_all f pages states rows turned listed cleared =
+      still f pages (λ r. ap settled_state (states r) ∙ settled_again _) _ turned listed _
       (cleared ∙ (λ i. record s.dups { waiting = (sym cleared i).waiting }))
-      (subst (AreWaiting s.knobs (map f before)) (ap (λ (d : DupsState). d.waiting) (sym cleared))
-      (none_waiting s.knobs (map f before) (All-map (λ r. waiting_state r.state ≡ false) f before
-      (λ k d lt. ap waiting_state (states (get_or before k d)) ∙ settled_still (get_or before k d).state))))
+      (subst (AreWaiting s.knobs (map f before)) (λ i. (sym cleared i).waiting)
+      (none_waiting s.knobs _ (All-map (λ r. waiting_state r.state ≡ false) f _
+      (λ k d lt. ap waiting_state (states (get_or before k d)) ∙ settled_still _))))
 
   -- where a row changes, but for its page, state and where it waits, only that row is seen changed
   pub stays : (page : GuestPage) (g : Row → Row) → ((r : Row) → (g r).page ≡ r.page) → ((r : Row) → (g r).state ≡ r.state)
@@ -196,13 +187,13 @@ module _ (s : Inside) (are : AreLawful s) {p : PagesValue} (seen_as : view_of s 
       → Comes s rows s.dups (record (seen p) { rows = change_row page g p.rows; restless = rows.restless })
   stays page g same states alike rows turned =
       still f keeps (λ r. by r (λ x. settled_state x.state ≡ settled_state r.state) (ap settled_state (states r)) refl) rows
-      (turned ∙ map_alike change (on_row f) s.rows.held (λ k d lt. each (get_or s.rows.held k d))) refl s.dups refl waiting
+      (turned ∙ map_alike _ _ _ (λ k d lt. each _)) refl _ refl waiting
     where
       f : Row → Row
       f r = if same_page r.page page then g r else r
 
       by : (r : Row) (P : Row → Type 0) → P (g r) → P r → P (f r)
-      by r P there away = cond_both (same_page r.page page) (g r) r P (λ _. there) (λ _. away)
+      by r P there away = cond_both _ _ _ P (λ _. there) (λ _. away)
 
       keeps : (r : Row) → (f r).page ≡ r.page
       keeps r = by r (λ x. x.page ≡ r.page) (same r) refl
@@ -211,21 +202,20 @@ module _ (s : Inside) (are : AreLawful s) {p : PagesValue} (seen_as : view_of s 
       change h = if holds page h then on_row g h else h
 
       each : (h : Held) → change h ≡ on_row f h
-      each h = elim (cases_Bool (holds page h)) [
+      each h = elim (cases_Bool _) [
         | inl yes_it ↦ ap (λ b. cond b (on_row g h) h) yes_it ∙ ap (λ b. record h { row = cond b (g h.row) h.row }) (sym yes_it)
         | inr not_it ↦ ap (λ b. cond b (on_row g h) h) not_it ∙ ap (λ b. record h { row = cond b (g h.row) h.row }) (sym not_it)
       ]
 
       waiting : AreWaiting s.knobs (map f before) s.dups.waiting
       waiting t b q =
-          are.waits t b q ∙ go (row_at q before) refl
-          ∙ ap (waits_there s.knobs t b) (sym (at_mapped f q before (λ k d lt. keeps (get_or before k d))))
+          are.waits t b q ∙ go _ refl
+          ∙ ap (waits_there s.knobs t b) (sym (at_mapped f q before (λ k d lt. keeps _)))
         where
           go : (o : Option Row) → row_at q before ≡ o → waits_there s.knobs t b o ≡ waits_there s.knobs t b (option_map f o)
           go None is = refl
           go (Some r) is =
-              cond_both (same_page r.page page) (g r) r (λ x. waits_there s.knobs t b (Some r) ≡ waits_there s.knobs t b (Some x))
-              (λ at. let here = sym (same_page_eq r.page page at) ∙ same_page_eq r.page q
-              (find_passes (λ r. same_page r.page q) before r is) in
-              sym (alike r (ap (λ (v : PagesValue). row_at page v.rows) (sym seen_as) ∙ ap (λ q. row_at q before) here ∙ is) t b))
-              (λ _. refl)
+              cond_both _ _ _ (λ x. waits_there s.knobs t b (Some r) ≡ waits_there s.knobs t b (Some x))
+              (λ at. let here = sym (same_page_eq _ _ at) ∙ same_page_eq _ q
+              (find_passes (λ r. same_page r.page q) _ r is) in
+              sym (alike r ((λ i. row_at page (sym seen_as i).rows) ∙ ap (λ q. row_at q before) here ∙ is) t b)) (λ _. refl)

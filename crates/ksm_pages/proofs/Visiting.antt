@@ -1,5 +1,5 @@
 -- What a visit finds of a row that it may change, and the pages once the row waits.
-use Rattle.ksm_pages.proofs.Names.{all_zero, ap, AreKept, AreTied, AreWaiting, Best, best_dup, best_found, best_of, Bool, change_held, change_row, Dup, DupRow, DupsState, Entry, false, Find, Finds, FindsAt, found_at, GuestPage, Held, held_at, held_of, Inside, is_for_zero, IsAdded, IsAlone, List, Listing, MatchOption, None, none-some, not, number_of, on_row, Option, option_map, PagesValue, PagesView, partner, Private, refl, Row, row_at, rows_of, RowsView, same_page, same_Some, seen, shared_state, Some, subst, sym, tied_counted, tied_left, tree_of, true, unwrap_or, Waiting, waiting_page, ℕ, ◌&&◌, ◌==◌, ◌∙◌, ◌≡◌, and_parts, not-true}
+use Rattle.ksm_pages.proofs.Names.{all_zero, ap, AreKept, AreTied, AreWaiting, arith, Best, best_dup, best_found, best_of, Bool, change_held, change_row, Dup, DupRow, DupsState, Entry, false, Find, Finds, FindsAt, found_at, GuestPage, Held, held_at, held_of, Inside, is_for_zero, IsAdded, IsAlone, List, MatchOption, nat_tests, None, not, number_of, on_row, Option, option_map, PagesValue, PagesView, partner, Private, refl, Row, row_at, rows_of, RowsView, same_page, seen, shared_state, Some, subst, sym, tied_counted, tied_left, tree_of, true, unwrap_or, Waiting, waiting_page, ℕ, ◌&&◌, ◌==◌, ◌∙◌, ◌≡◌, and_parts, not-true}
 use Rattle.ksm_pages.proofs.Options.{none_mapped}
 use Rattle.std.specs.Option.{is_some}
 use Rattle.ksm_tree.specs.Dups.{rows_of as dup_rows}
@@ -8,13 +8,13 @@ use Rattle.ksm_pages.specs.Held.{is_restless as is_restless_entry}
 use Rattle.ksm_pages.specs.Paged.{is_restless, visited}
 use Rattle.ksm_pages.proofs.Gathering.{restless_as}
 use Rattle.ksm_pages.proofs.Joined.{let_out_alone}
-use Rattle.ksm_pages.proofs.Leaving.{AreLawful, lawful_turned, of_dup, of_page, row_seen, row_there, told_still, view_of}
+use Rattle.ksm_pages.proofs.Leaving.{AreLawful, lawful_turned, of_page, row_seen, row_there, told_still, view_of}
 use Rattle.ksm_pages.proofs.Meeting.{met_other, met_own, met_partner, met_waits}
 use Rattle.ksm_pages.proofs.Resting.{lies_alike, rests}
 
 -- ---------------------------------------------------------------- groups that got other numbers
 
-module _ (s : Inside) (later : DupsState) (kept : later ≡ record s.dups { numbers = later.numbers; most = later.most }) where
+module _ (s : Inside) {later : DupsState} (kept : later ≡ record s.dups { numbers = later.numbers; most = later.most }) where
   -- groups that got other numbers leave the pages lawful
   pub lawful_numbered : AreLawful s → AreLawful (record s { dups = later })
   lawful_numbered are =
@@ -23,47 +23,45 @@ module _ (s : Inside) (later : DupsState) (kept : later ≡ record s.dups { numb
 
   -- groups that got other numbers leave what is seen of the pages as it was
   pub seen_numbered : view_of (record s { dups = later }) ≡ view_of s
-  seen_numbered = ap (λ (d : DupsState). view_of (record s { dups = d })) kept
+  seen_numbered = λ i. view_of (record s { dups = (kept i) })
 
 -- ---------------------------------------------------------------- one row
 
-not_shared : (a b : Bool) → (a && not b) ≡ true → b ≡ false
-not_shared a b is = not-true b (and_parts a (not b) is).1
+not_shared : (a : Bool) {b : Bool} → (a && not b) ≡ true → b ≡ false
+not_shared a {b} is = not-true b (and_parts _ _ is).1
 
 -- a page without a row is found gone
-pub finds_none : (s : Inside) (p : PagesValue) → view_of s ≡ p → (page : GuestPage) → held_at page s.rows.held ≡ None
+pub finds_none : (s : Inside) {p : PagesValue} → view_of s ≡ p → (page : GuestPage) → held_at page s.rows.held ≡ None
     → Finds (seen p) (seen p) page finds.Gone
-finds_none s p seen_as page gone =
+finds_none s {p} seen_as page gone =
     subst (λ o. MatchOption o ((finds.Gone ≡ finds.Gone) × (seen p ≡ seen p)) (λ r. FindsAt (seen p) (seen p) r finds.Gone))
-    (sym (row_seen s p seen_as page gone)) (refl, refl)
+    (sym (row_seen s seen_as _ gone)) (refl, refl)
 
-finds_row : (s : Inside) (p : PagesValue) → view_of s ≡ p → (page : GuestPage) (h : Held) → held_at page s.rows.held ≡ Some h
+finds_row : (s : Inside) {p : PagesValue} → view_of s ≡ p → (page : GuestPage) {h : Held} → held_at page s.rows.held ≡ Some h
     → (new : PagesView) (what : Find) → FindsAt (seen p) new h.row what → Finds (seen p) new page what
-finds_row s p seen_as page h found new what is =
+finds_row s {p} seen_as page found new what is =
     subst (λ o. MatchOption o ((what ≡ finds.Gone) × (new ≡ seen p)) (λ r. FindsAt (seen p) new r what))
-    (sym (row_seen s p seen_as page found)) is
+    (sym (row_seen s seen_as _ found)) is
 
 -- a row that no visit may change is found gone
-pub finds_gone : (s : Inside) (p : PagesValue) → view_of s ≡ p → (page : GuestPage) (e : Entry)
+pub finds_gone : (s : Inside) {p : PagesValue} → view_of s ≡ p → (page : GuestPage) (e : Entry)
     → held_at page s.rows.held ≡ Some (held_of s.rows.pass e)
     → is_restless_entry e ≡ false → Finds (seen p) (seen p) page finds.Gone
-finds_gone s p seen_as page e found calm =
-    finds_row s p seen_as page (held_of s.rows.pass e) found (seen p) finds.Gone (restless_as s.rows.pass e ∙ calm, refl)
+finds_gone s seen_as page e found calm = finds_row s seen_as _ found _ _ (restless_as _ e ∙ calm, refl)
 
 -- a row that a visit may change has a frame of its own
 pub is_alone : (s : Inside) → AreLawful s → (page : GuestPage) (e : Entry) → held_at page s.rows.held ≡ Some (held_of s.rows.pass e)
     → is_restless_entry e ≡ true → IsAlone page (rows_of s.rows.held)
 is_alone s are page e found restless =
-    subst (λ o. MatchOption o (true ≡ false) (λ (r : Row). shared_state r.state ≡ false))
-    (sym (row_there s are page (held_of s.rows.pass e) found))
-    (not_shared e.mergeable (shared_state (held_of s.rows.pass e).row.state) (restless_as s.rows.pass e ∙ restless))
+    subst (λ o. MatchOption o (true ≡ false) (λ (r : Row). shared_state r.state ≡ false)) (sym (row_there s are _ found))
+    (not_shared _ (restless_as _ e ∙ restless))
 
 -- an entry that a visit may change is seen as a row that a visit may change
 pub is_seen_restless : (s : Inside) {p : PagesValue} → view_of s ≡ p → (page : GuestPage) (e : Entry) → held_at page s.rows.held ≡ Some (held_of s.rows.pass e)
     → is_restless_entry e ≡ true → MatchOption (row_at page p.rows) (true ≡ false) (λ r. is_restless r ≡ true)
 is_seen_restless s {p} seen_as page e found restless =
     subst (λ o. MatchOption o (true ≡ false) (λ (r : Row). is_restless r ≡ true))
-    (sym (row_seen s p seen_as page found)) (restless_as s.rows.pass e ∙ restless)
+    (sym (row_seen s seen_as _ found)) (restless_as _ e ∙ restless)
 
 -- ---------------------------------------------------------------- a row whose group has a number
 
@@ -76,14 +74,14 @@ pub record IsAsked (s : Inside) (p : PagesValue) (page : GuestPage) (e : Entry) 
   pub numbered : number_of (tree_of s.knobs (held_of s.rows.pass e).row) e.bytes s.dups.numbers ≡ Some group
 
 -- once groups got numbers, a page whose row a visit may change is asked with its group
-pub asked : (s : Inside) → AreLawful s → {p : PagesValue} → view_of s ≡ p → {page : GuestPage} (e : Entry)
+pub asked : {s : Inside} → AreLawful s → {p : PagesValue} → view_of s ≡ p → {page : GuestPage} {e : Entry}
     → held_at page s.rows.held ≡ Some (held_of s.rows.pass e)
     → is_restless_entry e ≡ true → {later : DupsState} → later ≡ record s.dups { numbers = later.numbers; most = later.most }
     → {tree group : ℕ} → ((row : Row) → row.home ≡ e.home → tree ≡ tree_of s.knobs row) → number_of tree e.bytes later.numbers ≡ Some group
     → IsAsked (record s { dups = later }) p page e group
-asked s are seen_as e found restless {later = later} kept {group = group} in_tree numbered = record {
-  lawful = lawful_numbered s later kept are;
-  seen_as = seen_numbered s later kept ∙ seen_as;
+asked {s} are seen_as {e} found restless {later = later} kept {group = group} in_tree numbered = record {
+  lawful = lawful_numbered s kept are;
+  seen_as = seen_numbered s kept ∙ seen_as;
   found = found;
   restless = restless;
   numbered = subst (λ t. number_of t e.bytes later.numbers ≡ Some group) (in_tree (held_of s.rows.pass e).row refl) numbered;
@@ -100,19 +98,19 @@ module _ {s : Inside} {p : PagesValue} {page : GuestPage} {e : Entry} {group : �
   before = rows_of s.rows.held
 
   at_row : row.page ≡ page
-  at_row = of_page s it.lawful page held it.found
+  at_row = of_page s it.lawful _ it.found
 
   there : row_at page before ≡ Some row
-  there = row_there s it.lawful page held it.found
+  there = row_there s it.lawful _ it.found
 
   may : is_restless row ≡ true
-  may = restless_as s.rows.pass e ∙ it.restless
+  may = restless_as _ e ∙ it.restless
 
   alone : shared_state row.state ≡ false
-  alone = not_shared e.mergeable (shared_state row.state) may
+  alone = not_shared _ may
 
   finds_at : (new : PagesView) (what : Find) → FindsAt (seen p) new row what → Finds (seen p) new page what
-  finds_at = finds_row s p it.seen_as page held it.found
+  finds_at = finds_row s it.seen_as _ it.found
 
   -- what is so of the group with this number
   abbrev IsOfGroup : (ℕ → List ℕ → Type 0) → Type 0
@@ -124,43 +122,41 @@ module _ {s : Inside} {p : PagesValue} {page : GuestPage} {e : Entry} {group : �
   best_is : best_dup p.knobs p.rows p.dups row ≡ option_map (λ d. d.row) (best (tree_of s.knobs row) row.bytes)
   best_is =
       ap (λ (v : PagesValue). best_dup v.knobs v.rows v.dups row) (sym it.seen_as)
-      ∙ sym (best_found before s.knobs row s.dups.dups (tied_counted before s.dups.dups it.lawful.tied))
+      ∙ sym (best_found before s.knobs row _ (tied_counted before _ it.lawful.tied))
 
   -- where the group of an asked row has a best dup, the visit finds that dup
   pub finds_dup : (b : Best) → IsOfGroup (λ tree bytes. Some b ≡ option_map found_at (best tree bytes))
       → Finds (seen p) (seen (view_of s)) page (finds.Dup b)
   finds_dup b is =
-      let so = go (best (tree_of s.knobs row) row.bytes) (is (tree_of s.knobs row) row.bytes it.numbered) in
+      let so = go _ (is (tree_of s.knobs row) row.bytes it.numbered) in
       let joins = subst (λ o. MatchOption o (true ≡ false) (λ (d : DupRow). (b.number ≡ d.number) × (b.place ≡ d.place)))
       (sym best_is) so in
-      finds_at (seen (view_of s)) (finds.Dup b) (may, joins, ap seen it.seen_as)
+      finds_at _ _ (may, joins, ap seen it.seen_as)
     where
       go : (o : Option Dup) → Some b ≡ option_map found_at o
           → MatchOption (option_map (λ d. d.row) o) (true ≡ false) (λ (d : DupRow). (b.number ≡ d.number) × (b.place ≡ d.place))
-      go None no_it = absurd (none-some b (sym no_it))
-      go (Some d) that = let same = same_Some b (found_at d) that in (ap (λ (x : Best). x.number) same, ap (λ (x : Best). x.place) same)
+      go o no_it = grind (arith, nat_tests, no_it)
 
   module _ (none : IsOfGroup (λ tree bytes. None ≡ option_map found_at (best tree bytes))) where
     no_best : best_dup p.knobs p.rows p.dups row ≡ None
-    no_best = best_is ∙ ap (option_map (λ d. d.row))
-        (none_mapped found_at (best (tree_of s.knobs row) row.bytes) (sym (none (tree_of s.knobs row) row.bytes it.numbered)))
+    no_best = best_is ∙ ap (option_map (λ d. d.row)) (none_mapped _ _ (sym (none (tree_of s.knobs row) row.bytes it.numbered)))
 
     -- without a best dup, a row that was not unchanged is found changed, and is unchanged from then on
-    pub finds_changed : e.unchanged ≡ false → (new : PagesView)
+    pub finds_changed : e.unchanged ≡ false → {new : PagesView}
         → new ≡ visited page (λ r. record r { unchanged = true; state = Private }) (seen (view_of s))
         → Finds (seen p) new page finds.Changed
-    finds_changed other new is =
+    finds_changed other is =
         let to = λ (r : Row). record r { unchanged = true; state = Private } in
-        let now = is ∙ ap (λ (v : PagesValue). visited page to (seen v)) it.seen_as ∙ ap (λ q. visited q to (seen p)) (sym at_row) in
-        finds_at new finds.Changed (may, no_best, other, now)
+        let now = is ∙ (λ i. visited page to (seen (it.seen_as i))) ∙ ap (λ q. visited q to (seen p)) (sym at_row) in
+        finds_at _ _ (may, no_best, other, now)
 
     module _ (stayed : e.unchanged ≡ true) where
       zero_as : is_for_zero p.knobs row ≡ (s.knobs.use_zero_pages == 1 && all_zero e.bytes)
-      zero_as = ap (λ (v : PagesValue). is_for_zero v.knobs row) (sym it.seen_as)
+      zero_as = grind (arith, nat_tests)
 
       -- without a best dup, an unchanged row of zeroes is found to become Zero, if zero pages are used
       pub finds_zero : (s.knobs.use_zero_pages == 1 && all_zero e.bytes) ≡ true → Finds (seen p) (seen (view_of s)) page finds.Zero
-      finds_zero zeroes = finds_at (seen (view_of s)) finds.Zero (may, no_best, stayed, zero_as ∙ zeroes, ap seen it.seen_as)
+      finds_zero zeroes = finds_at _ _ (may, no_best, stayed, zero_as ∙ zeroes, ap seen it.seen_as)
 
       module _ (other : (s.knobs.use_zero_pages == 1 && all_zero e.bytes) ≡ false) {met : GuestPage} {later : DupsState}
           (is : IsOfGroup (λ tree bytes. met ≡ unwrap_or (waiting_page tree bytes s.dups.waiting) page))
@@ -179,13 +175,12 @@ module _ {s : Inside} {p : PagesValue} {page : GuestPage} {e : Entry} {group : �
             → Finds (seen p) (seen (view_of (record s { dups = later }))) page (finds.Partner met)
         finds_partner apart =
             let from = ap (same_page met) at_row ∙ apart in
-            let that = met_other s.knobs before s.dups.waiting row it.lawful.order it.lawful.waits met met_is from in
-            let other_row = met_partner s.knobs before s.dups.waiting row it.lawful.order it.lawful.waits met met_is from in
+            let that = met_other s.knobs _ _ row it.lawful.order it.lawful.waits met_is from in
+            let other_row = met_partner s.knobs _ _ row it.lawful.order it.lawful.waits met_is from in
             let partner_is = subst (λ (v : PagesValue). MatchOption (partner v.knobs v.rows row) (true ≡ false)
             (λ w. met ≡ w.page)) it.seen_as other_row in
-            let same = ap (λ (d : DupsState). seen (view_of (record s { dups = d }))) (same_again (ap is_some that)) ∙ ap seen it.seen_as in
-            finds_at (seen (view_of (record s { dups = later }))) (finds.Partner met)
-            (may, no_best, stayed, zero_as ∙ other, partner_is, same)
+            let same = (λ i. seen (view_of (record s { dups = (same_again (ap is_some that) i) }))) ∙ ap seen it.seen_as in
+            finds_at _ _ (may, no_best, stayed, zero_as ∙ other, partner_is, same)
 
         module _ (own : same_page met page ≡ true) (kept : later ≡ record s.dups { waiting = later.waiting })
             (added : IsOfGroup (λ tree bytes. IsAdded tree bytes met s.dups.waiting later.waiting)) (rows : RowsView)
@@ -197,36 +192,30 @@ module _ {s : Inside} {p : PagesValue} {page : GuestPage} {e : Entry} {group : �
           same_own = ap (same_page met) at_row ∙ own
 
           held_now : rows.held ≡ change_held page (on_row to) s.rows.held
-          held_now = ap (λ (r : RowsView). r.held) turned
+          held_now = λ i. (turned i).held
 
           now_waits : AreWaiting s.knobs (change_row page (λ _. to row) before) later.waiting
           now_waits =
               subst (λ q. AreWaiting s.knobs (change_row q (λ _. to row) before) later.waiting) at_row
-              (met_waits s.knobs before s.dups.waiting row it.lawful.order it.lawful.waits met met_is
-              (ap (λ q. row_at q before) at_row ∙ there) same_own
-              later.waiting (added (tree_of s.knobs row) row.bytes it.numbered)
-              (λ that. ap (λ (d : DupsState). d.waiting) (same_again that)))
+              (met_waits s.knobs _ _ _ it.lawful.order it.lawful.waits met_is (ap (λ q. row_at q before) at_row ∙ there) same_own
+              (added (tree_of s.knobs row) row.bytes it.numbered) (λ that. (λ i. (same_again that i).waiting)))
 
           -- the pages are lawful once the row waits
           pub lawful_waits : AreKept s.shape s.knobs (rows_of rows.held) later s.frames.items
           lawful_waits =
-              lawful_turned s it.lawful page held it.found (on_row to) to (λ x. refl) (λ r. refl) rows held_now later
-              (ap (λ (d : DupsState). d.places) kept)
-              (subst (AreTied (change_row page (λ _. to row) before))
-              (let_out_alone row.state page s.dups.dups alone ∙ ap (λ (d : DupsState). d.dups) (sym kept))
-              (tied_left before page row it.lawful.order there (to row) s.dups.dups refl it.lawful.tied)) now_waits
+              lawful_turned s it.lawful _ it.found _ to (λ x. refl) (λ r. refl) rows held_now (λ i. (kept i).places)
+              (subst (AreTied (change_row page (λ _. to row) before)) (let_out_alone _ _ alone ∙ (λ i. (sym kept i).dups))
+              (tied_left _ _ _ it.lawful.order there _ _ refl it.lawful.tied)) now_waits
 
           -- a row that stays, without a dup, not for Zero and without a partner, is found to wait
           pub finds_waits : Finds (seen p) (seen (view_of (record s { rows = rows; dups = later }))) page finds.Waits
           finds_waits =
-              let met_none = met_own s.knobs before s.dups.waiting row it.lawful.order it.lawful.waits met met_is same_own in
-              let none_waits = ap (λ (v : PagesValue). partner v.knobs v.rows row) (sym it.seen_as) ∙ met_none in
-              let listed = ap (λ (r : RowsView). r.restless) turned ∙ ap (λ (v : PagesValue). v.restless) it.seen_as in
+              let met_none = met_own s.knobs _ _ row it.lawful.order it.lawful.waits met_is same_own in
+              let none_waits = (λ i. partner (sym it.seen_as i).knobs (sym it.seen_as i).rows row) ∙ met_none in
+              let listed = (λ i. (turned i).restless) ∙ (λ i. (it.seen_as i).restless) in
               let now =
-              told_still s it.lawful page held it.found (on_row to) to (λ x. refl) (λ r. refl) rows held_now p it.seen_as later
-              (ap (λ (d : DupsState). dup_rows d.dups) kept) (ap (λ (d : DupsState). d.next) kept) to refl
-              (lies_alike (of_dup s) Waiting row.state held.frame (sym (rests row.state alone)))
-              ∙ ap (λ (l : Listing). record (seen p) { rows = change_row page to p.rows; restless = l }) listed
+              told_still s it.lawful _ it.found _ to (λ x. refl) (λ r. refl) rows held_now it.seen_as later
+              (λ i. dup_rows (kept i).dups) (λ i. (kept i).next) _ refl (lies_alike _ Waiting _ _ (sym (rests _ alone)))
+              ∙ (λ i. record (seen p) { rows = change_row page to p.rows; restless = (listed i) })
               ∙ ap (λ q. visited q to (seen p)) (sym at_row) in
-              finds_at (seen (view_of (record s { rows = rows; dups = later }))) finds.Waits
-              (may, no_best, stayed, zero_as ∙ other, none_waits, now)
+              finds_at _ _ (may, no_best, stayed, zero_as ∙ other, none_waits, now)

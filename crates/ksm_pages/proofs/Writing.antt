@@ -1,12 +1,10 @@
 -- What each change of one row, found under its key, leaves: rows still, and what is seen of them.
-use Rattle.ksm_pages.proofs.Names.{ap, ap₂, AreBegun, AreFiled, AreListed, arith, Bool, CanMove, change_held, Decides-eqb, Entry, false, find, forgotten, get, GuestPage, has_item, Held, held_at, held_in, held_of, held_under, IfSome, inl, InPageOrder, inr, is_of, is_own, is_restless, is_some, IsAddedTo, IsInVain, IsMoved, IsRows, IsTally, IsUnder, key_in, Kind, length, length-map, List, Listing, marked, Named, named_of, ne_eqb, None, number_left, on_row, option_map, own_state, pages_ordered, PageState, Private, refl, Row, row_at, rows_of, RowsView, same_page, same_page_refl, same_Some, settled, settled_state, shared_state, Slab, Some, state_of, subst, sym, Tally, true, true≢false, Updates-with_value, Waiting, with_held, with_item, with_named, with_value, without_held, without_named, ℕ, ◌&&◌, ◌<◌, ◌==◌, ◌^◌, ◌∙◌, ◌≡◌, ◌≢◌, ◌≤◌, ◌⊎◌}
+use Rattle.ksm_pages.proofs.Names.{ap, ap₂, AreBegun, AreFiled, AreListed, arith, Bool, CanMove, change_held, Entry, false, find, forgotten, get, GuestPage, has_item, Held, held_at, held_in, held_of, held_under, IfSome, inl, InPageOrder, inr, is_of, is_own, is_restless, is_some, IsAddedTo, IsInVain, IsMoved, IsRows, IsTally, IsUnder, key_in, Kind, length, length-map, List, Listing, marked, Named, named_of, nat_tests, ne_eqb, None, number_left, on_row, option_map, own_state, pages_ordered, PageState, Private, refl, Row, row_at, rows_of, RowsView, same_page, same_page_refl, same_Some, settled, settled_state, shared_state, Slab, Some, state_of, subst, sym, Tally, true, true≢false, Updates-with_value, Waiting, with_held, with_named, with_value, without_held, without_named, ℕ, ◌&&◌, ◌<◌, ◌^◌, ◌∙◌, ◌≡◌, ◌≢◌, ◌≤◌, ◌⊎◌}
 use Rattle.slab.specs.Slab.{Updates as Fills}
 use Rattle.ksm_pages.specs.declared.row.Kind.TheVariants as kinds
 use Rattle.ksm_pages.specs.declared.rows.Rows.TheInside.{Inside}
 use Rattle.ksm_pages.proofs.Changing.{marked_same, row_told, rows_changed, rows_with, rows_without}
-use Rattle.ksm_tree.proofs.Numbering.{full}
 use Rattle.ksm_pages.proofs.Filing.{all_filled, elsewhere, filed_kept, filed_marked, filed_put, filed_taken, held_nowhere, held_there, key_nowhere, one_key, put, rows_rise, taken, written}
-use Rattle.ksm_pages.proofs.Gathering.{own_either}
 use Rattle.ksm_pages.proofs.Keyed.{absent_unchanged, write_rises}
 use Rattle.ksm_rmap.proofs.Ordered.{absent_kept, with_rises, without_rises}
 use Rattle.ksm_pages.proofs.Listings.{with_has}
@@ -27,85 +25,78 @@ never false both = absurd (true≢false (sym both))
 
 -- a row that is not shared has a frame of its own
 pub own_kind : (kind : Kind) (number pass : ℕ) → shared_state (state_of kind number pass) ≡ false → kind ≡ kinds.Own
-own_kind kinds.Own number pass alone = refl
-own_kind kinds.Merged number pass alone = absurd (true≢false alone)
-own_kind kinds.Zero number pass alone = absurd (true≢false alone)
+own_kind kind number pass alone = grind (arith, nat_tests, alone)
 
 -- a row with a frame of its own waits where its number is that of the pass
-pub waits_now : (kind : Kind) (pass : ℕ) → kind ≡ kinds.Own → state_of kind pass pass ≡ Waiting
-waits_now kind pass own = ap (λ k. state_of k pass pass) own ∙ ap own_state ((Decides-eqb pass pass).1 refl)
+pub waits_now : {kind : Kind} (pass : ℕ) → kind ≡ kinds.Own → state_of kind pass pass ≡ Waiting
+waits_now pass own = grind (arith, nat_tests, own)
 
 -- a row with a frame of its own is Private where its number is not that of the pass
-pub rests_apart : (number pass : ℕ) → number ≢ pass → state_of kinds.Own number pass ≡ Private
-rests_apart number pass apart = ap own_state (ne_eqb number pass apart)
+pub rests_apart : {number : ℕ} (pass : ℕ) → number ≢ pass → state_of kinds.Own number pass ≡ Private
+rests_apart {number} pass apart = ap own_state (ne_eqb number pass apart)
 
 -- a row with a frame of its own and number 0 is Private in any pass from 1 on
 pub rests_now : (pass : ℕ) → 1 ≤ pass → state_of kinds.Own 0 pass ≡ Private
-rests_now pass counting = rests_apart 0 pass (λ same. absurd (omega (arith, same)))
+rests_now pass counting = rests_apart _ (λ same. absurd (omega arith))
 
 -- an entry that has forgotten its pass is settled in any pass from 1 on
 pub rest_of : (kind : Kind) (number pass after : ℕ) → 1 ≤ after
     → state_of kind (number_left kind number) after ≡ settled_state (state_of kind number pass)
-rest_of kinds.Own number pass after counting = rests_now after counting ∙ sym (own_either (λ state. settled_state state ≡ Private) refl refl (number == pass))
-rest_of kinds.Merged number pass after counting = refl
-rest_of kinds.Zero number pass after counting = refl
+rest_of kind number pass after counting = grind (arith, nat_tests, counting)
 
 -- an entry with a frame of its own that has forgotten its pass has a number not beyond any pass
 pub left_fits : (kind : Kind) (number pass : ℕ) → kind ≡ kinds.Own → number_left kind number ≤ pass
-left_fits kinds.Own number pass own = omega arith
-left_fits kinds.Merged number pass own = cc
-left_fits kinds.Zero number pass own = cc
+left_fits kind number pass own = grind (arith, nat_tests, own)
 
 -- a change of a page without a row leaves what is seen of the rows as it is
-pub nothing : (s : Inside) → AreRows s → (page : GuestPage) → None ≡ key_in s.order page → (f : Held → Held) (v : RowsView) → view_of s ≡ v → v ≡ record v { held = change_held page f v.held }
-nothing s are page told f v is =
-    let absent = held_nowhere s.entries s.order are.ascending are.filed s.pass page (sym told) in
+pub nothing : (s : Inside) → AreRows s → (page : GuestPage) → None ≡ key_in s.order page → (f : Held → Held) {v : RowsView} → view_of s ≡ v → v ≡ record v { held = change_held page f v.held }
+nothing s are page told f is =
+    let absent = held_nowhere s.entries _ are.ascending are.filed _ _ (sym told) in
     sym is
-    ∙ ap (λ held. record { held = held; restless = s.restless; pass = s.pass }) (absent_unchanged (λ (h : Held). h.row.page) page f (held_in s.pass s.entries s.order) absent)
-    ∙ ap (λ (w : RowsView). record w { held = change_held page f w.held }) is
+    ∙ ap (λ held. record { held = held; restless = s.restless; pass = s.pass }) (absent_unchanged (λ (h : Held). h.row.page) page _ absent)
+    ∙ (λ i. record (is i) { held = change_held page f (is i).held })
 
 -- what is listed later was listed before
-listed_known : (old now : Listing) (pages : List GuestPage) → now ≡ record old { pages = pages } → now.known ≡ true → old.known ≡ true
-listed_known old now pages is known = ap (λ (l : Listing). l.known) (sym is) ∙ known
+listed_known : (old : Listing) {now : Listing} (pages : List GuestPage) → now ≡ record old { pages = pages } → now.known ≡ true → old.known ≡ true
+listed_known old pages is known = (λ i. (sym is i).known) ∙ known
 
 module _ (s : Inside) (are : AreRows s) where
   abbrev held : List Held
   held = held_in s.pass s.entries s.order
 
   rise : InPageOrder (rows_of held)
-  rise = rows_rise s.entries s.order are.ascending are.filed s.pass
+  rise = rows_rise s.entries _ are.ascending are.filed _
 
   module _ {page : GuestPage} {key : ℕ} (there : IsUnder s.entries page key) {e : Entry} (stood : get s.entries key ≡ Some e) where
     -- the entry is that of the page
     of_page : e.page ≡ page
-    of_page = ap (λ (x : Entry). x.page) (same_Some e there.entry (sym stood ∙ there.stands)) ∙ there.of_page
+    of_page = grind (arith, nat_tests)
 
     -- a page with an entry under its key has the row that the entry says
     pub row_there : held_at page held ≡ Some (held_of s.pass e)
-    row_there = held_there s.entries s.order are.ascending are.filed s.pass page key e stood of_page
+    row_there = held_there s.entries _ are.ascending are.filed _ _ stood of_page
 
     found_row : row_at page (rows_of held) ≡ Some (held_of s.pass e).row
     found_row = row_told page held row_there
 
     -- the entry of a page whose row is not shared is of the kind with frames of their own
-    pub own_there : (v : RowsView) → view_of s ≡ v → IfSome (held_at page v.held) (λ h. shared_state h.row.state ≡ false)
+    pub own_there : {v : RowsView} → view_of s ≡ v → IfSome (held_at page v.held) (λ h. shared_state h.row.state ≡ false)
         → e.kind ≡ kinds.Own
-    own_there v seen_as alone =
-        own_kind e.kind e.number s.pass
-        (subst (λ o. IfSome o (λ (h : Held). shared_state h.row.state ≡ false)) (ap (λ (w : RowsView). held_at page w.held) (sym seen_as) ∙ row_there) alone)
+    own_there seen_as alone =
+        own_kind _ _ _
+        (subst (λ o. IfSome o (λ (h : Held). shared_state h.row.state ≡ false)) ((λ i. held_at page (sym seen_as i).held) ∙ row_there) alone)
 
     -- the tally can take the row of an entry from its state to any other
-    pub can_be : {from : PageState} → from ≡ state_of e.kind e.number s.pass → (state : PageState) → length s.order < 2 ^ 64
+    pub can_be : {from : PageState} → from ≡ state_of e.kind e.number s.pass → {state : PageState} → length s.order < 2 ^ 64
         → CanMove from state s.tally
-    can_be is state few =
+    can_be is {state} few =
         let old = (held_of s.pass e).row in
         let many : length (rows_of held) < 2 ^ 64 =
         omega (arith, length-map held (λ (h : Held). h.row), length-map s.order (λ (n : Named). held_under s.pass (get s.entries n.key)), few) in
-        subst (λ st. CanMove st state s.tally) (sym is) (can_move (rows_of held) rise page old found_row s.tally s.tally are.counted (record old { state = state }) many)
+        subst (λ st. CanMove st state s.tally) (sym is) (can_move rise _ found_row s.tally are.counted (record old { state = state }) many)
 
-    other_page : (k : ℕ) (f : Entry) → get s.entries k ≡ Some f → k ≢ key → same_page f.page page ≡ false
-    other_page k f stands apart =
-        ap (same_page f.page) (sym of_page) ∙ elsewhere s.entries s.order are.ascending are.filed key e stood k f stands apart
+    other_page : {k : ℕ} {f : Entry} → get s.entries k ≡ Some f → k ≢ key → same_page f.page page ≡ false
+    other_page {f} stands apart = ap (same_page f.page) (sym of_page) ∙ elsewhere s.entries _ are.ascending are.filed stood stands apart
 
     -- ---------------------------------------------------------------- the entry changed
 
@@ -114,56 +105,53 @@ module _ (s : Inside) (are : AreRows s) where
       later = with_value s.entries key e'
 
       fills : Fills s.entries later key (Some e')
-      fills = Updates-with_value s.entries key e' (ap is_some stood)
+      fills = Updates-with_value _ _ _ (ap is_some stood)
 
       held_later : (f : Held → Held) → held_of s.pass e' ≡ f (held_of s.pass e) → held_in s.pass later s.order ≡ change_held page f held
       held_later f is =
-          written s.entries s.order are.ascending are.filed key e stood later e' fills same s.pass f is
+          written _ _ are.ascending are.filed stood fills same _ f is
           ∙ ap (λ p. change_held p f held) of_page
 
       module _ {from to : PageState} {tally : Tally} (was : from ≡ state_of e.kind e.number s.pass) (is : to ≡ state_of e'.kind e'.number s.pass) (moved : IsMoved from to s.tally tally) where
         tallied : IsTally (rows_of (held_in s.pass later s.order)) tally
         tallied =
             let new = (held_of s.pass e').row in
-            subst (λ rs. IsTally rs tally) (sym (ap rows_of (held_later (λ _. held_of s.pass e') refl) ∙ rows_changed page (λ _. held_of s.pass e') (λ _. new) held (λ h. refl)))
-            (tally_changed (rows_of held) rise page (held_of s.pass e).row found_row s.tally tally are.counted new (subst (λ st. IsMoved st new.state s.tally tally) was (subst (λ st. IsMoved from st s.tally tally) is moved)))
+            subst (λ rs. IsTally rs tally) (sym (ap rows_of (held_later _ refl) ∙ rows_changed _ (λ _. held_of s.pass e') _ _ (λ h. refl)))
+            (tally_changed rise _ found_row _ are.counted _ (subst (λ st. IsMoved st new.state s.tally tally) was (subst (λ st. IsMoved from st s.tally tally) is moved)))
 
       begun_still : (e'.kind ≡ kinds.Own → e'.number ≤ s.pass) → AreBegun later s.pass
-      begun_still fits = all_filled fills (λ k x. x.kind ≡ kinds.Own → x.number ≤ s.pass) fits (λ k f stands apart. are.begun k f stands)
+      begun_still fits = all_filled fills fits (λ k f stands apart. are.begun k f stands)
 
       listed_still : (pages : List GuestPage)
           → ((k : ℕ) (f : Entry) → get s.entries k ≡ Some f → k ≢ key → is_restless f ≡ true → has_item f.page pages ≡ true)
           → (is_restless e' ≡ true → has_item page pages ≡ true) → AreListed later pages
-      listed_still pages others own =
-          all_filled fills (λ k x. is_restless x ≡ true → has_item x.page pages ≡ true) (λ may. ap (λ p. has_item p pages) (same ∙ of_page) ∙ own may) others
+      listed_still pages others own = all_filled fills (λ may. ap (λ p. has_item p pages) (same ∙ of_page) ∙ own may) others
 
       -- where a page is added to the list, the list is right for any new entry of that page
-      pub listed_now : (now : Listing) → IsAddedTo page s.restless now → now.known ≡ true → AreListed later now.pages
-      listed_now now added known = elim added [
+      pub listed_now : {now : Listing} → IsAddedTo page s.restless now → now.known ≡ true → AreListed later now.pages
+      listed_now added known = elim added [
         | inl is ↦
-            subst (λ (l : Listing). AreListed later l.pages) (sym is)
-            (listed_still (with_item page s.restless.pages)
-            (λ k f stands apart may. with_has f.page page s.restless.pages (inr (are.listed (listed_known s.restless now _ is known) k f stands may)))
-            (λ may. with_has page page s.restless.pages (inl (same_page_refl page))))
-        | inr is ↦ absurd (true≢false (sym known ∙ ap (λ (l : Listing). l.known) is))
+            subst (λ (l : Listing). AreListed later l.pages) (sym is) (listed_still _
+            (λ k f stands apart may. with_has _ page _ (inr (are.listed (listed_known s.restless _ is known) k f stands may)))
+            (λ may. with_has page page _ (inl (same_page_refl page))))
+        | inr is ↦ absurd (true≢false (sym known ∙ (λ i. (is i).known)))
       ]
 
       -- the list as it was is right for a new entry that no visit changes
-      pub listed_calm : is_restless e' ≡ false → (now : Listing) → now ≡ s.restless → now.known ≡ true → AreListed later now.pages
-      listed_calm calm now is known =
-          subst (λ (l : Listing). AreListed later l.pages) (sym is)
-          (listed_still s.restless.pages
-          (λ k f stands apart may. are.listed (sym (ap (λ (l : Listing). l.known) is) ∙ known) k f stands may)
+      pub listed_calm : is_restless e' ≡ false → {now : Listing} → now ≡ s.restless → now.known ≡ true → AreListed later now.pages
+      listed_calm calm is known =
+          subst (λ (l : Listing). AreListed later l.pages) (sym is) (listed_still _
+          (λ k f stands apart may. are.listed (sym (λ i. (is i).known) ∙ known) k f stands may)
           (λ may. absurd (true≢false (sym may ∙ calm))))
 
       -- rows with an entry written anew are lawful where its flag stays, the list is right and the tally moved
-      pub still : e'.mergeable ≡ e.mergeable → (e'.kind ≡ kinds.Own → e'.number ≤ s.pass) → (now : Listing)
+      pub still : e'.mergeable ≡ e.mergeable → (e'.kind ≡ kinds.Own → e'.number ≤ s.pass) → {now : Listing}
           → (now.known ≡ true → AreListed later now.pages)
           → {from to : PageState} {tally : Tally} → from ≡ state_of e.kind e.number s.pass → to ≡ state_of e'.kind e'.number s.pass
           → IsMoved from to s.tally tally → IsRows later s.order now tally s.pass
-      still flag fits now listed was is moved = record {
+      still flag fits listed was is moved = record {
         ascending = are.ascending;
-        filed = filed_kept s.entries s.order are.ascending are.filed key e stood later e' fills same flag;
+        filed = filed_kept _ _ are.ascending are.filed stood fills same flag;
         listed = listed;
         counted = tallied was is moved;
         begun = begun_still fits;
@@ -176,61 +164,58 @@ module _ (s : Inside) (are : AreRows s) where
           → {from to : PageState} {tally : Tally} → from ≡ state_of e.kind e.number s.pass → to ≡ state_of e'.kind e'.number s.pass
           → IsMoved from to s.tally tally → IsRows later s.order now tally s.pass
       kept flag fits less now is =
-          still flag fits now (subst (λ (l : Listing). l.known ≡ true → AreListed later l.pages) (sym is)
-          (λ known. listed_still s.restless.pages (λ k f stands apart. are.listed known k f stands)
+          still flag fits (subst (λ (l : Listing). l.known ≡ true → AreListed later l.pages) (sym is)
+          (λ known. listed_still _ (λ k f stands apart. are.listed known k f stands)
           (λ may. ap (λ p. has_item p s.restless.pages) (sym of_page) ∙ are.listed known key e stood (less may))))
 
       module _ (kind : e'.kind ≡ e.kind) (number : e'.number ≡ e.number) where
         fits_still : e'.kind ≡ kinds.Own → e'.number ≤ s.pass
-        fits_still own = subst (λ n. n ≤ s.pass) (sym number) (are.begun key e stood (sym kind ∙ own))
+        fits_still own = grind (arith, nat_tests, own)
 
         same_state : state_of e.kind e.number s.pass ≡ state_of e'.kind e'.number s.pass
-        same_state = ap₂ (λ k n. state_of k n s.pass) (sym kind) (sym number)
+        same_state = grind (arith, nat_tests)
 
-        unmoved : (state : PageState) → IsMoved state state s.tally s.tally
-        unmoved state = record { merged = refl; waiting = refl; zero = refl }
+        unmoved : {state : PageState} → IsMoved state state s.tally s.tally
+        unmoved = record { merged = refl; waiting = refl; zero = refl }
 
         -- rows with an entry written anew are lawful under the old list and tally where its flag and state stay
         pub untouched : e'.mergeable ≡ e.mergeable → IsRows later s.order s.restless s.tally s.pass
-        untouched flag =
-            kept flag fits_still (λ may. sym (ap₂ (λ m k. m && is_own k) flag kind) ∙ may) s.restless refl refl same_state (unmoved _)
+        untouched flag = kept flag fits_still (λ may. sym (ap₂ (λ m k. m && is_own k) flag kind) ∙ may) _ refl refl same_state (unmoved)
 
         -- rows with an entry written anew are lawful where the order marks its page so, and its state stays
-        pub still_marked : (now : Listing) → (now.known ≡ true → AreListed later now.pages)
+        pub still_marked : {now : Listing} → (now.known ≡ true → AreListed later now.pages)
             → IsRows later (marked page e'.mergeable s.order) now s.tally s.pass
-        still_marked now listed = record {
-          ascending =
-              write_rises (λ (n : Named). n.page) page (λ n. record n { mergeable = e'.mergeable }) (λ n. refl) s.order are.ascending;
+        still_marked listed = record {
+          ascending = write_rises _ page _ (λ n. refl) _ are.ascending;
           filed =
-              subst (λ p. AreFiled later (marked p e'.mergeable s.order)) of_page (filed_marked s.entries s.order are.ascending are.filed key e stood later e' fills same);
+              subst (λ p. AreFiled later (marked p e'.mergeable s.order)) of_page (filed_marked _ _ are.ascending are.filed stood fills same);
           listed = listed;
-          counted =
-              subst (λ g. IsTally (rows_of g) s.tally) (sym (marked_same s.pass later page e'.mergeable s.order)) (tallied refl same_state (unmoved _));
+          counted = subst (λ g. IsTally (rows_of g) s.tally) (sym (marked_same _ later _ _ _)) (tallied refl same_state (unmoved));
           begun = begun_still fits_still;
           counting = are.counting;
         }
 
       -- with an entry written anew whose row is changed by f, the rows are seen with f at that page, and the new list
-      pub viewed : (f : Held → Held) → held_of s.pass e' ≡ f (held_of s.pass e) → (now : Listing) (v : RowsView) → view_of s ≡ v
+      pub viewed : (f : Held → Held) → held_of s.pass e' ≡ f (held_of s.pass e) → (now : Listing) {v : RowsView} → view_of s ≡ v
           → record { held = held_in s.pass later s.order; restless = now; pass = s.pass } ≡ record v { held = change_held page f v.held; restless = now }
-      viewed f is now v seen_as =
+      viewed f is now seen_as =
           ap (λ held. record { held = held; restless = now; pass = s.pass }) (held_later f is)
-          ∙ ap (λ (w : RowsView). record w { held = change_held page f w.held; restless = now }) seen_as
+          ∙ (λ i. record (seen_as i) { held = change_held page f (seen_as i).held; restless = now })
 
       -- with an entry written anew whose row is changed by f, the rows are seen with f at that page
-      pub viewed_same : (f : Held → Held) → held_of s.pass e' ≡ f (held_of s.pass e) → (now : Listing) → now ≡ s.restless → (v : RowsView)
+      pub viewed_same : (f : Held → Held) → held_of s.pass e' ≡ f (held_of s.pass e) → {now : Listing} → now ≡ s.restless → {v : RowsView}
           → view_of s ≡ v
           → record { held = held_in s.pass later s.order; restless = now; pass = s.pass } ≡ record v { held = change_held page f v.held }
-      viewed_same f is now same_list v seen_as =
-          viewed f is now v seen_as
-          ∙ ap (λ l. record v { held = change_held page f v.held; restless = l }) (same_list ∙ ap (λ (w : RowsView). w.restless) seen_as)
+      viewed_same f is same_list {v} seen_as =
+          viewed f is _ seen_as
+          ∙ ap (λ l. record v { held = change_held page f v.held; restless = l }) (same_list ∙ (λ i. (seen_as i).restless))
 
       -- with an entry written anew and its page marked, the rows are seen with f at that page, and the new list
-      pub viewed_marked : (f : Held → Held) → held_of s.pass e' ≡ f (held_of s.pass e) → (m : Bool) (now : Listing) (v : RowsView)
+      pub viewed_marked : (f : Held → Held) → held_of s.pass e' ≡ f (held_of s.pass e) → (m : Bool) (now : Listing) {v : RowsView}
           → view_of s ≡ v
           → record { held = held_in s.pass later (marked page m s.order); restless = now; pass = s.pass } ≡ record v { held = change_held page f v.held; restless = now }
-      viewed_marked f is m now v seen_as =
-          ap (λ held. record { held = held; restless = now; pass = s.pass }) (marked_same s.pass later page m s.order) ∙ viewed f is now v seen_as
+      viewed_marked f is m now seen_as =
+          ap (λ held. record { held = held; restless = now; pass = s.pass }) (marked_same _ later _ m _) ∙ viewed f is _ seen_as
 
     -- ---------------------------------------------------------------- the entry changed, and then forgot its pass
 
@@ -240,111 +225,107 @@ module _ (s : Inside) (are : AreRows s) where
         → IsMoved from to s.tally tally → IsRows (with_value s.entries key now) s.order s.restless tally s.pass
     kept_forgotten e' is same flag kind {from} {to} {tally} was told moved =
         subst (λ x. IsRows (with_value s.entries key x) s.order s.restless tally s.pass) (sym is)
-        (kept (forgotten e') same flag (left_fits e'.kind e'.number s.pass) (λ may. sym (ap₂ (λ m k. m && is_own k) flag kind) ∙ may)
-        s.restless refl was (told ∙ ap (λ (x : Entry). state_of x.kind x.number s.pass) is) moved)
+        (kept _ same flag (left_fits _ _ _) (λ may. sym (ap₂ (λ m k. m && is_own k) flag kind) ∙ may)
+        _ refl was (told ∙ (λ i. state_of (is i).kind (is i).number s.pass)) moved)
 
     -- the row of an entry that is changed, and then forgets its pass, is seen changed and settled
     pub viewed_forgotten : (e' : Entry) {now : Entry} → now ≡ forgotten e' → e'.page ≡ e.page → (f : Row → Row)
-        → on_row settled (held_of s.pass e') ≡ on_row f (held_of s.pass e) → (v : RowsView) → view_of s ≡ v
+        → on_row settled (held_of s.pass e') ≡ on_row f (held_of s.pass e) → {v : RowsView} → view_of s ≡ v
         → record { held = held_in s.pass (with_value s.entries key now) s.order; restless = s.restless; pass = s.pass } ≡ record v { held = change_held page (on_row f) v.held }
-    viewed_forgotten e' is same f told v seen_as =
+    viewed_forgotten e' is same f told seen_as =
         ap (λ x. record { held = held_in s.pass (with_value s.entries key x) s.order; restless = s.restless; pass = s.pass }) is
-        ∙ viewed_same (forgotten e') same (on_row f)
-        (ap (λ (st : PageState). on_row (λ r. record r { state = st }) (held_of s.pass e')) (rest_of e'.kind e'.number s.pass s.pass are.counting) ∙ told)
-        s.restless refl v seen_as
+        ∙ viewed_same _ same _
+        (ap (λ (st : PageState). on_row (λ r. record r { state = st }) (held_of s.pass e')) (rest_of _ _ _ _ are.counting) ∙ told)
+        refl seen_as
 
     -- ---------------------------------------------------------------- the entry went
 
-    module _ (later : Slab Entry) (fills : Fills s.entries later key None) where
+    module _ {later : Slab Entry} (fills : Fills s.entries later key None) where
       -- what stands later stood before, under another key
-      stood_before : (k : ℕ) (f : Entry) → get later k ≡ Some f → (get s.entries k ≡ Some f) × (k ≢ key)
-      stood_before k f stands =
-          let apart : k ≢ key = λ at. full f (get later k) (ap (get later) at ∙ fills.changed) stands in
-          (sym (fills.others k apart) ∙ stands, apart)
+      stood_before : {k : ℕ} {f : Entry} → get later k ≡ Some f → (get s.entries k ≡ Some f) × (k ≢ key)
+      stood_before stands = grind (arith, nat_tests, stands)
 
       held_gone : held_in s.pass later (without_named page s.order) ≡ without_held page held
       held_gone =
-          subst (λ p. held_in s.pass later (without_named p s.order) ≡ without_held p held) of_page (taken s.entries s.order are.ascending are.filed key e stood later fills s.pass)
+          subst (λ p. held_in s.pass later (without_named p s.order) ≡ without_held p held) of_page (taken _ _ are.ascending are.filed stood fills _)
 
       -- rows are lawful once a page's entry is gone, with its name and its count
       pub still_gone : {from : PageState} {tally : Tally} → from ≡ state_of e.kind e.number s.pass
           → IsMoved from Private s.tally tally → IsRows later (without_named page s.order) s.restless tally s.pass
       still_gone {from} {tally} was moved = record {
-        ascending = without_rises pages_ordered (λ (n : Named). n.page) page s.order are.ascending;
-        filed =
-            subst (λ p. AreFiled later (without_named p s.order)) of_page (filed_taken s.entries s.order are.ascending are.filed key e stood later fills);
-        listed = λ known k f stands may. are.listed known k f (stood_before k f stands).0 may;
+        ascending = without_rises pages_ordered (λ (n : Named). n.page) page _ are.ascending;
+        filed = subst (λ p. AreFiled later (without_named p s.order)) of_page (filed_taken _ _ are.ascending are.filed stood fills);
+        listed = λ known k f stands may. are.listed known k f (stood_before stands).0 may;
         counted = subst (λ rs. IsTally rs tally) (sym (ap rows_of held_gone ∙ rows_without page held))
-            (tally_gone (rows_of held) rise page (held_of s.pass e).row found_row s.tally tally are.counted (subst (λ st. IsMoved st Private s.tally tally) was moved));
-        begun = λ k f stands. are.begun k f (stood_before k f stands).0;
+            (tally_gone rise _ found_row _ are.counted (subst (λ st. IsMoved st Private s.tally tally) was moved));
+        begun = λ k f stands. are.begun k f (stood_before stands).0;
         counting = are.counting;
       }
 
       -- once the entry of a page is gone with the page's name, the rows are seen without that page
-      pub viewed_gone : (v : RowsView) → view_of s ≡ v
+      pub viewed_gone : {v : RowsView} → view_of s ≡ v
           → record { held = held_in s.pass later (without_named page s.order); restless = s.restless; pass = s.pass } ≡ record v { held = without_held page v.held }
-      viewed_gone v seen_as =
-          ap (λ held. record { held = held; restless = s.restless; pass = s.pass }) held_gone ∙ ap (λ (w : RowsView). record w { held = without_held page w.held }) seen_as
+      viewed_gone seen_as =
+          ap (λ held. record { held = held; restless = s.restless; pass = s.pass }) held_gone ∙ (λ i. record (seen_as i) { held = without_held page (seen_as i).held })
 
 -- where a page has no row, none is seen
-pub nowhere_seen : (s : Inside) → AreRows s → (page : GuestPage) → None ≡ key_in s.order page → (v : RowsView) → view_of s ≡ v → held_at page v.held ≡ None
-nowhere_seen s are page told v is =
-    ap (λ (w : RowsView). held_at page w.held) (sym is) ∙ held_nowhere s.entries s.order are.ascending are.filed s.pass page (sym told)
+pub nowhere_seen : (s : Inside) → AreRows s → (page : GuestPage) → None ≡ key_in s.order page → {v : RowsView} → view_of s ≡ v → held_at page v.held ≡ None
+nowhere_seen s are page told is = (λ i. held_at page (sym is i).held) ∙ held_nowhere s.entries _ are.ascending are.filed _ _ (sym told)
 
 -- where a page has no row, the rows without that page are seen as before
-pub nothing_gone : (s : Inside) → AreRows s → (page : GuestPage) → None ≡ key_in s.order page → (v : RowsView) → view_of s ≡ v → v ≡ record v { held = without_held page v.held }
-nothing_gone s are page told v is =
-    let absent = held_nowhere s.entries s.order are.ascending are.filed s.pass page (sym told) in
+pub nothing_gone : (s : Inside) → AreRows s → (page : GuestPage) → None ≡ key_in s.order page → {v : RowsView} → view_of s ≡ v → v ≡ record v { held = without_held page v.held }
+nothing_gone s are page told is =
+    let absent = held_nowhere s.entries _ are.ascending are.filed _ _ (sym told) in
     sym is
     ∙ ap (λ held. record { held = held; restless = s.restless; pass = s.pass })
-    (absent_kept pages_ordered (λ (h : Held). h.row.page) page (held_in s.pass s.entries s.order) absent)
-    ∙ ap (λ (w : RowsView). record w { held = without_held page w.held }) is
+    (absent_kept pages_ordered (λ (h : Held). h.row.page) page _ absent)
+    ∙ (λ i. record (is i) { held = without_held page (is i).held })
 
 -- a slab with more room has the same rows
-pub with_room : (s : Inside) → AreRows s → (room : Slab Entry) → room ≡ record s.entries { capacity = room.capacity } → IsRows room s.order s.restless s.tally s.pass
-with_room s are room is =
+pub with_room : (s : Inside) → AreRows s → {room : Slab Entry} → room ≡ record s.entries { capacity = room.capacity } → IsRows room s.order s.restless s.tally s.pass
+with_room s are is =
     subst (λ slab. IsRows slab s.order s.restless s.tally s.pass) (sym is)
     (record { ascending = are.ascending; filed = are.filed; listed = are.listed; counted = are.counted; begun = are.begun; counting = are.counting })
 
 -- a slab with more room is seen to have the same rows
-pub seen_with_room : (s : Inside) (v : RowsView) → view_of s ≡ v → (room : Slab Entry)
+pub seen_with_room : (s : Inside) {v : RowsView} → view_of s ≡ v → {room : Slab Entry}
     → room ≡ record s.entries { capacity = room.capacity } → view_of (record s { entries = room }) ≡ v
-seen_with_room s v seen_as room is = ap (λ slab. view_of (record s { entries = slab })) is ∙ seen_as
+seen_with_room s seen_as is = ap (λ slab. view_of (record s { entries = slab })) is ∙ seen_as
 
 -- a page that is seen without a row has no name in the order
-pub no_name : (s : Inside) → AreRows s → (page : GuestPage) (v : RowsView) → view_of s ≡ v → held_at page v.held ≡ None → find (is_of page) s.order ≡ None
-no_name s are page v seen_as absent = key_nowhere s.entries s.order are.ascending are.filed s.pass page (ap (λ (w : RowsView). held_at page w.held) seen_as ∙ absent)
+pub no_name : (s : Inside) → AreRows s → (page : GuestPage) {v : RowsView} → view_of s ≡ v → held_at page v.held ≡ None → find (is_of page) s.order ≡ None
+no_name s are page seen_as absent = key_nowhere s.entries _ are.ascending are.filed _ _ ((λ i. held_at page (seen_as i).held) ∙ absent)
 
 -- the row of a page came, with a frame of its own, under a key where nothing stood
-module _ (s : Inside) (are : AreRows s) (v : RowsView) (seen_as : view_of s ≡ v) (key : ℕ) (e : Entry) (later : Slab Entry) (vacant : get s.entries key ≡ None)
+module _ (s : Inside) (are : AreRows s) {v : RowsView} (seen_as : view_of s ≡ v) {key : ℕ} {e : Entry} {later : Slab Entry} (vacant : get s.entries key ≡ None)
     (absent : held_at e.page v.held ≡ None) (fills : Fills s.entries later key (Some e)) where
   abbrev before : List Held
   before = held_in s.pass s.entries s.order
 
   held_absent : held_at e.page before ≡ None
-  held_absent = ap (λ (w : RowsView). held_at e.page w.held) seen_as ∙ absent
+  held_absent = grind (arith, nat_tests)
 
   not_named : find (is_of e.page) s.order ≡ None
-  not_named = no_name s are e.page v seen_as absent
+  not_named = no_name s are _ seen_as absent
 
   held_put : held_in s.pass later (with_named (named_of key e) s.order) ≡ with_held (held_of s.pass e) before
-  held_put = put s.entries s.order are.ascending are.filed key e later vacant not_named fills s.pass
+  held_put = put _ _ are.ascending are.filed vacant not_named fills _
 
   -- rows are lawful once a Private entry came under a vacant key, with a name and a place in the list
-  pub still_put : state_of e.kind e.number s.pass ≡ Private → e.number ≤ s.pass → (now : Listing) → IsAddedTo e.page s.restless now → IsRows later (with_named (named_of key e) s.order) now s.tally s.pass
-  still_put alone fits now added = record {
-    ascending = with_rises pages_ordered (λ (n : Named). n.page) e.page (named_of key e) s.order refl are.ascending;
-    filed = filed_put s.entries s.order are.ascending are.filed key e later vacant not_named fills;
+  pub still_put : state_of e.kind e.number s.pass ≡ Private → e.number ≤ s.pass → {now : Listing} → IsAddedTo e.page s.restless now → IsRows later (with_named (named_of key e) s.order) now s.tally s.pass
+  still_put alone fits added = record {
+    ascending = with_rises pages_ordered (λ (n : Named). n.page) _ (named_of key e) _ refl are.ascending;
+    filed = filed_put _ _ are.ascending are.filed vacant not_named fills;
     listed = λ known. elim added [
       | inl is ↦
           subst (λ (l : Listing). AreListed later l.pages) (sym is)
-          (all_filled fills (λ k x. is_restless x ≡ true → has_item x.page (with_item e.page s.restless.pages) ≡ true) (λ may. with_has e.page e.page s.restless.pages (inl (same_page_refl e.page)))
-          (λ k f stands apart may. with_has f.page e.page s.restless.pages (inr (are.listed (listed_known s.restless now _ is known) k f stands may))))
-      | inr is ↦ absurd (true≢false (sym known ∙ ap (λ (l : Listing). l.known) is))
+          (all_filled fills (λ may. with_has e.page e.page s.restless.pages (inl (same_page_refl e.page)))
+          (λ k f stands apart may. with_has f.page e.page s.restless.pages (inr (are.listed (listed_known s.restless _ is known) k f stands may))))
+      | inr is ↦ absurd (true≢false (sym known ∙ (λ i. (is i).known)))
     ];
     counted = subst (λ rs. IsTally rs s.tally) (sym (ap rows_of held_put ∙ rows_with (held_of s.pass e) before))
-        (tally_put (rows_of before) (held_of s.pass e).row s.tally (row_told e.page before held_absent) alone are.counted);
-    begun = all_filled fills (λ k x. x.kind ≡ kinds.Own → x.number ≤ s.pass) (λ own. fits) (λ k f stands apart. are.begun k f stands);
+        (tally_put _ (row_told e.page before held_absent) alone are.counted);
+    begun = all_filled fills (λ own. fits) (λ k f stands apart. are.begun k f stands);
     counting = are.counting;
   }
 
@@ -352,23 +333,23 @@ module _ (s : Inside) (are : AreRows s) (v : RowsView) (seen_as : view_of s ≡ 
   pub viewed_put : (now : Listing) → record { held = held_in s.pass later (with_named (named_of key e) s.order); restless = now; pass = s.pass } ≡ record v { held = with_held (held_of s.pass e) v.held; restless = now }
   viewed_put now =
       ap (λ held. record { held = held; restless = now; pass = s.pass }) held_put
-      ∙ ap (λ (w : RowsView). record w { held = with_held (held_of s.pass e) w.held; restless = now }) seen_as
+      ∙ (λ i. record (seen_as i) { held = with_held (held_of s.pass e) (seen_as i).held; restless = now })
 
 -- rows are lawful under another list that has all pages that a visit may change
-pub relisted : (s : Inside) → AreRows s → (now : Listing) → (now.known ≡ true → AreListed s.entries now.pages) → IsRows s.entries s.order now s.tally s.pass
-relisted s are now listed = record { ascending = are.ascending; filed = are.filed; listed = listed; counted = are.counted; begun = are.begun; counting = are.counting }
+pub relisted : (s : Inside) → AreRows s → {now : Listing} → (now.known ≡ true → AreListed s.entries now.pages) → IsRows s.entries s.order now s.tally s.pass
+relisted s are listed = record { ascending = are.ascending; filed = are.filed; listed = listed; counted = are.counted; begun = are.begun; counting = are.counting }
 
 -- rows are lawful under a list that lost only pages that were there in vain
-pub swept_rows : (s : Inside) → AreRows s → (now : Listing) → now.known ≡ s.restless.known
+pub swept_rows : (s : Inside) → AreRows s → {now : Listing} → now.known ≡ s.restless.known
     → ((page : GuestPage) → has_item page s.restless.pages ≡ true → (has_item page now.pages ≡ true) ⊎ IsInVain s.entries s.order page) → IsRows s.entries s.order now s.tally s.pass
-swept_rows s are now known kept = relisted s are now listed
+swept_rows s are {now} known kept = relisted s are listed
   where
     listed : now.known ≡ true → AreListed s.entries now.pages
-    listed is k e stands may = elim (kept e.page (are.listed (sym known ∙ is) k e stands may)) [
+    listed is k e stands may = elim (kept _ (are.listed (sym known ∙ is) k e stands may)) [
       | inl there ↦ there
       | inr (inl none) ↦ absurd (true≢false (ap is_some (sym ((are.filed (named_of k e)).1 (ap (option_map (named_of k)) stands)) ∙ none)))
       | inr (inr calm) ↦
-          let at : calm.key ≡ k = one_key s.entries s.order are.filed calm.key k calm.entry e calm.stands stands calm.of_page in
-          let same : calm.entry ≡ e = same_Some calm.entry e (sym calm.stands ∙ ap (get s.entries) at ∙ stands) in
+          let at = one_key s.entries _ are.filed calm.stands stands calm.of_page in
+          let same = same_Some _ e (sym calm.stands ∙ ap (get s.entries) at ∙ stands) in
           absurd (true≢false (sym may ∙ ap is_restless (sym same) ∙ calm.calm))
     ]

@@ -2,7 +2,7 @@ use Rattle.ksm_pages.proofs.Names.{arith, rules}
 use Rattle.ksm_pages.proofs.order.page_of.Goals as goal
 
 pub overflow_cast-result : goal.overflow_cast-result
-overflow_cast-result c = omega (arith, c.requires)
+overflow_cast-result c = omega arith
 
 pub returns : goal.returns
 returns c = search rules

@@ -4,6 +4,5 @@ use Rattle.ksm_pages.proofs.restless.place_near.Goals as goal
 
 pub returns-then-not-comes_before-clause-count : goal.returns-then-not-comes_before-clause-count
 returns-then-not-comes_before-clause-count c =
-    place_between c.args.page c.args.spots.now c.requires c.args.guess _ _ c.if-guess-gt0.true c.if-guess-spots.true
-    (sym c.comes_before.ensures ∙ c.if-comes_before.true)
+    place_between _ _ c.requires _ _ c.if-guess-gt0.true c.if-guess-spots.true (sym c.comes_before.ensures ∙ c.if-comes_before.true)
     (sym c.comes_before-then-comes_before.ensures ∙ c.if-not-comes_before.true)

@@ -4,12 +4,10 @@ use Rattle.ksm_pages.proofs.rows.gather.Goals as goal
 use Rattle.ksm_pages.proofs.rows.gather.Goals.{then-is_restless, else-is_restless}
 
 pub index-requires : goal.index-requires
-index-requires c =
-    ap is_some (next_stands c.args.entries.now c.args.order.now c.requires.ascending c.requires.filed c.loop-named.last c.in-Some.named (sym c.in-Some.ensures)).stands
+index-requires c = ap is_some (next_stands c.args.entries.now _ c.requires.ascending c.requires.filed _ (sym c.in-Some.ensures)).stands
 
 pub loop-named-smaller : goal.loop-named-smaller
-loop-named-smaller c =
-    fewer_behind c.args.entries.now c.args.order.now c.requires.ascending c.requires.filed c.loop-named.last c.in-Some.named (sym c.in-Some.ensures)
+loop-named-smaller c = fewer_behind c.args.entries.now _ c.requires.ascending c.requires.filed _ (sym c.in-Some.ensures)
 
 pub loop-named-preserved : goal.loop-named-preserved
 loop-named-preserved c =
@@ -18,13 +16,13 @@ loop-named-preserved c =
     let n = c.in-Some.named in
     elim c.if-is_restless.branch [
       | then-is_restless w ↦
-          one_added slab order c.requires.ascending c.requires.filed c.loop-named.last n (sym c.in-Some.ensures) c.loop-named.restless c.if-is_restless.restless c.loop-named.invariant
+          one_added slab _ c.requires.ascending c.requires.filed _ (sym c.in-Some.ensures) c.loop-named.invariant
           (subst (IsAddedTo n.page c.loop-named.restless) (sym w.restless-is) w.add.ensures)
       | else-is_restless w ↦
-          one_passed slab order c.requires.ascending c.requires.filed c.loop-named.last n (sym c.in-Some.ensures) c.loop-named.restless c.if-is_restless.restless c.loop-named.invariant
-          c.index.result.now c.index.ensures (sym c.is_restless.ensures ∙ w.if-is_restless.false) w.restless-is
+          one_passed slab _ c.requires.ascending c.requires.filed _ (sym c.in-Some.ensures) c.loop-named.invariant
+          c.index.ensures (sym c.is_restless.ensures ∙ w.if-is_restless.false) w.restless-is
     ]
 
 pub returns : goal.returns
 returns c known =
-    all_passed c.args.entries.now c.args.order.now c.requires.ascending c.requires.filed c.loop-named.last (sym c.in_default.ensures) c.loop-named.restless c.loop-named.invariant known
+    all_passed c.args.entries.now _ c.requires.ascending c.requires.filed _ (sym c.in_default.ensures) _ c.loop-named.invariant known

@@ -1,21 +1,21 @@
-use Rattle.ksm_pages.proofs.Names.{get, IfSome, IsUnder, None, Option, refl, same_page_eq, Some, sym, ℕ, ◌∙◌, ◌≡◌}
+use Rattle.ksm_pages.proofs.Names.{IfSome, IsUnder, None, Option, refl, same_page_eq, Some, sym, ℕ, ◌∙◌, ◌≡◌}
 use Rattle.ksm_pages.proofs.Filing.{key_under, under}
 use Rattle.ksm_pages.proofs.rows.key_of.Goals as goal
 
 pub returns-then-eq : goal.returns-then-eq
 returns-then-eq c =
-    let stands : get c.args.entries.now c.args.spot.key ≡ Some c.in-Some.entry.now = sym c.in-Some.ensures in
+    let stands = sym c.in-Some.ensures in
     let here : IsUnder c.args.entries.now c.args.spot.page c.args.spot.key = record {
       entry = c.in-Some.entry.now;
       stands = stands;
-      of_page = same_page_eq c.in-Some.entry.now.page c.args.spot.page (sym c.if-eq.ensures);
+      of_page = same_page_eq _ _ (sym c.if-eq.ensures);
     } in
-    record { told = sym (key_under c.args.entries.now c.args.order.now c.requires c.args.spot.page c.args.spot.key here); there = here; few = rw (← c.len.ensures) c.len.type_inv }
+    record { told = sym (key_under _ _ c.requires here); there = here; few = rw (← c.len.ensures) c.len.type_inv }
 
 -- a key that is told is that of an entry of the page
 there_if : (c : goal.After-search) (o : Option ℕ) → c.search.result ≡ o → IfSome o (IsUnder c.args.entries.now c.args.spot.page)
 there_if c None is = tt
-there_if c (Some key) is = under c.args.entries.now c.args.order.now c.requires c.args.spot.page key (sym c.search.ensures ∙ is)
+there_if c (Some key) is = under _ _ c.requires (sym c.search.ensures ∙ is)
 
 pub returns-clause-there : goal.returns-clause-there
-returns-clause-there c = there_if c c.search.result refl
+returns-clause-there c = there_if c _ refl

@@ -1,7 +1,6 @@
 use Rattle.ksm_pages.proofs.Names.{after_cursor, ap, find, find_all, get_or, named_by, option_map, Some, sym, ◌<◌, ◌^◌, ◌∙◌, ◌≡◌}
 use Rattle.ksm_tree.proofs.Alike.{find_mapped}
 use Rattle.ksm_order.specs.declared.item.Item.{Item}
-use Rattle.ksm_order.specs.Listed.{is_from}
 use Rattle.ksm_pages.proofs.order.Order.after.Goals as goal
 use Rattle.ksm_pages.proofs.order.Order.after.Goals.{After-first_from}
 
@@ -9,11 +8,11 @@ found : (c : After-first_from) → option_map named_by c.first_from.result ≡ f
 found c =
     let items = c.self.inside.pages in
     ap (option_map named_by) c.first_from.ensures
-    ∙ sym (find_mapped named_by (λ n. after_cursor c.args.cursor n.page) (is_from c.from_of.result) items (λ k d lt. c.from_of.ensures (get_or items k d).key))
+    ∙ sym (find_mapped named_by (λ n. after_cursor c.args.cursor n.page) _ items (λ k d lt. c.from_of.ensures (get_or items k d).key))
     ∙ ap (find (λ n. after_cursor c.args.cursor n.page)) c.self.view_is
 
 pub named_by-requires : goal.named_by-requires
-named_by-requires c = find_all (is_from c.from_of.result) (λ (x : Item). x.key < 2 ^ 48) c.self.inside.pages c.in-Some.item (sym c.first_from.ensures ∙ c.in-Some.is) c.self.invariant.small
+named_by-requires c = find_all _ (λ (x : Item). x.key < 2 ^ 48) _ _ (sym c.first_from.ensures ∙ c.in-Some.is) c.self.invariant.small
 
 pub returns-in-Some : goal.returns-in-Some
 returns-in-Some c = ap Some c.named_by.ensures ∙ ap (option_map named_by) (sym c.in-Some.is) ∙ found (goal.at.returns-in-Some c).After-first_from

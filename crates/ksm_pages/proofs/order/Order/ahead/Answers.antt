@@ -1,7 +1,6 @@
-use Rattle.ksm_pages.proofs.Names.{ahead_of, ap, arith, length, option_map, page_at, Some, sym, visited, ◌-◌, ◌<◌, ◌^◌, ◌∙◌, ◌≡◌}
+use Rattle.ksm_pages.proofs.Names.{ahead_of, ap, arith, length, option_map, page_at, rules, Some, sym, visited, ◌-◌, ◌<◌, ◌^◌, ◌∙◌, ◌≡◌}
 use Rattle.std.proofs.lemmas.List.{length-drop}
 use Rattle.ksm_order.specs.declared.item.Item.{Item}
-use Rattle.ksm_order.specs.Listed.{marked}
 use Rattle.ksm_pages.proofs.Names.{All-filter, length-filter}
 use Rattle.ksm_pages.proofs.Ranked.{get_dropped, small_at, some_at, visited_at, visited_many}
 use Rattle.ksm_pages.proofs.order.Order.ahead.Goals as goal
@@ -10,28 +9,26 @@ use Rattle.ksm_pages.proofs.order.Order.ahead.Goals.{After-count}
 -- as many are ahead as are visited and not passed
 many : (c : After-count) → length (ahead_of c.args.cursor c.args.self.now) ≡ c.count.result - c.passed-passed.result
 many c = ap length c.passed-passed.ensures.ahead ∙ length-drop c.passed-passed.result (visited c.args.self.now)
-    ∙ ap (λ n. n - c.passed-passed.result) (visited_many c.self.inside.pages c.args.self.now c.self.view_is ∙ sym c.count.ensures)
+    ∙ ap (λ n. n - c.passed-passed.result) (visited_many _ c.self.view_is ∙ sym c.count.ensures)
 
 pub overflow_sub-left : goal.overflow_sub-left
-overflow_sub-left c = omega (arith, c.passed-passed.ensures.within, visited_many c.self.inside.pages c.args.self.now c.self.view_is, c.count.ensures)
+overflow_sub-left c = search (rules, visited_many)
 
 pub returns-then-left-visits : goal.returns-then-left-visits
 returns-then-left-visits c = (sym (many (goal.at.returns-then-left-visits c).After-count), c.if-left-visits.true)
 
 pub page_of-requires : goal.page_of-requires
-page_of-requires c = small_at (λ n. n < 2 ^ 48) (marked c.self.inside.pages) _ c.in-Some.key
-    (All-filter (λ x. x.marked) (λ (x : Item). x.key < 2 ^ 48) c.self.inside.pages c.self.invariant.small) (sym c.nth.ensures ∙ c.in-Some.is)
+page_of-requires c = small_at (λ n. n < 2 ^ 48) _ _
+    (All-filter _ (λ (x : Item). x.key < 2 ^ 48) _ c.self.invariant.small) (sym c.nth.ensures ∙ c.in-Some.is)
 
 pub returns-in-Some : goal.returns-in-Some
 returns-in-Some c = (
   omega (arith, many (goal.at.returns-in-Some c).After-count, c.if-left-visits.false),
   ap (λ ns. page_at ns (c.args.visits - 1)) c.passed-passed.ensures.ahead
       ∙ ap (option_map (λ n. n.page)) (get_dropped c.passed-passed.result (c.args.visits - 1) (visited c.args.self.now))
-      ∙ visited_at c.self.inside.pages c.args.self.now c.self.view_is _ c.in-Some.key (sym c.nth.ensures ∙ c.in-Some.is)
+      ∙ visited_at c.self.inside.pages c.self.view_is _ _ (sym c.nth.ensures ∙ c.in-Some.is)
       ∙ ap Some (sym c.page_of.ensures),
 )
 
 pub returns-in-None : goal.returns-in-None
-returns-in-None c =
-    let items = c.self.inside.pages in
-    absurd (some_at (marked items) _ (omega (arith, c.if-left-visits.false, c.count.ensures, length-filter (λ (x : Item). x.marked) items, c.requires)) (sym c.nth.ensures ∙ c.in-None.is))
+returns-in-None c = search (rules, some_at, length-filter)

@@ -1,4 +1,4 @@
-use Rattle.ksm_pages.proofs.Names.{All-filter, ap, arith, length, length-filter, option_or, passed_to, Some, sym, ◌-◌, ◌<◌, ◌^◌, ◌∙◌, ◌≡◌}
+use Rattle.ksm_pages.proofs.Names.{All-filter, ap, arith, length, length-filter, option_or, passed_to, rules, Some, sym, ◌-◌, ◌<◌, ◌^◌, ◌∙◌, ◌≡◌}
 use Rattle.ksm_pages.specs.Ordered.{key_of, last_or}
 use Rattle.ksm_order.specs.declared.item.Item.{Item}
 use Rattle.ksm_order.specs.Listed.{marked, up_to}
@@ -13,35 +13,30 @@ before c = c.up_to-before.ensures ∙ ap (λ n. up_to n c.self.inside.pages) c.k
 -- so many come in between
 many : (c : After-up_to-before) → length (passed_to c.args.cursor c.args.page c.args.self.now) ≡ c.up_to-before.result - c.passed-passed.result
 many c =
-    passed_many c.self.inside.pages c.args.self.now c.self.view_is c.args.cursor c.args.page c.key_of.ensures.few c.self.invariant.ascending
-    c.passed-passed.result c.up_to-before.result c.passed-passed.ensures.ahead (before c)
+    passed_many _ c.self.view_is _ _ c.key_of.ensures.few c.self.invariant.ascending _ c.passed-passed.ensures.ahead (before c)
 
 pub returns-then-before-passed-clause-count : goal.returns-then-before-passed-clause-count
-returns-then-before-passed-clause-count c =
-    let a = (goal.at.returns-then-before-passed-clause-count c).After-up_to-before in
-    omega (arith, many a, c.if-before-passed.true)
+returns-then-before-passed-clause-count c = search (rules, many)
 
 pub returns-then-before-passed-clause-last : goal.returns-then-before-passed-clause-last
 returns-then-before-passed-clause-last c =
     let a = (goal.at.returns-then-before-passed-clause-last c).After-up_to-before in
-    sym (ap (last_or c.args.cursor)
-    (passed_none c.self.inside.pages c.args.self.now c.self.view_is c.args.cursor c.args.page c.key_of.ensures.few c.self.invariant.ascending
-    c.passed-passed.result c.up_to-before.result c.passed-passed.ensures.ahead (before a) c.if-before-passed.true))
+    sym (ap (last_or c.args.cursor) (passed_none _ c.self.view_is _ _ c.key_of.ensures.few c.self.invariant.ascending
+    _ c.passed-passed.ensures.ahead (before a) c.if-before-passed.true))
 
 pub page_of-requires : goal.page_of-requires
-page_of-requires c = small_at (λ n. n < 2 ^ 48) (marked c.self.inside.pages) _ c.in-Some.key
-    (All-filter (λ x. x.marked) (λ (x : Item). x.key < 2 ^ 48) c.self.inside.pages c.self.invariant.small) (sym c.nth.ensures ∙ c.in-Some.is)
+page_of-requires c = small_at (λ n. n < 2 ^ 48) _ _
+    (All-filter _ (λ (x : Item). x.key < 2 ^ 48) _ c.self.invariant.small) (sym c.nth.ensures ∙ c.in-Some.is)
 
 pub returns-in-Some-clause-count : goal.returns-in-Some-clause-count
-returns-in-Some-clause-count c = sym (many (goal.at.returns-in-Some-clause-count c).After-up_to-before)
+returns-in-Some-clause-count c = search (rules, many)
 
 pub returns-in-Some-clause-last : goal.returns-in-Some-clause-last
 returns-in-Some-clause-last c =
     let a = (goal.at.returns-in-Some-clause-last c).After-up_to-before in
     ap Some c.page_of.ensures
-    ∙ sym (ap (λ o. option_or o c.args.cursor)
-    (passed_last c.self.inside.pages c.args.self.now c.self.view_is c.args.cursor c.args.page c.key_of.ensures.few c.self.invariant.ascending
-    c.passed-passed.result c.up_to-before.result c.passed-passed.ensures.ahead (before a) (omega (arith, c.if-before-passed.false)) c.in-Some.key (sym c.nth.ensures ∙ c.in-Some.is)))
+    ∙ sym (ap (λ o. option_or o c.args.cursor) (passed_last _ c.self.view_is _ _ c.key_of.ensures.few c.self.invariant.ascending
+    _ c.passed-passed.ensures.ahead (before a) (omega arith) c.in-Some.key (sym c.nth.ensures ∙ c.in-Some.is)))
 
 no_such : (c : goal.In-None) → ⊥
 no_such c =

@@ -8,11 +8,11 @@ use Rattle.ksm_pages.proofs.order.Order.find.Goals.{After-find}
 found : (c : After-find) → option_map named_by c.find.result ≡ find (is_of c.args.page) c.args.self.now
 found c =
     ap (option_map named_by) (c.find.ensures ∙ ap (λ key. find (is_at key) c.self.inside.pages) c.key_of.ensures.key)
-    ∙ sym (found_by c.args.page c.key_of.ensures.few c.self.inside.pages)
+    ∙ sym (found_by _ c.key_of.ensures.few _)
     ∙ ap (find (is_of c.args.page)) c.self.view_is
 
 pub named_by-requires : goal.named_by-requires
-named_by-requires c = find_all (is_at c.key_of.result) (λ (x : Item). x.key < 2 ^ 48) c.self.inside.pages c.in-Some.item (sym c.find.ensures ∙ c.in-Some.is) c.self.invariant.small
+named_by-requires c = find_all _ (λ (x : Item). x.key < 2 ^ 48) _ _ (sym c.find.ensures ∙ c.in-Some.is) c.self.invariant.small
 
 pub returns-in-Some : goal.returns-in-Some
 returns-in-Some c = ap Some c.named_by.ensures ∙ ap (option_map named_by) (sym c.in-Some.is) ∙ found (goal.at.returns-in-Some c).After-find

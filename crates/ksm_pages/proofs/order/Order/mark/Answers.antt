@@ -1,6 +1,6 @@
-use Rattle.ksm_pages.proofs.Names.{All, All-map, ap, arith, get_or, length, length-map, map, marked, named_by, subst, sym, ◌<◌, ◌^◌, ◌∙◌}
+use Rattle.ksm_pages.proofs.Names.{All, All-map, ap, arith, length, length-map, rules, subst, sym, ◌<◌, ◌^◌}
 use Rattle.ksm_order.specs.declared.item.Item.{Item}
-use Rattle.ksm_order.specs.Listed.{AreAscending, with_mark}
+use Rattle.ksm_order.specs.Listed.{AreAscending}
 use Rattle.ksm_order.proofs.Changes.{mark_of, mark_rises, same_key}
 use Rattle.ksm_pages.proofs.Ranked.{marked_by}
 use Rattle.ksm_pages.proofs.order.Order.mark.Goals as goal
@@ -12,14 +12,11 @@ invariant_of-self c =
     let mark = c.args.mergeable in
     let Small : Item → Type 0 = λ y. y.key < 2 ^ 48 in
     record {
-      ascending = subst AreAscending (sym c.set_mark.ensures) (mark_rises key mark items c.self.invariant.ascending);
+      ascending = subst AreAscending (sym c.set_mark.ensures) (mark_rises _ _ _ c.self.invariant.ascending);
       long = omega (arith, c.self.invariant.long, ap length c.set_mark.ensures, length-map items (mark_of key mark));
-      small = subst (All Small) (sym c.set_mark.ensures) (All-map Small (mark_of key mark) items
-          (λ k d lt. subst (λ n. n < 2 ^ 48) (sym (same_key key mark (get_or items k d))) (c.self.invariant.small k d lt)));
+      small = subst (All Small) (sym c.set_mark.ensures) (All-map Small _ _
+          (λ k d lt. subst (λ n. n < 2 ^ 48) (sym (same_key key mark _)) (c.self.invariant.small k d lt)));
     }
 
 pub returns : goal.returns
-returns c =
-    let items = c.self.inside.pages in
-    ap (map named_by) (c.set_mark.ensures ∙ ap (λ key. with_mark key c.args.mergeable items) c.key_of.ensures.key)
-    ∙ sym (marked_by c.args.page c.key_of.ensures.few c.args.mergeable items) ∙ ap (marked c.args.page c.args.mergeable) c.self.view_is
+returns c = search (rules, marked_by)

@@ -1,7 +1,7 @@
-use Rattle.ksm_pages.proofs.Names.{All, All-filter, ap, arith, find, is_of, is_some, key_of, length, map, named_by, not, subst, sym, true, without_named, ◌<◌, ◌^◌, ◌∙◌, ◌≡◌}
+use Rattle.ksm_pages.proofs.Names.{All, All-filter, ap, arith, find, is_of, is_some, key_of, length, rules, subst, sym, ◌<◌, ◌^◌, ◌∙◌}
 use Rattle.std.proofs.lemmas.List.Kept.{AllPairs-filter}
 use Rattle.ksm_order.specs.declared.item.Item.{Item}
-use Rattle.ksm_order.specs.Listed.{AreAscending, is_at, without}
+use Rattle.ksm_order.specs.Listed.{AreAscending, is_at}
 use Rattle.ksm_pages.proofs.Options.{some_mapped}
 use Rattle.ksm_pages.proofs.Ranked.{found_by, gone_one, without_by}
 use Rattle.ksm_pages.proofs.order.Order.remove.Goals as goal
@@ -10,19 +10,16 @@ pub invariant_of-self : goal.invariant_of-self
 invariant_of-self c =
     let items = c.self.inside.pages in
     let key = c.key_of.result in
-    let there : is_some (find (is_at key) items) ≡ true =
+    let there =
     ap (λ n. is_some (find (is_at n) items)) c.key_of.ensures.key
-    ∙ sym (some_mapped named_by (find (is_at (key_of c.args.page)) items))
-    ∙ ap is_some (sym (found_by c.args.page c.key_of.ensures.few items) ∙ ap (find (is_of c.args.page)) c.self.view_is)
+    ∙ sym (some_mapped _ _)
+    ∙ ap is_some (sym (found_by _ c.key_of.ensures.few _) ∙ ap (find (is_of c.args.page)) c.self.view_is)
     ∙ c.requires.there in
     record {
-      ascending = subst AreAscending (sym c.remove.ensures) (AllPairs-filter (λ (x y : Item). x.key < y.key) (λ y. not (is_at key y)) items c.self.invariant.ascending);
-      long = omega (arith, c.self.invariant.long, ap length c.remove.ensures, gone_one key items c.self.invariant.ascending there);
-      small = subst (All (λ (y : Item). y.key < 2 ^ 48)) (sym c.remove.ensures) (All-filter (λ y. not (is_at key y)) (λ (y : Item). y.key < 2 ^ 48) items c.self.invariant.small);
+      ascending = subst AreAscending (sym c.remove.ensures) (AllPairs-filter (λ (x y : Item). x.key < y.key) _ _ c.self.invariant.ascending);
+      long = omega (arith, c.self.invariant.long, ap length c.remove.ensures, gone_one _ _ c.self.invariant.ascending there);
+      small = subst (All (λ (y : Item). y.key < 2 ^ 48)) (sym c.remove.ensures) (All-filter _ (λ (y : Item). y.key < 2 ^ 48) _ c.self.invariant.small);
     }
 
 pub returns : goal.returns
-returns c =
-    let items = c.self.inside.pages in
-    ap (map named_by) (c.remove.ensures ∙ ap (λ key. without key items) c.key_of.ensures.key)
-    ∙ sym (without_by c.args.page c.key_of.ensures.few items) ∙ ap (without_named c.args.page) c.self.view_is
+returns c = search (rules, without_by)

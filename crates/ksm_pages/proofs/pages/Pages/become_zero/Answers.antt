@@ -1,4 +1,4 @@
-use Rattle.ksm_pages.proofs.Names.{ap, None, PagesValue, refl, RowsView, Zero, ◌∙◌}
+use Rattle.ksm_pages.proofs.Names.{None, refl, Zero, ◌∙◌}
 use Rattle.ksm_pages.proofs.Turning.{HasLeft, alone_left, held_as, lay, moved}
 use Rattle.ksm_pages.proofs.pages.Pages.become_zero.Goals as goal
 
@@ -14,5 +14,5 @@ returns-clause-left c = lay (gone c) c.deref.ensures.value
 
 pub returns-clause-zero : goal.returns-clause-zero
 returns-clause-zero c =
-    let listed = ap (λ (r : RowsView). r.restless) c.become_zero.ensures ∙ ap (λ (v : PagesValue). v.restless) c.self.view_is in
+    let listed = (λ i. (c.become_zero.ensures i).restless) ∙ (λ i. (c.self.view_is i).restless) in
     (moved (gone c) c.become_zero.new.self listed Zero None refl refl (held_as c.become_zero.ensures)).told_as

@@ -1,4 +1,4 @@
-use Rattle.ksm_pages.proofs.Names.{ap, last_or, last_page, length, length-map, PagesValue, Row, rows_between, rows_of, ◌∙◌}
+use Rattle.ksm_pages.proofs.Names.{ap, last_or, last_page, length, length-map, Row, rows_between, rows_of, ◌∙◌}
 use Rattle.ksm_pages.proofs.Paging.{last_is, passed}
 use Rattle.ksm_pages.proofs.pages.Pages.between.Goals as goal
 
@@ -9,7 +9,7 @@ returns c =
     let page = c.args.page in
     record {
       many = c.between.ensures.many ∙ ap length (passed cursor page rows) ∙ length-map (rows_between cursor page rows) (λ (r : Row). r.page)
-          ∙ ap (λ (v : PagesValue). length (rows_between cursor page v.rows)) c.self.view_is;
+          ∙ (λ i. length (rows_between cursor page (c.self.view_is i).rows));
       last = c.between.ensures.last ∙ ap (last_or cursor) (passed cursor page rows) ∙ last_is cursor (rows_between cursor page rows)
-          ∙ ap (λ (v : PagesValue). last_page cursor (rows_between cursor page v.rows)) c.self.view_is;
+          ∙ (λ i. last_page cursor (rows_between cursor page (c.self.view_is i).rows));
     }

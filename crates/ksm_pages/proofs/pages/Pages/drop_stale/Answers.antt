@@ -1,4 +1,4 @@
-use Rattle.ksm_pages.proofs.Names.{ap, AreTied, DupRow, DupsState, elsewhere, filter, frame_of, is_some, IsVacant, List, lodging, lodgings_of, PagesValue, rows_of, rows_without, seen, subst, sym, tied_pruned, ◌∙◌, ◌≡◌}
+use Rattle.ksm_pages.proofs.Names.{ap, DupRow, DupsState, elsewhere, filter, frame_of, is_some, IsVacant, List, lodging, lodgings_of, PagesValue, rows_of, rows_without, rules, seen, subst, sym, tied_pruned, ◌∙◌}
 use Rattle.ksm_tree.specs.Dups.{rows_of as dup_rows}
 use Rattle.ksm_pages.proofs.Dropping.{all_elsewhere, lodged_dropped, stale_there}
 use Rattle.ksm_pages.proofs.Paging.{any_at}
@@ -7,22 +7,12 @@ use Rattle.ksm_pages.proofs.pages.Pages.drop_stale.Goals as goal
 
 pub drop_stale-requires : goal.drop_stale-requires
 drop_stale-requires c =
-    stale_there c.args.place (rows_of c.self.inside.rows.held) c.self.inside.dups.dups c.self.invariant.tied
+    stale_there (rows_of c.self.inside.rows.held) _ c.self.invariant.tied
     (subst (λ (v : PagesValue). IsVacant c.args.place v.rows v.dups) (sym c.self.view_is) c.requires)
     (sym (c.is_some.ensures ∙ ap is_some c.at.ensures.number) ∙ c.if-is_some.true)
 
 pub invariant_of-self : goal.invariant_of-self
-invariant_of-self c =
-    let s = c.self.inside in
-    record {
-      small = c.self.invariant.small;
-      order = c.self.invariant.order;
-      tied = subst (AreTied (rows_of s.rows.held)) (ap (λ (d : DupsState). d.dups) (sym c.drop_stale.ensures))
-          (tied_pruned (rows_of s.rows.held) s.dups.dups c.args.place c.self.invariant.tied);
-      places = ap (λ (d : DupsState). d.places) c.drop_stale.ensures ∙ c.self.invariant.places;
-      waits = rw c.drop_stale.ensures c.self.invariant.waits;
-      room = c.self.invariant.room;
-    }
+invariant_of-self c = search (rules, tied_pruned)
 
 pub returns-then-is_some : goal.returns-then-is_some
 returns-then-is_some c =
@@ -30,20 +20,12 @@ returns-then-is_some c =
     let place = c.args.place in
     let vacant = subst (λ (v : PagesValue). IsVacant place v.rows v.dups) (sym c.self.view_is) c.requires in
     let left = dup_rows s.dups.dups in
-    let dropped : dup_rows c.drop_stale.new.self.dups ≡ filter (elsewhere place) left = ap
-    (λ (d : DupsState). dup_rows d.dups) c.drop_stale.ensures ∙ rows_without place s.dups.dups in
-    let lain : frame_of (lodgings_of (lodging (dup_rows c.drop_stale.new.self.dups) s.frames.items) s.rows.held) ≡ frame_of
-    (lodgings_of (lodging left s.frames.items) s.rows.held) =
+    let dropped = (λ i. dup_rows (c.drop_stale.ensures i).dups) ∙ rows_without place _ in
+    let lain =
     ap (λ (ds : List DupRow). frame_of (lodgings_of (lodging ds s.frames.items) s.rows.held)) dropped
-    ∙ lodged_dropped place s.frames.items left s.rows.held vacant in
+    ∙ lodged_dropped _ _ _ vacant in
     (λ i. record (seen (view_of s)) { dups = dropped i; frame = lain i; next = ap (λ (d : DupsState). d.next) c.drop_stale.ensures i })
     ∙ ap (λ (v : PagesValue). record (seen v) { dups = filter (elsewhere place) v.dups }) c.self.view_is
 
 pub returns-else-is_some : goal.returns-else-is_some
-returns-else-is_some c =
-    let s = c.self.inside in
-    let place = c.args.place in
-    let none = sym (any_at place s.dups.dups) ∙ sym (c.is_some.ensures ∙ ap is_some c.at.ensures.number) ∙ c.if-is_some.false in
-    ap seen (sym c.self.view_is)
-    ∙ ap (λ (ds : List DupRow). record (seen (view_of s)) { dups = ds }) (sym (all_elsewhere place (dup_rows s.dups.dups) none))
-    ∙ ap (λ (v : PagesValue). record (seen v) { dups = filter (elsewhere place) v.dups }) c.self.view_is
+returns-else-is_some c = search (rules, any_at, all_elsewhere)

@@ -9,7 +9,6 @@ returns c =
     subst (λ (v : PagesValue). All
     (λ d. d.place ≡ c.args.place
     → All (λ r. merged_into d.number r.state ≡ true → (seen v).frame r.page ≡ Some c.unwrap_or.result) v.rows) v.dups) c.self.view_is
-    (items_lodge s.rows.held s.dups s.frames.items c.self.invariant.order c.at.ensures.lawful
-    (c.self.invariant.places ∙ sym c.self.invariant.room) c.args.place c.unwrap_or.result
+    (items_lodge _ _ c.self.invariant.order c.at.ensures.lawful (c.self.invariant.places ∙ sym c.self.invariant.room)
     (c.unwrap_or.ensures ∙ ap (λ o. unwrap_or o 0) c.frame_at.ensures
     ∙ ap (λ (frames : List ℕ). unwrap_or (slice_get frames c.args.place) 0) c.deref.ensures.value))

@@ -1,4 +1,4 @@
-use Rattle.ksm_pages.proofs.Names.{ap, find_passes, held_of, is_next, option_map, Row, row_at, same_page, same_page_eq, Some, ◌∙◌, ◌≡◌}
+use Rattle.ksm_pages.proofs.Names.{ap, find_passes, held_of, option_map, Row, same_page, same_page_eq, Some, ◌∙◌}
 use Rattle.ksm_pages.proofs.Asked.{first_at}
 use Rattle.ksm_pages.proofs.Leaving.{row_seen}
 use Rattle.ksm_pages.proofs.pages.Pages.following.Goals as goal
@@ -8,7 +8,7 @@ returns-in-Some c =
     let page = c.in_ok-page.page in
     let s = c.self.inside in
     let r = (held_of s.rows.pass c.in-Some.field-0.now).row in
-    let found : row_at page c.args.self.now.rows ≡ Some r = row_seen s c.args.self.now c.self.view_is page c.in-Some.ensures in
+    let found = row_seen s c.self.view_is _ c.in-Some.ensures in
     ap (option_map (λ (x : Row). x.page))
-    (first_at (is_next c.args.guest c.args.cursor) page c.in_ok-page.ensures.next c.in_ok-page.ensures.least c.args.self.now.rows c.lie_in_order.ensures.rise r found)
-    ∙ ap Some (same_page_eq r.page page (find_passes (λ x. same_page x.page page) c.args.self.now.rows r found))
+    (first_at _ _ c.in_ok-page.ensures.next c.in_ok-page.ensures.least _ c.lie_in_order.ensures.rise r found)
+    ∙ ap Some (same_page_eq _ _ (find_passes (λ x. same_page x.page page) _ r found))

@@ -1,11 +1,11 @@
-use Rattle.ksm_pages.proofs.Names.{ap, found_at, option_map, refl, same_page, same_page_refl, subst, sym, true, unwrap_or, ◌∙◌, ◌≡◌}
+use Rattle.ksm_pages.proofs.Names.{ap, found_at, option_map, refl, rules, same_page, same_page_refl, subst, sym, true, unwrap_or, ◌∙◌, ◌≡◌}
 use Rattle.ksm_pages.proofs.Visiting.{IsAsked, asked, finds_gone, finds_waits, lawful_waits}
 use Rattle.ksm_pages.proofs.pages.Pages.glance.Goals as goal
 
 -- the row may be changed, and its group is known
 known : (c : goal.After-meet) → IsAsked c.self.inside c.args.self.now c.args.spot.page c.in-Some.entry.now c.in-Some.entry.now.group
 known c =
-    asked c.self.inside c.self.invariant c.self.view_is c.in-Some.entry.now c.in-Some.ensures (sym c.if-not-is_restless.ensures)
+    asked c.self.invariant c.self.view_is c.in-Some.ensures (sym c.if-not-is_restless.ensures)
     refl c.tree_in-tree.ensures (c.if-not-is_closed_group.ensures.numbered refl)
 
 own : (c : goal.After-meet) → same_page c.meet.result c.args.spot.page ≡ true
@@ -21,15 +21,13 @@ pub invariant_of-self : goal.invariant_of-self
 invariant_of-self c =
     lawful_waits (known c) (λ t b is. sym (ap (option_map found_at) (c.if-not-is_closed_group.ensures.best refl t b is)))
     c.if-not-entry.false (sym c.if-is_for_zero.ensures) c.meet.ensures.met c.meet.ensures.again (own c) c.meet.ensures.kept c.meet.ensures.added
-    c.wait.new.self c.wait.ensures
+    _ c.wait.ensures
 
 pub returns-clause-waits : goal.returns-clause-waits
 returns-clause-waits c _ =
     finds_waits (known c) (λ t b is. sym (ap (option_map found_at) (c.if-not-is_closed_group.ensures.best refl t b is)))
     c.if-not-entry.false (sym c.if-is_for_zero.ensures) c.meet.ensures.met c.meet.ensures.again (own c) c.meet.ensures.kept c.meet.ensures.added
-    c.wait.new.self c.wait.ensures
+    _ c.wait.ensures
 
 pub returns-then-not-is_restless-clause-gone : goal.returns-then-not-is_restless-clause-gone
-returns-then-not-is_restless-clause-gone c _ =
-    finds_gone c.self.inside c.args.self.now c.self.view_is c.args.spot.page c.in-Some.entry.now c.in-Some.ensures
-    (sym c.if-not-is_restless.ensures)
+returns-then-not-is_restless-clause-gone c = search (rules, finds_gone)

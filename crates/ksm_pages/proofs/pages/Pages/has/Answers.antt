@@ -1,13 +1,7 @@
-use Rattle.ksm_pages.proofs.Names.{ap, Entry, held_at, held_of, is_some, PagesValue, row_at, ◌∙◌}
-use Rattle.std.specs.Borrow.{Bor}
+use Rattle.ksm_pages.proofs.Names.{rules}
 use Rattle.ksm_pages.proofs.Options.{both_full}
 use Rattle.ksm_pages.proofs.Paging.{row_known}
 use Rattle.ksm_pages.proofs.pages.Pages.has.Goals as goal
 
 pub returns : goal.returns
-returns c =
-    let rows = c.self.inside.rows in
-    c.is_some.ensures
-    ∙ both_full (λ (e : Bor Entry). held_of rows.pass e.now) c.find.result (held_at c.args.page rows.held) c.find.ensures
-    ∙ row_known c.args.page rows.held
-    ∙ ap (λ (v : PagesValue). is_some (row_at c.args.page v.rows)) c.self.view_is
+returns c = search (rules, both_full, row_known)

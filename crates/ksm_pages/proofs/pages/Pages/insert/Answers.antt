@@ -1,17 +1,12 @@
-use Rattle.ksm_pages.proofs.Names.{ap, fresh_row, Held, PagesValue, refl, row_at, RowsView, seen, Some, with_row, ◌∙◌}
+use Rattle.ksm_pages.proofs.Names.{fresh_row, Held, refl, rules, seen, Some}
 use Rattle.ksm_pages.proofs.Entering.{but_there, either_way, entered, lay_nowhere}
 use Rattle.std.proofs.lemmas.Result.{on_err_weaker, on_ok_weaker}
 use Rattle.ksm_pages.proofs.Changing.{nothing_held}
-use Rattle.ksm_pages.proofs.Leaving.{view_of}
 use Rattle.ksm_pages.proofs.Turning.{held_as}
 use Rattle.ksm_pages.proofs.pages.Pages.insert.Goals as goal
 
 pub insert-requires : goal.insert-requires
-insert-requires c =
-    record {
-      absent = nothing_held c.args.page c.self.inside.rows.held
-          (ap (λ (v : PagesValue). row_at c.args.page v.rows) c.self.view_is ∙ c.requires);
-    }
+insert-requires c = search (rules, nothing_held)
 
 abbrev fresh : (c : goal.After-insert) → Held
 fresh c = record { row = fresh_row c.args.page c.args.node c.args.bytes.now; frame = Some 0 }
@@ -24,15 +19,13 @@ invariant_of-self c =
 
 pub returns-clause-added : goal.returns-clause-added
 returns-clause-added c =
-    on_ok_weaker c.insert.result
-    (λ put. (but_there _ (seen c.args.self.now) (with_row (fresh c).row c.args.self.now.rows) c.args.page (Some 0)
+    on_ok_weaker c.insert.result (λ put. (but_there (seen c.args.self.now) _ _ _
     (entered c.self.inside c.self.invariant c.self.view_is (fresh c) c.requires refl refl c.insert.new.self (held_as put)).told_as).0)
     c.insert.ensures.added
 
 pub returns-clause-others : goal.returns-clause-others
 returns-clause-others c =
-    on_ok_weaker c.insert.result
-    (λ put. (but_there _ (seen c.args.self.now) (with_row (fresh c).row c.args.self.now.rows) c.args.page (Some 0)
+    on_ok_weaker c.insert.result (λ put. (but_there (seen c.args.self.now) _ _ _
     (entered c.self.inside c.self.invariant c.self.view_is (fresh c) c.requires refl refl c.insert.new.self (held_as put)).told_as).1)
     c.insert.ensures.added
 
@@ -40,6 +33,4 @@ pub returns-clause-nowhere : goal.returns-clause-nowhere
 returns-clause-nowhere c = lay_nowhere c.self.inside c.self.invariant c.self.view_is (fresh c) c.requires
 
 pub returns-clause-refused : goal.returns-clause-refused
-returns-clause-refused c =
-    on_err_weaker c.insert.result
-    (λ kept. ap (λ (rows : RowsView). view_of (record c.self.inside { rows = rows })) kept ∙ c.self.view_is) c.insert.ensures.kept
+returns-clause-refused c = search (rules, on_err_weaker)

@@ -7,12 +7,11 @@ returns-in-Some c =
     let s = c.self.inside in
     ap (λ (v : PagesValue). option_map (items_of v.rows) (find (λ d. d.place == c.args.place && has_items v.rows d) v.dups))
     (sym c.self.view_is)
-    ∙ items_there (rows_of s.rows.held) s.dups.dups c.args.place c.self.invariant.tied c.in-Some.field-0 c.at.ensures.lawful.in_place_order
-    c.in-Some.ensures
+    ∙ items_there (rows_of s.rows.held) _ _ c.self.invariant.tied c.at.ensures.lawful.in_place_order c.in-Some.ensures
     ∙ ap Some (sym c.items_at.ensures)
 
 pub returns-in-None : goal.returns-in-None
 returns-in-None c =
     let s = c.self.inside in
     ap (λ (v : PagesValue). find (λ d. d.place == c.args.place && has_items v.rows d) v.dups) (sym c.self.view_is)
-    ∙ items_none (rows_of s.rows.held) s.dups.dups c.args.place c.self.invariant.tied c.in-None.ensures
+    ∙ items_none (rows_of s.rows.held) _ _ c.self.invariant.tied c.in-None.ensures

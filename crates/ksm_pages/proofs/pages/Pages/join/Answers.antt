@@ -1,17 +1,17 @@
-use Rattle.ksm_pages.proofs.Names.{ap, false, HasRoom, held_at, held_of, PagesValue, rows_of, RowsView, shared_state, Some, subst, sym, tied_absent, true≢false, ◌∙◌, ◌≡◌}
+use Rattle.ksm_pages.proofs.Names.{ap, false, HasRoom, held_at, held_of, PagesValue, rows_of, rules, shared_state, Some, subst, sym, tied_absent, ◌∙◌, ◌≡◌}
 use Rattle.ksm_pages.proofs.Joined.{fewer_room, known_room, lawful_joined, own_not_merged, own_seat, told_joined}
-use Rattle.ksm_pages.proofs.Leaving.{alone_found, alone_there, lies, of_dup, row_there}
+use Rattle.ksm_pages.proofs.Leaving.{alone_found, alone_there, lies, row_there}
 use Rattle.ksm_pages.proofs.pages.Pages.join.Goals as goal
 use Rattle.ksm_pages.proofs.pages.Pages.join.Goals.{After-left_by}
 
 pub join_at-requires-clause-known : goal.join_at-requires-clause-known
 join_at-requires-clause-known c =
-    known_room (rows_of c.self.inside.rows.held) c.self.inside.dups.dups c.args.best.number c.self.invariant.tied
+    known_room (rows_of c.self.inside.rows.held) _ c.self.invariant.tied
     (subst (λ (v : PagesValue). HasRoom v.rows v.dups c.args.best.number) (sym c.self.view_is) c.requires.room)
 
 pub join_at-requires-clause-fewer : goal.join_at-requires-clause-fewer
 join_at-requires-clause-fewer c =
-    fewer_room (rows_of c.self.inside.rows.held) c.self.inside.dups.dups c.args.best.number c.self.invariant.tied
+    fewer_room (rows_of c.self.inside.rows.held) _ c.self.invariant.tied
     (subst (λ (v : PagesValue). HasRoom v.rows v.dups c.args.best.number) (sym c.self.view_is) c.requires.room)
 
 pub join_at-requires-clause-absent : goal.join_at-requires-clause-absent
@@ -19,42 +19,36 @@ join_at-requires-clause-absent c =
     let s = c.self.inside in
     let page = c.args.spot.page in
     let h = held_of s.rows.pass c.in-Some.entry.now in
-    let alone = alone_found s c.args.self.now c.self.view_is page h c.in-Some.ensures c.requires.alone in
-    tied_absent (rows_of s.rows.held) page h.row c.self.invariant.order
-    (row_there s c.self.invariant page h c.in-Some.ensures) c.args.best.number s.dups.dups
-    (own_not_merged h.row.state alone) c.self.invariant.tied
+    let alone = alone_found s c.self.view_is _ c.in-Some.ensures c.requires.alone in
+    tied_absent _ _ _ c.self.invariant.order (row_there s c.self.invariant _ c.in-Some.ensures) _ _
+    (own_not_merged _ alone) c.self.invariant.tied
 
 pub unreachable-requires : goal.unreachable-requires
-unreachable-requires c = true≢false
-    (alone_there c.self.inside c.args.self.now c.self.view_is c.args.spot.page c.in_default.ensures c.requires.alone)
+unreachable-requires c = search (rules, alone_there)
 
 found : (c : After-left_by) → held_at c.args.spot.page c.self.inside.rows.held ≡ Some (held_of c.pass.result c.in-Some.entry.now)
 found c = c.in-Some.ensures ∙ ap (λ n. Some (held_of n c.in-Some.entry.now)) (sym c.pass.ensures)
 
 alone : (c : After-left_by) → shared_state (held_of c.pass.result c.in-Some.entry.now).row.state ≡ false
-alone c =
-    alone_found c.self.inside c.args.self.now c.self.view_is c.args.spot.page (held_of c.pass.result c.in-Some.entry.now) (found c) c.requires.alone
+alone c = alone_found c.self.inside c.self.view_is _ (found c) c.requires.alone
 
 pub invariant_of-self-2 : goal.invariant_of-self-2
 invariant_of-self-2 c =
     let b = (goal.at.invariant_of-self-2 c).After-left_by in
-    lawful_joined c.self.inside c.self.invariant c.args.spot.page (held_of c.pass.result c.in-Some.entry.now) (found b) (alone b) c.args.best.number c.join_at.new.self
-    c.left_by.new.dups c.in_ok-place.ensures.joined c.left_by.ensures.dups c.left_by.ensures.waiting c.merge.new.self (ap (λ (r : RowsView). r.held) c.merge.ensures)
+    lawful_joined c.self.inside c.self.invariant _ (found b) (alone b) _
+    c.in_ok-place.ensures.joined c.left_by.ensures.dups c.left_by.ensures.waiting c.merge.new.self (λ i. (c.merge.ensures i).held)
 
 pub returns-clause-left : goal.returns-clause-left
-returns-clause-left c =
-    let b = (goal.at.returns-clause-left c).After-left_by in
-    sym (lies c.self.inside c.self.invariant c.args.spot.page (held_of c.pass.result c.in-Some.entry.now) (found b) c.args.self.now c.self.view_is)
-    ∙ own_seat (of_dup c.self.inside) c.pass.result c.in-Some.entry.now (alone b)
+returns-clause-left c = search (rules, lies, found, own_seat, alone)
 
 pub returns-clause-joined : goal.returns-clause-joined
 returns-clause-joined c =
     let b = (goal.at.returns-clause-joined c).After-left_by in
-    (told_joined c.self.inside c.self.invariant c.args.spot.page (held_of c.pass.result c.in-Some.entry.now) (found b) (alone b) c.args.best.number c.join_at.new.self
-    c.left_by.new.dups c.in_ok-place.ensures.joined c.left_by.ensures.dups c.left_by.ensures.waiting c.merge.new.self c.merge.ensures c.args.self.now c.self.view_is).0
+    (told_joined c.self.inside c.self.invariant _ (found b) (alone b) _
+    c.in_ok-place.ensures.joined c.left_by.ensures.dups c.left_by.ensures.waiting c.merge.ensures c.self.view_is).0
 
 pub returns-clause-frame : goal.returns-clause-frame
 returns-clause-frame c =
     let b = (goal.at.returns-clause-frame c).After-left_by in
-    (told_joined c.self.inside c.self.invariant c.args.spot.page (held_of c.pass.result c.in-Some.entry.now) (found b) (alone b) c.args.best.number c.join_at.new.self
-    c.left_by.new.dups c.in_ok-place.ensures.joined c.left_by.ensures.dups c.left_by.ensures.waiting c.merge.new.self c.merge.ensures c.args.self.now c.self.view_is).1
+    (told_joined c.self.inside c.self.invariant _ (found b) (alone b) _
+    c.in_ok-place.ensures.joined c.left_by.ensures.dups c.left_by.ensures.waiting c.merge.ensures c.self.view_is).1

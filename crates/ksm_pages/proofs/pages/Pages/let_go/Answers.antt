@@ -11,10 +11,8 @@ turned : (c : goal.After-set_mergeable) → c.set_mergeable.new.self.held
     ≡ change_held c.args.spot.page (on_row as_gone) c.self.inside.rows.held
 turned c =
     let held = c.self.inside.rows.held in
-    let first = and_then c.args.spot.page settled (λ r. record r { unchanged = false }) (λ r. refl) held (held_as c.stop_waiting.ensures)
-    (held_as c.forget_unchanged.ensures) in
-    and_then c.args.spot.page (λ r. record (settled r) { unchanged = false }) (λ r. record r { mergeable = false }) (λ r. refl) held first
-    (held_as c.set_mergeable.ensures)
+    let first = and_then _ _ _ (λ r. refl) _ (held_as c.stop_waiting.ensures) (held_as c.forget_unchanged.ensures) in
+    and_then _ _ _ (λ r. refl) _ first (held_as c.set_mergeable.ensures)
 
 gone : (c : goal.After-set_mergeable)
     → HasLeft c.self.inside c.args.self.now c.args.spot.page c.leave.new.dups c.deref.result.now c.leave.result

@@ -1,16 +1,6 @@
-use Rattle.ksm_pages.proofs.Names.{GuestPage, InPageOrder, lodging, None, PagesValue, row_at, rows_of, seen, subst, ◌≡◌}
-use Rattle.ksm_rmap.specs.Items.{AreAscending}
-use Rattle.ksm_tree.specs.Dups.{rows_of as dup_rows}
-use Rattle.ksm_pages.specs.Paged.{AreListed}
+use Rattle.ksm_pages.proofs.Names.{rules}
 use Rattle.ksm_pages.proofs.Paging.{lies_nowhere, listed_pages}
 use Rattle.ksm_pages.proofs.pages.Pages.lie_in_order.Goals as goal
 
 pub returns : goal.returns
-returns c =
-    let s = c.self.inside in
-    record {
-      rise = subst (λ (v : PagesValue). InPageOrder v.rows) c.self.view_is c.self.invariant.order;
-      absent = subst (λ (v : PagesValue). (page : GuestPage) → row_at page v.rows ≡ None → (seen v).frame page ≡ None) c.self.view_is (lies_nowhere (lodging (dup_rows s.dups.dups) s.frames.items) s.rows.held);
-      listed = subst (λ (v : PagesValue). AreListed v.rows v.restless) c.self.view_is (λ known. listed_pages (rows_of s.rows.held) s.rows.restless.pages (c.are_lawful.ensures.listed known));
-      ascending = subst (λ (v : PagesValue). AreAscending v.restless.pages) c.self.view_is c.restless_len.ensures.ascending;
-    }
+returns c = search (rules, lies_nowhere, listed_pages)

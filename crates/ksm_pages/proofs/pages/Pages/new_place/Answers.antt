@@ -1,4 +1,4 @@
-use Rattle.ksm_pages.proofs.Names.{ap, choice_alike, choice_exists, PagesValue, place_count, rows_of, Stale, subst, sym, tied_counted, ◌<◌, ◌∙◌}
+use Rattle.ksm_pages.proofs.Names.{ap, choice_alike, choice_exists, PagesValue, place_count, rows_of, subst, sym, tied_counted, ◌<◌, ◌∙◌}
 use Rattle.ksm_base.specs.Visit.{new_place as place_of_new}
 use Rattle.ksm_tree.specs.Dups.{rows_of as dup_rows}
 use Rattle.ksm_pages.proofs.pages.Pages.new_place.Goals as goal
@@ -8,13 +8,13 @@ choose_place-requires c =
     let rows = rows_of c.self.inside.rows.held in
     let s = c.self.inside.dups in
     let room = subst (λ (v : PagesValue). place_of_new (place_count v.shape) v.rows v.dups < place_count v.shape) (sym c.self.view_is) c.requires.room in
-    choice_exists rows s (tied_counted rows s.dups c.self.invariant.tied)
+    choice_exists rows s (tied_counted rows _ c.self.invariant.tied)
     (subst (λ n. place_of_new n rows (dup_rows s.dups) < n) (sym c.self.invariant.places) room)
 
 pub returns-in-Stale : goal.returns-in-Stale
 returns-in-Stale c =
     let rows = rows_of c.self.inside.rows.held in
     let s = c.self.inside.dups in
-    choice_alike rows s (Stale c.in-Stale.place) (tied_counted rows s.dups c.self.invariant.tied) c.in-Stale.ensures
+    choice_alike rows s _ (tied_counted rows _ c.self.invariant.tied) c.in-Stale.ensures
     ∙ ap (λ n. place_of_new n rows (dup_rows s.dups)) c.self.invariant.places
     ∙ ap (λ (v : PagesValue). place_of_new (place_count v.shape) v.rows v.dups) c.self.view_is

@@ -4,26 +4,24 @@ use Rattle.ksm_pages.proofs.pages.Pages.next.Goals as goal
 use Rattle.ksm_pages.proofs.pages.Pages.next.Goals.{in_default-guest-via-in-Some-guest+else-spot-guest, in_default-guest-via-in_default-guest}
 
 pub returns-in-Some : goal.returns-in-Some
-returns-in-Some c =
-    told_next c.args.self.now c.args.guest c.args.cursor c.lie_in_order.ensures.rise c.in-Some.spot.page c.in-Some.ensures c.told.result c.told.ensures
+returns-in-Some c = told_next _ c.args.guest c.args.cursor c.lie_in_order.ensures.rise c.in-Some.ensures _ c.told.ensures
 
 pub returns-in_err-spot : goal.returns-in_err-spot
 returns-in_err-spot c =
-    next_none c.args.self.now c.args.guest c.args.cursor c.self.inside c.self.invariant c.self.view_is c.start_of.result c.start_of.ensures.same
-    c.in_err-spot.ensures c.from_residual.result c.from_residual.ensures
+    next_none _ _ _ c.self.inside c.self.invariant c.self.view_is _ c.start_of.ensures.same c.in_err-spot.ensures c.from_residual.ensures
 
 pub returns-in-Some-guest : goal.returns-in-Some-guest
 returns-in-Some-guest c =
     let page = c.in_ok-spot.spot.page in
-    next_past c.args.self.now c.args.guest c.args.cursor c.self.inside c.self.invariant c.self.view_is c.start_of.result c.start_of.ensures.same
-    page c.in_ok-spot.ensures c.in-Some-guest.guest c.in-Some-guest.is c.if-spot-guest.true (c.start_of.ensures.begun page (omega arith))
+    next_past _ _ _ c.self.inside c.self.invariant c.self.view_is _ c.start_of.ensures.same
+    _ c.in_ok-spot.ensures c.in-Some-guest.is c.if-spot-guest.true (c.start_of.ensures.begun page (omega arith))
 
 pub returns-in_default-guest : goal.returns-in_default-guest
 returns-in_default-guest c =
     let page = c.in_ok-spot.spot.page in
     let own : (x : Row) → x.page ≡ page → of_guest c.args.guest x ≡ true = elim c.in_default-guest.branch [
-      | in_default-guest-via-in-Some-guest+else-spot-guest w ↦ of_some c.args.guest w.in-Some-guest.guest page w.in-Some-guest.is w.if-spot-guest.false
+      | in_default-guest-via-in-Some-guest+else-spot-guest w ↦ of_some w.in-Some-guest.is w.if-spot-guest.false
       | in_default-guest-via-in_default-guest w ↦ λ x at. ap (λ o. of_guest o x) w.in_default-guest.is
     ] in
-    next_told c.args.self.now c.args.guest c.args.cursor c.self.inside c.self.invariant c.self.view_is c.start_of.result c.start_of.ensures.same
-    page c.in_ok-spot.ensures own c.told-in_default-guest.result c.told-in_default-guest.ensures
+    next_told _ _ _ c.self.inside c.self.invariant c.self.view_is _ c.start_of.ensures.same
+    _ c.in_ok-spot.ensures own _ c.told-in_default-guest.ensures

@@ -5,10 +5,8 @@ use Rattle.ksm_pages.proofs.pages.Pages.pair.Goals.{in_default-via-in-Some+in_de
 
 pub unreachable-requires : goal.unreachable-requires
 unreachable-requires c =
-    let first = first_there c.self.inside c.args.self.now c.self.view_is c.args.place c.args.first.page c.args.second.page
-    c.requires.first in
-    let second = second_there c.self.inside c.args.self.now c.self.view_is c.args.place c.args.first.page c.args.second.page
-    c.requires.first in
+    let first = first_there c.self.inside c.self.view_is _ _ _ c.requires.first in
+    let second = second_there c.self.inside c.self.view_is _ _ _ c.requires.first in
     elim c.in_default.branch [
       | in_default-via-in-Some+in_default w ↦ true≢false (second w.in_default.ensures')
       | in_default-via-in_default w ↦ true≢false (first w.in_default.ensures)
@@ -18,9 +16,7 @@ begun : (c : goal.After-found-arg-3-1)
     → CanPair (record c.self.inside { dups = c.group.new.self }) c.args.self.now c.args.place c.args.first.page c.args.second.page
     c.self.inside.rows.pass c.in-Some-Some.one.now c.in-Some-Some.other.now
 begun c =
-    can_pair c.self.inside c.self.invariant c.self.view_is c.args.place c.args.first.page c.args.second.page c.requires.first
-    c.self.inside.rows.pass c.in-Some-Some.one.now c.in-Some-Some.other.now c.in-Some-Some.ensures c.in-Some-Some.ensures'
-    c.group.ensures.kept
+    can_pair c.self.invariant c.self.view_is c.requires.first c.in-Some-Some.ensures c.in-Some-Some.ensures' c.group.ensures.kept
 
 pub found-requires-clause-may : goal.found-requires-clause-may
 found-requires-clause-may c = record {
@@ -33,9 +29,7 @@ found-requires-clause-may c = record {
 pairs : (c : goal.After-self-1)
     → CanPair (record c.self.inside { dups = c.group.new.self }) c.args.self.now c.args.place c.args.first.page c.args.second.page
     c.pass-pass.result c.in-Some-Some.one.now c.in-Some-Some.other.now
-pairs c =
-    can_pair c.self.inside c.self.invariant c.self.view_is c.args.place c.args.first.page c.args.second.page c.requires.first
-    c.pass-pass.result c.in-Some-Some.one.now c.in-Some-Some.other.now
+pairs c = can_pair c.self.invariant c.self.view_is c.requires.first
     (c.in-Some-Some.ensures ∙ ap (λ n. Some (held_of n c.in-Some-Some.one.now)) (sym c.pass-pass.ensures))
     (c.in-Some-Some.ensures' ∙ ap (λ n. Some (held_of n c.in-Some-Some.other.now)) (sym c.pass-pass.ensures)) c.group.ensures.kept
 

@@ -1,4 +1,4 @@
-use Rattle.ksm_pages.proofs.Names.{ap, frame_of, lies_on, None, PagesValue, RowsView, seen, without_page, ◌∙◌}
+use Rattle.ksm_pages.proofs.Names.{lies_on, None, seen, without_page, ◌∙◌}
 use Rattle.ksm_pages.proofs.Turning.{HasLeft, held_as, known_left, lay, parted}
 use Rattle.ksm_pages.proofs.pages.Pages.remove.Goals as goal
 
@@ -14,14 +14,7 @@ returns-clause-left c = lay (gone c) c.deref.ensures.value
 
 pub returns-clause-gone : goal.returns-clause-gone
 returns-clause-gone c =
+    let seen_now = seen c.args.self.now in
+    let listed = (λ i. (c.remove.ensures i).restless) ∙ (λ i. (c.self.view_is i).restless) in
     (parted (gone c) c.remove.new.self (held_as c.remove.ensures)).told_as
-    ∙ ap (λ (r : RowsView). record (seen c.args.self.now) {
-      rows = without_page c.args.spot.page c.args.self.now.rows;
-      frame = lies_on c.args.spot.page None (frame_of c.args.self.now.lodgings);
-      restless = r.restless;
-    }) c.remove.ensures
-    ∙ ap (λ (v : PagesValue). record (seen c.args.self.now) {
-      rows = without_page c.args.spot.page c.args.self.now.rows;
-      frame = lies_on c.args.spot.page None (frame_of c.args.self.now.lodgings);
-      restless = v.restless;
-    }) c.self.view_is
+    ∙ (λ i. record seen_now { rows = without_page c.args.spot.page seen_now.rows; frame = lies_on c.args.spot.page None seen_now.frame; restless = listed i })

@@ -1,4 +1,4 @@
-use Rattle.ksm_pages.proofs.Names.{false, List, private_state, refl, Row, row_at, Some, subst, true, waits_there, ℕ, ◌≡◌}
+use Rattle.ksm_pages.proofs.Names.{false, List, private_state, refl, Row, row_at, rules, Some, subst, true, waits_there, ℕ, ◌≡◌}
 use Rattle.std.specs.Prelude.{MatchOption}
 use Rattle.ksm_pages.proofs.Resting.{private_still}
 use Rattle.ksm_pages.proofs.Turning.{held_as, stays}
@@ -10,15 +10,12 @@ moved node r = record r { home = node }
 -- it waits at no home
 alike : (c : goal.After-set_home) (r : Row) → row_at c.args.spot.page c.args.self.now.rows ≡ Some r → (t : ℕ) (b : List ℕ)
     → waits_there c.self.inside.knobs t b (Some (moved c.args.node r)) ≡ waits_there c.self.inside.knobs t b (Some r)
-alike c r is t b =
-    rw (private_still r.state (subst (λ o. MatchOption o (true ≡ false) (λ r. private_state r.state ≡ true)) is c.requires)) refl
+alike c r is t b = rw (private_still _ (subst (λ o. MatchOption o (true ≡ false) (λ r. private_state r.state ≡ true)) is c.requires)) refl
 
 pub invariant_of-self : goal.invariant_of-self
 invariant_of-self c =
-    (stays c.self.inside c.self.invariant c.self.view_is c.args.spot.page (moved c.args.node) (λ r. refl) (λ r. refl)
+    (stays c.self.inside c.self.invariant c.self.view_is _ _ (λ r. refl) (λ r. refl)
     (alike c) c.set_home.new.self (held_as c.set_home.ensures)).lawful
 
 pub returns : goal.returns
-returns c =
-    (stays c.self.inside c.self.invariant c.self.view_is c.args.spot.page (moved c.args.node) (λ r. refl) (λ r. refl)
-    (alike c) c.set_home.new.self (held_as c.set_home.ensures)).told_as
+returns c = search (rules, stays, alike, held_as)

@@ -1,4 +1,4 @@
-use Rattle.ksm_pages.proofs.Names.{All, ap, AreKept, DupsState, false, inl, inr, knobs_tuned, PagesValue, rows_of, seen, subst, sym, waiting_state, ◌∙◌, ◌≡◌}
+use Rattle.ksm_pages.proofs.Names.{All, AreKept, false, inl, inr, knobs_tuned, PagesValue, rows_of, seen, subst, sym, waiting_state, ◌∙◌, ◌≡◌}
 use Rattle.ksm_pages.proofs.Leaving.{view_of}
 use Rattle.ksm_pages.proofs.Paging.{knobs_free}
 use Rattle.ksm_pages.proofs.pages.Pages.set_knobs.Goals as goal
@@ -14,9 +14,9 @@ invariant_of-self c =
       tied = c.self.invariant.tied;
       places = c.self.invariant.places;
       waits = elim c.requires [
-        | inl same ↦ knobs_tuned s.knobs rows s.dups.waiting c.self.invariant.waits c.args.knobs
-            (same ∙ sym (ap (λ (v : PagesValue). v.knobs.merge_across_nodes) c.self.view_is))
-        | inr still ↦ knobs_free s.knobs c.args.knobs rows s.dups.waiting c.self.invariant.waits
+        | inl same ↦ knobs_tuned s.knobs _ _ c.self.invariant.waits c.args.knobs
+            (same ∙ sym (λ i. (c.self.view_is i).knobs.merge_across_nodes))
+        | inr still ↦ knobs_free s.knobs c.args.knobs _ _ c.self.invariant.waits
             (subst (λ (v : PagesValue). All (λ r. waiting_state r.state ≡ false) v.rows) (sym c.self.view_is) still)
       ];
       room = c.self.invariant.room;
@@ -24,5 +24,5 @@ invariant_of-self c =
 
 pub returns : goal.returns
 returns c =
-    ap (λ (d : DupsState). record (seen (view_of (record c.self.inside { dups = d }))) { knobs = c.args.knobs }) c.set_limit.ensures
-    ∙ ap (λ (v : PagesValue). record (seen v) { knobs = c.args.knobs }) c.self.view_is
+    (λ i. record (seen (view_of (record c.self.inside { dups = (c.set_limit.ensures i) }))) { knobs = c.args.knobs })
+    ∙ (λ i. record (seen (c.self.view_is i)) { knobs = c.args.knobs })

@@ -1,14 +1,14 @@
-use Rattle.ksm_pages.proofs.Names.{ap, PagesValue, refl, RowsView, settled, ◌∙◌}
+use Rattle.ksm_pages.proofs.Names.{refl, ◌∙◌}
 use Rattle.ksm_pages.proofs.Turning.{held_as, rest_all}
 use Rattle.ksm_pages.proofs.pages.Pages.settle_all.Goals as goal
 
 pub invariant_of-self : goal.invariant_of-self
 invariant_of-self c =
-    (rest_all c.self.inside c.self.invariant c.self.view_is settled (λ r. refl) (λ r. refl) c.settle_all.new.self
-    (held_as c.settle_all.ensures) refl c.clear_waiting.new.self c.clear_waiting.ensures).lawful
+    (rest_all c.self.inside c.self.invariant c.self.view_is _ (λ r. refl) (λ r. refl) c.settle_all.new.self
+    (held_as c.settle_all.ensures) refl c.clear_waiting.ensures).lawful
 
 pub returns : goal.returns
 returns c =
-    let listed = ap (λ (r : RowsView). r.restless) c.settle_all.ensures ∙ ap (λ (v : PagesValue). v.restless) c.self.view_is in
-    (rest_all c.self.inside c.self.invariant c.self.view_is settled (λ r. refl) (λ r. refl) c.settle_all.new.self
-    (held_as c.settle_all.ensures) listed c.clear_waiting.new.self c.clear_waiting.ensures).told_as
+    let listed = (λ i. (c.settle_all.ensures i).restless) ∙ (λ i. (c.self.view_is i).restless) in
+    (rest_all c.self.inside c.self.invariant c.self.view_is _ (λ r. refl) (λ r. refl) c.settle_all.new.self
+    (held_as c.settle_all.ensures) listed c.clear_waiting.ensures).told_as

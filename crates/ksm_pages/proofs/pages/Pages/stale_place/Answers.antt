@@ -5,5 +5,5 @@ use Rattle.ksm_pages.proofs.pages.Pages.stale_place.Goals as goal
 
 pub returns : goal.returns
 returns c =
-    c.stale.ensures.place ∙ stale_at (rows_of c.self.inside.rows.held) c.self.inside.dups.dups c.self.invariant.tied
+    c.stale.ensures.place ∙ stale_at (rows_of c.self.inside.rows.held) _ c.self.invariant.tied
     ∙ ap (λ (v : PagesValue). option_map (λ d. d.place) (find (is_stale v.rows) v.dups)) c.self.view_is

@@ -1,4 +1,4 @@
-use Rattle.ksm_pages.proofs.Names.{ap, change_row, IsAlone, PagesValue, refl, RowsView, seen, settled, subst, sym, ◌∙◌}
+use Rattle.ksm_pages.proofs.Names.{change_row, IsAlone, PagesValue, refl, rules, seen, settled, subst, sym}
 use Rattle.ksm_pages.specs.Paged.{on_its_own}
 use Rattle.ksm_pages.proofs.Leaving.{view_of}
 use Rattle.ksm_pages.proofs.Resting.{rests}
@@ -17,13 +17,11 @@ stopped : (c : goal.After-stop_waiting) → Comes c.self.inside c.stop_waiting.n
     (record (seen (view_of c.self.inside)) { rows = change_row c.args.spot.page on_its_own (view_of c.self.inside).rows })
 stopped c =
     let row = (gone c).held.row in
-    rested (gone c) c.stop_waiting.new.self (ap (λ (r : RowsView). r.restless) c.stop_waiting.ensures) settled on_its_own
-    (λ r. refl) (λ r. refl) (alone c) (λ own i. record row { state = rests row.state own i }) (held_as c.stop_waiting.ensures)
+    rested (gone c) _ (λ i. (c.stop_waiting.ensures i).restless) settled on_its_own
+    (λ r. refl) (λ r. refl) (alone c) (λ own i. record row { state = rests _ own i }) (held_as c.stop_waiting.ensures)
 
 pub invariant_of-self : goal.invariant_of-self
 invariant_of-self c = (stopped c).lawful
 
 pub returns : goal.returns
-returns c =
-    (stopped c).told_as
-    ∙ ap (λ (v : PagesValue). record (seen v) { rows = change_row c.args.spot.page on_its_own v.rows }) c.self.view_is
+returns c = search (rules, stopped)

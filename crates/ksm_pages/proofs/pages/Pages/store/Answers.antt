@@ -1,5 +1,4 @@
 use Rattle.ksm_pages.proofs.Names.{ap, change_row, held_of, refl, rules, seen, Some, stored, sym, ◌∙◌}
-use Rattle.ksm_pages.proofs.Resting.{put_bytes}
 use Rattle.ksm_pages.proofs.Turning.{Comes, HasLeft, found_left, held_as, rested}
 use Rattle.ksm_pages.proofs.pages.Pages.store.Goals as goal
 
@@ -17,7 +16,7 @@ written : (c : goal.After-store) → Comes c.self.inside c.store.new.self c.self
 })
 unfolding alone
 written c =
-    rested (alone c) c.store.new.self refl (put_bytes c.args.bytes.now) (stored c.args.bytes.now) (λ r. refl) (λ r. refl) c.requires
+    rested (alone c) c.store.new.self refl _ (stored c.args.bytes.now) (λ r. refl) (λ r. refl) c.requires
     (λ _. ap (λ st. record (stored c.args.bytes.now (alone c).held.row) { state = st }) (sym c.in-Private.ensures)) (held_as c.store.ensures)
 
 pub invariant_of-self : goal.invariant_of-self

@@ -1,12 +1,11 @@
-use Rattle.ksm_pages.proofs.Names.{ap, change_row, held_of, refl, seen, settled, Some, stored, sym, true≢false, ◌∙◌}
+use Rattle.ksm_pages.proofs.Names.{ap, change_row, held_of, refl, rules, seen, settled, Some, stored, sym, ◌∙◌}
 use Rattle.ksm_pages.proofs.Leaving.{alone_there}
 use Rattle.ksm_pages.proofs.Resting.{put_bytes, stored_settled}
 use Rattle.ksm_pages.proofs.Turning.{Comes, HasLeft, and_then, found_left, held_as, rested}
 use Rattle.ksm_pages.proofs.pages.Pages.store_any.Goals as goal
 
 pub returns-in_default : goal.returns-in_default
-returns-in_default c =
-    absurd (true≢false (alone_there c.self.inside c.args.self.now c.self.view_is c.args.spot.page c.in_default.ensures c.requires))
+returns-in_default c = search (rules, alone_there)
 
 left : (c : goal.After-store)
     → HasLeft c.self.inside c.args.self.now c.args.spot.page c.left_by_any.new.dups c.deref.result.now c.left_by_any.result
@@ -20,9 +19,9 @@ settled_too : (c : goal.After-store) → Comes c.self.inside c.store.new.self c.
   restless = c.store.new.self.restless;
 })
 settled_too c =
-    rested (left c) c.store.new.self refl (λ r. put_bytes c.args.bytes.now (settled r)) (stored c.args.bytes.now) (λ r. refl) (λ r. refl) c.requires
+    rested (left c) c.store.new.self refl (λ r. put_bytes c.args.bytes.now (settled r)) _ (λ r. refl) (λ r. refl) c.requires
     (stored_settled c.args.bytes.now (left c).held.row)
-    (and_then c.args.spot.page settled (put_bytes c.args.bytes.now) (λ r. refl) c.self.inside.rows.held (held_as c.stop_waiting.ensures) (held_as c.store.ensures))
+    (and_then _ _ _ (λ r. refl) _ (held_as c.stop_waiting.ensures) (held_as c.store.ensures))
 
 pub invariant_of-self : goal.invariant_of-self
 invariant_of-self c = (settled_too c).lawful

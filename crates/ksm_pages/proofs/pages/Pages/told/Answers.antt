@@ -1,5 +1,4 @@
-use Rattle.ksm_pages.proofs.Names.{ap, ap₂, held_of, is_some, IsHeld, List, lodging, None, PagesValue, refl, row_at, seen, Some, subst, sym, ℕ, ◌∙◌, ◌≡◌}
-use Rattle.std.specs.Prelude.{MatchOption}
+use Rattle.ksm_pages.proofs.Names.{ap, ap₂, held_of, is_some, IsHeld, List, lodging, PagesValue, refl, rules, seen, Some, subst, sym, ℕ, ◌∙◌}
 use Rattle.ksm_tree.specs.Dups.{rows_of as dup_rows}
 use Rattle.ksm_pages.proofs.Lodgings.{frame_by, seat}
 use Rattle.ksm_pages.proofs.Changing.{row_told}
@@ -7,10 +6,7 @@ use Rattle.ksm_pages.proofs.Paging.{shared_by}
 use Rattle.ksm_pages.proofs.pages.Pages.told.Goals as goal
 
 pub returns-in_err-spot : goal.returns-in_err-spot
-returns-in_err-spot c =
-    let page = c.args.spot.page in
-    let gone : row_at page c.args.self.now.rows ≡ None = ap (λ (v : PagesValue). row_at page v.rows) (sym c.self.view_is) ∙ row_told page c.self.inside.rows.held c.in_err-spot.ensures in
-    subst (λ o. MatchOption o (row_at page c.args.self.now.rows ≡ None) (IsHeld (seen c.args.self.now) page)) (sym c.from_residual.ensures) gone
+returns-in_err-spot c = search (rules, row_told)
 
 pub returns : goal.returns
 returns c =
@@ -22,10 +18,10 @@ returns c =
     subst (λ (v : PagesValue). IsHeld (seen v) page (record { spot = c.in_ok-spot.spot; home = e.home; shared = c.is_none.result; frame = c.frame_of.result })) c.self.view_is
     (record {
       row = h.row;
-      found = row_told page s.rows.held c.in_ok-spot.ensures.1;
+      found = row_told page _ c.in_ok-spot.ensures.1;
       spot = c.in_ok-spot.ensures.0;
       home = refl;
-      shared = shared_by c.is_none.result e.kind e.number s.rows.pass e.at (sym c.is_none.ensures ∙ ap is_some c.own_frame.ensures);
+      shared = shared_by _ _ _ _ (sym c.is_none.ensures ∙ ap is_some c.own_frame.ensures);
       frame = c.frame_of.ensures
           ∙ ap₂ (λ (frames : List ℕ) pass. seat (lodging (dup_rows s.dups.dups) frames) (Some (held_of pass e))) c.deref.ensures.value c.pass.ensures
           ∙ ap (seat of_dup) (sym c.in_ok-spot.ensures.1)

@@ -1,19 +1,15 @@
-use Rattle.ksm_pages.proofs.Names.{ap, false, refl, Row, seen, settled, ◌∙◌}
+use Rattle.ksm_pages.proofs.Names.{ap, refl, seen, ◌∙◌}
 use Rattle.ksm_pages.proofs.Resting.{all_unshared}
 use Rattle.ksm_pages.proofs.Turning.{held_as, rest_all}
 use Rattle.ksm_pages.proofs.pages.Pages.unshare_all.Goals as goal
 
-abbrev plain : Row → Row
-plain r = record (settled r) { unchanged = false }
-
 pub invariant_of-self : goal.invariant_of-self
 invariant_of-self c =
-    (rest_all c.self.inside c.self.invariant c.self.view_is plain (λ r. refl) (λ r. refl) c.unshare_all.new.self
-    (held_as c.unshare_all.ensures) refl c.clear_waiting.new.self c.clear_waiting.ensures).lawful
+    (rest_all c.self.inside c.self.invariant c.self.view_is _ (λ r. refl) (λ r. refl) c.unshare_all.new.self
+    (held_as c.unshare_all.ensures) refl c.clear_waiting.ensures).lawful
 
 pub returns : goal.returns
 returns c =
-    (rest_all c.self.inside c.self.invariant c.self.view_is plain (λ r. refl) (λ r. refl) c.unshare_all.new.self
-    (held_as c.unshare_all.ensures) refl c.clear_waiting.new.self c.clear_waiting.ensures).told_as
-    ∙ ap (λ rows. record (seen c.args.self.now) { rows = rows; restless = c.unshare_all.new.self.restless })
-    (all_unshared c.args.self.now.rows c.requires)
+    (rest_all c.self.inside c.self.invariant c.self.view_is _ (λ r. refl) (λ r. refl) c.unshare_all.new.self
+    (held_as c.unshare_all.ensures) refl c.clear_waiting.ensures).told_as
+    ∙ ap (λ rows. record (seen c.args.self.now) { rows = rows; restless = c.unshare_all.new.self.restless }) (all_unshared _ c.requires)

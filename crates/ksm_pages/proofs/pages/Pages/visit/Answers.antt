@@ -1,4 +1,4 @@
-use Rattle.ksm_pages.proofs.Names.{ap, held_of, Private, refl, Row, RowsView, seen, settled, Some, sym, true, ◌∙◌}
+use Rattle.ksm_pages.proofs.Names.{ap, held_of, Private, refl, Row, rules, seen, settled, Some, sym, true, ◌∙◌}
 use Rattle.ksm_pages.specs.Paged.{visited}
 use Rattle.ksm_pages.proofs.Leaving.{view_of}
 use Rattle.ksm_pages.proofs.Resting.{rests}
@@ -9,18 +9,16 @@ use Rattle.ksm_pages.proofs.pages.Pages.visit.Goals as goal
 use Rattle.ksm_pages.proofs.pages.Pages.visit.Goals.{After-best_of}
 
 pub returns-in_default-clause-found : goal.returns-in_default-clause-found
-returns-in_default-clause-found c = finds_none c.self.inside c.args.self.now c.self.view_is c.args.spot.page c.in_default.ensures
+returns-in_default-clause-found c = search (rules, finds_none)
 
 pub returns-then-not-is_restless-clause-found : goal.returns-then-not-is_restless-clause-found
-returns-then-not-is_restless-clause-found c =
-    finds_gone c.self.inside c.args.self.now c.self.view_is c.args.spot.page c.in-Some.entry.now c.in-Some.ensures
-    (sym c.if-not-is_restless.ensures)
+returns-then-not-is_restless-clause-found c = search (rules, finds_gone)
 
 -- a visit may change the row, and its group has a number
 known : (c : After-best_of)
     → IsAsked (record c.self.inside { dups = c.group.new.self }) c.args.self.now c.args.spot.page c.in-Some.entry.now c.in_ok-group.group
 known c =
-    asked c.self.inside c.self.invariant c.self.view_is c.in-Some.entry.now c.in-Some.ensures (sym c.if-not-is_restless.ensures)
+    asked c.self.invariant c.self.view_is c.in-Some.ensures (sym c.if-not-is_restless.ensures)
     c.group.ensures.kept c.tree_in.ensures c.in_ok-group.ensures.numbered
 
 pub returns-in-Some-best_of-clause-found : goal.returns-in-Some-best_of-clause-found
@@ -43,18 +41,17 @@ went c it =
     let row = (held_of c.pass-pass.result c.in-Some.entry.now).row in
     let there = it.found ∙ ap (λ n. Some (held_of n c.in-Some.entry.now)) (sym c.pass-pass.ensures) in
     rested (found_left {s = s} {p = view_of s} it.lawful refl there c.left_by.ensures) c.become_unchanged.new.self
-    (ap (λ (r : RowsView). r.restless) c.become_unchanged.ensures)
-    kept found (λ r. refl) (λ r. refl) (is_alone s it.lawful c.args.spot.page c.in-Some.entry.now it.found it.restless)
-    (λ alone i. record row { unchanged = true; state = rests row.state alone i })
-    (held_as c.become_unchanged.ensures)
+    (λ i. (c.become_unchanged.ensures i).restless)
+    kept found (λ r. refl) (λ r. refl) (is_alone s it.lawful _ c.in-Some.entry.now it.found it.restless)
+    (λ alone i. record row { unchanged = true; state = rests _ alone i }) (held_as c.become_unchanged.ensures)
 
 pub invariant_of-self-then-not-entry : goal.invariant_of-self-then-not-entry
-invariant_of-self-then-not-entry c = (went c (known (goal.at.invariant_of-self-then-not-entry c).After-best_of)).lawful
+invariant_of-self-then-not-entry c = search (rules, went, known)
 
 pub returns-then-not-entry-clause-found : goal.returns-then-not-entry-clause-found
 returns-then-not-entry-clause-found c =
     let it = known (goal.at.returns-then-not-entry-clause-found c).After-best_of in
-    finds_changed it c.in_default-best_of.ensures.best c.if-not-entry.true _ (went c it).told_as
+    finds_changed it c.in_default-best_of.ensures.best c.if-not-entry.true (went c it).told_as
 
 pub returns-then-is_for_zero-clause-found : goal.returns-then-is_for_zero-clause-found
 returns-then-is_for_zero-clause-found c =
@@ -78,5 +75,4 @@ returns-clause-found c =
     (sym c.if-is_for_zero.ensures) c.meet-other.ensures.met c.meet-other.ensures.again (sym c.if-eq.ensures)
 
 pub returns-in_err-group-clause-restless : goal.returns-in_err-group-clause-restless
-returns-in_err-group-clause-restless c =
-    on_err c.from_residual.result (is_seen_restless c.self.inside c.self.view_is c.args.spot.page c.in-Some.entry.now c.in-Some.ensures (sym c.if-not-is_restless.ensures))
+returns-in_err-group-clause-restless c = search (rules, on_err, is_seen_restless)

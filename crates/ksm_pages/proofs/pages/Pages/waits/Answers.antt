@@ -1,4 +1,4 @@
-use Rattle.ksm_pages.proofs.Names.{ap, Bool, false, MatchOption, Option, refl, Row, row_at, state_of, subst, sym, waiting_state, ◌∙◌, ◌≡◌}
+use Rattle.ksm_pages.proofs.Names.{ap, Bool, false, MatchOption, Option, refl, Row, row_at, rules, state_of, subst, sym, waiting_state, ◌∙◌, ◌≡◌}
 use Rattle.ksm_pages.proofs.Leaving.{row_seen}
 use Rattle.ksm_pages.proofs.pages.Pages.waits.Goals as goal
 use Rattle.ksm_pages.proofs.pages.Pages.waits.Goals.{After-state}
@@ -9,22 +9,22 @@ told : (c : After-state) (b : Bool) → b ≡ waiting_state c.state.result
 told c b is =
     let e = c.in-Some.entry.now in
     subst (λ (o : Option Row). MatchOption o (b ≡ false) (λ r. b ≡ waiting_state r.state))
-    (sym (row_seen c.self.inside c.args.self.now c.self.view_is c.args.spot.page c.in-Some.ensures))
+    (sym (row_seen c.self.inside c.self.view_is _ c.in-Some.ensures))
     (is ∙ ap waiting_state (c.state.ensures ∙ ap (state_of e.kind e.number) c.pass.ensures))
 
 pub returns-in-Waiting : goal.returns-in-Waiting
-returns-in-Waiting c = told (goal.at.returns-in-Waiting c).After-state _ (ap waiting_state (sym c.in-Waiting.is))
+returns-in-Waiting c = search (rules, told)
 
 pub returns-in-Private : goal.returns-in-Private
-returns-in-Private c = told (goal.at.returns-in-Private c).After-state _ (ap waiting_state (sym c.in-Private.is))
+returns-in-Private c = search (rules, told)
 
 pub returns-in-Merged : goal.returns-in-Merged
-returns-in-Merged c = told (goal.at.returns-in-Merged c).After-state _ (ap waiting_state (sym c.in-Merged.is))
+returns-in-Merged c = search (rules, told)
 
 pub returns-in-Zero : goal.returns-in-Zero
-returns-in-Zero c = told (goal.at.returns-in-Zero c).After-state _ (ap waiting_state (sym c.in-Zero.is))
+returns-in-Zero c = search (rules, told)
 
 pub returns-in_default : goal.returns-in_default
 returns-in_default c =
     subst (λ (o : Option Row). MatchOption o (false ≡ false) (λ r. false ≡ waiting_state r.state))
-    (sym (row_seen c.self.inside c.args.self.now c.self.view_is c.args.spot.page c.in_default.ensures)) refl
+    (sym (row_seen c.self.inside c.self.view_is _ c.in_default.ensures)) refl

@@ -1,7 +1,6 @@
-use Rattle.ksm_pages.proofs.Names.{Listing, subst}
-use Rattle.ksm_rmap.specs.Items.{AreAscending}
+use Rattle.ksm_pages.proofs.Names.{rules}
 use Rattle.ksm_pages.proofs.Spots.{pages_rise}
 use Rattle.ksm_pages.proofs.restless.Restless.len.Goals as goal
 
 pub returns-clause-ascending : goal.returns-clause-ascending
-returns-clause-ascending c = subst (λ (l : Listing). AreAscending l.pages) c.self.view_is (pages_rise c.self.inside.spots.items c.self.invariant)
+returns-clause-ascending c = search (rules, pages_rise)

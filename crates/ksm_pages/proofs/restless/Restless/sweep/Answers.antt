@@ -1,15 +1,14 @@
-use Rattle.ksm_pages.proofs.Names.{AllPairs-filter, ap, AreInOrder, comes_before, filter, filter_same, get, has_item, is_useless, Listing, not, rules, subst, sym, true, ◌∙◌, ◌≡◌}
+use Rattle.ksm_pages.proofs.Names.{AllPairs-filter, AreInOrder, comes_before, filter, filter_same, get, has_item, is_useless, not, rules, subst, sym, true, ◌∙◌, ◌≡◌}
 use Rattle.ksm_pages.proofs.Spots.{swept}
 use Rattle.ksm_pages.proofs.restless.Restless.sweep.Goals as goal
 
 -- the spots that are left
 left : (c : goal.After-self-1) → c.retain.new.self.items ≡ filter (λ s. not (is_useless c.args.order.now s (get c.args.entries.now s.key))) c.self.inside.spots.items
-left c = filter_same _ (λ s. not (is_useless c.args.order.now s (get c.args.entries.now s.key))) _ (λ s b g t. search rules) c.self.inside.spots.items c.retain.new.self.items c.retain.ensures.filtered
+left c = filter_same _ _ _ (λ s b g t. search rules) _ _ c.retain.ensures.filtered
 
 pub invariant_of-self : goal.invariant_of-self
 invariant_of-self c =
     subst AreInOrder (sym (left c)) (AllPairs-filter (λ s t. comes_before s.page t.page ≡ true) _ c.self.inside.spots.items c.self.invariant)
 
 pub returns-then-self-len-clause-kept : goal.returns-then-self-len-clause-kept
-returns-then-self-len-clause-kept c page has =
-    rw (left c) (swept c.args.entries.now c.args.order.now c.self.inside.spots.items page (ap (λ (l : Listing). has_item page l.pages) c.self.view_is ∙ has))
+returns-then-self-len-clause-kept c page has = rw (left c) (swept _ ((λ i. has_item page (c.self.view_is i).pages) ∙ has))

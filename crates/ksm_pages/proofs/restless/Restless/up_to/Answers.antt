@@ -16,9 +16,9 @@ returns-in-Some c =
     let page = c.in-Some.page in
     let spots = c.self.inside.spots.items in
     let seen = c.as_slice.ensures.value in
-    let split = parted_behind page_of page spots c.self.invariant in
+    let split = parted_behind page_of page _ c.self.invariant in
     let point = IsPartitionPoint-from_clause (λ s. not (comes_before page s.page)) spots _ (rw seen at c.partition_point.ensures.partitioned) split (λ a r q k. search rules) in
     point_is_count (λ s. not (comes_before page s.page)) spots _ (rw seen at c.partition_point.ensures.bound) point.0 point.1
-    ∙ many_kept (λ p. not (comes_before page p)) spots
+    ∙ many_kept (λ p. not (comes_before page p)) _
     ∙ ap (λ (l : Listing). length (filter (λ p. not (comes_before page p)) l.pages)) c.self.view_is
     ∙ ap (λ (o : Option GuestPage). length (filter (λ p. not (after_cursor o p)) c.args.self.now.pages)) (sym c.in-Some.is)

@@ -7,8 +7,8 @@ pub returns : goal.returns
 returns c =
     let s = c.self.inside in
     record {
-      rise = subst (λ (v : RowsView). InPageOrder (rows_of v.held)) c.self.view_is (rows_rise s.entries s.order c.self.invariant.ascending c.self.invariant.filed s.pass);
-      framed = subst (λ (v : RowsView). All (λ (h : Held). is_some h.frame ≡ not (shared_state h.row.state)) v.held) c.self.view_is (rows_framed s.entries s.order c.self.invariant.ascending c.self.invariant.filed s.pass);
+      rise = subst (λ (v : RowsView). InPageOrder (rows_of v.held)) c.self.view_is (rows_rise s.entries _ c.self.invariant.ascending c.self.invariant.filed _);
+      framed = subst (λ (v : RowsView). All (λ (h : Held). is_some h.frame ≡ not (shared_state h.row.state)) v.held) c.self.view_is (rows_framed s.entries _ c.self.invariant.ascending c.self.invariant.filed _);
       listed = subst (λ (v : RowsView). v.restless.known ≡ true → AreAllListed (rows_of v.held) v.restless.pages) c.self.view_is
-          (λ known. rows_listed s.entries s.order c.self.invariant.ascending c.self.invariant.filed s.pass s.restless.pages (c.self.invariant.listed known));
+          (λ known. rows_listed s.entries _ c.self.invariant.ascending c.self.invariant.filed _ _ (c.self.invariant.listed known));
     }

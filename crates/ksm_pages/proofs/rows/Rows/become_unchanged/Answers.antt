@@ -1,27 +1,24 @@
-use Rattle.ksm_pages.proofs.Names.{Entry, on_row, refl, Row, settled, true, ℕ}
+use Rattle.ksm_pages.proofs.Names.{Entry, refl, rules, true, ℕ}
 use Rattle.ksm_pages.proofs.Writing.{can_be, kept_forgotten, nothing, viewed_forgotten}
 use Rattle.ksm_pages.proofs.rows.Rows.become_unchanged.Goals as goal
-
-abbrev found : Row → Row
-found r = record (settled r) { unchanged = true }
 
 -- the entry that is unchanged, with the number of its group
 abbrev marked : ℕ → Entry → Entry
 marked group e = record e { unchanged = true; group = group }
 
 pub returns-in_default : goal.returns-in_default
-returns-in_default c = nothing c.self.inside c.self.invariant c.args.spot.page c.in_default.ensures.told (on_row found) c.args.self.now c.self.view_is
+returns-in_default c = search (rules, nothing)
 
 pub change-requires : goal.change-requires
 change-requires c =
-    can_be c.self.inside c.self.invariant c.in-Some.ensures.there c.index_mut-entry.ensures.value c.state-old.ensures c.state-new.result c.in-Some.ensures.few
+    can_be c.self.inside c.self.invariant c.in-Some.ensures.there c.index_mut-entry.ensures.value c.state-old.ensures c.in-Some.ensures.few
 
 pub invariant_of-self : goal.invariant_of-self
 invariant_of-self c =
-    kept_forgotten c.self.inside c.self.invariant c.in-Some.ensures.there c.index_mut-entry.ensures.value (marked c.args.group c.index_mut-entry.result.now)
+    kept_forgotten c.self.inside c.self.invariant c.in-Some.ensures.there c.index_mut-entry.ensures.value _
     c.forget_pass.ensures refl refl refl c.state-old.ensures c.state-new.ensures c.change.ensures
 
 pub returns : goal.returns
 returns c =
-    viewed_forgotten c.self.inside c.self.invariant c.in-Some.ensures.there c.index_mut-entry.ensures.value (marked c.args.group c.index_mut-entry.result.now)
-    c.forget_pass.ensures refl found refl c.args.self.now c.self.view_is
+    viewed_forgotten c.self.inside c.self.invariant c.in-Some.ensures.there c.index_mut-entry.ensures.value _
+    c.forget_pass.ensures refl _ refl c.self.view_is

@@ -1,22 +1,19 @@
-use Rattle.ksm_pages.proofs.Names.{mapped, None, refl, Zero}
-use Rattle.ksm_pages.specs.declared.row.Kind.TheVariants as kinds
+use Rattle.ksm_pages.proofs.Names.{refl, rules}
 use Rattle.ksm_pages.proofs.Writing.{can_be, kept, never, nothing, viewed_same}
 use Rattle.ksm_pages.proofs.rows.Rows.become_zero.Goals as goal
 
 pub returns-in_default : goal.returns-in_default
-returns-in_default c = nothing c.self.inside c.self.invariant c.args.spot.page c.in_default.ensures.told (mapped Zero None) c.args.self.now c.self.view_is
+returns-in_default c = search (rules, nothing)
 
 pub change-requires : goal.change-requires
 change-requires c =
-    can_be c.self.inside c.self.invariant c.in-Some.ensures.there c.index_mut-entry.ensures.value c.state-old.ensures Zero c.in-Some.ensures.few
+    can_be c.self.inside c.self.invariant c.in-Some.ensures.there c.index_mut-entry.ensures.value c.state-old.ensures c.in-Some.ensures.few
 
 pub invariant_of-self : goal.invariant_of-self
 invariant_of-self c =
     let e = c.index_mut-entry.result.now in
-    kept c.self.inside c.self.invariant c.in-Some.ensures.there c.index_mut-entry.ensures.value (record e { kind = kinds.Zero }) refl
-    refl (λ is. cc) (λ may. never e.mergeable may) c.let_be.new.self c.let_be.ensures c.state-old.ensures refl c.change.ensures
+    kept c.self.inside c.self.invariant c.in-Some.ensures.there c.index_mut-entry.ensures.value _ refl
+    refl (λ is. cc) (λ may. never _ may) _ c.let_be.ensures c.state-old.ensures refl c.change.ensures
 
 pub returns : goal.returns
-returns c =
-    viewed_same c.self.inside c.self.invariant c.in-Some.ensures.there c.index_mut-entry.ensures.value (record c.index_mut-entry.result.now { kind = kinds.Zero }) refl
-    (mapped Zero None) refl c.let_be.new.self c.let_be.ensures c.args.self.now c.self.view_is
+returns c = search (rules, viewed_same)

@@ -1,27 +1,21 @@
-use Rattle.ksm_pages.proofs.Names.{ap, held_at, held_of, is_some, MatchOption, None, refl, RowsView, Some, subst, sym, ◌∙◌, ◌≡◌}
+use Rattle.ksm_pages.proofs.Names.{ap, held_at, held_of, is_some, refl, rules, Some, sym, ◌∙◌}
 use Rattle.ksm_pages.proofs.Filing.{held_nowhere, under}
 use Rattle.ksm_pages.proofs.Writing.{row_there}
 use Rattle.ksm_pages.proofs.rows.Rows.look_up_anew.Goals as goal
 
 pub index-requires : goal.index-requires
-index-requires c = ap is_some (under c.self.inside.entries c.self.inside.order c.self.invariant.filed c.args.page c.in_ok-key.key (sym c.in_ok-key.ensures)).stands
+index-requires c = ap is_some (under c.self.inside.entries _ c.self.invariant.filed (sym c.in_ok-key.ensures)).stands
 
 pub returns-in_err-key : goal.returns-in_err-key
-returns-in_err-key c =
-    let s = c.self.inside in
-    let page = c.args.page in
-    let absent : held_at page c.args.self.now.held ≡ None =
-    ap (λ (v : RowsView). held_at page v.held) (sym c.self.view_is) ∙ held_nowhere s.entries s.order c.self.invariant.ascending c.self.invariant.filed s.pass page (sym c.in_err-key.ensures) in
-    subst (λ o. MatchOption o (held_at page c.args.self.now.held ≡ None) (λ found. (found.0.page ≡ page) × (held_at page c.args.self.now.held ≡ Some (held_of c.args.self.now.pass found.1.now))))
-    (sym c.from_residual.ensures) absent
+returns-in_err-key c = search (rules, held_nowhere)
 
 pub returns : goal.returns
 returns c =
     let s = c.self.inside in
     let page = c.args.page in
-    let there = under s.entries s.order c.self.invariant.filed page c.in_ok-key.key (sym c.in_ok-key.ensures) in (
+    let there = under _ _ c.self.invariant.filed (sym c.in_ok-key.ensures) in (
       refl,
-      ap (λ (v : RowsView). held_at page v.held) (sym c.self.view_is)
+      (λ i. held_at page (sym c.self.view_is i).held)
           ∙ row_there s c.self.invariant there c.index.ensures
-          ∙ ap (λ (v : RowsView). Some (held_of v.pass c.index.result.now)) c.self.view_is,
+          ∙ (λ i. Some (held_of (c.self.view_is i).pass c.index.result.now)),
     )

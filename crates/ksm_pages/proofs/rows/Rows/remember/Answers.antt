@@ -1,10 +1,9 @@
-use Rattle.ksm_pages.proofs.Names.{[], ap, ap₂, Bool, change_held, cond, false, GuestPage, Held, holds, List, refl, true, ◌∙◌, ◌∷◌, ◌≡◌}
+use Rattle.ksm_pages.proofs.Names.{[], ap, ap₂, Bool, change_held, cond, false, GuestPage, Held, List, refl, true, ◌∙◌, ◌∷◌, ◌≡◌}
 use Rattle.ksm_pages.proofs.Writing.{untouched, viewed_same}
 use Rattle.ksm_pages.proofs.rows.Rows.remember.Goals as goal
 
 pub invariant_of-self : goal.invariant_of-self
-invariant_of-self c =
-    untouched c.self.inside c.self.invariant c.in-Some.ensures.there c.index_mut.ensures.value (record c.index_mut.result.now { group = c.args.group }) refl refl refl refl
+invariant_of-self c = untouched c.self.inside c.self.invariant c.in-Some.ensures.there c.index_mut.ensures.value _ refl refl refl refl
 
 either : (b : Bool) (h : Held) → cond b h h ≡ h
 either true h = refl
@@ -13,10 +12,9 @@ either false h = refl
 -- a change that changes nothing
 unchanged : (page : GuestPage) (held : List Held) → change_held page (λ h. h) held ≡ held
 unchanged page [] = refl
-unchanged page (h ∷ hs) = ap₂ (λ g gs. g ∷ gs) (either (holds page h) h) (unchanged page hs)
+unchanged page (h ∷ hs) = ap₂ (λ g gs. g ∷ gs) (either _ _) (unchanged _ _)
 
 pub returns : goal.returns
 returns c =
-    viewed_same c.self.inside c.self.invariant c.in-Some.ensures.there c.index_mut.ensures.value (record c.index_mut.result.now { group = c.args.group }) refl
-    (λ h. h) refl c.self.inside.restless refl c.args.self.now c.self.view_is
-    ∙ ap (λ held. record c.args.self.now { held = held }) (unchanged c.args.spot.page c.args.self.now.held)
+    viewed_same c.self.inside c.self.invariant c.in-Some.ensures.there c.index_mut.ensures.value _ refl _ refl refl c.self.view_is
+    ∙ ap (λ held. record c.args.self.now { held = held }) (unchanged _ _)

@@ -1,18 +1,18 @@
-use Rattle.ksm_pages.proofs.Names.{ap, find, held_in, is_of, is_some, IsRows, Named, Private, subst, sym, ◌∙◌}
+use Rattle.ksm_pages.proofs.Names.{ap, held_in, is_some, IsRows, rules, subst, sym, ◌∙◌}
 use Rattle.ksm_pages.proofs.Writing.{can_be, nothing_gone, still_gone, viewed_gone}
 use Rattle.ksm_pages.proofs.Options.{some_mapped}
 use Rattle.ksm_pages.proofs.rows.Rows.remove.Goals as goal
 
 pub returns-in_default : goal.returns-in_default
-returns-in_default c = nothing_gone c.self.inside c.self.invariant c.args.spot.page c.in_default.ensures.told c.args.self.now c.self.view_is
+returns-in_default c = search (rules, nothing_gone)
 
 pub change-requires : goal.change-requires
 change-requires c =
-    can_be c.self.inside c.self.invariant c.in-Some.ensures.there c.remove-gone.ensures.value c.state.ensures Private c.in-Some.ensures.few
+    can_be c.self.inside c.self.invariant c.in-Some.ensures.there c.remove-gone.ensures.value c.state.ensures c.in-Some.ensures.few
 
 pub remove-requires : goal.remove-requires
 remove-requires c = record {
-  there = sym (some_mapped (λ (n : Named). n.key) (find (is_of c.args.spot.page) c.self.inside.order)) ∙ ap is_some (sym c.in-Some.ensures.told);
+  there = sym (some_mapped _ _) ∙ ap is_some (sym c.in-Some.ensures.told);
 }
 
 pub invariant_of-self : goal.invariant_of-self
@@ -21,11 +21,11 @@ invariant_of-self c =
     subst (λ list. IsRows c.remove-gone.new.self c.remove.new.self list c.change.new.self s.pass) (sym c.lose_row.ensures)
     (subst (λ order. IsRows c.remove-gone.new.self order s.restless c.change.new.self s.pass) (sym c.remove.ensures)
     (still_gone s c.self.invariant c.in-Some.ensures.there c.remove-gone.ensures.value
-    c.remove-gone.new.self c.remove-gone.ensures.updates c.state.ensures c.change.ensures))
+    c.remove-gone.ensures.updates c.state.ensures c.change.ensures))
 
 pub returns : goal.returns
 returns c =
     let s = c.self.inside in
     ap (λ list. record { held = held_in s.pass c.remove-gone.new.self c.remove.new.self; restless = list; pass = s.pass }) c.lose_row.ensures
     ∙ ap (λ order. record { held = held_in s.pass c.remove-gone.new.self order; restless = s.restless; pass = s.pass }) c.remove.ensures
-    ∙ viewed_gone s c.self.invariant c.in-Some.ensures.there c.remove-gone.ensures.value c.remove-gone.new.self c.remove-gone.ensures.updates c.args.self.now c.self.view_is
+    ∙ viewed_gone s c.self.invariant c.in-Some.ensures.there c.remove-gone.ensures.value c.remove-gone.ensures.updates c.self.view_is

@@ -1,15 +1,13 @@
-use Rattle.ksm_pages.proofs.Names.{on_row, refl}
+use Rattle.ksm_pages.proofs.Names.{refl, rules}
 use Rattle.ksm_pages.proofs.Writing.{nothing, untouched, viewed_same}
 use Rattle.ksm_pages.proofs.rows.Rows.set_home.Goals as goal
 
 pub returns-in_default : goal.returns-in_default
-returns-in_default c = nothing c.self.inside c.self.invariant c.args.spot.page c.in_default.ensures.told (on_row (λ r. record r { home = c.args.home })) c.args.self.now c.self.view_is
+returns-in_default c = search (rules, nothing)
 
 pub invariant_of-self : goal.invariant_of-self
-invariant_of-self c =
-    untouched c.self.inside c.self.invariant c.in-Some.ensures.there c.index_mut.ensures.value (record c.index_mut.result.now { home = c.args.home }) refl refl refl refl
+invariant_of-self c = untouched c.self.inside c.self.invariant c.in-Some.ensures.there c.index_mut.ensures.value _ refl refl refl refl
 
 pub returns : goal.returns
 returns c =
-    viewed_same c.self.inside c.self.invariant c.in-Some.ensures.there c.index_mut.ensures.value (record c.index_mut.result.now { home = c.args.home }) refl
-    (on_row (λ r. record r { home = c.args.home })) refl c.self.inside.restless refl c.args.self.now c.self.view_is
+    viewed_same c.self.inside c.self.invariant c.in-Some.ensures.there c.index_mut.ensures.value _ refl _ refl refl c.self.view_is

@@ -1,23 +1,21 @@
-use Rattle.ksm_pages.proofs.Names.{ap, arith, held_in, IsRows, on_row, refl, subst, sym, with_value, ◌∙◌}
+use Rattle.ksm_pages.proofs.Names.{ap, arith, held_in, IsRows, refl, rules, subst, sym, with_value, ◌∙◌}
 use Rattle.ksm_pages.proofs.Writing.{listed_calm, listed_now, nothing, still_marked, untouched, viewed, viewed_marked}
 use Rattle.ksm_pages.proofs.rows.Rows.set_mergeable.Goals as goal
 
 pub returns-in_default : goal.returns-in_default
-returns-in_default c = nothing c.self.inside c.self.invariant c.args.spot.page c.in_default.ensures.told (on_row (λ r. record r { mergeable = c.args.mergeable })) c.args.self.now c.self.view_is
+returns-in_default c = search (rules, nothing)
 
 -- the flag is what it was
 pub invariant_of-self : goal.invariant_of-self
 invariant_of-self c =
     let e' = record c.index_mut-entry.result.now { mergeable = c.args.mergeable } in
-    let same = c.if-was-mergeable.true in
-    untouched c.self.inside c.self.invariant c.in-Some.ensures.there c.index_mut-entry.ensures.value e' refl refl refl (grind (arith, same))
+    untouched c.self.inside c.self.invariant c.in-Some.ensures.there c.index_mut-entry.ensures.value _ refl refl refl (grind arith)
 
 pub returns-then-was-mergeable : goal.returns-then-was-mergeable
 returns-then-was-mergeable c =
     let s = c.self.inside in
     let e' = record c.index_mut-entry.result.now { mergeable = c.args.mergeable } in
-    viewed s c.self.invariant c.in-Some.ensures.there c.index_mut-entry.ensures.value e' refl
-    (on_row (λ r. record r { mergeable = c.args.mergeable })) refl s.restless c.args.self.now c.self.view_is
+    viewed s c.self.invariant c.in-Some.ensures.there c.index_mut-entry.ensures.value _ refl _ refl _ c.self.view_is
 
 pub invariant_of-self-then-restless : goal.invariant_of-self-then-restless
 invariant_of-self-then-restless c =
@@ -26,7 +24,7 @@ invariant_of-self-then-restless c =
     let stood = c.index_mut-entry.ensures.value in
     let e' = record c.index_mut-entry.result.now { mergeable = c.args.mergeable } in
     subst (λ order. IsRows (with_value s.entries c.in-Some.key e') order c.add.new.self s.tally s.pass) (sym c.mark.ensures)
-    (still_marked s c.self.invariant there stood e' refl refl refl c.add.new.self (listed_now s c.self.invariant there stood e' refl c.add.new.self c.add.ensures))
+    (still_marked s c.self.invariant there stood _ refl refl refl (listed_now s c.self.invariant there stood _ refl c.add.ensures))
 
 pub invariant_of-self-else-restless : goal.invariant_of-self-else-restless
 invariant_of-self-else-restless c =
@@ -35,20 +33,18 @@ invariant_of-self-else-restless c =
     let stood = c.index_mut-entry.ensures.value in
     let e' = record c.index_mut-entry.result.now { mergeable = c.args.mergeable } in
     subst (λ order. IsRows (with_value s.entries c.in-Some.key e') order c.let_be.new.self s.tally s.pass) (sym c.mark.ensures)
-    (still_marked s c.self.invariant there stood e' refl refl refl c.let_be.new.self (listed_calm s c.self.invariant there stood e' refl (sym c.is_restless-restless.ensures ∙ c.if-restless.false) c.let_be.new.self c.let_be.ensures))
+    (still_marked s c.self.invariant there stood _ refl refl refl (listed_calm s c.self.invariant there stood _ refl (sym c.is_restless-restless.ensures ∙ c.if-restless.false) c.let_be.ensures))
 
 pub returns-then-restless : goal.returns-then-restless
 returns-then-restless c =
     let s = c.self.inside in
     let e' = record c.index_mut-entry.result.now { mergeable = c.args.mergeable } in
     ap (λ order. record { held = held_in s.pass (with_value s.entries c.in-Some.key e') order; restless = c.add.new.self; pass = s.pass }) c.mark.ensures
-    ∙ viewed_marked s c.self.invariant c.in-Some.ensures.there c.index_mut-entry.ensures.value e' refl
-    (on_row (λ r. record r { mergeable = c.args.mergeable })) refl c.args.mergeable c.add.new.self c.args.self.now c.self.view_is
+    ∙ viewed_marked s c.self.invariant c.in-Some.ensures.there c.index_mut-entry.ensures.value _ refl _ refl _ _ c.self.view_is
 
 pub returns-else-restless : goal.returns-else-restless
 returns-else-restless c =
     let s = c.self.inside in
     let e' = record c.index_mut-entry.result.now { mergeable = c.args.mergeable } in
     ap (λ order. record { held = held_in s.pass (with_value s.entries c.in-Some.key e') order; restless = c.let_be.new.self; pass = s.pass }) c.mark.ensures
-    ∙ viewed_marked s c.self.invariant c.in-Some.ensures.there c.index_mut-entry.ensures.value e' refl
-    (on_row (λ r. record r { mergeable = c.args.mergeable })) refl c.args.mergeable c.let_be.new.self c.args.self.now c.self.view_is
+    ∙ viewed_marked s c.self.invariant c.in-Some.ensures.there c.index_mut-entry.ensures.value _ refl _ refl _ _ c.self.view_is

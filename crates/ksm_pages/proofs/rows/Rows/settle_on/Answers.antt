@@ -1,14 +1,14 @@
-use Rattle.ksm_pages.proofs.Names.{ap, arith, held_of, mapped, Private, refl, Some, sym}
+use Rattle.ksm_pages.proofs.Names.{ap, arith, held_of, mapped, refl, rules, Some, sym}
 use Rattle.ksm_pages.specs.declared.row.Kind.TheVariants as kinds
 use Rattle.ksm_pages.proofs.Writing.{can_be, kept, listed_now, nothing, rests_now, still, viewed}
 use Rattle.ksm_pages.proofs.rows.Rows.settle_on.Goals as goal
 
 pub returns-in_default : goal.returns-in_default
-returns-in_default c = nothing c.self.inside c.self.invariant c.args.spot.page c.in_default.ensures.told (mapped Private (Some c.args.frame)) c.args.self.now c.self.view_is
+returns-in_default c = search (rules, nothing)
 
 pub change-requires : goal.change-requires
 change-requires c =
-    can_be c.self.inside c.self.invariant c.in-Some.ensures.there c.index_mut-entry.ensures.value c.state-old.ensures Private c.in-Some.ensures.few
+    can_be c.self.inside c.self.invariant c.in-Some.ensures.there c.index_mut-entry.ensures.value c.state-old.ensures c.in-Some.ensures.few
 
 pub invariant_of-self : goal.invariant_of-self
 invariant_of-self c =
@@ -17,27 +17,26 @@ invariant_of-self c =
     let there = c.in-Some.ensures.there in
     let stood = c.index_mut-entry.ensures.value in
     let e' = record e { number = 0; at = c.args.frame; kind = kinds.Own } in
-    still s c.self.invariant there stood e' refl refl (λ own. omega arith) c.add.new.self (listed_now s c.self.invariant there stood e' refl c.add.new.self c.add.ensures)
-    c.state-old.ensures (sym (rests_now s.pass c.self.invariant.counting)) c.change.ensures
+    still s c.self.invariant there stood _ refl refl (λ own. omega arith) (listed_now s c.self.invariant there stood _ refl c.add.ensures)
+    c.state-old.ensures (sym (rests_now _ c.self.invariant.counting)) c.change.ensures
 
 pub invariant_of-self-else-restless-was_restless : goal.invariant_of-self-else-restless-was_restless
 invariant_of-self-else-restless-was_restless c =
     let s = c.self.inside in
     let e = c.index_mut-entry.result.now in
-    kept s c.self.invariant c.in-Some.ensures.there c.index_mut-entry.ensures.value (record e { number = 0; at = c.args.frame; kind = kinds.Own }) refl refl (λ own. omega arith)
-    (λ may. let w = c.is_restless-was_restless.ensures in let f = c.if-restless-was_restless.false in grind (arith, w, f, may)) s.restless refl
-    c.state-old.ensures (sym (rests_now s.pass c.self.invariant.counting)) c.change.ensures
+    kept s c.self.invariant c.in-Some.ensures.there c.index_mut-entry.ensures.value _ refl refl (λ own. omega arith)
+    (λ may. grind arith) _ refl c.state-old.ensures (sym (rests_now _ c.self.invariant.counting)) c.change.ensures
 
 pub returns-then-restless-was_restless : goal.returns-then-restless-was_restless
 returns-then-restless-was_restless c =
     let s = c.self.inside in
     let e = c.index_mut-entry.result.now in
-    viewed s c.self.invariant c.in-Some.ensures.there c.index_mut-entry.ensures.value (record e { number = 0; at = c.args.frame; kind = kinds.Own }) refl
-    (mapped Private (Some c.args.frame)) (ap (λ st. mapped st (Some c.args.frame) (held_of s.pass e)) (rests_now s.pass c.self.invariant.counting)) c.add.new.self c.args.self.now c.self.view_is
+    viewed s c.self.invariant c.in-Some.ensures.there c.index_mut-entry.ensures.value _ refl
+    _ (ap (λ st. mapped st (Some c.args.frame) (held_of s.pass e)) (rests_now _ c.self.invariant.counting)) _ c.self.view_is
 
 pub returns-else-restless-was_restless : goal.returns-else-restless-was_restless
 returns-else-restless-was_restless c =
     let s = c.self.inside in
     let e = c.index_mut-entry.result.now in
-    viewed s c.self.invariant c.in-Some.ensures.there c.index_mut-entry.ensures.value (record e { number = 0; at = c.args.frame; kind = kinds.Own }) refl
-    (mapped Private (Some c.args.frame)) (ap (λ st. mapped st (Some c.args.frame) (held_of s.pass e)) (rests_now s.pass c.self.invariant.counting)) s.restless c.args.self.now c.self.view_is
+    viewed s c.self.invariant c.in-Some.ensures.there c.index_mut-entry.ensures.value _ refl
+    _ (ap (λ st. mapped st (Some c.args.frame) (held_of s.pass e)) (rests_now _ c.self.invariant.counting)) _ c.self.view_is

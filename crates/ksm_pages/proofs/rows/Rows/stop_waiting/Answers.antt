@@ -1,20 +1,18 @@
-use Rattle.ksm_pages.proofs.Names.{on_row, refl, settled}
+use Rattle.ksm_pages.proofs.Names.{refl, rules}
 use Rattle.ksm_pages.proofs.Writing.{can_be, kept_forgotten, nothing, viewed_forgotten}
 use Rattle.ksm_pages.proofs.rows.Rows.stop_waiting.Goals as goal
 
 pub returns-in_default : goal.returns-in_default
-returns-in_default c = nothing c.self.inside c.self.invariant c.args.spot.page c.in_default.ensures.told (on_row settled) c.args.self.now c.self.view_is
+returns-in_default c = search (rules, nothing)
 
 pub change-requires : goal.change-requires
 change-requires c =
-    can_be c.self.inside c.self.invariant c.in-Some.ensures.there c.index_mut-entry.ensures.value c.state-old.ensures c.state-new.result c.in-Some.ensures.few
+    can_be c.self.inside c.self.invariant c.in-Some.ensures.there c.index_mut-entry.ensures.value c.state-old.ensures c.in-Some.ensures.few
 
 pub invariant_of-self : goal.invariant_of-self
 invariant_of-self c =
-    kept_forgotten c.self.inside c.self.invariant c.in-Some.ensures.there c.index_mut-entry.ensures.value c.index_mut-entry.result.now
+    kept_forgotten c.self.inside c.self.invariant c.in-Some.ensures.there c.index_mut-entry.ensures.value _
     c.forget_pass.ensures refl refl refl c.state-old.ensures c.state-new.ensures c.change.ensures
 
 pub returns : goal.returns
-returns c =
-    viewed_forgotten c.self.inside c.self.invariant c.in-Some.ensures.there c.index_mut-entry.ensures.value c.index_mut-entry.result.now
-    c.forget_pass.ensures refl settled refl c.args.self.now c.self.view_is
+returns c = search (rules, viewed_forgotten)

@@ -1,5 +1,4 @@
-use Rattle.ksm_pages.proofs.Names.{ap, bytes_eq, Entry, held_in, IsRows, List, on_row, refl, subst, sym, with_value, ℕ, ◌&&◌, ◌∙◌}
-use Rattle.ksm_pages.proofs.Resting.{put_bytes}
+use Rattle.ksm_pages.proofs.Names.{ap, bytes_eq, Entry, held_in, IsRows, List, refl, rules, subst, sym, with_value, ℕ, ◌&&◌, ◌∙◌}
 use Rattle.ksm_pages.proofs.Writing.{nothing, untouched, viewed_same}
 use Rattle.ksm_pages.proofs.rows.Rows.store.Goals as goal
 
@@ -8,17 +7,16 @@ abbrev written : List ℕ → Entry → Entry
 written bytes e = record e { bytes = bytes; unchanged = e.unchanged && bytes_eq e.bytes bytes }
 
 pub returns-in_default : goal.returns-in_default
-returns-in_default c = nothing c.self.inside c.self.invariant c.args.spot.page c.in_default.ensures.told (on_row (put_bytes c.args.bytes.now)) c.args.self.now c.self.view_is
+returns-in_default c = search (rules, nothing)
 
 pub invariant_of-self : goal.invariant_of-self
 invariant_of-self c =
     let s = c.self.inside in
     subst (λ x. IsRows (with_value s.entries c.in-Some.key x) s.order s.restless s.tally s.pass) (sym c.take_bytes.ensures)
-    (untouched s c.self.invariant c.in-Some.ensures.there c.index_mut.ensures.value (written c.args.bytes.now c.index_mut.result.now) refl refl refl refl)
+    (untouched s c.self.invariant c.in-Some.ensures.there c.index_mut.ensures.value _ refl refl refl refl)
 
 pub returns : goal.returns
 returns c =
     let s = c.self.inside in
     ap (λ x. record { held = held_in s.pass (with_value s.entries c.in-Some.key x) s.order; restless = s.restless; pass = s.pass }) c.take_bytes.ensures
-    ∙ viewed_same s c.self.invariant c.in-Some.ensures.there c.index_mut.ensures.value (written c.args.bytes.now c.index_mut.result.now) refl
-    (on_row (put_bytes c.args.bytes.now)) refl s.restless refl c.args.self.now c.self.view_is
+    ∙ viewed_same s c.self.invariant c.in-Some.ensures.there c.index_mut.ensures.value _ refl _ refl refl c.self.view_is

@@ -1,4 +1,4 @@
-use Rattle.ksm_pages.proofs.Names.{ap, Entry, false, held_in, map, on_row, refl, RowsView, rules, settled, ◌∙◌}
+use Rattle.ksm_pages.proofs.Names.{ap, false, held_in, map, on_row, refl, RowsView, rules, settled, ◌∙◌}
 use Rattle.ksm_tree.proofs.Alike.{map_mapped}
 use Rattle.ksm_pages.proofs.Settling.{plain_rows, plain_seen, retained_all}
 use Rattle.ksm_pages.proofs.rows.Rows.unshare_all.Goals as goal
@@ -6,16 +6,15 @@ use Rattle.ksm_pages.proofs.rows.Rows.unshare_all.Goals as goal
 pub invariant_of-self : goal.invariant_of-self
 invariant_of-self c =
     let s = c.self.inside in
-    plain_rows s.entries s.order s.restless s.tally s.pass c.self.invariant c.retain.new.self
-    (retained_all _ (λ (e : Entry). record e { unchanged = false }) (λ f k old keep new next t. search rules) _ 0 s.entries.slots c.retain.new.self.slots c.retain.ensures.retained)
+    plain_rows c.self.invariant _ (retained_all _ _ (λ f k old keep new next t. search rules) _ _ _ _ c.retain.ensures.retained)
 
 pub returns : goal.returns
 returns c =
     let s = c.self.inside in
     let held = held_in s.pass s.entries s.order in
-    let slots = retained_all _ (λ (e : Entry). record e { unchanged = false }) (λ f k old keep new next t. search rules) _ 0 s.entries.slots c.retain.new.self.slots c.retain.ensures.retained in
+    let slots = retained_all _ _ (λ f k old keep new next t. search rules) _ _ _ _ c.retain.ensures.retained in
     c.settle_all.ensures
     ∙ ap (λ hs. record { held = hs; restless = s.restless; pass = c.settle_all.new.self.pass })
-    (ap (map (on_row settled)) (plain_seen s.entries s.order s.restless s.tally s.pass c.self.invariant c.retain.new.self slots)
-    ∙ map_mapped (on_row settled) (on_row (λ r. record r { unchanged = false })) (on_row (λ r. record (settled r) { unchanged = false })) held (λ k d lt. refl))
+    (ap (map (on_row settled)) (plain_seen c.self.invariant c.retain.new.self slots)
+    ∙ map_mapped _ _ _ _ (λ k d lt. refl))
     ∙ ap (λ (v : RowsView). record v { held = map (on_row (λ r. record (settled r) { unchanged = false })) v.held; pass = c.settle_all.new.self.pass }) c.self.view_is

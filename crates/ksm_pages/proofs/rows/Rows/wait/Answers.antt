@@ -1,30 +1,24 @@
-use Rattle.ksm_pages.proofs.Names.{ap, arith, held_of, on_row, PageState, refl, sym, Waiting}
+use Rattle.ksm_pages.proofs.Names.{arith, refl, rules, sym}
 use Rattle.ksm_pages.proofs.Writing.{can_be, kept, nothing, own_there, viewed_same, waits_now}
 use Rattle.ksm_pages.proofs.rows.Rows.wait.Goals as goal
 
 pub returns-in_default : goal.returns-in_default
-returns-in_default c = nothing c.self.inside c.self.invariant c.args.spot.page c.in_default.ensures.told (on_row (λ r. record r { state = Waiting })) c.args.self.now c.self.view_is
+returns-in_default c = search (rules, nothing)
 
 pub state_alone-old-requires : goal.state_alone-old-requires
-state_alone-old-requires c = own_there c.self.inside c.self.invariant c.in-Some.ensures.there c.index_mut-entry.ensures.value c.args.self.now c.self.view_is c.requires.own
+state_alone-old-requires c = search (rules, own_there)
 
 pub change-requires : goal.change-requires
 change-requires c =
-    can_be c.self.inside c.self.invariant c.in-Some.ensures.there c.index_mut-entry.ensures.value c.state_alone-old.ensures Waiting c.in-Some.ensures.few
+    can_be c.self.inside c.self.invariant c.in-Some.ensures.there c.index_mut-entry.ensures.value c.state_alone-old.ensures c.in-Some.ensures.few
 
 pub invariant_of-self : goal.invariant_of-self
 invariant_of-self c =
     let s = c.self.inside in
     let e = c.index_mut-entry.result.now in
-    let waits = waits_now e.kind s.pass (own_there s c.self.invariant c.in-Some.ensures.there c.index_mut-entry.ensures.value c.args.self.now c.self.view_is c.requires.own) in
-    kept s c.self.invariant c.in-Some.ensures.there c.index_mut-entry.ensures.value (record e { number = s.pass }) refl
-    refl (λ own. omega arith) (λ may. may) s.restless refl c.state_alone-old.ensures (sym waits) c.change.ensures
+    let waits = waits_now _ (own_there s c.self.invariant c.in-Some.ensures.there c.index_mut-entry.ensures.value c.self.view_is c.requires.own) in
+    kept s c.self.invariant c.in-Some.ensures.there c.index_mut-entry.ensures.value _ refl
+    refl (λ own. omega arith) (λ may. may) _ refl c.state_alone-old.ensures (sym waits) c.change.ensures
 
 pub returns : goal.returns
-returns c =
-    let s = c.self.inside in
-    let e = c.index_mut-entry.result.now in
-    let waits = waits_now e.kind s.pass (own_there s c.self.invariant c.in-Some.ensures.there c.index_mut-entry.ensures.value c.args.self.now c.self.view_is c.requires.own) in
-    viewed_same s c.self.invariant c.in-Some.ensures.there c.index_mut-entry.ensures.value (record e { number = s.pass }) refl
-    (on_row (λ r. record r { state = Waiting })) (ap (λ (st : PageState). on_row (λ r. record r { state = st }) (held_of s.pass e)) waits)
-    s.restless refl c.args.self.now c.self.view_is
+returns c = search (rules, waits_now, own_there, viewed_same)
