@@ -1,4 +1,4 @@
-use Rattle.ksm_book.proofs.Names.{ap, arith, count_by, is_stale, PagesView, seen, sym, ◌∙◌}
+use Rattle.ksm_book.proofs.Names.{ap, arith, count_by, is_stale, PagesView, sym, ◌∙◌}
 use Rattle.ksm_book.proofs.Pruning.{drop_few, drop_fewer, drop_vacant, drops_more, drop_may, dropped}
 use Rattle.ksm_book.proofs.settling.drop_stale.Goals as goal
 
@@ -10,8 +10,7 @@ drop_stale-requires c = drop_vacant c.stale.invariant (sym c.in-Some.is ∙ c.st
 
 pub stale-preserved : goal.stale-preserved
 stale-preserved c =
-    drops_more c.stale.invariant (sym c.in-Some.is ∙ c.stale_place.ensures) (seen c.drop_stale.new.self) c.withdraw.new.self
-    c.withdraw.ensures c.drop_stale.ensures
+    drops_more c.stale.invariant (sym c.in-Some.is ∙ c.stale_place.ensures) _ _ c.withdraw.ensures c.drop_stale.ensures
 
 pub overflow_add-count : goal.overflow_add-count
 overflow_add-count c = let few = drop_few c.stale.invariant (sym c.in-Some.is ∙ c.stale_place.ensures) in omega (arith, few)

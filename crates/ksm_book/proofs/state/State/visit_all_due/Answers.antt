@@ -12,12 +12,12 @@ pub loop-spot-smaller : goal.loop-spot-smaller
 loop-spot-smaller c =
     let page = c.in-Some.spot.page in
     let fits : FitsPage (Some page) = (search rules, search rules) in
-    less_room c.loop-spot.last page fits c.in-Some.ensures.1
+    less_room _ _ fits c.in-Some.ensures.1
 
 pub loop-spot-preserved : goal.loop-spot-preserved
 loop-spot-preserved c = (
-  next_comes c.args.self.now c.loop-spot.self c.lies_lawfully.ensures.sound c.requires.start c.loop-spot.last c.loop-spot.due.pages
-      c.loop-spot.invariant.1 c.loop-spot.invariant.0 c.visit_due.new.self c.in-Some.spot.page c.in-Some.ensures c.in-Ok.ensures.comes,
+  next_comes c.args.self.now c.loop-spot.self c.lies_lawfully.ensures.sound c.requires.start _ _
+      c.loop-spot.invariant.1 c.loop-spot.invariant.0 c.visit_due.new.self _ c.in-Some.ensures c.in-Ok.ensures.comes,
   c.in-Ok.ensures.due,
   c.visit_due.ensures.ready,
   c.visit_due.ensures.restless ∙ c.loop-spot.invariant.3,
@@ -26,11 +26,11 @@ loop-spot-preserved c = (
 
 pub returns-in-Err-clause-stopped : goal.returns-in-Err-clause-stopped
 returns-in-Err-clause-stopped c =
-    next_stops c.args.self.now c.loop-spot.self c.lies_lawfully.ensures.sound c.requires.start c.loop-spot.last c.loop-spot.due.pages
-    c.loop-spot.invariant.1 c.loop-spot.invariant.0 c.visit_due.new.self c.in-Some.spot.page c.in-Some.ensures c.in-Err.ensures.refused
+    next_stops _ c.loop-spot.self c.lies_lawfully.ensures.sound c.requires.start _ _
+    c.loop-spot.invariant.1 c.loop-spot.invariant.0 _ _ c.in-Some.ensures c.in-Err.ensures.refused
     c.in-Err.ensures.refused_row
 
 pub returns-clause-visited : goal.returns-clause-visited
 returns-clause-visited c =
-    all_come c.args.self.now c.loop-spot.self c.lies_lawfully.ensures.sound c.requires.start c.loop-spot.last c.loop-spot.due.pages
+    all_come c.args.self.now c.loop-spot.self c.lies_lawfully.ensures.sound c.requires.start _ _
     c.loop-spot.invariant.1 c.loop-spot.invariant.0 c.in_default.ensures
