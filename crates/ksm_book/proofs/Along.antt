@@ -1,7 +1,7 @@
 -- Rows that are changed one after another, in the order of their pages: those of a guest, or all, up to a cursor.
-use Rattle.ksm_book.proofs.Names.{[], after_cursor, after_differs, All, All-append, All-cons, All-head, All-map, All-tail, AllPairs, and-true, and_parts, and_right, ap, append-nil, arith, before_differs, before_irrefl, Bool, cases_Bool, change_none, change_row, change_rows, comes_before, cond_both, false, filter, filter-append, filter_none, find, find_none, find_passes, get_or, GuestPage, inl, InPageOrder, inr, is_before, is_next, List, map, map-append, nat_tests, None, not_both, of_guest, Option, option_map, pairs_cross, pairs_head, pairs_tail, refl, Row, row_at, same_page, same_page_refl, Some, subst, sym, true, ℕ, ⊤, ◌&&◌, ◌*◌, ◌++◌, ◌+◌, ◌<◌, ◌∙◌, ◌∷◌, ◌≡◌, ◌≤◌, find-append, option_or, find_nothing, map_alike, if◌then◌else◌}
+use Rattle.ksm_book.proofs.Names.{[], after_cursor, after_differs, All, All-append, All-cons, All-head, All-map, All-tail, AllPairs, and-true, and_parts, and_right, ap, append-nil, arith, before_differs, before_irrefl, Bool, cases_Bool, change_none, change_row, change_rows, comes_before, cond_both, false, filter, filter-append, filter_none, find, find_none, find_passes, get_or, GuestPage, inl, InPageOrder, inr, is_before, is_next, List, map, map-append, nat_tests, None, not_both, Option, option_map, pairs_cross, pairs_head, pairs_tail, refl, Row, row_at, same_page, same_page_refl, Some, subst, sym, true, ℕ, ⊤, ◌&&◌, ◌*◌, ◌++◌, ◌+◌, ◌<◌, ◌∙◌, ◌∷◌, ◌≡◌, ◌≤◌, find-append, option_or, find_nothing, map_alike, if◌then◌else◌}
 use Rattle.std.proofs.lemmas.List.{append_assoc}
-use Rattle.ksm_book.proofs.ByPage.{mapped_from}
+use Rattle.ksm_pages.proofs.Options.{mapped_some}
 
 -- what no element of the first list passes is searched in the second alone
 find_apart : {X : Type 0} (t : X → Bool) (xs ys : List X) → All (λ x. t x ≡ false) xs → find t (xs ++ ys) ≡ find t ys
@@ -10,15 +10,15 @@ find_apart t xs ys none = find-append t xs ys ∙ ap (λ o. option_or o (find t 
 -- a list in which an element is found is cut there, by any test that agrees
 find_cut : {X : Type 0} (s t : X → Bool) (xs : List X) (r : X) → All (λ x. s x ≡ t x) xs → find s xs ≡ Some r
     → (passed : List X) × (rest : List X) × (xs ≡ passed ++ r ∷ rest) × (t r ≡ true) × All (λ x. t x ≡ false) passed
-find_cut s t [] r agree found = absurd (grind (arith, found))
+find_cut s t [] r agree found = absurd (grind arith)
 find_cut s t (x ∷ xs) r agree found =
     let same = All-head (λ y. s y ≡ t y) x xs agree in
     elim (cases_Bool (s x)) [
       | inl here ↦
-          let is : x ≡ r = grind (arith, here, found) in
-          ([], xs, rw is, rw (← is) (sym same ∙ here), λ k d lt. absurd (omega (arith, lt)))
+          let is : x ≡ r = grind arith in
+          ([], xs, rw is, rw (← is) (sym same ∙ here), λ k d lt. absurd (omega arith))
       | inr other ↦
-          let more = find_cut s t xs r (All-tail (λ y. s y ≡ t y) x xs agree) (grind (arith, other, found)) in
+          let more = find_cut s t xs r (All-tail (λ y. s y ≡ t y) x xs agree) (grind arith) in
           (x ∷ more.0, more.1, ap (λ l. x ∷ l) more.2, more.3, All-cons (λ y. t y ≡ false) x _ (sym same ∙ other) more.4)
     ]
 
@@ -78,7 +78,7 @@ module _ {asked : Row → Bool} (f : Row → Row) (keeps : (r : Row) → (f r).p
       and_right (asked (changed r)) _ (ap (after_cursor last) (page_kept r) ∙ a.behind k d lt)))
 
   agree : All (λ r. next_of last r ≡ asked r) left
-  agree = λ k d lt. let r = get_or left k d in rw (a.ahead k d lt) (and-true (asked r))
+  agree = λ k d lt. rw (a.ahead k d lt) (and-true (asked (get_or left k d)))
 
   -- where no row asked for comes after the cursor, each row asked for is changed, and those left are not asked for
   pub along_end : find (next_of last) now ≡ None → (now ≡ change_rows asked f rows) × All (λ r. asked r ≡ false) left
@@ -114,8 +114,7 @@ module _ {asked : Row → Bool} (f : Row → Row) (keeps : (r : Row) → (f r).p
 
     first : All (λ x. comes_before x.page r.page ≡ true) before
     first =
-        let all = pairs_cross (λ (x y : Row). comes_before x.page y.page ≡ true) _ _ pairs in
-        λ k d lt. all k d lt 0 r (omega arith)
+        λ k d lt. (pairs_cross (λ (x y : Row). comes_before x.page y.page ≡ true) _ _ pairs) k d lt 0 r (omega arith)
 
     behind : All (λ y. comes_before r.page y.page ≡ true) rest
     behind = pairs_head (λ (x y : Row). comes_before x.page y.page ≡ true) r _
@@ -123,7 +122,7 @@ module _ {asked : Row → Bool} (f : Row → Row) (keeps : (r : Row) → (f r).p
 
     apart : All (λ x. same_page x.page r.page ≡ false) (map changed before)
     apart = All-map (λ x. same_page x.page r.page ≡ false) _ _ (λ k d lt.
-        let x = get_or before k d in ap (λ q. same_page q r.page) (page_kept x) ∙ after_differs x.page r.page (first k d lt))
+        let x = get_or before k d in rw (page_kept x) (after_differs x.page r.page (first k d lt)))
 
     one_more : (xs : List Row) → map changed (xs ++ r ∷ []) ++ rest ≡ map changed xs ++ f r ∷ rest
     one_more [] = rw cut.3
@@ -152,7 +151,7 @@ module _ {asked : Row → Bool} (f : Row → Row) (keeps : (r : Row) → (f r).p
             ∙ (λ t. still t ++ here t ∷ later t) ∙ sym (one_more _);
         behind = All-append (λ x. comes_before r.page x.page ≡ false) _ _
             (λ k d lt. not_both (get_or before k d).page r.page (first k d lt))
-            (All-cons (λ x. comes_before r.page x.page ≡ false) r [] (before_irrefl r.page) (λ k d lt. absurd (omega (arith, lt))));
+            (All-cons (λ x. comes_before r.page x.page ≡ false) r [] (before_irrefl r.page) (λ k d lt. absurd (omega arith)));
         ahead = behind;
       };
       stop =
@@ -170,7 +169,7 @@ module _ {asked : Row → Bool} (f : Row → Row) (keeps : (r : Row) → (f r).p
   pub along_cut : InPageOrder rows → (page : GuestPage) → option_map (λ r. r.page) (find (next_of last) now) ≡ Some page
       → IsCut asked f rows now done page
   along_cut rise page told =
-      let at = mapped_from _ _ _ told in
+      let at = mapped_some _ _ _ told in
       subst (IsCut asked f rows now done) at.2 (cut_there rise _ at.1)
 
 -- ---------------------------------------------------------------- how far the cursor is
@@ -188,14 +187,8 @@ FitsPage (Some p) = (p.guest < 65536) × (p.page < 4294967296)
 -- the next page of a guest, or of all, after a cursor that fits has a greater position than the cursor
 pub further : (guest : Option ℕ) (last : Option GuestPage) (rows : List Row) (page : GuestPage) → FitsPage last
     → option_map (λ r. r.page) (find (is_next guest last) rows) ≡ Some page → position last < position (Some page)
-further guest last rows page fits told =
-    let at = mapped_from _ _ _ told in
-    let passes = find_passes (is_next guest last) rows _ at.1 in
-    far _ fits (ap (after_cursor last) (sym at.2) ∙ (and_parts (of_guest guest at.0) _ passes).1)
-  where
-    far : (o : Option GuestPage) → FitsPage o → after_cursor o page ≡ true → position o < position (Some page)
-    far o fits after = grind (arith, nat_tests, fits, after)
+further guest last rows page fits told = grind (arith, nat_tests, fits, told, mapped_some, find_passes, and_parts)
 
 -- the position of a cursor that fits is 2^48 at most
 pub not_far : (last : Option GuestPage) → FitsPage last → position last ≤ 281474976710656
-not_far last fits = grind (arith, nat_tests, fits)
+not_far last fits = grind (arith, nat_tests)

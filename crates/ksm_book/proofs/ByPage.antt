@@ -1,17 +1,9 @@
 -- Rows that change at one page: what becomes of what holds of each row, and of how many lie on a frame.
-use Rattle.ksm_book.proofs.Names.{All, All-map, ap, arith, Bool, change_row, cond, cond_both, count_with_row, count_without_page, counts_one, eq-eqb, false, filter_passes, find_all, find_none, find_passes, Frames, get_or, GuestPage, InPageOrder, is_frame, lies_on, List, map, None, not, not-true, one_of_each_page, Option, refl, Row, row_at, same_page, same_page_eq, same_page_refl, Some, subst, sym, true, uses, with_row, without_page, ℕ, ◌+◌, ◌∙◌, ◌≡◌, ◌≢◌, ◌≤◌, ◌⊎◌, count_alike, count_mapped, map_mapped, find_changed, if◌then◌else◌, option_map, nat_tests}
+use Rattle.ksm_book.proofs.Names.{All, All-map, ap, arith, Bool, change_row, cond, cond_both, count_with_row, count_without_page, counts_one, eq-eqb, false, filter_passes, find_all, find_none, find_passes, Frames, get_or, GuestPage, InPageOrder, is_frame, lies_on, List, map, None, not, not-true, one_of_each_page, Option, refl, Row, row_at, same_page, same_page_eq, same_page_refl, Some, subst, sym, true, uses, with_row, without_page, ℕ, ◌+◌, ◌∙◌, ◌≡◌, ◌≢◌, ◌≤◌, ◌⊎◌, count_alike, count_mapped, map_mapped, find_changed, if◌then◌else◌, nat_tests}
 
 -- frames that are equal at each page are equal
 pub same_frames : (f g : Frames) → ((page : GuestPage) → f page ≡ g page) → f ≡ g
 same_frames f g each = λ i page. each page i
-
--- where a map of an option is there, the option is, and the map made it of that
-pub mapped_from : {X Y : Type 0} (f : X → Y) (o : Option X) (y : Y) → option_map f o ≡ Some y → (x : X) × (o ≡ Some x) × (f x ≡ y)
-mapped_from f o y told = grind (arith, nat_tests, told)
-
--- where a map of an option is empty, the option is
-pub none_mapped : {X Y : Type 0} (f : X → Y) (o : Option X) → option_map f o ≡ None → o ≡ None
-none_mapped f o told = grind (arith, nat_tests, told)
 
 -- ---------------------------------------------------------------- a frame
 
@@ -25,14 +17,14 @@ one_same f o e = ap (one_at f) e ∙ ap (λ (b : Bool). cond b 1 0) (eq-eqb f f 
 
 -- a frame that passes the test for frame f is f
 pub is_that : (f : ℕ) (o : Option ℕ) → is_frame f o ≡ true → o ≡ Some f
-is_that f o here = grind (arith, nat_tests, here)
+is_that f o here = grind (arith, nat_tests)
 
 is_it : (f : ℕ) (o : Option ℕ) → o ≡ Some f → is_frame f o ≡ true
 is_it f o e = ap (is_frame f) e ∙ eq-eqb f f refl
 
 -- another frame, or none, fails the test for frame f
 pub not_on : (f : ℕ) (o : Option ℕ) → o ≢ Some f → is_frame f o ≡ false
-not_on f o ne = grind (arith, nat_tests, ne)
+not_on f o ne = grind (arith, nat_tests)
 
 -- a page that is not on the frame counts for nothing
 pub one_other : (f : ℕ) (o : Option ℕ) → o ≢ Some f → one_at f o ≡ 0
@@ -62,7 +54,7 @@ lies_again page o n frame = same_frames _ _ (λ p. grind arith)
 
 -- a page that lies where it lay changes nothing
 pub lies_still : (page : GuestPage) (o : Option ℕ) (frame : Frames) → frame page ≡ o → lies_on page o frame ≡ frame
-lies_still page o frame there = same_frames _ _ (λ p. let same = same_page_eq p page in grind (arith, same, there))
+lies_still page o frame there = same_frames _ _ (λ p. let same = same_page_eq p page in grind arith)
 
 -- ---------------------------------------------------------------- the rows
 
@@ -79,7 +71,7 @@ all_changed_row P Q page c rows row rise found all others here =
     let one = row_of_page _ _ row rise found in
     All-map Q _ _ (λ i d lt.
     let r = get_or rows i d in
-    cond_both _ (c r) r Q (λ same. let is = one i d lt same in subst (λ s. P s → Q (c s)) (sym is) here (all i d lt))
+    cond_both _ (c r) r Q (λ same. subst (λ s. P s → Q (c s)) (sym (one i d lt same)) here (all i d lt))
     (λ other. others r other (all i d lt)))
 
 -- ---------------------------------------------------------------- how many lie on a frame
@@ -106,7 +98,7 @@ module _ (f : ℕ) (page : GuestPage) (o : Option ℕ) (frame : Frames) where
       let rest = apart_uses (without_page page rows) (λ i d lt. not-true _ (filter_passes (λ r. not (same_page r.page page)) rows i d lt)) in
       let own = ap (λ p. one_at f (frame p)) (found_page page rows row found) in
       let gone = count_without_page old_test _ _ row rise found in
-      omega (arith, rest, own, gone)
+      omega arith
 
   -- where a page comes to lie on another frame, one row less lies on the old frame and one more on the new one
   pub uses_changed : (c : Row → Row) (rows : List Row) (row : Row) → InPageOrder rows → row_at page rows ≡ Some row → ((r : Row) → (c r).page ≡ r.page)
@@ -116,16 +108,20 @@ module _ (f : ℕ) (page : GuestPage) (o : Option ℕ) (frame : Frames) where
       let new = count_without_page new_test _ _ row rise found in
       let at = ap (λ p. one_at f (lies_on page o frame p)) (found_page _ rows row found) ∙ ap (one_at f) (on_page page o frame page (same_page_refl page)) in
       let gone = uses_gone _ row rise found in
-      omega (arith, same, new, at, gone)
+      omega arith
 
 -- where a row comes at a page that had none, one row more lies on the frame if it comes there, else as many
 pub uses_come : (f : ℕ) (o : Option ℕ) (frame : Frames) (row : Row) (rows : List Row) → row_at row.page rows ≡ None
     → uses f (lies_on row.page o frame) (with_row row rows) ≡ uses f frame rows + one_at f o
 uses_come f o frame row rows absent =
-    let rest = apart_uses f row.page o frame rows (find_none (λ r. same_page r.page row.page) rows absent) in
-    let come = count_with_row (new_test f row.page o frame) row _ absent in
-    let at = ap (one_at f) (on_page row.page o frame row.page (same_page_refl row.page)) in
-    omega (arith, rest, come, at)
+    grind (
+      arith,
+      nat_tests,
+      absent,
+      apart_uses f row.page o frame rows (find_none (λ r. same_page r.page row.page) rows absent),
+      on_page row.page o frame row.page (same_page_refl row.page),
+      count_with_row,
+    )
 
 -- a frame on which a row lies is used
 pub uses_some : (f : ℕ) (frame : Frames) (rows : List Row) → All (λ r. frame r.page ≡ Some f → 1 ≤ uses f frame rows) rows
@@ -135,7 +131,7 @@ uses_some f frame rows = λ i d lt e. counts_one _ _ i d lt (is_it f _ e)
 pub change_twice : (page : GuestPage) (c d e : Row → Row) (rows : List Row) → ((r : Row) → (c r).page ≡ r.page) → All (λ r. same_page r.page page ≡ true → d (c r) ≡ e r) rows
     → change_row page d (change_row page c rows) ≡ change_row page e rows
 change_twice page c d e rows keeps same =
-    map_mapped _ _ _ _ (λ i x lt. let k = keeps (get_or rows i x) in let s = same i x lt in grind (arith, k, s))
+    map_mapped _ _ _ _ (λ i x lt. let k = keeps (get_or rows i x) in let s = same i x lt in grind arith)
 
 -- where the row of a page changes, the changed row is found at the page
 pub at_changed : (page : GuestPage) (c : Row → Row) (rows : List Row) (row : Row) → ((r : Row) → (c r).page ≡ r.page) → row_at page rows ≡ Some row → row_at page (change_row page c rows) ≡ Some (c row)

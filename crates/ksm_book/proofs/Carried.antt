@@ -47,8 +47,7 @@ quiet_visiting b frame (Some row) =
 pub quiet_scanning : (n : ℕ) (b : BookState) (frame : Frames) → GivesNone (scanning n b frame).steps
 quiet_scanning zero b frame = tt
 quiet_scanning (suc n) b frame =
-    let c = visit_begun (visits n b) in
-    quiet_both _ _ (quiet_scanning n b frame) (quiet_visiting c _ _)
+    quiet_both _ _ (quiet_scanning n b frame) (quiet_visiting (visit_begun (visits n b)) _ _)
 
 -- ---------------------------------------------------------------- the frames that were given
 

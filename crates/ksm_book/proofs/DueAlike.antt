@@ -1,5 +1,5 @@
 -- Visits of pages do what those of the definitions do, where the rows further on that still wait are hidden from these.
-use Rattle.ksm_book.proofs.Names.{[], All, All-cons, All-head, All-map, and_parts, ap, append_assoc, AreAscending, arith, before_irrefl, best_dup, BookState, Bool, bytes_eq, cases_Bool, change_row, change_rows, comes_before, comes_later, cond_both, count_mapped, Deed, doing, due_row_visited, due_visited, due_visits, dup_frame, DupRow, each_at_page, empty_from, emptying, false, filter, filter-append, filter_all, filter_none, find, find_all, find_mapped, find_none, find_nothing, find_passes, founding, frame_found, Frames, get_or, GuestPage, handled, handling, has_item, hidden, if◌then◌else◌, inl, inr, is_for_zero, is_no_rival, is_none, is_restless, IsSound, item_count, joining, Knobs, List, list_all, map_alike, map_mapped, may_join, mergeable_pages, Merged, merged_into, nat_le, nat_lt, new_place, None, not, not-true, not_both, Option, option_map, page, page_visited, pages_visited, PageState, paired, pairing, pairs_cross, pairs_head, pairs_tail, partner, place_count, place_or, private_state, refl, restless_at, restless_row, Row, row_at, row_visited, same_page, same_page_eq, same_page_refl, same_page_sym, seen, settled, settled_calmer, settled_state, shared_state, Some, sound_changed, sound_row_visited, stayed, staying, subst, sym, taken_over, takes_over, tells_waits, then_doing, tree_of, true, true≢false, visited, Waiting, waiting_not_private, waiting_state, waits_for, waits_tells, with_dup, with_none_waiting, Zero, ℕ, ◌&&◌, ◌++◌, ◌+◌, ◌==◌, ◌||◌, ◌∙◌, ◌∷◌, ◌≡◌, nat_tests}
+use Rattle.ksm_book.proofs.Names.{[], All, All-cons, All-head, All-map, and_parts, ap, append_assoc, AreAscending, arith, before_irrefl, best_dup, BookState, Bool, bytes_eq, cases_Bool, change_row, change_rows, comes_before, comes_later, cond_both, count_mapped, Deed, doing, due_row_visited, due_visited, due_visits, dup_frame, DupRow, each_at_page, empty_from, emptying, false, filter, filter-append, filter_all, filter_none, find, find_all, find_mapped, find_none, find_nothing, find_passes, founding, Frames, get_or, GuestPage, handled, handling, has_item, hidden, if◌then◌else◌, inl, inr, is_for_zero, is_no_rival, is_none, is_restless, IsSound, item_count, joining, Knobs, List, list_all, map_alike, map_mapped, may_join, mergeable_pages, Merged, merged_into, nat_le, nat_lt, new_place, None, not, not-true, not_both, Option, option_map, page, page_visited, pages_visited, PageState, paired, pairing, pairs_cross, pairs_head, pairs_tail, partner, place_count, place_or, private_state, refl, restless_at, restless_row, Row, row_at, row_visited, same_page, same_page_eq, same_page_refl, same_page_sym, seen, settled, settled_calmer, settled_state, shared_state, Some, sound_changed, sound_row_visited, stayed, staying, subst, sym, taken_over, takes_over, tells_waits, then_doing, tree_of, true, true≢false, visited, Waiting, waiting_not_private, waiting_state, waits_for, waits_tells, with_dup, with_none_waiting, Zero, ℕ, ◌&&◌, ◌++◌, ◌+◌, ◌==◌, ◌||◌, ◌∙◌, ◌∷◌, ◌≡◌, nat_tests}
 use Rattle.ksm_base.specs.declared.row.PageState.TheVariants.{Private}
 use Rattle.ksm_book.proofs.ByPage.{found_page, row_of_page}
 use Rattle.ksm_book.proofs.Doing.{then_idle}
@@ -8,6 +8,7 @@ use Rattle.ksm_book.proofs.Going.{change_goes, Goes, goes_on, goes_same}
 use Rattle.ksm_book.proofs.PagesAhead.{Before, filter_out, has_filter}
 use Rattle.ksm_book.proofs.RowVisits.{stayed_is, visited_by}
 use Rattle.std.proofs.lemmas.List.{map-id}
+use Rattle.ksm_pages.proofs.Resting.{settled_again, settled_still}
 
 -- ---------------------------------------------------------------- rows that wait no more
 
@@ -17,14 +18,8 @@ merged_still n s = grind (arith, nat_tests)
 shared_still : (s : PageState) → shared_state (settled_state s) ≡ shared_state s
 shared_still s = grind (arith, nat_tests)
 
-waits_no_more : (s : PageState) → waiting_state (settled_state s) ≡ false
-waits_no_more s = grind (arith, nat_tests)
-
 settled_is : (s : PageState) → waiting_state s ≡ false → settled_state s ≡ s
 settled_is s none = grind (arith, nat_tests, none)
-
-settled_again : (s : PageState) → settled_state (settled_state s) ≡ settled_state s
-settled_again s = grind (arith, nat_tests)
 
 -- a row that does not wait stays as it is where it is to wait no more
 pub stays_settled : (r : Row) → waiting_state r.state ≡ false → settled r ≡ r
@@ -36,7 +31,7 @@ settled_once r = λ t. record r { state = settled_again r.state t }
 
 -- a row that waits no more waits for no row
 waits_not : (knobs : Knobs) (r x : Row) → waits_for knobs r (settled x) ≡ false
-waits_not knobs r x = rw (waits_no_more _)
+waits_not knobs r x = rw (settled_still _)
 
 -- in a sound book a row that waits is mergeable
 pub waits_mergeable : (b : BookState) → IsSound b → All (λ r. waiting_state r.state ≡ true → r.mergeable ≡ true) b.rows
@@ -47,9 +42,8 @@ pub mergeable_has : (rows : List Row) → All (λ r. r.mergeable ≡ true → ha
 mergeable_has [] = λ k d lt. absurd (omega arith)
 mergeable_has (r ∷ rows) =
     let same = same_page_refl r.page in
-    All-cons (λ x. x.mergeable ≡ true → has_item x.page (mergeable_pages (r ∷ rows)) ≡ true) r rows
-    (λ is. grind (arith, is, same))
-    (λ k d lt is. let rest = mergeable_has rows k d lt is in grind (arith, rest))
+    All-cons (λ x. x.mergeable ≡ true → has_item x.page (mergeable_pages (r ∷ rows)) ≡ true) r rows (λ is. grind arith)
+    (λ k d lt is. let rest = mergeable_has rows k d lt is in grind arith)
 
 -- the row is of one of these pages
 abbrev is_among : List GuestPage → Row → Bool
@@ -67,14 +61,7 @@ hidden_all b s = λ t. record b { rows = map_alike (calmed (is_among pages)) set
     pages = mergeable_pages b.rows
 
     each : All (λ r. calmed (is_among pages) r ≡ settled r) b.rows
-    each k d lt = let r = get_or b.rows k d in elim (cases_Bool (waiting_state r.state)) [
-      | inl waits ↦
-          let there = mergeable_has b.rows k d lt (waits_mergeable b s k d lt waits) in
-          rw there
-      | inr none ↦
-          let same = stays_settled r none in
-          cond_both _ _ r (λ x. x ≡ settled r) (λ _. refl) (λ _. sym same)
-    ]
+    each k d lt = grind (arith, nat_tests, lt, mergeable_has, waits_mergeable, stays_settled)
 
 -- with the rows of no page hidden the book is as it is
 pub hidden_none : (b : BookState) → hidden [] b ≡ b
@@ -109,8 +96,7 @@ module _ (test : Row → Bool) where
         change_goes _
         (λ r. cond_both _ _ r (λ x. (x.page ≡ r.page) × (x.mergeable ≡ r.mergeable))
         (λ _. (refl, refl)) (λ _. (refl, refl))) _
-        (λ k d lt is. let r = get_or rows k d in
-        cond_both _ _ r (λ x. shared_state x.state ≡ true) (λ _. shared_still _ ∙ is) (λ _. is))
+        (λ k d lt is. cond_both _ _ (get_or rows k d) (λ x. shared_state x.state ≡ true) (λ _. shared_still _ ∙ is) (λ _. is))
 
     count_kept : (d : DupRow) → item_count calm_rows d ≡ item_count rows d
     count_kept d =
@@ -139,19 +125,19 @@ module _ (test : Row → Bool) where
 
     dup_frame_kept : (frame : Frames) (number : ℕ) → dup_frame frame calm_rows number ≡ dup_frame frame rows number
     dup_frame_kept frame number =
-        ap (frame_found frame)
-        (find_mapped (calmed test) (λ r. merged_into number r.state) (λ r. merged_into number r.state) rows
-        (λ k d lt. calmed_merged number (get_or rows k d))) ∙ by _
-      where
-        by : (o : Option Row) → frame_found frame (option_map (calmed test) o) ≡ frame_found frame o
-        by o = grind (arith, nat_tests)
+        grind (
+          arith,
+          nat_tests,
+          find_mapped (calmed test) (λ r. merged_into number r.state) (λ r. merged_into number r.state) rows (λ k d lt. calmed_merged number (get_or rows k d)),
+          calmed_merged,
+        )
 
 -- ---------------------------------------------------------------- the visit of a row where rows further on are hidden
 
 -- a choice by a test comes to g of another by it, where each of the chosen does
 chosen : {X : Type 0} (g : X → X) (z : Bool) (a c a' c' : X) → (z ≡ true → a ≡ g a') → (z ≡ false → c ≡ g c')
     → (if z then a else c) ≡ g (if z then a' else c')
-chosen g z a c a' c' holds fails = grind (arith, nat_tests, holds, fails)
+chosen g z a c a' c' holds fails = grind (arith, nat_tests)
 
 -- a row, and pages further on, of which it has none
 module _ (later : List GuestPage) (b : BookState) (r : Row) (fresh : has_item r.page later ≡ false) where
@@ -183,11 +169,7 @@ module _ (later : List GuestPage) (b : BookState) (r : Row) (fresh : has_item r.
     either x = if by x.page then f x else calmed (is_among later) x
 
     change_first : (x : Row) → (if by (cover x).page then f (cover x) else cover x) ≡ either x
-    change_first x = rw (calmed_page (is_among pages) x) (at _ refl)
-      where
-        at : (z : Bool) → by x.page ≡ z
-            → (if z then f (cover x) else cover x) ≡ (if z then f x else calmed (is_among later) x)
-        at z is = grind (arith, nat_tests, is)
+    change_first x = grind (arith, nat_tests, calmed_page (is_among pages) x)
 
     change_then : (x : Row) → calmed (is_among later) (if by x.page then f x else x) ≡ either x
     change_then x = grind (arith, nat_tests)
@@ -249,7 +231,7 @@ module _ (later : List GuestPage) (b : BookState) (r : Row) (fresh : has_item r.
       }
     where
       own : (q : GuestPage) → (same_page q w.page || same_page q r.page) ≡ false → same_page r.page q ≡ false
-      own q neither = let back = same_page_sym r.page q in grind (arith, neither, back)
+      own q neither = let back = same_page_sym r.page q in grind arith
 
       near_w : has_item w.page pages ≡ false
       near_w = found_open near w found
@@ -258,7 +240,7 @@ module _ (later : List GuestPage) (b : BookState) (r : Row) (fresh : has_item r.
       apart q one =
           let of_w = same_page_eq q w.page in
           let of_r = same_page_eq q r.page in
-          grind (arith, one, of_w, of_r, near_w, fresh)
+          grind (arith, near_w, fresh)
 
   pairing_alike : (frame : Frames) → NoneCovered
       → pairing (partner b.knobs covered.rows r) covered frame (settled r)
@@ -278,7 +260,7 @@ module _ (later : List GuestPage) (b : BookState) (r : Row) (fresh : has_item r.
         (paired (partner b.knobs b.rows r) b r)
         (λ _. λ t. record b { rows = becomes_alike Zero t })
         (λ zeroes. let none = near is unchanged zeroes in
-        ap (λ w. paired w covered (settled r)) (partner_alike none) ∙ paired_alike _ refl none)
+        rw (partner_alike none) (paired_alike _ refl none))
 
     handled_alike : handled o covered (settled r) ≡ hidden later (handled o b r)
     handled_alike = by o refl
@@ -310,24 +292,13 @@ module _ (later : List GuestPage) (b : BookState) (r : Row) (fresh : has_item r.
       → visited doing (covered, deed) (Some (settled r))
       ≡ (hidden later (visited doing (b, deed) (Some r)).0, (visited doing (b, deed) (Some r)).1)
   visit_alike deed is near =
-      let still = ap (λ z. r.mergeable && not z) (shared_still _) ∙ is in
-      let old = visited_by b deed.frame r _ is refl in
-      let new =
-      visited_by _ deed.frame _ _ still (best_kept (is_among pages) b.rows b.knobs r b.dups) in
-      let state = new.0 ∙ handled_alike _ near ∙ sym (ap (hidden later) old.0) in
-      let does = new.1 ∙ handling_alike _ near _ ∙ sym old.1 in
-      let after : BookState × Deed = (row_visited covered (settled r), doing covered deed (settled r)) in
-      let told = ap (λ z. if z then after else (covered, deed)) still in
-      let same : after ≡ (hidden later (row_visited b r), doing b deed r) =
-      λ t. (state t, then_doing deed (does t)) in
-      let whole : (row_visited b r, doing b deed r) ≡ visited doing (b, deed) (Some r) =
-      sym (rw is) in
-      told ∙ same ∙ (λ t. (hidden later (whole t).0, (whole t).1))
+      grind (arith, nat_tests, is, near, best_kept (is_among pages) b.rows b.knobs r b.dups, shared_still, visited_by, handled_alike, handling_alike)
 
 -- ---------------------------------------------------------------- a row takes over
 
-none_is : {X : Type 0} (o : Option X) → is_none o ≡ true → o ≡ None
-none_is o is = grind (arith, nat_tests, is)
+-- an option that has nothing is None
+pub none_is : {X : Type 0} (o : Option X) → is_none o ≡ true → o ≡ None
+none_is o is = grind (arith, nat_tests)
 
 -- a row takes over: it may join no dup, its bytes have stayed, they do not merge with the zero page, and a row further
 -- on waits for it
@@ -393,12 +364,7 @@ module _ (b : BookState) (r : Row) where
   module _ (found : row_at r.page b.rows ≡ Some r) where
     -- the row stays as it is
     pub freed_found : row_at r.page freed.rows ≡ Some r
-    freed_found =
-        calmed_at waits b.rows r.page ∙ ap (option_map (calmed waits)) found
-        ∙ ap (λ z. Some (if z then settled r else r)) own
-      where
-        own : waits r ≡ false
-        own = grind (arith, nat_tests)
+    freed_found = grind (arith, nat_tests, calmed_at waits b.rows r.page)
 
     module _ (is : is_restless r ≡ true) (takes : TakesOver b r) where
       -- its visit in that book makes it wait
@@ -477,9 +443,8 @@ pub due_goes : (pages : List GuestPage) (s : BookState × Deed) → IsSound s.0
     → Goes s.0.rows (due_visits doing s pages).0.rows
 due_goes [] s sound = goes_same _
 due_goes (page ∷ pages) s sound =
-    let next = due_visited doing s page in
     let keeps = due_keeps s page sound in
-    goes_on _ _ _ keeps.1 (due_goes pages next keeps.0)
+    goes_on _ _ _ keeps.1 (due_goes pages (due_visited doing s page) keeps.0)
 
 -- ---------------------------------------------------------------- one visit
 
@@ -559,7 +524,7 @@ module _ (b : BookState) (s : IsSound b) where
         each k d lt = let x = get_or b.rows k d in elim (cases_Bool (waits_for b.knobs r x)) [
           | inl is ↦
               let there = ap (λ q. has_item q later) (one_waits b r w s found_w k d lt is) ∙ further_on w found_w further in
-              let on : has_item x.page (r.page ∷ later) ≡ true = grind (arith, there) in
+              let on : has_item x.page (r.page ∷ later) ≡ true = grind arith in
               ap (λ z. hides (if z then settled x else x)) is
               ∙ ap (λ z. if z then settled (settled x) else settled x) on ∙ settled_once x ∙ sym (rw on)
           | inr not_so ↦ ap (λ z. hides (if z then settled x else x)) not_so

@@ -16,14 +16,7 @@ use Rattle.ksm_book.proofs.DueKept.{count_kept, itself, joins, more_due, none_is
 on_still : (b : BookState) (new : List Row) (r : Row)
     → (All (λ d. may_join b.knobs b.rows r d ≡ false) b.dups → All (λ d. may_join b.knobs new r d ≡ false) b.dups)
     → waits_on b r ≡ true → waits_on (record b { rows = new }) r ≡ true
-on_still b new r joins_none is =
-    let h = on_tells b r is in
-    tells_on (record b { rows = new }) r (record {
-      waiting = h.waiting;
-      unchanged = h.unchanged;
-      zeroes = h.zeroes;
-      none = none_is_best b.knobs new _ r (joins_none (none_to_join b.knobs b.rows _ r h.none));
-    })
+on_still b new r joins_none is = grind (arith, nat_tests, joins_none, is, tells_on, none_is_best, none_to_join)
 
 module _ (b : BookState) (sound : IsSound b) (page : GuestPage) (row : Row) (found : row_at page b.rows ≡ Some row) where
   -- the page that waits in the tree of the row with its bytes, if the row is merged
@@ -33,7 +26,7 @@ module _ (b : BookState) (sound : IsSound b) (page : GuestPage) (row : Row) (fou
   -- a row that is merged does not wait
   merged_only : (number : ℕ) (state : PageState) → merged_into number state ≡ true
       → (merged_state state ≡ true) × (waiting_state state ≡ false)
-  merged_only number state into = grind (arith, nat_tests, into)
+  merged_only number state into = grind (arith, nat_tests)
 
   -- a row that waits for the row, which is merged, is of that page
   is_beside : merged_state row.state ≡ true → All (λ r. waits_for b.knobs row r ≡ true → names r.page beside ≡ true) b.rows
@@ -80,17 +73,7 @@ module _ (b : BookState) (sound : IsSound b) (page : GuestPage) (row : Row) (fou
     -- a row that waits, and not on that page, can join none still where it could join no dup
     joins_none_then : All (λ r. waiting_state r.state ≡ true → names r.page beside ≡ false
         → All (λ e. may_join b.knobs b.rows r e ≡ false) b.dups → All (λ e. may_join b.knobs now r e ≡ false) b.dups) b.rows
-    joins_none_then k d lt waiting apart none j e lt_e =
-        let r = get_or b.rows k d in
-        let dup = get_or b.dups j e in
-        elim (cases_Bool (merged_into dup.number row.state)) [
-          | inl into ↦ elim (cases_Bool (dup.tree == tree_of b.knobs r && bytes_eq dup.bytes r.bytes)) [
-            | inl same ↦ absurd (both_ways (names r.page beside) apart (is_of_dup k d lt waiting j e lt_e into same))
-            | inr differ ↦
-                rw differ
-          ]
-          | inr out ↦ ap (joins b.knobs r dup) (counts dup out) ∙ none j e lt_e
-        ]
+    joins_none_then k d lt waiting apart none j e lt_e = grind (arith, nat_tests, lt, waiting, apart, none, lt_e, is_of_dup, counts)
 
     -- where that page is due, with what was, each other row waits on beside those rows
     left_still : (old new : List GuestPage) → AreDue b old → ((p : GuestPage) → has_item p old ≡ true → has_item p new ≡ true)
@@ -111,7 +94,7 @@ module _ (b : BookState) (sound : IsSound b) (page : GuestPage) (row : Row) (fou
 module _ (b : BookState) (page : GuestPage) (old new : List GuestPage) (was : AreDue b old)
     (told : (p : GuestPage) → has_item p new ≡ (names p (page_beside b.knobs b.rows (row_at page b.rows)) || has_item p old)) where
   more_than_was : (p : GuestPage) → has_item p old ≡ true → has_item p new ≡ true
-  more_than_was p is = let tells = told p in grind (arith, tells, is)
+  more_than_was p is = let tells = told p in grind arith
 
   module _ (sound : IsSound b) (row : Row) (found : row_at page b.rows ≡ Some row) where
     covers : (p : GuestPage) → names p (page_beside b.knobs b.rows (Some row)) ≡ true → has_item p new ≡ true
@@ -131,7 +114,7 @@ module _ (b : BookState) (page : GuestPage) (old new : List GuestPage) (was : Ar
         of_page r = same_page r.page page
 
         on : (p : GuestPage) → has_item p new ≡ true → has_item p later ≡ true
-        on p is = let tells = added p in grind (arith, tells, is)
+        on p is = let tells = added p in grind arith
 
         own : (p : GuestPage) → same_page p page ≡ true → has_item p later ≡ true
         own p same = added p ∙ ap (λ z. z || has_item p new) (same_page_sym _ p ∙ same)
@@ -152,7 +135,7 @@ module _ (b : BookState) (page : GuestPage) (old new : List GuestPage) (was : Ar
             let item : Row → Bool = λ r. merged_into e.number r.state in
             let less = count_without_page item _ _ row sound.rows_rise found in
             let same = subst (λ z. item_count (without_page page b.rows) e + (if z then 1 else 0) ≡ item_count b.rows e) none less in
-            omega (arith, same)
+            omega arith
 
 -- ---------------------------------------------------------------- a page comes
 
@@ -174,7 +157,7 @@ come_due b page node bytes pages absent was =
 module _ (b : BookState) (page : GuestPage) (old new : List GuestPage) (added : (p : GuestPage) → has_item p new ≡ (same_page page p || has_item p old))
     (was : AreDue b old) where
   more : (p : GuestPage) → has_item p old ≡ true → has_item p new ≡ true
-  more p is = let tells = added p in grind (arith, tells, is)
+  more p is = let tells = added p in grind arith
 
   -- that is so of the book as it is
   pub added_due : AreDue b new
@@ -189,14 +172,14 @@ module _ (b : BookState) (page : GuestPage) (old new : List GuestPage) (added : 
 
 -- a page that has a row has one
 pub known_row : (rows : List Row) (page : GuestPage) → IsKnown page rows → (row : Row) × (row_at page rows ≡ Some row)
-known_row rows page known = grind (arith, nat_tests, known)
+known_row rows page known = grind (arith, nat_tests)
 
 -- ---------------------------------------------------------------- a command that is answered with a reply
 
 -- a page that was registered had no row
 absent_then : (b : BookState) (page : GuestPage) (node : ℕ) (bytes : List ℕ) (reply : Reply) → IsAnswerOrMemory b (Register page node bytes) (Ok reply)
     → row_at page b.rows ≡ None
-absent_then b page node bytes reply answer = grind (arith, nat_tests, answer)
+absent_then b page node bytes reply answer = grind (arith, nat_tests)
 
 -- a page that was dropped had a row
 known_then : (b : BookState) (page : GuestPage) (reply : Reply) → IsAnswerOrMemory b (Drop page) (Ok reply) → IsKnown page b.rows

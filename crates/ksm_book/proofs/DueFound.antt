@@ -1,15 +1,16 @@
 -- The visit of a page that is due, by what was found of it: it takes over from none, but where a row further on waits
 -- for it; and which pages are due then.
-use Rattle.ksm_book.proofs.Names.{and_from, and_right, ap, AreDue, arith, Best, best_dup, BookState, BookValue, BookView, Bool, change_row, change_rows, Comes, comes_before, comes_later, cond_both, Deed, doing, Dup, due_visited, DupRow, false, find_mapped, find_passes, FindsAt, get_or, GuestPage, has_item, HasStayed, if◌then◌else◌, InPageOrder, inl, inr, is_for_zero, is_none, is_restless, IsDueNoMore, IsSound, KeeperView, List, mapped, MatchOption, Merged, None, not, not_both, one_before, Option, option_map, or_cases, page_visited, PagesView, paired, PageState, Partner, partner, Performs, Reached, refl, restless_at, restless_row, Row, row_at, row_visited, row_visiting, same_page, same_page_eq, same_page_refl, same_Some, shared_state, Some, state_of, StaysBefore, subst, sym, takes_over, TakesOverFrom, true, view_of, VisitsPage, waits_for, waits_tells, Zero, ℕ, ◌&&◌, ◌||◌, ◌∙◌, ◌∷◌, ◌≡◌, nat_tests}
+use Rattle.ksm_book.proofs.Names.{and_from, and_right, ap, AreDue, arith, Best, best_dup, BookState, BookValue, BookView, Bool, change_row, change_rows, Comes, comes_before, comes_later, cond_both, Deed, doing, Dup, due_visited, DupRow, false, find_mapped, find_passes, FindsAt, get_or, GuestPage, has_item, HasStayed, if◌then◌else◌, InPageOrder, inl, inr, is_for_zero, is_none, is_restless, IsDueNoMore, IsSound, KeeperView, List, mapped, MatchOption, Merged, None, not, not_both, one_before, Option, option_map, or_cases, page_visited, PagesView, paired, PageState, Partner, partner, Performs, Reached, refl, restless_at, restless_row, Row, row_at, row_visited, same_page, same_page_eq, same_page_refl, same_Some, shared_state, Some, state_of, StaysBefore, subst, sym, takes_over, TakesOverFrom, true, view_of, VisitsPage, waits_for, waits_tells, Zero, ℕ, ◌&&◌, ◌||◌, ◌∙◌, ◌∷◌, ◌≡◌, nat_tests}
 use Rattle.ksm_base.specs.declared.row.PageState.TheVariants.{Private}
 use Rattle.ksm_pages.specs.declared.pages.Find.TheVariants as finds
 use Rattle.ksm_pages.specs.Paged.{Finds}
 use Rattle.ksm_book.proofs.DueAlike.{due_sound}
-use Rattle.ksm_book.proofs.DueKept.{calm_undue, changed_due, more_due, single, visited_due}
+use Rattle.ksm_book.proofs.DueKept.{calm_undue, changed_due, more_due, visited_due}
 use Rattle.ksm_book.proofs.PageVisits.{shared_comes}
 use Rattle.ksm_book.proofs.Reached.{comes_to, first}
-use Rattle.ksm_book.proofs.RowVisits.{at_row, filled_by, Meets, page_is, restless_own, stayed_is, there_is, visited_by}
+use Rattle.ksm_book.proofs.RowVisits.{filled_by, Meets, page_is, restless_own, stayed_is, there_is, visited_by}
 use Rattle.ksm_book.proofs.Singles.{book}
+use Rattle.ksm_pages.proofs.Joined.{own_not_merged}
 
 -- ---------------------------------------------------------------- a row that takes over from none
 
@@ -18,10 +19,10 @@ abbrev pub TakesNone : GuestPage → BookState → Type 0
 TakesNone page b = (r : Row) → row_at page b.rows ≡ Some r → takes_over b r ≡ false
 
 not_first : (p q r s : Bool) → p ≡ false → (p && q && r && s) ≡ false
-not_first p q r s is = grind (arith, is)
+not_first p q r s is = grind arith
 
 not_third : (p q r s : Bool) → r ≡ false → (p && q && r && s) ≡ false
-not_third p q r s is = grind (arith, is)
+not_third p q r s is = grind arith
 
 module _ (b : BookState) (row : Row) where
   abbrev none : Bool
@@ -44,9 +45,7 @@ module _ (b : BookState) (row : Row) where
 
   takes : best_dup b.knobs b.rows b.dups row ≡ None → row.unchanged ≡ true → is_for_zero b.knobs row ≡ false
       → (w : Row) → partner b.knobs b.rows row ≡ Some w → comes_before row.page w.page ≡ true → takes_over b row ≡ true
-  takes best is zeroes w waits before =
-      and_from _ _ (and_from _ _ (and_from _ _ (ap is_none best) is) (ap not zeroes))
-      (ap (comes_later row.page) waits ∙ before)
+  takes best is zeroes w waits before = grind (arith, nat_tests, best, is, zeroes, waits, before, and_from)
 
 -- where the row of a page takes over from none, its visit is that of the definitions
 is_visited : (s : BookState × Deed) (page : GuestPage) → TakesNone page s.0 → due_visited doing s page ≡ page_visited doing s page
@@ -73,7 +72,7 @@ Without page old new = (p : GuestPage) → has_item p new ≡ (has_item p old &&
 
 kept : (page : GuestPage) (old new : List GuestPage) → Without page old new
     → (p : GuestPage) → has_item p old ≡ true → has_item p (page ∷ new) ≡ true
-kept page old new gone p is = let one = gone p in grind (arith, is, one)
+kept page old new gone p is = let one = gone p in grind arith
 
 -- a page that is due no more need not be among those that are
 pub less_due : (page : GuestPage) (b c : BookState) (old new : List GuestPage) → Without page old new → IsDueNoMore page b c
@@ -104,9 +103,7 @@ module _ {P : BookState → Row → Type 0} {p : PagesView} {k : KeeperView} {cu
   shared_due_comes = comes_so v w _ (takes_none at none) (shared_comes v w at restless q same did)
 
   state_is : w.state ≡ row_visited (state_of p cursor passes) at.row
-  state_is = (at_row (λ r. (w.state ≡ row_visited (state_of p cursor passes) r)
-      × Performs (mapped (book p k cursor passes)) (mapped (view_of w)) (row_visiting (state_of p cursor passes) p.frame r))
-      page p.rows at.row at.found (rw (← same) did)).0
+  state_is = grind (arith, nat_tests)
 
   -- and where no visit may change the row then, the page is due no longer
   pub shared_leaves : restless_at page (row_visited (state_of p cursor passes) at.row).rows ≡ false
@@ -172,7 +169,7 @@ module _ {p q : PagesView} {k : KeeperView} {cursor : Option GuestPage} {passes 
     partner_calm =
         rw ((stayed_is (state_of p cursor passes) p.frame at.row false stays).0 ∙ ap (λ o. paired o (state_of p cursor passes) at.row) met.1)
         (calm_then page p.rows at.row (λ r. same_page r.page met.0.page || same_page r.page at.row.page) (Merged p.next) refl at.found
-        (let same = same_page_refl at.row.page in grind (arith, same)))
+        (let same = same_page_refl at.row.page in grind arith))
 
     -- a page that meets no earlier one is to wait in the stead of the other
     pub partner_takes : comes_before other page ≡ false → MatchOption (row_at page p.rows) (true ≡ false) (TakesOverFrom (state_of p cursor passes) other)
@@ -190,7 +187,7 @@ module _ {p q : PagesView} {k : KeeperView} {cursor : Option GuestPage} {passes 
       (more_due (record (state_of p cursor passes) { rows = change_row at.row.page f p.rows }) (at.row.page ∷ due) due back
       (changed_due (state_of p cursor passes) _ f due at.sound.rows_rise (λ r. refl)
       (λ r found. (
-        rw (← same_Some _ r (sym (there_is at) ∙ found)) (single _ (restless_own at.row at.so.0)),
+        rw (← same_Some _ r (sym (there_is at) ∙ found)) (own_not_merged _ (restless_own at.row at.so.0)),
         refl,
       ))
       (subst (λ (x : BookView). AreDue x.state due) (sym at.is) was)))
@@ -206,7 +203,7 @@ module _ {p q : PagesView} {k : KeeperView} {cursor : Option GuestPage} {passes 
 
 -- a search that found a page gone changed nothing
 pub gone_same : (p q : PagesView) (page : GuestPage) → Finds p q page finds.Gone → q ≡ p
-gone_same p q page told = grind (arith, nat_tests, told)
+gone_same p q page told = grind (arith, nat_tests)
 
 -- ---------------------------------------------------------------- books that look the same
 

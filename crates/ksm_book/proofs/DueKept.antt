@@ -1,11 +1,12 @@
 -- Passes that visit only the pages that are due: what waits on is left as it is, and what is due stays so.
-use Rattle.ksm_book.proofs.Names.{IsDueNoMore, restless_at, restless_row, All, All-cons, All-head, All-tail, AreDue, BookState, Bool, Contains, Deed, DupRow, Frames, GuestPage, HasStayed, InPageOrder, IsJoined, IsSound, Knobs, List, Merged, None, Option, PageState, Row, Some, Waiting, WaitsFor, Zero, [], all_changed, all_with_dup, and_from, and_parts, and_right, ap, arith, best_dup, best_dup_has_room, both_ways, bytes_eq, bytes_eq-Decides, cases_Bool, change_row, change_rows, comes_later, cond_both, count_by, count_mapped, doing, due_row_visited, due_visited, due_visits, dup_numbered, each_at_page, each_has_number, eq-eqb, eqb-true, false, find, find_all, find_none, find_nothing, find_passes, get_or, handled, has_item, idle, if◌then◌else◌, inl, inr, is_best, is_for_zero, is_none, is_restless, item_count, list_all, list_all-from_AllPass, made_dup, may_join, merged_into, merged_state, nat_le, nat_lt, nat_tests, ne_eqb, not, not-true, not_an_item, not_from_false, nowhere, one_of_each_page, or_cases, or_parts, ordered_change, paired, pairing, partner, refl, row_at, row_visited, row_visiting, same_Some, same_page, same_page_eq, same_page_refl, settled, settled_state, shared_state, stayed, subst, suc, sym, taken_over, takes_over, tells_waits, then_doing, tree_of, true, true≢false, visited, waiting_state, waits_for, waits_on, waits_tells, with_dup, ℕ, ◌&&◌, ◌+◌, ◌==◌, ◌||◌, ◌∙◌, ◌∷◌, ◌≡◌, ◌⊎◌}
+use Rattle.ksm_book.proofs.Names.{IsDueNoMore, restless_at, restless_row, All, All-cons, All-head, All-tail, AreDue, BookState, Bool, Contains, Deed, DupRow, Frames, GuestPage, HasStayed, InPageOrder, IsJoined, IsSound, Knobs, List, Merged, None, Option, PageState, Row, Some, Waiting, WaitsFor, Zero, [], all_changed, all_with_dup, and_from, and_parts, and_right, ap, arith, best_dup, best_dup_has_room, both_ways, bytes_eq, bytes_eq-Decides, cases_Bool, change_row, change_rows, comes_later, cond_both, count_by, count_mapped, doing, due_row_visited, due_visited, due_visits, dup_numbered, each_at_page, each_has_number, eq-eqb, eqb-true, false, find, find_all, find_none, find_nothing, find_passes, get_or, handled, has_item, idle, if◌then◌else◌, inl, inr, is_best, is_for_zero, is_none, is_restless, item_count, list_all, list_all-from_AllPass, made_dup, may_join, merged_into, merged_state, nat_le, nat_lt, nat_tests, ne_eqb, not, not-true, not_an_item, not_from_false, nowhere, one_of_each_page, or_cases, or_parts, ordered_change, paired, pairing, partner, refl, row_at, row_visited, row_visiting, same_Some, same_page, same_page_eq, same_page_refl, settled, settled_state, stayed, subst, suc, sym, taken_over, takes_over, tells_waits, tree_of, true, true≢false, visited, waiting_state, waits_for, waits_on, waits_tells, with_dup, ℕ, ◌&&◌, ◌+◌, ◌==◌, ◌||◌, ◌∙◌, ◌∷◌, ◌≡◌, ◌⊎◌}
 use Rattle.ksm_base.specs.declared.row.PageState.TheVariants.{Private}
 use Rattle.ksm_book.proofs.ByPage.{at_changed, found_page, row_of_page}
 use Rattle.ksm_book.proofs.Doing.{then_idle}
-use Rattle.ksm_book.proofs.DueAlike.{TakesOver, freed, freed_found, takes_tells}
+use Rattle.ksm_book.proofs.DueAlike.{TakesOver, freed, freed_found, takes_tells, none_is}
 use Rattle.ksm_book.proofs.RowVisits.{restless_own, stayed_is, visited_by}
 use Rattle.ksm_book.proofs.Singles.{change_still}
+use Rattle.ksm_pages.proofs.Joined.{own_not_merged}
 
 -- ---------------------------------------------------------------- the best of those that pass a test
 
@@ -60,22 +61,16 @@ module _ {X : Type 0} (p : X → Bool) (better : X → X → Bool) (total : (x y
 
   -- where a search for the best finds nothing, none passes the test
   no_top : (xs : List X) → find (is_top xs) xs ≡ None → All (λ x. p x ≡ false) xs
-  no_top xs none = elim (top_in xs) [
-    | inl fail ↦ fail
-    | inr t ↦
-        let at = subst (λ x. is_top xs x ≡ false) t.1.there.2 (find_none _ xs none t.1.there.0 t.0 t.1.there.1) in
-        absurd (both_ways (is_top xs t.0) at (and_from _ _ t.1.passes
-        (list_all-from_AllPass _ xs (λ k d lt. no_rival t.0 _ (t.1.over k d lt)))))
-  ]
+  no_top xs none = grind (arith, nat_tests, none, top_in xs, find_none, and_from, list_all-from_AllPass, no_rival)
 
 -- ---------------------------------------------------------------- the dups that a row may join
 
 worse_total : (n m i j : ℕ) → (nat_lt m n || (m == n && nat_le i j)) ≡ false → (nat_lt n m || (n == m && nat_le j i)) ≡ true
-worse_total n m i j less = grind (arith, nat_tests, less)
+worse_total n m i j less = grind (arith, nat_tests)
 
 worse_on : (n m k i j l : ℕ) → (nat_lt m n || (m == n && nat_le i j)) ≡ true → (nat_lt k m || (k == m && nat_le j l)) ≡ true
     → (nat_lt k n || (k == n && nat_le i l)) ≡ true
-worse_on n m k i j l first second = grind (arith, nat_tests, first, second)
+worse_on n m k i j l first second = grind (arith, nat_tests)
 
 module _ (knobs : Knobs) (rows : List Row) (dups : List DupRow) (row : Row) where
   -- where there is no best dup, there is none that the row may join
@@ -97,9 +92,6 @@ pub record WaitsOn (b : BookState) (row : Row) : Type 0 where
   pub zeroes : is_for_zero b.knobs row ≡ false
   pub none : best_dup b.knobs b.rows b.dups row ≡ None
 
-none_there : {X : Type 0} (o : Option X) → is_none o ≡ true → o ≡ None
-none_there o is = grind (arith, nat_tests, is)
-
 -- a row that passes the test waits on
 pub on_tells : (b : BookState) (row : Row) → waits_on b row ≡ true → WaitsOn b row
 on_tells b row is =
@@ -110,7 +102,7 @@ on_tells b row is =
       waiting = first.0;
       unchanged = first.1;
       zeroes = not-true (is_for_zero b.knobs row) third.1;
-      none = none_there _ last.1;
+      none = none_is _ last.1;
     }
 
 -- a row that waits on passes the test
@@ -152,10 +144,7 @@ joins knobs row d items =
 pub count_kept : (number : ℕ) (test : Row → Bool) (f : Row → Row) (rows : List Row)
     → All (λ r. test r ≡ true → merged_into number (f r).state ≡ merged_into number r.state) rows
     → count_by (λ r. merged_into number r.state) (change_rows test f rows) ≡ count_by (λ r. merged_into number r.state) rows
-count_kept number test f rows same =
-    let p : Row → Bool = λ r. merged_into number r.state in
-    count_mapped _ p p _
-    (λ k d lt. let r = get_or rows k d in cond_both _ (f r) r (λ x. p x ≡ p r) (same k d lt) (λ _. refl))
+count_kept number test f rows same = grind (arith, nat_tests, same, count_mapped)
 
 module _ (b : BookState) (test : Row → Bool) (f : Row → Row) (dups : List DupRow) (next : ℕ) where
   -- the book once the rows that pass a test were changed, and the dups
@@ -215,7 +204,7 @@ module _ (b : BookState) (test : Row → Bool) (f : Row → Row)
 
 -- what is due is due beside one page more
 pub one_more : (page : GuestPage) (pages : List GuestPage) (p : GuestPage) → has_item p pages ≡ true → has_item p (page ∷ pages) ≡ true
-one_more page pages p is = grind (arith, is)
+one_more page pages p is = grind arith
 
 -- a page is among itself and others
 pub itself : (page : GuestPage) (pages : List GuestPage) (p : GuestPage) → same_page p page ≡ true → has_item p (page ∷ pages) ≡ true
@@ -228,17 +217,12 @@ pub changed_due : (b : BookState) (page : GuestPage) (f : Row → Row) (pages : 
     → AreDue b pages → AreDue (record b { rows = change_row page f b.rows }) (page ∷ pages)
 changed_due b page f pages rise keeps single was =
     unmerged_due b _ f
-    (λ k d lt same. let r = get_or b.rows k d in
-    single r (ap (λ p. row_at p b.rows) (sym (same_page_eq _ _ same)) ∙ each_at_page _ rise k d lt))
+    (λ k d lt same. single (get_or b.rows k d) (ap (λ p. row_at p b.rows) (sym (same_page_eq _ _ same)) ∙ each_at_page _ rise k d lt))
     _ (page ∷ pages) (one_more page _)
     (λ k d lt same _. let r = get_or b.rows k d in
     ap (λ p. has_item p (page ∷ pages)) (keeps r) ∙ itself page pages r.page same) was
 
 -- ---------------------------------------------------------------- the visit of a row
-
--- a row with a frame of its own is not merged
-pub single : (state : PageState) → shared_state state ≡ false → merged_state state ≡ false
-single state own = grind (arith, nat_tests, own)
 
 -- a row waits for another
 module _ (b : BookState) (sound : IsSound b) (row w : Row) (waits : partner b.knobs b.rows row ≡ Some w) where
@@ -268,7 +252,7 @@ module _ (b : BookState) (sound : IsSound b) (row w : Row) (waits : partner b.kn
 -- what is not to join, though it has an item and room, is of another tree or content
 not_of_group : (group some room more less : Bool) → some ≡ true → room ≡ true → (group && some && room) ≡ false
     → (group && more && less) ≡ false
-not_of_group group some room more less is_some has_room none = grind (arith, is_some, has_room, none)
+not_of_group group some room more less is_some has_room none = grind (arith, none)
 
 -- of other rows each dup but one, which has an item and room for one more, has as many items
 module _ (b : BookState) (sound : IsSound b) (new : List Row) (dup : DupRow) (stands : dup_numbered dup.number b.dups ≡ Some dup)
@@ -295,7 +279,7 @@ module _ (b : BookState) (sound : IsSound b) (row : Row) (found : row_at row.pag
   only = row_of_page _ _ row sound.rows_rise found
 
   unmerged : merged_state row.state ≡ false
-  unmerged = single _ (restless_own row restless)
+  unmerged = own_not_merged _ (restless_own row restless)
 
   -- the row gets another state that is not merged, and another flag
   own_due : (f : Row → Row) (pages : List GuestPage) → ((r : Row) → (f r).page ≡ r.page) → merged_state (f row).state ≡ false
@@ -360,33 +344,23 @@ module _ (b : BookState) (sound : IsSound b) (row : Row) (found : row_at row.pag
           ]
         where
           no_item : (number : ℕ) (state : PageState) → waiting_state state ≡ true → merged_into number state ≡ false
-          no_item number state is = grind (arith, nat_tests, is)
+          no_item number state is = grind (arith, nat_tests)
 
       of_another : All (λ r. waiting_state r.state ≡ true → same_page r.page w.page ≡ false
           → (new.tree == tree_of b.knobs r && bytes_eq new.bytes r.bytes) ≡ false) b.rows
-      of_another k d lt waiting apart =
-          let r = get_or b.rows k d in
-          elim (cases_Bool (new.tree == tree_of b.knobs r && bytes_eq new.bytes r.bytes)) [
-            | inl same ↦
-                let group = and_parts _ _ same in
-                absurd (true≢false (waiter_alone b sound row w waits k d lt waiting apart
-                (sym (eqb-true new.tree (tree_of b.knobs r) group.0)) (sym ((bytes_eq-Decides _ _).0 group.1))))
-            | inr other ↦ other
-          ]
+      of_another k d lt waiting apart = grind (arith, nat_tests, lt, waiting, apart, and_parts, waiter_alone, bytes_eq-Decides)
 
       others : All (λ r. test r ≡ false → WaitsOn b r → StillJoinsNone b test f (with_dup new b.dups) (b.next + 1) r) b.rows
       others k d lt fails h none =
           let r = get_or b.rows k d in
           let apart = or_parts _ _ fails in
           let other = of_another k d lt h.waiting apart.0 in
-          all_with_dup (λ e. may_join b.knobs (change_rows test f b.rows) r e ≡ false) new _
-          (ap (λ z. z && nat_le 1 (item_count (change_rows test f b.rows) new)
-          && nat_lt (item_count (change_rows test f b.rows) new) b.knobs.max_page_sharing) other)
+          all_with_dup (λ e. may_join b.knobs (change_rows test f b.rows) r e ≡ false) new _ (rw other)
           (λ j e lt_e.
           let old = get_or b.dups j e in
           let older = sound.numbers j e lt_e in
           let same = count_kept _ _ f _ (λ i x lt_x passes.
-          ne_eqb b.next old.number (λ is. omega (arith, older, is)) ∙ sym (no_items _ i x lt_x passes)) in
+          ne_eqb b.next old.number (λ is. omega arith) ∙ sym (no_items _ i x lt_x passes)) in
           ap (joins b.knobs r old) same ∙ none j e lt_e)
 
   paired_due : (o : Option Row) (pages : List GuestPage) → partner b.knobs b.rows row ≡ o → AreDue b (row.page ∷ pages)
@@ -418,10 +392,10 @@ module _ (b : BookState) (sound : IsSound b) (row : Row) (found : row_at row.pag
 
 -- the visit of a page that is none that a visit may change changes nothing
 pub calm_stays : (s : BookState × Deed) (page : GuestPage) → restless_at page s.0.rows ≡ false → due_visited doing s page ≡ s
-calm_stays s page calm = grind (arith, nat_tests, calm)
+calm_stays s page calm = grind (arith, nat_tests)
 
 waits_is : (state : PageState) → waiting_state state ≡ true → Waiting ≡ state
-waits_is state is = grind (arith, nat_tests, is)
+waits_is state is = grind (arith, nat_tests)
 
 module _ (b : BookState) (frame : Frames) (sound : IsSound b) (row : Row) (found : row_at row.page b.rows ≡ Some row)
     (restless : is_restless row ≡ true) (on : WaitsOn b row) where
@@ -452,23 +426,26 @@ module _ (b : BookState) (frame : Frames) (sound : IsSound b) (row : Row) (found
 -- the visit of a page that waits on changes nothing
 pub on_stays : (s : BookState × Deed) (page : GuestPage) (r : Row) → IsSound s.0 → row_at page s.0.rows ≡ Some r
     → waits_on s.0 r ≡ true → is_restless r ≡ true → due_visited doing s page ≡ s
-on_stays s page r sound found is restless =
-    let on = on_tells s.0 r is in
-    let there = ap (λ p. row_at p s.0.rows) (found_page _ _ r found) ∙ found in
-    ap (due_row_visited doing s) found
-    ∙ ap (λ z. if is_restless r && z then (taken_over s.0 r, s.1) else visited doing s (Some r))
-    (on_takes_none s.0 s.1.frame sound r there restless on)
-    ∙ ap (λ z. if z && false then (taken_over s.0 r, s.1) else (if z then (row_visited s.0 r, doing s.0 s.1 r) else s)) restless
-    ∙ (λ t. (on_same s.0 s.1.frame sound r there restless on t, then_doing s.1 (on_idle s.0 s.1.frame sound r there restless on t)))
-    ∙ (λ t. (s.0, then_idle s.1 t))
+on_stays s page r sound found is restless = grind (
+  arith,
+  nat_tests,
+  sound,
+  found,
+  is,
+  restless,
+  found_page,
+  on_takes_none,
+  on_same,
+  on_idle,
+  then_idle,
+)
 
 -- visits of pages of which none is due change nothing
 pub undue_stay : (pages : List GuestPage) (s : BookState × Deed) (due : List GuestPage) → IsSound s.0 → AreDue s.0 due
     → All (λ p. has_item p due ≡ false) pages → due_visits doing s pages ≡ s
 undue_stay [] s due sound are out = refl
 undue_stay (page ∷ pages) s due sound are out =
-    ap (λ z. due_visits doing z pages) (one _ refl)
-    ∙ undue_stay pages s due sound are (All-tail (λ p. has_item p due ≡ false) page _ out)
+    rw (one _ refl) (undue_stay pages s due sound are (All-tail (λ p. has_item p due ≡ false) page _ out))
   where
     one : (o : Option Row) → row_at page s.0.rows ≡ o → due_visited doing s page ≡ s
     one None found = calm_stays s _ (ap restless_row found)
@@ -510,7 +487,7 @@ pub waits_then : (b : BookState) (row : Row) → row_at row.page b.rows ≡ Some
     × (waits_on (waits_now b row) (record row { state = Waiting }) ≡ true)
 waits_then b row found restless none unchanged zeroes rise =
     let f : Row → Row = λ r. record r { state = Waiting } in
-    let own = single _ (restless_own row restless) in
+    let own = own_not_merged _ (restless_own row restless) in
     let single_at : All (λ r. same_page r.page row.page ≡ true → (merged_state r.state ≡ false) × (merged_state (f r).state ≡ false)) b.rows =
     λ k d lt same. (rw (row_of_page _ _ row rise found k d lt same) own, refl) in (
       at_changed row.page f b.rows row (λ r. refl) found,
@@ -529,9 +506,9 @@ pub waits_undue : (b : BookState) (row : Row) → row_at row.page b.rows ≡ Som
     → IsDueNoMore row.page b (waits_now b row)
 waits_undue b row found restless none unchanged zeroes rise pages was =
     undue (waits_now b row) _ _ (ordered_change _ f _ (λ r. refl) rise) on
-    (more_due (waits_now b row) (row.page ∷ row.page ∷ pages) (row.page ∷ pages) (λ p is. grind (arith, is))
+    (more_due (waits_now b row) (row.page ∷ row.page ∷ pages) (row.page ∷ pages) (λ p is. grind arith)
     (changed_due b _ f (row.page ∷ pages) rise (λ r. refl)
-    (λ r at. (rw (← same_Some row r (sym found ∙ at)) (single _ (restless_own row restless)), refl)) was))
+    (λ r at. (rw (← same_Some row r (sym found ∙ at)) (own_not_merged _ (restless_own row restless)), refl)) was))
   where
     f : Row → Row
     f r = record r { state = Waiting }
@@ -563,7 +540,7 @@ module _ (b : BookState) (row w : Row) (sound : IsSound b) (found : row_at row.p
   -- a row that waits is not merged, nor is it once it is settled
   unmerged_settled : (state : PageState) → waiting_state state ≡ true
       → (merged_state state ≡ false) × (merged_state (settled_state state) ≡ false)
-  unmerged_settled state is = grind (arith, nat_tests, is)
+  unmerged_settled state is = grind (arith, nat_tests)
 
   freed_single : All (λ r. waits_for b.knobs row r ≡ true → (merged_state r.state ≡ false) × (merged_state (settled r).state ≡ false)) b.rows
   freed_single k d lt passes = unmerged_settled _ (waits_tells b.knobs row (get_or b.rows k d) passes).state
@@ -577,7 +554,7 @@ module _ (b : BookState) (row w : Row) (sound : IsSound b) (found : row_at row.p
       undue (taken_over b row) _ (w.page ∷ pages) after_rise on
       (more_due (taken_over b row) (row.page ∷ row.page ∷ w.page ∷ pages) (row.page ∷ w.page ∷ pages) twice
       (changed_due (freed b row) _ _ (row.page ∷ w.page ∷ pages) freed_rise (λ r. refl)
-      (λ r at. (rw (← same_Some row r (sym (freed_found b row found) ∙ at)) (single _ (restless_own row restless)), refl))
+      (λ r at. (rw (← same_Some row r (sym (freed_found b row found) ∙ at)) (own_not_merged _ (restless_own row restless)), refl))
       (unmerged_due b (waits_for b.knobs row) settled freed_single (row.page ∷ pages) (row.page ∷ w.page ∷ pages)
       between
       (λ k d lt passes _. let r = get_or b.rows k d in
@@ -591,10 +568,10 @@ module _ (b : BookState) (row w : Row) (sound : IsSound b) (found : row_at row.p
       after_rise = ordered_change _ _ _ (λ r. refl) freed_rise
 
       twice : (p : GuestPage) → has_item p (row.page ∷ row.page ∷ w.page ∷ pages) ≡ true → has_item p (row.page ∷ w.page ∷ pages) ≡ true
-      twice p is = grind (arith, is)
+      twice p is = grind arith
 
       between : (p : GuestPage) → has_item p (row.page ∷ pages) ≡ true → has_item p (row.page ∷ w.page ∷ pages) ≡ true
-      between p is = grind (arith, is)
+      between p is = grind arith
 
       none_freed : best_dup b.knobs (freed b row).rows b.dups row ≡ None
       none_freed = none_is_best b.knobs (freed b row).rows _ row

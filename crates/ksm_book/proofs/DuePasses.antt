@@ -1,5 +1,5 @@
 -- A pass over what is due comes to what the pass of the definitions comes to.
-use Rattle.ksm_book.proofs.Names.{[], after_cursor, All, All-filter, ap, append-nil, AreAscending, AreDue, arith, BookState, Bool, both_ways, cases_Bool, comes_before, cond_both, Deed, doing, due_visited, due_visits, false, filter, filter_all, filter_passes, filter-append, get_or, get_or_from_slice_get, GuestPage, has_item, hidden, hidden_from, inl, inr, IsSound, List, list_any_at, map_alike, mergeable_pages, nat_lt, nat_tests, None, not, not-true, Option, pages_ahead, pages_visited, part_before, part_visited, pass_begun, refl, restless_at, Row, same_page, same_Some, settled, slice_get, slice_get_within, Some, subst, suc, sym, take, true, up_to, zero, waiting_state, with_none_waiting, ℕ, ◌++◌, ◌*◌, ◌+◌, ◌-◌, ◌<◌, ◌^◌, ◌∙◌, ◌∷◌, ◌≡◌, if◌then◌else◌}
+use Rattle.ksm_book.proofs.Names.{[], after_cursor, All, All-filter, ap, append-nil, AreAscending, AreDue, arith, BookState, Bool, both_ways, cases_Bool, comes_before, Deed, doing, due_visited, due_visits, false, filter, filter_all, filter_passes, filter-append, get_or, get_or_from_slice_get, GuestPage, has_item, hidden, hidden_from, inl, inr, IsSound, List, list_any_at, map_alike, mergeable_pages, nat_lt, nat_tests, None, not, not-true, Option, pages_ahead, pages_visited, part_before, part_visited, pass_begun, refl, restless_at, Row, same_page, same_Some, settled, slice_get, slice_get_within, Some, subst, suc, sym, take, true, zero, with_none_waiting, ℕ, ◌++◌, ◌*◌, ◌+◌, ◌-◌, ◌<◌, ◌^◌, ◌∙◌, ◌∷◌, ◌≡◌, if◌then◌else◌}
 use Rattle.ksm_book.specs.Scanned.{ahead_before}
 use Rattle.ksm_book.proofs.Along.{FitsPage}
 use Rattle.ksm_book.proofs.DueAlike.{due_alike, due_goes, due_visits_sound, hidden_all, hidden_none, mergeable_has, stays_settled, waits_mergeable}
@@ -34,22 +34,7 @@ hidden_rest b sound page pages are = λ t. record b { rows = map_alike f g _ eac
     g r = if not (comes_before r.page page) then settled r else r
 
     each : All (λ r. f r ≡ g r) b.rows
-    each k d lt =
-        let r = get_or b.rows k d in
-        elim (cases_Bool (waiting_state r.state)) [
-          | inl waits ↦
-              let there = ap (has_item r.page) (sym are) ∙ mergeable_has b.rows k d lt (waits_mergeable b sound k d lt waits) in
-              ap (λ z. if z then settled r else r)
-              (has_filter (λ p. not (comes_before p page)) r.page pages
-              ∙ (let h = there in grind (arith, h)))
-          | inr none ↦
-              let same = stays_settled r none in
-              cond_both (has_item r.page rest) (settled r) r (λ x. x ≡ g r)
-              (λ _. same ∙ sym (calm r same)) (λ _. sym (calm r same))
-        ]
-      where
-        calm : (r : Row) → settled r ≡ r → g r ≡ r
-        calm r same = cond_both _ _ r (λ x. x ≡ r) (λ _. same) (λ _. refl)
+    each k d lt = grind (arith, nat_tests, lt, mergeable_has, waits_mergeable, has_filter, stays_settled)
 
 -- a book as a pass begins, with what was done
 module _ (s : BookState × Deed) (sound : IsSound s.0) (start : s.0.cursor ≡ None) where
@@ -70,17 +55,11 @@ module _ (s : BookState × Deed) (sound : IsSound s.0) (start : s.0.cursor ≡ N
   -- the visits of the first pages, where the others are hidden
   alike : (done rest : List GuestPage) → all ≡ done ++ rest
       → pages_visited doing (pass_begun s.0, s.1) done ≡ (hidden rest (due_visits doing s done).0, (due_visits doing s done).1)
-  alike done rest is =
-      (λ t. pages_visited doing ((begun_none ∙ sym (hidden_all s.0 sound) ∙ ap (λ l. hidden l s.0) is) t, s.1) done)
-      ∙ due_alike done rest s sound is
+  alike done rest is = grind (arith, nat_tests, is, begun_none, hidden_all s.0 sound, due_alike done rest s sound is)
 
   -- the visits of all pages
   pub whole_part : due_visits doing s (pages_ahead s.0) ≡ part_visited None s
-  whole_part =
-      ap (due_visits doing s) ahead_all
-      ∙ (λ t. (sym (hidden_none (due_visits doing s all).0) t, (due_visits doing s all).1))
-      ∙ sym (alike all [] (sym (append-nil all)))
-      ∙ ap (pages_visited doing (pass_begun s.0, s.1)) (sym (filter_all (up_to None) _ (λ k d lt. refl) ∙ begun_all))
+  whole_part = grind (arith, nat_tests, ahead_all, hidden_none (due_visits doing s all).0, alike all [] (sym (append-nil all)), begun_all, filter_all)
 
   -- the visits of the pages before one, once no row from there on waits
   pub before_part : (page : GuestPage) → (
@@ -93,10 +72,10 @@ module _ (s : BookState × Deed) (sound : IsSound s.0) (start : s.0.cursor ≡ N
       let rest = filter (λ p. not (t p)) all in
       let ascends = subst AreAscending ahead_all (ascending_ahead s.0 sound.rows_rise) in
       let after = due_visits doing s done in
-      (λ i. (hidden_from page (due_visits doing s (filter t (ahead_all i))).0, (due_visits doing s (filter t (ahead_all i))).1))
+      rw begun_all
+      ((λ i. (hidden_from page (due_visits doing s (filter t (ahead_all i))).0, (due_visits doing s (filter t (ahead_all i))).1))
       ∙ (λ i. (sym (hidden_rest _ (due_visits_sound done s sound) page all (due_goes done s sound).mergeable) i, after.1))
-      ∙ sym (alike done rest (parted t (before_down _) all ascends))
-      ∙ ap (λ l. pages_visited doing (pass_begun s.0, s.1) (filter t l)) (sym begun_all)
+      ∙ sym (alike done rest (parted t (before_down _) all ascends)))
 
 -- ---------------------------------------------------------------- visits of what is due
 
@@ -109,7 +88,7 @@ cursor_down cursor p q before fails = elim (cases_Bool (after_cursor cursor p)) 
 
 -- a page that does not come before one behind the cursor is behind the cursor
 no_earlier : (c : Option GuestPage) (p q : GuestPage) → after_cursor c p ≡ true → comes_before q p ≡ false → after_cursor c q ≡ true
-no_earlier c p q behind no_less = grind (arith, nat_tests, behind, no_less)
+no_earlier c p q behind no_less = grind (arith, nat_tests)
 
 -- of pages in order those not behind a cursor were visited, and some pages are due then
 module _ (s : BookState × Deed) (sound : IsSound s.0) (pages : List GuestPage) (rise : AreAscending pages)
@@ -135,7 +114,7 @@ module _ (s : BookState × Deed) (sound : IsSound s.0) (pages : List GuestPage) 
         (filter_passes u _ k d lt))
       where
         not-false : (b : Bool) → not (not b) ≡ true → b ≡ true
-        not-false b is = grind (arith, nat_tests, is)
+        not-false b is = grind (arith, nat_tests)
 
     -- where no page behind the cursor is due, all pages were visited
     pub all_visited : All (λ p. after_cursor cursor p ≡ false) due → due_visits doing s pages ≡ reached
@@ -145,13 +124,7 @@ module _ (s : BookState × Deed) (sound : IsSound s.0) (pages : List GuestPage) 
         ∙ stay (λ _. true) (λ q behind _. undue_by (after_cursor cursor) q behind none)
       where
         undue_by : (t : GuestPage → Bool) (q : GuestPage) → t q ≡ true → All (λ p. t p ≡ false) due → has_item q due ≡ false
-        undue_by t q is fails = elim (cases_Bool (has_item q due)) [
-          | inr out ↦ out
-          | inl there ↦
-              let at = place_of q due there in
-              absurd (both_ways (t q) (rw (← get_or_from_slice_get due _ q q at.1)
-              (fails at.0 q (slice_get_within due _ q at.1))) is)
-        ]
+        undue_by t q is fails = grind (arith, nat_tests, is, fails, place_of, get_or_from_slice_get, slice_get_within)
 
     module _ (page : GuestPage) (first : IsFirst cursor due page) where
       abbrev low : GuestPage → Bool
@@ -159,18 +132,11 @@ module _ (s : BookState × Deed) (sound : IsSound s.0) (pages : List GuestPage) 
 
       -- no page that is left and comes before it is due
       not_due : (q : GuestPage) → after_cursor cursor q ≡ true → low q ≡ true → has_item q due ≡ false
-      not_due q behind before = elim (cases_Bool (has_item q due)) [
-        | inr out ↦ out
-        | inl there ↦
-            let at = place_of q due there in
-            let none = subst (λ p. after_cursor cursor p ≡ true → low p ≡ false) (get_or_from_slice_get due _ q q at.1)
-            (first.2 at.0 q (slice_get_within due _ q at.1)) in
-            absurd (both_ways (low q) (none behind) before)
-      ]
+      not_due q behind before = grind (arith, nat_tests, behind, before, place_of, get_or_from_slice_get, slice_get_within)
 
       -- what was passed comes before it
       passed_low : (q : GuestPage) → passed q ≡ true → low q ≡ true
-      passed_low q is = grind (arith, nat_tests, is)
+      passed_low q is = grind (arith, nat_tests)
 
       -- the pages before it were visited
       pub before_visited : due_visits doing s (filter low pages) ≡ reached
@@ -189,25 +155,22 @@ module _ (s : BookState × Deed) (sound : IsSound s.0) (pages : List GuestPage) 
         | inl there ↦
             let at = place_of _ _ there in
             let splits = place_splits _ _ _ rise at.1 in
-            ap (due_visits doing s) (splits.1 ∙ take_one _ _ _ at.1 ∙ ap (λ l. l ++ page ∷ []) (sym splits.0))
-            ∙ visits_on (filter low pages) (page ∷ []) s
-            ∙ ap (λ z. due_visited doing z page) before_visited
+            rw (← before_visited)
+            (ap (due_visits doing s) (splits.1 ∙ take_one _ _ _ at.1 ∙ ap (λ l. l ++ page ∷ []) (sym splits.0))
+            ∙ visits_on (filter low pages) (page ∷ []) s)
         | inr out ↦
             ap (due_visits doing s) (filter_same _ low _ (λ k d lt. others _ (absent _ _ out k d lt))) ∙ before_visited
             ∙ sym (calm_stays _ _ (calm out))
       ]
         where
           calm : has_item page pages ≡ false → restless_at page reached.0.rows ≡ false
-          calm out = grind (arith, nat_tests, out)
+          calm out = grind (arith, nat_tests)
 
           others : (q : GuestPage) → same_page q page ≡ false → not (comes_before page q) ≡ low q
-          others q differ = grind (arith, nat_tests, differ)
+          others q differ = grind (arith, nat_tests)
 
           absent : (x : GuestPage) (ps : List GuestPage) → has_item x ps ≡ false → All (λ q. same_page q x ≡ false) ps
-          absent x ps out k d lt = elim (cases_Bool (same_page (get_or ps k d) x)) [
-            | inl is ↦ absurd (both_ways (has_item x ps) out (list_any_at _ ps k d lt is))
-            | inr differ ↦ differ
-          ]
+          absent x ps out k d lt = grind (arith, nat_tests, out, lt, list_any_at)
 
           take_one : (ps : List GuestPage) (n : ℕ) (p : GuestPage) → slice_get ps n ≡ Some p → take (suc n) ps ≡ take n ps ++ p ∷ []
           take_one [] n p is = cc
@@ -228,4 +191,4 @@ room_behind (Some p) = 2 ^ 48 - (p.guest * 2 ^ 32 + page_in p.page)
 -- there are fewer behind a page that is behind the cursor
 pub less_room : (cursor : Option GuestPage) (page : GuestPage) → FitsPage (Some page) → after_cursor cursor page ≡ true
     → room_behind (Some page) < room_behind cursor
-less_room cursor page h2 behind = grind (arith, nat_tests, h2, behind)
+less_room cursor page h2 behind = grind (arith, nat_tests)

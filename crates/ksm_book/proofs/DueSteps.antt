@@ -40,7 +40,7 @@ module _ (old mid : BookValue) (sound : IsSound old.state) (start : old.state.cu
     known page restless =
         let done = filter (λ p. not (after_cursor last p)) (pages_ahead s.0) in
         let begins = subst (λ (b : BookState). b.cursor ≡ None) before.0 start in
-        subst (λ l. has_item page l ≡ true) ((due_goes done s sound_now).mergeable ∙ sym (ahead_all s sound_now begins))
+        rw (← ((due_goes done s sound_now).mergeable ∙ sym (ahead_all s sound_now begins)))
         (restless_mergeable page (passed_to last s).0.rows restless)
 
   -- where no page behind the last is due, all pages ahead were visited
@@ -118,15 +118,15 @@ module _ (old mid : BookValue) (begins_so : Comes old mid (λ s. (pass_begun s.0
   pub part_visits : (new : BookValue) (last : Option GuestPage) (quiet : Bool)
       → HasVisited mid new (λ s. pages_visited doing s (ahead_up_to last s.0)) quiet → HasVisited old new (part_visited last) quiet
   part_visits new last quiet visited = record {
-    comes = λ from s before. visited.comes from (pass_begun s.0, s.1) (begins_so from s before);
+    comes = λ from s before. visited.comes from _ (begins_so from s before);
     still = λ is from s before. still_on s (pass_begun s.0, s.1) _ (begins_still s)
-        (visited.still is from (pass_begun s.0, s.1) (begins_so from s before));
+        (visited.still is from _ (begins_so from s before));
   }
 
   -- so where they stopped
   pub part_stopped : (new : BookValue) (last : Option GuestPage) (page : GuestPage) → StopsBefore mid new last page → StopsInPart old new last page
   part_stopped new last page stops = record {
     within = stops.within;
-    ahead = subst (λ l. has_item page l ≡ true) (ap pages_ahead begins_as ∙ begun_ahead old.state) stops.ahead;
-    comes = λ from s before. stops.comes from (pass_begun s.0, s.1) (begins_so from s before);
+    ahead = rw (← (ap pages_ahead begins_as ∙ begun_ahead old.state)) stops.ahead;
+    comes = λ from s before. stops.comes from _ (begins_so from s before);
   }

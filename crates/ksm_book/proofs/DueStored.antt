@@ -1,11 +1,8 @@
 -- A store to a page with a frame of its own: where the page is due, if it waited, what is due stays so.
-use Rattle.ksm_book.proofs.Names.{and_from, and_parts, ap, AreDue, arith, BookState, Bool, both_ways, cases_Bool, change_row, false, find_all, GuestPage, has_item, inl, InPageOrder, inr, is_restless, IsAlone, List, MatchOption, merged_state, not_from_false, Option, ordered_change, PageState, refl, Row, row_at, same_page, same_page_refl, same_Some, shared_state, Some, stored, subst, sym, true, true≢false, waiting_state, waits_on, ℕ, ◌∙◌, ◌∷◌, ◌≡◌, ◌||◌, nat_tests}
+use Rattle.ksm_book.proofs.Names.{and_from, and_parts, ap, AreDue, arith, BookState, Bool, both_ways, cases_Bool, change_row, false, find_all, GuestPage, has_item, inl, InPageOrder, inr, is_restless, IsAlone, List, MatchOption, not_from_false, Option, ordered_change, refl, Row, row_at, same_page, same_page_refl, same_Some, shared_state, Some, stored, subst, sym, true, true≢false, waiting_state, waits_on, ℕ, ◌∙◌, ◌∷◌, ◌≡◌, ◌||◌, nat_tests}
 use Rattle.ksm_book.proofs.ByPage.{at_changed, found_page}
 use Rattle.ksm_book.proofs.DueKept.{changed_due, more_due, on_tells, undue}
-
--- a row with a frame of its own is not merged
-unmerged : (state : PageState) → shared_state state ≡ false → merged_state state ≡ false
-unmerged state own = grind (arith, nat_tests, own)
+use Rattle.ksm_pages.proofs.Joined.{own_not_merged}
 
 module _ (b : BookState) (page : GuestPage) (bytes : List ℕ) (row : Row) (pages : List GuestPage) (rise : InPageOrder b.rows)
     (found : row_at page b.rows ≡ Some row) (own : shared_state row.state ≡ false) (was : AreDue b pages)
@@ -17,11 +14,11 @@ module _ (b : BookState) (page : GuestPage) (bytes : List ℕ) (row : Row) (page
   -- the page is due beside what was
   beside : AreDue after (page ∷ pages)
   beside = changed_due b _ _ _ rise (λ r. refl)
-      (λ r at. (rw (← same_Some row r (sym found ∙ at)) (unmerged _ own), refl)) was
+      (λ r at. (rw (← same_Some row r (sym found ∙ at)) (own_not_merged _ own), refl)) was
 
   -- where the page was due nothing is due beside what was
   within : has_item page pages ≡ true → (p : GuestPage) → has_item p (page ∷ pages) ≡ true → has_item p pages ≡ true
-  within is p there = grind (arith, nat_tests, is, there)
+  within is p there = grind (arith, nat_tests)
 
   -- where it was not due no visit may change its row
   calm : has_item page pages ≡ false → (r : Row) → row_at page after.rows ≡ Some r → is_restless r ≡ true → waits_on after r ≡ true
@@ -44,7 +41,7 @@ module _ (b : BookState) (page : GuestPage) (bytes : List ℕ) (row : Row) (page
 -- a page with a frame of its own has a row
 alone_row : (rows : List Row) (page : GuestPage) → IsAlone page rows
     → (row : Row) × (row_at page rows ≡ Some row) × (shared_state row.state ≡ false)
-alone_row rows page alone = grind (arith, nat_tests, alone)
+alone_row rows page alone = grind (arith, nat_tests)
 
 -- where the page does not wait, what is due stays so
 pub stored_calm : (b : BookState) (page : GuestPage) (pages : List GuestPage) (waits : Bool) → InPageOrder b.rows → IsAlone page b.rows
@@ -52,9 +49,8 @@ pub stored_calm : (b : BookState) (page : GuestPage) (pages : List GuestPage) (w
     → (bytes : List ℕ) → AreDue (record b { rows = change_row page (stored bytes) b.rows }) pages
 stored_calm b page pages waits rise alone was told none bytes =
     let at = alone_row b.rows page alone in
-    let row = at.0 in
     let is = subst (λ (o : Option Row). MatchOption o (waits ≡ false) (λ r. waits ≡ waiting_state r.state)) at.1 told in
-    stored_due b _ bytes row _ rise at.1 at.2 was (λ waiting. absurd (true≢false (sym waiting ∙ sym is ∙ none)))
+    stored_due b _ bytes at.0 _ rise at.1 at.2 was (λ waiting. absurd (true≢false (sym waiting ∙ sym is ∙ none)))
 
 -- where the page is due beside what was, that is so once bytes are stored to it
 pub stored_added : (b : BookState) (page : GuestPage) (old new : List GuestPage) → InPageOrder b.rows → IsAlone page b.rows
@@ -66,4 +62,4 @@ stored_added b page old new rise alone was added bytes =
     (λ _. added page ∙ ap (λ z. z || has_item page old) (same_page_refl page))
   where
     more : (p : GuestPage) → has_item p old ≡ true → has_item p new ≡ true
-    more p is = let tells = added p in grind (arith, tells, is)
+    more p is = let tells = added p in grind arith

@@ -10,10 +10,9 @@ use Rattle.ksm_book.proofs.RowVisits.{Meets, page_is, there_is}
 pub waits_due : {p q : PagesView} {k : KeeperView} {cursor : Option GuestPage} {passes : ℕ} {v : BookView} {page : GuestPage}
     → Meets (λ _ r. FindsAt p q r finds.Waits) p k cursor passes v page → IsDueNoMore page v.state (state_of q cursor passes)
 waits_due {p} {q} {cursor = cursor} {passes} {v} {page} at pages was =
-    let b = state_of p cursor passes in
     let so = at.so in
     rw so.5
-    (waits_undue b _ (there_is at) so.0 so.1 so.2 so.3 at.sound.rows_rise pages
+    (waits_undue (state_of p cursor passes) _ (there_is at) so.0 so.1 so.2 so.3 at.sound.rows_rise pages
     (rw (page_is at) (subst (λ (x : BookView). AreDue x.state (page ∷ pages)) (sym at.is) was)))
 
 -- a page found gone is not due
@@ -33,4 +32,4 @@ gone_due p q cursor passes page rise is = by _ refl is
 pub listed_due : (b : BookState) (pages : List GuestPage) → InPageOrder b.rows → AreListed b.rows pages → AreDue b pages
 listed_due b pages rise listed k d lt restless out =
     let r = get_or b.rows k d in
-    absurd (true≢false (sym (listed.1 r.page (ap restless_row (each_at_page _ rise k d lt) ∙ restless)) ∙ out))
+    absurd (true≢false (sym (listed.1 _ (ap restless_row (each_at_page _ rise k d lt) ∙ restless)) ∙ out))

@@ -1,6 +1,5 @@
 -- The pages that are due, as they are kept: which there are once one came or went, and the first behind a cursor.
 use Rattle.ksm_book.proofs.Names.{[], after_cursor, All, All-cons, All-map, any-filter_same, ap, append-nil, AreDue, arith, BookState, length, before_irrefl, Bool, cases_Bool, comes_before, Err, false, filter, find, get_or, GuestPage, has_item, inl, inr, is_some, List, list_any, map, MatchOption, nat_tests, None, not, not_both, Ok, Option, pages_ordered, pairs_head, pairs_tail, refl, Result, same_page, same_page_eq, same_page_refl, Some, subst, sym, true, true≢false, ◌&&◌, ◌++◌, ◌||◌, ◌==◌, ◌∙◌, ◌∷◌, ◌≡◌, if◌then◌else◌}
-use Rattle.std.proofs.Common.{ap₂}
 use Rattle.std.proofs.lemmas.List.Folds.{list_any-append}
 use Rattle.std.specs.Prelude.{OnErr, OnOk}
 use Rattle.ksm_pages.specs.Held.{pages_of}
@@ -21,12 +20,12 @@ any_named x (m ∷ order) = rw (any_named x order)
 -- a page is there exactly where a search finds it
 pub has_found : (x : GuestPage) (order : List Named) → has_item x (pages_in order) ≡ is_some (find (is_of x) order)
 has_found x [] = refl
-has_found x (m ∷ order) = let rest = has_found x order in grind (arith, rest)
+has_found x (m ∷ order) = let rest = has_found x order in grind arith
 
 joined : (x : GuestPage) (some more : List Named)
     → has_item x (pages_in (some ++ more)) ≡ (has_item x (pages_in some) || has_item x (pages_in more))
 joined x [] more = refl
-joined x (m ∷ some) more = let rest = joined x some more in grind (arith, rest)
+joined x (m ∷ some) more = let rest = joined x some more in grind arith
 
 picked : (u : GuestPage → Bool) (x : GuestPage) (order : List Named)
     → has_item x (pages_in (filter (λ m. u m.page) order)) ≡ (u x && has_item x (pages_in order))
@@ -37,10 +36,7 @@ picked u x order =
 -- a page that is put in is there, and the others as before
 pub has_put : (n : Named) (order : List Named) (x : GuestPage)
     → has_item x (pages_in (with_named n order)) ≡ (same_page n.page x || has_item x (pages_in order))
-has_put n order x =
-    let low = picked (λ p. comes_before p n.page) x order in
-    let high = picked (λ p. comes_before n.page p) x order in
-    joined x _ _ ∙ ap₂ (λ b d. b || (same_page n.page x || d)) low high ∙ (grind (arith, nat_tests))
+has_put n order x = grind (arith, nat_tests, picked (λ p. comes_before p n.page) x order, picked (λ p. comes_before n.page p) x order, joined)
 
 -- a page that is taken out is there no more, and the others as before
 pub has_taken : (page : GuestPage) (order : List Named) (x : GuestPage)
@@ -59,7 +55,7 @@ taken_rises page order rise = without_rises pages_ordered (λ (m : Named). m.pag
 -- a page that is there is so with itself put in
 pub has_already : (page : GuestPage) (pages : List GuestPage) → has_item page pages ≡ true
     → (x : GuestPage) → has_item x pages ≡ (same_page page x || has_item x pages)
-has_already page pages has x = grind (arith, nat_tests, has)
+has_already page pages has x = grind (arith, nat_tests)
 
 -- the pages stay in order where one is put in, or memory was refused
 pub inserted_rises : {T E : Type 0} (r : Result T E) (n : Named) (old new : List Named) → AreAscending old
@@ -82,19 +78,13 @@ pub inserted_has : {T E : Type 0} (r : Result T E) (n : Named) (old new : List N
     → pages_in old ++ more ≡ pages → OnOk r (new ≡ with_named n old)
     → OnOk r ((x : GuestPage) → has_item x (pages_in new ++ more) ≡ (same_page n.page x || has_item x pages))
 inserted_has (Err e) n old new more pages same added = tt
-inserted_has (Ok u) n old new more pages same added = λ x.
-    rw (added, ← (sym (has_either x (pages_in old) more) ∙ ap (has_item x) same))
-    (has_either x _ _ ∙ ap (λ b. b || has_item x more) (has_put n old x)
-    ∙ turned (same_page n.page x) (has_item x (pages_in old)) (has_item x more))
-  where
-    turned : (a b c : Bool) → ((a || b) || c) ≡ (a || (b || c))
-    turned a b c = grind arith
+inserted_has (Ok u) n old new more pages same added = λ x. grind (arith, nat_tests, same, added, has_either, has_put)
 
 -- where all is ready no page was added that does not stand in order
 pub none_added : (known : Bool) (order : List Named) (added : List Spot) → (known && length added == 0) ≡ true
     → pages_in order ++ pages_of added ≡ pages_in order
 none_added known order [] is = append-nil (pages_in order)
-none_added known order (s ∷ added) is = absurd (grind (arith, is))
+none_added known order (s ∷ added) is = absurd (grind arith)
 
 -- where the same pages are there, the same are due
 pub same_due : (b : BookState) (old new : List GuestPage) → ((x : GuestPage) → has_item x new ≡ has_item x old)
@@ -142,7 +132,7 @@ module _ (cursor : Option GuestPage) where
         → TellsFirst cursor (pages_in (m ∷ order)) o
     over not_yet None none = All-cons (λ p. after_cursor cursor p ≡ false) m.page _ not_yet none
     over not_yet (Some n) (has, after, first) = (
-      (grind (arith, has)),
+      (grind arith),
       after,
       All-cons (λ p. after_cursor cursor p ≡ true → comes_before p n.page ≡ false) m.page (pages_in order)
           (λ is. absurd (true≢false (sym is ∙ not_yet))) first,
@@ -158,7 +148,6 @@ module _ (cursor : Option GuestPage) where
     | inl is ↦
         subst (TellsFirst cursor (pages_in (m ∷ order))) (sym (is_found m _ rise true is)) (here m _ rise is)
     | inr not_yet ↦
-        let rest = first_found order (pairs_tail (λ a b. comes_before a.page b.page ≡ true) m _ rise) in
         subst (TellsFirst cursor (pages_in (m ∷ order))) (sym (is_found m _ rise false not_yet))
-        (over m _ rise not_yet _ rest)
+        (over m _ rise not_yet _ (first_found order (pairs_tail (λ a b. comes_before a.page b.page ≡ true) m _ rise)))
   ]

@@ -14,7 +14,7 @@ module _ (b : BookState) (place node : ℕ) (dup : DupRow) (found : Some dup ≡
   module _ (home : b.knobs.merge_across_nodes ≡ 0 → node ≡ dup.tree) where
     -- where it is to move is another node only where pages merge across nodes
     pub at_home : crosses b node (Some dup) ≡ false
-    at_home = grind (arith, nat_tests, home)
+    at_home = grind (arith, nat_tests)
 
 -- the command is carried out where the dup moved to a frame of the node, or stayed, as it answers
 module _ (p q : PagesView) (k l : KeeperView) (cursor : Option GuestPage) (passes place node : ℕ) (dup : DupRow)

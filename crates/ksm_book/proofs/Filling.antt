@@ -43,11 +43,11 @@ module _ (v w : KeeperView) (node g : ℕ) (less : node < v.table.shape.nodes) (
 
   -- the frame found is one of the table
   pub found_inside : g < frames_of sh
-  found_inside = let end = node_end _ _ sh.frames_per_node less in let high = finds.lowest.high in omega (arith, end, high)
+  found_inside = let end = node_end _ _ sh.frames_per_node less in let high = finds.lowest.high in omega arith
 
   -- the frame found is one that the keeper knows
   pub found_within : g < length w.ledger.frames
-  found_within = let long = found_placed.frames_long in let i = found_inside in omega (arith, long, i)
+  found_within = let long = found_placed.frames_long in let i = found_inside in omega arith
 
   -- once the frame found is raised it is ready to be filled
   pub raised_ready : (r : KeeperView) (n : ℕ) → r ≡ did w (Raise g) n
@@ -57,8 +57,8 @@ module _ (v w : KeeperView) (node g : ℕ) (less : node < v.table.shape.nodes) (
       let room = length-set w.ledger.frames g note in
       let within = found_within in
       let at = at_again w.ledger g within note in
-      let inside : g < length (with_frame w.ledger g note).frames = omega (arith, room, within) in
-      rw is (inside, at, ap (λ (x : Note). length x.content) at ∙ found_placed.widths g)
+      let inside : g < length (with_frame w.ledger g note).frames = omega arith in
+      rw is (inside, at, rw at (found_placed.widths g))
 
 -- ---------------------------------------------------------------- a frame is taken
 
@@ -76,7 +76,7 @@ module _ {v w : KeeperView} {node : ℕ} {bytes : List ℕ} {g : ℕ} (less : no
       let now = ap (λ z. frame_at z g) taken_ledger ∙ at_again u.ledger g (found_within v u _ g less l h.finds) own in
       let was = ap (λ (x : Kind). spent_on (record { kind = x; base = (frame_at u.ledger g).base; generation = (frame_at u.ledger g).generation; content = (frame_at u.ledger g).content })) free in
       let is = (let e : (frame_at u.ledger g).generation + 1 - 1 ≡ (frame_at u.ledger g).generation = omega arith in e) in
-      let more = spent_kept u.ledger g own (omega (arith, was, is)) in
+      let more = spent_kept u.ledger g own (omega arith) in
       let before = searched_spends _ h.finds.reaped in
       let end = ap spent taken_ledger in
       record {
@@ -89,13 +89,13 @@ module _ {v w : KeeperView} {node : ℕ} {bytes : List ℕ} {g : ℕ} (less : no
             rw taken_ledger
             (noted q g (found_inside v u _ g less l h.finds) own _ (record {
               wide = long;
-              lived = (omega arith, omega (arith, left));
-              base = omega (arith, one, none, base);
+              lived = (omega arith, omega arith);
+              base = omega arith;
               fits = refl;
-              same = λ some. absurd (omega (arith, none, base, some));
+              same = λ some. absurd (omega arith);
               life = inl (omega arith);
             }) (λ f ne. one_other f _ (λ e. ne (sym (same_Some g f e)))));
-        spent = omega (arith, before, more, end);
+        spent = omega arith;
         frame = found_inside v u _ g less l h.finds;
         kind = rw now;
         content = rw now;
@@ -114,7 +114,7 @@ add_more v w w' f n found so_far is =
 pub words_kept : (v w : KeeperView) (f g found : ℕ) → (frame_at v.ledger g).kind ≡ Free → (frame_at v.ledger f).kind ≡ Dying → w ≡ did v (Raise g) found
     → (frame_at w.ledger f).content ≡ (frame_at v.ledger f).content
 words_kept v w f g found free dying is =
-    let apart : f ≢ g = λ same. (let e = sym free ∙ ap (λ x. (frame_at v.ledger x).kind) (sym same) ∙ dying in grind (arith, e)) in
+    let apart : f ≢ g = λ same. (let e = sym free ∙ ap (λ x. (frame_at v.ledger x).kind) (sym same) ∙ dying in grind arith) in
     rw (is, get_or-set_other v.ledger.frames g f (raised (frame_at v.ledger g)) blank apart)
 
 -- a frame is raised, words of another are loaded and stored there, it is opened, references come, and the place names it

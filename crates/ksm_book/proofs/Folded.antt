@@ -1,8 +1,8 @@
 -- The visits of a pass are a fold over its pages, only restless pages count, and a quiet pass is repeated by those behind it.
-use Rattle.ksm_book.proofs.Names.{[], after_cursor, All, All-head, All-tail, AllPairs-filter, and_parts, ap, append-nil, AreAscending, arith, begun, best_dup, BookState, Bool, cases_Bool, comes_before, cond_both, each_at_page, false, filter, filter_all, find_all, find_passes, get_or, GuestPage, handled, has_item, inl, InPageOrder, inr, is_none, IsBeside, IsStill, last_of, length, List, map, mergeable_pages, min, next_row, next_visited, None, not, not-true, Option, option_map, page_visited, pages_ahead, pages_visited, PageState, pass_at, pass_begun, pass_ended, pass_ended_at_last, refl, restless_at, Row, row_at, row_visited, rowwise_visits, same_page, same_page_eq, settled, settled_state, shared_state, slice_get, Some, subst, suc, suc-mul, sym, true, visit, visit_begun, visit_of, visited, visits, visits_beside, with_none_waiting, zero, zero-mul, ℕ, ◌&&◌, ◌*◌, ◌++◌, ◌+◌, ◌-◌, ◌^◌, ◌∙◌, ◌∷◌, ◌≡◌, ◌≤◌, map_mapped, if◌then◌else◌, and_right, pairs_mapped, ⊤, nat_tests}
+use Rattle.ksm_book.proofs.Names.{[], after_cursor, All, All-head, All-tail, AllPairs-filter, and_parts, ap, append-nil, AreAscending, arith, begun, BookState, Bool, cases_Bool, comes_before, cond_both, each_at_page, false, filter, filter_all, find_all, find_passes, GuestPage, has_item, inl, InPageOrder, inr, is_none, IsBeside, IsStill, last_of, length, List, map, mergeable_pages, min, next_row, next_visited, None, not, not-true, Option, option_map, page_visited, pages_ahead, pages_visited, pass_at, pass_begun, pass_ended, pass_ended_at_last, refl, restless_at, Row, row_at, row_visited, rowwise_visits, same_page, same_page_eq, settled, shared_state, slice_get, Some, subst, suc, suc-mul, sym, true, visit, visit_begun, visit_of, visited, visits, visits_beside, with_none_waiting, zero, ℕ, ◌&&◌, ◌*◌, ◌++◌, ◌+◌, ◌-◌, ◌^◌, ◌∙◌, ◌∷◌, ◌≡◌, ◌≤◌, map_mapped, if◌then◌else◌, and_right, pairs_mapped, ⊤, nat_tests}
 use Rattle.ksm_book.proofs.Going.{Goes, begun_goes, elsewhere, goes_on, mergeable_kept, goes_same, settled_goes, visited_goes}
 use Rattle.ksm_book.proofs.PagesAhead.{Before, behind_first, filter_in, filter_out, has_filter, same_pages}
-use Rattle.ksm_book.proofs.ByPage.{mapped_from, none_mapped}
+use Rattle.ksm_pages.proofs.Options.{mapped_some, none_mapped}
 
 -- ---------------------------------------------------------------- the page that is visited next
 
@@ -11,12 +11,12 @@ pub next_first : (cursor : Option GuestPage) (rows : List Row)
     → option_map (λ r. r.page) (next_row cursor rows) ≡ slice_get (filter (after_cursor cursor) (mergeable_pages rows)) 0
 next_first cursor [] = refl
 next_first cursor (r ∷ rows) =
-    let rest = next_first cursor rows in grind (arith, rest)
+    let rest = next_first cursor rows in grind arith
 
 -- the next row, where a page is ahead
 some_next : (c : BookState) (page : GuestPage) (more : List GuestPage) → pages_ahead c ≡ page ∷ more
     → (row : Row) × (next_row c.cursor c.rows ≡ Some row) × (row.page ≡ page)
-some_next c page more is = mapped_from _ _ _ (next_first c.cursor c.rows ∙ ap (λ l. slice_get l 0) is)
+some_next c page more is = mapped_some _ _ _ (next_first c.cursor c.rows ∙ ap (λ l. slice_get l 0) is)
 
 -- where no page is ahead there is no next row
 pub none_next : (c : BookState) → pages_ahead c ≡ [] → next_row c.cursor c.rows ≡ None
@@ -55,10 +55,7 @@ last_stands page (next ∷ pages) = last_stands next pages
 
 -- rows that settled are settled
 pub settled_twice : (rows : List Row) → map settled (map settled rows) ≡ map settled rows
-settled_twice rows = map_mapped _ _ _ _ (λ i d lt t. record (get_or rows i d) { state = same (get_or rows i d).state t })
-  where
-    same : (s : PageState) → settled_state (settled_state s) ≡ settled_state s
-    same s = grind (arith, nat_tests)
+settled_twice rows = grind (arith, nat_tests, map_mapped)
 
 -- every page is behind an empty cursor
 pub every_page : (rows : List Row) → filter (after_cursor None) (mergeable_pages rows) ≡ mergeable_pages rows
@@ -80,9 +77,9 @@ module _ {X : Type 0} (step : BookState → X → Row → X) where
 
   -- n visits and then k come to the same as n + k visits
   pub beside_on : (n k m : ℕ) (s : BookState × X) → m ≡ n + k → visits_beside step m s ≡ visits_beside step k (visits_beside step n s)
-  beside_on n zero m s sum = let same : m ≡ n = omega (arith, sum) in rw same
+  beside_on n zero m s sum = let same : m ≡ n = omega arith in rw same
   beside_on n (suc k) m s sum =
-      (let more : m ≡ suc (n + k) = omega (arith, sum) in rw more) ∙ ap one_visit (beside_on n k (n + k) s refl)
+      (let more : m ≡ suc (n + k) = omega arith in rw more) ∙ ap one_visit (beside_on n k (n + k) s refl)
 
   -- the book after n visits with what they do beside is the book after n visits
   pub beside_state : (n : ℕ) (s : BookState × X) → (visits_beside step n s).0 ≡ visits n s.0
@@ -118,7 +115,7 @@ module _ {X : Type 0} (step : BookState → X → Row → X) where
 
   -- the visit of a page that is not restless changes nothing
   calm_stays : (s : BookState × X) (page : GuestPage) → restless_at page s.0.rows ≡ false → page_visited step s page ≡ s
-  calm_stays s page calm = grind (arith, nat_tests, calm)
+  calm_stays s page calm = grind (arith, nat_tests)
 
   -- what the visit of a page keeps of the rows
   page_goes : (s : BookState × X) (page : GuestPage) → InPageOrder s.0.rows → Goes s.0.rows (page_visited step s page).0.rows
@@ -136,9 +133,8 @@ module _ {X : Type 0} (step : BookState → X → Row → X) where
   pub pages_go : (pages : List GuestPage) (s : BookState × X) → InPageOrder s.0.rows → Goes s.0.rows (pages_visited step s pages).0.rows
   pages_go [] s rise = goes_same _
   pages_go (page ∷ pages) s rise =
-      let next = page_visited step s page in
       let first = page_goes s page rise in
-      goes_on _ _ _ first (pages_go pages next (first.order rise))
+      goes_on _ _ _ first (pages_go pages (page_visited step s page) (first.order rise))
 
   -- visits of some pages and of one page more are the visits of those pages and then the visit of that one
   pub visited_more : (pages : List GuestPage) (s : BookState × X) (page : GuestPage)
@@ -159,7 +155,7 @@ module _ {X : Type 0} (step : BookState → X → Row → X) where
         | inl stays ↦
             ap (pages_visited step s) (filter_in t _ _ stays)
             ∙ settled_out t pages (page_visited step s page) (first.order rise)
-            (λ k d lt off. first.calm (get_or pages k d) (rest k d lt off))
+            (λ k d lt off. first.calm _ (rest k d lt off))
         | inr goes_out ↦
             rw (calm_stays s _ (All-head P _ _ calm goes_out))
             (ap (pages_visited step s) (filter_out t _ _ goes_out) ∙ settled_out t pages s rise rest)
@@ -179,7 +175,7 @@ module _ {X : Type 0} (step : BookState → X → Row → X) where
       t page = restless_at page s.0.rows
 
       alike : (x : GuestPage) → has_item x (filter t ps) ≡ has_item x (filter t qs)
-      alike x = has_filter t x ps ∙ (let is = same x in grind (arith, is)) ∙ sym (has_filter t x qs)
+      alike x = has_filter t x ps ∙ (let is = same x in grind arith) ∙ sym (has_filter t x qs)
 
   module _ (beside : IsBeside step) where
     -- the visit of the next row is that of its page
@@ -197,13 +193,7 @@ module _ {X : Type 0} (step : BookState → X → Row → X) where
         mergeable = (and_parts _ _ (find_passes (λ r. r.mergeable && after_cursor c.cursor r.page) c.rows row next)).0
 
         by : (z : Bool) → shared_state row.state ≡ z → visited step s (Some row) ≡ (row_visited c row, step c s.1 row)
-        by true is =
-            (λ t. if mergeable t && not (is t) then (row_visited c row, step c s.1 row) else s)
-            ∙ (λ t. (
-              sym (ap (λ (z : Bool). if z then c else handled (best_dup c.knobs c.rows c.dups row) c row) is) t,
-              sym
-                  (beside.shared c s.1 row is) t,
-            ))
+        by true is = grind (arith, nat_tests, is, mergeable)
         by false is = λ t. if mergeable t && not (is t) then (row_visited c row, step c s.1 row) else s
 
     -- visits of pages do the same wherever the cursor stands and however many passes have ended
@@ -212,15 +202,7 @@ module _ {X : Type 0} (step : BookState → X → Row → X) where
       moved s = (elsewhere cursor passes s.0, s.1)
 
       page_alike : (s : BookState × X) (page : GuestPage) → page_visited step (moved s) page ≡ moved (page_visited step s page)
-      page_alike s page = by _
-        where
-          either : (r : Row) (z : Bool)
-              → (if z then (row_visited (elsewhere cursor passes s.0) r, step (elsewhere cursor passes s.0) s.1 r) else moved s)
-              ≡ moved (if z then (row_visited s.0 r, step s.0 s.1 r) else s)
-          either r z = grind (arith, nat_tests)
-
-          by : (o : Option Row) → visited step (moved s) o ≡ moved (visited step s o)
-          by o = grind (arith, nat_tests)
+      page_alike s page = grind (arith, nat_tests)
 
       -- visits of pages from another cursor and count of passes come to the same, but for that cursor and count
       pub pages_alike : (pages : List GuestPage) (s : BookState × X)
@@ -236,12 +218,8 @@ module _ {X : Type 0} (step : BookState → X → Row → X) where
         ≡ pass_at done left (pages_visited step (record v.0 { cursor = Some page }, v.1) done))
         → visits_beside step (length done) (pass_ended_at_last (record v.0 { cursor = Some page }), v.1)
         ≡ pass_at (page ∷ done) left (pages_visited step v done)
-    first_done page [] [] v is rest =
-        let here : BookState = record v.0 { cursor = Some page } in
-        λ t. (if is_none (none_next here is t) then pass_ended here else here, v.1)
-    first_done page [] (next ∷ left) v is rest =
-        let here : BookState = record v.0 { cursor = Some page } in
-        λ t. (pass_goes_on here _ _ is t, v.1)
+    first_done page [] [] v is rest = grind (arith, nat_tests, is, rest, none_next)
+    first_done page [] (next ∷ left) v is rest = λ t. (pass_goes_on (record v.0 { cursor = Some page }) _ _ is t, v.1)
     first_done page (next ∷ done) left v is rest =
         let here : BookState = record v.0 { cursor = Some page } in
         let after = pages_visited step v (next ∷ done) in
@@ -256,7 +234,7 @@ module _ {X : Type 0} (step : BookState → X → Row → X) where
     along : (done left : List GuestPage) (s : BookState × X) → InPageOrder s.0.rows → 1 ≤ length (done ++ left)
         → pages_ahead s.0 ≡ done ++ left
         → goes (length done) s ≡ pass_at done left (pages_visited step s done)
-    along [] [] s rise some is = absurd (omega (arith, some))
+    along [] [] s rise some is = absurd (omega arith)
     along [] (next ∷ left) s rise some is = refl
     along (page ∷ done) left s rise some is =
         let next = some_next s.0 _ _ is in
@@ -267,16 +245,16 @@ module _ {X : Type 0} (step : BookState → X → Row → X) where
         let going = subst (λ (z : BookState × X). Goes s.0.rows z.0.rows) visit (page_goes s _ rise) in
         let ahead = ap (filter (after_cursor (Some page))) going.mergeable
         ∙ behind_first _ _ _ _ (ascending_mergeable _ rise) is in
-        (λ t. visits_beside step (length done) (next_visited step s (next.1 t)))
+        rw visit
+        ((λ t. visits_beside step (length done) (next_visited step s (next.1 t)))
         ∙ (λ t. visits_beside step (length done) (pass_ended_at_last (record v.0 { cursor = Some (next.2 t) }), v.1))
-        ∙ first_done _ done left v ahead (λ more. along done left here (going.order rise) more ahead)
-        ∙ ap (λ z. pass_at (page ∷ done) left (pages_visited step z done)) (sym visit)
+        ∙ first_done _ done left v ahead (λ more. along done left here (going.order rise) more ahead))
 
     -- as many visits as pages in a first part of those ahead are the visits of these; the pass ends if none is left
     pub visits_folded : (s : BookState × X) (done left : List GuestPage) → InPageOrder s.0.rows → 1 ≤ length done
         → pages_ahead (visit_begun s.0) ≡ done ++ left
         → visits_beside step (length done) s ≡ pass_at done left (pages_visited step (begun s) done)
-    visits_folded s [] left rise some is = absurd (omega (arith, some))
+    visits_folded s [] left rise some is = absurd (omega arith)
     visits_folded s (page ∷ done) left rise some is =
         visits_go (length done) s ∙ along (page ∷ done) left (begun s) ((begun_goes s.0).order rise) (omega arith) is
 
@@ -286,14 +264,16 @@ module _ {X : Type 0} (step : BookState → X → Row → X) where
         → begun (visits_beside step (length done) s) ≡ pass_at done (next ∷ left) (pages_visited step (begun s) done)
     begun_folded s [] next left rise is = refl
     begun_folded s (page ∷ done) next left rise is =
-        let order = (begun_goes s.0).order rise in
-        let after = pages_visited step (begun s) (page ∷ done) in
-        let last = last_stands page done in
-        let here : BookState = record after.0 { cursor = last_of (Some page) done } in
-        let ahead = ap (filter (after_cursor here.cursor)) (pages_go (page ∷ done) (begun s) order).mergeable
-        ∙ behind_done (page ∷ done) _ _ _ (ascending_mergeable _ order) is in
-        ap begun (visits_folded s (page ∷ done) (next ∷ left) rise (omega arith) is)
-        ∙ (λ t. (begun_goes_on here _ next left last.1 ahead t, after.1))
+        grind (
+          arith,
+          nat_tests,
+          rise,
+          is,
+          last_stands page done,
+          visits_folded s (page ∷ done) (next ∷ left) rise (omega arith) is,
+          behind_done,
+          begun_goes_on,
+        )
 
     -- ---------------------------------------------------------------- pass after pass
 
@@ -328,12 +308,10 @@ module _ {X : Type 0} (step : BookState → X → Row → X) where
 
         again_times : (times passes : ℕ) → passes ≤ 2 ^ 64 - 1
             → visits_beside step (times * length all) (ended passes) ≡ ended (min (passes + times) (2 ^ 64 - 1))
-        again_times zero passes small =
-            let same : passes ≡ min (passes + 0) (2 ^ 64 - 1) = omega (arith, small) in
-            rw (zero-mul (length all)) (ap ended same)
+        again_times zero passes small = grind (arith, nat_tests, small)
         again_times (suc times) passes small =
             let so_far = min (passes + times) (2 ^ 64 - 1) in
-            let more : min (so_far + 1) (2 ^ 64 - 1) ≡ min (passes + suc times) (2 ^ 64 - 1) = omega (arith, small) in
+            let more : min (so_far + 1) (2 ^ 64 - 1) ≡ min (passes + suc times) (2 ^ 64 - 1) = omega arith in
             beside_on (times * length all) (length all) (suc times * length all) (ended passes) (omega (arith, suc-mul times (length all)))
             ∙ ap (visits_beside step (length all)) (again_times times passes small) ∙ again _ ∙ ap ended more
 

@@ -69,7 +69,7 @@ same_kinds asked k f note same g = elim (cases_eq g f) [
     at_frame = elim (cases_lt f _) [
       | inl within ↦ rw (get_or-set_same k.frames f note blank within) same
       | inr beyond ↦ ap (λ (n : Note). asked n.kind)
-          (get_or_past _ f _ (omega (arith, beyond, length-set k.frames f note)) ∙ sym (get_or_past _ f _ beyond))
+          (get_or_past _ f _ (omega (arith, length-set k.frames f note)) ∙ sym (get_or_past _ f _ beyond))
     ]
 
 -- a frame that has lost a reference of the keeper, and has one left, is of the kind that it was
@@ -78,7 +78,7 @@ kind_left k f left = elim (cases_lt f _) [
   | inl within ↦
       let stands = ap (λ (n : Note). n.base) (get_or-set_same k.frames f (lowered (frame_at k f)) blank within) in
       rw (ne_eqb (frame_at k f).base 1 (λ one. left (stands ∙ ap (λ n. n - 1) one)))
-  | inr beyond ↦ absurd (left (ap (λ (n : Note). n.base) (get_or_past _ f _ (omega (arith, beyond, length-set k.frames f (lowered (frame_at k f)))))))
+  | inr beyond ↦ absurd (left (ap (λ (n : Note). n.base) (get_or_past _ f _ (omega (arith, length-set k.frames f (lowered (frame_at k f)))))))
 ]
 
 -- where a free frame was raised, and marked by its kind among the free ones, the sets are those of the free and the dying frames

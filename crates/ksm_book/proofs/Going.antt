@@ -1,5 +1,5 @@
 -- The visit of a row: it keeps which pages scans visit, makes no page restless, and does the same wherever the cursor stands.
-use Rattle.ksm_book.proofs.Names.{All, ap, arith, best_dup, BookState, Bool, change_row, change_rows, cond_both, DupRow, false, find_all, get_or, GuestPage, handled, InPageOrder, is_for_zero, is_none, is_some, List, map, mergeable_pages, next_row, None, not, one_of_each_page, Option, option_map, ordered_map, PageState, paired, partner, pass_begun, pass_ended, refl, restless_at, restless_row, Row, row_at, row_visited, same_page, settled, settled_state, shared_state, Some, stayed, subst, sym, true, true≢false, visit_begun, Zero, ℕ, ◌&&◌, ◌∙◌, ◌≡◌, if◌then◌else◌, filter_mapped, map_mapped, find_mapped, filter, nat_tests}
+use Rattle.ksm_book.proofs.Names.{All, ap, arith, best_dup, BookState, Bool, change_row, change_rows, cond_both, DupRow, false, find_all, get_or, GuestPage, handled, InPageOrder, is_for_zero, is_none, is_some, List, map, mergeable_pages, next_row, None, not, one_of_each_page, Option, option_map, ordered_map, PageState, paired, partner, pass_begun, pass_ended, refl, restless_at, restless_row, Row, row_at, row_visited, same_page, settled, settled_state, shared_state, Some, stayed, subst, sym, true, true≢false, visit_begun, Zero, ℕ, ◌&&◌, ◌∙◌, ◌≡◌, if◌then◌else◌, filter_mapped, map_mapped, find_mapped, nat_tests}
 use Rattle.ksm_base.specs.declared.row.PageState.TheVariants.{Private}
 
 -- ---------------------------------------------------------------- wherever the cursor stands
@@ -10,16 +10,13 @@ module _ (cursor : Option GuestPage) (passes : ℕ) where
   elsewhere b = record b { cursor = cursor; passes = passes }
 
   either : (z : Bool) (a b c d : BookState) → c ≡ elsewhere a → d ≡ elsewhere b → (if z then c else d) ≡ elsewhere (if z then a else b)
-  either z a b c d e f = grind (arith, nat_tests, e, f)
+  either z a b c d e f = grind (arith, nat_tests)
 
   paired_alike : (w : Option Row) (b : BookState) (row : Row) → paired w (elsewhere b) row ≡ elsewhere (paired w b row)
   paired_alike w b row = grind (arith, nat_tests)
 
   stayed_alike : (b : BookState) (row : Row) → stayed (elsewhere b) row ≡ elsewhere (stayed b row)
-  stayed_alike b row =
-      let zero : BookState = record b { rows = change_row row.page (λ r. record r { state = Zero }) b.rows } in
-      either (is_for_zero b.knobs row) zero (paired (partner b.knobs b.rows row) b row) _
-      _ refl (paired_alike (partner b.knobs b.rows row) b row)
+  stayed_alike b row = grind (arith, nat_tests, paired_alike (partner b.knobs b.rows row) b row, either)
 
   handled_alike : (d : Option DupRow) (b : BookState) (row : Row) → handled d (elsewhere b) row ≡ elsewhere (handled d b row)
   handled_alike d b row = grind (arith, nat_tests)
@@ -58,9 +55,12 @@ KeepsPage change = (r : Row) → ((change r).page ≡ r.page) × ((change r).mer
 module _ (change : Row → Row) (keeps : KeepsPage change) where
   -- where a change keeps each row's page and whether scans visit it, scans visit the same pages
   pub mergeable_kept : (rows : List Row) → mergeable_pages (map change rows) ≡ mergeable_pages rows
-  mergeable_kept rows =
-      ap (map (λ r. r.page)) (filter_mapped change (λ r. r.mergeable) (λ r. r.mergeable) rows (λ i d lt. (keeps (get_or rows i d)).1))
-      ∙ map_mapped _ _ _ _ (λ i d lt. (keeps (get_or (filter (λ r. r.mergeable) rows) i d)).0)
+  mergeable_kept rows = grind (
+    arith,
+    nat_tests,
+    filter_mapped change (λ r. r.mergeable) (λ r. r.mergeable) rows (λ i d lt. (keeps (get_or rows i d)).1),
+    map_mapped,
+  )
 
   row_changed : (page : GuestPage) (rows : List Row) → row_at page (map change rows) ≡ option_map change (row_at page rows)
   row_changed page rows = find_mapped change (λ r. same_page r.page page) (λ r. same_page r.page page) rows
@@ -76,7 +76,7 @@ module _ (change : Row → Row) (keeps : KeepsPage change) where
   }
     where
       at : (m n s t : Bool) → n ≡ m → (s ≡ true → t ≡ true) → (m && not s) ≡ false → (n && not t) ≡ false
-      at m n s t same kept calm = grind (arith, same, kept, calm)
+      at m n s t same kept calm = grind (arith, calm)
 
       by : (page : GuestPage) (o : Option Row) → row_at page rows ≡ o → restless_row o ≡ false → restless_row (option_map change o) ≡ false
       by page None found calm = refl

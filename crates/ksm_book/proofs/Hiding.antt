@@ -11,7 +11,7 @@ use Rattle.ksm_book.proofs.Singles.{change_still}
 
 -- two changes come to the same where they do so wherever they are made
 one_by : (b : Bool) (x y z : Row) → (b ≡ true → x ≡ y) → (if b then x else z) ≡ (if b then y else z)
-one_by b x y z same = grind (arith, nat_tests, same)
+one_by b x y z same = grind (arith, nat_tests)
 
 -- two changes of the row of a page come to the same where they do at each row of that page
 alike_at : (page : GuestPage) (f g : Row → Row) (rows : List Row)
@@ -71,7 +71,7 @@ hides_kept page r = cond_both _ _ r (λ (x : Row). x.page ≡ r.page) (λ _. ref
 
 -- a shared state is settled
 shared_settled : (state : PageState) → shared_state state ≡ true → settled_state state ≡ state
-shared_settled state is = grind (arith, nat_tests, is)
+shared_settled state is = grind (arith, nat_tests)
 
 -- a shared row stays as it is
 shared_stays : (page : GuestPage) (r : Row) → shared_state r.state ≡ true → hides page r ≡ r
@@ -143,7 +143,7 @@ module _ {page : GuestPage} {old now : BookValue} {last : Option GuestPage} (h :
       where
         stays : (r : Row) → r ≡ row → same_page r.page at ≡ true
             → (shared_state row.state ≡ true) ⊎ (comes_before at page ≡ true) → hides page r ≡ r
-        stays r is same h3 = grind (arith, nat_tests, is, same, h3)
+        stays r is same h3 = grind (arith, nat_tests)
 
     -- any other page waits no more
     pub hiding_more : (next : BookValue) → comes_before at page ≡ false
@@ -153,8 +153,7 @@ module _ {page : GuestPage} {old now : BookValue} {last : Option GuestPage} (h :
       done = cut.before ++ cut.row ∷ [];
       left = cut.rest;
       along = along_on _ (rows ∙ alike_at at _ _ _
-          (λ k d lt same. let r = get_or now.state.rows k d in
-          behind_settles _ r (rw (same_page_eq _ at same) behind)));
+          (λ k d lt same. behind_settles _ (get_or now.state.rows k d) (rw (same_page_eq _ at same) behind)));
       comes = λ from s before.
           let reached = stops from (record s.0 { rows = now.state.rows }, s.1) (h.comes from s before) in
           (reached.0 ∙ ap (λ l. record s.0 { rows = l }) (sym rows), reached.1);

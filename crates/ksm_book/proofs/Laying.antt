@@ -55,19 +55,19 @@ module _ {sh : Shape} {across : ℕ} {v w : KeeperView} {rows : List Row} {frame
 
 -- the frame of a row that is not shared is Private
 pub own_kind : (s : PageState) → shared_state s ≡ false → kind_for s ≡ Private
-own_kind s e = grind (arith, nat_tests, e)
+own_kind s e = grind (arith, nat_tests)
 
 -- a page that is not shared is no item of any dup
 pub own_item : (s : PageState) → shared_state s ≡ false → (n : ℕ) → merged_into n s ≡ false
-own_item s e n = grind (arith, nat_tests, e)
+own_item s e n = grind (arith, nat_tests)
 
 -- a row that is not shared is not Zero
 pub own_framed : (s : PageState) → shared_state s ≡ false → zero_state s ≡ false
-own_framed s e = grind (arith, nat_tests, e)
+own_framed s e = grind (arith, nat_tests)
 
 -- a row whose frame is Stable is an item of a dup
 pub number_of_kind : (s : PageState) → kind_for s ≡ Stable → (n : ℕ) × (s ≡ Merged n)
-number_of_kind s is = grind (arith, nat_tests, is)
+number_of_kind s is = grind (arith, nat_tests)
 
 -- a row may stand in the stead of another on its frame: same home and bytes, and the same state, or neither is shared
 abbrev pub LodgesAs : Row → Row → Type 0
@@ -96,7 +96,7 @@ module _ {sh : Shape} {across : ℕ} {k : Ledger} {rows : List Row} {frame : Fra
   lodged_as : (old r : Row) (o : Option ℕ) → LodgesAs r old → IsServed sh k dups old o → IsServed sh k dups r o
   lodged_as old r (Some f) lodges served = lodged old r f served lodges
   lodged_as old r None (home, bytes, inl s) served = ap zero_state s ∙ served
-  lodged_as old r None (home, bytes, inr own) served = absurd (let none = own_framed _ own.0 in grind (arith, none, served))
+  lodged_as old r None (home, bytes, inr own) served = absurd (let none = own_framed _ own.0 in grind arith)
 
   -- the row of a page is served by its frame
   pub served_at : (page : GuestPage) (row : Row) → row_at page rows ≡ Some row → IsServed sh k dups row (frame page)
@@ -115,7 +115,7 @@ module _ {p : PagesView} {k : KeeperView} (h : IsLaid p k) where
     small = h.small;
     same = shape_same sh k w h.same e;
     placed = kept k h.same w None keeps h.placed;
-    spent = (let s = h.spent in omega (arith, s, more));
+    spent = (let s = h.spent in omega arith);
   }
 
   -- pages lie lawfully with other rows and frames that are placed lawfully beside the same dups
@@ -125,7 +125,7 @@ module _ {p : PagesView} {k : KeeperView} (h : IsLaid p k) where
     small = h.small;
     same = shape_same sh k w h.same e;
     placed = placed;
-    spent = (let s = h.spent in omega (arith, s, more));
+    spent = (let s = h.spent in omega arith);
   }
 
   -- pages lie lawfully where each row changes into one that may stand in its stead on its frame
@@ -155,7 +155,7 @@ module _ {p : PagesView} {k : KeeperView} (h : IsLaid p k) where
       let fr = holding (frame_at k.ledger g) (c row).bytes in
       let more : spent k.ledger ≤ spent (with_frame k.ledger g fr) = spent_kept k.ledger g fr (omega arith) in
       let end = ap spent ledger in
-      laid_rows _ _ _ w e (omega (arith, more, end))
+      laid_rows _ _ _ w e (omega arith)
       (rw ledger
       (written_in h.placed _ row rise found g lies kind c keeps fr kind refl refl wide
       (ap zero_state is) (ap kind_for is) (λ n. ap (merged_into n) is) home refl alone))
@@ -187,7 +187,7 @@ retuned {p} tuned {k} either h =
   where
     by : (tuned.merge_across_nodes ≡ p.knobs.merge_across_nodes) ⊎ (p.dups ≡ []) → All (DupFits p.shape tuned.merge_across_nodes k.ledger) p.dups
     by (inl same) = rw same h.placed.each_dup
-    by (inr none) = subst (All (DupFits p.shape tuned.merge_across_nodes k.ledger)) (sym none) (λ i d lt. absurd (omega (arith, lt)))
+    by (inr none) = subst (All (DupFits p.shape tuned.merge_across_nodes k.ledger)) (sym none) (λ i d lt. absurd (omega arith))
 
 -- ---------------------------------------------------------------- no rows
 
@@ -197,7 +197,7 @@ same_in (suc n) zero a = refl
 same_in (suc n) (suc i) a = same_in n i a
 
 pub first_note : (sh : Shape) (f : ℕ) → frame_at (first_ledger sh) f ≡ blank
-first_note sh f = same_in _ f _
+first_note _ f = same_in _ f _
 
 -- pages lie lawfully as they are opened, with no rows and no dups, where the keeper has its first ledger
 pub first_laid : (sh : Shape) (k : KeeperView) → IsShape sh → k.table.shape ≡ sh → k.ledger ≡ first_ledger sh
@@ -209,9 +209,9 @@ first_laid sh k is same first = record {
     frames_long = length-replicate (frames_of sh) blank;
     places_long = length-replicate (frames_of sh) None;
     widths = λ f. rw (first_note sh f) (length-replicate {A = ℕ} PAGE_WORDS 0);
-    lives = λ f. rw (first_note sh f) (let low = is.generation_low in omega (arith, low));
-    each_row = λ i d lt. absurd (omega (arith, lt));
-    each_dup = λ i d lt. absurd (omega (arith, lt));
+    lives = λ f. rw (first_note sh f) (let low = is.generation_low in omega arith);
+    each_row = λ i d lt. absurd (omega arith);
+    each_dup = λ i d lt. absurd (omega arith);
     bases = λ f. rw (first_note sh f);
     kinds = λ f. rw (first_note sh f) refl;
     empty = λ p none. same_in _ p None;

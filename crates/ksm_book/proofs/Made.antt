@@ -15,14 +15,13 @@ stepped_then v xs ys = λ i. record {
 }
 
 needed_more : (ms ns : List ℕ) (o : Option ℕ) (sh : Shape) (k : Ledger) → IsNeeded sh k ms o → IsNeeded sh k (ms ++ ns) o × (needed_after (ms ++ ns) o ≡ needed_after ms o ++ ns)
-needed_more ms ns o sh k h = grind (arith, nat_tests, h)
+needed_more ms ns o sh k h = grind (arith, nat_tests)
 
 gives_append : (sh : Shape) (k : Ledger) (ms ns : List ℕ) (xs ys : Log) → Gives sh k ms xs → Gives sh (replayed sh k xs) ns ys → Gives sh k (ms ++ ns) (xs ++ ys)
 gives_append sh k ms ns [] ys h h' = rw h h'
 gives_append sh k ms ns (x ∷ xs) ys h h' =
     let more = needed_more ms ns _ sh k h.0 in
-    let next = ledger_after sh k x.0 x.1 in
-    (more.0, rw more.1 (gives_append sh next (needed_after ms (given_by x.0)) ns xs ys h.1 h'))
+    (more.0, rw more.1 (gives_append sh (ledger_after sh k x.0 x.1) (needed_after ms (given_by x.0)) ns xs ys h.1 h'))
 
 -- two parts, one after the other, gave the frames of both
 pub chained : {u v w : KeeperView} {ms ns : List ℕ} {xs ys : Log} → Allocates u v ms xs → Allocates v w ns ys → Allocates u w (ms ++ ns) (xs ++ ys)
@@ -53,7 +52,7 @@ pub word_written : (ws cs : List ℕ) (i : ℕ) → length cs ≡ length ws → 
 word_written [] cs i same lt = absurd (omega arith)
 word_written (w ∷ ws) [] i same lt = absurd (omega arith)
 word_written (w ∷ ws) (c ∷ cs) zero same lt = refl
-word_written (w ∷ ws) (c ∷ cs) (suc i) same lt = ap (λ l. w ∷ l) (word_written ws cs i (omega arith) (omega arith)) ∙ (let e : suc (i + 1) ≡ suc i + 1 = omega arith in λ t. take (e t) (w ∷ ws) ++ drop (e t) (c ∷ cs))
+word_written (w ∷ ws) (c ∷ cs) (suc i) same lt = grind (arith, nat_tests, same, lt, word_written ws cs i (omega arith) (omega arith))
 
 -- ---------------------------------------------------------------- steps, and no others
 
@@ -83,17 +82,17 @@ none_made {v} {w} m = by _ m.after m.are
   where
     by : (part : Log) → w ≡ stepped v part → steps_of part ≡ [] → w ≡ v
     by [] after are = after ∙ (λ i. record { table = v.table; ledger = v.ledger; log = append-nil v.log i })
-    by (e ∷ es) after are = absurd (grind (arith, are))
+    by (e ∷ es) after are = absurd (grind arith)
 
 -- a keeper that made some steps made the first of them and then the others
 pub first_made : {v w : KeeperView} {e : KeeperStep} {es : List KeeperStep} → MakesSteps v w (e ∷ es) → (found : ℕ) × MakesSteps (did v e found) w es
 first_made {v} {w} {e} {es} m = by _ m.after m.are
   where
     by : (part : Log) → w ≡ stepped v part → steps_of part ≡ e ∷ es → (found : ℕ) × MakesSteps (did v e found) w es
-    by [] after are = absurd (grind (arith, are))
+    by [] after are = absurd (grind arith)
     by (s ∷ part) after are =
-        let first : s.0 ≡ e = grind (arith, are) in
-        let rest : steps_of part ≡ es = grind (arith, are) in
+        let first : s.0 ≡ e = grind arith in
+        let rest : steps_of part ≡ es = grind arith in
         (s.1, record { part = part; after = rw (← first) (after ∙ sym (stepped_then v _ _)); are = rest })
 
 -- a keeper that made one step went on by that step, with some word that it found

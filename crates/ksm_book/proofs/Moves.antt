@@ -18,7 +18,7 @@ served_as sh k k' dups dups' r r' (Some f) same on h = on f refl h
 -- a row that is not Zero and is served has a frame that serves it
 pub framed : (sh : Shape) (k : Ledger) (dups : List DupRow) (r : Row) (o : Option ℕ) → zero_state r.state ≡ false → IsServed sh k dups r o
     → (f : ℕ) × (o ≡ Some f) × Serves sh k dups r f
-framed sh k dups r o other h = grind (arith, nat_tests, other, h)
+framed sh k dups r o other h = grind (arith, nat_tests)
 
 module _ {sh : Shape} {across : ℕ} {k : Ledger} {rows : List Row} {frame : Frames} {dups : List DupRow} {hand : Option ℕ} (p : Placed sh across k rows frame dups hand) where
   -- a row that is no item of any dup agrees with each dup, where its frame is Private
@@ -73,7 +73,7 @@ module _ {sh : Shape} {across : ℕ} {k : Ledger} {rows : List Row} {frame : Fra
       let apart = find_none _ _ absent in
       rehoused p (all_with_row (At sh k dups (lies_on row.page o frame)) row _ (subst (IsServed sh k dups row) (sym (on_page row.page o frame row.page (same_page_refl row.page))) new)
       (λ i d lt. let r = get_or rows i d in subst (IsServed sh k dups r) (sym (off_page row.page o frame r.page (apart i d lt))) (p.each_row i d lt)))
-      (λ f. let come = uses_come f o frame row _ absent in let b = p.bases f in omega (arith, come, b))
+      (λ f. let come = uses_come f o frame row _ absent in let b = p.bases f in omega arith)
 
   -- where the row of a page goes, rows and dups lie lawfully with its frame, if it had one, in hand
   pub removed : (page : GuestPage) (row : Row) → InPageOrder rows → row_at page rows ≡ Some row → Placed sh across k rows frame dups None
@@ -82,7 +82,7 @@ module _ {sh : Shape} {across : ℕ} {k : Ledger} {rows : List Row} {frame : Fra
       let kept = All-filter (λ r. not (same_page r.page page)) (At sh k dups frame) _ p.each_row in
       rehoused p (λ i d lt. let r = get_or (without_page page rows) i d in
       subst (IsServed sh k dups r) (sym (off_page page None frame r.page (not-true _ (filter_passes (λ s. not (same_page s.page page)) rows i d lt)))) (kept i d lt))
-      (λ f. let gone = uses_gone f _ None frame _ row rise found in let b = p.bases f in omega (arith, gone, b))
+      (λ f. let gone = uses_gone f _ None frame _ row rise found in let b = p.bases f in omega arith)
 
 -- where no other dup stands at the place of a new one, what all dups pass with it, it passes and so do all others
 all_without : (P : DupRow → Type 0) (d : DupRow) (dups : List DupRow) → All (λ e. e.place ≢ d.place) dups → All P (with_dup d dups) → P d × All P dups
@@ -95,8 +95,8 @@ all_without P d dups apart h =
         | inl below ↦
             at e (Contains-append_left lower (d ∷ higher) e (contains_filter (λ y. nat_lt y.place d.place) dups e has (lt-ltb _ _ below)))
         | inr above ↦
-            let there = contains_filter (λ y. nat_lt d.place y.place) dups e has (lt-ltb _ _ (let ne = apart k x lt in omega (arith, above, ne))) in
-            at e (Contains-append_right lower (d ∷ higher) e (suc there.0, (let l = there.1 in omega (arith, l)), there.2))
+            let there = contains_filter (λ y. nat_lt d.place y.place) dups e has (lt-ltb _ _ (let ne = apart k x lt in omega arith)) in
+            at e (Contains-append_right lower (d ∷ higher) e (suc there.0, (let l = there.1 in omega arith), there.2))
       ],
     )
 
@@ -107,7 +107,7 @@ module _ {sh : Shape} {across : ℕ} {k : Ledger} {rows : List Row} {frame : Fra
   named = record { frames = k.frames; places = set k.places d.place (Some (record { frame = g; generation = life })) }
 
   named_is : named_at named d.place ≡ Some (record { frame = g; generation = life })
-  named_is = let long = p.places_long in get_or-set_same k.places d.place (Some (record { frame = g; generation = life })) None (omega (arith, long, at))
+  named_is = let long = p.places_long in get_or-set_same k.places d.place (Some (record { frame = g; generation = life })) None (omega arith)
 
   named_off : (q : ℕ) → q ≢ d.place → named_at named q ≡ named_at k q
   named_off q ne = get_or-set_other k.places d.place q (Some (record { frame = g; generation = life })) None ne
@@ -135,11 +135,15 @@ module _ {sh : Shape} {across : ℕ} {k : Ledger} {rows : List Row} {frame : Fra
       (let n = m.0 in record { mapped = n.mapped; frame = n.frame; kind = n.kind; content = n.content; given = n.given; node = n.node }),
       all_with_dup (Agrees named r f) d dups
           (record {
-            item = λ into. absurd (let none = fresh i x lt in grind (arith, into, none));
-            back = λ _ e. absurd (let some = uses_some g frame rows i x lt (is ∙ ap Some (e ∙ names)) in omega (arith, some, unused));
+            item = λ into. absurd (let none = fresh i x lt in grind arith);
+            back = λ _ e. absurd (let some = uses_some g frame rows i x lt (is ∙ ap Some (e ∙ names)) in omega (arith, unused));
           })
           (λ n y l. let e : DupRow = get_or dups n y in let ne = apart n y l in let a = m.1 n y l in record {
-            item = λ into. let y = a.item into in (y.0 ∙ sym (names_off e ne), ap (λ h. (frame_at k h).generation) (names_off e ne) ∙ y.1 ∙ sym (ap (λ x. (life_or x).generation) (named_off e.place ne)));
+            item = λ into. let y = a.item into in (
+              y.0 ∙ sym (names_off e ne),
+              rw (names_off e ne)
+                  (y.1 ∙ sym (ap (λ x. (life_or x).generation) (named_off e.place ne))),
+            );
             back = λ l e2. a.back (life_off e ne l) (e2 ∙ names_off e ne);
           }),
     )) (p.each_row i x lt);
@@ -147,20 +151,20 @@ module _ {sh : Shape} {across : ℕ} {k : Ledger} {rows : List Row} {frame : Fra
         (record {
           place = at;
           named = ap is_some named_is;
-          frame = subst (λ x. x < frames_of sh) (sym names) inside;
-          life = (let same : place_life named d.place ≡ (frame_at named (place_frame named d.place)).generation = sym in_life in omega (arith, same));
-          content = λ _. ap (λ h. (frame_at k h).content) names ∙ bytes;
+          frame = rw names inside;
+          life = (let same : place_life named d.place ≡ (frame_at named (place_frame named d.place)).generation = sym in_life in omega arith);
+          content = λ _. rw names bytes;
           shown = λ _ e. (let bad : Stable ≡ Private = sym stable ∙ ap (λ h. (frame_at k h).kind) (sym names) ∙ e in cc);
-          node = λ z. ap (λ h. h / sh.frames_per_node) names ∙ tree z;
+          node = λ z. rw names (tree z);
         })
         (λ n x l. let e : DupRow = get_or dups n x in let ne = apart n x l in let m = p.each_dup n x l in record {
           place = m.place;
           named = ap is_some (named_off e.place ne) ∙ m.named;
-          frame = subst (λ y. y < frames_of sh) (sym (names_off e ne)) m.frame;
+          frame = rw (names_off e ne) m.frame;
           life = subst (λ (y : Option Life). (life_or y).generation ≤ (frame_at k (life_or y).frame).generation) (sym (named_off e.place ne)) m.life;
-          content = λ l. ap (λ h. (frame_at k h).content) (names_off e ne) ∙ m.content (life_off e ne l);
-          shown = λ l e2. m.shown (life_off e ne l) (ap (λ h. (frame_at k h).kind) (sym (names_off e ne)) ∙ e2);
-          node = λ z. ap (λ h. h / sh.frames_per_node) (names_off e ne) ∙ m.node z;
+          content = λ l. rw (names_off e ne) (m.content (life_off e ne l));
+          shown = λ l e2. m.shown (life_off e ne l) (rw (← names_off e ne) e2);
+          node = λ z. rw (names_off e ne) (m.node z);
         });
     bases = p.bases;
     kinds = p.kinds;
@@ -195,7 +199,7 @@ module _ {sh : Shape} {across : ℕ} {k : Ledger} {rows : List Row} {frame : Fra
   one = subst (λ (x : Kind). FitsBase x (frame_at k g).base) own (p.kinds g)
 
   unused : uses g off bare ≡ 0
-  unused = let b = lifted.bases g in let held = one_same g _ refl in omega (arith, one, b, held)
+  unused = let b = lifted.bases g in let held = one_same g _ refl in omega (arith, one)
 
   -- meanwhile its note changes
   module _ (fr : Note) (life : fr.generation ≡ (frame_at k g).generation) where
@@ -204,9 +208,9 @@ module _ {sh : Shape} {across : ℕ} {k : Ledger} {rows : List Row} {frame : Fra
     turned wide base lived counts = noted lifted g fits.0.frame fr _ (record {
       wide = wide;
       lived = lived;
-      base = (let held = one_same g _ refl in omega (arith, base, unused, held));
+      base = (let held = one_same g _ refl in omega (arith, unused));
       fits = counts;
-      same = λ used. absurd (omega (arith, used, unused));
+      same = λ used. absurd (omega (arith, unused));
       life = inr (life, inl own);
     }) (λ f ne. refl)
 
@@ -214,7 +218,7 @@ module _ {sh : Shape} {across : ℕ} {k : Ledger} {rows : List Row} {frame : Fra
     turned_note = by_frame p g fits.0.frame fr (λ x. x ≡ fr) g (λ _. refl) (λ ne. absurd (ne refl))
 
     turned_life : (h : ℕ) → (frame_at (with_frame k g fr) h).generation ≡ (frame_at k h).generation
-    turned_life h = by_frame p g fits.0.frame fr (λ x. x.generation ≡ (frame_at k h).generation) h (λ e. life ∙ ap (λ y. (frame_at k y).generation) (sym e)) (λ _. refl)
+    turned_life h = by_frame p g fits.0.frame fr (λ x. x.generation ≡ (frame_at k h).generation) h (λ e. rw e life) (λ _. refl)
 
   -- the page comes back to it
   back : {k' : Ledger} {dups' : List DupRow} (c : Row → Row) → ((r : Row) → (c r).page ≡ r.page) → Placed sh across k' bare off dups' (Some g)
@@ -280,8 +284,8 @@ module _ {sh : Shape} {across : ℕ} {k : Ledger} {rows : List Row} {frame : Fra
           frame = served.frame;
           kind = kind ∙ ap kind_for (sym item);
           content = words ∙ served.content ∙ sym same;
-          given = subst (λ y. 1 ≤ y) (sym (gens g)) served.given;
-          node = λ m. absurd (let e : true ≡ false = ap shared_state (sym item) ∙ m in grind (arith, e));
+          given = rw (gens g) served.given;
+          node = λ m. absurd (let e : true ≡ false = ap shared_state (sym item) ∙ m in grind arith);
         },
         all_with_dup (Agrees (named q kind served.frame _ (gens g) d inside) (c row) g) d dups
             (record {
@@ -295,12 +299,12 @@ module _ {sh : Shape} {across : ℕ} {k : Ledger} {rows : List Row} {frame : Fra
       )
     where
       only : (n : ℕ) (s : PageState) (m : ℕ) → s ≡ Merged m → merged_into n s ≡ true → n ≡ m
-      only n s m is into = let e = sym (ap (merged_into n) is) ∙ into in grind (arith, nat_tests, e)
+      only n s m is into = let e = sym (ap (merged_into n) is) ∙ into in grind (arith, nat_tests)
 
 -- a row in the state of another that is served by a frame, with the frame's bytes, is served by it too
 pub serves_like : (sh : Shape) (k : Ledger) (dups : List DupRow) (s r : Row) (f : ℕ) → Serves sh k dups s f → r.state ≡ s.state → (frame_at k f).content ≡ r.bytes → shared_state r.state ≡ true → Serves sh k dups r f
 serves_like sh k dups s r f h same content merged = (
-  record { mapped = ap zero_state same ∙ h.0.mapped; frame = h.0.frame; kind = h.0.kind ∙ ap kind_for (sym same); content = content; given = h.0.given; node = λ m. absurd (grind (arith, m, merged)) },
+  record { mapped = ap zero_state same ∙ h.0.mapped; frame = h.0.frame; kind = h.0.kind ∙ ap kind_for (sym same); content = content; given = h.0.given; node = λ m. absurd (grind arith) },
   All-weaker (Agrees k s f) (Agrees k r f) (λ d a. record {
     item = λ m. a.item (sym (ap (merged_into d.number) same) ∙ m);
     back = λ life e. ap (merged_into d.number) same ∙ a.back life e;
@@ -310,33 +314,17 @@ serves_like sh k dups s r f h same content merged = (
 -- the rows on the frame of a dup in its life are its items
 pub lies_as_item : {sh : Shape} {across : ℕ} {k : Ledger} {rows : List Row} {frame : Frames} {dups : List DupRow} (p : Placed sh across k rows frame dups None) (n : ℕ) (d : DupRow) → n < length dups → IsInLife k (get_or dups n d).place
     → All (λ r. is_frame (place_frame k (get_or dups n d).place) (frame r.page) ≡ merged_into (get_or dups n d).number r.state) rows
-lies_as_item {sh} {k = k} {rows} {frame} {dups} p n d lt life i r0 l = by _ _ (p.each_row i r0 l)
-  where
-    -- a row without a frame is no item
-    not_item : (s : PageState) → zero_state s ≡ true → merged_into (get_or dups n d).number s ≡ false
-    not_item s z = grind (arith, nat_tests, z)
-
-    by : (r : Row) (o : Option ℕ) → IsServed sh k dups r o → is_frame (place_frame k (get_or dups n d).place) o ≡ merged_into (get_or dups n d).number r.state
-    by r o h = grind (arith, nat_tests, h)
+lies_as_item {sh} {k = k} {rows} {frame} {dups} p n d lt life i r0 l = grind (arith, nat_tests, lt, life, r0)
 
 -- the references on the frame of a dup in its life are its items
 pub base_is_items : {sh : Shape} {across : ℕ} {k : Ledger} {rows : List Row} {frame : Frames} {dups : List DupRow} (p : Placed sh across k rows frame dups None) (n : ℕ) (d : DupRow) → n < length dups → IsInLife k (get_or dups n d).place
     → (frame_at k (place_frame k (get_or dups n d).place)).base ≡ item_count rows (get_or dups n d)
-base_is_items {k = k} {rows} {frame} {dups} p n d lt life =
-    let e = get_or dups n d in
-    let f = place_frame k e.place in
-    let b = p.bases f in
-    let c : uses f frame rows ≡ item_count rows e = count_alike (λ r. is_frame f (frame r.page)) (λ r. merged_into e.number r.state) rows (lies_as_item p n d lt life) in
-    omega (arith, b, c)
+base_is_items {k = k} {rows} {frame} {dups} p n d lt life = grind (arith, nat_tests, lt, life, lies_as_item p n d lt life, count_alike)
 
 -- a dup without items has no Stable frame in the life that its place names
 pub stale_is_loose : {sh : Shape} {across : ℕ} {k : Ledger} {rows : List Row} {frame : Frames} {dups : List DupRow} (p : Placed sh across k rows frame dups None) (n : ℕ) (d : DupRow) → n < length dups → item_count rows (get_or dups n d) ≡ 0 → IsInLife k (get_or dups n d).place
     → ¬ ((frame_at k (place_frame k (get_or dups n d).place)).kind ≡ Stable)
-stale_is_loose {k = k} {rows} {dups = dups} p n d lt none life stable =
-    let f = place_frame k (get_or dups n d).place in
-    let b = base_is_items p n d lt life in
-    let some = subst (λ (x : Kind). FitsBase x (frame_at k f).base) stable (p.kinds f) in
-    omega (arith, b, none, some)
+stale_is_loose {k = k} {rows} {dups = dups} p n d lt none life stable = grind (arith, nat_tests, lt, none, life, stable, base_is_items p n d lt life)
 
 -- where a page joins an item with a reference in hand on the item's frame, its own frame comes into the hand
 pub joined : {sh : Shape} {across : ℕ} {k : Ledger} {rows : List Row} {frame : Frames} {dups : List DupRow} (page : GuestPage) (row item : Row) (g : ℕ) (c : Row → Row) → InPageOrder rows → row_at page rows ≡ Some row → ((r : Row) → (c r).page ≡ r.page)

@@ -33,7 +33,7 @@ module _ {sh : Shape} {across : ℕ} {k : Ledger} {rows : List Row} {frame : Fra
   pub by_frame : (P : Note → Type 0) (h : ℕ) → (h ≡ g → P new) → (h ≢ g → P (frame_at k h)) → P (frame_at next h)
   by_frame P h here there = dite (ℕ_discrete h g)
       (λ e. let long = p.frames_long in
-      subst P (sym (get_or-set_same k.frames g new blank (omega (arith, long, inside))) ∙ ap (frame_at next) (sym e)) (here e))
+      subst P (sym (get_or-set_same k.frames g new blank (omega arith)) ∙ ap (frame_at next) (sym e)) (here e))
       (λ ne. subst P (sym (get_or-set_other k.frames g h new blank ne)) (there ne))
 
   module _ (hand' : Option ℕ) (n : Follows sh.last_generation (uses g frame rows) (in_hand g hand') old new) where
@@ -48,7 +48,7 @@ module _ {sh : Shape} {across : ℕ} {k : Ledger} {rows : List Row} {frame : Fra
         → IsInLife k d.place × ((frame_at next (place_frame k d.place)).content ≡ d.bytes) × ¬ ((frame_at next (place_frame k d.place)).kind ≡ Private)
     in_life d m = by_frame (λ x. x.generation ≡ place_life k d.place → IsInLife k d.place × (x.content ≡ d.bytes) × ¬ (x.kind ≡ Private)) (place_frame k d.place)
         (λ e life. elim n.life [
-          | inl later ↦ absurd (let low = subst (λ h. place_life k d.place ≤ (frame_at k h).generation) e m.life in omega (arith, later, low, life))
+          | inl later ↦ absurd (let low = subst (λ h. place_life k d.place ≤ (frame_at k h).generation) e m.life in omega (arith, life))
           | inr stays ↦
               let was = ap (λ h. (frame_at k h).generation) e ∙ sym stays.0 ∙ life in
               elim stays.1 [
@@ -89,8 +89,8 @@ module _ {sh : Shape} {across : ℕ} {k : Ledger} {rows : List Row} {frame : Fra
         life = by_frame (λ x. place_life k d.place ≤ x.generation) (place_frame k d.place)
             (λ e. let low : place_life k d.place ≤ old.generation = rw (← e) m.life in
             elim n.life [
-              | inl later ↦ omega (arith, low, later)
-              | inr stays ↦ let same = stays.0 in omega (arith, low, same)
+              | inl later ↦ omega arith
+              | inr stays ↦ let same = stays.0 in omega (arith, same)
             ])
             (λ _. m.life);
         content = λ life. (in_life d m life).1;

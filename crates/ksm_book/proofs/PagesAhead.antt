@@ -18,7 +18,7 @@ filter_out t x xs fails = rw fails
 -- what comes behind a page that is behind the cursor is behind the cursor
 pub after_later : (cursor : Option GuestPage) (p q : GuestPage) → after_cursor cursor p ≡ true → comes_before p q ≡ true
     → after_cursor cursor q ≡ true
-after_later cursor p q is later = grind (arith, nat_tests, is, later)
+after_later cursor p q is later = grind (arith, nat_tests)
 
 -- where a page and others are those behind a cursor in an ascending list, the others are those behind that page
 pub behind_first : (cursor : Option GuestPage) (pages : List GuestPage) (page : GuestPage) (more : List GuestPage) → AreAscending pages
@@ -47,7 +47,7 @@ GoesDown t = (p q : GuestPage) → comes_before p q ≡ true → t q ≡ true �
 -- where a page is not behind a last one, no page before that page is
 pub up_to_down : (last : Option GuestPage) → GoesDown (up_to last)
 up_to_down None p q before is = refl
-up_to_down (Some last) p q before is = let after = before_trans last p q in grind (arith, after, before, is)
+up_to_down (Some last) p q before is = let after = before_trans last p q in grind arith
 
 -- where a page comes before another, each page before that page does
 pub before_down : (page : GuestPage) → GoesDown (λ p. comes_before p page)
@@ -64,14 +64,14 @@ module _ (t : GuestPage → Bool) (down : GoesDown t) where
       All-cons (λ q. t q ≡ false) p _ fails (λ k d lt. too (get_or pages k d) (pairs_head Before p _ rise k d lt))
     where
       too : (q : GuestPage) → comes_before p q ≡ true → t q ≡ false
-      too q later = let passes = down p q later in grind (arith, passes, fails)
+      too q later = let passes = down p q later in grind arith
 
   -- the first pages, as many as pass, are those that pass
   pub take_down : (pages : List GuestPage) → AreAscending pages → take (length (filter t pages)) pages ≡ filter t pages
   take_down [] rise = refl
   take_down (p ∷ pages) rise =
       elim (cases_Bool (t p)) [
-        | inl passes ↦ let rest = take_down pages (pairs_tail Before p _ rise) in grind (arith, passes, rest)
+        | inl passes ↦ let rest = take_down pages (pairs_tail Before p _ rise) in grind arith
         | inr fails ↦
             let none = filter_none t (p ∷ pages) (none_pass p _ rise fails) in ap (λ l. take (length l) (p ∷ pages)) none ∙ sym none
       ]
@@ -104,19 +104,19 @@ module _ (t : GuestPage → Bool) (down : GoesDown t) where
             let all = All-cons (λ q. after_cursor cursor q ≡ true) p _ above
             (λ k d lt. after_later _ p (get_or pages k d) above (behind k d lt)) in
             let none = filter_none low (p ∷ pages) (λ k d lt. ap not (all k d lt)) in
-            ap (λ l. from_to (length l) (length (filter t (p ∷ pages))) (p ∷ pages)) none ∙ take_down (p ∷ pages) rise
-            ∙ filter_same t both (p ∷ pages) (λ k d lt. ap (λ a. a && t (get_or (p ∷ pages) k d)) (sym (all k d lt)))
+            rw none
+            (take_down (p ∷ pages) rise
+            ∙ filter_same t both (p ∷ pages) (λ k d lt. ap (λ a. a && t (get_or (p ∷ pages) k d)) (sym (all k d lt))))
         | inr below ↦
             elim (cases_Bool (t p)) [
               | inl passes ↦
                   let rest = between_is cursor pages (pairs_tail Before p _ rise) in
-                  grind (arith, below, passes, rest)
+                  grind arith
               | inr fails ↦
                   let all = none_pass p _ rise fails in
                   let neither = filter_none both (p ∷ pages)
                   (λ k d lt. and_right (after_cursor cursor (get_or (p ∷ pages) k d)) _ (all k d lt)) in
-                  ap (λ l. from_to (length (filter low (p ∷ pages))) (length l) (p ∷ pages)) (filter_none t (p ∷ pages) all)
-                  ∙ drop_of_length-le [] (omega arith) ∙ sym neither
+                  rw (filter_none t (p ∷ pages) all) (drop_of_length-le [] (omega arith) ∙ sym neither)
             ]
       ]
 
@@ -159,19 +159,19 @@ pub from_to_more : (pages : List GuestPage) (first at : ℕ) (page : GuestPage) 
     → from_to first (at + 1) pages ≡ from_to first at pages ++ page ∷ []
 from_to_more pages first at page le is =
     let within = slice_get_within _ at _ is in
-    let short = length-take-le at pages (omega (arith, within)) in
+    let short = length-take-le at pages (omega arith) in
     ap (drop first) (take_more _ at page within)
     ∙ ap (λ p. drop first (take at pages ++ p ∷ [])) (get_or_from_slice_get _ at _ _ is)
-    ∙ drop-append-le first (take at pages) (page ∷ []) (omega (arith, le, short))
+    ∙ drop-append-le first (take at pages) (page ∷ []) (omega arith)
 
 -- the pages from a first index up to the greater of it and an end are the pages from it up to the end
 pub from_to_end : (pages : List GuestPage) (first at end : ℕ) → end ≤ at → at ≤ max first end → first ≤ at
     → from_to first at pages ≡ from_to first end pages
 from_to_end pages first at end past within le = elim (cases_lt first end) [
-  | inl less ↦ let same : at ≡ end = omega (arith, past, within, less) in rw same
+  | inl less ↦ let same : at ≡ end = omega arith in rw same
   | inr no_less ↦
-      let short : (n : ℕ) → n ≤ first → length (take n pages) ≤ first = λ n less. omega (arith, less, length-take n pages) in
-      drop_of_length-le (take at pages) (short at (omega (arith, within, no_less)))
+      let short : (n : ℕ) → n ≤ first → length (take n pages) ≤ first = λ n less. omega (arith, length-take n pages) in
+      drop_of_length-le (take at pages) (short at (omega arith))
       ∙ sym (drop_of_length-le (take end pages) (short end no_less))
 ]
 
@@ -180,8 +180,8 @@ pub between_at : (pages : List GuestPage) (first at end : ℕ) (page : GuestPage
     → (at - first < length (from_to first end pages)) × (get_or (from_to first end pages) (at - first) page ≡ page)
 between_at pages first at end page is low high =
     let within = slice_get_within _ at _ is in
-    let sum : first + (at - first) ≡ at = omega (arith, low) in (
-      omega (arith, low, high, within, length-drop first (take end pages), length-take end pages),
+    let sum : first + (at - first) ≡ at = omega arith in (
+      omega (arith, length-drop first (take end pages), length-take end pages),
       get_or-drop first (take end pages) (at - first) page ∙ ap (λ n. get_or (take end pages) n page) sum
           ∙ get_or-take end pages at page high ∙ get_or_from_slice_get _ at _ _ is,
     )
@@ -201,7 +201,7 @@ no_earlier p q ps qs rise same =
     (All-cons (Before p) q qs before (λ k d lt. before_trans p q (get_or qs k d) before (pairs_head Before q qs rise k d lt))) in
     let first = has_first p ps in
     let both = same p in
-    grind (arith, behind, first, both)
+    grind arith
 
 -- ascending lists that have the same pages are the same
 pub same_pages : (ps qs : List GuestPage) → AreAscending ps → AreAscending qs → ((x : GuestPage) → has_item x ps ≡ has_item x qs) → ps ≡ qs

@@ -9,7 +9,7 @@ use Rattle.ksm_book.proofs.Promised.{finds_place}
 
 -- a row that waits is not shared
 waiting_is_alone : (s : PageState) → waiting_state s ≡ true → (shared_state s ≡ false) × (merged_state s ≡ false)
-waiting_is_alone s e = grind (arith, nat_tests, e)
+waiting_is_alone s e = grind (arith, nat_tests)
 
 -- rows of two pages get a state
 abbrev in_state : PageState → Row → Row
@@ -18,7 +18,7 @@ in_state s r = record r { state = s }
 two_changes : (p q : GuestPage) (s : PageState) (rows : List Row) → change_row q (in_state s) (change_row p (in_state s) rows) ≡ change_rows
     (λ r. same_page r.page p || same_page r.page q) (in_state s) rows
 two_changes p q s [] = refl
-two_changes p q s (r ∷ rs) = let rest = two_changes p q s rs in grind (arith, rest)
+two_changes p q s (r ∷ rs) = let rest = two_changes p q s rs in grind arith
 
 contains_dup : (d : DupRow) (dups : List DupRow) → Contains (with_dup d dups) d
 contains_dup d dups =
@@ -79,7 +79,7 @@ module _ (other : GuestPage) {p : PagesView} {k : KeeperView} {cursor : Option G
   vacant = λ n d lt same.
       let free = subst (IsFree b) (sym chosen) (new_place_free b s) in
       let other = free.apart n d lt in
-      grind (arith, nat_tests, other, same)
+      grind (arith, nat_tests)
 
   fresh : All (λ r. merged_into p.next r.state ≡ false) p.rows
   fresh = next_is_new b s
@@ -93,7 +93,7 @@ module _ (other : GuestPage) {p : PagesView} {k : KeeperView} {cursor : Option G
     apart = tells.other;
     inside = inside;
     vacant = vacant;
-    number = (let most = spent_most h in omega (arith, most));
+    number = (let most = spent_most h in omega arith);
     fresh = fresh;
   }
 
@@ -148,7 +148,7 @@ module _ (other : GuestPage) {p : PagesView} {k : KeeperView} {cursor : Option G
       one_item =
           let none : item_count p.rows dup ≡ 0 = count_none (λ r. merged_into p.next r.state) p.rows fresh in
           let one = joined_count _ w dup s.rows_rise waits_at (waiting_is_alone _ tells.state).1 in
-          omega (arith, none, one)
+          omega arith
 
       -- once the place names the frame of the page that waits, a reference may come to that frame
       pub may_add_to : May k2 (Add f)
@@ -198,7 +198,8 @@ module _ (other : GuestPage) {p : PagesView} {k : KeeperView} {cursor : Option G
               (rw q_is
               (laid_joined first_laid first_rise _ row _ row_still item_at f lies refl change (λ r. refl) refl (sym tells.bytes)
               l p.restless steps))
-              (ap (λ (x : PagesView). state_of x cursor passes) goes ∙ (λ t. state_of (are_paired (chosen t) w row p) cursor passes)
-              ∙ sym ((stayed_is b p.frame row false at.so.0).0 ∙ ap (λ o. paired o b row) met.1))
+              (rw goes
+              ((λ t. state_of (are_paired (chosen t) w row p) cursor passes)
+              ∙ sym ((stayed_is b p.frame row false at.so.0).0 ∙ ap (λ o. paired o b row) met.1)))
               (subst (Performs (lying p k) (lying q l)) (sym deed_is) (record
               { made = all_steps; frame = rw q_is }))

@@ -1,5 +1,5 @@
 -- The beginning of a part of a pass: it changes only which rows wait, and what is due stays so where the cursor moves.
-use Rattle.ksm_book.proofs.Names.{ap, AreDue, BookState, BookValue, Comes, cond_both, Deed, GuestPage, InPageOrder, is_none, IsStill, List, pages_ahead, pass_begun, pass_ended_at_last, Reached, refl, sym, visit_begun, with_none_waiting, ◌∙◌, ◌≡◌}
+use Rattle.ksm_book.proofs.Names.{ap, AreDue, BookState, BookValue, Comes, cond_both, Deed, GuestPage, InPageOrder, IsStill, List, pages_ahead, pass_begun, pass_ended_at_last, Reached, refl, sym, visit_begun, ◌∙◌, ◌≡◌, arith, nat_tests}
 use Rattle.ksm_book.proofs.Folded.{settled_twice}
 use Rattle.ksm_book.proofs.Reached.{comes_to, first, in_order}
 use Rattle.ksm_book.proofs.Scanned.{begun_ahead}
@@ -8,9 +8,7 @@ use Rattle.ksm_book.proofs.Scanned.{begun_ahead}
 
 -- a beginning visit leaves the cursor where it stands once the pass was ended, if it had gone through all pages
 pub begun_cursor : (b : BookState) → (visit_begun b).cursor ≡ (pass_ended_at_last b).cursor
-begun_cursor b =
-    let closed = pass_ended_at_last b in
-    cond_both (is_none closed.cursor) (with_none_waiting closed) closed (λ c. c.cursor ≡ closed.cursor) (λ _. refl) (λ _. refl)
+begun_cursor b = grind (arith, nat_tests)
 
 -- as a pass begins nothing changes but which rows wait
 pub begins_still : {X : Type 0} (s : BookState × X) → IsStill s (pass_begun s.0, s.1)

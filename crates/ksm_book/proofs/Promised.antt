@@ -14,7 +14,7 @@ passing : {X : Type 0} (f : X → ℕ) (test : X → Bool) (xs : List X) (i : �
 passing f test xs i d lt passes =
     let kept = contains_filter _ xs _ (Contains-get_or xs i d lt) passes in
     let here = kept.1 in
-    (kept.0, omega (arith, here, length-map (filter test xs) f), get_or-map f _ _ _ _ here ∙ ap f kept.2)
+    (kept.0, omega (arith, length-map (filter test xs) f), get_or-map f _ _ _ _ here ∙ ap f kept.2)
 
 -- numbers that are each counted once differ
 once_each : (xs : List ℕ) → All (λ f. count_by (λ g. g == f) xs ≤ 1) xs → AllPairs (λ f g. f ≢ g) xs
@@ -24,10 +24,10 @@ once_each (x ∷ xs) once =
     let P : ℕ → Type 0 = λ f. count_by (λ g. g == f) (x ∷ xs) ≤ 1 in
     let first = All-head P x xs once in
     let more = count_more (λ g. g == x) x xs in
-    let none : count_by (λ g. g == x) xs ≡ 0 = grind (arith, nat_tests, first, more) in
+    let none : count_by (λ g. g == x) xs ≡ 0 = grind (arith, nat_tests) in
     let apart = none_counted _ xs none in
-    AllPairs-cons R x xs (λ k d lt same. let other = apart k d lt in absurd (grind (arith, nat_tests, other, same)))
-    (once_each xs (λ k d lt. let f = get_or xs k d in let all = All-tail P x xs once k d lt in let more = count_more (λ g. g == f) x xs in grind (arith, all, more)))
+    AllPairs-cons R x xs (λ k d lt same. let other = apart k d lt in absurd (grind (arith, nat_tests)))
+    (once_each xs (λ k d lt. let f = get_or xs k d in let all = All-tail P x xs once k d lt in let more = count_more (λ g. g == f) x xs in grind arith))
 
 -- a frame is a row's own at most as often as rows lie on it
 own_count : (f : ℕ) (frame : Frames) (rows : List Row) → All (λ r. shared_state r.state ≡ false → (g : ℕ) × (frame r.page ≡ Some g)) rows → count_by (λ g. g == f) (own_frames rows frame) ≤ uses f frame rows
@@ -38,14 +38,14 @@ own_count f frame (r ∷ rows) all =
     let here = All-head Q r _ all in
     let more = count_more (λ s. is_frame f (frame s.page)) r rows in
     elim (cases_Bool (shared_state r.state)) [
-      | inl shared ↦ grind (arith, rest, more, shared)
+      | inl shared ↦ grind arith
       | inr own ↦
           let is = (here own).1 in
           let list : own_frames (r ∷ rows) frame ≡ frame_number (frame r.page) ∷ own_frames rows frame = grind (arith, own) in
           let count = ap (count_by (λ g. g == f)) list ∙ count_more (λ g. g == f) (frame_number (frame r.page)) (own_frames rows frame) in
           let number = ap {B = ℕ} (λ n. if n == f then 1 else 0) (ap frame_number is) in
           let test = ap {B = ℕ} (λ (o : Option ℕ). if is_frame f o then 1 else 0) is in
-          omega (arith, rest, more, count, number, test)
+          omega arith
     ]
 
 all_own : (P : ℕ → Type 0) (rows : List Row) (frame : Frames) → All (λ r. shared_state r.state ≡ false → P (frame_number (frame r.page))) rows → All P (own_frames rows frame)
@@ -56,10 +56,10 @@ all_own P rows frame all =
     All-map P (λ r. frame_number (frame r.page)) (filter test rows) (λ k d lt. kept k d lt (not-true _ (passes k d lt)))
 
 named_life : (o : Option Life) → is_some o ≡ true → o ≡ Some (life_or o)
-named_life o some = grind (arith, nat_tests, some)
+named_life o some = grind (arith, nat_tests)
 
 alone_of_kind : (s : PageState) → kind_for s ≡ Private → shared_state s ≡ false
-alone_of_kind s is = grind (arith, nat_tests, is)
+alone_of_kind s is = grind (arith, nat_tests)
 
 module _ (b : BookState) (k : Ledger) (s : IsSound b) (frame : Frames) (p : Placed b.shape b.knobs.merge_across_nodes k b.rows frame b.dups None) where
   abbrev across : ℕ
@@ -74,8 +74,7 @@ module _ (b : BookState) (k : Ledger) (s : IsSound b) (frame : Frames) (p : Plac
   -- a row that is not shared has its own frame
   owns : All (λ r. shared_state r.state ≡ false → (f : ℕ) × (frame r.page ≡ Some f) × HasItsOwn b.shape k r f) b.rows
   owns i r0 lt alone =
-      let r = get_or b.rows i r0 in
-      let has = framed _ k _ r _ (own_framed _ alone) (p.each_row i r0 lt) in
+      let has = framed _ k _ (get_or b.rows i r0) _ (own_framed _ alone) (p.each_row i r0 lt) in
       let fits = has.2.0 in
       let kind = fits.kind ∙ own_kind _ alone in (
         has.0,
@@ -91,10 +90,10 @@ module _ (b : BookState) (k : Ledger) (s : IsSound b) (frame : Frames) (p : Plac
 
   -- a Zero row has no frame, and only zeroes
   zero_none : (r : Row) (o : Option ℕ) → IsServed b.shape k b.dups r o → zero_state r.state ≡ true → o ≡ None
-  zero_none r o served zero_is = grind (arith, nat_tests, served, zero_is)
+  zero_none r o served zero_is = grind (arith, nat_tests)
 
   dup_lives : All (λ d. has_items b.rows d ≡ true → Lives k b.dups b.shape b.rows frame d) b.dups
-  dup_lives n d lt some = lives p n d lt (λ none. absurd (grind (arith, nat_tests, some, none)))
+  dup_lives n d lt some = lives p n d lt (λ none. absurd (grind (arith, nat_tests)))
 
   stands : All (λ d. has_items b.rows d ≡ true → StandsOn b k d (place_frame k d.place)) b.dups
   stands n d lt some =
@@ -124,7 +123,7 @@ module _ (b : BookState) (k : Ledger) (s : IsSound b) (frame : Frames) (p : Plac
       let one = subst (λ (x : Kind). FitsBase x (frame_at k f).base) (own_kinds i d lt) (p.kinds f) in
       let listed = p.bases f in
       let few = own_count f frame b.rows (λ i r lt alone. let o = owns i r lt alone in (o.0, o.1)) in
-      omega (arith, one, listed, few))
+      omega arith)
 
   abbrev Live : DupRow → Type 0
   Live d = Lives k b.dups b.shape b.rows frame d
@@ -160,40 +159,37 @@ module _ (b : BookState) (k : Ledger) (s : IsSound b) (frame : Frames) (p : Plac
 
   own_listed : (f i : ℕ) (r : Row) → i < length b.rows → frame (get_or b.rows i r).page ≡ Some f → (frame_at k f).kind ≡ Private → Contains (own ++ shown) f
   own_listed f i r lt is kind =
-      let row = get_or b.rows i r in
-      let fits = subst (IsServed b.shape k b.dups row) is (p.each_row i r lt) in
+      let fits = subst (IsServed b.shape k b.dups (get_or b.rows i r)) is (p.each_row i r lt) in
       let alone = alone_of_kind _ (sym fits.0.kind ∙ kind) in
       let there = passing (λ z. frame_number (frame z.page)) _ _ i r lt (ap not alone) in
       Contains-append_left own _ f (subst (Contains own) (ap frame_number is) there)
 
   shown_listed : (f i : ℕ) (r : Row) → i < length b.rows → frame (get_or b.rows i r).page ≡ Some f → (frame_at k f).kind ≡ Stable → Contains (own ++ shown) f
   shown_listed f i r lt is kind =
-      let row = get_or b.rows i r in
-      let fits = subst (IsServed b.shape k b.dups row) is (p.each_row i r lt) in
+      let fits = subst (IsServed b.shape k b.dups (get_or b.rows i r)) is (p.each_row i r lt) in
       let number = number_of_kind _ (sym fits.0.kind ∙ kind) in
-      let its = s.items i r lt number.0 number.1 in
+      let its = s.items i r lt _ number.1 in
       let at = find_all (λ d. d.number == number.0) (Contains b.dups) b.dups its.0 its.1.stands (All-contains_itself b.dups) in
       let into = ap (merged_into (get_or b.dups at.0 its.0).number) number.1 ∙ eq-eqb number.0 (get_or b.dups at.0 its.0).number (sym (rw at.2
       (eqb-true its.0.number number.0 (find_passes (λ d. d.number == number.0) b.dups its.0 its.1.stands)))) in
-      let lies = (fits.1 at.0 its.0 at.1).item into in
       let counted = counts_one _ _ i r lt into in
       let there = passing (λ d. place_frame k d.place) _ _ _ _ at.1 (lt-ltb 0 (item_count b.rows (get_or b.dups at.0 its.0)) counted) in
-      Contains-append_right own _ f (subst (Contains shown) (sym lies.0) there)
+      Contains-append_right own _ f (subst (Contains shown) (sym ((fits.1 at.0 its.0 at.1).item into).0) there)
 
   in_use_listed : (f : ℕ) → is_in_use (frame_at k f).kind ≡ true → Contains (own ++ shown) f
   in_use_listed f used = go _ refl used
     where
       at_row : 1 ≤ (frame_at k f).base → (i : ℕ) × (r : Row) × (i < length b.rows) × (frame (get_or b.rows i r).page ≡ Some f)
-      at_row some = let used = p.bases f in row_on f _ (omega (arith, some, used))
+      at_row some = let used = p.bases f in row_on f _ (omega arith)
 
       fits_as : (kind : Kind) → (frame_at k f).kind ≡ kind → FitsBase kind (frame_at k f).base
       fits_as kind is = rw (← is) (p.kinds f)
 
       go : (kind : Kind) → (frame_at k f).kind ≡ kind → is_in_use kind ≡ true → Contains (own ++ shown) f
       go Filling is some = absurd (fits_as _ is)
-      go Private is some = let one = fits_as _ is in let at = at_row (omega (arith, one)) in own_listed f _ _ at.2 at.3 is
+      go Private is some = let one = fits_as _ is in let at = at_row (omega arith) in own_listed f _ _ at.2 at.3 is
       go Stable is some = let at = at_row (fits_as _ is) in shown_listed f _ _ at.2 at.3 is
-      go _ is some = absurd (grind (arith, some))
+      go _ is some = absurd (grind arith)
 
   outlived : All (λ d. has_items b.rows d ≡ false → IsOutlived k d.place) b.dups
   outlived n d lt none =
@@ -202,7 +198,7 @@ module _ (b : BookState) (k : Ledger) (s : IsSound b) (frame : Frames) (p : Plac
       record {
         life = life_or (named_at k e.place);
         named = named_life _ fit.named;
-        over = λ life. stale_is_loose p n d lt (let zero_is : item_count b.rows e ≡ 0 = grind (arith, nat_tests, none) in zero_is) life;
+        over = λ life. stale_is_loose p n d lt (let zero_is : item_count b.rows e ≡ 0 = grind (arith, nat_tests) in zero_is) life;
       }
 
   -- a sound book lies on its frames as promised, where it is placed lawfully and pages without a row lie on none
@@ -211,10 +207,9 @@ module _ (b : BookState) (k : Ledger) (s : IsSound b) (frame : Frames) (p : Plac
     own = λ i r lt alone. let o = owns i r lt alone in
         rw o.1 o.2;
     merged = λ i r lt n d l into.
-        let row = get_or b.rows i r in
-        let has = framed _ k _ row _ (ap zero_state (state_of_item _ _ into)) (p.each_row i r lt) in
+        let has = framed _ k _ (get_or b.rows i r) _ (ap zero_state (state_of_item _ _ into)) (p.each_row i r lt) in
         has.1 ∙ ap Some ((has.2.1 n d l).item into).0;
-    zero = λ i r lt zero_is. let row = get_or b.rows i r in (zero_none row _ (p.each_row i r lt) zero_is, s.zero i r lt zero_is);
+    zero = λ i r lt zero_is. (zero_none (get_or b.rows i r) _ (p.each_row i r lt) zero_is, s.zero i r lt zero_is);
     absent = absent;
     dups = stands;
     distinct = all_distinct;
@@ -243,18 +238,10 @@ module _ (b : BookState) (k : Ledger) (s : IsSound b) (frame : Frames) (p : Plac
       go (Some d) is = find_all _ (λ e. e.place < frames_of b.shape) _ d is (λ n e l. (p.each_dup n e l).place)
       go None is =
           let listed = passing (λ r. frame_number (frame r.page)) (λ r. not (shared_state r.state)) b.rows has.0 row has.1
-          (ap (λ (r : Row). not (shared_state r.state)) has.2 ∙ ap not alone) in
+          (rw has.2 (ap not alone)) in
           let some = listed.1 in
           let most = length-le_from_distinct_below (own ++ shown) (frames_of b.shape)
           (IsDistinct-from_apart eqb (own ++ shown) (λ n m f before lt. ne_eqb _ _ (all_distinct n m f before lt)))
           (λ q in_it. let at = Contains-from_any {eq = eqb} (λ x y e. eqb-true x y e) q (own ++ shown) in_it in
-          subst (λ x. x < frames_of b.shape) at.2 (inside at.0 q at.1)) in
-          omega (
-            arith,
-            most,
-            some,
-            length-append own shown,
-            length-map (filter (has_items b.rows) b.dups) (λ d. place_frame k d.place),
-            ap length (none_stale b.rows b.dups is),
-            empty_from_most 0 b.dups,
-          )
+          rw (← at.2) (inside at.0 q at.1)) in
+          omega (arith, length-append own shown, length-map (filter (has_items b.rows) b.dups) (λ d. place_frame k d.place), ap length (none_stale b.rows b.dups is), empty_from_most 0 b.dups)

@@ -4,7 +4,7 @@ use Rattle.std.proofs.lemmas.Bool.{eq-eqb}
 use Rattle.ksm_book.proofs.Sharing.{laid_cleared, vacant_loose}
 use Rattle.ksm_book.proofs.Made.{made_one, made_then}
 use Rattle.ksm_book.proofs.Withdrawn.{elsewhere_so}
-use Rattle.ksm_book.proofs.ByPage.{mapped_from, none_mapped}
+use Rattle.ksm_pages.proofs.Options.{mapped_some, none_mapped}
 
 -- the place of the first stale dup has no other dup
 pub stale_vacant : (rows : List Row) (dups : List DupRow) (d : DupRow) → InPlaceOrder dups → find (is_stale rows) dups ≡ Some d → IsVacant d.place rows dups
@@ -15,8 +15,7 @@ stale_vacant rows dups d rise found k x lt same =
 
 -- where no stale dup is found, all dups have items
 pub none_stale : (rows : List Row) (dups : List DupRow) → find (is_stale rows) dups ≡ None → filter (has_items rows) dups ≡ dups
-none_stale rows dups none = filter_all _ _
-    (λ k x lt. let lives = find_none _ _ none k x lt in grind (arith, nat_tests, lives))
+none_stale rows dups none = filter_all _ _ (λ k x lt. let lives = find_none _ _ none k x lt in grind (arith, nat_tests))
 
 -- a stale dup less is no dup with items less
 pub live_elsewhere : (rows : List Row) (place : ℕ) (dups : List DupRow) → IsVacant place rows dups → filter (has_items rows) (filter (elsewhere place) dups) ≡ filter (has_items rows) dups
@@ -25,7 +24,7 @@ live_elsewhere rows place (d ∷ ds) vacant =
     let P : DupRow → Type 0 = λ x. x.place ≡ place → item_count rows x ≡ 0 in
     let rest = live_elsewhere rows place ds (All-tail P d ds vacant) in
     let none = All-head P d ds vacant in
-    grind (arith, nat_tests, rest, none)
+    grind (arith, nat_tests, none)
 
 -- the first stale dup is the first to go
 pub first_stale : (rows : List Row) (dups : List DupRow) (d : DupRow) → InPlaceOrder dups → find (is_stale rows) dups ≡ Some d
@@ -36,27 +35,27 @@ first_stale rows (x ∷ xs) d rise found = elim (cases_Bool (is_stale rows x)) [
       let is : x ≡ d = grind (arith, found, stale) in
       let gone = ap (λ (y : DupRow). not (y.place == d.place)) is ∙ ap not (eq-eqb d.place d.place refl) in
       let off : All (λ e. elsewhere d.place e ≡ true) xs = λ i e lt. elsewhere_so _ (get_or xs i e)
-      (λ same. (let later = (rise 0 (suc i) e (omega arith) (omega (arith, lt))).0 in let here = ap (λ (y : DupRow). y.place) is in
-      omega (arith, later, here, same))) in
+      (λ same. (let later = (rise 0 (suc i) e (omega arith) (omega arith)).0 in let here = ap (λ (y : DupRow). y.place) is in
+      omega arith)) in
       let all : filter (elsewhere d.place) xs ≡ xs = filter_all (elsewhere d.place) xs off in
-      grind (arith, stale, gone, all, is)
+      grind (arith, stale, gone, all)
   | inr lives ↦
       let rest = first_stale rows xs d (pairs_tail (λ (a b : DupRow). (a.place < b.place) × ((a.number == b.number) ≡ false)) x xs rise)
-      (grind (arith, found, lives)) in
-      grind (arith, lives, rest)
+      (grind (arith, found)) in
+      grind arith
 ]
 
 -- dups in the order of their places, each place below a bound, are no more than the bound
 few_from : (m n : ℕ) (dups : List DupRow) → m ≤ n → InPlaceOrder dups → All (λ d. (m ≤ d.place) × (d.place < n)) dups → m + length dups ≤ n
-few_from m n [] le rise all = omega (arith, le)
+few_from m n [] le rise all = omega arith
 few_from m n (d ∷ ds) le rise all =
     let here = All-head (λ (e : DupRow). (m ≤ e.place) × (e.place < n)) d ds all in
     let rest = All-tail (λ (e : DupRow). (m ≤ e.place) × (e.place < n)) d ds all in
     let low = here.0 in
     let high = here.1 in
-    let tail = few_from (d.place + 1) n ds (omega (arith, high)) (pairs_tail (λ (a b : DupRow). (a.place < b.place) × ((a.number == b.number) ≡ false)) d ds rise)
-    (λ i e lt. (let above = (rise 0 (suc i) e (omega arith) (omega (arith, lt))).0 in omega (arith, above), (rest i e lt).1)) in
-    omega (arith, tail, low)
+    let tail = few_from (d.place + 1) n ds (omega arith) (pairs_tail (λ (a b : DupRow). (a.place < b.place) × ((a.number == b.number) ≡ false)) d ds rise)
+    (λ i e lt. (let above = (rise 0 (suc i) e (omega arith) (omega arith)).0 in omega arith, (rest i e lt).1)) in
+    omega arith
 
 -- so far so many stale dups went, and rows and dups lie lawfully
 pub record Drops (p q : PagesView) (k l : KeeperView) (count : ℕ) : Type 0 where
@@ -88,7 +87,7 @@ module _ {p q : PagesView} {k l : KeeperView} {count : ℕ} (h : Drops p q k l c
   rows_are = rw h.pages
 
   stale : (d : DupRow) × (find (is_stale q.rows) q.dups ≡ Some d) × (d.place ≡ place)
-  stale = mapped_from _ _ _ (sym told)
+  stale = mapped_some _ _ _ (sym told)
 
   found : find (is_stale p.rows) q.dups ≡ Some stale.0
   found = ap (λ rows. find (is_stale rows) q.dups) (sym rows_are) ∙ stale.1
@@ -117,16 +116,7 @@ module _ {p q : PagesView} {k l : KeeperView} {count : ℕ} (h : Drops p q k l c
   pub drop_few : count + 1 < 2 ^ 64
   drop_few =
       let frames = few_from 0 _ _ (omega arith) h.first (λ n d lt. (omega arith, (h.before.placed.each_dup n d lt).place)) in
-      omega (
-        arith,
-        h.many,
-        ap length h.all,
-        length-append h.gone (filter (is_stale p.rows) q.dups),
-        length-filter (is_stale p.rows) p.dups,
-        count_by-le-length (is_stale p.rows) p.dups,
-        frames,
-        frames_at_most p.shape h.before.small,
-      )
+      omega (arith, ap length h.all, length-append h.gone (filter (is_stale p.rows) q.dups), length-filter (is_stale p.rows) p.dups, count_by-le-length (is_stale p.rows) p.dups, frames_at_most p.shape h.before.small)
 
   -- where the place of the first stale dup is withdrawn and that dup goes, one stale dup more went
   pub drops_more : (q' : PagesView) (l' : KeeperView) → l' ≡ did l (Withdraw place) 0 → q' ≡ record q { dups = filter (elsewhere place) q.dups } → Drops p q' k l' (count + 1)
@@ -139,7 +129,7 @@ module _ {p q : PagesView} {k l : KeeperView} {count : ℕ} (h : Drops p q k l c
         live = ap (filter (has_items p.rows)) dups ∙ live_elsewhere p.rows _ _ vacant ∙ h.live;
         gone = h.gone ++ stale.0 ∷ [];
         all = rw dups (h.all ∙ ap (λ ds. h.gone ++ ds) next ∙ sym (append_assoc h.gone (stale.0 ∷ []) _));
-        many = omega (arith, h.many, length-append h.gone (stale.0 ∷ []));
+        many = omega (arith, length-append h.gone (stale.0 ∷ []));
         made = subst (MakesSteps k l') (sym (map-append (λ (d : DupRow). Withdraw d.place) h.gone (stale.0 ∷ []))) (made_then h.made one);
         first = h.first;
         rise = subst InPlaceOrder (sym dups) (ordered_filter _ _ h.rise);

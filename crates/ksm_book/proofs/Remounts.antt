@@ -1,5 +1,5 @@
 -- A dup with items, and where its pages lie before and after it moves.
-use Rattle.ksm_book.proofs.Names.{list_any_at, [], All, and_parts, ap, arith, blank, Bool, count_in, did, dup_frame, dup_numbered, DupFits, DupRow, Dying, each_has_number, eq-eqb, find_all, find_passes, Err, Finds, FindsHeld, FindsNone, HasRemounted, InUse, MayMount, MayMove, NoFrame, Ok, frame_at, frame_found, frame_number, frames_of, Free, Freeze, get_or, get_or-set_other, GuestPage, has_items, instead, is_frame, is_item, IsInLife, IsLaid, IsLoose, IsLowestFree, item_count, items_on, KeeperView, Ledger, length, length-set, Life, life_or, List, list_any, ltb-true, lying, MakesSteps, merged_into, mounting, Moves, ne_eqb, node_of, None, Note, Option, PagesView, place_frame, Placed, Publish, refl, Row, row_at, same_Some, set, Shape, Some, spent, Stable, subst, sym, true, with_frame, ℕ, ◌&&◌, ◌*◌, ◌+◌, ◌<◌, ◌==◌, ◌∙◌, ◌∷◌, ◌≡◌, ◌≢◌, ◌≤◌, if◌then◌else◌, once_mounted, All-contains_itself, Contains}
+use Rattle.ksm_book.proofs.Names.{list_any_at, [], All, and_parts, ap, arith, blank, Bool, count_in, did, dup_frame, dup_numbered, DupFits, DupRow, Dying, each_has_number, eq-eqb, find_all, find_passes, Err, Finds, FindsHeld, FindsNone, HasRemounted, InUse, MayMount, MayMove, NoFrame, Ok, frame_at, frame_found, frame_number, frames_of, Free, Freeze, get_or, get_or-set_other, GuestPage, has_items, instead, is_frame, is_item, IsInLife, IsLaid, IsLoose, IsLowestFree, item_count, items_on, KeeperView, Ledger, length, length-set, Life, life_or, List, list_any, ltb-true, lying, MakesSteps, merged_into, mounting, Moves, ne_eqb, node_of, None, Note, Option, PagesView, place_frame, Placed, Publish, refl, Row, row_at, same_Some, set, Shape, Some, spent, Stable, subst, sym, true, with_frame, ℕ, ◌&&◌, ◌+◌, ◌<◌, ◌==◌, ◌∙◌, ◌∷◌, ◌≡◌, ◌≢◌, ◌≤◌, if◌then◌else◌, once_mounted, All-contains_itself, Contains, nat_tests}
 use mathlib.Core.Logic.{dite}
 use native.Mathlib.Decide.{ℕ_discrete}
 use Rattle.ksm_book.proofs.ByPage.{found_page, same_frames}
@@ -70,7 +70,7 @@ module _ {v : PagesView} {k : KeeperView} {dup : DupRow} {node g : ℕ} (may : M
     dup_fits = among (DupFits sh across w.ledger) p.each_dup
 
     live : Lives w.ledger dups sh v.rows v.frame dup
-    live = among (λ d. (item_count v.rows d ≡ 0 → ⊥) → Lives w.ledger dups sh v.rows v.frame d) (lives p) (λ none. omega (arith, none, item_some))
+    live = among (λ d. (item_count v.rows d ≡ 0 → ⊥) → Lives w.ledger dups sh v.rows v.frame d) (lives p) (λ none. omega (arith, item_some))
 
     item_lies : v.frame live.item.page ≡ Some g
     item_lies = find_all by_item (λ r. by_item r ≡ true → v.frame r.page ≡ Some g) v.rows live.item live.first
@@ -92,9 +92,9 @@ module _ {v : PagesView} {k : KeeperView} {dup : DupRow} {node g : ℕ} (may : M
 
     -- the dup's items are the rows on its frame
     on_it : All (λ r. is_frame g (v.frame r.page) ≡ merged_into dup.number r.state) v.rows
-    on_it i r lt = ap (λ x. is_frame x (v.frame (get_or v.rows i r).page)) on_frame
-        ∙ among (λ d. IsInLife w.ledger d.place → is_frame (place_frame w.ledger d.place) (v.frame (get_or v.rows i r).page)
-        ≡ merged_into d.number (get_or v.rows i r).state) (λ m d less life. lies_as_item p m d less life i r lt) live.life
+    on_it i r lt = rw on_frame
+        (among (λ d. IsInLife w.ledger d.place → is_frame (place_frame w.ledger d.place) (v.frame (get_or v.rows i r).page)
+        ≡ merged_into d.number (get_or v.rows i r).state) (λ m d less life. lies_as_item p m d less life i r lt) live.life)
 
     -- so they go from there
     items_go : (f' : ℕ) → items_on dup.number f' v.rows v.frame ≡ instead g f' v.frame
@@ -102,17 +102,21 @@ module _ {v : PagesView} {k : KeeperView} {dup : DupRow} {node g : ℕ} (may : M
       where
         by : (page : GuestPage) (o : Option Row) → row_at page v.rows ≡ o
             → items_on dup.number f' v.rows v.frame page ≡ instead g f' v.frame page
-        by page None none = ap (λ (o : Option Row). if is_item dup.number o then Some f' else v.frame page) none
-            ∙ sym (instead_there g f' v.frame page (λ on. (let e : None ≡ Some g = sym (absent page none) ∙ on in cc)))
+        by page None none = grind (
+          arith,
+          nat_tests,
+          none,
+          instead_there g f' v.frame page (λ on. (let e : None ≡ Some g = sym (absent page none) ∙ on in cc)),
+        )
         by page (Some r) found =
             let same = ap (λ q. is_frame g (v.frame q)) (sym (found_page _ _ r found))
             ∙ find_all _ (λ s. is_frame g (v.frame s.page) ≡ merged_into dup.number s.state) _ r found on_it in
             ap (λ (b : Bool). if b then Some f' else v.frame page) (ap (is_item dup.number) found ∙ sym same)
 
     base : n.base ≡ item_count v.rows dup
-    base = ap (λ x. (frame_at w.ledger x).base) on_frame
-        ∙ among (λ d. IsInLife w.ledger d.place → (frame_at w.ledger (place_frame w.ledger d.place)).base ≡ item_count v.rows d)
-        (λ i d lt. base_is_items p i d lt) live.life
+    base = rw on_frame
+        (among (λ d. IsInLife w.ledger d.place → (frame_at w.ledger (place_frame w.ledger d.place)).base ≡ item_count v.rows d)
+        (λ i d lt. base_is_items p i d lt) live.life)
 
     bytes : n.content ≡ dup.bytes
     bytes = rw on_frame (dup_fits.content live.life)
@@ -128,14 +132,13 @@ module _ {v : PagesView} {k : KeeperView} {dup : DupRow} {node g : ℕ} (may : M
     lowest = rw (← may.laid.same) to.lowest
 
     inside : f < frames_of sh
-    inside = let end : node * sh.frames_per_node + sh.frames_per_node ≤ frames_of sh = node_end node sh.nodes sh.frames_per_node may.exists in
-        let high = lowest.high in omega (arith, end, high)
+    inside = grind (arith, nat_tests, node_end node sh.nodes sh.frames_per_node may.exists)
 
     within : f < length w.ledger.frames
-    within = let long = p.frames_long in let lt = inside in omega (arith, long, lt)
+    within = let long = p.frames_long in let lt = inside in omega arith
 
     within_g : g < length w.ledger.frames
-    within_g = let long = p.frames_long in let lt = inside_g in omega (arith, long, lt)
+    within_g = let long = p.frames_long in let lt = inside_g in omega arith
 
     apart : f ≢ g
     apart e = let both : Free ≡ Stable = sym lowest.free ∙ ap (λ x. (frame_at w.ledger x).kind) e ∙ stable in cc
@@ -168,8 +171,7 @@ module _ {v : PagesView} {k : KeeperView} {dup : DupRow} {node g : ℕ} (may : M
           small = may.laid.small;
           same = shape_same sh w u shape_is frozen_table;
           placed = rw still p;
-          spent = (let before = may.laid.spent in let more = more_spent in let e = ap spent still in omega
-              (arith, before, more, e));
+          spent = (let before = may.laid.spent in let more = more_spent in let e = ap spent still in omega arith);
         }
 
         -- where the exchange found another count than the keeper's references, the dup stays
@@ -189,7 +191,7 @@ module _ {v : PagesView} {k : KeeperView} {dup : DupRow} {node g : ℕ} (may : M
         frozen = rw (freezes, eq-eqb (count_in found) n.base all)
 
         at_g : frame_at u.ledger g ≡ dead
-        at_g = ap (λ (z : Ledger). frame_at z g) frozen ∙ at_again w.ledger g within_g _
+        at_g = rw frozen (at_again w.ledger g within_g _)
 
         at_other : (x : ℕ) → x ≢ g → frame_at u.ledger x ≡ frame_at w.ledger x
         at_other x ne = rw frozen (get_or-set_other w.ledger.frames g x dead blank ne)
@@ -213,14 +215,8 @@ module _ {v : PagesView} {k : KeeperView} {dup : DupRow} {node g : ℕ} (may : M
                   (λ ne. rw (at_other x ne) (p.widths x));
               at = rw (← same) dup_fits.place;
               loose = loose_of _ (rw frozen (sym on_frame));
-              some = omega (arith, is, base, item_some);
-              few = omega (
-                arith,
-                is,
-                base,
-                among (λ d. item_count v.rows d ≤ v.knobs.max_page_sharing) may.sound.2.limit,
-                may.sound.2.knobs.max_page_sharing.1,
-              );
+              some = omega (arith, base, item_some);
+              few = omega (arith, base, among (λ d. item_count v.rows d ≤ v.knobs.max_page_sharing) may.sound.2.limit);
             }
 
         -- and the dup stands on the new frame
@@ -288,11 +284,11 @@ module _ {v : PagesView} {k : KeeperView} {dup : DupRow} {node g : ℕ} (may : M
                     let same = ap (λ (y : Note). y.generation) here in
                     let past = past_le (frame_at k1 f).kind (frame_at k1 f).generation in
                     let one = spent_kept w.ledger g dead (past_le n.kind n.generation) in
-                    let two = spent_kept k1 f full (omega (arith, same, past)) in
+                    let two = spent_kept k1 f full (omega arith) in
                     let end = ap spent ledger_is in
                     let before = may.laid.spent in
                     let more = more_spent in
-                    omega (arith, one, two, end, before, more)
+                    omega arith
 
             -- once the new frame is mounted and the items lie there, the dup has moved to a frame of the node
             pub has_remounted : {X : Type 0} {done : X} → (before : KeeperView) × (x ≡ did before (Publish dup.place f) 0)

@@ -18,7 +18,7 @@ module _ {p : PagesView} {k w : KeeperView} (h : IsLaid p k) (rise : InPageOrder
   houses = record { pages = λ r. refl; row = by _ known }
     where
       by : (o : Option Row) → is_some o ≡ true → MatchOption o ⊥ (λ r. ((housed node bytes r).state ≡ Private) × ((housed node bytes r).home ≡ node) × ((housed node bytes r).bytes ≡ bytes))
-      by o none = grind (arith, nat_tests, none)
+      by o none = grind (arith, nat_tests)
 
   same : w.table.shape ≡ p.shape
   same = shape_same _ k w h.same ((provides_does provides).1.table)
@@ -48,7 +48,7 @@ module _ {p : PagesView} {k w : KeeperView} (h : IsLaid p k) (rise : InPageOrder
             frame = lies;
           };
           placed = λ change by_this. rw lies (left_placed _ leaves (in_hand _ by_this));
-          spent = (let s = h.spent in let m = taken.spent in let more = left_spends _ leaves in omega (arith, s, m, more));
+          spent = (let s = h.spent in let m = taken.spent in let more = left_spends _ leaves in omega arith);
         }
 
 -- where no frame of a node was found, pages that lie lawfully are turned away, and no page changed

@@ -17,7 +17,7 @@ filled_by P o told = grind (arith, nat_tests, told)
 
 -- a row that a visit may change has a frame of its own
 pub restless_own : (row : Row) → is_restless row ≡ true → shared_state row.state ≡ false
-restless_own row is = let both = and_parts row.mergeable (not (shared_state row.state)) is in grind (arith, both.1)
+restless_own row is = let both = and_parts row.mergeable (not (shared_state row.state)) is in grind arith
 
 -- to the book and to the frames the visit of a row that a visit may change does what its handling does, by the dup that it may join
 pub visited_by : (b : BookState) (frame : Frames) (row : Row) (o : Option DupRow) → is_restless row ≡ true
@@ -37,9 +37,7 @@ pub stayed_is : (b : BookState) (frame : Frames) (row : Row) (zeroes : Bool) →
     → (row_visited b row ≡ (if zeroes then record b { rows = change_row row.page (λ r. record r { state = Zero }) b.rows } else
     paired (partner b.knobs b.rows row) b row))
     × (row_visiting b frame row ≡ (if zeroes then emptying frame row.page else pairing (partner b.knobs b.rows row) b frame row))
-stayed_is b frame row zeroes stays =
-    let own = restless_own row stays.restless in
-    (rw (own, stays.none, stays.unchanged, stays.zeroes), rw (own, stays.none, stays.unchanged, stays.zeroes))
+stayed_is b frame row zeroes stays = grind (arith, nat_tests, stays, restless_own row stays.restless)
 
 -- ---------------------------------------------------------------- what the visit of a page comes to
 
@@ -133,7 +131,7 @@ visit_comes v w page row found restless state does = λ from s before.
 best_has_item : (b : BookState) (row : Row) (dup : DupRow) → best_dup b.knobs b.rows b.dups row ≡ Some dup → 1 ≤ item_count b.rows dup
 best_has_item b row dup found =
     let best = find_passes (is_best b.knobs b.rows b.dups row) b.dups dup found in
-    grind (arith, nat_tests, best)
+    grind (arith, nat_tests)
 
 module _ (best : Best) {p : PagesView} {k : KeeperView} {cursor : Option GuestPage} {passes : ℕ} {v : BookView} {page : GuestPage}
     (at : Meets (λ b. MayJoin b best) p k cursor passes v page) where
@@ -154,7 +152,7 @@ module _ (best : Best) {p : PagesView} {k : KeeperView} {cursor : Option GuestPa
 
     live : Lives k.ledger p.dups p.shape p.rows p.frame dup
     live = among (λ d. (item_count p.rows d ≡ 0 → ⊥) → Lives k.ledger p.dups p.shape p.rows p.frame d) (lives at.laid.placed)
-        (λ none. let some = best_has_item (state_of p cursor passes) row dup told.1 in omega (arith, none, some))
+        (λ none. let some = best_has_item (state_of p cursor passes) row dup told.1 in omega arith)
 
     abbrev item : Row
     item = live.item
@@ -183,7 +181,7 @@ module _ (best : Best) {p : PagesView} {k : KeeperView} {cursor : Option GuestPa
         sym joins.bytes ∙ ap (λ (d : DupRow). d.bytes) (sym same) ∙ its.1.bytes
 
     few : item_count p.rows dup ≤ MOST_REFERENCES - 1
-    few = (let r = joins.room in let m = at.sound.knobs.max_page_sharing.1 in omega (arith, r, m))
+    few = (let r = joins.room in let m = at.sound.knobs.max_page_sharing.1 in omega arith)
 
     stands : Contains p.dups dup
     stands = among (Contains p.dups) (All-contains_itself _)
@@ -235,12 +233,12 @@ module _ (best : Best) {p : PagesView} {k : KeeperView} {cursor : Option GuestPa
             (rw q_is
             (laid_joined at.laid at.sound.rows_rise _ row _ at.found found_item g there
             item_merged _ (λ r. refl) state_is same_bytes l _ steps))
-            (ap (λ (x : PagesView). state_of x cursor passes) q_is
-            ∙ (λ t. record (state_of p cursor passes) {
+            (rw q_is
+            ((λ t. record (state_of p cursor passes) {
               rows = change_row (sym (page_is at) t) (λ r. record r { state = Merged (told.2.0 t) })
                   p.rows;
             })
-            ∙ sym (visited_by _ p.frame row _ at.so.0 told.1).0)
+            ∙ sym (visited_by _ p.frame row _ at.so.0 told.1).0))
             (subst (Performs (lying p k) (lying q l)) (sym deed_is) (record { made = steps; frame = frame_is }))
 
 -- ---------------------------------------------------------------- a page becomes Zero
@@ -266,7 +264,8 @@ module _ {p : PagesView} {k : KeeperView} {cursor : Option GuestPage} {passes : 
       let leaves = subst (λ o. MakesSteps k l (leaving o)) was made in
       leads at q l at.so.restless
       (rw goes (laid_rows at.laid _ _ _ l (rw leaves.after) (left_spends _ leaves) (left_placed _ leaves zero_hand)))
-      (ap (λ (x : PagesView). state_of x cursor passes) goes ∙ (λ t. record b { rows = change_row (sym (page_is at) t) zeroed p.rows }) ∙
-      sym (stayed_is b p.frame _ true at.so).0)
+      (rw goes
+      ((λ t. record b { rows = change_row (sym (page_is at) t) zeroed p.rows }) ∙
+      sym (stayed_is b p.frame _ true at.so).0))
       (subst (Performs (lying p k) (lying q l)) (sym ((stayed_is b _ _ true at.so).1 ∙ ap (emptying p.frame) (page_is at)))
       (record { made = leaves; frame = rw goes }))

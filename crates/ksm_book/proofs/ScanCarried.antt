@@ -9,8 +9,8 @@ use Rattle.ksm_book.proofs.Reached.{begins, first}
 
 -- where there are pages to visit, some row is mergeable
 any_some : (rows : List Row) → 1 ≤ length (mergeable_pages rows) → list_any (λ r. r.mergeable) rows ≡ true
-any_some [] some = absurd (omega (arith, some))
-any_some (r ∷ rows) some = let rest = any_some rows in grind (arith, some, rest)
+any_some [] some = absurd (omega arith)
+any_some (r ∷ rows) some = let rest = any_some rows in grind arith
 
 -- where no page is mergeable, no row is
 pub any_none : (rows : List Row) → length (mergeable_pages rows) ≡ 0 → list_any (λ r. r.mergeable) rows ≡ false

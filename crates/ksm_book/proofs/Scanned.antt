@@ -1,5 +1,5 @@
 -- What the parts of a scan come to: the end of a pass, listed pages in the stead of those ahead, visits up to a page, and whole passes.
-use Rattle.ksm_book.proofs.Names.{[], after_cursor, Ahead, All, AllPairs-filter, and_parts, ap, append-nil, AreAscending, AreListed, arith, At, begun, BookState, Bool, both_ways, cases_lt, comes_before, cond_both, drop, drop_more, End, EndsAt, eqb-true, false, filter, filter_all, filter_passes, from_to, get_or, get_or_from_slice_get, GuestPage, has_item, inl, InPageOrder, inr, is_none, is_nowhere, is_some, IsBeside, IsStill, last_of, last_visited, length, length-take-le, List, mergeable_pages, min, next_row, None, not, Option, option_map, pages_ahead, pages_visited, pass_begun, pass_ended, pass_ended_at_last, refl, restless_at, Row, slice_get, slice_get_within, Some, subst, suc, sym, take, take-append-drop, true, true≢false, up_to, visit_begun, visits_beside, with_none_waiting, ℕ, ◌&&◌, ◌*◌, ◌++◌, ◌+◌, ◌-◌, ◌<◌, ◌^◌, ◌∙◌, ◌∷◌, ◌≡◌, ◌≤◌, ◌⊎◌, if◌then◌else◌}
+use Rattle.ksm_book.proofs.Names.{[], after_cursor, Ahead, All, AllPairs-filter, and_parts, ap, append-nil, AreAscending, AreListed, arith, At, begun, BookState, Bool, both_ways, cases_lt, comes_before, cond_both, drop, drop_more, End, EndsAt, eqb-true, false, filter, filter_all, filter_passes, from_to, get_or, get_or_from_slice_get, GuestPage, has_item, inl, InPageOrder, inr, is_none, is_nowhere, is_some, IsBeside, IsStill, last_of, last_visited, length, length-take-le, List, mergeable_pages, min, next_row, None, not, Option, option_map, pages_ahead, pages_visited, pass_begun, pass_ended, pass_ended_at_last, refl, restless_at, Row, slice_get, slice_get_within, Some, subst, suc, sym, take, take-append-drop, true, true≢false, up_to, visit_begun, visits_beside, with_none_waiting, ℕ, ◌&&◌, ◌*◌, ◌++◌, ◌+◌, ◌-◌, ◌<◌, ◌^◌, ◌∙◌, ◌∷◌, ◌≡◌, ◌≤◌, ◌⊎◌, if◌then◌else◌, nat_tests}
 use Rattle.ksm_book.proofs.PagesAhead.{Before, GoesDown, between_at, between_is, has_filter, last_of_take, place_of, place_splits}
 use Rattle.ksm_book.proofs.Going.{Goes, begun_goes, settled_goes}
 use Rattle.ksm_book.proofs.Folded.{ascending_ahead, begun_folded, beside_on, every_page, next_first, none_next, pages_alike, pages_go, pass_goes_on, repeats, same_restless, visits_folded}
@@ -8,17 +8,15 @@ use Rattle.ksm_book.proofs.Folded.{ascending_ahead, begun_folded, beside_on, eve
 
 none_nowhere : (pages : List GuestPage) (most : ℕ) (ahead : Ahead) → EndsAt pages most ahead
     → (is_nowhere ahead ≡ true → pages ≡ []) × (pages ≡ [] → is_nowhere ahead ≡ true)
-none_nowhere [] most (At page) comes = (λ is. refl, λ is. absurd (omega (arith, comes.0)))
+none_nowhere [] most (At page) comes = (λ is. refl, λ is. absurd (omega arith))
 none_nowhere [] most (End made) comes = (λ is. refl, λ is. rw comes.0)
 none_nowhere (page ∷ pages) most (At last) comes = (λ is. absurd (true≢false (sym is)), λ is. cc)
-none_nowhere (page ∷ pages) most (End made) comes = (λ is. let none = eqb-true made 0 is in absurd (omega (arith, none, comes.0)), λ is. cc)
+none_nowhere (page ∷ pages) most (End made) comes = (λ is. let none = eqb-true made 0 is in absurd (omega arith), λ is. cc)
 
 -- a pass that has gone through all pages ends
 pub pass_over : (b : BookState) (most : ℕ) (ahead : Ahead) → EndsAt (pages_ahead b) most ahead → is_nowhere ahead ≡ true
     → is_some b.cursor ≡ true → pass_ended b ≡ pass_ended_at_last b
-pass_over b most ahead comes nowhere under_way =
-    let none = none_next b ((none_nowhere _ _ _ comes).0 nowhere) in λ t. if sym under_way t && is_none
-    (sym none t) then pass_ended b else b
+pass_over b most ahead comes nowhere under_way = grind (arith, nat_tests, comes, nowhere, under_way, none_next, none_nowhere)
 
 -- a pass with a page ahead, or one that has not begun, does not end
 pub pass_stays : (b : BookState) (most : ℕ) (ahead : Ahead) → EndsAt (pages_ahead b) most ahead
@@ -57,9 +55,7 @@ begins b = by _ refl (next_row b.cursor b.rows) refl
 
 -- the pages ahead as a pass begins
 begins_ahead : (b new : BookState) → Begins b new → pages_ahead (visit_begun b) ≡ mergeable_pages b.rows
-begins_ahead b new (none, rows, is) =
-    ap pages_ahead is ∙ settled_ahead new ∙ ap (λ o. filter (after_cursor o) (mergeable_pages new.rows)) none ∙ every_page new.rows
-    ∙ ap mergeable_pages rows
+begins_ahead b new (none, rows, is) = grind (arith, nat_tests, settled_ahead new, every_page new.rows)
 
 -- where there is a page to visit, one is ahead once a visit begins
 pub some_ahead : (b : BookState) → 1 ≤ length (mergeable_pages b.rows) → 1 ≤ length (pages_ahead (visit_begun b))
@@ -72,12 +68,12 @@ some_ahead b some = elim (begins b) [
 
 -- a page that is restless after a change that makes no page restless was so before
 pub was_restless : (old new : List Row) → Goes old new → (page : GuestPage) → restless_at page new ≡ true → restless_at page old ≡ true
-was_restless old new goes page restless = let calm = goes.calm page in grind (arith, calm, restless)
+was_restless old new goes page restless = let calm = goes.calm page in grind arith
 
 -- scans visit a restless page
 pub restless_mergeable : (page : GuestPage) (rows : List Row) → restless_at page rows ≡ true → has_item page (mergeable_pages rows) ≡ true
 restless_mergeable page [] is = absurd (true≢false (sym is))
-restless_mergeable page (r ∷ rows) is = let rest = restless_mergeable page rows in grind (arith, is, rest)
+restless_mergeable page (r ∷ rows) is = let rest = restless_mergeable page rows in grind arith
 
 -- the listed pages from one index up to another, where these are the counts of those up to the cursor, and of those that pass a test
 module _ (t : GuestPage → Bool) (down : GoesDown t) (pages : List GuestPage) (first end : ℕ) (told : Option GuestPage) (b : BookState)
@@ -147,14 +143,14 @@ module _ {X : Type 0} (step : BookState → X → Row → X) (beside : IsBeside 
       ≡ visits_beside step most s
   page_made most page some ends =
       let n = most - 1 in
-      let one : suc n ≡ most = omega (arith, some) in
+      let one : suc n ≡ most = omega arith in
       let done = take (suc n) ahead in
-      let many = length-take-le (suc n) ahead (omega (arith, one, ends.0)) in
+      let many = length-take-le (suc n) ahead (omega arith) in
       let last = last_of_take _ n _ _ ends.1 in
       ap (λ l. (record (after l).0 { cursor = Some page }, (after l).1)) (place_splits _ n _ ascending ends.1).1
       ∙ (λ t. (record (after done).0 { cursor = sym last t }, (after done).1))
-      ∙ sym (visits_folded step beside s done (get_or ahead (suc n) page ∷ drop (suc n + 1) ahead) rise (omega (arith, many))
-      (parts (suc n) page (omega (arith, one, ends.0)))) ∙ ap (λ m. visits_beside step m s) (many ∙ one)
+      ∙ sym (visits_folded step beside s done (get_or ahead (suc n) page ∷ drop (suc n + 1) ahead) rise (omega arith)
+      (parts (suc n) page (omega arith))) ∙ ap (λ m. visits_beside step m s) (many ∙ one)
 
   -- as many visits as there are pages ahead are the visits of all of them, and then the end of the pass
   pub pass_made : 1 ≤ length ahead
@@ -238,12 +234,12 @@ module _ {X : Type 0} (step : BookState → X → Row → X) (beside : IsBeside 
           let order = (λ t. comes_before (sym (get_or_from_slice_get _ n _ page at) t)
           (sym (get_or_from_slice_get ahead place _ page stands) t)) ∙ ascending n place page later within in
           absurd (true≢false (sym passes ∙ ap not order))
-      | inr no_later ↦ omega (arith, no_later, stopped_many)
+      | inr no_later ↦ omega (arith, stopped_many)
     ]
 
     -- where so many visits would visit the page, fewer pages ahead come before it
     pub stopped_fewer : (most : ℕ) (a : Ahead) → 1 ≤ most → EndsAt ahead most a → up_to (last_visited a) page ≡ true
         → length (before_it ahead) < most
     stopped_fewer most (At last) some comes passes =
-        let one : suc (most - 1) ≡ most = omega (arith, some) in omega (arith, one, fewer (most - 1) last comes.1 passes)
-    stopped_fewer most (End made) some comes passes = omega (arith, within, stopped_many, comes.0, comes.1)
+        let one : suc (most - 1) ≡ most = omega arith in omega (arith, fewer (most - 1) last comes.1 passes)
+    stopped_fewer most (End made) some comes passes = omega (arith, within, stopped_many)

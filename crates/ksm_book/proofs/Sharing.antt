@@ -1,6 +1,6 @@
 -- What becomes of the layout where rows change together, join a dup, or make or lose one.
 use Rattle.ksm_base.specs.declared.limits.TheConstants.{MOST_FRAMES, MOST_LIVES, MOST_REFERENCES}
-use Rattle.ksm_book.proofs.Names.{[], Add, All, All-filter, ap, arith, blank, Bool, both_ways, cases_Bool, change_row, Contains, count_by, count_none, did, DupRow, elsewhere, eq-eqb, eqb-true, false, filter, filter_passes, find, find_all, find_none, find_passes, FitsBase, frame_at, Frames, frames_at_most, frames_of, get_or, get_or-set_same, get_or_default, GuestPage, IfSome, if◌then◌else◌, inl, InPageOrder, inr, IsInLife, IsLaid, IsLoose, IsServed, IsVacant, item_count, KeeperView, Kind, kind_for, Knobs, leaving, Ledger, ledger_after, length, lies_on, Life, life_or, List, list_any, Listing, MakesSteps, May, Merged, merged_into, merged_state, named_at, nat_lt, nat_tests, None, none_found, not-true, Note, Option, PageState, PagesView, past_lives, place_frame, Placed, Private, Publish, refl, Row, row_at, RowFits, set, set-get_or, settled, settled_state, Shape, shared_state, Some, spent, spent_on, Stable, Sub, subst, sum_by-le, sym, tree_of, true, with_dup, with_frame, Withdraw, withdrawing, ℕ, ◌*◌, ◌++◌, ◌+◌, ◌-◌, ◌<◌, ◌==◌, ◌∙◌, ◌∷◌, ◌≡◌, ◌≢◌, ◌≤◌, ◌⊎◌}
+use Rattle.ksm_book.proofs.Names.{[], Add, All, All-filter, ap, arith, blank, Bool, both_ways, cases_Bool, change_row, Contains, count_by, count_none, did, DupRow, elsewhere, eq-eqb, eqb-true, false, filter, filter_passes, find, find_all, find_none, find_passes, FitsBase, frame_at, Frames, frames_at_most, frames_of, get_or, get_or-set_same, get_or_default, GuestPage, IfSome, if◌then◌else◌, inl, InPageOrder, inr, IsInLife, IsLaid, IsLoose, IsServed, IsVacant, item_count, KeeperView, Kind, kind_for, Knobs, leaving, Ledger, ledger_after, length, lies_on, Life, life_or, List, list_any, Listing, MakesSteps, May, Merged, merged_into, merged_state, named_at, nat_lt, nat_tests, None, none_found, not-true, Note, Option, PageState, PagesView, place_frame, Placed, Private, Publish, refl, Row, row_at, RowFits, set, set-get_or, settled, settled_state, Shape, shared_state, Some, spent, spent_on, Stable, Sub, subst, sum_by-le, sym, tree_of, true, with_dup, with_frame, Withdraw, withdrawing, ℕ, ◌*◌, ◌++◌, ◌+◌, ◌-◌, ◌<◌, ◌==◌, ◌∙◌, ◌∷◌, ◌≡◌, ◌≢◌, ◌≤◌, ◌⊎◌}
 use Rattle.ksm_book.proofs.Moves.{Serves, joined, published, base_is_items, stale_is_loose}
 use Rattle.ksm_book.proofs.Laying.{LodgesAs, laid_rows, own_kind, served_at, shape_same}
 use Rattle.ksm_book.proofs.Keeping.{added_placed, added_spends, left_placed, left_spends, lives_most, may_leave, past_le, spent_set}
@@ -8,11 +8,11 @@ use Rattle.ksm_book.proofs.Made.{none_made, parts_made, step_made}
 use Rattle.ksm_book.proofs.Withdrawn.{withdrawn}
 
 merged_as : (s : PageState) → merged_state s ≡ true → (n : ℕ) × (s ≡ Merged n)
-merged_as s e = grind (arith, nat_tests, e)
+merged_as s e = grind (arith, nat_tests)
 
 -- the state of an item of a dup is Merged with the dup's number
 pub state_of_item : (n : ℕ) (s : PageState) → merged_into n s ≡ true → s ≡ Merged n
-state_of_item n s e = grind (arith, nat_tests, e)
+state_of_item n s e = grind (arith, nat_tests)
 
 -- where a test counts one element at least, a search for it finds one
 pub first_found : {X : Type 0} (t : X → Bool) (xs : List X) → 1 ≤ count_by t xs → (x : X) × (find t xs ≡ Some x)
@@ -20,7 +20,7 @@ first_found t xs some = by _ refl
   where
     by : (o : Option _) → find t xs ≡ o → (x : _) × (find t xs ≡ Some x)
     by (Some x) found = (x, found)
-    by None none = absurd (let zero' = count_none t xs (find_none t xs none) in omega (arith, zero', some))
+    by None none = absurd (let zero' = count_none t xs (find_none t xs none) in omega arith)
 
 -- a page joins the dup of an item
 module _ {p : PagesView} {k : KeeperView} (h : IsLaid p k) (rise : InPageOrder p.rows) (page : GuestPage) (row item : Row)
@@ -70,7 +70,7 @@ module _ {p : PagesView} {k : KeeperView} (h : IsLaid p k) (rise : InPageOrder p
         let parts = parts_made _ _ m in
         let more = added_spends parts.1 in
         let more' = left_spends _ parts.2 in
-        laid_rows h _ _ _ u (rw m.after) (omega (arith, more, more')) (left_placed _ parts.2 (joined_hand _ parts.1))
+        laid_rows h _ _ _ u (rw m.after) (omega arith) (left_placed _ parts.2 (joined_hand _ parts.1))
 
 -- a place where no dup with items stands may be named anew, or not at all
 module _ (k : Ledger) where
@@ -132,7 +132,7 @@ laid_cleared {p} {k} w place h inside e is = record {
   small = h.small;
   same = shape_same _ k w h.same e;
   placed = rw is (withdrawn _ inside h.placed);
-  spent = (let same = ap spent is in let s = h.spent in omega (arith, same, s));
+  spent = (let same = ap spent is in let s = h.spent in omega arith);
 }
 
 -- what is above or below a place is elsewhere
@@ -147,7 +147,7 @@ above_elsewhere place [] = refl
 above_elsewhere place (d ∷ ds) = grind (arith, nat_tests, above_elsewhere place ds)
 
 product_most : (a b m n : ℕ) → a ≤ m → b ≤ n → a * b ≤ m * n
-product_most a b m n le le' = grind (arith, le, le')
+product_most a b m n le le' = grind arith
 
 -- no more dups were ever made than there are lives of all frames, since each spent one
 pub spent_most : {v : PagesView} {k : KeeperView} → IsLaid v k → v.next ≤ MOST_FRAMES * MOST_LIVES
@@ -158,13 +158,13 @@ spent_most {v} {k} h =
     let most : spent k.ledger ≤ length k.ledger.frames * last = sum_by-le spent_on last k.ledger.frames (λ i d lt.
     let past = past_le (frame_at k.ledger i).kind (frame_at k.ledger i).generation in
     let lived = lives_most last (frame_at k.ledger i).generation (frame_at k.ledger i).kind (p.lives i) in
-    rw (get_or_default k.ledger.frames i d blank lt) (omega (arith, past, lived))) in
+    rw (get_or_default k.ledger.frames i d blank lt) (omega arith)) in
     let long : length k.ledger.frames ≡ frames_of sh = p.frames_long in
     let few : frames_of sh ≤ MOST_FRAMES = frames_at_most sh h.small in
     let short : length k.ledger.frames * last ≤ MOST_FRAMES * MOST_LIVES = product_most (length k.ledger.frames) last MOST_FRAMES MOST_LIVES
-    (omega (arith, long, few)) h.small.generation_high in
+    (omega arith) h.small.generation_high in
     let s = h.spent in
-    omega (arith, s, most, short)
+    omega arith
 
 -- a row that waits no more may stand on its frame in the stead of the row as it was
 pub settled_lodges : (r : Row) → LodgesAs (settled r) r
@@ -205,7 +205,7 @@ module _ {p : PagesView} {k : KeeperView} (h : IsLaid p k) (rise : InPageOrder p
         rw (← same) fits.frame,
         rw empty own,
         subst (IsLoose w.ledger) (sym (ap (λ (z : Ledger). named_at z d.place) empty
-            ∙ get_or-set_same k.ledger.places d.place None None (omega (arith, long, inside)))) tt,
+            ∙ get_or-set_same k.ledger.places d.place None None (omega arith))) tt,
       )
 
   -- rows and dups lie lawfully once the row's frame is published at the place of the new dup
@@ -222,26 +222,26 @@ module _ {p : PagesView} {k : KeeperView} (h : IsLaid p k) (rise : InPageOrder p
       (filter (elsewhere d.place) p.dups) None = withdrawn d.place
       inside h.placed in
       let shown = published q page row rise found f lies own d inside c keeps (state ∙ ap Merged (sym number)) same bytes tree alone
-      (λ i r lt. ap (λ n. merged_into n (get_or p.rows i r).state) number ∙ fresh i r lt)
+      (λ i r lt. rw number (fresh i r lt))
       (All-filter (elsewhere d.place) (λ e. ¬ (e.number ≡ d.number)) p.dups
-      (λ n x lt same. (let below = numbers n x lt in omega (arith, below, same, number))))
+      (λ n x lt same. (let below = numbers n x lt in omega arith)))
       (λ n x lt at. let e = get_or (filter (elsewhere d.place) p.dups) n x in
       both_ways (e.place == d.place) (not-true (e.place == d.place) (filter_passes (elsewhere d.place) p.dups n x lt)) (eq-eqb e.place d.place at)) in
-      let ledger : w.ledger ≡ ledger_after w1.table.shape cleared (Publish d.place f) 0 = ap (λ (z : KeeperView). z.ledger) is
-      ∙ (λ t. ledger_after w1.table.shape (empty t) (Publish d.place f) 0) in
+      let ledger : w.ledger ≡ ledger_after w1.table.shape cleared (Publish d.place f) 0 = rw is
+      (λ t. ledger_after w1.table.shape (empty t) (Publish d.place f) 0) in
       let within : f < length k.ledger.frames = (let long : length k.ledger.frames ≡ frames_of sh = h.placed.frames_long in let lt =
-      fits.frame in omega (arith, long, lt)) in
+      fits.frame in omega arith) in
       let more : spent (with_frame k.ledger f stable) + spent_on o ≡ spent k.ledger + o.generation = spent_set k.ledger f stable within in
-      let was : spent_on o ≡ o.generation - 1 = ap (λ (x : Kind). past_lives x o.generation) own in
+      let was : spent_on o ≡ o.generation - 1 = rw own in
       let now : spent w.ledger ≡ spent (with_frame k.ledger f stable) = ap spent ledger in
       record {
         small = h.small;
-        same = ap (λ (z : KeeperView). z.table.shape) is ∙ ap (λ x. x.shape) table ∙ h.same;
+        same = rw (is, table) h.same;
         placed = subst (λ (z : Ledger × List DupRow). Placed sh p.knobs.merge_across_nodes z.0 (change_row page c p.rows) p.frame z.1 None)
             (λ t. (sym ledger t, below_elsewhere d.place p.dups t ++ d ∷ above_elsewhere d.place p.dups t)) shown;
-        spent = (let s = h.spent in let given = fits.given in omega (arith, s, more, was, now, given));
+        spent = (let s = h.spent in let given = fits.given in omega arith);
       }
 
 -- where pages merge on their nodes alone, a row's tree is its home
 pub tree_is_home : (knobs : Knobs) (r : Row) → knobs.merge_across_nodes ≡ 0 → r.home ≡ tree_of knobs r
-tree_is_home knobs r none = let e : (knobs.merge_across_nodes == 1) ≡ false = grind (arith, nat_tests, none) in grind (arith, e)
+tree_is_home knobs r none = let e : (knobs.merge_across_nodes == 1) ≡ false = grind (arith, nat_tests) in grind arith

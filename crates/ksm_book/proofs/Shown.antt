@@ -55,9 +55,7 @@ part_did v w part is quiet = record {
   where
     by : (k : Ledger) (part : Log) → GivesNone (steps_of part) → Gives v.table.shape k [] part
     by k [] q = refl
-    by k (s ∷ part) q =
-        let next = ledger_after v.table.shape k s.0 s.1 in
-        rw q.0 (tt, by next part q.1)
+    by k (s ∷ part) q = rw q.0 (tt, by (ledger_after v.table.shape k s.0 s.1) part q.1)
 
 -- steps that give no frame gave none by the part of the log in which they were made
 pub quiet_did : {v w : KeeperView} {steps : List KeeperStep} (m : MakesSteps v w steps) → GivesNone steps → Allocates v w [] m.part
@@ -134,15 +132,15 @@ lives_on (g ∷ fs) v w f m alive =
 -- a frame that was reaped and is dying still was found with a count above zero
 waits : (fs : List ℕ) (v w : KeeperView) (f : ℕ) (part : Log) → w ≡ stepped v part → steps_of part ≡ map Reap fs → Contains fs f → (frame_at w.ledger f).kind ≡ Dying
     → (n : ℕ) × (1 ≤ count_in n) × Contains part (Reap f, n)
-waits [] v w f part after are has still = absurd (let lt = has.1 in omega (arith, lt))
-waits (g ∷ fs) v w f [] after are has still = absurd (grind (arith, are))
+waits [] v w f part after are has still = absurd (let lt = has.1 in omega arith)
+waits (g ∷ fs) v w f [] after are has still = absurd (grind arith)
 waits (g ∷ fs) v w f (s ∷ part) after are (suc i, lt, is) still =
-    let rest : steps_of part ≡ map Reap fs = grind (arith, are) in
-    let later = waits fs (did v s.0 s.1) w f part (after ∙ sym (stepped_then v _ _)) rest (i, omega (arith, lt), is) still in
-    (later.0, later.1, (suc later.2.0, (let low = later.2.1 in omega (arith, low)), later.2.2))
+    let rest : steps_of part ≡ map Reap fs = grind arith in
+    let later = waits fs (did v s.0 s.1) w f part (after ∙ sym (stepped_then v _ _)) rest (i, omega arith, is) still in
+    (later.0, later.1, (suc later.2.0, (let low = later.2.1 in omega arith), later.2.2))
 waits (g ∷ fs) v w f (s ∷ part) after are (zero, lt, is) still =
-    let first : s.0 ≡ Reap f = grind (arith, are, is) in
-    let rest : steps_of part ≡ map Reap fs = grind (arith, are) in
+    let first : s.0 ≡ Reap f = grind arith in
+    let rest : steps_of part ≡ map Reap fs = grind arith in
     let u = did v (Reap f) s.1 in
     let m : MakesSteps u w (map Reap fs) = record { part = part; after = after ∙ sym (stepped_then v _ _) ∙ ap (λ x. stepped (did v x s.1) part) first; are = rest } in
     (s.1, found _ (λ gone. lives_on fs u w f m gone still), (0, omega arith, (λ t. (first t, s.1))))
@@ -151,7 +149,7 @@ waits (g ∷ fs) v w f (s ∷ part) after are (zero, lt, is) still =
     note = reaped v.table.shape.last_generation (frame_at v.ledger f)
 
     found : (n : ℕ) → (¬ ((frame_at (cond (n == 0) (with_frame v.ledger f note) v.ledger) f).kind ≡ Dying) → ⊥) → 1 ≤ n
-    found zero dies = absurd (dies (set_here (λ x. ¬ (x.kind ≡ Dying)) v.ledger.frames f note (not_dying ((frame_at v.ledger f).generation == v.table.shape.last_generation)) (λ e. grind (arith, e))))
+    found zero dies = absurd (dies (set_here (λ x. ¬ (x.kind ≡ Dying)) v.ledger.frames f note (not_dying ((frame_at v.ledger f).generation == v.table.shape.last_generation)) (λ e. grind arith)))
     found (suc n) dies = omega arith
 
 -- where no frame of a node was found, each that is dying still was found with a count above zero
@@ -166,11 +164,11 @@ none_left {v} {w} {node} h =
       did = quiet_did m (quiet_reaps fs);
       waited = λ f low high still. elim (cases_Bool (dying_kind (frame_at v.ledger f).kind)) [
         | inl dies ↦
-            let lt : f - node * size < size = omega (arith, low, high) in
+            let lt : f - node * size < size = omega arith in
             let at = get_or-range_with_len (node * size) _ _ f lt in
             let long = length-range_with_len (node * size) size in
-            waits fs v w f _ m.after m.are (contains_filter _ _ f (f - node * size, omega (arith, lt, long), at ∙ omega (arith, low)) dies) still
-        | inr alive ↦ absurd (lives_on fs v w f m (λ is. (let e = ap dying_kind is in grind (arith, alive, e))) still)
+            waits fs v w f _ m.after m.are (contains_filter _ _ f (f - node * size, omega arith, at ∙ omega arith) dies) still
+        | inr alive ↦ absurd (lives_on fs v w f m (λ is. (let e = ap dying_kind is in grind arith)) still)
       ];
       none = h.none;
     }
@@ -197,8 +195,8 @@ lost v w rows dup node h =
   where
     by : (k : Ledger) (f n : ℕ) (b : Bool) → b ≡ (n == (frame_at k f).base) → (frame_at (cond b (with_frame k f (frozen (frame_at k f))) k) f).kind ≡ Stable
         → n ≢ (frame_at (cond b (with_frame k f (frozen (frame_at k f))) k) f).base
-    by k f n true e stable = absurd (set_here (λ x. ¬ (x.kind ≡ Stable)) k.frames f (frozen (frame_at k f)) (λ is. grind (arith, is)) (λ is. grind (arith, is)) stable)
-    by k f n false e stable = λ same. grind (arith, nat_tests, e, same)
+    by k f n true e stable = absurd (set_here (λ x. ¬ (x.kind ≡ Stable)) k.frames f (frozen (frame_at k f)) (λ is. grind arith) (λ is. grind arith) stable)
+    by k f n false e stable = λ same. grind (arith, nat_tests)
 
 -- the lowest free frame of a node is so still where a stable one begins to die
 lowest_still : (sh : Shape) (k : Ledger) (node f g : ℕ) (b : Bool) → IsLowestFree sh k node g → (frame_at k f).kind ≡ Stable → IsLowestFree sh (cond b (with_frame k f (frozen (frame_at k f))) k) node g
@@ -206,22 +204,22 @@ lowest_still sh k node f g false h stable = h
 lowest_still sh k node f g true h stable = record {
   low = h.low;
   high = h.high;
-  free = rw (get_or-set_other k.frames f g (frozen (frame_at k f)) blank (λ same. (let e = sym h.free ∙ ap (λ x. (frame_at k x).kind) same ∙ stable in grind (arith, e))))
+  free = rw (get_or-set_other k.frames f g (frozen (frame_at k f)) blank (λ same. (let e = sym h.free ∙ ap (λ x. (frame_at k x).kind) same ∙ stable in grind arith)))
       h.free;
   least = λ i low lt. set_holds (λ x. free_kind x.kind ≡ false) k.frames f i (frozen (frame_at k f)) refl (h.least i low lt);
 }
 
 -- a step that is told is in the log, with what it found
 found_in : (part : Log) (step : KeeperStep) → Contains (steps_of part) step → (found : ℕ) × Contains part (step, found)
-found_in [] step (i, lt, is) = absurd (omega (arith, lt))
+found_in [] step (i, lt, is) = absurd (omega arith)
 found_in (e ∷ part) step (zero, lt, is) = (e.1, (0, omega arith, rw is))
-found_in (e ∷ part) step (suc i, lt, is) = let more = found_in part step (i, omega (arith, lt), is) in (more.0, (suc more.1.0, (let inside = more.1.1 in omega (arith, inside)), more.1.2))
+found_in (e ∷ part) step (suc i, lt, is) = let more = found_in part step (i, omega arith, is) in (more.0, (suc more.1.0, (let inside = more.1.1 in omega arith), more.1.2))
 
 -- a part of the log that is not empty ends as the log does
 ends_so : {X : Type 0} (xs part ys : List X) (e : X) → 1 ≤ length part → xs ++ part ≡ ys ++ e ∷ [] → Contains part e
 ends_so [] part ys e some same = rw same (Contains-push ys e)
 ends_so (x ∷ xs) part [] e some same =
-    (let lengths = ap length same in let both = length-append xs part in absurd (omega (arith, some, lengths, both)))
+    (let lengths = ap length same in let both = length-append xs part in absurd (omega arith))
 ends_so (x ∷ xs) part (y ∷ ys) e some same = ends_so xs part ys e some (ap (drop 1) same)
 
 -- a dup that moved: a frame of the node was raised, and published at the dup's place
@@ -236,26 +234,25 @@ moved v w rows dup node h =
     let rest = steps_of (loads f 0 dup.bytes) ++ stores in
     let reaps = map Reap (dying_on v.keeper.table.shape v.keeper.ledger node) in
     let searched = searched_does node h.finds.reaped in
-    let freezes = quiet_does h.freezes (refl, tt) in
     let step = step_made h.freezes in
-    let lowest : IsLowestFree h.frozen.table.shape h.frozen.ledger node g = subst (λ (z : KeeperView). IsLowestFree z.table.shape z.ledger node g) (sym step.1)
+    let lowest : IsLowestFree h.frozen.table.shape h.frozen.ledger node g = rw step.1
     (lowest_still h.searched.table.shape h.searched.ledger node f g (count_in step.0 == (frame_at h.searched.ledger f).base)
-    (subst (λ (t : _). IsLowestFree t.shape h.searched.ledger node g) (sym searched.1.table) h.finds.lowest) h.stood) in
+    (rw searched.1.table h.finds.lowest) h.stood) in
     let mounts = raised_does lowest h.mounts
     (quiet_both (steps_of (loads f 0 dup.bytes)) stores (quiet_loads f 0 dup.bytes) (quiet_both (steps_of (puts g 0 dup.bytes)) (Open g ∷ end) (quiet_puts g 0 dup.bytes)
     (refl, quiet_both (replicate (count - 1) (Add g)) (Publish dup.place g ∷ []) (quiet_adds (count - 1) g) (refl, tt)))) in
-    let does = does_then (does_then searched freezes) mounts in
+    let does = does_then (does_then searched (quiet_does h.freezes (refl, tt))) mounts in
     let made = made_then h.finds.reaped (made_then h.freezes h.mounts) in
     let told : steps_of does.0 ≡ reaps ++ (Freeze f ∷ Raise g ∷ rest) =
     ap steps_of (append_cancel_left v.keeper.log does.0 made.part (sym does.1.log ∙ ap (λ (z : KeeperView). z.log) made.after)) ∙ made.are in
-    let raised = found_in does.0 (Raise g) (subst (λ steps. Contains steps (Raise g)) (sym told) (Contains-append_right reaps (Freeze f ∷ Raise g ∷ rest) (Raise g) (1, omega arith, refl))) in
+    let raised = found_in does.0 (Raise g) (rw told (Contains-append_right reaps (Freeze f ∷ Raise g ∷ rest) (Raise g) (1, omega arith, refl))) in
     record {
       part = does.0;
       did = does.1;
       frame = g;
       before = raised.0;
       raised = raised.1;
-      published = ends_so v.keeper.log does.0 ends.0.log (Publish dup.place g, 0) (let inside = raised.1.1 in omega (arith, inside)) (sym does.1.log ∙ ap (λ (z : KeeperView). z.log) ends.1);
+      published = ends_so v.keeper.log does.0 ends.0.log (Publish dup.place g, 0) (let inside = raised.1.1 in omega arith) (sym does.1.log ∙ ap (λ (z : KeeperView). z.log) ends.1);
     }
 
 -- ---------------------------------------------------------------- pages that are unmerged

@@ -57,7 +57,7 @@ settled_then {p} {m} {q} {k} {l} {page} {node} {bytes} {row} h rise found r d ch
       rw pages (record {
         small = h.small;
         same = shape_same _ k l h.same (resettles_own r.resettles);
-        placed = rw frame (r.placed change houses);
+        placed = rw frame (r.placed _ houses);
         spent = r.spent;
       }),
     )
@@ -93,7 +93,7 @@ own_ready {p} {k} h page row found alone g lies =
     let served = subst (IsServed p.shape k.ledger p.dups row) lies (served_at h.placed _ row found) in
     let inside = served.0.frame in
     let long = h.placed.frames_long in
-    (rw h.same inside, omega (arith, inside, long), subst IsWritable (sym (served.0.kind ∙ own_kind _ alone)) tt, h.placed.widths g)
+    (rw h.same inside, omega arith, subst IsWritable (sym (served.0.kind ∙ own_kind _ alone)) tt, h.placed.widths g)
 
 module _ (p : PagesView) (k l : KeeperView) (cursor : Option GuestPage) (passes : ℕ) (page : GuestPage) (bytes : List ℕ) (row : Row) (found : row_at page p.rows ≡ Some row) (table : l.table ≡ k.table) where
   module _ (q : PagesView) (state : state_of q cursor passes ≡ record (state_of p cursor passes) { rows = change_row page (stored bytes) p.rows }) where
@@ -122,7 +122,7 @@ module _ (p : PagesView) (k l : KeeperView) (cursor : Option GuestPage) (passes 
       → Carries p k q l cursor passes (Store page bytes) (Ok Done)
   store_copied m q h rise r goes shared =
       let s = settled_then h rise found r _ (stored bytes) goes (λ x. refl) refl (refl, refl, refl) in
-      (stores q (ap (λ x. state_of x cursor passes) s.0) true shared s.1, s.2)
+      (stores q (rw s.0) true shared s.1, s.2)
 
 -- ---------------------------------------------------------------- a move to another node
 

@@ -1,7 +1,7 @@
 -- A page waits in the stead of one further on: what becomes of the book, and which pages are due then.
-use Rattle.ksm_book.proofs.Names.{All, and_from, ap, AreDue, arith, before_differs, BookState, BookValue, both_ways, cases_Bool, change_row, change_rows, Comes, comes_before, comes_later, cond_both, Deed, doing, due_row_visited, due_visited, each_at_page, false, find_all, find_passes, get_or, GuestPage, has_item, hidden_from, idle, inl, inr, is_restless, IsAlone, IsSound, List, map_alike, map_mapped, MatchOption, not, not_both, or_cases, page_visited, PageState, partner, Reached, refl, Row, row_at, same_page, same_page_eq, same_page_refl, same_page_sym, settled, shared_state, Some, StaysBefore, subst, sym, taken_over, takes_over, TakesOverFrom, true, view_of, visited, waiting_state, waits_for, WaitsFor, waits_tells, ◌&&◌, ◌∙◌, ◌∷◌, ◌≡◌, ◌||◌, if◌then◌else◌, nat_tests}
+use Rattle.ksm_book.proofs.Names.{All, and_from, ap, AreDue, arith, before_differs, BookState, BookValue, both_ways, cases_Bool, change_row, change_rows, Comes, comes_before, comes_later, cond_both, Deed, doing, due_visited, each_at_page, false, find_all, find_passes, get_or, GuestPage, has_item, hidden_from, idle, inl, inr, is_restless, IsAlone, IsSound, List, map_alike, map_mapped, MatchOption, not, not_both, or_cases, page_visited, PageState, partner, Reached, refl, Row, row_at, same_page, same_page_eq, same_page_refl, same_page_sym, settled, shared_state, Some, StaysBefore, subst, sym, taken_over, takes_over, TakesOverFrom, true, view_of, waiting_state, waits_for, WaitsFor, waits_tells, ◌&&◌, ◌∙◌, ◌∷◌, ◌≡◌, ◌||◌, if◌then◌else◌, nat_tests}
 use Rattle.ksm_book.proofs.ByPage.{found_page, row_of_page}
-use Rattle.ksm_book.proofs.DueAlike.{freed, freed_found, one_waits, settled_once, taken_is, takes_tells}
+use Rattle.ksm_book.proofs.DueAlike.{freed_found, one_waits, settled_once, taken_is, takes_tells}
 use Rattle.ksm_book.proofs.DueKept.{more_due, taken_due}
 use Rattle.ksm_book.proofs.Reached.{comes_to}
 use Rattle.ksm_book.proofs.RowVisits.{filled_by}
@@ -55,8 +55,7 @@ module _ {b : BookState} {page other : GuestPage} (at : Takes b page other) wher
 
   -- the row that waits is found at the other page
   pub waits_at : row_at other b.rows ≡ Some at.waiter
-  waits_at = ap (λ q. row_at q b.rows) at.is ∙ find_all _ (λ r. row_at r.page b.rows ≡ Some r) _ _ at.waits
-      (each_at_page _ at.sound.rows_rise)
+  waits_at = rw at.is (find_all _ (λ r. row_at r.page b.rows ≡ Some r) _ _ at.waits (each_at_page _ at.sound.rows_rise))
 
   -- it has a frame of its own
   pub other_alone : IsAlone other b.rows
@@ -72,7 +71,7 @@ module _ {b : BookState} {page other : GuestPage} (at : Takes b page other) wher
     | inl same ↦ same ∙ sym (rw (row_of_page _ _ _ at.sound.rows_rise waits_at k d lt same) passes)
     | inr apart ↦ elim (cases_Bool (waits_for b.knobs at.row r)) [
       | inl waits ↦ absurd (both_ways (same_page r.page other) apart
-          (ap (λ p. same_page p other) (one_waits b at.row _ at.sound at.waits k d lt waits ∙ sym at.is) ∙ same_page_refl other))
+          (rw (one_waits b at.row _ at.sound at.waits k d lt waits ∙ sym at.is) (same_page_refl other)))
       | inr none ↦ apart ∙ sym none
     ]
   ]
@@ -82,19 +81,12 @@ module _ {b : BookState} {page other : GuestPage} (at : Takes b page other) wher
 
   -- the visit of the page, as one that is due, has its row wait in the stead of the other one
   due_is : (deed : Deed) → due_visited doing (b, deed) page ≡ (taken_over b at.row, deed)
-  due_is deed =
-      ap (due_row_visited doing (b, deed)) at.found
-      ∙ ap (λ z. if z then (taken_over b at.row, deed) else visited doing (b, deed) (Some at.row))
-      (and_from _ _ at.restless at.takes)
+  due_is deed = grind (arith, nat_tests, and_from)
 
   -- so does the visit of the definitions once the other one waits no more
   then_is : (deed : Deed)
       → page_visited doing (record b { rows = change_row other settled b.rows }, deed) page ≡ (taken_over b at.row, deed)
-  then_is deed =
-      (λ t. page_visited doing (record b { rows = freed_rows t }, deed) page)
-      ∙ ap (visited doing (freed b at.row, deed))
-      (ap (λ p. row_at p (freed b at.row).rows) (sym page_is) ∙ freed_found b _ there)
-      ∙ taken_is b _ there at.restless (takes_tells b _ at.takes) _
+  then_is deed = grind (arith, nat_tests, page_is, freed_rows, freed_found, taken_is)
 
 -- the other row waits no more
 abbrev pub once_freed : GuestPage → BookState × Deed → BookState × Deed
@@ -137,14 +129,10 @@ module _ (v m w : BookValue) {page other : GuestPage} (at : Takes v.state page o
       (added : (p : GuestPage) → has_item p more ≡ (same_page other p || has_item p old))
       (gone : (p : GuestPage) → has_item p new ≡ (has_item p more && not (same_page page p))) where
     kept : (p : GuestPage) → has_item p old ≡ true → has_item p (page ∷ new) ≡ true
-    kept p is = let one = added p in let two = gone p in grind (arith, is, one, two)
+    kept p is = let one = added p in let two = gone p in grind (arith, is)
 
     same_kept : (p : GuestPage) → same_page other p ≡ true → has_item p new ≡ true
-    same_kept p same =
-        let one = added p in
-        let two = gone p in
-        let apart = ap (same_page page) (sym (same_page_eq _ p same)) ∙ same_page_sym page other ∙ before_differs page other (later at) in
-        grind (arith, same, one, two, apart)
+    same_kept p same = grind (arith, nat_tests, same, same_page_sym page other, before_differs page other (later at), same_page_eq)
 
     other_kept : (p : GuestPage) → has_item p (at.waiter.page ∷ new) ≡ true → has_item p new ≡ true
     other_kept p is = elim (or_cases _ _ is) [

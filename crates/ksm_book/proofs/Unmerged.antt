@@ -24,10 +24,7 @@ stay_in_scan test (r ∷ rows) all = by _ refl (stay_in_scan test rows)
 
     by : (m : Bool) → r.mergeable ≡ m → (mergeable_count rows ≡ length rows → rows ≡ change_rows test (λ s. record s { mergeable = true }) rows)
         → r ∷ rows ≡ change_rows test (λ s. record s { mergeable = true }) (r ∷ rows)
-    by true is rest =
-        let here = cond_both _ _ r (λ s. r ≡ s) (λ _ i. record r { mergeable = is i }) (λ _. refl) in
-        let others = rest (omega (arith, sum, ap one_if is)) in
-        (λ i. here i ∷ others i)
+    by true is rest = grind (arith, nat_tests, is, rest, sum)
     by false is rest = let few = count_by-le-length (λ s. s.mergeable) rows in absurd (omega (arith, sum, ap one_if is, few))
 
 -- a row that is left keeps its page
@@ -36,11 +33,11 @@ page_left guest r = grind (arith, nat_tests)
 
 -- a guest's is let go
 guest_left : (guest : Option ℕ) → is_some guest ≡ true → left_by guest ≡ let_go
-guest_left guest some = grind (arith, nat_tests, some)
+guest_left guest some = grind (arith, nat_tests)
 
 -- where no guest is told, any is left alike
 any_left : (guest : Option ℕ) → is_some guest ≡ false → left_by guest ≡ left_by None
-any_left guest some = grind (arith, nat_tests, some)
+any_left guest some = grind (arith, nat_tests)
 
 -- ---------------------------------------------------------------- one page
 
@@ -84,8 +81,7 @@ module _ {p : PagesView} {k : KeeperView} (guest : Option ℕ) {page : GuestPage
     left_still none = left_own p (λ t. record p { rows = sym same t })
       where
         same : change_row page (left_by guest) p.rows ≡ p.rows
-        same = ap (λ f. change_row page f p.rows) (any_left _ none)
-            ∙ change_still _ _ _ (λ i d lt is. rw (one i d lt is) still)
+        same = rw (any_left _ none) (change_still _ _ _ (λ i d lt is. rw (one i d lt is) still))
 
     -- a guest's row with a frame of its own is left once it is let go, and no frame is given for it
     pub left_alone : is_some guest ≡ true → {q : PagesView} → q ≡ record p { rows = change_row page let_go p.rows; restless = q.restless }
@@ -216,8 +212,7 @@ module _ {p q : PagesView} {k l : KeeperView} {guest : Option ℕ} {count : ℕ}
               cut.next;
           pages = h.pages ∙ (λ t. record (u.pages t) { rows = sym rows t; frame = v.frame; restless = v.restless });
           counted = (λ t. u.counted t + h.given t) ∙ sym (length-append met (shared_of h.row)) ∙ ap length (sym more);
-          each = subst (λ xs. ResettlesEach xs (lying p k) (lying v w)) (sym more)
-              (each_then met _ _ _ _ u.each h.steps);
+          each = rw more (each_then met _ _ _ _ u.each h.steps);
           laid = h.laid;
           few =
               let far = further guest _ q.rows _ u.fits told in
@@ -225,7 +220,7 @@ module _ {p q : PagesView} {k l : KeeperView} {guest : Option ℕ} {count : ℕ}
               let one : length (shared_of h.row) ≤ 1 =
               cond_both (shared_state h.row.state) (h.row ∷ []) [] (λ xs. length xs ≤ 1) (λ _. omega arith) (λ _. omega arith) in
               let more = h.given in
-              omega (arith, far, was, one, more);
+              omega (arith, one);
           fits = fits;
         }
 

@@ -3,11 +3,11 @@ use Rattle.ksm_book.proofs.Names.{All, All-map, and-true, ap, arith, BookState, 
 use Rattle.ksm_book.proofs.Laying.{LodgesAs, laid_mapped, retuned}
 use Rattle.ksm_book.proofs.Singles.{book}
 use Rattle.ksm_book.proofs.Unmerged.{in_scan, unshares_own}
-use Rattle.ksm_book.proofs.ByPage.{none_mapped}
+use Rattle.ksm_pages.proofs.Options.{none_mapped}
 
 -- the row at which there was a stop is the next of the shared ones
 stop_is : (rows : List Row) (k : ℕ) (at : Option Row) → IsStop rows k at → slice_get rows k ≡ at
-stop_is rows k None h = slice_get_past _ k (omega (arith, h))
+stop_is rows k None h = slice_get_past _ k (omega arith)
 stop_is rows k (Some row) h = h
 
 -- where there was a stop, the answer says so
@@ -26,7 +26,7 @@ pub has_told : (p : PagesView) (guest : ℕ) (o : Option Held) → IsTold p gues
 has_told p guest o told = any_found (is_of guest) p.rows ∙ (λ i. is_some (find (λ r. sym (and-true (is_of guest r)) i) p.rows)) ∙ by o told
   where
     by : (o : Option Held) → IsTold p guest o → is_some (find (is_next (Some guest) None) p.rows) ≡ is_some o
-    by o none = grind (arith, nat_tests, none)
+    by o none = grind (arith, nat_tests)
 
 -- `Unmerge` of a guest without a row is refused, and nothing changes
 pub unmerge_refused : (p : PagesView) (k : KeeperView) (cursor : Option GuestPage) (passes guest : ℕ)
@@ -55,8 +55,7 @@ pub unmerge_carried : {p q : PagesView} {k l : KeeperView} (cursor : Option Gues
     → Unshares p q k l (Some guest) count stop → has_guest (state_of p cursor passes) guest ≡ true
     → IsCarried (book p k cursor passes) (book q l cursor passes) (Unmerge guest) (Ok (Unmerged count stop))
 unmerge_carried {p} {q} {k} {l} cursor passes {guest} {count} {stop} u has =
-    let b = state_of p cursor passes in
-    let rows = shared_rows (is_of guest) b in
+    let rows = shared_rows (is_of guest) (state_of p cursor passes) in
     record {
       own = unshares_own u;
       answer = rw (has, u.fault) (is_unmerged _ _ _ u.stands);
@@ -110,7 +109,7 @@ module _ {p m : PagesView} {k l : KeeperView} (cursor : Option GuestPage) (passe
       }
 
   across : knobs.merge_across_nodes ≡ m.knobs.merge_across_nodes
-  across = rw same (sym (ap (λ (x : PagesView). x.knobs.merge_across_nodes) u.pages))
+  across = rw same (sym (rw u.pages))
 
   -- `SetRun` 2 is carried out, and all lies lawfully, where the unsharing of all rows stopped and run is 0 then
   pub unshare_stops : is_some stop ≡ true → {q : PagesView} → q ≡ record m { knobs = record knobs { run = 0 } }
@@ -128,7 +127,7 @@ module _ {p m : PagesView} {k l : KeeperView} (cursor : Option GuestPage) (passe
         rows = change_rows (λ r. shared_state r.state && is_before (slice_get met count) r) unshared b.rows;
         knobs = record b.knobs { run = 0 };
       } ≡ unshare_stopped s count b
-      by None none = absurd (grind (arith, none))
+      by None none = absurd (grind arith)
       by (Some fault) _ = refl
 
   -- it went through
@@ -160,4 +159,4 @@ module _ {p m : PagesView} {k l : KeeperView} (cursor : Option GuestPage) (passe
       where
         by : (s : Option Fault) → is_some s ≡ false
             → record b { rows = map unshared b.rows; cursor = None; knobs = record b.knobs { run = 2 } } ≡ unshare_stopped s count b
-        by s some = grind (arith, nat_tests, some)
+        by s some = grind (arith, nat_tests)

@@ -63,7 +63,7 @@ module _ {sh : Shape} {across : ℕ} {k : Ledger} {rows : List Row} {frame : Fra
     bases = p.bases;
     kinds = p.kinds;
     empty = λ r h. dite (ℕ_discrete r q)
-        (λ e. ap (named_at emptied) e ∙ get_or-set_same k.places q None None (let pl = p.places_long in omega (arith, pl, inside)))
+        (λ e. ap (named_at emptied) e ∙ get_or-set_same k.places q None None (let pl = p.places_long in omega arith))
         (λ ne. named_off r ne ∙ p.empty r (λ n x lt same.
         let at = contains_filter _ _ _ (Contains-get_or _ n x lt) (elsewhere_so q (get_or dups n x) (λ at. ne (sym same ∙ at))) in
         subst (λ (e : DupRow). e.place ≢ r) at.2 (h at.0 (get_or dups n x) at.1) same));

@@ -1,4 +1,4 @@
-use Rattle.ksm_book.proofs.Names.{ap, frame_at, holding, KeeperView, length, Note, Open, PAGE_WORDS, puts, Raise, raised, Shape, subst, ◌<◌, ◌∙◌, ◌≡◌, Provides, opened, rules}
+use Rattle.ksm_book.proofs.Names.{ap, frame_at, holding, KeeperView, length, Open, PAGE_WORDS, puts, Raise, raised, Shape, subst, ◌<◌, ◌∙◌, ◌≡◌, Provides, opened, rules}
 use Rattle.ksm_book.proofs.Filling.{at_again, found_inside, raised_ready, follow, found_within, took}
 use Rattle.ksm_book.proofs.Made.{made_one, made_part, made_then}
 use Rattle.ksm_book.proofs.frames.take_frame.Goals as goal
@@ -26,7 +26,7 @@ open-requires-clause-may c =
     c.requires.lawful c.in_ok-frame.ensures r _ c.raise.ensures.1 in (
       rw (ap (λ (z : KeeperView). z.table.shape) c.write.ensures.wrote ∙ ap (λ (z : KeeperView). z.table.shape) c.raise.ensures.1 ∙ ap (λ (z : KeeperView). z.table.shape) c.in_ok-frame.ensures.reaped.after)
           (found_inside _ _ _ _ (rw (← c.requires.shape) c.requires.node) c.requires.lawful c.in_ok-frame.ensures),
-      ap (λ k. (frame_at k frame).kind) c.write.ensures.ledger ∙ ap (λ (n : Note). n.kind) (at_again r.ledger _ now.0 _) ∙ ap (λ (n : Note). n.kind) now.1,
+      rw (c.write.ensures.ledger, at_again r.ledger _ now.0 _, now.1),
     )
 
 abbrev provided : (c : goal.After-open) → Provides c.args.keeper.now c.open.new.self c.args.node c.args.bytes.now c.in_ok-frame.frame
@@ -46,10 +46,8 @@ returns-clause-provides c = provided c
 
 pub returns-clause-took : goal.returns-clause-took
 returns-clause-took c =
-    let v = c.args.keeper.now in
-    let w = c.find_frame.new.keeper in
     let frame = c.in_ok-frame.frame in
     let less = subst (λ (s : Shape). c.args.node < s.nodes) c.requires.shape c.requires.node in
-    let within = found_within v w _ _ less c.requires.lawful c.in_ok-frame.ensures in
-    took less c.requires.lawful (search rules) (provided c) (follow _ _ within _ opened (ap (λ (z : KeeperView). z.ledger) c.open.ensures)
+    let within = found_within c.args.keeper.now c.find_frame.new.keeper _ _ less c.requires.lawful c.in_ok-frame.ensures in
+    took less c.requires.lawful (search rules) (provided c) (follow _ _ within _ opened (rw c.open.ensures)
     (follow _ _ within _ (λ x. holding x c.args.bytes.now) c.write.ensures.ledger (ap (λ (z : KeeperView). z.ledger) c.raise.ensures.1)))

@@ -22,9 +22,8 @@ loop-done-preserved c =
     let done = c.loop-done.done in
     let n = frame_at v.ledger frame in
     let within = held_within v.ledger _ c.requires.some in
-    let sum : n.base + done + 1 ≡ n.base + (done + 1) = omega arith in
     let ledger = follow _ _ within _ added (rw c.add.ensures.1) c.loop-done.invariant.ledger
-    ∙ ap (λ b. with_frame v.ledger frame (record n { base = b })) sum in
+    ∙ ap (λ b. with_frame v.ledger frame (record n { base = b })) (omega arith) in
     record {
       made = add_more v _ _ _ _ _ c.loop-done.invariant.made c.add.ensures.1;
       ledger = ledger;

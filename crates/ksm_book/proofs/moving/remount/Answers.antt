@@ -16,7 +16,7 @@ base-items-requires c =
 pub returns-then-not-freeze-clause-remounted : goal.returns-then-not-freeze-clause-remounted
 returns-then-not-freeze-clause-remounted c =
     stays c.requires.may c.dup_frame-left.ensures c.lie_in_order.ensures.absent c.in-Some.ensures _
-    c.freeze.ensures.1 (λ e. absurd (grind (arith, c.if-not-freeze.true, c.freeze.ensures.2.1 e)))
+    c.freeze.ensures.1 (λ e. absurd (grind (arith, c.freeze.ensures.2.1 e)))
 
 pub mount-requires-clause-may : goal.mount-requires-clause-may
 mount-requires-clause-may c =

@@ -13,13 +13,13 @@ stale-preserved c =
     drops_more c.stale.invariant (sym c.in-Some.is ∙ c.stale_place.ensures) _ _ c.withdraw.ensures c.drop_stale.ensures
 
 pub overflow_add-count : goal.overflow_add-count
-overflow_add-count c = let few = drop_few c.stale.invariant (sym c.in-Some.is ∙ c.stale_place.ensures) in omega (arith, few)
+overflow_add-count c = let few = drop_few c.stale.invariant (sym c.in-Some.is ∙ c.stale_place.ensures) in omega arith
 
 pub stale-smaller : goal.stale-smaller
 stale-smaller c =
     let fewer = drop_fewer c.stale.invariant (sym c.in-Some.is ∙ c.stale_place.ensures) in
     let dups = ap (λ (p : PagesView). count_by (is_stale c.args.pages.now.rows) p.dups) c.drop_stale.ensures in
-    omega (arith, fewer, dups)
+    omega arith
 
 pub returns : goal.returns
 returns c =

@@ -10,10 +10,9 @@ pages-preserved c =
 
 pub pages-smaller : goal.pages-smaller
 pages-smaller c =
-    let page = c.in-Some.held.spot.page in
     let far = further (Some c.args.guest) _ c.pages.pages.rows _ c.pages.invariant.fits c.in-Some.ensures.1 in
-    let end = not_far (Some page) (search rules, search rules) in
-    omega (arith, far, end)
+    let end = not_far (Some c.in-Some.held.spot.page) (search rules, search rules) in
+    omega arith
 
 pub returns : goal.returns
 returns c = marking_end c.pages.invariant c.in_default.ensures

@@ -1,4 +1,4 @@
-use Rattle.ksm_book.proofs.Names.{ap, DueView, has_item, is_some, sym, true, ◌∙◌}
+use Rattle.ksm_book.proofs.Names.{ap, DueView, is_some, sym, true, ◌∙◌}
 use Rattle.ksm_pages.specs.Held.{pages_of}
 use Rattle.ksm_pages.specs.declared.named.Named.{Named}
 use Rattle.ksm_book.proofs.Dues.{has_already, has_first, has_found, inserted_has, inserted_rises, pages_in}
@@ -17,9 +17,9 @@ returns-in-Some-clause-added c =
     let order = c.self.inside.order in
     let page = c.args.spot.page in
     has_already _ _
-    (ap (λ (d : DueView). has_item page d.pages) (sym c.self.view_is)
-    ∙ has_first page (pages_in order) (pages_of c.self.inside.added.items)
-    (has_found page order ∙ ap is_some (sym c.find.ensures ∙ c.in-Some.is)))
+    (rw (← c.self.view_is)
+    (has_first page (pages_in order) (pages_of c.self.inside.added.items)
+    (has_found page order ∙ ap is_some (sym c.find.ensures ∙ c.in-Some.is))))
 
 pub returns-in-None-clause-added : goal.returns-in-None-clause-added
 returns-in-None-clause-added c =

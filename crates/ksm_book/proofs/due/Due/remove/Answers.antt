@@ -5,9 +5,8 @@ use Rattle.ksm_book.proofs.due.Due.remove.Goals as goal
 
 pub remove-requires : goal.remove-requires
 remove-requires c =
-    let s = c.self.inside in
     record {
-      there = sym (has_found c.args.page s.order)
+      there = sym (has_found c.args.page c.self.inside.order)
           ∙ sym (ap (has_item c.args.page)
           (none_added _ _ _ (ap (λ (d : DueView). d.ready) c.self.view_is ∙ c.requires.ready)))
           ∙ ap (λ (d : DueView). has_item c.args.page d.pages) c.self.view_is ∙ c.requires.due;

@@ -10,7 +10,7 @@ invariant_of-result c =
     record {
       free = record {
         room = omega (arith, c.requires.all, c.in-Ok.ensures.wide);
-        marked = λ f lt. c.in-Ok.ensures.all f (omega (arith, c.requires.all, lt)) ∙ sym (rw (noted f));
+        marked = λ f lt. c.in-Ok.ensures.all f (omega arith) ∙ sym (rw (noted f));
       };
       dying = record {
         room = omega (arith, c.requires.all, c.in-Ok-empty.ensures.wide);

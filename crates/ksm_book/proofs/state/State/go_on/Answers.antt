@@ -18,16 +18,16 @@ stops c from s before =
     let page = c.in-Err.page in
     let there = subst (λ l. has_item page l ≡ true) at.ahead c.in-Err.ensures.stopped.ahead in
     let done = filter (λ p. comes_before p page) (pages_ahead (visit_begun s.0)) in
-    let middle = c.in-Err.ensures.stopped.comes from (pass_ended_at_last s.0, s.1) (c.close_pass-ahead.ensures.comes from s before) in
+    let middle = c.in-Err.ensures.stopped.comes from _ (c.close_pass-ahead.ensures.comes from s before) in
     let many = c.stop_at.ensures.many ∙ ap (λ b. length (filter (λ p. comes_before p page) (pages_ahead b))) middle.0
     ∙ ap (λ l. length (filter (λ p. comes_before p page) l)) (stopped_ahead doing doing_beside s at.order _ there) in
     let less = stopped_fewer doing doing_beside s at.order _ there _ _ c.requires.most
     (subst (λ l. EndsAt l c.args.most c.close_pass-ahead.result) at.ahead c.close_pass-ahead.ensures.ahead)
     (rw (← c.last.ensures) c.in-Err.ensures.stopped.within) in (
-      omega (arith, many, less),
+      omega arith,
       rw many
           (subst (Reached from c.stop_at.new.self) (stopped_made doing doing_beside s at.order page there)
-          (c.stop_at.ensures.comes from (pages_visited doing (begun s) done) middle)),
+          (c.stop_at.ensures.comes from _ middle)),
     )
 
 pub returns-in-Err-clause-stopped : goal.returns-in-Err-clause-stopped
@@ -50,7 +50,7 @@ returns-in-At-clause-made c = record {
       (page_made doing doing_beside s at.order _ _ c.requires.most (rw (← at.ahead) c.in-At.ensures.ahead))
       (c.set_cursor.ensures.comes from _
       (subst (λ o. Reached from c.visit_part.new.self (pages_visited doing (begun s) (filter (up_to o) (pages_ahead (visit_begun s.0)))))
-      last (c.in-Ok.ensures.visited.comes from (pass_ended_at_last s.0, s.1) (c.close_pass-ahead.ensures.comes from s before))));
+      last (c.in-Ok.ensures.visited.comes from _ (c.close_pass-ahead.ensures.comes from s before))));
 }
 
 pub returns-in-At-clause-due : goal.returns-in-At-clause-due
@@ -67,7 +67,7 @@ ends c from s before =
     c.end_passes.ensures.comes from _
     (subst (λ o. Reached from c.visit_part.new.self (pages_visited doing (begun s) (filter (up_to o) (pages_ahead (visit_begun s.0)))))
     (c.last.ensures ∙ ap last_visited c.in-End.is)
-    (c.in-Ok.ensures.visited.comes from (pass_ended_at_last s.0, s.1) (c.close_pass-ahead.ensures.comes from s before)))
+    (c.in-Ok.ensures.visited.comes from _ (c.close_pass-ahead.ensures.comes from s before)))
 
 -- what was due once the pages were visited is so once the pass has ended
 ends_due : (c : After-end_passes) → c.visit_part.new.due.known ≡ true → AreDue c.end_passes.new.self.state c.visit_part.new.due.pages
@@ -85,13 +85,13 @@ made c from s before = (
 
 -- so one visit was made
 one_made : (c : After-end_passes) → 1 ≤ c.in-End.made
-one_made c = let v = c.args.self.now in let all = made c v _ (begins v) in omega (arith, all.0, all.1)
+one_made c = let v = c.args.self.now in let all = made c v _ (begins v) in omega arith
 
 pub nonzero_div-left : goal.nonzero_div-left
-nonzero_div-left c = let one = one_made ((goal.at.nonzero_div-left c).After-end_passes) in omega (arith, one)
+nonzero_div-left c = let one = one_made ((goal.at.nonzero_div-left c).After-end_passes) in omega arith
 
 pub nonzero_rem-result : goal.nonzero_rem-result
-nonzero_rem-result c = let one = one_made ((goal.at.nonzero_rem-result c).After-end_passes) in omega (arith, one)
+nonzero_rem-result c = let one = one_made ((goal.at.nonzero_rem-result c).After-end_passes) in omega arith
 
 pub returns-else-whole-clause-made : goal.returns-else-whole-clause-made
 returns-else-whole-clause-made c = record {
@@ -100,7 +100,7 @@ returns-else-whole-clause-made c = record {
   comes = λ from s before.
       let all = made ((goal.at.returns-else-whole-clause-made c).After-end_passes) from s before in
       let order = (closed c.args.self.now c.close_pass-ahead.new.self c.lies_in_order.ensures.rise c.close_pass-ahead.ensures.comes from s before).order in
-      subst (λ n. Reached from c.end_passes.new.self (visits_beside doing n s)) (sym all.0)
+      rw all.0
       (subst (Reached from c.end_passes.new.self) (pass_made doing doing_beside s order all.1)
       (ends ((goal.at.returns-else-whole-clause-made c).After-end_passes) from s before));
 }
@@ -115,7 +115,7 @@ returns-then-quiet-clause-due c = λ known.
 
 pub returns-then-quiet-clause-made : goal.returns-then-quiet-clause-made
 returns-then-quiet-clause-made c = record {
-  some = (let one = one_made ((goal.at.returns-then-quiet-clause-made c).After-end_passes) in omega (arith, one, c.in-End.ensures.ahead.1));
+  some = (let one = one_made ((goal.at.returns-then-quiet-clause-made c).After-end_passes) in omega arith);
   fit = omega arith;
   comes = λ from s before.
       let at = closed c.args.self.now c.close_pass-ahead.new.self c.lies_in_order.ensures.rise c.close_pass-ahead.ensures.comes from s before in
@@ -125,14 +125,14 @@ returns-then-quiet-clause-made c = record {
       let some = subst (λ (b : BookState). 1 ≤ length (mergeable_pages b.rows)) before.0 c.requires.some in
       let many : times * length (pages_ahead (visit_begun s.0)) + length (pages_ahead (visit_begun s.0))
       ≡ c.args.most - (c.args.most - made) % made =
-      ap (λ n. times * n + n) (sym all.0) ∙ omega (arith, mul_comm made times, all.0, all.1, c.in-End.ensures.ahead.1) in
+      rw (← all.0) (omega (arith, mul_comm made times, all.0, all.1, c.in-End.ensures.ahead.1)) in
       let none : (visit_begun s.0).cursor ≡ None =
       begun_cursor s.0 ∙ ap (λ (b : BookState). b.cursor) (sym at.state) ∙ sym c.cursor.ensures ∙ none_of c.cursor.result c.if-whole.ensures in
       let still = subst (λ o. IsStill (begun s) (pages_visited doing (begun s) (filter (up_to o) (pages_ahead (visit_begun s.0)))))
       (c.last.ensures ∙ ap last_visited c.in-End.is)
       (begun_still (pass_ended_at_last s.0) s.1 _
-      (c.in-Ok.ensures.visited.still c.if-quiet.true from (pass_ended_at_last s.0, s.1) (c.close_pass-ahead.ensures.comes from s before))) in
-      subst (λ n. Reached from c.end_passes-then-quiet.new.self (visits_beside doing n s)) many
+      (c.in-Ok.ensures.visited.still c.if-quiet.true from _ (c.close_pass-ahead.ensures.comes from s before))) in
+      rw (← many)
       (subst (Reached from c.end_passes-then-quiet.new.self) (passes_made doing doing_beside s at.order times some none still)
       (c.end_passes-then-quiet.ensures.comes from _ (ends ((goal.at.returns-then-quiet-clause-made c).After-end_passes) from s before)));
 }

@@ -8,9 +8,8 @@ pub pages-smaller : goal.pages-smaller
 pages-smaller c =
     let page = c.in-Some.held.spot.page in
     let far = further None _ _ _ c.pages.invariant.fits c.in-Some.ensures.1 in
-    let fits : FitsPage (Some page) = (search rules, search rules) in
-    let end = not_far (Some page) fits in
-    omega (arith, far, end)
+    let end = not_far (Some page) (search rules, search rules) in
+    omega arith
 
 pub pages-preserved : goal.pages-preserved
 pages-preserved c =

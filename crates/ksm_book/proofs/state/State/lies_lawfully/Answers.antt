@@ -6,8 +6,7 @@ use Rattle.ksm_book.proofs.state.State.lies_lawfully.Goals as goal
 pub returns : goal.returns
 returns c =
     let s = c.self.inside in
-    let p = seen s.pages in
-    let b = state_of p s.cursor s.passes in
+    let b = state_of (seen s.pages) s.cursor s.passes in
     let sound = c.self.invariant.0 in
     let laid = c.self.invariant.1 in
     record {
@@ -15,5 +14,5 @@ returns c =
       placed = rw (← c.self.view_is) (lie_on b _ sound _ laid.placed c.lie_in_order.ensures.absent);
       place = rw (← c.self.view_is) (finds_place b _ sound _ laid.placed);
       lives = rw (← c.self.view_is) laid.spent;
-      numbers = rw (← c.self.view_is) (λ k d lt. let below = sound.numbers k d lt in let few = spent_most laid in omega (arith, below, few));
+      numbers = rw (← c.self.view_is) (λ k d lt. let below = sound.numbers k d lt in let few = spent_most laid in omega arith);
     }

@@ -5,7 +5,7 @@ pub returns-in-Some-clause-within : goal.returns-in-Some-clause-within
 returns-in-Some-clause-within c =
     let low = λ (p : GuestPage). not (after_cursor c.args.last p) in
     let pages = c.args.self.now.restless.pages in
-    omega (arith, c.listed_up_to.ensures, length-filter low pages, count_by-le-length low pages)
+    omega (arith, length-filter low pages, count_by-le-length low pages)
 
 pub returns-in-None-clause-many : goal.returns-in-None-clause-many
 returns-in-None-clause-many c = c.listed_len.ensures ∙ ap length (sym (filter_all _ _ (λ k d lt. rw c.in-None.is refl)))

@@ -19,6 +19,5 @@ invariant_of-self c =
 
 pub returns : goal.returns
 returns c =
-    let s = c.self.inside in
-    let has = has_told (seen s.pages) c.args.guest _ c.next.ensures ∙ c.if-is_none.ensures in
+    let has = has_told (seen c.self.inside.pages) c.args.guest _ c.next.ensures ∙ c.if-is_none.ensures in
     carried_so c.self.view_is refl (mergeable_carried _ _ _ c.self.invariant.1 c.make_mergeable.ensures has)

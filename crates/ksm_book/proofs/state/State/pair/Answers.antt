@@ -11,8 +11,7 @@ unreachable-requires c =
 
 pub new_place-place-requires : goal.new_place-place-requires
 new_place-place-requires c =
-    let met = meets _ c.self.invariant (ap view_of c.self.view_is) c.requires.row in
-    record { room = room _ met refl refl }
+    record { room = room _ (meets _ c.self.invariant (ap view_of c.self.view_is) c.requires.row) refl refl }
 
 pub pair-requires : goal.pair-requires
 pair-requires c =

@@ -5,10 +5,9 @@ use Rattle.ksm_book.proofs.state.State.register.Goals.{In_ok-spot}
 
 pub returns-then-is_used_up : goal.returns-then-is_used_up
 returns-then-is_used_up c =
-    let p = seen c.self.inside.pages in
     carried_so c.self.view_is refl
     (rw (← ap view_of c.self.view_is)
-    (register_refused p _ _ _ _ _ _ (rw (← c.shape-shape.ensures) c.if-node-shape.false)
+    (register_refused (seen c.self.inside.pages) _ _ _ _ _ _ (rw (← c.shape-shape.ensures) c.if-node-shape.false)
     (none_of _ (sym c.has.ensures ∙ c.if-has.false)) (c.is_used_up.ensures c.if-is_used_up.true)))
 
 -- the page came

@@ -16,8 +16,7 @@ returns-then-count_mergeable-eq0-clause-carried c =
 pub returns-clause-carried : goal.returns-clause-carried
 returns-clause-carried c =
     let view = c.list_restless.ensures.view in
-    let some = subst (λ (v : BookView). 1 ≤ length (mergeable_pages v.state.rows)) (sym view)
-    (omega (arith, c.count_mergeable.ensures, c.if-count_mergeable-eq0.false)) in
+    let some = subst (λ (v : BookView). 1 ≤ length (mergeable_pages v.state.rows)) (sym view) (omega arith) in
     rw (← view)
     (visits_carried _ _ _
     (ap (λ (v : BookView). v.state.knobs.run) view ∙ running ((goal.at.returns-clause-carried c).After-count_mergeable)) c.visits.ensures.own

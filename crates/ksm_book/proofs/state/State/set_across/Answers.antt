@@ -1,6 +1,7 @@
-use Rattle.ksm_book.proofs.Names.{[], All, ap, arith, BookValue, changes_while_shared, Done, effect, false, get_or, inr, IsLaid, IsSound, Knobs, nat_tests, ne_eqb, no_dup_lives, None, none_shared, PageState, PagesView, refl, refusal, rules, seen, SetAcross, settled_state, sound_set_across, state_of, subst, sym, waiting_state, ◌∙◌, ◌≡◌, ◌≤◌, All-map}
+use Rattle.ksm_book.proofs.Names.{[], All, ap, arith, BookValue, changes_while_shared, Done, effect, false, get_or, inr, IsLaid, IsSound, Knobs, nat_tests, ne_eqb, no_dup_lives, None, none_shared, PagesView, refl, refusal, rules, seen, SetAcross, sound_set_across, state_of, subst, sym, waiting_state, ◌∙◌, ◌≡◌, ◌≤◌, All-map}
 use Rattle.ksm_book.proofs.Laying.{laid_mapped, retuned}
 use Rattle.ksm_book.proofs.Sharing.{settled_lodges}
+use Rattle.ksm_pages.proofs.Resting.{settled_still}
 use Rattle.ksm_book.proofs.state.State.set_across.Goals as goal
 
 calm : (c : goal.After-set_knobs) → changes_while_shared (state_of (seen c.self.inside.pages) c.self.inside.cursor c.self.inside.passes) c.self.inside.pages.knobs.merge_across_nodes c.args.across ≡ false
@@ -20,15 +21,11 @@ none_left c =
 
 pub set_knobs-requires : goal.set_knobs-requires
 set_knobs-requires c = inr (subst (λ (p : PagesView). All (λ r. waiting_state r.state ≡ false) p.rows) (sym c.settle_all.ensures)
-    (All-map (λ r. waiting_state r.state ≡ false) _ _ (λ i d lt. still (get_or c.drop_stale.new.pages.rows i d).state)))
-  where
-    still : (s : PageState) → waiting_state (settled_state s) ≡ false
-    still s = grind (arith, nat_tests)
+    (All-map (λ r. waiting_state r.state ≡ false) _ _ (λ i d lt. settled_still (get_or c.drop_stale.new.pages.rows i d).state)))
 
 laid : (c : goal.After-set_knobs) → IsLaid (seen c.set_knobs.new.self) c.drop_stale.new.keeper
 laid c =
-    let k = c.drop_stale.new.keeper in
-    let there = subst (λ (p : PagesView). IsLaid p k) (sym c.settle_all.ensures)
+    let there = subst (λ (p : PagesView). IsLaid p c.drop_stale.new.keeper) (sym c.settle_all.ensures)
     (laid_mapped c.drop_stale.ensures.laid _ _ (λ r. refl) (λ i d lt. settled_lodges (get_or c.drop_stale.new.pages.rows i d))) in
     rw c.set_knobs.ensures (retuned _ (inr (none_left c)) there)
 
@@ -37,7 +34,7 @@ sound c =
     let b = state_of (seen c.self.inside.pages) c.self.inside.cursor c.self.inside.passes in
     let low : c.args.across ≤ 1 = search rules in
     let quiet = calm c in
-    let accepted : refusal b (SetAcross c.args.across) ≡ None = grind (arith, nat_tests, low, quiet) in
+    let accepted : refusal b (SetAcross c.args.across) ≡ None = grind (arith, nat_tests) in
     sound_set_across b _ Done accepted c.self.invariant.0
 
 pub invariant_of-self : goal.invariant_of-self

@@ -10,7 +10,7 @@ invariant_of-self c =
     let within : (2 ≤ c.args.limit) × (c.args.limit ≤ MOST_REFERENCES) = search rules in
     let calm = ap (λ (k : Knobs). changes_while_shared b k.max_page_sharing c.args.limit) (sym c.knobs-knobs.ensures)
     ∙ ap (λ (x : BookValue). changes_while_shared x.state c.knobs-knobs.result.max_page_sharing c.args.limit) c.self.view_is ∙ sym c.if-would_change_shared.ensures in
-    let accepted : refusal b (SetLimit c.args.limit) ≡ None = grind (arith, nat_tests, within.0, within.1, calm) in
+    let accepted : refusal b (SetLimit c.args.limit) ≡ None = grind (arith, nat_tests) in
     let there = c.drop_stale.ensures.pages in (
       subst IsSound (search rules) (sound_set_limit b c.args.limit Done accepted c.self.invariant.0),
       rw c.set_knobs.ensures

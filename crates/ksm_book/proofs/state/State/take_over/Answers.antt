@@ -1,4 +1,4 @@
-use Rattle.ksm_book.proofs.Names.{ap, BookValue, Comes, GuestPage, has_item, row_at, same_page, subst, sym, ◌∙◌, ◌≡◌, ◌||◌}
+use Rattle.ksm_book.proofs.Names.{ap, BookValue, Comes, row_at, sym, ◌∙◌}
 use Rattle.std.proofs.lemmas.Option.{none-some}
 use Rattle.ksm_tree.proofs.Numbers.{on_err}
 use Rattle.ksm_book.proofs.TakingOver.{once_freed, other_alone, taken_comes, taken_leaves, taken_refused, Takes, takes_from, waits_at}
@@ -35,5 +35,4 @@ pub returns-clause-due : goal.returns-clause-due
 returns-clause-due c =
     taken_leaves c.args.self.now c.stop_waiting.new.self c.visit.new.self (takes (goal.at.returns-clause-due c).After-held)
     (freed (goal.at.returns-clause-due c).After-stop_waiting) _ _ _
-    (subst (λ (q : GuestPage). (p : GuestPage) → has_item p c.insert.new.self.pages ≡ (same_page q p || has_item p c.args.due.now.pages))
-    c.in-Some.ensures.spot c.in_ok-insert.ensures.added) c.remove.ensures.gone c.in_ok-visit.ensures.comes c.requires.due
+    (rw (← c.in-Some.ensures.spot) c.in_ok-insert.ensures.added) c.remove.ensures.gone c.in_ok-visit.ensures.comes c.requires.due

@@ -11,13 +11,11 @@ returns-then-is_none c =
 
 pub invariant_of-self : goal.invariant_of-self
 invariant_of-self c =
-    let s = c.self.inside in
-    let has = has_told (seen s.pages) c.args.guest _ c.next.ensures ∙ c.if-is_none.ensures in
+    let has = has_told (seen c.self.inside.pages) c.args.guest _ c.next.ensures ∙ c.if-is_none.ensures in
     let unshares = c.unshare_each-pages.ensures.unshares in
     (sound_carried c.self.invariant.0 (unmerge_carried _ _ unshares has), unshares.laid)
 
 pub returns : goal.returns
 returns c =
-    let s = c.self.inside in
-    let has = has_told (seen s.pages) c.args.guest _ c.next.ensures ∙ c.if-is_none.ensures in
+    let has = has_told (seen c.self.inside.pages) c.args.guest _ c.next.ensures ∙ c.if-is_none.ensures in
     carried_so c.self.view_is refl (unmerge_carried _ _ c.unshare_each-pages.ensures.unshares has)

@@ -10,8 +10,7 @@ loop-spot-init c = (none_passed c.args.self.now, c.requires.due, c.requires.read
 
 pub loop-spot-smaller : goal.loop-spot-smaller
 loop-spot-smaller c =
-    let page = c.in-Some.spot.page in
-    let fits : FitsPage (Some page) = (search rules, search rules) in
+    let fits : FitsPage (Some c.in-Some.spot.page) = (search rules, search rules) in
     less_room _ _ fits c.in-Some.ensures.1
 
 pub loop-spot-preserved : goal.loop-spot-preserved

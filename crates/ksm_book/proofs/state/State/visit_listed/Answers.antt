@@ -14,21 +14,18 @@ loop-at-preserved c =
       omega arith,
       c.visit.ensures.restless ∙ c.loop-at.invariant.1,
       λ from s before. subst (Reached from c.visit.new.self) (visit s)
-          (c.in-Ok.ensures.comes from (pages_visited doing s pages) (c.loop-at.invariant.2 from s before)),
+          (c.in-Ok.ensures.comes from _ (c.loop-at.invariant.2 from s before)),
       λ quiet from s before.
           let both = and_parts _ _ (sym c.and-made.ensures ∙ quiet) in
           subst (IsStill s) (visit s)
           (still_on s _ _ (c.loop-at.invariant.3 both.0 from s before)
-          (c.in-Ok.ensures.quiet both.1 from (pages_visited doing s pages)
-          (c.loop-at.invariant.2 from s before))),
+          (c.in-Ok.ensures.quiet both.1 from _ (c.loop-at.invariant.2 from s before))),
       c.visit.ensures.own ∙ c.loop-at.invariant.4,
       λ quiet was.
           let both = and_parts _ _ (sym c.and-made.ensures ∙ quiet) in
-          let within = slice_get_within all _ _ stands in
-          let cut = drop_more all _ page within
+          let cut = drop_more all _ page (slice_get_within all _ _ stands)
           ∙ ap (λ (p : GuestPage). p ∷ drop (c.loop-at.at + 1) all) (get_or_from_slice_get all _ _ _ stands) in
-          c.in-Ok.ensures.due both.1 (drop (c.loop-at.at + 1) all)
-          (subst (AreDue c.loop-at.self.state) cut (c.loop-at.invariant.5 both.0 was)),
+          c.in-Ok.ensures.due both.1 _ (subst (AreDue c.loop-at.self.state) cut (c.loop-at.invariant.5 both.0 was)),
     )
 
 -- the pages between, once the loop is over
@@ -48,11 +45,11 @@ returns-in-Err-clause-stopped c =
     record {
       low = c.loop-at.auto.at;
       high = omega arith;
-      comes = λ from s before. c.in-Err.ensures.refused from (pages_visited doing s done) (c.loop-at.invariant.2 from s before);
+      comes = λ from s before. c.in-Err.ensures.refused from _ (c.loop-at.invariant.2 from s before);
       restless = search rules;
     }
 
 pub returns-clause-due : goal.returns-clause-due
 returns-clause-due c = λ quiet least was.
-    let over : c.loop-at.at ≡ c.args.end = omega (arith, least, c.loop-at-test.false, c.loop-at.invariant.0) in
+    let over : c.loop-at.at ≡ c.args.end = omega arith in
     rw (← over) (c.loop-at.invariant.5 quiet was)

@@ -41,7 +41,7 @@ returns-in-Err-clause-stopped c =
     let at = stands ((goal.at.returns-in-Err-clause-stopped c).After-listed_at) in
     let listed = c.lies_in_order.ensures.listed c.requires.known in
     let within = slice_get_within all _ _ at in
-    let many = sym (length-take-le c.in-Err.at all (omega (arith, within))) ∙ ap length (sym (place_splits all _ _ listed.0 at).0) in
+    let many = sym (length-take-le c.in-Err.at all (omega arith)) ∙ ap length (sym (place_splits all _ _ listed.0 at).0) in
     let restless = subst (λ (b : BookState). restless_at page b.rows ≡ true)
     (comes_to start c.visit_listed.new.self _ stopped.comes) (stopped.restless page at) in
     let there = part_ahead _ (up_to_down _) all _ _ _ start.state

@@ -1,4 +1,4 @@
-use Rattle.ksm_book.proofs.Names.{ap, arith, begun, BookState, doing, mergeable_pages, Reached, refl, subst, sym, visits_beside, ◌∙◌, ◌≡◌}
+use Rattle.ksm_book.proofs.Names.{ap, arith, begun, BookState, doing, mergeable_pages, Reached, refl, subst, sym, ◌∙◌, ◌≡◌}
 use Rattle.ksm_book.proofs.Folded.{beside_on, visits_mergeable}
 use Rattle.ksm_book.proofs.Reached.{comes_to, first}
 use Rattle.ksm_book.proofs.state.State.visits.Goals as goal
@@ -11,12 +11,11 @@ go_on-requires-clause-some c =
 
 pub loop-done-preserved : goal.loop-done-preserved
 loop-done-preserved c =
-    let n = c.loop-done.done in
-    let k = c.in-Ok.visits in (
+    let n = c.loop-done.done in (
       omega (arith, c.in-Ok.ensures.made.fit, c.loop-done.invariant.0),
       c.go_on.ensures.known,
-      λ from s before. subst (Reached from c.go_on.new.self) (sym (beside_on doing n k _ s refl))
-          (c.in-Ok.ensures.made.comes from (visits_beside doing n s) (c.loop-done.invariant.2 from s before)),
+      λ from s before. subst (Reached from c.go_on.new.self) (sym (beside_on doing n c.in-Ok.visits _ s refl))
+          (c.in-Ok.ensures.made.comes from _ (c.loop-done.invariant.2 from s before)),
       c.go_on.ensures.own ∙ c.loop-done.invariant.3,
       c.go_on.ensures.due,
     )
@@ -28,15 +27,15 @@ returns-in-Err-clause-scanned c =
     let stopped = c.in-Err.ensures.stopped in (
       refl,
       record {
-        fewer = omega (arith, stopped.fewer, c.loop-done.invariant.0);
+        fewer = omega arith;
         comes = λ from s before. subst (Reached from c.go_on.new.self) (ap begun (sym (beside_on doing n k _ s refl)))
-            (stopped.comes from (visits_beside doing n s) (c.loop-done.invariant.2 from s before));
+            (stopped.comes from _ (c.loop-done.invariant.2 from s before));
       },
     )
 
 pub returns-clause-scanned : goal.returns-clause-scanned
 returns-clause-scanned c =
-    let all : c.loop-done.done ≡ c.args.count = omega (arith, c.loop-done-test.false, c.loop-done.invariant.0) in (
+    let all : c.loop-done.done ≡ c.args.count = omega arith in (
       refl,
       λ from s before. rw (← all) (c.loop-done.invariant.2 from s before),
     )
