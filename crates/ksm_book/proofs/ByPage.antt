@@ -13,18 +13,18 @@ one_at f o = cond (is_frame f o) 1 0
 
 -- a page on the frame counts once for it
 pub one_same : (f : ℕ) (o : Option ℕ) → o ≡ Some f → one_at f o ≡ 1
-one_same f o e = ap (one_at f) e ∙ ap (λ (b : Bool). cond b 1 0) (eq-eqb f f refl)
+one_same f o e = grind (arith, nat_tests, e)
 
 -- a frame that passes the test for frame f is f
 pub is_that : (f : ℕ) (o : Option ℕ) → is_frame f o ≡ true → o ≡ Some f
-is_that f o here = grind (arith, nat_tests)
+is_that f o here = grind arith
 
 is_it : (f : ℕ) (o : Option ℕ) → o ≡ Some f → is_frame f o ≡ true
 is_it f o e = ap (is_frame f) e ∙ eq-eqb f f refl
 
 -- another frame, or none, fails the test for frame f
 pub not_on : (f : ℕ) (o : Option ℕ) → o ≢ Some f → is_frame f o ≡ false
-not_on f o ne = grind (arith, nat_tests)
+not_on f o ne = grind arith
 
 -- a page that is not on the frame counts for nothing
 pub one_other : (f : ℕ) (o : Option ℕ) → o ≢ Some f → one_at f o ≡ 0
@@ -32,7 +32,7 @@ one_other f o ne = rw (not_on f o ne)
 
 -- a page is on the frame, or it is not
 pub frame_cases : (f : ℕ) (o : Option ℕ) → (o ≡ Some f) ⊎ (o ≢ Some f)
-frame_cases f o = grind (arith, nat_tests)
+frame_cases f o = grind arith
 
 -- ---------------------------------------------------------------- a page
 
@@ -90,7 +90,7 @@ module _ (f : ℕ) (page : GuestPage) (o : Option ℕ) (frame : Frames) where
 
   -- where no row is of the page, as many lie on the frame as did
   apart_uses : (rows : List Row) → All (λ r. same_page r.page page ≡ false) rows → uses f (lies_on page o frame) rows ≡ uses f frame rows
-  apart_uses rows apart = count_alike _ _ _ (λ i d lt. ap (is_frame f) (off_page page o frame (get_or rows i d).page (apart i d lt)))
+  apart_uses rows apart = grind (arith, nat_tests, apart, count_alike, off_page)
 
   -- where the row of a page goes, one row less lies on the frame if the page lay there, else as many
   pub uses_gone : (rows : List Row) (row : Row) → InPageOrder rows → row_at page rows ≡ Some row → uses f (lies_on page o frame) (without_page page rows) + one_at f (frame page) ≡ uses f frame rows
@@ -117,7 +117,6 @@ uses_come f o frame row rows absent =
     grind (
       arith,
       nat_tests,
-      absent,
       apart_uses f row.page o frame rows (find_none (λ r. same_page r.page row.page) rows absent),
       on_page row.page o frame row.page (same_page_refl row.page),
       count_with_row,
@@ -130,8 +129,7 @@ uses_some f frame rows = λ i d lt e. counts_one _ _ i d lt (is_it f _ e)
 -- a change of a page's row, and then another, are one change where the second makes the same of both
 pub change_twice : (page : GuestPage) (c d e : Row → Row) (rows : List Row) → ((r : Row) → (c r).page ≡ r.page) → All (λ r. same_page r.page page ≡ true → d (c r) ≡ e r) rows
     → change_row page d (change_row page c rows) ≡ change_row page e rows
-change_twice page c d e rows keeps same =
-    map_mapped _ _ _ _ (λ i x lt. let k = keeps (get_or rows i x) in let s = same i x lt in grind arith)
+change_twice page c d e rows keeps same = grind (arith, nat_tests, keeps, same, map_mapped)
 
 -- where the row of a page changes, the changed row is found at the page
 pub at_changed : (page : GuestPage) (c : Row → Row) (rows : List Row) (row : Row) → ((r : Row) → (c r).page ≡ r.page) → row_at page rows ≡ Some row → row_at page (change_row page c rows) ≡ Some (c row)

@@ -137,7 +137,7 @@ shown_so v w _ (Err fault) is h = tt
 
 -- a command that was carried out gave the frames that it needed, and its log shows why it is answered so
 pub carried_out : {v w : BookView} {command : Command} {answer : Answer} → IsCarried v w command answer → CarriedOut v w command answer
-carried_out {v} {w} {command} {answer} h = record {
+carried_out {v} {w} {answer = answer} h = record {
   own = h.own;
   answer = h.answer;
   state = h.state;

@@ -1,5 +1,5 @@
 -- What visits do to the frames is done beside: nothing by the visit of a shared row, and the same wherever the cursor stands.
-use Rattle.ksm_book.proofs.Names.{ap, append-nil, best_dup, BookState, Deed, doing, DupRow, Frames, GuestPage, handling, idle, IsBeside, next_visited, None, Option, pairing, refl, Row, scanning, shared_state, Some, suc, sym, then_doing, visit_begun, visiting, visiting_of, visits_beside, zero, ℕ, ◌∙◌, ◌≡◌, if◌then◌else◌, arith, nat_tests}
+use Rattle.ksm_book.proofs.Names.{ap, append-nil, best_dup, BookState, Deed, doing, DupRow, Frames, GuestPage, handling, idle, IsBeside, next_visited, None, Option, pairing, refl, Row, scanning, shared_state, Some, suc, sym, then_doing, visit_begun, visiting, visiting_of, visits_beside, zero, ℕ, ◌∙◌, ◌≡◌, if◌then◌else◌, arith}
 use Rattle.ksm_book.proofs.Going.{elsewhere}
 use Rattle.ksm_book.proofs.Folded.{beside_state}
 
@@ -9,10 +9,10 @@ then_idle deed = λ t. record { steps = append-nil deed.steps t; frame = deed.fr
 
 module _ (b : BookState) (frame : Frames) (row : Row) (cursor : Option GuestPage) (passes : ℕ) where
   pairing_alike : (w : Option Row) → pairing w (elsewhere cursor passes b) frame row ≡ pairing w b frame row
-  pairing_alike w = grind (arith, nat_tests)
+  pairing_alike w = grind arith
 
   handling_alike : (d : Option DupRow) → handling d (elsewhere cursor passes b) frame row ≡ handling d b frame row
-  handling_alike d = grind (arith, nat_tests)
+  handling_alike d = grind arith
 
 -- what visits do to the frames is nothing at a shared row, and the same wherever the cursor stands
 pub doing_beside : IsBeside doing

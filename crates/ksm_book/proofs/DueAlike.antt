@@ -1,5 +1,5 @@
 -- Visits of pages do what those of the definitions do, where the rows further on that still wait are hidden from these.
-use Rattle.ksm_book.proofs.Names.{[], All, All-cons, All-head, All-map, and_parts, ap, append_assoc, AreAscending, arith, before_irrefl, best_dup, BookState, Bool, bytes_eq, cases_Bool, change_row, change_rows, comes_before, comes_later, cond_both, count_mapped, Deed, doing, due_row_visited, due_visited, due_visits, dup_frame, DupRow, each_at_page, empty_from, emptying, false, filter, filter-append, filter_all, filter_none, find, find_all, find_mapped, find_none, find_nothing, find_passes, founding, Frames, get_or, GuestPage, handled, handling, has_item, hidden, if◌then◌else◌, inl, inr, is_for_zero, is_no_rival, is_none, is_restless, IsSound, item_count, joining, Knobs, List, list_all, map_alike, map_mapped, may_join, mergeable_pages, Merged, merged_into, nat_le, nat_lt, new_place, None, not, not-true, not_both, Option, option_map, page, page_visited, pages_visited, PageState, paired, pairing, pairs_cross, pairs_head, pairs_tail, partner, place_count, place_or, private_state, refl, restless_at, restless_row, Row, row_at, row_visited, same_page, same_page_eq, same_page_refl, same_page_sym, seen, settled, settled_calmer, settled_state, shared_state, Some, sound_changed, sound_row_visited, stayed, staying, subst, sym, taken_over, takes_over, tells_waits, then_doing, tree_of, true, true≢false, visited, Waiting, waiting_not_private, waiting_state, waits_for, waits_tells, with_dup, with_none_waiting, Zero, ℕ, ◌&&◌, ◌++◌, ◌+◌, ◌==◌, ◌||◌, ◌∙◌, ◌∷◌, ◌≡◌, nat_tests}
+use Rattle.ksm_book.proofs.Names.{[], All, All-cons, All-head, All-map, and_parts, ap, append_assoc, AreAscending, arith, before_irrefl, best_dup, BookState, Bool, bytes_eq, cases_Bool, change_row, change_rows, comes_before, comes_later, cond_both, count_mapped, Deed, doing, due_row_visited, due_visited, due_visits, dup_frame, DupRow, each_at_page, empty_from, emptying, false, filter, filter-append, filter_all, filter_none, find, find_all, find_mapped, find_none, find_nothing, find_passes, founding, Frames, get_or, GuestPage, handled, handling, has_item, hidden, if◌then◌else◌, inl, inr, is_for_zero, is_no_rival, is_none, is_restless, IsSound, item_count, Knobs, List, list_all, map_alike, map_mapped, may_join, mergeable_pages, Merged, merged_into, nat_le, nat_lt, new_place, None, not, not-true, not_both, Option, option_map, page, page_visited, pages_visited, PageState, paired, pairing, pairs_cross, pairs_head, pairs_tail, partner, place_count, place_or, private_state, refl, restless_at, restless_row, Row, row_at, row_visited, same_page, same_page_eq, same_page_refl, same_page_sym, seen, settled, settled_calmer, settled_state, shared_state, Some, sound_changed, sound_row_visited, stayed, staying, subst, sym, taken_over, takes_over, tells_waits, then_doing, tree_of, true, true≢false, visited, Waiting, waiting_not_private, waiting_state, waits_for, waits_tells, with_dup, with_none_waiting, Zero, ℕ, ◌&&◌, ◌++◌, ◌+◌, ◌==◌, ◌||◌, ◌∙◌, ◌∷◌, ◌≡◌, nat_tests}
 use Rattle.ksm_base.specs.declared.row.PageState.TheVariants.{Private}
 use Rattle.ksm_book.proofs.ByPage.{found_page, row_of_page}
 use Rattle.ksm_book.proofs.Doing.{then_idle}
@@ -13,13 +13,13 @@ use Rattle.ksm_pages.proofs.Resting.{settled_again, settled_still}
 -- ---------------------------------------------------------------- rows that wait no more
 
 merged_still : (n : ℕ) (s : PageState) → merged_into n (settled_state s) ≡ merged_into n s
-merged_still n s = grind (arith, nat_tests)
+merged_still n s = grind arith
 
 shared_still : (s : PageState) → shared_state (settled_state s) ≡ shared_state s
-shared_still s = grind (arith, nat_tests)
+shared_still s = grind arith
 
 settled_is : (s : PageState) → waiting_state s ≡ false → settled_state s ≡ s
-settled_is s none = grind (arith, nat_tests, none)
+settled_is s none = grind (arith, none)
 
 -- a row that does not wait stays as it is where it is to wait no more
 pub stays_settled : (r : Row) → waiting_state r.state ≡ false → settled r ≡ r
@@ -61,7 +61,7 @@ hidden_all b s = λ t. record b { rows = map_alike (calmed (is_among pages)) set
     pages = mergeable_pages b.rows
 
     each : All (λ r. calmed (is_among pages) r ≡ settled r) b.rows
-    each k d lt = grind (arith, nat_tests, lt, mergeable_has, waits_mergeable, stays_settled)
+    each k d lt = grind (arith, nat_tests, mergeable_has, waits_mergeable, stays_settled)
 
 -- with the rows of no page hidden the book is as it is
 pub hidden_none : (b : BookState) → hidden [] b ≡ b
@@ -71,16 +71,13 @@ hidden_none b = λ t. record b { rows = map-id b.rows t }
 
 module _ (test : Row → Bool) where
   calmed_page : (r : Row) → (calmed test r).page ≡ r.page
-  calmed_page r = cond_both _ _ r (λ x. x.page ≡ r.page) (λ _. refl) (λ _. refl)
+  calmed_page r = grind (arith, nat_tests)
 
   calmed_merged : (n : ℕ) (r : Row) → merged_into n (calmed test r).state ≡ merged_into n r.state
-  calmed_merged n r =
-      cond_both _ _ r (λ x. merged_into n x.state ≡ merged_into n r.state) (λ _. merged_still n _) (λ _. refl)
+  calmed_merged n r = grind (arith, nat_tests, merged_still)
 
   calmed_restless : (r : Row) → is_restless (calmed test r) ≡ is_restless r
-  calmed_restless r =
-      cond_both _ _ r (λ x. is_restless x ≡ is_restless r)
-      (λ _. ap (λ z. r.mergeable && not z) (shared_still _)) (λ _. refl)
+  calmed_restless r = grind (arith, nat_tests, shared_still)
 
   module _ (rows : List Row) where
     abbrev calm_rows : List Row
@@ -127,7 +124,6 @@ module _ (test : Row → Bool) where
     dup_frame_kept frame number =
         grind (
           arith,
-          nat_tests,
           find_mapped (calmed test) (λ r. merged_into number r.state) (λ r. merged_into number r.state) rows (λ k d lt. calmed_merged number (get_or rows k d)),
           calmed_merged,
         )
@@ -137,7 +133,7 @@ module _ (test : Row → Bool) where
 -- a choice by a test comes to g of another by it, where each of the chosen does
 chosen : {X : Type 0} (g : X → X) (z : Bool) (a c a' c' : X) → (z ≡ true → a ≡ g a') → (z ≡ false → c ≡ g c')
     → (if z then a else c) ≡ g (if z then a' else c')
-chosen g z a c a' c' holds fails = grind (arith, nat_tests)
+chosen g z a c a' c' holds fails = grind arith
 
 -- a row, and pages further on, of which it has none
 module _ (later : List GuestPage) (b : BookState) (r : Row) (fresh : has_item r.page later ≡ false) where
@@ -169,10 +165,10 @@ module _ (later : List GuestPage) (b : BookState) (r : Row) (fresh : has_item r.
     either x = if by x.page then f x else calmed (is_among later) x
 
     change_first : (x : Row) → (if by (cover x).page then f (cover x) else cover x) ≡ either x
-    change_first x = grind (arith, nat_tests, calmed_page (is_among pages) x)
+    change_first x = grind (arith, calmed_page (is_among pages) x)
 
     change_then : (x : Row) → calmed (is_among later) (if by x.page then f x else x) ≡ either x
-    change_then x = grind (arith, nat_tests)
+    change_then x = grind arith
 
     -- it does the same where these pages are hidden
     change_alike : change_rows (λ x. by x.page) f covered.rows
@@ -209,7 +205,7 @@ module _ (later : List GuestPage) (b : BookState) (r : Row) (fresh : has_item r.
   partner_alike near = find_mapped _ _ _ _ (λ k d lt. alike _ (near k d lt)) ∙ stays _ refl
     where
       alike : (x : Row) → IsOpen x → waits_for b.knobs r (cover x) ≡ waits_for b.knobs r x
-      alike x seen = grind (arith, nat_tests, seen)
+      alike x seen = grind (arith, seen)
 
       stays : (o : Option Row) → partner b.knobs b.rows r ≡ o → option_map cover o ≡ o
       stays None found = refl
@@ -237,10 +233,7 @@ module _ (later : List GuestPage) (b : BookState) (r : Row) (fresh : has_item r.
       near_w = found_open near w found
 
       apart : (q : GuestPage) → (same_page q w.page || same_page q r.page) ≡ true → has_item q later ≡ false
-      apart q one =
-          let of_w = same_page_eq q w.page in
-          let of_r = same_page_eq q r.page in
-          grind (arith, near_w, fresh)
+      apart q one = grind (arith, nat_tests, one, same_page_eq q w.page, same_page_eq q r.page, near_w, fresh)
 
   pairing_alike : (frame : Frames) → NoneCovered
       → pairing (partner b.knobs covered.rows r) covered frame (settled r)
@@ -267,9 +260,7 @@ module _ (later : List GuestPage) (b : BookState) (r : Row) (fresh : has_item r.
       where
         by : (e : Option DupRow) → o ≡ e → handled e covered (settled r) ≡ hidden later (handled e b r)
         by (Some d) is = λ t. record b { rows = becomes_alike (Merged d.number) t }
-        by None is =
-            chosen (hidden later) _ _ _ _ _ (stayed_alike is)
-            (λ _. λ t. record b { rows = own_change marks (λ x. refl) (λ x. refl) t })
+        by None is = grind (arith, nat_tests, is, stayed_alike is, chosen, own_change)
 
     staying_alike : (frame : Frames) → o ≡ None → r.unchanged ≡ true
         → staying covered frame (settled r) ≡ staying b frame r
@@ -282,7 +273,7 @@ module _ (later : List GuestPage) (b : BookState) (r : Row) (fresh : has_item r.
     handling_alike frame = by o refl
       where
         by : (e : Option DupRow) → o ≡ e → handling e covered frame (settled r) ≡ handling e b frame r
-        by (Some d) is = ap (joining frame r.page) (dup_frame_kept (is_among pages) _ frame _)
+        by (Some d) is = grind (arith, nat_tests, is, dup_frame_kept)
         by None is = chosen (λ x. x) _ _ _ _ _ (staying_alike frame is) (λ _. refl)
 
   -- where a visit may change the row, and no row that waits for it is hidden if it is to wait, its visit does the same
@@ -292,13 +283,13 @@ module _ (later : List GuestPage) (b : BookState) (r : Row) (fresh : has_item r.
       → visited doing (covered, deed) (Some (settled r))
       ≡ (hidden later (visited doing (b, deed) (Some r)).0, (visited doing (b, deed) (Some r)).1)
   visit_alike deed is near =
-      grind (arith, nat_tests, is, near, best_kept (is_among pages) b.rows b.knobs r b.dups, shared_still, visited_by, handled_alike, handling_alike)
+      grind (arith, nat_tests, best_kept (is_among pages) b.rows b.knobs r b.dups, shared_still, visited_by, handled_alike, handling_alike)
 
 -- ---------------------------------------------------------------- a row takes over
 
 -- an option that has nothing is None
 pub none_is : {X : Type 0} (o : Option X) → is_none o ≡ true → o ≡ None
-none_is o is = grind (arith, nat_tests)
+none_is o is = grind arith
 
 -- a row takes over: it may join no dup, its bytes have stayed, they do not merge with the zero page, and a row further
 -- on waits for it
@@ -364,7 +355,7 @@ module _ (b : BookState) (r : Row) where
   module _ (found : row_at r.page b.rows ≡ Some r) where
     -- the row stays as it is
     pub freed_found : row_at r.page freed.rows ≡ Some r
-    freed_found = grind (arith, nat_tests, calmed_at waits b.rows r.page)
+    freed_found = grind (arith, calmed_at waits b.rows r.page)
 
     module _ (is : is_restless r ≡ true) (takes : TakesOver b r) where
       -- its visit in that book makes it wait
@@ -456,7 +447,7 @@ AreAhead b page later =
 -- a row that waits is one that a visit may change
 waits_restless : (r : Row) → (private_state r.state ≡ false → r.mergeable ≡ true) → is_restless r ≡ false
     → waiting_state r.state ≡ false
-waits_restless r = grind (arith, nat_tests)
+waits_restless r = grind arith
 
 module _ (b : BookState) (s : IsSound b) where
   -- a page whose row no visit may change does not wait, so it may be hidden or not
@@ -470,9 +461,8 @@ module _ (b : BookState) (s : IsSound b) where
         | inl same ↦
             let there = ap (λ q. row_at q b.rows) (same_page_eq _ _ same) ∙ each_at_page _ s.rows_rise k d lt in
             let none = waits_restless x (s.mergeable k d lt) (sym (ap restless_row there) ∙ calm) in
-            let still = stays_settled x none in
             let stays : (z : Bool) → (if z then settled x else x) ≡ x =
-            λ z. cond_both z _ x (λ y. y ≡ x) (λ _. still) (λ _. refl) in
+            λ z. cond_both z _ x (λ y. y ≡ x) (λ _. stays_settled x none) (λ _. refl) in
             stays _ ∙ sym (stays _)
         | inr other ↦ rw other
       ]
@@ -483,17 +473,16 @@ module _ (b : BookState) (s : IsSound b) where
     scanned q = has_item q (mergeable_pages b.rows)
 
     fresh : has_item r.page later ≡ false
-    fresh = ahead r.page ∙ ap (λ z. z && scanned r.page) (before_irrefl r.page)
+    fresh = grind (arith, nat_tests, before_irrefl r.page)
 
     -- a row further on that waits is of one of the pages further on
     further_on : (w : Row) → partner b.knobs b.rows r ≡ Some w → comes_before r.page w.page ≡ true
         → has_item w.page later ≡ true
     further_on w found_w before =
         let waits = waits_for b.knobs r in
-        let of_w = waits_tells b.knobs r w (find_passes waits b.rows w found_w) in
         let mergeable =
         find_all waits (λ x. waiting_state x.state ≡ true → x.mergeable ≡ true) b.rows w found_w (waits_mergeable b s)
-        of_w.state in
+        (waits_tells b.knobs r w (find_passes waits b.rows w found_w)).state in
         let there =
         find_all waits (λ x. x.mergeable ≡ true → scanned x.page ≡ true) b.rows w found_w (mergeable_has b.rows)
         mergeable in
@@ -630,11 +619,10 @@ along : (gone done rest : List GuestPage) (s : BookState × Deed) → IsSound s.
     ≡ (hidden rest (due_visits doing s done).0, (due_visits doing s done).1)
 along gone [] rest s sound are = refl
 along gone (page ∷ done) rest s sound are =
-    let next = due_visited doing s page in
     let keeps = due_keeps s page sound in
     let same = page_alike s.0 sound _ _ s.1 (those_ahead s.0 _ _ _ sound are) in
     rw same
-    (along (gone ++ page ∷ []) done rest next keeps.0
+    (along (gone ++ page ∷ []) done rest (due_visited doing s page) keeps.0
     (keeps.1.mergeable ∙ are ∙ sym (append_assoc gone (page ∷ []) (done ++ rest))))
 
 -- our visits of the first pages that scans visit are those of the definitions, with the others hidden

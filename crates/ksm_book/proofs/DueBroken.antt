@@ -16,7 +16,7 @@ use Rattle.ksm_book.proofs.DueKept.{count_kept, itself, joins, more_due, none_is
 on_still : (b : BookState) (new : List Row) (r : Row)
     → (All (λ d. may_join b.knobs b.rows r d ≡ false) b.dups → All (λ d. may_join b.knobs new r d ≡ false) b.dups)
     → waits_on b r ≡ true → waits_on (record b { rows = new }) r ≡ true
-on_still b new r joins_none is = grind (arith, nat_tests, joins_none, is, tells_on, none_is_best, none_to_join)
+on_still b new r joins_none is = grind (arith, nat_tests, tells_on, none_is_best, none_to_join)
 
 module _ (b : BookState) (sound : IsSound b) (page : GuestPage) (row : Row) (found : row_at page b.rows ≡ Some row) where
   -- the page that waits in the tree of the row with its bytes, if the row is merged
@@ -26,7 +26,7 @@ module _ (b : BookState) (sound : IsSound b) (page : GuestPage) (row : Row) (fou
   -- a row that is merged does not wait
   merged_only : (number : ℕ) (state : PageState) → merged_into number state ≡ true
       → (merged_state state ≡ true) × (waiting_state state ≡ false)
-  merged_only number state into = grind (arith, nat_tests)
+  merged_only number state into = grind arith
 
   -- a row that waits for the row, which is merged, is of that page
   is_beside : merged_state row.state ≡ true → All (λ r. waits_for b.knobs row r ≡ true → names r.page beside ≡ true) b.rows
@@ -39,10 +39,8 @@ module _ (b : BookState) (sound : IsSound b) (page : GuestPage) (row : Row) (fou
       named o is = rw merged (ap (option_map (λ w. w.page)) (sym is))
 
       by : (o : Option Row) → partner b.knobs b.rows row ≡ o → names r.page beside ≡ true
-      by None none = absurd (both_ways (waits_for b.knobs row r) (find_none _ _ none k d lt) waits)
-      by (Some w) is =
-          ap (names r.page) (sym (named _ is))
-          ∙ ap (same_page w.page) (one_waits b row w sound is k d lt waits) ∙ same_page_refl w.page
+      by None none = grind (arith, nat_tests, none, find_none)
+      by (Some w) is = grind (arith, nat_tests, is, one_waits b row w sound is k d lt waits, same_page_refl w.page, named)
 
   -- a row that waits, of the tree and content of a dup into which the row is merged, is of that page
   is_of_dup : All (λ r. waiting_state r.state ≡ true → All (λ e. merged_into e.number row.state ≡ true
@@ -73,7 +71,7 @@ module _ (b : BookState) (sound : IsSound b) (page : GuestPage) (row : Row) (fou
     -- a row that waits, and not on that page, can join none still where it could join no dup
     joins_none_then : All (λ r. waiting_state r.state ≡ true → names r.page beside ≡ false
         → All (λ e. may_join b.knobs b.rows r e ≡ false) b.dups → All (λ e. may_join b.knobs now r e ≡ false) b.dups) b.rows
-    joins_none_then k d lt waiting apart none j e lt_e = grind (arith, nat_tests, lt, waiting, apart, none, lt_e, is_of_dup, counts)
+    joins_none_then k d lt waiting apart none j e lt_e = grind (arith, nat_tests, is_of_dup, counts)
 
     -- where that page is due, with what was, each other row waits on beside those rows
     left_still : (old new : List GuestPage) → AreDue b old → ((p : GuestPage) → has_item p old ≡ true → has_item p new ≡ true)
@@ -98,7 +96,7 @@ module _ (b : BookState) (page : GuestPage) (old new : List GuestPage) (was : Ar
 
   module _ (sound : IsSound b) (row : Row) (found : row_at page b.rows ≡ Some row) where
     covers : (p : GuestPage) → names p (page_beside b.knobs b.rows (Some row)) ≡ true → has_item p new ≡ true
-    covers p is = told p ∙ ap (λ o. names p (page_beside b.knobs b.rows o) || has_item p old) found ∙ ap (λ z. z || has_item p old) is
+    covers p is = grind (arith, nat_tests, is)
 
     -- that is so of the book once bytes are stored to the other, which is due too
     pub left_broken : (later : List GuestPage) → ((p : GuestPage) → has_item p later ≡ (same_page page p || has_item p new))
@@ -132,8 +130,7 @@ module _ (b : BookState) (page : GuestPage) (old new : List GuestPage) (was : Ar
       where
         counts : (e : DupRow) → merged_into e.number row.state ≡ false → item_count (without_page page b.rows) e ≡ item_count b.rows e
         counts e none =
-            let item : Row → Bool = λ r. merged_into e.number r.state in
-            let less = count_without_page item _ _ row sound.rows_rise found in
+            let less = count_without_page (λ r. merged_into e.number r.state) _ _ row sound.rows_rise found in
             let same = subst (λ z. item_count (without_page page b.rows) e + (if z then 1 else 0) ≡ item_count b.rows e) none less in
             omega arith
 
@@ -172,14 +169,14 @@ module _ (b : BookState) (page : GuestPage) (old new : List GuestPage) (added : 
 
 -- a page that has a row has one
 pub known_row : (rows : List Row) (page : GuestPage) → IsKnown page rows → (row : Row) × (row_at page rows ≡ Some row)
-known_row rows page known = grind (arith, nat_tests)
+known_row rows page known = grind arith
 
 -- ---------------------------------------------------------------- a command that is answered with a reply
 
 -- a page that was registered had no row
 absent_then : (b : BookState) (page : GuestPage) (node : ℕ) (bytes : List ℕ) (reply : Reply) → IsAnswerOrMemory b (Register page node bytes) (Ok reply)
     → row_at page b.rows ≡ None
-absent_then b page node bytes reply answer = grind (arith, nat_tests)
+absent_then b page node bytes reply answer = grind arith
 
 -- a page that was dropped had a row
 known_then : (b : BookState) (page : GuestPage) (reply : Reply) → IsAnswerOrMemory b (Drop page) (Ok reply) → IsKnown page b.rows

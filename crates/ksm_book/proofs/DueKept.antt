@@ -1,5 +1,5 @@
 -- Passes that visit only the pages that are due: what waits on is left as it is, and what is due stays so.
-use Rattle.ksm_book.proofs.Names.{IsDueNoMore, restless_at, restless_row, All, All-cons, All-head, All-tail, AreDue, BookState, Bool, Contains, Deed, DupRow, Frames, GuestPage, HasStayed, InPageOrder, IsJoined, IsSound, Knobs, List, Merged, None, Option, PageState, Row, Some, Waiting, WaitsFor, Zero, [], all_changed, all_with_dup, and_from, and_parts, and_right, ap, arith, best_dup, best_dup_has_room, both_ways, bytes_eq, bytes_eq-Decides, cases_Bool, change_row, change_rows, comes_later, cond_both, count_by, count_mapped, doing, due_row_visited, due_visited, due_visits, dup_numbered, each_at_page, each_has_number, eq-eqb, eqb-true, false, find, find_all, find_none, find_nothing, find_passes, get_or, handled, has_item, idle, if◌then◌else◌, inl, inr, is_best, is_for_zero, is_none, is_restless, item_count, list_all, list_all-from_AllPass, made_dup, may_join, merged_into, merged_state, nat_le, nat_lt, nat_tests, ne_eqb, not, not-true, not_an_item, not_from_false, nowhere, one_of_each_page, or_cases, or_parts, ordered_change, paired, pairing, partner, refl, row_at, row_visited, row_visiting, same_Some, same_page, same_page_eq, same_page_refl, settled, settled_state, stayed, subst, suc, sym, taken_over, takes_over, tells_waits, tree_of, true, true≢false, visited, waiting_state, waits_for, waits_on, waits_tells, with_dup, ℕ, ◌&&◌, ◌+◌, ◌==◌, ◌||◌, ◌∙◌, ◌∷◌, ◌≡◌, ◌⊎◌}
+use Rattle.ksm_book.proofs.Names.{IsDueNoMore, restless_at, restless_row, All, All-cons, All-head, All-tail, AreDue, BookState, Bool, Contains, Deed, DupRow, Frames, GuestPage, HasStayed, InPageOrder, IsJoined, IsSound, Knobs, List, Merged, None, Option, PageState, Row, Some, Waiting, WaitsFor, Zero, [], all_changed, all_with_dup, and_from, and_parts, and_right, ap, arith, best_dup, best_dup_has_room, both_ways, bytes_eq, bytes_eq-Decides, cases_Bool, change_row, change_rows, comes_later, cond_both, count_by, count_mapped, doing, due_row_visited, due_visited, due_visits, dup_numbered, each_at_page, each_has_number, eq-eqb, eqb-true, false, find, find_all, find_none, find_nothing, find_passes, get_or, handled, has_item, idle, if◌then◌else◌, inl, inr, is_for_zero, is_restless, item_count, list_all, list_all-from_AllPass, made_dup, may_join, merged_into, merged_state, nat_le, nat_lt, nat_tests, ne_eqb, not, not-true, not_an_item, not_from_false, nowhere, one_of_each_page, or_cases, or_parts, ordered_change, paired, partner, refl, row_at, row_visited, row_visiting, same_Some, same_page, same_page_eq, same_page_refl, settled, settled_state, stayed, subst, suc, sym, taken_over, takes_over, tells_waits, tree_of, true, true≢false, visited, waiting_state, waits_for, waits_on, waits_tells, with_dup, ℕ, ◌&&◌, ◌+◌, ◌==◌, ◌||◌, ◌∙◌, ◌∷◌, ◌≡◌, ◌⊎◌}
 use Rattle.ksm_base.specs.declared.row.PageState.TheVariants.{Private}
 use Rattle.ksm_book.proofs.ByPage.{at_changed, found_page, row_of_page}
 use Rattle.ksm_book.proofs.Doing.{then_idle}
@@ -23,7 +23,7 @@ module _ {X : Type 0} (p : X → Bool) (better : X → X → Bool) (total : (x y
     over : All (λ y. p y ≡ true → better x y ≡ true) xs
 
   with_itself : (x : X) → better x x ≡ true
-  with_itself x = grind (arith, nat_tests)
+  with_itself x = grind arith
 
   first_tops : (y : X) (ys : List X) → p y ≡ true → All (λ z. p z ≡ true → better y z ≡ true) ys → Tops (y ∷ ys) y
   first_tops y ys passes over = record {
@@ -57,20 +57,20 @@ module _ {X : Type 0} (p : X → Bool) (better : X → X → Bool) (total : (x y
   ]
 
   no_rival : (x y : X) → (p y ≡ true → better x y ≡ true) → (not (p y) || better x y) ≡ true
-  no_rival x y over = grind (arith, nat_tests, over)
+  no_rival x y over = grind (arith, over)
 
   -- where a search for the best finds nothing, none passes the test
   no_top : (xs : List X) → find (is_top xs) xs ≡ None → All (λ x. p x ≡ false) xs
-  no_top xs none = grind (arith, nat_tests, none, top_in xs, find_none, and_from, list_all-from_AllPass, no_rival)
+  no_top xs none = grind (arith, none, top_in xs, find_none, and_from, list_all-from_AllPass, no_rival)
 
 -- ---------------------------------------------------------------- the dups that a row may join
 
 worse_total : (n m i j : ℕ) → (nat_lt m n || (m == n && nat_le i j)) ≡ false → (nat_lt n m || (n == m && nat_le j i)) ≡ true
-worse_total n m i j less = grind (arith, nat_tests)
+worse_total n m i j less = grind arith
 
 worse_on : (n m k i j l : ℕ) → (nat_lt m n || (m == n && nat_le i j)) ≡ true → (nat_lt k m || (k == m && nat_le j l)) ≡ true
     → (nat_lt k n || (k == n && nat_le i l)) ≡ true
-worse_on n m k i j l first second = grind (arith, nat_tests)
+worse_on n m k i j l first second = grind arith
 
 module _ (knobs : Knobs) (rows : List Row) (dups : List DupRow) (row : Row) where
   -- where there is no best dup, there is none that the row may join
@@ -107,8 +107,7 @@ on_tells b row is =
 
 -- a row that waits on passes the test
 pub tells_on : (b : BookState) (row : Row) → WaitsOn b row → waits_on b row ≡ true
-tells_on b row h =
-    and_from _ _ (and_from _ _ (and_from _ _ h.waiting h.unchanged) (not_from_false _ h.zeroes)) (ap is_none h.none)
+tells_on b row h = grind (arith, nat_tests, h, and_from, not_from_false)
 
 -- ---------------------------------------------------------------- which pages are due
 
@@ -144,7 +143,7 @@ joins knobs row d items =
 pub count_kept : (number : ℕ) (test : Row → Bool) (f : Row → Row) (rows : List Row)
     → All (λ r. test r ≡ true → merged_into number (f r).state ≡ merged_into number r.state) rows
     → count_by (λ r. merged_into number r.state) (change_rows test f rows) ≡ count_by (λ r. merged_into number r.state) rows
-count_kept number test f rows same = grind (arith, nat_tests, same, count_mapped)
+count_kept number test f rows same = grind (arith, nat_tests, count_mapped)
 
 module _ (b : BookState) (test : Row → Bool) (f : Row → Row) (dups : List DupRow) (next : ℕ) where
   -- the book once the rows that pass a test were changed, and the dups
@@ -238,11 +237,10 @@ module _ (b : BookState) (sound : IsSound b) (row w : Row) (waits : partner b.kn
   waiter_alone : All (λ r. waiting_state r.state ≡ true → same_page r.page w.page ≡ false → tree_of b.knobs r ≡ tree_of b.knobs row
       → r.bytes ≡ row.bytes → true ≡ false) b.rows
   waiter_alone k d lt waiting apart tree bytes =
-      let r = get_or b.rows k d in
       let none = find_none _ _
       (find_all (waits_for b.knobs row) (λ x. waiting_state x.state ≡ true → partner b.knobs b.rows x ≡ None) b.rows w waits
       sound.waiting waiter.state) in
-      sym (tells_waits b.knobs w r (record {
+      sym (tells_waits b.knobs w (get_or b.rows k d) (record {
         state = waiting;
         other = apart;
         tree = tree ∙ sym waiter.tree;
@@ -310,7 +308,7 @@ module _ (b : BookState) (sound : IsSound b) (row : Row) (found : row_at row.pag
       joined = best_dup_has_room b row dup sound best
 
       joins_it : may_join b.knobs b.rows row dup ≡ true
-      joins_it = (and_parts _ _ (find_passes (is_best b.knobs b.rows b.dups row) _ dup best)).0
+      joins_it = grind (arith, nat_tests, and_parts, find_passes)
 
       same_count : (e : DupRow) → (e.number == dup.number) ≡ false → item_count (change_rows of_page f b.rows) e ≡ item_count b.rows e
       same_count e other = count_kept _ _ f _ (λ k d lt same.
@@ -344,17 +342,16 @@ module _ (b : BookState) (sound : IsSound b) (row : Row) (found : row_at row.pag
           ]
         where
           no_item : (number : ℕ) (state : PageState) → waiting_state state ≡ true → merged_into number state ≡ false
-          no_item number state is = grind (arith, nat_tests)
+          no_item number state is = grind arith
 
       of_another : All (λ r. waiting_state r.state ≡ true → same_page r.page w.page ≡ false
           → (new.tree == tree_of b.knobs r && bytes_eq new.bytes r.bytes) ≡ false) b.rows
-      of_another k d lt waiting apart = grind (arith, nat_tests, lt, waiting, apart, and_parts, waiter_alone, bytes_eq-Decides)
+      of_another k d lt waiting apart = grind (arith, nat_tests, waiting, and_parts, waiter_alone, bytes_eq-Decides)
 
       others : All (λ r. test r ≡ false → WaitsOn b r → StillJoinsNone b test f (with_dup new b.dups) (b.next + 1) r) b.rows
       others k d lt fails h none =
           let r = get_or b.rows k d in
-          let apart = or_parts _ _ fails in
-          let other = of_another k d lt h.waiting apart.0 in
+          let other = of_another k d lt h.waiting (or_parts _ _ fails).0 in
           all_with_dup (λ e. may_join b.knobs (change_rows test f b.rows) r e ≡ false) new _ (rw other)
           (λ j e lt_e.
           let old = get_or b.dups j e in
@@ -392,10 +389,10 @@ module _ (b : BookState) (sound : IsSound b) (row : Row) (found : row_at row.pag
 
 -- the visit of a page that is none that a visit may change changes nothing
 pub calm_stays : (s : BookState × Deed) (page : GuestPage) → restless_at page s.0.rows ≡ false → due_visited doing s page ≡ s
-calm_stays s page calm = grind (arith, nat_tests)
+calm_stays s page calm = grind arith
 
 waits_is : (state : PageState) → waiting_state state ≡ true → Waiting ≡ state
-waits_is state is = grind (arith, nat_tests)
+waits_is state is = grind arith
 
 module _ (b : BookState) (frame : Frames) (sound : IsSound b) (row : Row) (found : row_at row.page b.rows ≡ Some row)
     (restless : is_restless row ≡ true) (on : WaitsOn b row) where
@@ -421,24 +418,12 @@ module _ (b : BookState) (frame : Frames) (sound : IsSound b) (row : Row) (found
 
   -- and does nothing to the frames
   on_idle : row_visiting b frame row ≡ idle frame
-  on_idle = (stayed_is b _ row false on_stayed).1 ∙ ap (λ o. pairing o b frame row) on_alone
+  on_idle = grind (arith, nat_tests, on_alone, stayed_is)
 
 -- the visit of a page that waits on changes nothing
 pub on_stays : (s : BookState × Deed) (page : GuestPage) (r : Row) → IsSound s.0 → row_at page s.0.rows ≡ Some r
     → waits_on s.0 r ≡ true → is_restless r ≡ true → due_visited doing s page ≡ s
-on_stays s page r sound found is restless = grind (
-  arith,
-  nat_tests,
-  sound,
-  found,
-  is,
-  restless,
-  found_page,
-  on_takes_none,
-  on_same,
-  on_idle,
-  then_idle,
-)
+on_stays s page r sound found is restless = grind (arith, nat_tests, found_page, on_takes_none, on_same, on_idle, then_idle)
 
 -- visits of pages of which none is due change nothing
 pub undue_stay : (pages : List GuestPage) (s : BookState × Deed) (due : List GuestPage) → IsSound s.0 → AreDue s.0 due
@@ -514,9 +499,7 @@ waits_undue b row found restless none unchanged zeroes rise pages was =
     f r = record r { state = Waiting }
 
     on : (r : Row) → row_at row.page (waits_now b row).rows ≡ Some r → is_restless r ≡ true → waits_on (waits_now b row) r ≡ true
-    on r at _ =
-        let then_waits = waits_then b row found restless none unchanged zeroes rise in
-        rw (← same_Some _ r (sym then_waits.0 ∙ at)) then_waits.1
+    on r at _ = grind (arith, nat_tests, at, waits_then b row found restless none unchanged zeroes rise, same_Some)
 
 -- a page whose row a visit may not change is not due
 pub calm_undue : (b : BookState) (page : GuestPage) → InPageOrder b.rows → restless_at page b.rows ≡ false → IsDueNoMore page b b
@@ -540,7 +523,7 @@ module _ (b : BookState) (row w : Row) (sound : IsSound b) (found : row_at row.p
   -- a row that waits is not merged, nor is it once it is settled
   unmerged_settled : (state : PageState) → waiting_state state ≡ true
       → (merged_state state ≡ false) × (merged_state (settled_state state) ≡ false)
-  unmerged_settled state is = grind (arith, nat_tests)
+  unmerged_settled state is = grind arith
 
   freed_single : All (λ r. waits_for b.knobs row r ≡ true → (merged_state r.state ≡ false) × (merged_state (settled r).state ≡ false)) b.rows
   freed_single k d lt passes = unmerged_settled _ (waits_tells b.knobs row (get_or b.rows k d) passes).state

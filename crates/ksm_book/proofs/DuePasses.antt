@@ -34,7 +34,7 @@ hidden_rest b sound page pages are = λ t. record b { rows = map_alike f g _ eac
     g r = if not (comes_before r.page page) then settled r else r
 
     each : All (λ r. f r ≡ g r) b.rows
-    each k d lt = grind (arith, nat_tests, lt, mergeable_has, waits_mergeable, has_filter, stays_settled)
+    each k d lt = grind (arith, nat_tests, mergeable_has, waits_mergeable, has_filter, stays_settled)
 
 -- a book as a pass begins, with what was done
 module _ (s : BookState × Deed) (sound : IsSound s.0) (start : s.0.cursor ≡ None) where
@@ -55,11 +55,11 @@ module _ (s : BookState × Deed) (sound : IsSound s.0) (start : s.0.cursor ≡ N
   -- the visits of the first pages, where the others are hidden
   alike : (done rest : List GuestPage) → all ≡ done ++ rest
       → pages_visited doing (pass_begun s.0, s.1) done ≡ (hidden rest (due_visits doing s done).0, (due_visits doing s done).1)
-  alike done rest is = grind (arith, nat_tests, is, begun_none, hidden_all s.0 sound, due_alike done rest s sound is)
+  alike done rest is = grind (arith, nat_tests, begun_none, hidden_all s.0 sound, due_alike done rest s sound is)
 
   -- the visits of all pages
   pub whole_part : due_visits doing s (pages_ahead s.0) ≡ part_visited None s
-  whole_part = grind (arith, nat_tests, ahead_all, hidden_none (due_visits doing s all).0, alike all [] (sym (append-nil all)), begun_all, filter_all)
+  whole_part = grind (arith, ahead_all, hidden_none (due_visits doing s all).0, alike all [] (sym (append-nil all)), begun_all, filter_all)
 
   -- the visits of the pages before one, once no row from there on waits
   pub before_part : (page : GuestPage) → (
@@ -69,13 +69,12 @@ module _ (s : BookState × Deed) (sound : IsSound s.0) (start : s.0.cursor ≡ N
   before_part page =
       let t : GuestPage → Bool = λ p. comes_before p page in
       let done = filter t all in
-      let rest = filter (λ p. not (t p)) all in
       let ascends = subst AreAscending ahead_all (ascending_ahead s.0 sound.rows_rise) in
       let after = due_visits doing s done in
       rw begun_all
       ((λ i. (hidden_from page (due_visits doing s (filter t (ahead_all i))).0, (due_visits doing s (filter t (ahead_all i))).1))
       ∙ (λ i. (sym (hidden_rest _ (due_visits_sound done s sound) page all (due_goes done s sound).mergeable) i, after.1))
-      ∙ sym (alike done rest (parted t (before_down _) all ascends)))
+      ∙ sym (alike done (filter (λ p. not (t p)) all) (parted t (before_down _) all ascends)))
 
 -- ---------------------------------------------------------------- visits of what is due
 
@@ -88,7 +87,7 @@ cursor_down cursor p q before fails = elim (cases_Bool (after_cursor cursor p)) 
 
 -- a page that does not come before one behind the cursor is behind the cursor
 no_earlier : (c : Option GuestPage) (p q : GuestPage) → after_cursor c p ≡ true → comes_before q p ≡ false → after_cursor c q ≡ true
-no_earlier c p q behind no_less = grind (arith, nat_tests)
+no_earlier c p q behind no_less = grind arith
 
 -- of pages in order those not behind a cursor were visited, and some pages are due then
 module _ (s : BookState × Deed) (sound : IsSound s.0) (pages : List GuestPage) (rise : AreAscending pages)
@@ -114,7 +113,7 @@ module _ (s : BookState × Deed) (sound : IsSound s.0) (pages : List GuestPage) 
         (filter_passes u _ k d lt))
       where
         not-false : (b : Bool) → not (not b) ≡ true → b ≡ true
-        not-false b is = grind (arith, nat_tests)
+        not-false b is = grind arith
 
     -- where no page behind the cursor is due, all pages were visited
     pub all_visited : All (λ p. after_cursor cursor p ≡ false) due → due_visits doing s pages ≡ reached
@@ -124,7 +123,7 @@ module _ (s : BookState × Deed) (sound : IsSound s.0) (pages : List GuestPage) 
         ∙ stay (λ _. true) (λ q behind _. undue_by (after_cursor cursor) q behind none)
       where
         undue_by : (t : GuestPage → Bool) (q : GuestPage) → t q ≡ true → All (λ p. t p ≡ false) due → has_item q due ≡ false
-        undue_by t q is fails = grind (arith, nat_tests, is, fails, place_of, get_or_from_slice_get, slice_get_within)
+        undue_by t q is fails = grind (arith, nat_tests, place_of, get_or_from_slice_get, slice_get_within)
 
     module _ (page : GuestPage) (first : IsFirst cursor due page) where
       abbrev low : GuestPage → Bool
@@ -132,11 +131,11 @@ module _ (s : BookState × Deed) (sound : IsSound s.0) (pages : List GuestPage) 
 
       -- no page that is left and comes before it is due
       not_due : (q : GuestPage) → after_cursor cursor q ≡ true → low q ≡ true → has_item q due ≡ false
-      not_due q behind before = grind (arith, nat_tests, behind, before, place_of, get_or_from_slice_get, slice_get_within)
+      not_due q behind before = grind (arith, nat_tests, place_of, get_or_from_slice_get, slice_get_within)
 
       -- what was passed comes before it
       passed_low : (q : GuestPage) → passed q ≡ true → low q ≡ true
-      passed_low q is = grind (arith, nat_tests)
+      passed_low q is = grind arith
 
       -- the pages before it were visited
       pub before_visited : due_visits doing s (filter low pages) ≡ reached
@@ -164,13 +163,13 @@ module _ (s : BookState × Deed) (sound : IsSound s.0) (pages : List GuestPage) 
       ]
         where
           calm : has_item page pages ≡ false → restless_at page reached.0.rows ≡ false
-          calm out = grind (arith, nat_tests)
+          calm out = grind arith
 
           others : (q : GuestPage) → same_page q page ≡ false → not (comes_before page q) ≡ low q
-          others q differ = grind (arith, nat_tests)
+          others q differ = grind arith
 
           absent : (x : GuestPage) (ps : List GuestPage) → has_item x ps ≡ false → All (λ q. same_page q x ≡ false) ps
-          absent x ps out k d lt = grind (arith, nat_tests, out, lt, list_any_at)
+          absent x ps out k d lt = grind (arith, nat_tests, list_any_at)
 
           take_one : (ps : List GuestPage) (n : ℕ) (p : GuestPage) → slice_get ps n ≡ Some p → take (suc n) ps ≡ take n ps ++ p ∷ []
           take_one [] n p is = cc
@@ -191,4 +190,4 @@ room_behind (Some p) = 2 ^ 48 - (p.guest * 2 ^ 32 + page_in p.page)
 -- there are fewer behind a page that is behind the cursor
 pub less_room : (cursor : Option GuestPage) (page : GuestPage) → FitsPage (Some page) → after_cursor cursor page ≡ true
     → room_behind (Some page) < room_behind cursor
-less_room cursor page h2 behind = grind (arith, nat_tests)
+less_room cursor page h2 behind = grind arith

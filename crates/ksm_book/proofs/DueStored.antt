@@ -1,5 +1,5 @@
 -- A store to a page with a frame of its own: where the page is due, if it waited, what is due stays so.
-use Rattle.ksm_book.proofs.Names.{and_from, and_parts, ap, AreDue, arith, BookState, Bool, both_ways, cases_Bool, change_row, false, find_all, GuestPage, has_item, inl, InPageOrder, inr, is_restless, IsAlone, List, MatchOption, not_from_false, Option, ordered_change, refl, Row, row_at, same_page, same_page_refl, same_Some, shared_state, Some, stored, subst, sym, true, true≢false, waiting_state, waits_on, ℕ, ◌∙◌, ◌∷◌, ◌≡◌, ◌||◌, nat_tests}
+use Rattle.ksm_book.proofs.Names.{and_from, and_parts, ap, AreDue, arith, BookState, Bool, both_ways, cases_Bool, change_row, false, find_all, GuestPage, has_item, inl, InPageOrder, inr, is_restless, IsAlone, List, MatchOption, not_from_false, Option, ordered_change, refl, Row, row_at, same_page, same_page_refl, same_Some, shared_state, Some, stored, subst, sym, true, true≢false, waiting_state, waits_on, ℕ, ◌∙◌, ◌∷◌, ◌≡◌, ◌||◌}
 use Rattle.ksm_book.proofs.ByPage.{at_changed, found_page}
 use Rattle.ksm_book.proofs.DueKept.{changed_due, more_due, on_tells, undue}
 use Rattle.ksm_pages.proofs.Joined.{own_not_merged}
@@ -18,7 +18,7 @@ module _ (b : BookState) (page : GuestPage) (bytes : List ℕ) (row : Row) (page
 
   -- where the page was due nothing is due beside what was
   within : has_item page pages ≡ true → (p : GuestPage) → has_item p (page ∷ pages) ≡ true → has_item p pages ≡ true
-  within is p there = grind (arith, nat_tests)
+  within is p there = grind arith
 
   -- where it was not due no visit may change its row
   calm : has_item page pages ≡ false → (r : Row) → row_at page after.rows ≡ Some r → is_restless r ≡ true → waits_on after r ≡ true
@@ -41,7 +41,7 @@ module _ (b : BookState) (page : GuestPage) (bytes : List ℕ) (row : Row) (page
 -- a page with a frame of its own has a row
 alone_row : (rows : List Row) (page : GuestPage) → IsAlone page rows
     → (row : Row) × (row_at page rows ≡ Some row) × (shared_state row.state ≡ false)
-alone_row rows page alone = grind (arith, nat_tests)
+alone_row rows page alone = grind arith
 
 -- where the page does not wait, what is due stays so
 pub stored_calm : (b : BookState) (page : GuestPage) (pages : List GuestPage) (waits : Bool) → InPageOrder b.rows → IsAlone page b.rows

@@ -9,7 +9,7 @@ use Rattle.ksm_book.proofs.RowVisits.{Meets, page_is, there_is}
 -- a page found to wait is due no longer
 pub waits_due : {p q : PagesView} {k : KeeperView} {cursor : Option GuestPage} {passes : ℕ} {v : BookView} {page : GuestPage}
     → Meets (λ _ r. FindsAt p q r finds.Waits) p k cursor passes v page → IsDueNoMore page v.state (state_of q cursor passes)
-waits_due {p} {q} {cursor = cursor} {passes} {v} {page} at pages was =
+waits_due {p} {cursor = cursor} {passes} {page = page} at pages was =
     let so = at.so in
     rw so.5
     (waits_undue (state_of p cursor passes) _ (there_is at) so.0 so.1 so.2 so.3 at.sound.rows_rise pages

@@ -29,19 +29,17 @@ joined x (m ∷ some) more = let rest = joined x some more in grind arith
 
 picked : (u : GuestPage → Bool) (x : GuestPage) (order : List Named)
     → has_item x (pages_in (filter (λ m. u m.page) order)) ≡ (u x && has_item x (pages_in order))
-picked u x order =
-    any_named x _ ∙ any-filter_same _ _ (u x) (λ m is. ap u (same_page_eq _ x is)) _
-    ∙ ap (λ b. u x && b) (sym (any_named x _))
+picked u x order = grind (arith, nat_tests, any_named, any-filter_same, same_page_eq)
 
 -- a page that is put in is there, and the others as before
 pub has_put : (n : Named) (order : List Named) (x : GuestPage)
     → has_item x (pages_in (with_named n order)) ≡ (same_page n.page x || has_item x (pages_in order))
-has_put n order x = grind (arith, nat_tests, picked (λ p. comes_before p n.page) x order, picked (λ p. comes_before n.page p) x order, joined)
+has_put n order x = grind (arith, picked (λ p. comes_before p n.page) x order, picked (λ p. comes_before n.page p) x order, joined)
 
 -- a page that is taken out is there no more, and the others as before
 pub has_taken : (page : GuestPage) (order : List Named) (x : GuestPage)
     → has_item x (pages_in (without_named page order)) ≡ (has_item x (pages_in order) && not (same_page page x))
-has_taken page order x = picked (λ p. not (same_page p page)) x order ∙ (grind (arith, nat_tests))
+has_taken page order x = picked (λ p. not (same_page p page)) x order ∙ (grind arith)
 
 -- the pages stay in order with a page put in
 pub put_rises : (n : Named) (order : List Named) → AreAscending order → AreAscending (with_named n order)
@@ -55,7 +53,7 @@ taken_rises page order rise = without_rises pages_ordered (λ (m : Named). m.pag
 -- a page that is there is so with itself put in
 pub has_already : (page : GuestPage) (pages : List GuestPage) → has_item page pages ≡ true
     → (x : GuestPage) → has_item x pages ≡ (same_page page x || has_item x pages)
-has_already page pages has x = grind (arith, nat_tests)
+has_already page pages has x = grind arith
 
 -- the pages stay in order where one is put in, or memory was refused
 pub inserted_rises : {T E : Type 0} (r : Result T E) (n : Named) (old new : List Named) → AreAscending old
@@ -78,7 +76,7 @@ pub inserted_has : {T E : Type 0} (r : Result T E) (n : Named) (old new : List N
     → pages_in old ++ more ≡ pages → OnOk r (new ≡ with_named n old)
     → OnOk r ((x : GuestPage) → has_item x (pages_in new ++ more) ≡ (same_page n.page x || has_item x pages))
 inserted_has (Err e) n old new more pages same added = tt
-inserted_has (Ok u) n old new more pages same added = λ x. grind (arith, nat_tests, same, added, has_either, has_put)
+inserted_has (Ok u) n old new more pages same added = λ x. grind (arith, nat_tests, has_either, has_put)
 
 -- where all is ready no page was added that does not stand in order
 pub none_added : (known : Bool) (order : List Named) (added : List Spot) → (known && length added == 0) ≡ true

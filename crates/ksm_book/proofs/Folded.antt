@@ -1,5 +1,5 @@
 -- The visits of a pass are a fold over its pages, only restless pages count, and a quiet pass is repeated by those behind it.
-use Rattle.ksm_book.proofs.Names.{[], after_cursor, All, All-head, All-tail, AllPairs-filter, and_parts, ap, append-nil, AreAscending, arith, begun, BookState, Bool, cases_Bool, comes_before, cond_both, each_at_page, false, filter, filter_all, find_all, find_passes, GuestPage, has_item, inl, InPageOrder, inr, is_none, IsBeside, IsStill, last_of, length, List, map, mergeable_pages, min, next_row, next_visited, None, not, not-true, Option, option_map, page_visited, pages_ahead, pages_visited, pass_at, pass_begun, pass_ended, pass_ended_at_last, refl, restless_at, Row, row_at, row_visited, rowwise_visits, same_page, same_page_eq, settled, shared_state, slice_get, Some, subst, suc, suc-mul, sym, true, visit, visit_begun, visit_of, visited, visits, visits_beside, with_none_waiting, zero, ℕ, ◌&&◌, ◌*◌, ◌++◌, ◌+◌, ◌-◌, ◌^◌, ◌∙◌, ◌∷◌, ◌≡◌, ◌≤◌, map_mapped, if◌then◌else◌, and_right, pairs_mapped, ⊤, nat_tests}
+use Rattle.ksm_book.proofs.Names.{[], after_cursor, All, All-head, All-tail, AllPairs-filter, and_parts, ap, append-nil, AreAscending, arith, begun, BookState, Bool, cases_Bool, comes_before, cond_both, each_at_page, false, filter, filter_all, find_all, find_passes, GuestPage, has_item, inl, InPageOrder, inr, is_none, IsBeside, IsStill, last_of, length, List, map, mergeable_pages, min, next_row, next_visited, None, not, not-true, Option, option_map, page_visited, pages_ahead, pages_visited, pass_at, pass_ended, pass_ended_at_last, refl, restless_at, Row, row_at, row_visited, rowwise_visits, same_page, same_page_eq, settled, shared_state, slice_get, Some, subst, suc, suc-mul, sym, true, visit, visit_begun, visit_of, visited, visits, visits_beside, with_none_waiting, zero, ℕ, ◌&&◌, ◌*◌, ◌++◌, ◌+◌, ◌-◌, ◌^◌, ◌∙◌, ◌∷◌, ◌≡◌, ◌≤◌, map_mapped, if◌then◌else◌, and_right, pairs_mapped, ⊤, nat_tests}
 use Rattle.ksm_book.proofs.Going.{Goes, begun_goes, elsewhere, goes_on, mergeable_kept, goes_same, settled_goes, visited_goes}
 use Rattle.ksm_book.proofs.PagesAhead.{Before, behind_first, filter_in, filter_out, has_filter, same_pages}
 use Rattle.ksm_pages.proofs.Options.{mapped_some, none_mapped}
@@ -29,8 +29,7 @@ pass_goes_on c page more is = rw (and_right _ _ (ap is_none (some_next c _ _ is)
 -- where a pass is under way with a page ahead, the next visit begins with nothing done
 begun_goes_on : (c : BookState) (last page : GuestPage) (more : List GuestPage) → c.cursor ≡ Some last → pages_ahead c ≡ page ∷ more
     → visit_begun c ≡ c
-begun_goes_on c last page more at is =
-    ap pass_begun (pass_goes_on c _ _ is) ∙ ap (λ (o : Option GuestPage). if is_none o then with_none_waiting c else c) at
+begun_goes_on c last page more at is = grind (arith, nat_tests, at, is, pass_goes_on)
 
 ascending_mergeable : (rows : List Row) → InPageOrder rows → AreAscending (mergeable_pages rows)
 ascending_mergeable rows rise =
@@ -55,7 +54,7 @@ last_stands page (next ∷ pages) = last_stands next pages
 
 -- rows that settled are settled
 pub settled_twice : (rows : List Row) → map settled (map settled rows) ≡ map settled rows
-settled_twice rows = grind (arith, nat_tests, map_mapped)
+settled_twice rows = grind (arith, map_mapped)
 
 -- every page is behind an empty cursor
 pub every_page : (rows : List Row) → filter (after_cursor None) (mergeable_pages rows) ≡ mergeable_pages rows
@@ -84,11 +83,10 @@ module _ {X : Type 0} (step : BookState → X → Row → X) where
   -- the book after n visits with what they do beside is the book after n visits
   pub beside_state : (n : ℕ) (s : BookState × X) → (visits_beside step n s).0 ≡ visits n s.0
   beside_state zero s = refl
-  beside_state (suc n) s =
-      let t = begun (visits_beside step n s) in by t _ ∙ ap visit (beside_state n s)
+  beside_state (suc n) s = by (begun (visits_beside step n s)) _ ∙ ap visit (beside_state n s)
     where
       by : (t : BookState × X) (o : Option Row) → (next_visited step t o).0 ≡ visit_of t.0 o
-      by t o = grind (arith, nat_tests)
+      by t o = grind arith
 
   -- visits keep which pages scans visit
   pub visits_mergeable : (n : ℕ) (s : BookState × X) → mergeable_pages (visits_beside step n s).0.rows ≡ mergeable_pages s.0.rows
@@ -111,11 +109,11 @@ module _ {X : Type 0} (step : BookState → X → Row → X) where
 
   pass_moved : (page : GuestPage) (done left : List GuestPage) (s : BookState × X)
       → pass_at done left (record s.0 { cursor = Some page }, s.1) ≡ pass_at (page ∷ done) left s
-  pass_moved page done left s = grind (arith, nat_tests)
+  pass_moved page done left s = grind arith
 
   -- the visit of a page that is not restless changes nothing
   calm_stays : (s : BookState × X) (page : GuestPage) → restless_at page s.0.rows ≡ false → page_visited step s page ≡ s
-  calm_stays s page calm = grind (arith, nat_tests)
+  calm_stays s page calm = grind arith
 
   -- what the visit of a page keeps of the rows
   page_goes : (s : BookState × X) (page : GuestPage) → InPageOrder s.0.rows → Goes s.0.rows (page_visited step s page).0.rows
@@ -193,7 +191,7 @@ module _ {X : Type 0} (step : BookState → X → Row → X) where
         mergeable = (and_parts _ _ (find_passes (λ r. r.mergeable && after_cursor c.cursor r.page) c.rows row next)).0
 
         by : (z : Bool) → shared_state row.state ≡ z → visited step s (Some row) ≡ (row_visited c row, step c s.1 row)
-        by true is = grind (arith, nat_tests, is, mergeable)
+        by true is = grind (arith, nat_tests, mergeable)
         by false is = λ t. if mergeable t && not (is t) then (row_visited c row, step c s.1 row) else s
 
     -- visits of pages do the same wherever the cursor stands and however many passes have ended
@@ -202,7 +200,7 @@ module _ {X : Type 0} (step : BookState → X → Row → X) where
       moved s = (elsewhere cursor passes s.0, s.1)
 
       page_alike : (s : BookState × X) (page : GuestPage) → page_visited step (moved s) page ≡ moved (page_visited step s page)
-      page_alike s page = grind (arith, nat_tests)
+      page_alike s page = grind arith
 
       -- visits of pages from another cursor and count of passes come to the same, but for that cursor and count
       pub pages_alike : (pages : List GuestPage) (s : BookState × X)
@@ -218,7 +216,7 @@ module _ {X : Type 0} (step : BookState → X → Row → X) where
         ≡ pass_at done left (pages_visited step (record v.0 { cursor = Some page }, v.1) done))
         → visits_beside step (length done) (pass_ended_at_last (record v.0 { cursor = Some page }), v.1)
         ≡ pass_at (page ∷ done) left (pages_visited step v done)
-    first_done page [] [] v is rest = grind (arith, nat_tests, is, rest, none_next)
+    first_done page [] [] v is rest = grind (arith, nat_tests, none_next)
     first_done page [] (next ∷ left) v is rest = λ t. (pass_goes_on (record v.0 { cursor = Some page }) _ _ is t, v.1)
     first_done page (next ∷ done) left v is rest =
         let here : BookState = record v.0 { cursor = Some page } in
@@ -267,8 +265,6 @@ module _ {X : Type 0} (step : BookState → X → Row → X) where
         grind (
           arith,
           nat_tests,
-          rise,
-          is,
           last_stands page done,
           visits_folded s (page ∷ done) (next ∷ left) rise (omega arith) is,
           behind_done,
@@ -308,12 +304,11 @@ module _ {X : Type 0} (step : BookState → X → Row → X) where
 
         again_times : (times passes : ℕ) → passes ≤ 2 ^ 64 - 1
             → visits_beside step (times * length all) (ended passes) ≡ ended (min (passes + times) (2 ^ 64 - 1))
-        again_times zero passes small = grind (arith, nat_tests, small)
+        again_times zero passes small = grind (arith, nat_tests)
         again_times (suc times) passes small =
             let so_far = min (passes + times) (2 ^ 64 - 1) in
-            let more : min (so_far + 1) (2 ^ 64 - 1) ≡ min (passes + suc times) (2 ^ 64 - 1) = omega arith in
             beside_on (times * length all) (length all) (suc times * length all) (ended passes) (omega (arith, suc-mul times (length all)))
-            ∙ ap (visits_beside step (length all)) (again_times times passes small) ∙ again _ ∙ ap ended more
+            ∙ ap (visits_beside step (length all)) (again_times times passes small) ∙ again _ ∙ ap ended (omega arith)
 
         -- after a whole pass that changed nothing but which rows wait, further passes add to the count of passes alone
         pub repeats : (times : ℕ) → visits_beside step (times * length all) (pass_ended after.0, after.1)

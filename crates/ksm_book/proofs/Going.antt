@@ -1,5 +1,5 @@
 -- The visit of a row: it keeps which pages scans visit, makes no page restless, and does the same wherever the cursor stands.
-use Rattle.ksm_book.proofs.Names.{All, ap, arith, best_dup, BookState, Bool, change_row, change_rows, cond_both, DupRow, false, find_all, get_or, GuestPage, handled, InPageOrder, is_for_zero, is_none, is_some, List, map, mergeable_pages, next_row, None, not, one_of_each_page, Option, option_map, ordered_map, PageState, paired, partner, pass_begun, pass_ended, refl, restless_at, restless_row, Row, row_at, row_visited, same_page, settled, settled_state, shared_state, Some, stayed, subst, sym, true, true≢false, visit_begun, Zero, ℕ, ◌&&◌, ◌∙◌, ◌≡◌, if◌then◌else◌, filter_mapped, map_mapped, find_mapped, nat_tests}
+use Rattle.ksm_book.proofs.Names.{All, ap, arith, best_dup, BookState, Bool, change_row, change_rows, cond_both, DupRow, false, find_all, get_or, GuestPage, handled, InPageOrder, is_for_zero, is_none, is_some, List, map, mergeable_pages, next_row, None, not, one_of_each_page, Option, option_map, ordered_map, PageState, paired, partner, pass_begun, pass_ended, refl, restless_at, restless_row, Row, row_at, row_visited, same_page, settled, settled_state, shared_state, Some, stayed, subst, sym, true, true≢false, visit_begun, Zero, ℕ, ◌&&◌, ◌∙◌, ◌≡◌, if◌then◌else◌, filter_mapped, map_mapped, find_mapped}
 use Rattle.ksm_base.specs.declared.row.PageState.TheVariants.{Private}
 
 -- ---------------------------------------------------------------- wherever the cursor stands
@@ -10,16 +10,16 @@ module _ (cursor : Option GuestPage) (passes : ℕ) where
   elsewhere b = record b { cursor = cursor; passes = passes }
 
   either : (z : Bool) (a b c d : BookState) → c ≡ elsewhere a → d ≡ elsewhere b → (if z then c else d) ≡ elsewhere (if z then a else b)
-  either z a b c d e f = grind (arith, nat_tests)
+  either z a b c d e f = grind arith
 
   paired_alike : (w : Option Row) (b : BookState) (row : Row) → paired w (elsewhere b) row ≡ elsewhere (paired w b row)
-  paired_alike w b row = grind (arith, nat_tests)
+  paired_alike w b row = grind arith
 
   stayed_alike : (b : BookState) (row : Row) → stayed (elsewhere b) row ≡ elsewhere (stayed b row)
-  stayed_alike b row = grind (arith, nat_tests, paired_alike (partner b.knobs b.rows row) b row, either)
+  stayed_alike b row = grind (arith, paired_alike (partner b.knobs b.rows row) b row, either)
 
   handled_alike : (d : Option DupRow) (b : BookState) (row : Row) → handled d (elsewhere b) row ≡ elsewhere (handled d b row)
-  handled_alike d b row = grind (arith, nat_tests)
+  handled_alike d b row = grind arith
 
   -- the visit of a row does the same to the book wherever its cursor stands and however many passes have ended
   pub row_visited_alike : (b : BookState) (row : Row) → row_visited (elsewhere b) row ≡ elsewhere (row_visited b row)
@@ -57,7 +57,6 @@ module _ (change : Row → Row) (keeps : KeepsPage change) where
   pub mergeable_kept : (rows : List Row) → mergeable_pages (map change rows) ≡ mergeable_pages rows
   mergeable_kept rows = grind (
     arith,
-    nat_tests,
     filter_mapped change (λ r. r.mergeable) (λ r. r.mergeable) rows (λ i d lt. (keeps (get_or rows i d)).1),
     map_mapped,
   )

@@ -11,13 +11,12 @@ use Rattle.ksm_book.proofs.Singles.{change_still}
 
 -- two changes come to the same where they do so wherever they are made
 one_by : (b : Bool) (x y z : Row) → (b ≡ true → x ≡ y) → (if b then x else z) ≡ (if b then y else z)
-one_by b x y z same = grind (arith, nat_tests)
+one_by b x y z same = grind arith
 
 -- two changes of the row of a page come to the same where they do at each row of that page
 alike_at : (page : GuestPage) (f g : Row → Row) (rows : List Row)
     → All (λ r. same_page r.page page ≡ true → f r ≡ g r) rows → change_row page f rows ≡ change_row page g rows
-alike_at page f g rows same =
-    map_alike _ _ _ (λ k d lt. let r = get_or rows k d in one_by _ (f r) (g r) r (same k d lt))
+alike_at page f g rows same = grind (arith, nat_tests, same, map_alike, one_by)
 
 -- ---------------------------------------------------------------- a page with a frame of its own
 
@@ -42,7 +41,7 @@ module _ {p q : PagesView} (page : GuestPage) (goes : q ≡ record p { rows = ch
 
   -- and the pages lie as lawfully as they did
   pub laid_stopped : {k : KeeperView} → IsLaid p k → IsLaid q k
-  laid_stopped {k} laid =
+  laid_stopped laid =
       rw goes
       (laid_mapped laid _ _ (λ r. cond_both _ _ r (λ (x : Row). x.page ≡ r.page) (λ _. refl) (λ _. refl))
       (λ i d lt. let r = get_or p.rows i d in
@@ -67,17 +66,15 @@ abbrev pub hides : GuestPage → Row → Row
 hides page r = if not (comes_before r.page page) then settled r else r
 
 hides_kept : (page : GuestPage) (r : Row) → (hides page r).page ≡ r.page
-hides_kept page r = cond_both _ _ r (λ (x : Row). x.page ≡ r.page) (λ _. refl) (λ _. refl)
+hides_kept page r = grind (arith, nat_tests)
 
 -- a shared state is settled
 shared_settled : (state : PageState) → shared_state state ≡ true → settled_state state ≡ state
-shared_settled state is = grind (arith, nat_tests)
+shared_settled state is = grind arith
 
 -- a shared row stays as it is
 shared_stays : (page : GuestPage) (r : Row) → shared_state r.state ≡ true → hides page r ≡ r
-shared_stays page r is =
-    cond_both _ _ r (λ x. x ≡ r)
-    (λ _. ap (λ (st : PageState). record r { state = st }) (shared_settled _ is)) (λ _. refl)
+shared_stays page r is = grind (arith, nat_tests, is, shared_settled)
 
 -- so does one whose page comes before
 before_stays : (page : GuestPage) (r : Row) → comes_before r.page page ≡ true → hides page r ≡ r
@@ -143,7 +140,7 @@ module _ {page : GuestPage} {old now : BookValue} {last : Option GuestPage} (h :
       where
         stays : (r : Row) → r ≡ row → same_page r.page at ≡ true
             → (shared_state row.state ≡ true) ⊎ (comes_before at page ≡ true) → hides page r ≡ r
-        stays r is same h3 = grind (arith, nat_tests)
+        stays r is same h3 = grind arith
 
     -- any other page waits no more
     pub hiding_more : (next : BookValue) → comes_before at page ≡ false

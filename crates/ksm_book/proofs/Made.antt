@@ -15,7 +15,7 @@ stepped_then v xs ys = λ i. record {
 }
 
 needed_more : (ms ns : List ℕ) (o : Option ℕ) (sh : Shape) (k : Ledger) → IsNeeded sh k ms o → IsNeeded sh k (ms ++ ns) o × (needed_after (ms ++ ns) o ≡ needed_after ms o ++ ns)
-needed_more ms ns o sh k h = grind (arith, nat_tests)
+needed_more ms ns o sh k h = grind arith
 
 gives_append : (sh : Shape) (k : Ledger) (ms ns : List ℕ) (xs ys : Log) → Gives sh k ms xs → Gives sh (replayed sh k xs) ns ys → Gives sh k (ms ++ ns) (xs ++ ys)
 gives_append sh k ms ns [] ys h h' = rw h h'
@@ -25,7 +25,7 @@ gives_append sh k ms ns (x ∷ xs) ys h h' =
 
 -- two parts, one after the other, gave the frames of both
 pub chained : {u v w : KeeperView} {ms ns : List ℕ} {xs ys : Log} → Allocates u v ms xs → Allocates v w ns ys → Allocates u w (ms ++ ns) (xs ++ ys)
-chained {u} {v} {w} {ms} {ns} {xs} {ys} a b = record {
+chained {u} {ms = ms} {ns} {xs} {ys} a b = record {
   table = b.table ∙ a.table;
   log = b.log ∙ ap (λ l. l ++ ys) a.log ∙ append_assoc u.log xs ys;
   ledger = b.ledger ∙ (λ i. replayed (a.table i).shape (a.ledger i) ys) ∙ sym (replayed_append u.table.shape _ xs ys);
@@ -33,7 +33,7 @@ chained {u} {v} {w} {ms} {ns} {xs} {ys} a b = record {
 }
 
 along_push : (step : ℕ → ℕ → KeeperStep × ℕ) (j w : ℕ) (ws : List ℕ) → along step j (ws ++ w ∷ []) ≡ along step j ws ++ step (j + length ws) w ∷ []
-along_push step j w [] = ap (λ n. step n w ∷ []) (let e : j ≡ j + 0 = omega arith in e)
+along_push step j w [] = grind (arith, nat_tests)
 along_push step j w (x ∷ xs) = rw (along_push step (j + 1) w xs ∙ (let e : j + 1 + length xs ≡ j + suc (length xs) = omega arith in ap (λ i. along step (j + 1) xs ++ step i w ∷ []) e))
 
 -- a step was made for each of the first words, and now for one more
@@ -52,13 +52,13 @@ pub word_written : (ws cs : List ℕ) (i : ℕ) → length cs ≡ length ws → 
 word_written [] cs i same lt = absurd (omega arith)
 word_written (w ∷ ws) [] i same lt = absurd (omega arith)
 word_written (w ∷ ws) (c ∷ cs) zero same lt = refl
-word_written (w ∷ ws) (c ∷ cs) (suc i) same lt = grind (arith, nat_tests, same, lt, word_written ws cs i (omega arith) (omega arith))
+word_written (w ∷ ws) (c ∷ cs) (suc i) same lt = grind (arith, nat_tests, word_written ws cs i (omega arith) (omega arith))
 
 -- ---------------------------------------------------------------- steps, and no others
 
 -- where the keeper stays as it is, no step was made
 pub made_none : {v w : KeeperView} → w ≡ v → MakesSteps v w []
-made_none {v} {w} e = record { part = []; after = e ∙ (λ i. record { table = v.table; ledger = v.ledger; log = sym (append-nil v.log) i }); are = refl }
+made_none {v} e = record { part = []; after = e ∙ (λ i. record { table = v.table; ledger = v.ledger; log = sym (append-nil v.log) i }); are = refl }
 
 -- a keeper that went on by one step has made that step and no other
 pub made_one : (v w : KeeperView) (e : KeeperStep) (found : ℕ) → w ≡ did v e found → MakesSteps v w (e ∷ [])
@@ -70,7 +70,7 @@ made_part v w part is = record { part = part; after = is; are = refl }
 
 -- two pieces of work, one after the other, have made the steps of both
 pub made_then : {u v w : KeeperView} {xs ys : List KeeperStep} → MakesSteps u v xs → MakesSteps v w ys → MakesSteps u w (xs ++ ys)
-made_then {u} {v} {w} {xs} {ys} a b = record {
+made_then {u} a b = record {
   part = a.part ++ b.part;
   after = b.after ∙ ap (λ (z : KeeperView). stepped z b.part) a.after ∙ stepped_then u _ _;
   are = map-append (λ (e : KeeperStep × ℕ). e.0) a.part b.part ∙ (λ i. a.are i ++ b.are i);
@@ -92,17 +92,16 @@ first_made {v} {w} {e} {es} m = by _ m.after m.are
     by [] after are = absurd (grind arith)
     by (s ∷ part) after are =
         let first : s.0 ≡ e = grind arith in
-        let rest : steps_of part ≡ es = grind arith in
-        (s.1, record { part = part; after = rw (← first) (after ∙ sym (stepped_then v _ _)); are = rest })
+        (s.1, record { part = part; after = rw (← first) (after ∙ sym (stepped_then v _ _)); are = grind arith })
 
 -- a keeper that made one step went on by that step, with some word that it found
 pub step_made : {v w : KeeperView} {e : KeeperStep} → MakesSteps v w (e ∷ []) → (found : ℕ) × (w ≡ did v e found)
-step_made {v} {w} {e} m = let first = first_made m in (first.0, none_made first.1)
+step_made m = let first = first_made m in (first.0, none_made first.1)
 
 -- a keeper that made the steps of two lists made those of the first and then those of the second
 pub parts_made : {v w : KeeperView} (xs ys : List KeeperStep) → MakesSteps v w (xs ++ ys) → (between : KeeperView) × MakesSteps v between xs × MakesSteps between w ys
-parts_made {v} {w} [] ys m = (v, made_none refl, m)
-parts_made {v} {w} (x ∷ xs) ys m =
+parts_made {v} [] ys m = (v, made_none refl, m)
+parts_made {v} (x ∷ xs) ys m =
     let first = first_made m in
     let rest = parts_made {v = did v x first.0} xs ys first.1 in
     (rest.0, made_then (made_one v _ x _ refl) rest.1, rest.2)

@@ -18,7 +18,7 @@ served_as sh k k' dups dups' r r' (Some f) same on h = on f refl h
 -- a row that is not Zero and is served has a frame that serves it
 pub framed : (sh : Shape) (k : Ledger) (dups : List DupRow) (r : Row) (o : Option ℕ) → zero_state r.state ≡ false → IsServed sh k dups r o
     → (f : ℕ) × (o ≡ Some f) × Serves sh k dups r f
-framed sh k dups r o other h = grind (arith, nat_tests)
+framed sh k dups r o other h = grind arith
 
 module _ {sh : Shape} {across : ℕ} {k : Ledger} {rows : List Row} {frame : Frames} {dups : List DupRow} {hand : Option ℕ} (p : Placed sh across k rows frame dups hand) where
   -- a row that is no item of any dup agrees with each dup, where its frame is Private
@@ -196,7 +196,7 @@ module _ {sh : Shape} {across : ℕ} {k : Ledger} {rows : List Row} {frame : Fra
   lifted = subst (Placed sh across k bare off dups) lies (swapped None _ _ row rise found (λ r. refl) p refl)
 
   one : (frame_at k g).base ≡ 1
-  one = subst (λ (x : Kind). FitsBase x (frame_at k g).base) own (p.kinds g)
+  one = grind (arith, nat_tests)
 
   unused : uses g off bare ≡ 0
   unused = let b = lifted.bases g in let held = one_same g _ refl in omega (arith, one)
@@ -299,7 +299,7 @@ module _ {sh : Shape} {across : ℕ} {k : Ledger} {rows : List Row} {frame : Fra
       )
     where
       only : (n : ℕ) (s : PageState) (m : ℕ) → s ≡ Merged m → merged_into n s ≡ true → n ≡ m
-      only n s m is into = let e = sym (ap (merged_into n) is) ∙ into in grind (arith, nat_tests)
+      only n s m is into = grind (arith, nat_tests, is, into)
 
 -- a row in the state of another that is served by a frame, with the frame's bytes, is served by it too
 pub serves_like : (sh : Shape) (k : Ledger) (dups : List DupRow) (s r : Row) (f : ℕ) → Serves sh k dups s f → r.state ≡ s.state → (frame_at k f).content ≡ r.bytes → shared_state r.state ≡ true → Serves sh k dups r f
@@ -314,21 +314,21 @@ serves_like sh k dups s r f h same content merged = (
 -- the rows on the frame of a dup in its life are its items
 pub lies_as_item : {sh : Shape} {across : ℕ} {k : Ledger} {rows : List Row} {frame : Frames} {dups : List DupRow} (p : Placed sh across k rows frame dups None) (n : ℕ) (d : DupRow) → n < length dups → IsInLife k (get_or dups n d).place
     → All (λ r. is_frame (place_frame k (get_or dups n d).place) (frame r.page) ≡ merged_into (get_or dups n d).number r.state) rows
-lies_as_item {sh} {k = k} {rows} {frame} {dups} p n d lt life i r0 l = grind (arith, nat_tests, lt, life, r0)
+lies_as_item p n d lt life i r0 l = grind (arith, nat_tests)
 
 -- the references on the frame of a dup in its life are its items
 pub base_is_items : {sh : Shape} {across : ℕ} {k : Ledger} {rows : List Row} {frame : Frames} {dups : List DupRow} (p : Placed sh across k rows frame dups None) (n : ℕ) (d : DupRow) → n < length dups → IsInLife k (get_or dups n d).place
     → (frame_at k (place_frame k (get_or dups n d).place)).base ≡ item_count rows (get_or dups n d)
-base_is_items {k = k} {rows} {frame} {dups} p n d lt life = grind (arith, nat_tests, lt, life, lies_as_item p n d lt life, count_alike)
+base_is_items p n d lt life = grind (arith, nat_tests, lies_as_item p n d lt life, count_alike)
 
 -- a dup without items has no Stable frame in the life that its place names
 pub stale_is_loose : {sh : Shape} {across : ℕ} {k : Ledger} {rows : List Row} {frame : Frames} {dups : List DupRow} (p : Placed sh across k rows frame dups None) (n : ℕ) (d : DupRow) → n < length dups → item_count rows (get_or dups n d) ≡ 0 → IsInLife k (get_or dups n d).place
     → ¬ ((frame_at k (place_frame k (get_or dups n d).place)).kind ≡ Stable)
-stale_is_loose {k = k} {rows} {dups = dups} p n d lt none life stable = grind (arith, nat_tests, lt, none, life, stable, base_is_items p n d lt life)
+stale_is_loose p n d lt none life stable = grind (arith, nat_tests, stable, base_is_items p n d lt life)
 
 -- where a page joins an item with a reference in hand on the item's frame, its own frame comes into the hand
 pub joined : {sh : Shape} {across : ℕ} {k : Ledger} {rows : List Row} {frame : Frames} {dups : List DupRow} (page : GuestPage) (row item : Row) (g : ℕ) (c : Row → Row) → InPageOrder rows → row_at page rows ≡ Some row → ((r : Row) → (c r).page ≡ r.page)
     → Serves sh k dups item g → (c row).state ≡ item.state → (c row).bytes ≡ item.bytes → shared_state item.state ≡ true
     → Placed sh across k rows frame dups (Some g) → Placed sh across k (change_row page c rows) (lies_on page (Some g) frame) dups (frame page)
-joined {sh} {k = k} {dups = dups} page row item g c rise found keeps on_it state bytes merged p =
+joined {sh} {k = k} page row item g c rise found keeps on_it state bytes merged p =
     swapped _ _ c row rise found keeps p (serves_like sh k _ _ _ g on_it state (on_it.0.content ∙ sym bytes) (ap shared_state state ∙ merged))

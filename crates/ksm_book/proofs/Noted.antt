@@ -90,7 +90,7 @@ module _ {sh : Shape} {across : ℕ} {k : Ledger} {rows : List Row} {frame : Fra
             (λ e. let low : place_life k d.place ≤ old.generation = rw (← e) m.life in
             elim n.life [
               | inl later ↦ omega arith
-              | inr stays ↦ let same = stays.0 in omega (arith, same)
+              | inr stays ↦ omega (arith, stays.0)
             ])
             (λ _. m.life);
         content = λ life. (in_life d m life).1;

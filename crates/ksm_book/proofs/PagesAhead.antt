@@ -1,5 +1,5 @@
 -- Ascending lists of pages: their parts before and behind a page, by test and by index; and each is known by what it has.
-use Rattle.ksm_book.proofs.Names.{[], after_cursor, All, All-cons, All-filter, All-head, and_right, any-filter_same, ap, AreAscending, arith, before_differs, before_irrefl, before_trans, Bool, cases_Bool, cases_lt, comes_before, Contains-from_any, drop, drop-append-le, drop_of_length-le, false, filter, filter_all, filter_none, from_to, get_or, get_or-drop, get_or-take, get_or_from_slice_get, GuestPage, has_item, inl, inr, last_of, length, length-drop, length-take, length-take-le, List, list_any_none, max, None, not, not_both, one_before, Option, pairs_head, pairs_tail, refl, same_page, same_page_eq, same_page_refl, same_Some, slice_get, slice_get-get_or, slice_get_within, Some, subst, suc, sym, take, take_more, true, true≢false, up_to, zero, ℕ, ◌&&◌, ◌++◌, ◌+◌, ◌-◌, ◌<◌, ◌||◌, ◌∙◌, ◌∷◌, ◌≡◌, ◌≤◌, filter_mapped, nat_tests}
+use Rattle.ksm_book.proofs.Names.{[], after_cursor, All, All-cons, All-filter, All-head, and_right, any-filter_same, ap, AreAscending, arith, before_differs, before_irrefl, before_trans, Bool, cases_Bool, cases_lt, comes_before, Contains-from_any, drop, drop-append-le, drop_of_length-le, false, filter, filter_all, filter_none, from_to, get_or, get_or-drop, get_or-take, get_or_from_slice_get, GuestPage, has_item, inl, inr, last_of, length, length-drop, length-take, length-take-le, List, list_any_none, max, None, not, not_both, one_before, Option, pairs_head, pairs_tail, refl, same_page, same_page_eq, same_page_refl, same_Some, slice_get, slice_get-get_or, slice_get_within, Some, subst, suc, sym, take, take_more, true, true≢false, up_to, zero, ℕ, ◌&&◌, ◌++◌, ◌+◌, ◌-◌, ◌<◌, ◌||◌, ◌∙◌, ◌∷◌, ◌≡◌, ◌≤◌, filter_mapped}
 use Rattle.std.proofs.Common.{ap₂}
 use Rattle.std.proofs.lemmas.List.{map-id}
 
@@ -18,7 +18,7 @@ filter_out t x xs fails = rw fails
 -- what comes behind a page that is behind the cursor is behind the cursor
 pub after_later : (cursor : Option GuestPage) (p q : GuestPage) → after_cursor cursor p ≡ true → comes_before p q ≡ true
     → after_cursor cursor q ≡ true
-after_later cursor p q is later = grind (arith, nat_tests)
+after_later cursor p q is later = grind arith
 
 -- where a page and others are those behind a cursor in an ascending list, the others are those behind that page
 pub behind_first : (cursor : Option GuestPage) (pages : List GuestPage) (page : GuestPage) (more : List GuestPage) → AreAscending pages
@@ -179,10 +179,9 @@ from_to_end pages first at end past within le = elim (cases_lt first end) [
 pub between_at : (pages : List GuestPage) (first at end : ℕ) (page : GuestPage) → slice_get pages at ≡ Some page → first ≤ at → at < end
     → (at - first < length (from_to first end pages)) × (get_or (from_to first end pages) (at - first) page ≡ page)
 between_at pages first at end page is low high =
-    let within = slice_get_within _ at _ is in
-    let sum : first + (at - first) ≡ at = omega arith in (
+    let within = slice_get_within _ at _ is in (
       omega (arith, length-drop first (take end pages), length-take end pages),
-      get_or-drop first (take end pages) (at - first) page ∙ ap (λ n. get_or (take end pages) n page) sum
+      get_or-drop first (take end pages) (at - first) page ∙ ap (λ n. get_or (take end pages) n page) (omega arith)
           ∙ get_or-take end pages at page high ∙ get_or_from_slice_get _ at _ _ is,
     )
 

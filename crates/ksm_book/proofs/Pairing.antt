@@ -9,7 +9,7 @@ use Rattle.ksm_book.proofs.Promised.{finds_place}
 
 -- a row that waits is not shared
 waiting_is_alone : (s : PageState) → waiting_state s ≡ true → (shared_state s ≡ false) × (merged_state s ≡ false)
-waiting_is_alone s e = grind (arith, nat_tests)
+waiting_is_alone s e = grind arith
 
 -- rows of two pages get a state
 abbrev in_state : PageState → Row → Row
@@ -79,7 +79,7 @@ module _ (other : GuestPage) {p : PagesView} {k : KeeperView} {cursor : Option G
   vacant = λ n d lt same.
       let free = subst (IsFree b) (sym chosen) (new_place_free b s) in
       let other = free.apart n d lt in
-      grind (arith, nat_tests)
+      grind arith
 
   fresh : All (λ r. merged_into p.next r.state ≡ false) p.rows
   fresh = next_is_new b s
@@ -172,10 +172,10 @@ module _ (other : GuestPage) {p : PagesView} {k : KeeperView} {cursor : Option G
           steps = rw left (made_then comes leaves)
 
           both : change_row page change first.rows ≡ change_rows (λ r. same_page r.page w.page || same_page r.page row.page) change p.rows
-          both = ap (λ x. change_row x change first.rows) (sym at_page) ∙ two_changes _ _ _ _
+          both = grind (arith, nat_tests, at_page, two_changes)
 
           q_is : q ≡ record first { rows = change_row page change first.rows; frame = lies_on page (Some f) p.frame }
-          q_is = goes ∙ (λ t. record first { rows = sym both t; frame = lies_on (at_page t) (lies t) p.frame })
+          q_is = grind (arith, nat_tests, goes, both, at_page, lies)
 
           all_steps : MakesSteps k l (withdrawing p.dups place ++ (Publish place f ∷ Add f ∷ leaving (p.frame page)))
           all_steps = made_then clears (made_then (made_one k1 k2 _ 0 shown) steps)

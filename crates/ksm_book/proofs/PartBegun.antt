@@ -1,5 +1,5 @@
 -- The beginning of a part of a pass: it changes only which rows wait, and what is due stays so where the cursor moves.
-use Rattle.ksm_book.proofs.Names.{ap, AreDue, BookState, BookValue, Comes, cond_both, Deed, GuestPage, InPageOrder, IsStill, List, pages_ahead, pass_begun, pass_ended_at_last, Reached, refl, sym, visit_begun, ◌∙◌, ◌≡◌, arith, nat_tests}
+use Rattle.ksm_book.proofs.Names.{ap, AreDue, BookState, BookValue, Comes, cond_both, Deed, GuestPage, InPageOrder, IsStill, List, pages_ahead, pass_begun, pass_ended_at_last, Reached, refl, sym, visit_begun, ◌∙◌, ◌≡◌, arith}
 use Rattle.ksm_book.proofs.Folded.{settled_twice}
 use Rattle.ksm_book.proofs.Reached.{comes_to, first, in_order}
 use Rattle.ksm_book.proofs.Scanned.{begun_ahead}
@@ -8,18 +8,18 @@ use Rattle.ksm_book.proofs.Scanned.{begun_ahead}
 
 -- a beginning visit leaves the cursor where it stands once the pass was ended, if it had gone through all pages
 pub begun_cursor : (b : BookState) → (visit_begun b).cursor ≡ (pass_ended_at_last b).cursor
-begun_cursor b = grind (arith, nat_tests)
+begun_cursor b = grind arith
 
 -- as a pass begins nothing changes but which rows wait
 pub begins_still : {X : Type 0} (s : BookState × X) → IsStill s (pass_begun s.0, s.1)
-begins_still {X = X} s =
+begins_still {X} s =
     cond_both _ _ s.0 (λ b. IsStill {X = X} s (b, s.1))
     (λ _. record { rest = refl; rows = settled_twice _; beside = refl })
     (λ _. record { rest = refl; rows = refl; beside = refl })
 
 -- what changed only which rows wait changed no more once a pass begins
 pub begun_still : {X : Type 0} (b : BookState) (x : X) (new : BookState × X) → IsStill (b, x) new → IsStill (pass_begun b, x) new
-begun_still {X = X} b x new still =
+begun_still {X} b x new still =
     cond_both _ _ b (λ c. IsStill {X = X} (c, x) new)
     (λ _. record { rest = still.rest; rows = still.rows ∙ sym (settled_twice _); beside = still.beside }) (λ _. still)
 

@@ -13,8 +13,7 @@ use Rattle.ksm_book.proofs.Pruning.{none_stale}
 passing : {X : Type 0} (f : X → ℕ) (test : X → Bool) (xs : List X) (i : ℕ) (d : X) → i < length xs → test (get_or xs i d) ≡ true → Contains (map f (filter test xs)) (f (get_or xs i d))
 passing f test xs i d lt passes =
     let kept = contains_filter _ xs _ (Contains-get_or xs i d lt) passes in
-    let here = kept.1 in
-    (kept.0, omega (arith, length-map (filter test xs) f), get_or-map f _ _ _ _ here ∙ ap f kept.2)
+    (kept.0, omega (arith, length-map (filter test xs) f), get_or-map f _ _ _ _ kept.1 ∙ ap f kept.2)
 
 -- numbers that are each counted once differ
 once_each : (xs : List ℕ) → All (λ f. count_by (λ g. g == f) xs ≤ 1) xs → AllPairs (λ f g. f ≢ g) xs
@@ -24,7 +23,7 @@ once_each (x ∷ xs) once =
     let P : ℕ → Type 0 = λ f. count_by (λ g. g == f) (x ∷ xs) ≤ 1 in
     let first = All-head P x xs once in
     let more = count_more (λ g. g == x) x xs in
-    let none : count_by (λ g. g == x) xs ≡ 0 = grind (arith, nat_tests) in
+    let none : count_by (λ g. g == x) xs ≡ 0 = grind arith in
     let apart = none_counted _ xs none in
     AllPairs-cons R x xs (λ k d lt same. let other = apart k d lt in absurd (grind (arith, nat_tests)))
     (once_each xs (λ k d lt. let f = get_or xs k d in let all = All-tail P x xs once k d lt in let more = count_more (λ g. g == f) x xs in grind arith))
@@ -56,10 +55,10 @@ all_own P rows frame all =
     All-map P (λ r. frame_number (frame r.page)) (filter test rows) (λ k d lt. kept k d lt (not-true _ (passes k d lt)))
 
 named_life : (o : Option Life) → is_some o ≡ true → o ≡ Some (life_or o)
-named_life o some = grind (arith, nat_tests)
+named_life o some = grind arith
 
 alone_of_kind : (s : PageState) → kind_for s ≡ Private → shared_state s ≡ false
-alone_of_kind s is = grind (arith, nat_tests)
+alone_of_kind s is = grind arith
 
 module _ (b : BookState) (k : Ledger) (s : IsSound b) (frame : Frames) (p : Placed b.shape b.knobs.merge_across_nodes k b.rows frame b.dups None) where
   abbrev across : ℕ
@@ -90,10 +89,10 @@ module _ (b : BookState) (k : Ledger) (s : IsSound b) (frame : Frames) (p : Plac
 
   -- a Zero row has no frame, and only zeroes
   zero_none : (r : Row) (o : Option ℕ) → IsServed b.shape k b.dups r o → zero_state r.state ≡ true → o ≡ None
-  zero_none r o served zero_is = grind (arith, nat_tests)
+  zero_none r o served zero_is = grind arith
 
   dup_lives : All (λ d. has_items b.rows d ≡ true → Lives k b.dups b.shape b.rows frame d) b.dups
-  dup_lives n d lt some = lives p n d lt (λ none. absurd (grind (arith, nat_tests)))
+  dup_lives n d lt some = lives p n d lt (λ none. absurd (grind arith))
 
   stands : All (λ d. has_items b.rows d ≡ true → StandsOn b k d (place_frame k d.place)) b.dups
   stands n d lt some =
@@ -194,11 +193,10 @@ module _ (b : BookState) (k : Ledger) (s : IsSound b) (frame : Frames) (p : Plac
   outlived : All (λ d. has_items b.rows d ≡ false → IsOutlived k d.place) b.dups
   outlived n d lt none =
       let e = get_or b.dups n d in
-      let fit = p.each_dup n d lt in
       record {
         life = life_or (named_at k e.place);
-        named = named_life _ fit.named;
-        over = λ life. stale_is_loose p n d lt (let zero_is : item_count b.rows e ≡ 0 = grind (arith, nat_tests) in zero_is) life;
+        named = named_life _ (p.each_dup n d lt).named;
+        over = λ life. stale_is_loose p n d lt (grind (arith, nat_tests)) life;
       }
 
   -- a sound book lies on its frames as promised, where it is placed lawfully and pages without a row lie on none
@@ -244,4 +242,10 @@ module _ (b : BookState) (k : Ledger) (s : IsSound b) (frame : Frames) (p : Plac
           (IsDistinct-from_apart eqb (own ++ shown) (λ n m f before lt. ne_eqb _ _ (all_distinct n m f before lt)))
           (λ q in_it. let at = Contains-from_any {eq = eqb} (λ x y e. eqb-true x y e) q (own ++ shown) in_it in
           rw (← at.2) (inside at.0 q at.1)) in
-          omega (arith, length-append own shown, length-map (filter (has_items b.rows) b.dups) (λ d. place_frame k d.place), ap length (none_stale b.rows b.dups is), empty_from_most 0 b.dups)
+          omega (
+            arith,
+            length-append own shown,
+            length-map (filter (has_items b.rows) b.dups) (λ d. place_frame k d.place),
+            ap length (none_stale b.rows b.dups is),
+            empty_from_most 0 b.dups,
+          )

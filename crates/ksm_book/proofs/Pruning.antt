@@ -15,7 +15,7 @@ stale_vacant rows dups d rise found k x lt same =
 
 -- where no stale dup is found, all dups have items
 pub none_stale : (rows : List Row) (dups : List DupRow) → find (is_stale rows) dups ≡ None → filter (has_items rows) dups ≡ dups
-none_stale rows dups none = filter_all _ _ (λ k x lt. let lives = find_none _ _ none k x lt in grind (arith, nat_tests))
+none_stale rows dups none = filter_all _ _ (λ k x lt. let lives = find_none _ _ none k x lt in grind arith)
 
 -- a stale dup less is no dup with items less
 pub live_elsewhere : (rows : List Row) (place : ℕ) (dups : List DupRow) → IsVacant place rows dups → filter (has_items rows) (filter (elsewhere place) dups) ≡ filter (has_items rows) dups
@@ -24,7 +24,7 @@ live_elsewhere rows place (d ∷ ds) vacant =
     let P : DupRow → Type 0 = λ x. x.place ≡ place → item_count rows x ≡ 0 in
     let rest = live_elsewhere rows place ds (All-tail P d ds vacant) in
     let none = All-head P d ds vacant in
-    grind (arith, nat_tests, none)
+    grind (arith, none)
 
 -- the first stale dup is the first to go
 pub first_stale : (rows : List Row) (dups : List DupRow) (d : DupRow) → InPlaceOrder dups → find (is_stale rows) dups ≡ Some d
@@ -90,7 +90,7 @@ module _ {p q : PagesView} {k l : KeeperView} {count : ℕ} (h : Drops p q k l c
   stale = mapped_some _ _ _ (sym told)
 
   found : find (is_stale p.rows) q.dups ≡ Some stale.0
-  found = ap (λ rows. find (is_stale rows) q.dups) (sym rows_are) ∙ stale.1
+  found = grind (arith, nat_tests, rows_are)
 
   -- no dup with items stands at the place of the first stale dup
   pub drop_vacant : IsVacant place q.rows q.dups
@@ -105,18 +105,29 @@ module _ {p q : PagesView} {k l : KeeperView} {count : ℕ} (h : Drops p q k l c
 
   -- it is the first of those still stale
   next : filter (is_stale p.rows) q.dups ≡ stale.0 ∷ filter (is_stale p.rows) (filter (elsewhere place) q.dups)
-  next = first_stale p.rows _ _ h.rise found
-      ∙ ap (λ x. stale.0 ∷ filter (is_stale p.rows) (filter (elsewhere x) q.dups)) stale.2
+  next = grind (arith, nat_tests, first_stale)
 
   -- once the first stale dup goes, one dup less is stale
   pub drop_fewer : count_by (is_stale p.rows) (filter (elsewhere place) q.dups) + 1 ≡ count_by (is_stale p.rows) q.dups
-  drop_fewer = omega (arith, ap length next, length-filter (is_stale p.rows) q.dups, length-filter (is_stale p.rows) (filter (elsewhere place) q.dups))
+  drop_fewer = omega (
+    arith,
+    ap length next,
+    length-filter (is_stale p.rows) q.dups,
+    length-filter (is_stale p.rows) (filter (elsewhere place) q.dups),
+  )
 
   -- the count of stale dups that went, and the next one, is below 2^64
   pub drop_few : count + 1 < 2 ^ 64
   drop_few =
       let frames = few_from 0 _ _ (omega arith) h.first (λ n d lt. (omega arith, (h.before.placed.each_dup n d lt).place)) in
-      omega (arith, ap length h.all, length-append h.gone (filter (is_stale p.rows) q.dups), length-filter (is_stale p.rows) p.dups, count_by-le-length (is_stale p.rows) p.dups, frames_at_most p.shape h.before.small)
+      omega (
+        arith,
+        ap length h.all,
+        length-append h.gone (filter (is_stale p.rows) q.dups),
+        length-filter (is_stale p.rows) p.dups,
+        count_by-le-length (is_stale p.rows) p.dups,
+        frames_at_most p.shape h.before.small,
+      )
 
   -- where the place of the first stale dup is withdrawn and that dup goes, one stale dup more went
   pub drops_more : (q' : PagesView) (l' : KeeperView) → l' ≡ did l (Withdraw place) 0 → q' ≡ record q { dups = filter (elsewhere place) q.dups } → Drops p q' k l' (count + 1)
@@ -141,7 +152,7 @@ module _ {p q : PagesView} {k l : KeeperView} {count : ℕ} (h : Drops p q k l c
 module _ {p q : PagesView} {k l : KeeperView} {count : ℕ} (h : Drops p q k l count)
     (told : None ≡ option_map (λ d. d.place) (find (is_stale q.rows) q.dups)) where
   none : find (is_stale p.rows) q.dups ≡ None
-  none = ap (λ (x : PagesView). find (is_stale x.rows) q.dups) (sym h.pages) ∙ none_mapped _ _ (sym told)
+  none = grind (arith, nat_tests, none_mapped)
 
   -- where no stale dup is left, the dups are those with items, as many went as were stale, and just the steps of a pruning were made
   pub dropped : (q ≡ record p { dups = filter (has_items p.rows) p.dups }) × (count ≡ count_by (is_stale p.rows) p.dups)

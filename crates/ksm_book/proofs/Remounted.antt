@@ -7,7 +7,7 @@ use Rattle.ksm_book.proofs.Moves.{Serves}
 use Rattle.ksm_book.proofs.Laying.{number_of_kind}
 
 one_number : (s : PageState) (m n : ℕ) → merged_into m s ≡ true → merged_into n s ≡ true → n ≡ m
-one_number s m n a b = grind (arith, nat_tests)
+one_number s m n a b = grind arith
 
 -- where frame g comes in the stead of f, a page that lay on f lies on g
 instead_here : (f g : ℕ) (frame : Frames) (page : GuestPage) → frame page ≡ Some f → instead f g frame page ≡ Some g
@@ -20,13 +20,13 @@ instead_there f g frame page ne = rw (not_on f _ ne)
 -- those that lay on f lie on g, and none lies on f any more
 module _ (f g : ℕ) (frame : Frames) (rows : List Row) where
   uses_new : uses g frame rows ≡ 0 → uses g (instead f g frame) rows ≡ uses f frame rows
-  uses_new none = grind (arith, nat_tests, none, count_alike, frame_cases, instead_here, instead_there, none_counted, not_on)
+  uses_new none = grind (arith, nat_tests, count_alike, frame_cases, instead_here, instead_there, none_counted, not_on)
 
   uses_old : g ≢ f → uses f (instead f g frame) rows ≡ 0
-  uses_old ne = grind (arith, nat_tests, ne, count_none, frame_cases, instead_here, not_on, same_Some, instead_there)
+  uses_old ne = grind (arith, nat_tests, count_none, frame_cases, instead_here, not_on, same_Some, instead_there)
 
   uses_still : (x : ℕ) → x ≢ f → x ≢ g → uses x (instead f g frame) rows ≡ uses x frame rows
-  uses_still x nf ng = grind (arith, nat_tests, nf, ng, count_alike, frame_cases, instead_here, not_on, same_Some, instead_there)
+  uses_still x nf ng = grind (arith, nat_tests, count_alike, frame_cases, instead_here, not_on, same_Some, instead_there)
 
 -- one of the dups moves from the frame that its place names to another
 module _ {sh : Shape} {across : ℕ} {k : Ledger} {rows : List Row} {frame : Frames} {dups : List DupRow}
@@ -60,10 +60,10 @@ module _ {sh : Shape} {across : ℕ} {k : Ledger} {rows : List Row} {frame : Fra
     apart e = cc
 
     unused : uses g frame rows ≡ 0
-    unused = let none = subst (λ (x : Kind). FitsBase x (frame_at k g).base) free (p.kinds g) in let is = p.bases g in omega arith
+    unused = grind (arith, nat_tests)
 
     some : 1 ≤ (frame_at k left).base
-    some = subst (λ (x : Kind). FitsBase x (frame_at k left).base) stable (p.kinds left)
+    some = grind (arith, nat_tests)
 
     at : (P : Note → Type 0) (h : ℕ) → (h ≡ g → P mounted) → (h ≡ left → P dead) → (h ≢ g → h ≢ left → P (frame_at k h)) → P (frame_at next h)
     at P h here there else' =
@@ -83,7 +83,7 @@ module _ {sh : Shape} {across : ℕ} {k : Ledger} {rows : List Row} {frame : Fra
     named_off e ne = get_or-set_other k.places q e (Some life) None ne
 
     frame_is : (e : ℕ) → e ≡ q → place_frame next e ≡ g
-    frame_is e same = ap (place_frame next) same ∙ ap (λ x. (life_or x).frame) named
+    frame_is e same = grind (arith, nat_tests, same, named)
 
     frame_off : (e : ℕ) → e ≢ q → place_frame next e ≡ place_frame k e
     frame_off e ne = ap (λ x. (life_or x).frame) (named_off e ne)
@@ -126,7 +126,10 @@ module _ {sh : Shape} {across : ℕ} {k : Ledger} {rows : List Row} {frame : Fra
         kind = at_g (λ x. x.kind ≡ kind_for r.state) (sym stable ∙ ap (λ h. (frame_at k h).kind) (sym e) ∙ was.kind);
         content = at_g (λ x. x.content ≡ r.bytes) (rw (← e) was.content);
         given = at_g (λ x. 1 ≤ x.generation) (omega arith);
-        node = λ alone. absurd (grind (arith, ap shared_state (number_of_kind r.state (sym was.kind ∙ ap (λ h. (frame_at k h).kind) e ∙ stable)).1));
+        node = λ alone. absurd (grind (
+          arith,
+          ap shared_state (number_of_kind r.state (sym was.kind ∙ ap (λ h. (frame_at k h).kind) e ∙ stable)).1,
+        ));
       }
 
       moved_agrees : f ≡ left → (e : DupRow) → DupFits sh across k e → (e.place ≢ q → e.number ≢ moving.number) → Agrees k r f e → Agrees next r g e
@@ -217,7 +220,7 @@ module _ {sh : Shape} {across : ℕ} {k : Ledger} {rows : List Row} {frame : Fra
       places_long = length-set k.places q (Some life) ∙ p.places_long;
       widths = λ h. at (λ x. length x.content ≡ PAGE_WORDS) h (λ _. p.widths left) (λ _. p.widths left) (λ _ _. p.widths h);
       lives = λ h. at (λ x. GenerationFits sh.last_generation x.kind x.generation) h
-          (λ _. let below : (frame_at k g).generation < sh.last_generation = subst (λ (x : Kind). GenerationFits sh.last_generation x (frame_at k g).generation) free (p.lives g) in (omega arith, omega (arith, below)))
+          (λ _. let below : (frame_at k g).generation < sh.last_generation = subst (λ (x : Kind). GenerationFits sh.last_generation x (frame_at k g).generation) free (p.lives g) in (omega arith, omega arith))
           (λ _. subst (λ (x : Kind). GenerationFits sh.last_generation x (frame_at k left).generation) stable (p.lives left))
           (λ _ _. p.lives h);
       each_row = λ i r0 low. let r = get_or rows i r0 in served r (frame r.page)

@@ -1,5 +1,5 @@
 -- A dup with items, and where its pages lie before and after it moves.
-use Rattle.ksm_book.proofs.Names.{list_any_at, [], All, and_parts, ap, arith, blank, Bool, count_in, did, dup_frame, dup_numbered, DupFits, DupRow, Dying, each_has_number, eq-eqb, find_all, find_passes, Err, Finds, FindsHeld, FindsNone, HasRemounted, InUse, MayMount, MayMove, NoFrame, Ok, frame_at, frame_found, frame_number, frames_of, Free, Freeze, get_or, get_or-set_other, GuestPage, has_items, instead, is_frame, is_item, IsInLife, IsLaid, IsLoose, IsLowestFree, item_count, items_on, KeeperView, Ledger, length, length-set, Life, life_or, List, list_any, ltb-true, lying, MakesSteps, merged_into, mounting, Moves, ne_eqb, node_of, None, Note, Option, PagesView, place_frame, Placed, Publish, refl, Row, row_at, same_Some, set, Shape, Some, spent, Stable, subst, sym, true, with_frame, ℕ, ◌&&◌, ◌+◌, ◌<◌, ◌==◌, ◌∙◌, ◌∷◌, ◌≡◌, ◌≢◌, ◌≤◌, if◌then◌else◌, once_mounted, All-contains_itself, Contains, nat_tests}
+use Rattle.ksm_book.proofs.Names.{list_any_at, [], All, and_parts, ap, arith, blank, Bool, count_in, did, dup_frame, dup_numbered, DupFits, DupRow, Dying, each_has_number, eq-eqb, find_all, find_passes, Err, Finds, FindsHeld, FindsNone, HasRemounted, InUse, MayMount, MayMove, NoFrame, Ok, frame_at, frame_found, frame_number, frames_of, Free, Freeze, get_or, get_or-set_other, GuestPage, has_items, instead, is_frame, is_item, IsInLife, IsLaid, IsLoose, IsLowestFree, item_count, items_on, KeeperView, Ledger, length, length-set, Life, life_or, List, list_any, lying, MakesSteps, merged_into, mounting, Moves, ne_eqb, node_of, None, Note, Option, PagesView, place_frame, Placed, Publish, refl, Row, row_at, same_Some, set, Shape, Some, spent, Stable, subst, sym, true, with_frame, ℕ, ◌&&◌, ◌+◌, ◌<◌, ◌==◌, ◌∙◌, ◌∷◌, ◌≡◌, ◌≢◌, ◌≤◌, if◌then◌else◌, once_mounted, All-contains_itself, Contains, nat_tests}
 use mathlib.Core.Logic.{dite}
 use native.Mathlib.Decide.{ℕ_discrete}
 use Rattle.ksm_book.proofs.ByPage.{found_page, same_frames}
@@ -15,7 +15,7 @@ use Rattle.ksm_book.proofs.Standing.{Lives, lives}
 -- where no frame of the node is left, the dup stays
 pub turned_away : {X : Type 0} {p : PagesView} {k l : KeeperView} {dup : DupRow} {node : ℕ} → MayMove p k dup node → FindsNone k l node
     → HasRemounted {X = X} p p k l dup node (Err (NoFrame node))
-turned_away {p = p} may none =
+turned_away may none =
     let away = turned may.laid may.exists none in
     record { rest = refl; laid = away.laid; moves = (refl, away.turns) }
 
@@ -43,8 +43,7 @@ module _ {v : PagesView} {k : KeeperView} {dup : DupRow} {node g : ℕ} (may : M
   among P all = find_all _ P _ dup may.live all
 
   item_some : 1 ≤ item_count v.rows dup
-  item_some = ltb-true 0 (item_count v.rows dup) (and_parts (dup.place == dup.place) _
-      (find_passes test dups dup may.live)).1
+  item_some = grind (arith, nat_tests, find_passes test dups dup may.live, and_parts)
 
   stands : dup_numbered dup.number dups ≡ Some dup
   stands = among (λ d. dup_numbered d.number dups ≡ Some d) (each_has_number _ may.sound.2.dups_rise)
@@ -105,7 +104,6 @@ module _ {v : PagesView} {k : KeeperView} {dup : DupRow} {node g : ℕ} (may : M
         by page None none = grind (
           arith,
           nat_tests,
-          none,
           instead_there g f' v.frame page (λ on. (let e : None ≡ Some g = sym (absent page none) ∙ on in cc)),
         )
         by page (Some r) found =
@@ -132,7 +130,7 @@ module _ {v : PagesView} {k : KeeperView} {dup : DupRow} {node g : ℕ} (may : M
     lowest = rw (← may.laid.same) to.lowest
 
     inside : f < frames_of sh
-    inside = grind (arith, nat_tests, node_end node sh.nodes sh.frames_per_node may.exists)
+    inside = grind (arith, node_end node sh.nodes sh.frames_per_node may.exists)
 
     within : f < length w.ledger.frames
     within = let long = p.frames_long in let lt = inside in omega arith
@@ -303,6 +301,6 @@ module _ {v : PagesView} {k : KeeperView} {dup : DupRow} {node g : ℕ} (may : M
 -- where a dup is to move from a place, a dup stands at that place
 pub taken_place : {v : PagesView} {k : KeeperView} {dup : DupRow} {node : ℕ} → MayMove v k dup node
     → list_any (λ d. d.place == dup.place) v.dups ≡ true
-taken_place {v} {k} {dup} {node} may =
+taken_place {v} {dup = dup} may =
     let at = find_all (λ d. d.place == dup.place && has_items v.rows d) (Contains v.dups) v.dups dup may.live (All-contains_itself v.dups) in
     list_any_at (λ d. d.place == dup.place) v.dups at.0 dup at.1 (rw at.2 (eq-eqb dup.place dup.place refl))

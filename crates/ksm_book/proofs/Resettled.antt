@@ -1,5 +1,5 @@
 -- How a page gets another frame.
-use Rattle.ksm_book.proofs.Names.{ap, arith, change_row, FindsNone, GuestPage, Houses, IfSome, InPageOrder, is_some, IsKnown, IsLaid, KeeperView, leaving, lies_on, List, MakesSteps, MatchOption, May, None, on_its_own, Option, PagesView, Placed, Provides, refl, Resettled, Row, Some, Sub, subst, sym, HasNewFrame, true, TurnedAway, ℕ, ◌<◌, ◌∙◌, ◌≡◌, nat_tests}
+use Rattle.ksm_book.proofs.Names.{ap, arith, change_row, FindsNone, GuestPage, Houses, IfSome, InPageOrder, is_some, IsKnown, IsLaid, KeeperView, leaving, lies_on, List, MakesSteps, MatchOption, May, None, on_its_own, Option, PagesView, Placed, Provides, refl, Resettled, Row, Some, Sub, subst, sym, HasNewFrame, true, TurnedAway, ℕ, ◌<◌, ◌∙◌, ◌≡◌}
 use Rattle.ksm_base.specs.declared.row.PageState.TheVariants.{Private}
 use Rattle.ksm_book.proofs.Shown.{provides_does}
 use Rattle.ksm_book.proofs.Keeping.{left_placed, left_spends, may_leave, searched_placed, searched_spends}
@@ -18,7 +18,7 @@ module _ {p : PagesView} {k w : KeeperView} (h : IsLaid p k) (rise : InPageOrder
   houses = record { pages = λ r. refl; row = by _ known }
     where
       by : (o : Option Row) → is_some o ≡ true → MatchOption o ⊥ (λ r. ((housed node bytes r).state ≡ Private) × ((housed node bytes r).home ≡ node) × ((housed node bytes r).bytes ≡ bytes))
-      by o none = grind (arith, nat_tests)
+      by o none = grind arith
 
   same : w.table.shape ≡ p.shape
   same = shape_same _ k w h.same ((provides_does provides).1.table)
@@ -53,7 +53,7 @@ module _ {p : PagesView} {k w : KeeperView} (h : IsLaid p k) (rise : InPageOrder
 
 -- where no frame of a node was found, pages that lie lawfully are turned away, and no page changed
 pub turned : {p : PagesView} {k w : KeeperView} {node : ℕ} → IsLaid p k → node < p.shape.nodes → FindsNone k w node → TurnedAway p p k w node
-turned {p} {k} {w} {node} h less none = record {
+turned {w = w} h less none = record {
   pages = refl;
   turns = record { searched = none; frame = refl };
   laid = laid_kept h w (rw none.reaped.after)

@@ -13,7 +13,7 @@ use Rattle.ksm_book.proofs.Standing.{Lives, lives}
 
 -- where something is told of what an option holds, it holds something, of which that is so
 pub filled_by : {X : Type 0} (P : X → Type 0) (o : Option X) → MatchOption o (true ≡ false) P → (x : X) × (o ≡ Some x) × P x
-filled_by P o told = grind (arith, nat_tests, told)
+filled_by P o told = grind (arith, told)
 
 -- a row that a visit may change has a frame of its own
 pub restless_own : (row : Row) → is_restless row ≡ true → shared_state row.state ≡ false
@@ -37,7 +37,7 @@ pub stayed_is : (b : BookState) (frame : Frames) (row : Row) (zeroes : Bool) →
     → (row_visited b row ≡ (if zeroes then record b { rows = change_row row.page (λ r. record r { state = Zero }) b.rows } else
     paired (partner b.knobs b.rows row) b row))
     × (row_visiting b frame row ≡ (if zeroes then emptying frame row.page else pairing (partner b.knobs b.rows row) b frame row))
-stayed_is b frame row zeroes stays = grind (arith, nat_tests, stays, restless_own row stays.restless)
+stayed_is b frame row zeroes stays = grind (arith, nat_tests, restless_own row stays.restless)
 
 -- ---------------------------------------------------------------- what the visit of a page comes to
 
@@ -131,7 +131,7 @@ visit_comes v w page row found restless state does = λ from s before.
 best_has_item : (b : BookState) (row : Row) (dup : DupRow) → best_dup b.knobs b.rows b.dups row ≡ Some dup → 1 ≤ item_count b.rows dup
 best_has_item b row dup found =
     let best = find_passes (is_best b.knobs b.rows b.dups row) b.dups dup found in
-    grind (arith, nat_tests)
+    grind arith
 
 module _ (best : Best) {p : PagesView} {k : KeeperView} {cursor : Option GuestPage} {passes : ℕ} {v : BookView} {page : GuestPage}
     (at : Meets (λ b. MayJoin b best) p k cursor passes v page) where
@@ -218,7 +218,7 @@ module _ (best : Best) {p : PagesView} {k : KeeperView} {cursor : Option GuestPa
             (ap (λ n. merged_into n item.state) told.2.0 ∙ live.merged))
 
         q_is : q ≡ record p { rows = change_row page change p.rows; frame = lies_on page (Some g) p.frame }
-        q_is = goes ∙ (λ t. record p { rows = change_row page change p.rows; frame = frame_is t })
+        q_is = grind (arith, nat_tests, frame_is)
 
         steps : MakesSteps k l (Add g ∷ leaving (p.frame page))
         steps = rw left (made_then comes leaves)

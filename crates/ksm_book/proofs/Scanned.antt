@@ -1,5 +1,5 @@
 -- What the parts of a scan come to: the end of a pass, listed pages in the stead of those ahead, visits up to a page, and whole passes.
-use Rattle.ksm_book.proofs.Names.{[], after_cursor, Ahead, All, AllPairs-filter, and_parts, ap, append-nil, AreAscending, AreListed, arith, At, begun, BookState, Bool, both_ways, cases_lt, comes_before, cond_both, drop, drop_more, End, EndsAt, eqb-true, false, filter, filter_all, filter_passes, from_to, get_or, get_or_from_slice_get, GuestPage, has_item, inl, InPageOrder, inr, is_none, is_nowhere, is_some, IsBeside, IsStill, last_of, last_visited, length, length-take-le, List, mergeable_pages, min, next_row, None, not, Option, option_map, pages_ahead, pages_visited, pass_begun, pass_ended, pass_ended_at_last, refl, restless_at, Row, slice_get, slice_get_within, Some, subst, suc, sym, take, take-append-drop, true, true≢false, up_to, visit_begun, visits_beside, with_none_waiting, ℕ, ◌&&◌, ◌*◌, ◌++◌, ◌+◌, ◌-◌, ◌<◌, ◌^◌, ◌∙◌, ◌∷◌, ◌≡◌, ◌≤◌, ◌⊎◌, if◌then◌else◌, nat_tests}
+use Rattle.ksm_book.proofs.Names.{[], after_cursor, Ahead, All, AllPairs-filter, and_parts, ap, append-nil, AreAscending, AreListed, arith, At, begun, BookState, Bool, cases_lt, comes_before, drop, drop_more, End, EndsAt, false, filter, filter_all, filter_passes, from_to, get_or, get_or_from_slice_get, GuestPage, has_item, inl, InPageOrder, inr, is_none, is_nowhere, is_some, IsBeside, IsStill, last_of, last_visited, length, length-take-le, List, mergeable_pages, min, next_row, None, not, Option, option_map, pages_ahead, pages_visited, pass_begun, pass_ended, pass_ended_at_last, refl, restless_at, Row, slice_get, slice_get_within, Some, subst, suc, sym, take, take-append-drop, true, true≢false, up_to, visit_begun, visits_beside, with_none_waiting, ℕ, ◌&&◌, ◌*◌, ◌++◌, ◌+◌, ◌-◌, ◌<◌, ◌^◌, ◌∙◌, ◌∷◌, ◌≡◌, ◌≤◌, ◌⊎◌, if◌then◌else◌, nat_tests}
 use Rattle.ksm_book.proofs.PagesAhead.{Before, GoesDown, between_at, between_is, has_filter, last_of_take, place_of, place_splits}
 use Rattle.ksm_book.proofs.Going.{Goes, begun_goes, settled_goes}
 use Rattle.ksm_book.proofs.Folded.{ascending_ahead, begun_folded, beside_on, every_page, next_first, none_next, pages_alike, pages_go, pass_goes_on, repeats, same_restless, visits_folded}
@@ -11,12 +11,12 @@ none_nowhere : (pages : List GuestPage) (most : ℕ) (ahead : Ahead) → EndsAt 
 none_nowhere [] most (At page) comes = (λ is. refl, λ is. absurd (omega arith))
 none_nowhere [] most (End made) comes = (λ is. refl, λ is. rw comes.0)
 none_nowhere (page ∷ pages) most (At last) comes = (λ is. absurd (true≢false (sym is)), λ is. cc)
-none_nowhere (page ∷ pages) most (End made) comes = (λ is. let none = eqb-true made 0 is in absurd (omega arith), λ is. cc)
+none_nowhere (page ∷ pages) most (End made) comes = grind (arith, nat_tests, comes)
 
 -- a pass that has gone through all pages ends
 pub pass_over : (b : BookState) (most : ℕ) (ahead : Ahead) → EndsAt (pages_ahead b) most ahead → is_nowhere ahead ≡ true
     → is_some b.cursor ≡ true → pass_ended b ≡ pass_ended_at_last b
-pass_over b most ahead comes nowhere under_way = grind (arith, nat_tests, comes, nowhere, under_way, none_next, none_nowhere)
+pass_over b most ahead comes nowhere under_way = grind (arith, nat_tests, none_next, none_nowhere)
 
 -- a pass with a page ahead, or one that has not begun, does not end
 pub pass_stays : (b : BookState) (most : ℕ) (ahead : Ahead) → EndsAt (pages_ahead b) most ahead
@@ -26,14 +26,14 @@ pass_stays b most ahead comes (inl some) = by _ refl
   where
     by : (l : List GuestPage) → pages_ahead b ≡ l → b ≡ pass_ended_at_last b
     by (page ∷ more) is = sym (pass_goes_on b _ _ is)
-    by [] is = absurd (both_ways (is_nowhere ahead) some ((none_nowhere _ _ _ comes).1 is))
+    by [] is = grind (arith, nat_tests, is, none_nowhere)
 
 settled_ahead : (b : BookState) → pages_ahead (with_none_waiting b) ≡ pages_ahead b
 settled_ahead b = ap (filter (after_cursor b.cursor)) (settled_goes b.rows).mergeable
 
 -- as a pass begins the pages ahead are the same
 pub begun_ahead : (b : BookState) → pages_ahead (pass_begun b) ≡ pages_ahead b
-begun_ahead b = cond_both (is_none b.cursor) (with_none_waiting b) b (λ c. pages_ahead c ≡ pages_ahead b) (λ _. settled_ahead b) (λ _. refl)
+begun_ahead b = grind (arith, nat_tests, settled_ahead b)
 
 -- a visit begins a pass, that of a state with no cursor; or it goes on with the pages ahead
 abbrev Begins : BookState → BookState → Type 0
@@ -55,14 +55,11 @@ begins b = by _ refl (next_row b.cursor b.rows) refl
 
 -- the pages ahead as a pass begins
 begins_ahead : (b new : BookState) → Begins b new → pages_ahead (visit_begun b) ≡ mergeable_pages b.rows
-begins_ahead b new (none, rows, is) = grind (arith, nat_tests, settled_ahead new, every_page new.rows)
+begins_ahead b new (none, rows, is) = grind (arith, settled_ahead new, every_page new.rows)
 
 -- where there is a page to visit, one is ahead once a visit begins
 pub some_ahead : (b : BookState) → 1 ≤ length (mergeable_pages b.rows) → 1 ≤ length (pages_ahead (visit_begun b))
-some_ahead b some = elim (begins b) [
-  | inl (new, fresh) ↦ rw (begins_ahead b new fresh) some
-  | inr (at, stays, ahead) ↦ rw stays ahead
-]
+some_ahead b some = grind (arith, nat_tests, some, begins b, begins_ahead)
 
 -- ---------------------------------------------------------------- listed pages
 
@@ -81,9 +78,7 @@ module _ (t : GuestPage → Bool) (down : GoesDown t) (pages : List GuestPage) (
     (low : first ≡ length (filter (λ p. not (after_cursor told p)) pages)) (at : told ≡ b.cursor)
     (high : end ≡ length (filter t pages)) where
   part_is : from_to first end pages ≡ filter (λ p. after_cursor b.cursor p && t p) pages
-  part_is =
-      (λ i. from_to ((low ∙ ap (λ o. length (filter (λ p. not (after_cursor o p)) pages)) at) i) (high i) pages)
-      ∙ between_is t down _ _ listed.0
+  part_is = grind (arith, nat_tests, between_is)
 
   -- visits of the listed pages from first up to end come to the same as those of the pages ahead that pass the test
   pub part_visited : {X : Type 0} (step : BookState → X → Row → X) (s : BookState × X) → b ≡ s.0
@@ -171,10 +166,9 @@ module _ {X : Type 0} (step : BookState → X → Row → X) (beside : IsBeside 
     | inr (at, stays, more) ↦ absurd (true≢false (sym at ∙ ap (λ (c : BookState). is_some c.cursor) (sym stays) ∙ ap is_some none))
     | inl (new, fresh) ↦
         let all = begins_ahead s.0 new fresh ∙ ap mergeable_pages (sym fresh.1) in
-        let n : BookState × X = (new, s.1) in
         let whole : after (filter (up_to None) ahead) ≡ pages_visited step (with_none_waiting new, s.1) (mergeable_pages new.rows) =
         ap after (filter_all (up_to None) ahead (λ k d lt. refl)) ∙ (λ t. pages_visited step (fresh.2 t, s.1) (all t)) in
-        let again = repeats _ beside n (subst InPageOrder (sym fresh.1) rise) (rw fresh.1 some)
+        let again = repeats _ beside (new, s.1) (subst InPageOrder (sym fresh.1) rise) (rw fresh.1 some)
         (subst (λ (z : (BookState × X) × (BookState × X)). IsStill z.0 z.1) (λ t. ((fresh.2 t, s.1), whole t)) still) times in
         (λ t. (record (pass_ended (whole t).0) { passes = min ((pass_ended (whole t).0).passes + times) (2 ^ 64 - 1) }, (whole t).1))
         ∙ sym again

@@ -8,11 +8,11 @@ use Rattle.ksm_book.proofs.Made.{none_made, parts_made, step_made}
 use Rattle.ksm_book.proofs.Withdrawn.{withdrawn}
 
 merged_as : (s : PageState) → merged_state s ≡ true → (n : ℕ) × (s ≡ Merged n)
-merged_as s e = grind (arith, nat_tests)
+merged_as s e = grind arith
 
 -- the state of an item of a dup is Merged with the dup's number
 pub state_of_item : (n : ℕ) (s : PageState) → merged_into n s ≡ true → s ≡ Merged n
-state_of_item n s e = grind (arith, nat_tests)
+state_of_item n s e = grind arith
 
 -- where a test counts one element at least, a search for it finds one
 pub first_found : {X : Type 0} (t : X → Bool) (xs : List X) → 1 ≤ count_by t xs → (x : X) × (find t xs ≡ Some x)
@@ -139,12 +139,12 @@ laid_cleared {p} {k} w place h inside e is = record {
 below_elsewhere : (place : ℕ) (ds : List DupRow) → filter (λ d. nat_lt d.place place) (filter (elsewhere place) ds) ≡ filter
     (λ d. nat_lt d.place place) ds
 below_elsewhere place [] = refl
-below_elsewhere place (d ∷ ds) = grind (arith, nat_tests, below_elsewhere place ds)
+below_elsewhere place (d ∷ ds) = grind (arith, below_elsewhere place ds)
 
 above_elsewhere : (place : ℕ) (ds : List DupRow) → filter (λ d. nat_lt place d.place) (filter (elsewhere place) ds) ≡ filter
     (λ d. nat_lt place d.place) ds
 above_elsewhere place [] = refl
-above_elsewhere place (d ∷ ds) = grind (arith, nat_tests, above_elsewhere place ds)
+above_elsewhere place (d ∷ ds) = grind (arith, above_elsewhere place ds)
 
 product_most : (a b m n : ℕ) → a ≤ m → b ≤ n → a * b ≤ m * n
 product_most a b m n le le' = grind arith
@@ -171,7 +171,7 @@ pub settled_lodges : (r : Row) → LodgesAs (settled r) r
 settled_lodges r = (refl, refl, by _)
   where
     by : (s : PageState) → (settled_state s ≡ s) ⊎ ((shared_state s ≡ false) × (shared_state (settled_state s) ≡ false))
-    by s = grind (arith, nat_tests)
+    by s = grind arith
 
 -- a new dup stands on the frame of a row, which is its first item
 module _ {p : PagesView} {k : KeeperView} (h : IsLaid p k) (rise : InPageOrder p.rows) (page : GuestPage) (row : Row) (f : ℕ)
@@ -217,7 +217,6 @@ module _ {p : PagesView} {k : KeeperView} (h : IsLaid p k) (rise : InPageOrder p
       → IsLaid (record p { rows = change_row page c p.rows; dups = with_dup d p.dups; next = p.next + 1; restless = restless }) w
   laid_found c w1 w restless keeps state same clears is bytes tree numbers fresh =
       let empty = cleared_ledger w1 h d.place inside vacant clears in
-      let table = ap (λ (z : KeeperView). z.table) clears.after in
       let q : Placed sh p.knobs.merge_across_nodes cleared p.rows p.frame
       (filter (elsewhere d.place) p.dups) None = withdrawn d.place
       inside h.placed in
@@ -236,7 +235,7 @@ module _ {p : PagesView} {k : KeeperView} (h : IsLaid p k) (rise : InPageOrder p
       let now : spent w.ledger ≡ spent (with_frame k.ledger f stable) = ap spent ledger in
       record {
         small = h.small;
-        same = rw (is, table) h.same;
+        same = rw (is, ap (λ (z : KeeperView). z.table) clears.after) h.same;
         placed = subst (λ (z : Ledger × List DupRow). Placed sh p.knobs.merge_across_nodes z.0 (change_row page c p.rows) p.frame z.1 None)
             (λ t. (sym ledger t, below_elsewhere d.place p.dups t ++ d ∷ above_elsewhere d.place p.dups t)) shown;
         spent = (let s = h.spent in let given = fits.given in omega arith);
@@ -244,4 +243,4 @@ module _ {p : PagesView} {k : KeeperView} (h : IsLaid p k) (rise : InPageOrder p
 
 -- where pages merge on their nodes alone, a row's tree is its home
 pub tree_is_home : (knobs : Knobs) (r : Row) → knobs.merge_across_nodes ≡ 0 → r.home ≡ tree_of knobs r
-tree_is_home knobs r none = let e : (knobs.merge_across_nodes == 1) ≡ false = grind (arith, nat_tests) in grind arith
+tree_is_home knobs r none = grind (arith, nat_tests, none)

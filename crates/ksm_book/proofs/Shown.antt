@@ -1,5 +1,5 @@
 -- The frames that steps give, and what the log shows of a frame that was not found, of one in use, and of a dup that moved.
-use Rattle.ksm_book.proofs.Names.{[], Add, append-nil, Fault, GuestPage, NoFrame, Resettles, ResettlesEach, UnmergesTo, ap, append_cancel_left, arith, blank, Bool, cases_Bool, cond, Contains, Contains-append_right, Contains-push, count_in, Allocates, did, AllocatesOn, dup_frame, DupRow, Dying, dying_kind, dying_on, false, FindsHeld, FindsNone, frame_at, Free, free_kind, Freeze, frozen, get_or, get_or-range_with_len, get_or-set_other, given_by, Gives, HasLost, HasMoved, inl, inr, IsLowestFree, item_count, KeeperStep, KeeperView, leaving, Ledger, ledger_after, length, length-append, length-range_with_len, List, loads, Log, MakesSteps, map, Mapped, Moves, nat_tests, None, NoneLeft, Note, Open, Option, Provides, Publish, puts, Raise, Reap, reaped, refl, replicate, Retired, Row, set, Shape, Some, Stable, stepped, steps_of, subst, suc, sym, true, with_frame, Withdraw, zero, ℕ, ◌*◌, ◌++◌, ◌+◌, ◌-◌, ◌<◌, ◌==◌, ◌∙◌, ◌∷◌, ◌≡◌, ◌≢◌, ◌≤◌, drop}
+use Rattle.ksm_book.proofs.Names.{[], Add, append-nil, Fault, GuestPage, NoFrame, Resettles, ResettlesEach, UnmergesTo, ap, append_cancel_left, arith, blank, Bool, cases_Bool, cond, Contains, Contains-append_right, Contains-push, count_in, Allocates, did, AllocatesOn, dup_frame, DupRow, Dying, dying_kind, dying_on, false, FindsHeld, FindsNone, frame_at, Free, free_kind, Freeze, frozen, get_or, get_or-range_with_len, get_or-set_other, given_by, Gives, HasLost, HasMoved, inl, inr, IsLowestFree, item_count, KeeperStep, KeeperView, leaving, Ledger, ledger_after, length, length-append, length-range_with_len, List, loads, Log, MakesSteps, map, Mapped, Moves, None, NoneLeft, Note, Open, Option, Provides, Publish, puts, Raise, Reap, reaped, refl, replicate, Retired, Row, set, Shape, Some, Stable, stepped, steps_of, subst, suc, sym, true, with_frame, Withdraw, zero, ℕ, ◌*◌, ◌++◌, ◌+◌, ◌-◌, ◌<◌, ◌==◌, ◌∙◌, ◌∷◌, ◌≡◌, ◌≢◌, ◌≤◌, drop}
 use Rattle.ksm_book.proofs.Keeping.{set_holds}
 use Rattle.ksm_book.proofs.Made.{chained, stepped_then, first_made, made_none, made_then, none_made, step_made}
 use Rattle.ksm_base.proofs.Changes.{contains_filter}
@@ -59,19 +59,19 @@ part_did v w part is quiet = record {
 
 -- steps that give no frame gave none by the part of the log in which they were made
 pub quiet_did : {v w : KeeperView} {steps : List KeeperStep} (m : MakesSteps v w steps) → GivesNone steps → Allocates v w [] m.part
-quiet_did {v} {w} {steps} m quiet = part_did v w _ m.after (subst GivesNone (sym m.are) quiet)
+quiet_did {v} {w} m quiet = part_did v w _ m.after (subst GivesNone (sym m.are) quiet)
 
 -- a keeper that made steps that give no frame gave none
 pub quiet_does : {v w : KeeperView} {steps : List KeeperStep} → MakesSteps v w steps → GivesNone steps → AllocatesOn v w []
-quiet_does {v} {w} {steps} m quiet = (m.part, quiet_did m quiet)
+quiet_does m quiet = (m.part, quiet_did m quiet)
 
 -- frames given on some nodes and then on others were given on the nodes of both, in order
 pub does_then : {u v w : KeeperView} {ms ns : List ℕ} → AllocatesOn u v ms → AllocatesOn v w ns → AllocatesOn u w (ms ++ ns)
-does_then {u} {v} {w} {ms} {ns} a b = (a.0 ++ b.0, chained a.1 b.1)
+does_then a b = (a.0 ++ b.0, chained a.1 b.1)
 
 -- the lowest free frame of a node was raised, and no other was given
 pub raised_does : {v w : KeeperView} {g node : ℕ} {steps : List KeeperStep} → IsLowestFree v.table.shape v.ledger node g → MakesSteps v w (Raise g ∷ steps) → GivesNone steps → AllocatesOn v w (node ∷ [])
-raised_does {v} {w} {g} {node} {steps} lowest m quiet =
+raised_does {v} {g = g} {node} lowest m quiet =
     let first = first_made m in
     let r = did v (Raise g) first.0 in
     let one : Allocates v r (node ∷ []) ((Raise g, first.0) ∷ []) = record { table = refl; log = refl; ledger = refl; gives = (lowest, refl) } in
@@ -79,11 +79,11 @@ raised_does {v} {w} {g} {node} {steps} lowest m quiet =
 
 -- a keeper that reaped the dying frames of a node gave no frame
 pub searched_does : {v w : KeeperView} (node : ℕ) → MakesSteps v w (map Reap (dying_on v.table.shape v.ledger node)) → AllocatesOn v w []
-searched_does {v} {w} node m = quiet_does m (quiet_reaps _)
+searched_does node m = quiet_does m (quiet_reaps _)
 
 -- a keeper that provided a frame with bytes gave one frame, on the node asked for
 pub provides_does : {v w : KeeperView} {node : ℕ} {bytes : List ℕ} {g : ℕ} → Provides v w node bytes g → AllocatesOn v w (node ∷ [])
-provides_does {v} {w} {node} {bytes} {g} h =
+provides_does {node = node} {bytes} {g} h =
     let u = h.searched in
     let searched = searched_does _ h.finds.reaped in
     let lowest = subst (λ (t : _). IsLowestFree t.shape u.ledger node g) (sym searched.1.table) h.finds.lowest in
@@ -92,7 +92,7 @@ provides_does {v} {w} {node} {bytes} {g} h =
 
 -- a page that was resettled was given one frame, on the node asked for
 pub resettles_does : {v w : Mapped} {page : GuestPage} {node : ℕ} {bytes : List ℕ} → Resettles v w page node bytes → AllocatesOn v.keeper w.keeper (node ∷ [])
-resettles_does {v} {page = page} h = does_then (provides_does h.provides) (quiet_does h.leaves (quiet_leaving _))
+resettles_does h = does_then (provides_does h.provides) (quiet_does h.leaves (quiet_leaving _))
 
 -- and the keeper is of the same table
 pub resettles_own : {v w : Mapped} {page : GuestPage} {node : ℕ} {bytes : List ℕ} → Resettles v w page node bytes → w.keeper.table ≡ v.keeper.table
@@ -106,7 +106,7 @@ each_does (r ∷ rows) v w h = does_then (resettles_does h.1) (each_does rows h.
 -- ---------------------------------------------------------------- what the log shows
 
 not_dying : (c : Bool) → ¬ (cond c Retired Free ≡ Dying)
-not_dying c e = grind (arith, nat_tests)
+not_dying c e = grind arith
 
 -- a note that was put at a frame is there, if the keeper knows the frame
 set_here : (P : Note → Type 0) (xs : List Note) (i : ℕ) (y : Note) → P y → P blank → P (get_or (set xs i y) i blank)
@@ -196,7 +196,7 @@ lost v w rows dup node h =
     by : (k : Ledger) (f n : ℕ) (b : Bool) → b ≡ (n == (frame_at k f).base) → (frame_at (cond b (with_frame k f (frozen (frame_at k f))) k) f).kind ≡ Stable
         → n ≢ (frame_at (cond b (with_frame k f (frozen (frame_at k f))) k) f).base
     by k f n true e stable = absurd (set_here (λ x. ¬ (x.kind ≡ Stable)) k.frames f (frozen (frame_at k f)) (λ is. grind arith) (λ is. grind arith) stable)
-    by k f n false e stable = λ same. grind (arith, nat_tests)
+    by k f n false e stable = λ same. grind arith
 
 -- the lowest free frame of a node is so still where a stable one begins to die
 lowest_still : (sh : Shape) (k : Ledger) (node f g : ℕ) (b : Bool) → IsLowestFree sh k node g → (frame_at k f).kind ≡ Stable → IsLowestFree sh (cond b (with_frame k f (frozen (frame_at k f))) k) node g

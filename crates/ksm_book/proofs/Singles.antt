@@ -1,5 +1,5 @@
 -- The commands on single pages, carried out.
-use Rattle.ksm_book.proofs.Names.{[], All, Answer, ap, arith, BookValue, BookView, Bool, IsCarried, change_row, comes_before, Command, cond_both, Done, Drop, Err, false, filter, FindsNone, frame_at, frame_number, frame_on, Frames, frames_of, fresh_row, get_or, GuestPage, Houses, IfErr, IfSome, InPageOrder, is_some, IsAlone, IsLaid, IsReadable, IsServed, IsSound, IsWritable, KeeperView, leaving, length, lies_on, List, lying, MakesSteps, MatchBool, May, moved, MovePage, nat_le, nat_tests, NoFrame, None, not, Ok, on_its_own, Option, ordered_with, PAGE_WORDS, PagesView, Performs, Placed, Provides, puts, refl, Register, Resettled, Resettles, Result, rewriting, Row, row_at, same_page, same_page_refl, shared_state, Some, sound_after, state_of, stepped, steps_of, Store, stored, Sub, subst, sym, true, view_of, with_row, without_page, ℕ, ◌++◌, ◌<◌, ◌==◌, ◌∙◌, ◌∷◌, ◌≡◌, map_fixed, without_between, pages_ordered, absent_parts, find_put, filter_passes, cond, if◌then◌else◌, Held, IsHeld, HasNewFrame}
+use Rattle.ksm_book.proofs.Names.{[], All, Answer, ap, arith, BookValue, BookView, Bool, IsCarried, change_row, comes_before, Command, cond_both, Done, Drop, Err, false, filter, FindsNone, frame_at, frame_number, frame_on, Frames, frames_of, fresh_row, GuestPage, Houses, IfErr, IfSome, InPageOrder, is_some, IsAlone, IsLaid, IsReadable, IsServed, IsSound, IsWritable, KeeperView, leaving, length, lies_on, List, lying, MakesSteps, MatchBool, May, moved, MovePage, nat_le, nat_tests, NoFrame, None, not, Ok, on_its_own, Option, ordered_with, PAGE_WORDS, PagesView, Performs, Placed, Provides, puts, refl, Register, Resettled, Resettles, Result, rewriting, Row, row_at, same_page, same_page_refl, shared_state, Some, sound_after, state_of, stepped, steps_of, Store, stored, Sub, subst, sym, true, view_of, with_row, without_page, ℕ, ◌++◌, ◌<◌, ◌==◌, ◌∙◌, ◌∷◌, ◌≡◌, map_fixed, without_between, pages_ordered, absent_parts, find_put, filter_passes, cond, if◌then◌else◌, Held, IsHeld, HasNewFrame}
 use Rattle.std.proofs.lemmas.Bool.{eq-eqb}
 use Rattle.ksm_base.specs.declared.row.PageState.TheVariants.{Private}
 use Rattle.ksm_book.proofs.ByPage.{at_changed, change_twice, found_page, lies_again, lies_still, row_of_page}
@@ -24,11 +24,11 @@ sound_carried {v} {w} {command} {answer} s h = subst IsSound (sym h.state) (soun
 
 -- a command carried out from one book value was carried out from an equal one, and so was an equal command
 pub carried_so : {old now : BookValue} {w : BookView} {by given : Command} {answer : Answer} → old ≡ now → by ≡ given → IsCarried (view_of old) w by answer → IsCarried (view_of now) w given answer
-carried_so {old} {now} {w} {by} {given} {answer} same told h = subst (λ (z : BookValue × Command). IsCarried (view_of z.0) w z.1 answer) (λ t. (same t, told t)) h
+carried_so {w = w} {answer = answer} same told h = subst (λ (z : BookValue × Command). IsCarried (view_of z.0) w z.1 answer) (λ t. (same t, told t)) h
 
 -- the row of a page is found by the page that was told of it
 pub row_held : {p : PagesView} {page : GuestPage} {held : Held} (h : IsHeld p page held) → row_at held.spot.page p.rows ≡ Some h.row
-row_held {p} h = rw h.spot h.found
+row_held h = rw h.spot h.found
 
 -- ---------------------------------------------------------------- a page with another frame
 
@@ -128,12 +128,11 @@ module _ (p : PagesView) (k l : KeeperView) (cursor : Option GuestPage) (passes 
 
 -- a change that leaves the rows of a page as they are changes nothing
 pub change_still : (page : GuestPage) (f : Row → Row) (rows : List Row) → All (λ r. same_page r.page page ≡ true → f r ≡ r) rows → change_row page f rows ≡ rows
-change_still page f rows still = map_fixed _ _
-    (λ i d lt. let r = get_or rows i d in cond_both _ (f r) r (λ x. x ≡ r) (still i d lt) (λ _. refl))
+change_still page f rows still = grind (arith, nat_tests, still, map_fixed)
 
 -- a node that is there is not told as none
 pub there_is : (nodes node : ℕ) → node < nodes → nat_le nodes node ≡ false
-there_is nodes node less = grind (arith, nat_tests, less)
+there_is nodes node less = grind (arith, less)
 
 module _ (p : PagesView) (k : KeeperView) (cursor : Option GuestPage) (passes : ℕ) (page : GuestPage) (node : ℕ) (row : Row) (rise : InPageOrder p.rows) (found : row_at page p.rows ≡ Some row) (less : node < p.shape.nodes) where
   there : nat_le p.shape.nodes node ≡ false
@@ -261,7 +260,7 @@ module _ {p m : PagesView} {page : GuestPage} {node : ℕ} {bytes : List ℕ} (n
   -- `Register` is refused, and all lies lawfully, where no frame of the node was left and the page went again
   pub register_turned : {k l : KeeperView} (h : IsLaid p k) (cursor : Option GuestPage) (passes : ℕ) (q : PagesView) → p.frame page ≡ None → q ≡ record m { rows = without_page page m.rows; frame = lies_on page None m.frame; restless = q.restless } → FindsNone k l node
       → Carries p k q l cursor passes (Register page node bytes) (Err (NoFrame node))
-  register_turned {k = k} {l = l} h cursor passes q nowhere_there goes searched =
+  register_turned {l = l} h cursor passes q nowhere_there goes searched =
       let turns = turned h new.less searched in
       let table = ap (λ (z : KeeperView). z.table) searched.reaped.after in
       let rows = without_come _ _ new.rise new.absent in

@@ -47,7 +47,7 @@ module _ {sh : Shape} {across : ℕ} {k : Ledger} {rows : List Row} {frame : Fra
   -- two dups with items on one frame have one number
   one_number : (n m : ℕ) (d : DupRow) → n < length dups → m < length dups → Lives k dups sh rows frame (get_or dups n d) → Lives k dups sh rows frame (get_or dups m d)
       → place_frame k (get_or dups n d).place ≡ place_frame k (get_or dups m d).place → (get_or dups m d).number ≡ (get_or dups n d).number
-  one_number n m d lt lt' a b same = grind (arith, nat_tests, lt, lt', a, b, same, state_of_item)
+  one_number n m d lt lt' a b same = grind (arith, nat_tests, state_of_item)
 
   -- the frames of dups with items differ, and none of them is a page's own
   module _ (rise : InPlaceOrder dups) where
@@ -57,7 +57,7 @@ module _ {sh : Shape} {across : ℕ} {k : Ledger} {rows : List Row} {frame : Fra
     frames_apart n m d before lt a b same =
         let other = (rise n m d before lt).1 in
         let one = one_number n m d (omega arith) lt a b same in
-        absurd (grind (arith, nat_tests))
+        absurd (grind arith)
 
 -- from p on there are at most as many places taken as dups
 pub empty_from_most : (p : ℕ) (dups : List DupRow) → empty_from p dups ≤ p + length dups

@@ -3,19 +3,19 @@ use Rattle.ksm_book.proofs.Names.{[], ap, append-nil, arith, Bool, Dying, dying_
 
 -- a kind that tests as dying is Dying
 pub is_dying_kind : (x : Kind) → dying_kind x ≡ true → x ≡ Dying
-is_dying_kind x e = grind (arith, nat_tests)
+is_dying_kind x e = grind arith
 
 -- one frame more is looked at
 range_more : (low n : ℕ) → range_with_len low (n + 1) ≡ range_with_len low n ++ (low + n) ∷ []
-range_more low zero = ap (λ f. f ∷ []) (let e : low ≡ low + 0 = omega arith in e)
-range_more low (suc n) = grind (arith, nat_tests, range_more (low + 1) n)
+range_more low zero = grind (arith, nat_tests)
+range_more low (suc n) = grind (arith, range_more (low + 1) n)
 
 module _ (k : Ledger) (low : ℕ) where
   abbrev dies : ℕ → Bool
   dies f = dying_kind (frame_at k f).kind
 
   dying_more : (n : ℕ) (b : Bool) → dies (low + n) ≡ b → dying_from k low (n + 1) ≡ dying_from k low n ++ (if b then (low + n) ∷ [] else [])
-  dying_more n b is = grind (arith, nat_tests, is, range_more low n, filter-append dies (range_with_len low n) ((low + n) ∷ []))
+  dying_more n b is = grind (arith, nat_tests, range_more low n, filter-append dies (range_with_len low n) ((low + n) ∷ []))
 
   dying_past : (n m : ℕ) → ((f : ℕ) → low + n ≤ f → f < low + n + m → dies f ≡ false) → dying_from k low (n + m) ≡ dying_from k low n
   dying_past n zero none = ap (dying_from k low) (omega arith)
@@ -38,8 +38,7 @@ module _ (k : Ledger) (low : ℕ) where
     pub next_reaped : (to : ℕ) → from ≤ to → NoneOf dying_kind k' from to → dying_kind (frame_at k' to).kind ≡ true
         → dying_from k low (to + 1 - low) ≡ dying_from k low (from - low) ++ to ∷ []
     next_reaped to further none there =
-        let e : to + 1 - low ≡ to - low + 1 = omega arith in
         let at : low + (to - low) ≡ to = omega arith in
-        ap (dying_from k low) e
+        ap (dying_from k low) (omega arith)
         ∙ dying_more _ true (ap dies at ∙ ap (λ (x : Note). dying_kind x.kind) (sym (later to further)) ∙ there)
         ∙ (λ i. passed to further none i ++ at i ∷ [])

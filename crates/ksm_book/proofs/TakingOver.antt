@@ -1,7 +1,7 @@
 -- A page waits in the stead of one further on: what becomes of the book, and which pages are due then.
-use Rattle.ksm_book.proofs.Names.{All, and_from, ap, AreDue, arith, before_differs, BookState, BookValue, both_ways, cases_Bool, change_row, change_rows, Comes, comes_before, comes_later, cond_both, Deed, doing, due_visited, each_at_page, false, find_all, find_passes, get_or, GuestPage, has_item, hidden_from, idle, inl, inr, is_restless, IsAlone, IsSound, List, map_alike, map_mapped, MatchOption, not, not_both, or_cases, page_visited, PageState, partner, Reached, refl, Row, row_at, same_page, same_page_eq, same_page_refl, same_page_sym, settled, shared_state, Some, StaysBefore, subst, sym, taken_over, takes_over, TakesOverFrom, true, view_of, waiting_state, waits_for, WaitsFor, waits_tells, ◌&&◌, ◌∙◌, ◌∷◌, ◌≡◌, ◌||◌, if◌then◌else◌, nat_tests}
+use Rattle.ksm_book.proofs.Names.{All, and_from, ap, AreDue, arith, before_differs, BookState, BookValue, both_ways, cases_Bool, change_row, change_rows, Comes, comes_before, cond_both, Deed, doing, due_visited, each_at_page, false, find_all, find_passes, get_or, GuestPage, has_item, hidden_from, idle, inl, inr, is_restless, IsAlone, IsSound, List, map_alike, map_mapped, MatchOption, not, not_both, or_cases, page_visited, PageState, partner, Reached, refl, Row, row_at, same_page, same_page_eq, same_page_refl, same_page_sym, settled, shared_state, Some, StaysBefore, subst, sym, taken_over, takes_over, TakesOverFrom, true, view_of, waiting_state, waits_for, WaitsFor, waits_tells, ◌&&◌, ◌∙◌, ◌∷◌, ◌≡◌, ◌||◌, if◌then◌else◌, nat_tests}
 use Rattle.ksm_book.proofs.ByPage.{found_page, row_of_page}
-use Rattle.ksm_book.proofs.DueAlike.{freed_found, one_waits, settled_once, taken_is, takes_tells}
+use Rattle.ksm_book.proofs.DueAlike.{freed_found, one_waits, settled_once, taken_is}
 use Rattle.ksm_book.proofs.DueKept.{more_due, taken_due}
 use Rattle.ksm_book.proofs.Reached.{comes_to}
 use Rattle.ksm_book.proofs.RowVisits.{filled_by}
@@ -38,7 +38,7 @@ takes_from b page other sound told =
 
 -- a row that waits has a frame of its own
 waits_alone : (state : PageState) → waiting_state state ≡ true → shared_state state ≡ false
-waits_alone state is = grind (arith, nat_tests, is)
+waits_alone state is = grind (arith, is)
 
 module _ {b : BookState} {page other : GuestPage} (at : Takes b page other) where
   page_is : at.row.page ≡ page
@@ -62,8 +62,7 @@ module _ {b : BookState} {page other : GuestPage} (at : Takes b page other) wher
   other_alone = rw waits_at (waits_alone _ tells.state)
 
   later : comes_before page other ≡ true
-  later = (λ t. comes_before (sym page_is t) (at.is t)) ∙ sym (ap (comes_later at.row.page) at.waits)
-      ∙ (takes_tells b at.row at.takes).further
+  later = grind (arith, nat_tests, page_is)
 
   -- the rows of the other page are those that wait for the row
   agree : All (λ r. same_page r.page other ≡ waits_for b.knobs at.row r) b.rows
@@ -77,16 +76,16 @@ module _ {b : BookState} {page other : GuestPage} (at : Takes b page other) wher
   ]
 
   freed_rows : change_row other settled b.rows ≡ change_rows (waits_for b.knobs at.row) settled b.rows
-  freed_rows = map_alike _ _ _ (λ k d lt. let r = get_or b.rows k d in rw (agree k d lt))
+  freed_rows = grind (arith, nat_tests, map_alike, agree)
 
   -- the visit of the page, as one that is due, has its row wait in the stead of the other one
   due_is : (deed : Deed) → due_visited doing (b, deed) page ≡ (taken_over b at.row, deed)
-  due_is deed = grind (arith, nat_tests, and_from)
+  due_is deed = grind (arith, and_from)
 
   -- so does the visit of the definitions once the other one waits no more
   then_is : (deed : Deed)
       → page_visited doing (record b { rows = change_row other settled b.rows }, deed) page ≡ (taken_over b at.row, deed)
-  then_is deed = grind (arith, nat_tests, page_is, freed_rows, freed_found, taken_is)
+  then_is deed = grind (arith, page_is, freed_rows, freed_found, taken_is)
 
 -- the other row waits no more
 abbrev pub once_freed : GuestPage → BookState × Deed → BookState × Deed
@@ -111,12 +110,10 @@ module _ (v m w : BookValue) {page other : GuestPage} (at : Takes v.state page o
       hides r = if not (comes_before r.page page) then settled r else r
 
       behind : (r : Row) → same_page r.page other ≡ true → not (comes_before r.page page) ≡ true
-      behind r same = ap (λ p. not (comes_before p page)) (same_page_eq _ _ same) ∙ ap not (not_both _ other (later at))
+      behind r same = grind (arith, nat_tests, same, later at, same_page_eq, not_both)
 
       again : (r : Row) → same_page r.page other ≡ true → hides (settled r) ≡ hides r
-      again r same =
-          ap (λ z. if z then settled (settled r) else settled r) (behind r same) ∙ settled_once r
-          ∙ sym (rw (behind r same))
+      again r same = grind (arith, nat_tests, same, behind r same, settled_once r)
 
       still : (rows : List Row)
           → change_rows (λ r. not (comes_before r.page page)) settled (change_row other settled rows)
@@ -129,16 +126,13 @@ module _ (v m w : BookValue) {page other : GuestPage} (at : Takes v.state page o
       (added : (p : GuestPage) → has_item p more ≡ (same_page other p || has_item p old))
       (gone : (p : GuestPage) → has_item p new ≡ (has_item p more && not (same_page page p))) where
     kept : (p : GuestPage) → has_item p old ≡ true → has_item p (page ∷ new) ≡ true
-    kept p is = let one = added p in let two = gone p in grind (arith, is)
+    kept p is = grind (arith, nat_tests, is, is)
 
     same_kept : (p : GuestPage) → same_page other p ≡ true → has_item p new ≡ true
-    same_kept p same = grind (arith, nat_tests, same, same_page_sym page other, before_differs page other (later at), same_page_eq)
+    same_kept p same = grind (arith, nat_tests, same_page_sym page other, before_differs page other (later at), same_page_eq)
 
     other_kept : (p : GuestPage) → has_item p (at.waiter.page ∷ new) ≡ true → has_item p new ≡ true
-    other_kept p is = elim (or_cases _ _ is) [
-      | inl same ↦ same_kept p (rw at.is same)
-      | inr among ↦ among
-    ]
+    other_kept p is = grind (arith, nat_tests, is, or_cases, same_kept)
 
     -- the other page is due then, and the first one no longer
     pub taken_leaves : Comes m w (λ s. page_visited doing s page) → AreDue v.state old → AreDue w.state new

@@ -24,20 +24,20 @@ stay_in_scan test (r ∷ rows) all = by _ refl (stay_in_scan test rows)
 
     by : (m : Bool) → r.mergeable ≡ m → (mergeable_count rows ≡ length rows → rows ≡ change_rows test (λ s. record s { mergeable = true }) rows)
         → r ∷ rows ≡ change_rows test (λ s. record s { mergeable = true }) (r ∷ rows)
-    by true is rest = grind (arith, nat_tests, is, rest, sum)
-    by false is rest = let few = count_by-le-length (λ s. s.mergeable) rows in absurd (omega (arith, sum, ap one_if is, few))
+    by true is rest = grind (arith, nat_tests, sum)
+    by false is rest = absurd (omega (arith, sum, ap one_if is, count_by-le-length (λ s. s.mergeable) rows))
 
 -- a row that is left keeps its page
 pub page_left : (guest : Option ℕ) (r : Row) → (left_by guest r).page ≡ r.page
-page_left guest r = grind (arith, nat_tests)
+page_left guest r = grind arith
 
 -- a guest's is let go
 guest_left : (guest : Option ℕ) → is_some guest ≡ true → left_by guest ≡ let_go
-guest_left guest some = grind (arith, nat_tests)
+guest_left guest some = grind arith
 
 -- where no guest is told, any is left alike
 any_left : (guest : Option ℕ) → is_some guest ≡ false → left_by guest ≡ left_by None
-any_left guest some = grind (arith, nat_tests)
+any_left guest some = grind arith
 
 -- ---------------------------------------------------------------- one page
 
@@ -167,7 +167,7 @@ pub record IsUnsharing (p q : PagesView) (k l : KeeperView) (guest : Option ℕ)
 -- rows that were unshared, to the last or up to a stop, are in the frames of the same table
 pub unshares_own : {p q : PagesView} {k l : KeeperView} {guest : Option ℕ} {count : ℕ} {stop : Option Fault} → Unshares p q k l guest count stop
     → l.table ≡ k.table
-unshares_own {p} {q} {k} {l} {guest} {count} {stop} u = unmerges_own _ _ _ _ u.unmerges
+unshares_own u = unmerges_own _ _ _ _ u.unmerges
 
 module _ {p q : PagesView} {k l : KeeperView} {guest : Option ℕ} {count : ℕ} {last : Option GuestPage}
     (u : IsUnsharing p q k l guest count last) (rise : InPageOrder p.rows) where
@@ -190,7 +190,7 @@ module _ {p q : PagesView} {k l : KeeperView} {guest : Option ℕ} {count : ℕ}
 
     -- the next page is at home on a node that is there
     pub unsharing_home : {held : Held} → IsHeld q page held → All (λ x. x.home < p.shape.nodes) p.rows → held.home < q.shape.nodes
-    unsharing_home {held} h homes =
+    unsharing_home h homes =
         let fits = λ (x : Row). x.home < p.shape.nodes in
         let here = Contains-append_right cut.before _ r (0, omega arith, refl) in
         let at = subst fits here.2 (subst (All fits) cut.whole homes here.0 r here.1) in
@@ -200,7 +200,7 @@ module _ {p q : PagesView} {k l : KeeperView} {guest : Option ℕ} {count : ℕ}
     -- once the next page was left too, so many pages more got frames of their own, up to that page
     pub unsharing_next : {v : PagesView} {w : KeeperView} {given : ℕ} → HasLeft q v l w guest page given → FitsPage (Some page)
         → IsUnsharing p v k w guest (count + given) (Some page)
-    unsharing_next {v} {w} {given} h fits =
+    unsharing_next {v} h fits =
         let e = same_Some _ r (sym h.found ∙ cut.there) in
         let rows = ap (λ (x : PagesView). x.rows) h.pages in
         let more = filter-append (is_shared_of guest) cut.before (r ∷ [])

@@ -1,5 +1,5 @@
 -- The commands on all pages of a guest, or on all there are, carried out.
-use Rattle.ksm_book.proofs.Names.{All, All-map, and-true, ap, arith, BookState, IsCarried, change_rows, cond_both, Done, Err, every_row, false, Fault, find, get_or, GuestPage, has_guest, Held, inl, inr, is_before, is_next, is_of, is_some, IsHeld, IsLaid, IsStop, IsUnmerged, KeeperView, Knobs, left_by, List, list_any, map, MatchOption, Mergeable, NoFrame, None, of_guest, Ok, Option, option_map, PagesView, refl, Row, SetRun, shared_rows, shared_state, slice_get, slice_get_past, Some, state_of, subst, sym, true, UnknownPage, Unmerge, Unmerged, unshare_stopped, unshared, Unshares, ℕ, ◌&&◌, ◌∙◌, ◌≡◌, none_of, any_found, map_alike, map_mapped, nat_tests}
+use Rattle.ksm_book.proofs.Names.{All, All-map, and-true, ap, arith, BookState, IsCarried, change_rows, cond_both, Done, Err, every_row, false, Fault, find, get_or, GuestPage, has_guest, Held, inl, inr, is_before, is_next, is_of, is_some, IsHeld, IsLaid, IsStop, IsUnmerged, KeeperView, Knobs, left_by, List, list_any, map, MatchOption, Mergeable, NoFrame, None, of_guest, Ok, Option, option_map, PagesView, refl, Row, SetRun, shared_rows, shared_state, slice_get, slice_get_past, Some, state_of, subst, sym, true, UnknownPage, Unmerge, Unmerged, unshare_stopped, unshared, Unshares, ℕ, ◌&&◌, ◌∙◌, ◌≡◌, none_of, any_found, map_alike, map_mapped}
 use Rattle.ksm_book.proofs.Laying.{LodgesAs, laid_mapped, retuned}
 use Rattle.ksm_book.proofs.Singles.{book}
 use Rattle.ksm_book.proofs.Unmerged.{in_scan, unshares_own}
@@ -26,7 +26,7 @@ pub has_told : (p : PagesView) (guest : ℕ) (o : Option Held) → IsTold p gues
 has_told p guest o told = any_found (is_of guest) p.rows ∙ (λ i. is_some (find (λ r. sym (and-true (is_of guest r)) i) p.rows)) ∙ by o told
   where
     by : (o : Option Held) → IsTold p guest o → is_some (find (is_next (Some guest) None) p.rows) ≡ is_some o
-    by o none = grind (arith, nat_tests)
+    by o none = grind arith
 
 -- `Unmerge` of a guest without a row is refused, and nothing changes
 pub unmerge_refused : (p : PagesView) (k : KeeperView) (cursor : Option GuestPage) (passes guest : ℕ)
@@ -159,4 +159,4 @@ module _ {p m : PagesView} {k l : KeeperView} (cursor : Option GuestPage) (passe
       where
         by : (s : Option Fault) → is_some s ≡ false
             → record b { rows = map unshared b.rows; cursor = None; knobs = record b.knobs { run = 2 } } ≡ unshare_stopped s count b
-        by s some = grind (arith, nat_tests)
+        by s some = grind arith

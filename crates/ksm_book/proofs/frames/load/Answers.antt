@@ -7,8 +7,7 @@ loop-i-preserved c =
     let v = c.args.keeper.now in
     let w = c.loop-i.keeper in
     let i = c.loop-i.i in
-    let words = (frame_at v.ledger c.args.frame).content in
-    let lt : i < length words = omega arith in
+    let lt : i < length (frame_at v.ledger c.args.frame).content = omega arith in
     let found = c.word.ensures.content ∙ ap (λ k. slice_index (frame_at k c.args.frame).content i) c.loop-i.invariant.ledger in
     record {
       loaded = along_one _ v w _ i _ lt c.loop-i.invariant.loaded (c.word.ensures.step ∙ ap (did w (Word c.args.frame i)) found);

@@ -17,9 +17,7 @@ invariant_of-self c = subst AreAscending (sym c.remove.ensures) (taken_rises _ _
 
 pub returns-clause-gone : goal.returns-clause-gone
 returns-clause-gone c = λ other.
-    let s = c.self.inside in
     let ready = ap (λ (d : DueView). d.ready) c.self.view_is ∙ c.requires.ready in
     ap (has_item other) (none_added _ _ _ ready) ∙ ap (λ order. has_item other (pages_in order)) c.remove.ensures
-    ∙ has_taken c.args.page s.order other
-    ∙ ap (λ l. has_item other l && not (same_page c.args.page other))
+    ∙ has_taken c.args.page c.self.inside.order other ∙ ap (λ l. has_item other l && not (same_page c.args.page other))
     (rw (← c.self.view_is) (sym (none_added _ _ _ ready)))

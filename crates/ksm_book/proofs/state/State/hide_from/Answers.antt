@@ -6,9 +6,8 @@ use Rattle.ksm_book.proofs.state.State.hide_from.Goals.{then-not-held+then-not-c
 
 pub pages-smaller : goal.pages-smaller
 pages-smaller c =
-    let page = c.in-Some.held.spot.page in
     let far = further None _ _ _ c.pages.invariant.fits c.in-Some.ensures.1 in
-    let end = not_far (Some page) (search rules, search rules) in
+    let end = not_far (Some c.in-Some.held.spot.page) (search rules, search rules) in
     omega arith
 
 pub pages-preserved : goal.pages-preserved

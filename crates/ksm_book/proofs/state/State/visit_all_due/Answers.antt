@@ -1,5 +1,3 @@
-use Rattle.ksm_book.proofs.Names.{Some}
-use Rattle.ksm_book.proofs.Along.{FitsPage}
 use Rattle.ksm_book.proofs.DuePasses.{less_room}
 use Rattle.ksm_book.proofs.DueSteps.{all_come, next_comes, next_stops, none_passed}
 use Rattle.std.proofs.Common.{rules, refl, ◌∙◌}
@@ -9,9 +7,7 @@ pub loop-spot-init : goal.loop-spot-init
 loop-spot-init c = (none_passed c.args.self.now, c.requires.due, c.requires.ready, refl, refl)
 
 pub loop-spot-smaller : goal.loop-spot-smaller
-loop-spot-smaller c =
-    let fits : FitsPage (Some c.in-Some.spot.page) = (search rules, search rules) in
-    less_room _ _ fits c.in-Some.ensures.1
+loop-spot-smaller c = less_room _ _ (search rules, search rules) c.in-Some.ensures.1
 
 pub loop-spot-preserved : goal.loop-spot-preserved
 loop-spot-preserved c = (
