@@ -1,7 +1,7 @@
 -- Rows that are changed one after another, in the order of their pages: those of a guest, or all, up to a cursor.
-use Rattle.ksm_book.proofs.Names.{[], after_cursor, after_differs, All, All-append, All-cons, All-head, All-map, All-tail, AllPairs, and-true, and_parts, and_right, ap, append-nil, arith, before_differs, before_irrefl, Bool, cases_Bool, change_none, change_row, change_rows, comes_before, cond_both, false, filter, filter-append, filter_none, find, find_none, find_passes, get_or, GuestPage, inl, InPageOrder, inr, is_before, is_next, List, map, map-append, nat_tests, None, not_both, of_guest, Option, option_map, pairs_cross, pairs_head, pairs_tail, refl, Row, row_at, same_page, same_page_refl, Some, subst, sym, true, ℕ, ⊤, ◌&&◌, ◌*◌, ◌++◌, ◌+◌, ◌<◌, ◌∙◌, ◌∷◌, ◌≡◌, ◌≤◌, find-append, option_or, find_nothing, map_alike, if◌then◌else◌}
+use Rattle.ksm_book.proofs.Names.{[], after_cursor, after_differs, All, All-append, All-cons, All-head, All-map, All-tail, AllPairs, and-true, and_parts, and_right, ap, append-nil, arith, before_differs, before_irrefl, Bool, cases_Bool, change_none, change_row, change_rows, comes_before, false, filter, filter-append, filter_none, find, find_none, find_passes, get_or, GuestPage, inl, InPageOrder, inr, is_before, is_next, List, map, map-append, nat_tests, None, not_both, Option, option_map, pairs_cross, pairs_head, pairs_tail, Row, row_at, same_page, same_page_refl, Some, subst, sym, true, ℕ, ⊤, ◌&&◌, ◌*◌, ◌++◌, ◌+◌, ◌<◌, ◌∙◌, ◌∷◌, ◌≡◌, ◌≤◌, find-append, option_or, find_nothing, map_alike, if◌then◌else◌}
 use Rattle.std.proofs.lemmas.List.{append_assoc}
-use Rattle.ksm_book.proofs.ByPage.{mapped_from}
+use Rattle.ksm_pages.proofs.Options.{mapped_some}
 
 -- what no element of the first list passes is searched in the second alone
 find_apart : {X : Type 0} (t : X → Bool) (xs ys : List X) → All (λ x. t x ≡ false) xs → find t (xs ++ ys) ≡ find t ys
@@ -10,22 +10,22 @@ find_apart t xs ys none = find-append t xs ys ∙ ap (λ o. option_or o (find t 
 -- a list in which an element is found is cut there, by any test that agrees
 find_cut : {X : Type 0} (s t : X → Bool) (xs : List X) (r : X) → All (λ x. s x ≡ t x) xs → find s xs ≡ Some r
     → (passed : List X) × (rest : List X) × (xs ≡ passed ++ r ∷ rest) × (t r ≡ true) × All (λ x. t x ≡ false) passed
-find_cut s t [] r agree found = absurd (grind (arith, found))
+find_cut s t [] r agree found = absurd (grind arith)
 find_cut s t (x ∷ xs) r agree found =
     let same = All-head (λ y. s y ≡ t y) x xs agree in
     elim (cases_Bool (s x)) [
       | inl here ↦
-          let is : x ≡ r = grind (arith, here, found) in
-          ([], xs, ap (λ y. y ∷ xs) is, subst (λ y. t y ≡ true) is (sym same ∙ here), λ k d lt. absurd (omega (arith, lt)))
+          let is : x ≡ r = grind arith in
+          ([], xs, rw is, rw (← is) (sym same ∙ here), λ k d lt. absurd (omega arith))
       | inr other ↦
-          let more = find_cut s t xs r (All-tail (λ y. s y ≡ t y) x xs agree) (grind (arith, other, found)) in
-          (x ∷ more.0, more.1, ap (λ l. x ∷ l) more.2, more.3, All-cons (λ y. t y ≡ false) x more.0 (sym same ∙ other) more.4)
+          let more = find_cut s t xs r (All-tail (λ y. s y ≡ t y) x xs agree) (grind arith) in
+          (x ∷ more.0, more.1, ap (λ l. x ∷ l) more.2, more.3, All-cons (λ y. t y ≡ false) x _ (sym same ∙ other) more.4)
     ]
 
 -- where all pairs of two lists in a row are related, so are those of the second
 pairs_right : {X : Type 0} (R : X → X → Type 0) (xs ys : List X) → AllPairs R (xs ++ ys) → AllPairs R ys
 pairs_right R [] ys pairs = pairs
-pairs_right R (x ∷ xs) ys pairs = pairs_right R xs ys (pairs_tail R x (xs ++ ys) pairs)
+pairs_right R (x ∷ xs) ys pairs = pairs_right R xs ys (pairs_tail R x _ pairs)
 
 -- rows cut at the cursor: in the part done each row asked for is changed, and the part left is as it was
 pub record IsAlong (asked : Row → Bool) (f : Row → Row) (rows now : List Row) (last : Option GuestPage) (done left : List Row) :
@@ -69,30 +69,30 @@ module _ {asked : Row → Bool} (f : Row → Row) (keeps : (r : Row) → (f r).p
   changed r = if asked r then f r else r
 
   page_kept : (r : Row) → (changed r).page ≡ r.page
-  page_kept r = cond_both (asked r) (f r) r (λ x. x.page ≡ r.page) (λ _. keeps r) (λ _. refl)
+  page_kept r = grind (arith, nat_tests)
 
   -- the next is searched among those left
   among : find (next_of last) now ≡ find (next_of last) left
-  among = ap (find (next_of last)) a.are ∙ find_apart (next_of last) (map changed done) left
-      (All-map (λ r. next_of last r ≡ false) changed done (λ k d lt. let r = get_or done k d in
-      and_right (asked (changed r)) (after_cursor last (changed r).page) (ap (after_cursor last) (page_kept r) ∙ a.behind k d lt)))
+  among = ap (find (next_of last)) a.are ∙ find_apart _ _ _
+      (All-map (λ r. next_of last r ≡ false) _ _ (λ k d lt. let r = get_or done k d in
+      and_right (asked (changed r)) _ (ap (after_cursor last) (page_kept r) ∙ a.behind k d lt)))
 
   agree : All (λ r. next_of last r ≡ asked r) left
-  agree = λ k d lt. let r = get_or left k d in ap (λ b. asked r && b) (a.ahead k d lt) ∙ and-true (asked r)
+  agree = λ k d lt. grind (arith, nat_tests, lt)
 
   -- where no row asked for comes after the cursor, each row asked for is changed, and those left are not asked for
   pub along_end : find (next_of last) now ≡ None → (now ≡ change_rows asked f rows) × All (λ r. asked r ≡ false) left
   along_end ended =
-      let all = find_none (next_of last) left (sym among ∙ ended) in
+      let all = find_none _ _ (sym among ∙ ended) in
       let none : All (λ r. asked r ≡ false) left = λ k d lt. sym (agree k d lt) ∙ all k d lt in (
-        a.are ∙ ap (λ l. map changed done ++ l) (sym (change_none asked f left none)) ∙ sym (map-append changed done left)
+        a.are ∙ ap (λ l. map changed done ++ l) (sym (change_none _ f _ none)) ∙ sym (map-append changed done left)
             ∙ ap (map changed) (sym a.whole),
         none,
       )
 
   module _ (rise : InPageOrder rows) (r : Row) (found : find (next_of last) now ≡ Some r) where
     cut : (passed : List Row) × (rest : List Row) × (left ≡ passed ++ r ∷ rest) × (asked r ≡ true) × All (λ x. asked x ≡ false) passed
-    cut = find_cut (next_of last) asked left r agree (sym among ∙ found)
+    cut = find_cut _ asked _ r agree (sym among ∙ found)
 
     abbrev before : List Row
     before = done ++ cut.0
@@ -105,29 +105,28 @@ module _ {asked : Row → Bool} (f : Row → Row) (keeps : (r : Row) → (f r).p
 
     now_is : now ≡ map changed before ++ r ∷ rest
     now_is =
-        a.are ∙ ap (λ l. map changed done ++ l) (cut.2 ∙ ap (λ l. l ++ r ∷ rest) (sym (change_none asked f cut.0 cut.4)))
-        ∙ sym (append_assoc (map changed done) (map changed cut.0) (r ∷ rest))
-        ∙ ap (λ l. l ++ r ∷ rest) (sym (map-append changed done cut.0))
+        rw (map-append changed done cut.0)
+        (a.are ∙ ap (λ l. map changed done ++ l) (cut.2 ∙ ap (λ l. l ++ r ∷ rest) (sym (change_none _ f _ cut.4)))
+        ∙ sym (append_assoc (map changed done) (map changed cut.0) (r ∷ rest)))
 
     pairs : AllPairs (λ (x y : Row). comes_before x.page y.page ≡ true) (before ++ r ∷ rest)
     pairs = subst InPageOrder whole rise
 
     first : All (λ x. comes_before x.page r.page ≡ true) before
     first =
-        let all = pairs_cross (λ (x y : Row). comes_before x.page y.page ≡ true) before (r ∷ rest) pairs in
-        λ k d lt. all k d lt 0 r (omega arith)
+        λ k d lt. (pairs_cross (λ (x y : Row). comes_before x.page y.page ≡ true) _ _ pairs) k d lt 0 r (omega arith)
 
     behind : All (λ y. comes_before r.page y.page ≡ true) rest
-    behind = pairs_head (λ (x y : Row). comes_before x.page y.page ≡ true) r rest
+    behind = pairs_head (λ (x y : Row). comes_before x.page y.page ≡ true) r _
         (pairs_right (λ (x y : Row). comes_before x.page y.page ≡ true) before (r ∷ rest) pairs)
 
     apart : All (λ x. same_page x.page r.page ≡ false) (map changed before)
-    apart = All-map (λ x. same_page x.page r.page ≡ false) changed before (λ k d lt.
-        let x = get_or before k d in ap (λ q. same_page q r.page) (page_kept x) ∙ after_differs x.page r.page (first k d lt))
+    apart = All-map (λ x. same_page x.page r.page ≡ false) _ _ (λ k d lt.
+        let x = get_or before k d in rw (page_kept x) (after_differs x.page r.page (first k d lt)))
 
     one_more : (xs : List Row) → map changed (xs ++ r ∷ []) ++ rest ≡ map changed xs ++ f r ∷ rest
-    one_more [] = ap (λ (b : Bool). (if b then f r else r) ∷ rest) cut.3
-    one_more (x ∷ xs) = ap (λ l. changed x ∷ l) (one_more xs)
+    one_more [] = rw cut.3
+    one_more (x ∷ xs) = rw (one_more xs)
 
     cut_there : IsCut asked f rows now done r.page
     cut_there = record {
@@ -136,34 +135,32 @@ module _ {asked : Row → Bool} (f : Row → Row) (keeps : (r : Row) → (f r).p
       rest = rest;
       whole = whole;
       met = λ t. let u = λ (x : Row). asked x && t x in
-          filter-append u done cut.0
-          ∙ ap (λ l. filter u done ++ l) (filter_none u cut.0 (λ k d lt. ap (λ b. b && t (get_or cut.0 k d)) (cut.4 k d lt)))
+          filter-append u _ _ ∙ ap (λ l. filter u done ++ l) (filter_none u _ (λ k d lt. rw (cut.4 k d lt)))
           ∙ append-nil (filter u done);
       of = cut.3;
-      there = ap (row_at r.page) now_is ∙ find_apart (λ x. same_page x.page r.page) (map changed before) (r ∷ rest) apart
+      there = ap (row_at r.page) now_is ∙ find_apart _ _ _ apart
           ∙ ap (λ (b : Bool). if b then Some r else row_at r.page rest) (same_page_refl r.page);
       next = record {
         whole = whole ∙ sym (append_assoc before (r ∷ []) rest);
         are =
-            let still = change_none (λ x. same_page x.page r.page) f (map changed before) apart in
-            let here : (if same_page r.page r.page then f r else r) ≡ f r =
-            ap (λ (b : Bool). if b then f r else r) (same_page_refl r.page) in
-            let later = change_none (λ x. same_page x.page r.page) f rest
+            let still = change_none _ f _ apart in
+            let here = ap (λ (b : Bool). if b then f r else r) (same_page_refl r.page) in
+            let later = change_none (λ x. same_page x.page r.page) f _
             (λ k d lt. before_differs r.page (get_or rest k d).page (behind k d lt)) in
             ap (change_row r.page f) now_is ∙ map-append (λ x. if same_page x.page r.page then f x else x) (map changed before) (r ∷ rest)
-            ∙ (λ t. still t ++ here t ∷ later t) ∙ sym (one_more before);
-        behind = All-append (λ x. comes_before r.page x.page ≡ false) before (r ∷ [])
+            ∙ (λ t. still t ++ here t ∷ later t) ∙ sym (one_more _);
+        behind = All-append (λ x. comes_before r.page x.page ≡ false) _ _
             (λ k d lt. not_both (get_or before k d).page r.page (first k d lt))
-            (All-cons (λ x. comes_before r.page x.page ≡ false) r [] (before_irrefl r.page) (λ k d lt. absurd (omega (arith, lt))));
+            (All-cons (λ x. comes_before r.page x.page ≡ false) r [] (before_irrefl r.page) (λ k d lt. absurd (omega arith)));
         ahead = behind;
       };
       stop =
           let test = λ (x : Row). asked x && comes_before x.page r.page in
-          let few = map_alike changed (λ x. if test x then f x else x) before (λ k d lt. let x = get_or before k d in
+          let few = map_alike _ _ _ (λ k d lt. let x = get_or before k d in
           λ i. if sym (ap (λ b. asked x && b) (first k d lt) ∙ and-true (asked x)) i then f x else x) in
-          let none = change_none test f (r ∷ rest) (All-cons (λ x. test x ≡ false) r rest
-          (and_right (asked r) (comes_before r.page r.page) (before_irrefl r.page)) (λ k d lt. let x = get_or rest k d in
-          and_right (asked x) (comes_before x.page r.page) (not_both r.page x.page (behind k d lt)))) in
+          let none = change_none test f _ (All-cons (λ x. test x ≡ false) r _
+          (and_right (asked r) _ (before_irrefl r.page)) (λ k d lt. let x = get_or rest k d in
+          and_right (asked x) _ (not_both r.page x.page (behind k d lt)))) in
           now_is ∙ (λ t. few t ++ sym none t) ∙ sym (map-append (λ x. if test x then f x else x) before (r ∷ rest))
           ∙ ap (change_rows test f) (sym whole);
     }
@@ -172,8 +169,8 @@ module _ {asked : Row → Bool} (f : Row → Row) (keeps : (r : Row) → (f r).p
   pub along_cut : InPageOrder rows → (page : GuestPage) → option_map (λ r. r.page) (find (next_of last) now) ≡ Some page
       → IsCut asked f rows now done page
   along_cut rise page told =
-      let at = mapped_from (λ (r : Row). r.page) (find (next_of last) now) page told in
-      subst (IsCut asked f rows now done) at.2 (cut_there rise at.0 at.1)
+      let at = mapped_some _ _ _ told in
+      subst (IsCut asked f rows now done) at.2 (cut_there rise _ at.1)
 
 -- ---------------------------------------------------------------- how far the cursor is
 
@@ -190,16 +187,8 @@ FitsPage (Some p) = (p.guest < 65536) × (p.page < 4294967296)
 -- the next page of a guest, or of all, after a cursor that fits has a greater position than the cursor
 pub further : (guest : Option ℕ) (last : Option GuestPage) (rows : List Row) (page : GuestPage) → FitsPage last
     → option_map (λ r. r.page) (find (is_next guest last) rows) ≡ Some page → position last < position (Some page)
-further guest last rows page fits told =
-    let at = mapped_from (λ (r : Row). r.page) (find (is_next guest last) rows) page told in
-    let passes = find_passes (is_next guest last) rows at.0 at.1 in
-    far last fits (ap (after_cursor last) (sym at.2) ∙ (and_parts (of_guest guest at.0) (after_cursor last at.0.page) passes).1)
-  where
-    far : (o : Option GuestPage) → FitsPage o → after_cursor o page ≡ true → position o < position (Some page)
-    far None fits after = omega arith
-    far (Some p) fits after = let fit = fits.1 in grind (arith, nat_tests, after, fit)
+further guest last rows page fits told = grind (arith, nat_tests, mapped_some, find_passes, and_parts)
 
 -- the position of a cursor that fits is 2^48 at most
 pub not_far : (last : Option GuestPage) → FitsPage last → position last ≤ 281474976710656
-not_far None fits = omega arith
-not_far (Some p) fits = (let guest = fits.0 in let page = fits.1 in omega (arith, guest, page))
+not_far last fits = grind arith

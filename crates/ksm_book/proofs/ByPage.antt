@@ -1,19 +1,9 @@
 -- Rows that change at one page: what becomes of what holds of each row, and of how many lie on a frame.
-use Rattle.ksm_book.proofs.Names.{All, All-map, ap, arith, Bool, both_ways, cases_Bool, change_row, cond, cond_both, count_with_row, count_without_page, counts_one, eq-eqb, eqb-true, false, filter_passes, find_all, find_none, find_passes, Frames, get_or, GuestPage, inl, InPageOrder, inr, is_frame, lies_on, List, map, ne_eqb, None, not, not-true, one_of_each_page, Option, refl, Row, row_at, same_page, same_page_eq, same_page_refl, Some, subst, sym, true, uses, with_row, without_page, ℕ, ◌+◌, ◌∙◌, ◌≡◌, ◌≢◌, ◌≤◌, ◌⊎◌, count_alike, count_mapped, map_mapped, find_changed, if◌then◌else◌, option_map, same_Some}
+use Rattle.ksm_book.proofs.Names.{All, All-map, ap, arith, Bool, change_row, cond, cond_both, count_with_row, count_without_page, counts_one, eq-eqb, false, filter_passes, find_all, find_none, find_passes, Frames, get_or, GuestPage, InPageOrder, is_frame, lies_on, List, map, None, not, not-true, one_of_each_page, Option, refl, Row, row_at, same_page, same_page_eq, same_page_refl, Some, subst, sym, true, uses, with_row, without_page, ℕ, ◌+◌, ◌∙◌, ◌≡◌, ◌≢◌, ◌≤◌, ◌⊎◌, count_alike, count_mapped, map_mapped, find_changed, if◌then◌else◌, nat_tests}
 
 -- frames that are equal at each page are equal
 pub same_frames : (f g : Frames) → ((page : GuestPage) → f page ≡ g page) → f ≡ g
 same_frames f g each = λ i page. each page i
-
--- where a map of an option is there, the option is, and the map made it of that
-pub mapped_from : {X Y : Type 0} (f : X → Y) (o : Option X) (y : Y) → option_map f o ≡ Some y → (x : X) × (o ≡ Some x) × (f x ≡ y)
-mapped_from f None y told = absurd (grind (arith, told))
-mapped_from f (Some x) y told = (x, refl, same_Some (f x) y told)
-
--- where a map of an option is empty, the option is
-pub none_mapped : {X Y : Type 0} (f : X → Y) (o : Option X) → option_map f o ≡ None → o ≡ None
-none_mapped f None told = refl
-none_mapped f (Some x) told = absurd (grind (arith, told))
 
 -- ---------------------------------------------------------------- a frame
 
@@ -23,45 +13,40 @@ one_at f o = cond (is_frame f o) 1 0
 
 -- a page on the frame counts once for it
 pub one_same : (f : ℕ) (o : Option ℕ) → o ≡ Some f → one_at f o ≡ 1
-one_same f o e = ap (one_at f) e ∙ ap (λ (b : Bool). cond b 1 0) (eq-eqb f f refl)
+one_same f o e = grind (arith, nat_tests, e)
 
 -- a frame that passes the test for frame f is f
 pub is_that : (f : ℕ) (o : Option ℕ) → is_frame f o ≡ true → o ≡ Some f
-is_that f None here = absurd (grind (arith, here))
-is_that f (Some g) here = ap Some (eqb-true g f here)
+is_that f o here = grind arith
 
 is_it : (f : ℕ) (o : Option ℕ) → o ≡ Some f → is_frame f o ≡ true
 is_it f o e = ap (is_frame f) e ∙ eq-eqb f f refl
 
 -- another frame, or none, fails the test for frame f
 pub not_on : (f : ℕ) (o : Option ℕ) → o ≢ Some f → is_frame f o ≡ false
-not_on f None ne = refl
-not_on f (Some g) ne = ne_eqb g f (λ e. ne (ap Some e))
+not_on f o ne = grind arith
 
 -- a page that is not on the frame counts for nothing
 pub one_other : (f : ℕ) (o : Option ℕ) → o ≢ Some f → one_at f o ≡ 0
-one_other f o ne = ap (λ (b : Bool). cond b 1 0) (not_on f o ne)
+one_other f o ne = rw (not_on f o ne)
 
 -- a page is on the frame, or it is not
 pub frame_cases : (f : ℕ) (o : Option ℕ) → (o ≡ Some f) ⊎ (o ≢ Some f)
-frame_cases f o = elim (cases_Bool (is_frame f o)) [
-  | inl here ↦ inl (is_that f o here)
-  | inr there ↦ inr (λ e. both_ways (is_frame f o) there (is_it f o e))
-]
+frame_cases f o = grind arith
 
 -- ---------------------------------------------------------------- a page
 
 -- a page that comes to lie on a frame, or on none, lies there
 pub on_page : (page : GuestPage) (o : Option ℕ) (frame : Frames) (p : GuestPage) → same_page p page ≡ true → lies_on page o frame p ≡ o
-on_page page o frame p same = ap (λ (b : Bool). if b then o else frame p) same
+on_page page o frame p same = rw same
 
 -- where one page comes to lie on a frame, or on none, any other page lies where it lay
 pub off_page : (page : GuestPage) (o : Option ℕ) (frame : Frames) (p : GuestPage) → same_page p page ≡ false → lies_on page o frame p ≡ frame p
-off_page page o frame p other = ap (λ (b : Bool). if b then o else frame p) other
+off_page page o frame p other = rw other
 
 -- the row that is found at a page is of that page
 pub found_page : (page : GuestPage) (rows : List Row) (row : Row) → row_at page rows ≡ Some row → row.page ≡ page
-found_page page rows row found = same_page_eq row.page page (find_passes (λ r. same_page r.page page) rows row found)
+found_page page rows row found = same_page_eq _ _ (find_passes (λ r. same_page r.page page) rows row found)
 
 -- a page that comes to lie on a frame twice lies on the second
 pub lies_again : (page : GuestPage) (o n : Option ℕ) (frame : Frames) → lies_on page n (lies_on page o frame) ≡ lies_on page n frame
@@ -69,7 +54,7 @@ lies_again page o n frame = same_frames _ _ (λ p. grind arith)
 
 -- a page that lies where it lay changes nothing
 pub lies_still : (page : GuestPage) (o : Option ℕ) (frame : Frames) → frame page ≡ o → lies_on page o frame ≡ frame
-lies_still page o frame there = same_frames _ _ (λ p. let same = same_page_eq p page in grind (arith, same, there))
+lies_still page o frame there = same_frames _ _ (λ p. let same = same_page_eq p page in grind arith)
 
 -- ---------------------------------------------------------------- the rows
 
@@ -83,11 +68,10 @@ row_of_page page rows row rise found =
 pub all_changed_row : (P Q : Row → Type 0) (page : GuestPage) (c : Row → Row) (rows : List Row) (row : Row) → InPageOrder rows → row_at page rows ≡ Some row → All P rows
     → ((r : Row) → same_page r.page page ≡ false → P r → Q r) → (P row → Q (c row)) → All Q (change_row page c rows)
 all_changed_row P Q page c rows row rise found all others here =
-    let one = row_of_page page rows row rise found in
-    All-map Q (λ r. if same_page r.page page then c r else r) rows (λ i d lt.
+    let one = row_of_page _ _ row rise found in
+    All-map Q _ _ (λ i d lt.
     let r = get_or rows i d in
-    cond_both (same_page r.page page) (c r) r Q
-    (λ same. let is = one i d lt same in subst (λ s. P s → Q (c s)) (sym is) here (all i d lt))
+    cond_both _ (c r) r Q (λ same. subst (λ s. P s → Q (c s)) (sym (one i d lt same)) here (all i d lt))
     (λ other. others r other (all i d lt)))
 
 -- ---------------------------------------------------------------- how many lie on a frame
@@ -95,7 +79,7 @@ all_changed_row P Q page c rows row rise found all others here =
 -- as many rows lie on a frame once they are changed, each on its page
 pub uses_mapped : (f : ℕ) (frame : Frames) (c : Row → Row) (rows : List Row) → ((r : Row) → (c r).page ≡ r.page) → uses f frame (map c rows) ≡ uses f frame rows
 uses_mapped f frame c rows keeps = count_mapped c (λ r. is_frame f (frame r.page)) (λ r. is_frame f (frame r.page)) rows
-    (λ i d lt. ap (λ p. is_frame f (frame p)) (keeps (get_or rows i d)))
+    (λ i d lt. rw (keeps (get_or rows i d)))
 
 module _ (f : ℕ) (page : GuestPage) (o : Option ℕ) (frame : Frames) where
   abbrev old_test : Row → Bool
@@ -106,47 +90,47 @@ module _ (f : ℕ) (page : GuestPage) (o : Option ℕ) (frame : Frames) where
 
   -- where no row is of the page, as many lie on the frame as did
   apart_uses : (rows : List Row) → All (λ r. same_page r.page page ≡ false) rows → uses f (lies_on page o frame) rows ≡ uses f frame rows
-  apart_uses rows apart = count_alike new_test old_test rows (λ i d lt. ap (is_frame f) (off_page page o frame (get_or rows i d).page (apart i d lt)))
+  apart_uses rows apart = grind (arith, nat_tests, apart, count_alike, off_page)
 
   -- where the row of a page goes, one row less lies on the frame if the page lay there, else as many
   pub uses_gone : (rows : List Row) (row : Row) → InPageOrder rows → row_at page rows ≡ Some row → uses f (lies_on page o frame) (without_page page rows) + one_at f (frame page) ≡ uses f frame rows
   uses_gone rows row rise found =
       let rest = apart_uses (without_page page rows) (λ i d lt. not-true _ (filter_passes (λ r. not (same_page r.page page)) rows i d lt)) in
       let own = ap (λ p. one_at f (frame p)) (found_page page rows row found) in
-      let gone = count_without_page old_test page rows row rise found in
-      omega (arith, rest, own, gone)
+      let gone = count_without_page old_test _ _ row rise found in
+      omega arith
 
   -- where a page comes to lie on another frame, one row less lies on the old frame and one more on the new one
   pub uses_changed : (c : Row → Row) (rows : List Row) (row : Row) → InPageOrder rows → row_at page rows ≡ Some row → ((r : Row) → (c r).page ≡ r.page)
       → uses f (lies_on page o frame) (change_row page c rows) + one_at f (frame page) ≡ uses f frame rows + one_at f o
   uses_changed c rows row rise found keeps =
       let same = uses_mapped f (lies_on page o frame) (λ r. if same_page r.page page then c r else r) rows (λ r. cond_both (same_page r.page page) (c r) r (λ s. s.page ≡ r.page) (λ _. keeps r) (λ _. refl)) in
-      let new = count_without_page new_test page rows row rise found in
-      let at = ap (λ p. one_at f (lies_on page o frame p)) (found_page page rows row found) ∙ ap (one_at f) (on_page page o frame page (same_page_refl page)) in
-      let gone = uses_gone rows row rise found in
-      omega (arith, same, new, at, gone)
+      let new = count_without_page new_test _ _ row rise found in
+      let at = ap (λ p. one_at f (lies_on page o frame p)) (found_page _ rows row found) ∙ ap (one_at f) (on_page page o frame page (same_page_refl page)) in
+      let gone = uses_gone _ row rise found in
+      omega arith
 
 -- where a row comes at a page that had none, one row more lies on the frame if it comes there, else as many
 pub uses_come : (f : ℕ) (o : Option ℕ) (frame : Frames) (row : Row) (rows : List Row) → row_at row.page rows ≡ None
     → uses f (lies_on row.page o frame) (with_row row rows) ≡ uses f frame rows + one_at f o
 uses_come f o frame row rows absent =
-    let rest = apart_uses f row.page o frame rows (find_none (λ r. same_page r.page row.page) rows absent) in
-    let come = count_with_row (new_test f row.page o frame) row rows absent in
-    let at = ap (one_at f) (on_page row.page o frame row.page (same_page_refl row.page)) in
-    omega (arith, rest, come, at)
+    grind (
+      arith,
+      nat_tests,
+      apart_uses f row.page o frame rows (find_none (λ r. same_page r.page row.page) rows absent),
+      on_page row.page o frame row.page (same_page_refl row.page),
+      count_with_row,
+    )
 
 -- a frame on which a row lies is used
 pub uses_some : (f : ℕ) (frame : Frames) (rows : List Row) → All (λ r. frame r.page ≡ Some f → 1 ≤ uses f frame rows) rows
-uses_some f frame rows = λ i d lt e. counts_one (λ r. is_frame f (frame r.page)) rows i d lt (is_it f _ e)
+uses_some f frame rows = λ i d lt e. counts_one _ _ i d lt (is_it f _ e)
 
 -- a change of a page's row, and then another, are one change where the second makes the same of both
 pub change_twice : (page : GuestPage) (c d e : Row → Row) (rows : List Row) → ((r : Row) → (c r).page ≡ r.page) → All (λ r. same_page r.page page ≡ true → d (c r) ≡ e r) rows
     → change_row page d (change_row page c rows) ≡ change_row page e rows
-change_twice page c d e rows keeps same =
-    map_mapped (λ r. if same_page r.page page then d r else r) (λ r. if same_page r.page page then c r else r)
-    (λ r. if same_page r.page page then e r else r) rows
-    (λ i x lt. let k = keeps (get_or rows i x) in let s = same i x lt in grind (arith, k, s))
+change_twice page c d e rows keeps same = grind (arith, nat_tests, keeps, same, map_mapped)
 
 -- where the row of a page changes, the changed row is found at the page
 pub at_changed : (page : GuestPage) (c : Row → Row) (rows : List Row) (row : Row) → ((r : Row) → (c r).page ≡ r.page) → row_at page rows ≡ Some row → row_at page (change_row page c rows) ≡ Some (c row)
-at_changed page c rows row keeps found = find_changed (λ (r : Row). r.page) page c keeps rows row found
+at_changed page c rows row keeps found = find_changed _ page c keeps _ row found

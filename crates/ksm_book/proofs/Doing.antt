@@ -1,5 +1,5 @@
 -- What visits do to the frames is done beside: nothing by the visit of a shared row, and the same wherever the cursor stands.
-use Rattle.ksm_book.proofs.Names.{ap, append-nil, best_dup, BookState, Deed, doing, DupRow, emptying, Frames, GuestPage, handling, idle, is_for_zero, IsBeside, next_row, next_visited, None, Option, pairing, partner, refl, Row, scanning, shared_state, Some, suc, sym, then_doing, visit_begun, visiting, visiting_of, visits_beside, zero, ℕ, ◌∙◌, ◌≡◌, if◌then◌else◌}
+use Rattle.ksm_book.proofs.Names.{ap, append-nil, best_dup, BookState, Deed, doing, DupRow, Frames, GuestPage, handling, idle, IsBeside, next_visited, None, Option, pairing, refl, Row, scanning, shared_state, Some, suc, sym, then_doing, visit_begun, visiting, visiting_of, visits_beside, zero, ℕ, ◌∙◌, ◌≡◌, if◌then◌else◌, arith}
 use Rattle.ksm_book.proofs.Going.{elsewhere}
 use Rattle.ksm_book.proofs.Folded.{beside_state}
 
@@ -9,21 +9,15 @@ then_idle deed = λ t. record { steps = append-nil deed.steps t; frame = deed.fr
 
 module _ (b : BookState) (frame : Frames) (row : Row) (cursor : Option GuestPage) (passes : ℕ) where
   pairing_alike : (w : Option Row) → pairing w (elsewhere cursor passes b) frame row ≡ pairing w b frame row
-  pairing_alike (Some w) = refl
-  pairing_alike None = refl
+  pairing_alike w = grind arith
 
   handling_alike : (d : Option DupRow) → handling d (elsewhere cursor passes b) frame row ≡ handling d b frame row
-  handling_alike (Some d) = refl
-  handling_alike None =
-      λ t. if row.unchanged then (if is_for_zero b.knobs row then emptying frame row.page else pairing_alike
-      (partner b.knobs b.rows row) t) else idle frame
+  handling_alike d = grind arith
 
 -- what visits do to the frames is nothing at a shared row, and the same wherever the cursor stands
 pub doing_beside : IsBeside doing
 doing_beside = record {
-  shared = λ b deed row is. ap
-      (λ z. then_doing deed (if z then idle deed.frame else handling (best_dup b.knobs b.rows b.dups row) b deed.frame row)) is
-      ∙ then_idle deed;
+  shared = λ b deed row is. rw is (then_idle _);
   alike = λ b deed row cursor passes. ap (then_doing deed) (λ t. if shared_state row.state then idle deed.frame
       else handling_alike b deed.frame row cursor passes (best_dup b.knobs b.rows b.dups row) t);
 }
@@ -35,9 +29,8 @@ scanning_is (suc n) b frame =
     let s = visits_beside doing n (b, idle frame) in
     let c = visit_begun s.0 in
     let so_far = scanning_is n b frame in
-    (λ t. then_doing (so_far t) (visiting (sym (beside_state doing n (b, idle frame)) t) (so_far t).frame))
-    ∙ by c s.1 (next_row c.cursor c.rows)
+    (λ t. then_doing (so_far t) (visiting (sym (beside_state doing n (b, idle frame)) t) (so_far t).frame)) ∙ by c s.1 _
   where
     by : (c : BookState) (deed : Deed) (o : Option Row) → then_doing deed (visiting_of c deed.frame o) ≡ (next_visited doing (c, deed) o).1
-    by c deed None = then_idle deed
+    by c deed None = then_idle _
     by c deed (Some row) = refl

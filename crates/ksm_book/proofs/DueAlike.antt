@@ -1,5 +1,5 @@
 -- Visits of pages do what those of the definitions do, where the rows further on that still wait are hidden from these.
-use Rattle.ksm_book.proofs.Names.{[], All, All-cons, All-head, All-map, and_parts, ap, append_assoc, AreAscending, arith, before_irrefl, best_dup, BookState, Bool, bytes_eq, cases_Bool, change_row, change_rows, comes_before, comes_later, cond_both, count_mapped, Deed, doing, due_row_visited, due_visited, due_visits, dup_frame, DupRow, each_at_page, empty_from, emptying, false, filter, filter-append, filter_all, filter_none, find, find_all, find_mapped, find_none, find_nothing, find_passes, founding, frame_found, frame_on, Frames, get_or, GuestPage, handled, handling, has_item, hidden, idle, if◌then◌else◌, inl, inr, is_for_zero, is_no_rival, is_none, is_restless, IsSound, item_count, joining, Knobs, List, list_all, map_alike, map_mapped, may_join, mergeable_pages, Merged, merged_into, nat_le, nat_lt, new_place, None, not, not-true, not_both, Option, option_map, page, page_visited, pages_visited, PageState, paired, pairing, pairs_cross, pairs_head, pairs_tail, partner, place_count, place_or, private_state, refl, restless_at, restless_row, Row, row_at, row_visited, row_visiting, same_page, same_page_eq, same_page_refl, same_page_sym, seen, settled, settled_calmer, settled_state, shared_state, Some, sound_changed, sound_row_visited, stayed, staying, subst, sym, taken_over, takes_over, tells_waits, then_doing, tree_of, true, true≢false, visited, Waiting, waiting_not_private, waiting_state, waits_for, waits_tells, with_dup, with_none_waiting, Zero, ℕ, ◌&&◌, ◌++◌, ◌+◌, ◌==◌, ◌||◌, ◌∙◌, ◌∷◌, ◌≡◌}
+use Rattle.ksm_book.proofs.Names.{[], All, All-cons, All-head, All-map, and_parts, ap, append_assoc, AreAscending, arith, before_irrefl, best_dup, BookState, Bool, bytes_eq, cases_Bool, change_row, change_rows, comes_before, comes_later, cond_both, count_mapped, Deed, doing, due_row_visited, due_visited, due_visits, dup_frame, DupRow, each_at_page, empty_from, emptying, false, filter, filter-append, filter_all, filter_none, find, find_all, find_mapped, find_none, find_nothing, find_passes, founding, Frames, get_or, GuestPage, handled, handling, has_item, hidden, if◌then◌else◌, inl, inr, is_for_zero, is_no_rival, is_none, is_restless, IsSound, item_count, Knobs, List, list_all, map_alike, map_mapped, may_join, mergeable_pages, Merged, merged_into, nat_le, nat_lt, new_place, None, not, not-true, not_both, Option, option_map, page, page_visited, pages_visited, PageState, paired, pairing, pairs_cross, pairs_head, pairs_tail, partner, place_count, place_or, private_state, refl, restless_at, restless_row, Row, row_at, row_visited, same_page, same_page_eq, same_page_refl, same_page_sym, seen, settled, settled_calmer, settled_state, shared_state, Some, sound_changed, sound_row_visited, stayed, staying, subst, sym, taken_over, takes_over, tells_waits, then_doing, tree_of, true, true≢false, visited, Waiting, waiting_not_private, waiting_state, waits_for, waits_tells, with_dup, with_none_waiting, Zero, ℕ, ◌&&◌, ◌++◌, ◌+◌, ◌==◌, ◌||◌, ◌∙◌, ◌∷◌, ◌≡◌, nat_tests}
 use Rattle.ksm_base.specs.declared.row.PageState.TheVariants.{Private}
 use Rattle.ksm_book.proofs.ByPage.{found_page, row_of_page}
 use Rattle.ksm_book.proofs.Doing.{then_idle}
@@ -8,32 +8,22 @@ use Rattle.ksm_book.proofs.Going.{change_goes, Goes, goes_on, goes_same}
 use Rattle.ksm_book.proofs.PagesAhead.{Before, filter_out, has_filter}
 use Rattle.ksm_book.proofs.RowVisits.{stayed_is, visited_by}
 use Rattle.std.proofs.lemmas.List.{map-id}
+use Rattle.ksm_pages.proofs.Resting.{settled_again, settled_still}
 
 -- ---------------------------------------------------------------- rows that wait no more
 
 merged_still : (n : ℕ) (s : PageState) → merged_into n (settled_state s) ≡ merged_into n s
-merged_still n Waiting = refl
-merged_still n _ = refl
+merged_still n s = grind arith
 
 shared_still : (s : PageState) → shared_state (settled_state s) ≡ shared_state s
-shared_still Waiting = refl
-shared_still _ = refl
-
-waits_no_more : (s : PageState) → waiting_state (settled_state s) ≡ false
-waits_no_more Waiting = refl
-waits_no_more _ = refl
+shared_still s = grind arith
 
 settled_is : (s : PageState) → waiting_state s ≡ false → settled_state s ≡ s
-settled_is Waiting none = absurd (true≢false none)
-settled_is _ none = refl
-
-settled_again : (s : PageState) → settled_state (settled_state s) ≡ settled_state s
-settled_again Waiting = refl
-settled_again _ = refl
+settled_is s none = grind (arith, none)
 
 -- a row that does not wait stays as it is where it is to wait no more
 pub stays_settled : (r : Row) → waiting_state r.state ≡ false → settled r ≡ r
-stays_settled r none = λ t. record r { state = settled_is r.state none t }
+stays_settled r none = λ t. record r { state = settled_is _ none t }
 
 -- to settle a row twice is to settle it once
 pub settled_once : (r : Row) → settled (settled r) ≡ settled r
@@ -41,22 +31,19 @@ settled_once r = λ t. record r { state = settled_again r.state t }
 
 -- a row that waits no more waits for no row
 waits_not : (knobs : Knobs) (r x : Row) → waits_for knobs r (settled x) ≡ false
-waits_not knobs r x =
-    ap (λ z. z && not (same_page x.page r.page) && tree_of knobs x == tree_of knobs r && bytes_eq x.bytes r.bytes)
-    (waits_no_more x.state)
+waits_not knobs r x = rw (settled_still _)
 
 -- in a sound book a row that waits is mergeable
 pub waits_mergeable : (b : BookState) → IsSound b → All (λ r. waiting_state r.state ≡ true → r.mergeable ≡ true) b.rows
-waits_mergeable b s k d lt waits = s.mergeable k d lt (waiting_not_private (get_or b.rows k d).state waits)
+waits_mergeable b s k d lt waits = s.mergeable k d lt (waiting_not_private _ waits)
 
 -- each mergeable row is of one of the pages that scans visit
 pub mergeable_has : (rows : List Row) → All (λ r. r.mergeable ≡ true → has_item r.page (mergeable_pages rows) ≡ true) rows
 mergeable_has [] = λ k d lt. absurd (omega arith)
 mergeable_has (r ∷ rows) =
     let same = same_page_refl r.page in
-    All-cons (λ x. x.mergeable ≡ true → has_item x.page (mergeable_pages (r ∷ rows)) ≡ true) r rows
-    (λ is. grind (arith, is, same))
-    (λ k d lt is. let rest = mergeable_has rows k d lt is in grind (arith, rest))
+    All-cons (λ x. x.mergeable ≡ true → has_item x.page (mergeable_pages (r ∷ rows)) ≡ true) r rows (λ is. grind arith)
+    (λ k d lt is. let rest = mergeable_has rows k d lt is in grind arith)
 
 -- the row is of one of these pages
 abbrev is_among : List GuestPage → Row → Bool
@@ -68,20 +55,13 @@ calmed test r = if test r then settled r else r
 
 -- with the rows of all mergeable pages hidden none waits
 pub hidden_all : (b : BookState) → IsSound b → hidden (mergeable_pages b.rows) b ≡ with_none_waiting b
-hidden_all b s = λ t. record b { rows = map_alike (calmed (is_among pages)) settled b.rows each t }
+hidden_all b s = λ t. record b { rows = map_alike (calmed (is_among pages)) settled _ each t }
   where
     pages : List GuestPage
     pages = mergeable_pages b.rows
 
     each : All (λ r. calmed (is_among pages) r ≡ settled r) b.rows
-    each k d lt = let r = get_or b.rows k d in elim (cases_Bool (waiting_state r.state)) [
-      | inl waits ↦
-          let there = mergeable_has b.rows k d lt (waits_mergeable b s k d lt waits) in
-          ap (λ z. if z then settled r else r) there
-      | inr none ↦
-          let same = stays_settled r none in
-          cond_both (has_item r.page pages) (settled r) r (λ x. x ≡ settled r) (λ _. refl) (λ _. sym same)
-    ]
+    each k d lt = grind (arith, nat_tests, mergeable_has, waits_mergeable, stays_settled)
 
 -- with the rows of no page hidden the book is as it is
 pub hidden_none : (b : BookState) → hidden [] b ≡ b
@@ -91,17 +71,13 @@ hidden_none b = λ t. record b { rows = map-id b.rows t }
 
 module _ (test : Row → Bool) where
   calmed_page : (r : Row) → (calmed test r).page ≡ r.page
-  calmed_page r = cond_both (test r) (settled r) r (λ x. x.page ≡ r.page) (λ _. refl) (λ _. refl)
+  calmed_page r = grind (arith, nat_tests)
 
   calmed_merged : (n : ℕ) (r : Row) → merged_into n (calmed test r).state ≡ merged_into n r.state
-  calmed_merged n r =
-      cond_both (test r) (settled r) r (λ x. merged_into n x.state ≡ merged_into n r.state)
-      (λ _. merged_still n r.state) (λ _. refl)
+  calmed_merged n r = grind (arith, nat_tests, merged_still)
 
   calmed_restless : (r : Row) → is_restless (calmed test r) ≡ is_restless r
-  calmed_restless r =
-      cond_both (test r) (settled r) r (λ x. is_restless x ≡ is_restless r)
-      (λ _. ap (λ z. r.mergeable && not z) (shared_still r.state)) (λ _. refl)
+  calmed_restless r = grind (arith, nat_tests, shared_still)
 
   module _ (rows : List Row) where
     abbrev calm_rows : List Row
@@ -110,16 +86,14 @@ module _ (test : Row → Bool) where
     calmed_at : (page : GuestPage) → row_at page calm_rows ≡ option_map (calmed test) (row_at page rows)
     calmed_at page =
         find_mapped (calmed test) (λ r. same_page r.page page) (λ r. same_page r.page page) rows
-        (λ k d lt. ap (λ p. same_page p page) (calmed_page (get_or rows k d)))
+        (λ k d lt. rw (calmed_page (get_or rows k d)))
 
     calmed_goes : Goes rows calm_rows
     calmed_goes =
-        change_goes (calmed test)
-        (λ r. cond_both (test r) (settled r) r (λ x. (x.page ≡ r.page) × (x.mergeable ≡ r.mergeable))
-        (λ _. (refl, refl)) (λ _. (refl, refl)))
-        rows
-        (λ k d lt is. let r = get_or rows k d in
-        cond_both (test r) (settled r) r (λ x. shared_state x.state ≡ true) (λ _. shared_still r.state ∙ is) (λ _. is))
+        change_goes _
+        (λ r. cond_both _ _ r (λ x. (x.page ≡ r.page) × (x.mergeable ≡ r.mergeable))
+        (λ _. (refl, refl)) (λ _. (refl, refl))) _
+        (λ k d lt is. cond_both _ _ (get_or rows k d) (λ x. shared_state x.state ≡ true) (λ _. shared_still _ ∙ is) (λ _. is))
 
     count_kept : (d : DupRow) → item_count calm_rows d ≡ item_count rows d
     count_kept d =
@@ -148,22 +122,18 @@ module _ (test : Row → Bool) where
 
     dup_frame_kept : (frame : Frames) (number : ℕ) → dup_frame frame calm_rows number ≡ dup_frame frame rows number
     dup_frame_kept frame number =
-        ap (frame_found frame)
-        (find_mapped (calmed test) (λ r. merged_into number r.state) (λ r. merged_into number r.state) rows
-        (λ k d lt. calmed_merged number (get_or rows k d)))
-        ∙ by (find (λ r. merged_into number r.state) rows)
-      where
-        by : (o : Option Row) → frame_found frame (option_map (calmed test) o) ≡ frame_found frame o
-        by None = refl
-        by (Some r) = ap (frame_on frame) (calmed_page r)
+        grind (
+          arith,
+          find_mapped (calmed test) (λ r. merged_into number r.state) (λ r. merged_into number r.state) rows (λ k d lt. calmed_merged number (get_or rows k d)),
+          calmed_merged,
+        )
 
 -- ---------------------------------------------------------------- the visit of a row where rows further on are hidden
 
 -- a choice by a test comes to g of another by it, where each of the chosen does
 chosen : {X : Type 0} (g : X → X) (z : Bool) (a c a' c' : X) → (z ≡ true → a ≡ g a') → (z ≡ false → c ≡ g c')
     → (if z then a else c) ≡ g (if z then a' else c')
-chosen g true a c a' c' holds fails = holds refl
-chosen g false a c a' c' holds fails = fails refl
+chosen g z a c a' c' holds fails = grind arith
 
 -- a row, and pages further on, of which it has none
 module _ (later : List GuestPage) (b : BookState) (r : Row) (fresh : has_item r.page later ≡ false) where
@@ -195,38 +165,22 @@ module _ (later : List GuestPage) (b : BookState) (r : Row) (fresh : has_item r.
     either x = if by x.page then f x else calmed (is_among later) x
 
     change_first : (x : Row) → (if by (cover x).page then f (cover x) else cover x) ≡ either x
-    change_first x =
-        ap (λ q. if by q then f (cover x) else cover x) (calmed_page (is_among pages) x) ∙ at (by x.page) refl
-      where
-        at : (z : Bool) → by x.page ≡ z
-            → (if z then f (cover x) else cover x) ≡ (if z then f x else calmed (is_among later) x)
-        at true is = cond_both (has_item x.page pages) (settled x) x (λ y. f y ≡ f x) (λ _. same x) (λ _. refl)
-        at false is = ap (λ z. if z || has_item x.page later then settled x else x) (own x.page is)
+    change_first x = grind (arith, calmed_page (is_among pages) x)
 
     change_then : (x : Row) → calmed (is_among later) (if by x.page then f x else x) ≡ either x
-    change_then x = at (by x.page) refl
-      where
-        at : (z : Bool) → by x.page ≡ z
-            → calmed (is_among later) (if z then f x else x) ≡ (if z then f x else calmed (is_among later) x)
-        at true is =
-            ap (λ z. if z then settled (f x) else f x) (ap (λ q. has_item q later) (keeps x) ∙ apart x.page is)
-        at false is = refl
+    change_then x = grind arith
 
     -- it does the same where these pages are hidden
     change_alike : change_rows (λ x. by x.page) f covered.rows
         ≡ change_rows (is_among later) settled (change_rows (λ x. by x.page) f b.rows)
     change_alike =
-        map_mapped (λ x. if by x.page then f x else x) cover either b.rows
-        (λ k d lt. change_first (get_or b.rows k d))
-        ∙ sym (map_mapped (calmed (is_among later)) (λ x. if by x.page then f x else x) either b.rows
-        (λ k d lt. change_then (get_or b.rows k d)))
+        map_mapped _ _ either _ (λ k d lt. change_first _) ∙ sym (map_mapped _ _ _ _ (λ k d lt. change_then _))
 
   -- so does a change of the row itself
   own_change : (f : Row → Row) → ((x : Row) → (f x).page ≡ x.page) → ((x : Row) → f (settled x) ≡ f x)
       → change_row r.page f covered.rows ≡ change_rows (is_among later) settled (change_row r.page f b.rows)
   own_change f keeps same =
-      change_alike (λ q. same_page q r.page) f keeps same (λ q other. same_page_sym r.page q ∙ other)
-      (λ q is. ap (λ p. has_item p later) (same_page_eq q r.page is) ∙ fresh)
+      change_alike _ f keeps same (λ q other. same_page_sym _ q ∙ other) (λ q is. rw (same_page_eq q _ is) fresh)
 
   -- the row gets this state
   abbrev becomes : PageState → Row → Row
@@ -239,7 +193,7 @@ module _ (later : List GuestPage) (b : BookState) (r : Row) (fresh : has_item r.
   becomes_alike : (state : PageState)
       → change_row r.page (becomes state) covered.rows
       ≡ change_rows (is_among later) settled (change_row r.page (becomes state) b.rows)
-  becomes_alike state = own_change (becomes state) (λ x. refl) (λ x. refl)
+  becomes_alike state = own_change _ (λ x. refl) (λ x. refl)
 
   -- what is found to wait for it where no such row is hidden is not hidden
   found_open : NoneCovered → (w : Row) → partner b.knobs b.rows r ≡ Some w → has_item w.page pages ≡ false
@@ -248,22 +202,14 @@ module _ (later : List GuestPage) (b : BookState) (r : Row) (fresh : has_item r.
 
   -- where no row that waits for it is hidden, the same waits for it
   partner_alike : NoneCovered → partner b.knobs covered.rows r ≡ partner b.knobs b.rows r
-  partner_alike near =
-      find_mapped cover (waits_for b.knobs r) (waits_for b.knobs r) b.rows
-      (λ k d lt. alike (get_or b.rows k d) (near k d lt))
-      ∙ stays (partner b.knobs b.rows r) refl
+  partner_alike near = find_mapped _ _ _ _ (λ k d lt. alike _ (near k d lt)) ∙ stays _ refl
     where
       alike : (x : Row) → IsOpen x → waits_for b.knobs r (cover x) ≡ waits_for b.knobs r x
-      alike x seen = elim (cases_Bool (waits_for b.knobs r x)) [
-        | inl is ↦ ap (λ z. waits_for b.knobs r (if z then settled x else x)) (seen is)
-        | inr not_so ↦
-            cond_both (has_item x.page pages) (settled x) x (λ y. waits_for b.knobs r y ≡ false)
-            (λ _. waits_not b.knobs r x) (λ _. not_so) ∙ sym not_so
-      ]
+      alike x seen = grind (arith, seen)
 
       stays : (o : Option Row) → partner b.knobs b.rows r ≡ o → option_map cover o ≡ o
       stays None found = refl
-      stays (Some w) found = ap (λ z. Some (if z then settled w else w)) (found_open near w found)
+      stays (Some w) found = rw (found_open near w found)
 
   place_kept : new_place (place_count b.shape) covered.rows b.dups ≡ new_place (place_count b.shape) b.rows b.dups
   place_kept = new_place_kept (is_among pages) b.rows (place_count b.shape) b.dups
@@ -274,30 +220,25 @@ module _ (later : List GuestPage) (b : BookState) (r : Row) (fresh : has_item r.
   paired_alike None found near = λ t. record b { rows = becomes_alike Waiting t }
   paired_alike (Some w) found near =
       λ t. record b {
-        rows = change_alike (λ q. same_page q w.page || same_page q r.page) (becomes (Merged b.next)) (λ x. refl)
-            (λ x. refl) own apart t;
+        rows = change_alike _ (becomes (Merged b.next)) (λ x. refl) (λ x. refl) own apart t;
         dups = with_dup
             (record { number = b.next; place = place_kept t; tree = tree_of b.knobs r; bytes = r.bytes }) b.dups;
         next = b.next + 1;
       }
     where
       own : (q : GuestPage) → (same_page q w.page || same_page q r.page) ≡ false → same_page r.page q ≡ false
-      own q neither = let back = same_page_sym r.page q in grind (arith, neither, back)
+      own q neither = let back = same_page_sym r.page q in grind arith
 
       near_w : has_item w.page pages ≡ false
       near_w = found_open near w found
 
       apart : (q : GuestPage) → (same_page q w.page || same_page q r.page) ≡ true → has_item q later ≡ false
-      apart q one =
-          let of_w = same_page_eq q w.page in
-          let of_r = same_page_eq q r.page in
-          grind (arith, one, of_w, of_r, near_w, fresh)
+      apart q one = grind (arith, nat_tests, one, same_page_eq q w.page, same_page_eq q r.page, near_w, fresh)
 
   pairing_alike : (frame : Frames) → NoneCovered
       → pairing (partner b.knobs covered.rows r) covered frame (settled r)
       ≡ pairing (partner b.knobs b.rows r) b frame r
-  pairing_alike frame near =
-      ap (λ o. pairing o covered frame (settled r)) (partner_alike near) ∙ by (partner b.knobs b.rows r)
+  pairing_alike frame near = rw (partner_alike near) (by _)
     where
       by : (o : Option Row) → pairing o covered frame (settled r) ≡ pairing o b frame r
       by None = refl
@@ -308,32 +249,23 @@ module _ (later : List GuestPage) (b : BookState) (r : Row) (fresh : has_item r.
       (near : o ≡ None → r.unchanged ≡ true → is_for_zero b.knobs r ≡ false → NoneCovered) where
     stayed_alike : o ≡ None → r.unchanged ≡ true → stayed covered (settled r) ≡ hidden later (stayed b r)
     stayed_alike is unchanged =
-        chosen (hidden later) (is_for_zero b.knobs r)
-        (record covered { rows = change_row r.page (becomes Zero) covered.rows })
-        (paired (partner b.knobs covered.rows r) covered (settled r))
-        (record b { rows = change_row r.page (becomes Zero) b.rows })
+        chosen (hidden later) _ _ _ (record b { rows = change_row r.page (becomes Zero) b.rows })
         (paired (partner b.knobs b.rows r) b r)
         (λ _. λ t. record b { rows = becomes_alike Zero t })
         (λ zeroes. let none = near is unchanged zeroes in
-        ap (λ w. paired w covered (settled r)) (partner_alike none)
-        ∙ paired_alike (partner b.knobs b.rows r) refl none)
+        rw (partner_alike none) (paired_alike _ refl none))
 
     handled_alike : handled o covered (settled r) ≡ hidden later (handled o b r)
     handled_alike = by o refl
       where
         by : (e : Option DupRow) → o ≡ e → handled e covered (settled r) ≡ hidden later (handled e b r)
         by (Some d) is = λ t. record b { rows = becomes_alike (Merged d.number) t }
-        by None is =
-            chosen (hidden later) r.unchanged (stayed covered (settled r))
-            (record covered { rows = change_row r.page marks covered.rows }) (stayed b r)
-            (record b { rows = change_row r.page marks b.rows }) (stayed_alike is)
-            (λ _. λ t. record b { rows = own_change marks (λ x. refl) (λ x. refl) t })
+        by None is = grind (arith, nat_tests, is, stayed_alike is, chosen, own_change)
 
     staying_alike : (frame : Frames) → o ≡ None → r.unchanged ≡ true
         → staying covered frame (settled r) ≡ staying b frame r
     staying_alike frame is unchanged =
-        chosen (λ x. x) (is_for_zero b.knobs r) (emptying frame r.page)
-        (pairing (partner b.knobs covered.rows r) covered frame (settled r)) (emptying frame r.page)
+        chosen (λ x. x) _ _ (pairing (partner b.knobs covered.rows r) covered frame (settled r)) (emptying frame r.page)
         (pairing (partner b.knobs b.rows r) b frame r) (λ _. refl)
         (λ zeroes. pairing_alike frame (near is unchanged zeroes))
 
@@ -341,10 +273,8 @@ module _ (later : List GuestPage) (b : BookState) (r : Row) (fresh : has_item r.
     handling_alike frame = by o refl
       where
         by : (e : Option DupRow) → o ≡ e → handling e covered frame (settled r) ≡ handling e b frame r
-        by (Some d) is = ap (joining frame r.page) (dup_frame_kept (is_among pages) b.rows frame d.number)
-        by None is =
-            chosen (λ x. x) r.unchanged (staying covered frame (settled r)) (idle frame) (staying b frame r)
-            (idle frame) (staying_alike frame is) (λ _. refl)
+        by (Some d) is = grind (arith, nat_tests, is, dup_frame_kept)
+        by None is = chosen (λ x. x) _ _ _ _ _ (staying_alike frame is) (λ _. refl)
 
   -- where a visit may change the row, and no row that waits for it is hidden if it is to wait, its visit does the same
   -- while these pages are hidden; after it its own page is not
@@ -353,29 +283,13 @@ module _ (later : List GuestPage) (b : BookState) (r : Row) (fresh : has_item r.
       → visited doing (covered, deed) (Some (settled r))
       ≡ (hidden later (visited doing (b, deed) (Some r)).0, (visited doing (b, deed) (Some r)).1)
   visit_alike deed is near =
-      let best = best_dup b.knobs b.rows b.dups r in
-      let still : is_restless (settled r) ≡ true = ap (λ z. r.mergeable && not z) (shared_still r.state) ∙ is in
-      let old = visited_by b deed.frame r best is refl in
-      let new =
-      visited_by covered deed.frame (settled r) best still (best_kept (is_among pages) b.rows b.knobs r b.dups) in
-      let state : row_visited covered (settled r) ≡ hidden later (row_visited b r) =
-      new.0 ∙ handled_alike best near ∙ sym (ap (hidden later) old.0) in
-      let does : row_visiting covered deed.frame (settled r) ≡ row_visiting b deed.frame r =
-      new.1 ∙ handling_alike best near deed.frame ∙ sym old.1 in
-      let after : BookState × Deed = (row_visited covered (settled r), doing covered deed (settled r)) in
-      let told : visited doing (covered, deed) (Some (settled r)) ≡ after =
-      ap (λ z. if z then after else (covered, deed)) still in
-      let same : after ≡ (hidden later (row_visited b r), doing b deed r) =
-      λ t. (state t, then_doing deed (does t)) in
-      let whole : (row_visited b r, doing b deed r) ≡ visited doing (b, deed) (Some r) =
-      sym (ap (λ z. if z then (row_visited b r, doing b deed r) else (b, deed)) is) in
-      told ∙ same ∙ (λ t. (hidden later (whole t).0, (whole t).1))
+      grind (arith, nat_tests, best_kept (is_among pages) b.rows b.knobs r b.dups, shared_still, visited_by, handled_alike, handling_alike)
 
 -- ---------------------------------------------------------------- a row takes over
 
-none_is : {X : Type 0} (o : Option X) → is_none o ≡ true → o ≡ None
-none_is None is = refl
-none_is (Some x) is = absurd (true≢false (sym is))
+-- an option that has nothing is None
+pub none_is : {X : Type 0} (o : Option X) → is_none o ≡ true → o ≡ None
+none_is o is = grind arith
 
 -- a row takes over: it may join no dup, its bytes have stayed, they do not merge with the zero page, and a row further
 -- on waits for it
@@ -388,14 +302,12 @@ pub record TakesOver (b : BookState) (r : Row) : Type 0 where
 -- a row that passes the test takes over
 pub takes_tells : (b : BookState) (r : Row) → takes_over b r ≡ true → TakesOver b r
 takes_tells b r takes =
-    let best = best_dup b.knobs b.rows b.dups r in
     let zeroes = is_for_zero b.knobs r in
-    let later = comes_later r.page (partner b.knobs b.rows r) in
-    let rows = and_parts (is_none best && r.unchanged && not zeroes) later takes in
-    let bytes = and_parts (is_none best && r.unchanged) (not zeroes) rows.0 in
-    let first = and_parts (is_none best) r.unchanged bytes.0 in
+    let rows = and_parts _ _ takes in
+    let bytes = and_parts _ _ rows.0 in
+    let first = and_parts _ _ bytes.0 in
     record {
-      none = none_is best first.0;
+      none = none_is _ first.0;
       unchanged = first.1;
       zeroes = not-true zeroes bytes.1;
       further = rows.1;
@@ -412,7 +324,7 @@ one_waits b r w s found k d lt is =
     find_all (waits_for b.knobs r) (λ y. waiting_state y.state ≡ true → partner b.knobs b.rows y ≡ None) b.rows w found
     s.waiting of_w.state in
     elim (cases_Bool (same_page x.page w.page)) [
-      | inl same ↦ same_page_eq x.page w.page same
+      | inl same ↦ same_page_eq _ _ same
       | inr other ↦
           let waits = tells_waits b.knobs w x (record {
             state = of_x.state;
@@ -433,44 +345,35 @@ module _ (b : BookState) (r : Row) where
 
   none_waits : All (λ x. waits x ≡ false) freed.rows
   none_waits =
-      All-map (λ x. waits x ≡ false) (calmed waits) b.rows
+      All-map (λ x. waits x ≡ false) _ _
       (λ k d lt. let x = get_or b.rows k d in
-      cond_both (waits x) (settled x) x (λ y. waits y ≡ false) (λ _. waits_not b.knobs r x) (λ not_so. not_so))
+      cond_both _ (settled x) x (λ y. waits y ≡ false) (λ _. waits_not b.knobs r x) (λ not_so. not_so))
 
   freed_sound : IsSound b → IsSound freed
-  freed_sound s = sound_changed b waits settled settled_calmer (λ x home. home) s
+  freed_sound s = sound_changed b _ _ settled_calmer (λ x home. home) s
 
   module _ (found : row_at r.page b.rows ≡ Some r) where
     -- the row stays as it is
     pub freed_found : row_at r.page freed.rows ≡ Some r
-    freed_found =
-        calmed_at waits b.rows r.page ∙ ap (option_map (calmed waits)) found
-        ∙ ap (λ z. Some (if z then settled r else r)) own
-      where
-        own : waits r ≡ false
-        own = elim (cases_Bool (waits r)) [
-          | inl is ↦ absurd (true≢false (sym (same_page_refl r.page) ∙ (waits_tells b.knobs r r is).other))
-          | inr not_so ↦ not_so
-        ]
+    freed_found = grind (arith, calmed_at waits b.rows r.page)
 
     module _ (is : is_restless r ≡ true) (takes : TakesOver b r) where
       -- its visit in that book makes it wait
       pub taken_is : (deed : Deed) → visited doing (freed, deed) (Some r) ≡ (taken_over b r, deed)
       taken_is deed =
-          let none : best_dup freed.knobs freed.rows freed.dups r ≡ None =
-          best_kept waits b.rows b.knobs r b.dups ∙ takes.none in
-          let alone : partner freed.knobs freed.rows r ≡ None = find_nothing waits freed.rows none_waits in
+          let none = best_kept waits b.rows b.knobs r b.dups ∙ takes.none in
+          let alone = find_nothing _ _ none_waits in
           let stays =
-          stayed_is freed deed.frame r false (record {
+          stayed_is _ deed.frame r false (record {
             restless = is;
             none = none;
             unchanged = takes.unchanged;
             zeroes = takes.zeroes;
           }) in
-          ap (λ z. if z then (row_visited freed r, doing freed deed r) else (freed, deed)) is
-          ∙ (λ t. (stays.0 t, then_doing deed (stays.1 t)))
+          rw is
+          ((λ t. (stays.0 t, then_doing deed (stays.1 t)))
           ∙ (λ t. (paired (alone t) freed r, then_doing deed (pairing (alone t) freed deed.frame r)))
-          ∙ (λ t. (taken_over b r, then_idle deed t))
+          ∙ (λ t. (taken_over b r, then_idle deed t)))
 
 -- ---------------------------------------------------------------- what visits keep
 
@@ -478,10 +381,10 @@ module _ (b : BookState) (r : Row) where
 visited_sound : (b : BookState) (deed : Deed) (r : Row) → IsSound b → row_at r.page b.rows ≡ Some r
     → IsSound (visited doing (b, deed) (Some r)).0
 visited_sound b deed r s found =
-    cond_both {A = BookState × Deed} (is_restless r) (row_visited b r, doing b deed r) (b, deed) (λ z. IsSound z.0)
+    cond_both {A = BookState × Deed} _ (row_visited b r, doing b deed r) (b, deed) (λ z. IsSound z.0)
     (λ is. sound_row_visited b r (record {
-      mergeable = (and_parts r.mergeable (not (shared_state r.state)) is).0;
-      once = row_of_page r.page b.rows r s.rows_rise found;
+      mergeable = (and_parts _ _ is).0;
+      once = row_of_page _ _ r s.rows_rise found;
     }) s)
     (λ _. s)
 
@@ -494,48 +397,45 @@ visited_rows_go b deed r s found =
 -- our visit of a page keeps the book sound, and which pages scans visit
 due_keeps : (s : BookState × Deed) (page : GuestPage) → IsSound s.0
     → IsSound (due_visited doing s page).0 × Goes s.0.rows (due_visited doing s page).0.rows
-due_keeps s page sound = by (row_at page s.0.rows) refl
+due_keeps s page sound = by _ refl
   where
     b : BookState
     b = s.0
 
     by : (o : Option Row) → row_at page b.rows ≡ o
         → IsSound (due_row_visited doing s o).0 × Goes b.rows (due_row_visited doing s o).0.rows
-    by None found = (sound, goes_same b.rows)
+    by None found = (sound, goes_same _)
     by (Some r) found =
-        let there : row_at r.page b.rows ≡ Some r =
-        ap (λ p. row_at p b.rows) (found_page page b.rows r found) ∙ found in
-        cond_both {A = BookState × Deed} (is_restless r && takes_over b r) (taken_over b r, s.1)
-        (visited doing s (Some r)) (λ z. IsSound z.0 × Goes b.rows z.0.rows)
-        (λ both. let parts = and_parts (is_restless r) (takes_over b r) both in
+        let there = ap (λ p. row_at p b.rows) (found_page _ _ r found) ∙ found in
+        cond_both {A = BookState × Deed} _ (taken_over b r, s.1) _ (λ z. IsSound z.0 × Goes b.rows z.0.rows)
+        (λ both. let parts = and_parts _ _ both in
         let taken = taken_is b r there parts.0 (takes_tells b r parts.1) s.1 in
         let free = freed_sound b r sound in
         let found_free = freed_found b r there in
-        let goes = visited_rows_go (freed b r) s.1 r free found_free in (
-          subst (λ (z : BookState × Deed). IsSound z.0) taken (visited_sound (freed b r) s.1 r free found_free),
-          goes_on b.rows (freed b r).rows (taken_over b r).rows (calmed_goes (waits_for b.knobs r) b.rows)
+        let goes = visited_rows_go _ s.1 r free found_free in (
+          subst (λ (z : BookState × Deed). IsSound z.0) taken (visited_sound _ s.1 r free found_free),
+          goes_on _ _ _ (calmed_goes (waits_for b.knobs r) _)
               (subst (λ (z : BookState × Deed). Goes (freed b r).rows z.0.rows) taken goes),
         ))
         (λ _. (visited_sound b s.1 r sound there, visited_rows_go b s.1 r sound there))
 
 -- our visit of a page keeps the book sound
 pub due_sound : (s : BookState × Deed) (page : GuestPage) → IsSound s.0 → IsSound (due_visited doing s page).0
-due_sound s page sound = (due_keeps s page sound).0
+due_sound s page sound = (due_keeps s _ sound).0
 
 -- so do our visits of some pages
 pub due_visits_sound : (pages : List GuestPage) (s : BookState × Deed) → IsSound s.0
     → IsSound (due_visits doing s pages).0
 due_visits_sound [] s sound = sound
-due_visits_sound (page ∷ pages) s sound = due_visits_sound pages (due_visited doing s page) (due_sound s page sound)
+due_visits_sound (page ∷ pages) s sound = due_visits_sound pages (due_visited doing s page) (due_sound s _ sound)
 
 -- they keep the rows in page order and which pages scans visit, and make no page restless
 pub due_goes : (pages : List GuestPage) (s : BookState × Deed) → IsSound s.0
     → Goes s.0.rows (due_visits doing s pages).0.rows
-due_goes [] s sound = goes_same s.0.rows
+due_goes [] s sound = goes_same _
 due_goes (page ∷ pages) s sound =
-    let next = due_visited doing s page in
     let keeps = due_keeps s page sound in
-    goes_on s.0.rows next.0.rows (due_visits doing next pages).0.rows keeps.1 (due_goes pages next keeps.0)
+    goes_on _ _ _ keeps.1 (due_goes pages (due_visited doing s page) keeps.0)
 
 -- ---------------------------------------------------------------- one visit
 
@@ -547,31 +447,24 @@ AreAhead b page later =
 -- a row that waits is one that a visit may change
 waits_restless : (r : Row) → (private_state r.state ≡ false → r.mergeable ≡ true) → is_restless r ≡ false
     → waiting_state r.state ≡ false
-waits_restless r = by r.state r.mergeable
-  where
-    by : (state : PageState) (m : Bool) → (private_state state ≡ false → m ≡ true)
-        → (m && not (shared_state state)) ≡ false → waiting_state state ≡ false
-    by Waiting m mergeable calm = sym (ap (λ z. z && true) (mergeable refl)) ∙ calm
-    by _ m mergeable calm = refl
+waits_restless r = grind arith
 
 module _ (b : BookState) (s : IsSound b) where
   -- a page whose row no visit may change does not wait, so it may be hidden or not
   calm_hidden : (page : GuestPage) (later : List GuestPage) → restless_at page b.rows ≡ false
       → hidden (page ∷ later) b ≡ hidden later b
   calm_hidden page later calm =
-      λ t. record b { rows = map_alike (calmed (is_among (page ∷ later))) (calmed (is_among later)) b.rows each t }
+      λ t. record b { rows = map_alike (calmed (is_among (page ∷ later))) (calmed (is_among later)) _ each t }
     where
       each : All (λ x. calmed (is_among (page ∷ later)) x ≡ calmed (is_among later) x) b.rows
       each k d lt = let x = get_or b.rows k d in elim (cases_Bool (same_page page x.page)) [
         | inl same ↦
-            let there : row_at page b.rows ≡ Some x =
-            ap (λ q. row_at q b.rows) (same_page_eq page x.page same) ∙ each_at_page b.rows s.rows_rise k d lt in
+            let there = ap (λ q. row_at q b.rows) (same_page_eq _ _ same) ∙ each_at_page _ s.rows_rise k d lt in
             let none = waits_restless x (s.mergeable k d lt) (sym (ap restless_row there) ∙ calm) in
-            let still = stays_settled x none in
             let stays : (z : Bool) → (if z then settled x else x) ≡ x =
-            λ z. cond_both z (settled x) x (λ y. y ≡ x) (λ _. still) (λ _. refl) in
-            stays (has_item x.page (page ∷ later)) ∙ sym (stays (has_item x.page later))
-        | inr other ↦ ap (λ z. if z || has_item x.page later then settled x else x) other
+            λ z. cond_both z _ x (λ y. y ≡ x) (λ _. stays_settled x none) (λ _. refl) in
+            stays _ ∙ sym (stays _)
+        | inr other ↦ rw other
       ]
 
   module _ (r : Row) (later : List GuestPage) (ahead : AreAhead b r.page later) (found : row_at r.page b.rows ≡ Some r)
@@ -580,17 +473,16 @@ module _ (b : BookState) (s : IsSound b) where
     scanned q = has_item q (mergeable_pages b.rows)
 
     fresh : has_item r.page later ≡ false
-    fresh = ahead r.page ∙ ap (λ z. z && scanned r.page) (before_irrefl r.page)
+    fresh = grind (arith, nat_tests, before_irrefl r.page)
 
     -- a row further on that waits is of one of the pages further on
     further_on : (w : Row) → partner b.knobs b.rows r ≡ Some w → comes_before r.page w.page ≡ true
         → has_item w.page later ≡ true
     further_on w found_w before =
         let waits = waits_for b.knobs r in
-        let of_w = waits_tells b.knobs r w (find_passes waits b.rows w found_w) in
         let mergeable =
         find_all waits (λ x. waiting_state x.state ≡ true → x.mergeable ≡ true) b.rows w found_w (waits_mergeable b s)
-        of_w.state in
+        (waits_tells b.knobs r w (find_passes waits b.rows w found_w)).state in
         let there =
         find_all waits (λ x. x.mergeable ≡ true → scanned x.page ≡ true) b.rows w found_w (mergeable_has b.rows)
         mergeable in
@@ -599,12 +491,11 @@ module _ (b : BookState) (s : IsSound b) where
     -- where the row that waits for it is not further on, none that waits for it is hidden
     none_covered : (o : Option Row) → partner b.knobs b.rows r ≡ o → comes_later r.page o ≡ false
         → NoneCovered later b r fresh
-    none_covered None found_w sooner =
-        λ k d lt is. absurd (true≢false (sym is ∙ find_none (waits_for b.knobs r) b.rows found_w k d lt))
+    none_covered None found_w sooner = λ k d lt is. absurd (true≢false (sym is ∙ find_none _ _ found_w k d lt))
     none_covered (Some w) found_w sooner =
         let of_w = waits_tells b.knobs r w (find_passes (waits_for b.knobs r) b.rows w found_w) in
-        let apart : same_page r.page w.page ≡ false = same_page_sym r.page w.page ∙ of_w.other in
-        let not_on : has_item w.page later ≡ false = ahead w.page ∙ ap (λ z. z && scanned w.page) sooner in
+        let apart = same_page_sym r.page w.page ∙ of_w.other in
+        let not_on = ahead w.page ∙ ap (λ z. z && scanned w.page) sooner in
         λ k d lt is.
         ap (λ q. has_item q (r.page ∷ later)) (one_waits b r w s found_w k d lt is) ∙ (λ t. apart t || not_on t)
 
@@ -613,7 +504,7 @@ module _ (b : BookState) (s : IsSound b) where
         → hidden (r.page ∷ later) b ≡ hidden (r.page ∷ later) (freed b r)
     all_covered None found_w further = absurd (true≢false (sym further))
     all_covered (Some w) found_w further =
-        λ t. record b { rows = sym (map_mapped hides (calmed (waits_for b.knobs r)) hides b.rows each) t }
+        λ t. record b { rows = sym (map_mapped hides (calmed (waits_for b.knobs r)) hides _ each) t }
       where
         hides : Row → Row
         hides = calmed (is_among (r.page ∷ later))
@@ -621,12 +512,10 @@ module _ (b : BookState) (s : IsSound b) where
         each : All (λ x. hides (calmed (waits_for b.knobs r) x) ≡ hides x) b.rows
         each k d lt = let x = get_or b.rows k d in elim (cases_Bool (waits_for b.knobs r x)) [
           | inl is ↦
-              let there : has_item x.page later ≡ true =
-              ap (λ q. has_item q later) (one_waits b r w s found_w k d lt is) ∙ further_on w found_w further in
-              let on : has_item x.page (r.page ∷ later) ≡ true = grind (arith, there) in
+              let there = ap (λ q. has_item q later) (one_waits b r w s found_w k d lt is) ∙ further_on w found_w further in
+              let on : has_item x.page (r.page ∷ later) ≡ true = grind arith in
               ap (λ z. hides (if z then settled x else x)) is
-              ∙ ap (λ z. if z then settled (settled x) else settled x) on
-              ∙ settled_once x ∙ sym (ap (λ z. if z then settled x else x) on)
+              ∙ ap (λ z. if z then settled (settled x) else settled x) on ∙ settled_once x ∙ sym (rw on)
           | inr not_so ↦ ap (λ z. hides (if z then settled x else x)) not_so
         ]
 
@@ -639,28 +528,26 @@ module _ (b : BookState) (s : IsSound b) where
           let told = takes_tells b r takes in
           let due : (taken_over b r, deed) ≡ due_row_visited doing (b, deed) (Some r) =
           λ t. if sym is t && sym takes t then (taken_over b r, deed) else visited doing (b, deed) (Some r) in
-          (λ t. visited doing (all_covered (partner b.knobs b.rows r) refl told.further t, deed) (Some (settled r)))
-          ∙ visit_alike later (freed b r) r fresh deed is
-          (λ _ _ _. λ k d lt waits. absurd (true≢false (sym waits ∙ none_waits b r k d lt)))
-          ∙ ap (λ (z : BookState × Deed). (hidden later z.0, z.1)) (taken_is b r found is told deed ∙ due)
+          rw (← (taken_is b r found is told _ ∙ due))
+          ((λ t. visited doing (all_covered _ refl told.further t, deed) (Some (settled r)))
+          ∙ visit_alike _ _ r fresh _ is
+          (λ _ _ _. λ k d lt waits. absurd (true≢false (sym waits ∙ none_waits b r k d lt))))
       | inr stays ↦
           let waiting = partner b.knobs b.rows r in
           let due : visited doing (b, deed) (Some r) ≡ due_row_visited doing (b, deed) (Some r) =
           λ t. if sym is t && sym stays t then (taken_over b r, deed) else visited doing (b, deed) (Some r) in
-          visit_alike later b r fresh deed is
+          rw (← due)
+          (visit_alike _ b r fresh _ is
           (λ none unchanged zeroes.
-          let sooner : comes_later r.page waiting ≡ false =
-          (λ t. is_none (sym none t) && sym unchanged t && not (sym zeroes t) && comes_later r.page waiting) ∙ stays in
-          none_covered waiting refl sooner)
-          ∙ ap (λ (z : BookState × Deed). (hidden later z.0, z.1)) due
+          let sooner = (λ t. is_none (sym none t) && sym unchanged t && not (sym zeroes t) && comes_later r.page waiting) ∙ stays in
+          none_covered _ refl sooner))
     ]
 
   -- the same of any page
   page_alike : (page : GuestPage) (later : List GuestPage) (deed : Deed) → AreAhead b page later
       → page_visited doing (hidden (page ∷ later) b, deed) page
       ≡ (hidden later (due_visited doing (b, deed) page).0, (due_visited doing (b, deed) page).1)
-  page_alike page later deed ahead =
-      ap (visited doing (hides, deed)) (calmed_at (is_among (page ∷ later)) b.rows page) ∙ by (row_at page b.rows) refl
+  page_alike page later deed ahead = ap (visited doing (hides, deed)) (calmed_at (is_among (page ∷ later)) b.rows page) ∙ by _ refl
     where
       hides : BookState
       hides = hidden (page ∷ later) b
@@ -678,24 +565,22 @@ module _ (b : BookState) (s : IsSound b) where
 
       by : (o : Option Row) → row_at page b.rows ≡ o
           → visited doing (hides, deed) (option_map cover o) ≡ (hidden later (due o).0, (due o).1)
-      by None found = λ t. (calm_hidden page later (ap restless_row found) t, deed)
+      by None found = λ t. (calm_hidden _ later (ap restless_row found) t, deed)
       by (Some r) found = elim (cases_Bool (is_restless r)) [
         | inl is ↦
-            let at : r.page ≡ page = found_page page b.rows r found in
-            let covers : has_item r.page (page ∷ later) ≡ true =
-            ap (λ z. z || has_item r.page later) (ap (λ q. same_page page q) at ∙ same_page_refl page) in
+            let at = found_page _ _ r found in
+            let covers = ap (λ z. z || has_item r.page later) (ap (λ q. same_page page q) at ∙ same_page_refl page) in
             let told =
-            restless_alike r later (subst (λ p. AreAhead b p later) (sym at) ahead)
-            (ap (λ q. row_at q b.rows) at ∙ found) is deed in
+            restless_alike r _ (rw at ahead) (ap (λ q. row_at q b.rows) at ∙ found) is deed in
             (λ t. visited doing (hides, deed) (Some (if covers t then settled r else r)))
             ∙ subst (λ q. visited doing (hidden (q ∷ later) b, deed) (Some (settled r))
             ≡ (hidden later (due (Some r)).0, (due (Some r)).1)) at told
         | inr calm ↦
-            let row : Row = cover r in
-            let first : is_restless row ≡ false = calmed_restless (is_among (page ∷ later)) r ∙ calm in
+            let row = cover r in
+            let first = calmed_restless (is_among (page ∷ later)) r ∙ calm in
             let stays = calm_stays r calm in
             (λ t. if first t then (row_visited hides row, doing hides deed row) else (hides, deed))
-            ∙ (λ t. (calm_hidden page later (ap restless_row found ∙ calm) t, deed))
+            ∙ (λ t. (calm_hidden _ later (ap restless_row found ∙ calm) t, deed))
             ∙ (λ t. (hidden later (stays t).0, (stays t).1))
       ]
 
@@ -703,30 +588,28 @@ module _ (b : BookState) (s : IsSound b) where
 
 ascending_right : (gone rest : List GuestPage) → AreAscending (gone ++ rest) → AreAscending rest
 ascending_right [] rest rise = rise
-ascending_right (page ∷ gone) rest rise = ascending_right gone rest (pairs_tail Before page (gone ++ rest) rise)
+ascending_right (page ∷ gone) rest rise = ascending_right gone rest (pairs_tail Before page _ rise)
 
 -- in a sound book the pages behind a page among those that scans visit are those further on
 those_ahead : (b : BookState) (gone : List GuestPage) (page : GuestPage) (later : List GuestPage) → IsSound b
     → mergeable_pages b.rows ≡ gone ++ page ∷ later → AreAhead b page later
-those_ahead b gone page later s are q =
-    ap (has_item q) (sym behind) ∙ has_filter (comes_before page) q (mergeable_pages b.rows)
+those_ahead b gone page later s are q = ap (has_item q) (sym behind) ∙ has_filter (comes_before page) q (mergeable_pages b.rows)
   where
     rise : AreAscending (gone ++ page ∷ later)
     rise = subst AreAscending (every_page b.rows ∙ are) (ascending_ahead (record b { cursor = None }) s.rows_rise)
 
     gone_by : filter (comes_before page) gone ≡ []
     gone_by =
-        filter_none (comes_before page) gone
+        filter_none _ gone
         (λ k d lt. let q = get_or gone k d in
-        not_both q page (All-head (Before q) page later (pairs_cross Before gone (page ∷ later) rise k d lt)))
+        not_both q _ (All-head (Before q) _ _ (pairs_cross Before _ _ rise k d lt)))
 
     behind : filter (comes_before page) (mergeable_pages b.rows) ≡ later
     behind =
-        ap (filter (comes_before page)) are ∙ filter-append (comes_before page) gone (page ∷ later)
+        ap (filter (comes_before page)) are ∙ filter-append _ gone _
         ∙ (λ t. gone_by t ++ filter (comes_before page) (page ∷ later))
-        ∙ filter_out (comes_before page) page later (before_irrefl page)
-        ∙ filter_all (comes_before page) later
-        (pairs_head Before page later (ascending_right gone (page ∷ later) rise))
+        ∙ filter_out (comes_before page) _ _ (before_irrefl page) ∙ filter_all _ _
+        (pairs_head Before _ _ (ascending_right _ (page ∷ later) rise))
 
 -- where some pages and those further on are hidden, the visits of the definitions do what our visits do; after them only
 -- those further on are hidden
@@ -736,12 +619,11 @@ along : (gone done rest : List GuestPage) (s : BookState × Deed) → IsSound s.
     ≡ (hidden rest (due_visits doing s done).0, (due_visits doing s done).1)
 along gone [] rest s sound are = refl
 along gone (page ∷ done) rest s sound are =
-    let next = due_visited doing s page in
     let keeps = due_keeps s page sound in
-    let same = page_alike s.0 sound page (done ++ rest) s.1 (those_ahead s.0 gone page (done ++ rest) sound are) in
-    ap (λ z. pages_visited doing z done) same
-    ∙ along (gone ++ page ∷ []) done rest next keeps.0
-    (keeps.1.mergeable ∙ are ∙ sym (append_assoc gone (page ∷ []) (done ++ rest)))
+    let same = page_alike s.0 sound _ _ s.1 (those_ahead s.0 _ _ _ sound are) in
+    rw same
+    (along (gone ++ page ∷ []) done rest (due_visited doing s page) keeps.0
+    (keeps.1.mergeable ∙ are ∙ sym (append_assoc gone (page ∷ []) (done ++ rest))))
 
 -- our visits of the first pages that scans visit are those of the definitions, with the others hidden
 pub due_alike : (done rest : List GuestPage) (s : BookState × Deed) → IsSound s.0

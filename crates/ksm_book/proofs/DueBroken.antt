@@ -1,10 +1,9 @@
 -- A page that is stored to while it is merged or Zero, comes or goes: of the others only one that waits in its tree with its
 -- bytes may come to join its dup by that, so no other page becomes due.
-use Rattle.ksm_book.proofs.Names.{All, All-filter, all_changed, all_with_row, and_parts, Answer, ap, AreDue, arith, BookState, BookView, Bool, both_ways, bytes_eq, bytes_eq-Decides, cases_Bool, change_row, change_rows, count_with_row, count_without_page, Drop, dup_of_item, DupRow, eqb-true, Err, false, find_all, find_none, fresh_row, get_or, GuestPage, has_item, if◌then◌else◌, inl, inr, is_restless, is_some, IsAnswerUnless, IsCarried, IsDupOf, IsSound, item_count, List, may_join, Merged, merged_into, merged_state, nat_le, nat_lt, None, none_of, not, Ok, Option, option_map, PageState, partner, refl, Register, Reply, Row, row_at, same_page, same_page_refl, same_page_sym, Some, stored, subst, sym, tells_waits, tree_of, true, Waiting, waiting_state, waits_for, waits_on, with_row, without_page, Zero, ℕ, ◌&&◌, ◌+◌, ◌==◌, ◌||◌, ◌∙◌, ◌∷◌, ◌≡◌}
-use Rattle.ksm_base.specs.declared.row.PageState.TheVariants.{Private}
+use Rattle.ksm_book.proofs.Names.{All, All-filter, all_changed, all_with_row, and_parts, Answer, ap, AreDue, arith, BookState, BookView, Bool, both_ways, bytes_eq, bytes_eq-Decides, cases_Bool, change_row, change_rows, count_with_row, count_without_page, Drop, dup_of_item, DupRow, eqb-true, Err, false, find_all, find_none, fresh_row, get_or, GuestPage, has_item, if◌then◌else◌, inl, inr, is_restless, IsAnswerUnless, IsCarried, IsDupOf, IsSound, item_count, List, may_join, merged_into, merged_state, None, not, Ok, Option, option_map, PageState, partner, refl, Register, Reply, Row, row_at, same_page, same_page_refl, same_page_sym, Some, stored, subst, sym, tells_waits, tree_of, true, waiting_state, waits_for, waits_on, with_row, without_page, ℕ, ◌&&◌, ◌+◌, ◌==◌, ◌||◌, ◌∙◌, ◌∷◌, ◌≡◌, nat_tests}
 use Rattle.ksm_base.specs.Answers.{IsAnswerOrMemory}
-use Rattle.ksm_base.specs.Refusals.{is_known, is_no_node, refused_if}
-use Rattle.ksm_base.specs.declared.fault.Fault.TheVariants.{AlreadyRegistered, BadNode, UnknownPage}
+use Rattle.ksm_base.specs.Refusals.{refused_if}
+use Rattle.ksm_base.specs.declared.fault.Fault.TheVariants.{UnknownPage}
 use Rattle.ksm_pages.specs.Paged.{IsKnown, page_beside}
 use Rattle.ksm_tree.specs.Waits.{names}
 use Rattle.ksm_book.proofs.ByPage.{found_page, row_of_page}
@@ -17,14 +16,7 @@ use Rattle.ksm_book.proofs.DueKept.{count_kept, itself, joins, more_due, none_is
 on_still : (b : BookState) (new : List Row) (r : Row)
     → (All (λ d. may_join b.knobs b.rows r d ≡ false) b.dups → All (λ d. may_join b.knobs new r d ≡ false) b.dups)
     → waits_on b r ≡ true → waits_on (record b { rows = new }) r ≡ true
-on_still b new r joins_none is =
-    let h = on_tells b r is in
-    tells_on (record b { rows = new }) r (record {
-      waiting = h.waiting;
-      unchanged = h.unchanged;
-      zeroes = h.zeroes;
-      none = none_is_best b.knobs new b.dups r (joins_none (none_to_join b.knobs b.rows b.dups r h.none));
-    })
+on_still b new r joins_none is = grind (arith, nat_tests, tells_on, none_is_best, none_to_join)
 
 module _ (b : BookState) (sound : IsSound b) (page : GuestPage) (row : Row) (found : row_at page b.rows ≡ Some row) where
   -- the page that waits in the tree of the row with its bytes, if the row is merged
@@ -34,28 +26,21 @@ module _ (b : BookState) (sound : IsSound b) (page : GuestPage) (row : Row) (fou
   -- a row that is merged does not wait
   merged_only : (number : ℕ) (state : PageState) → merged_into number state ≡ true
       → (merged_state state ≡ true) × (waiting_state state ≡ false)
-  merged_only number Private into = cc
-  merged_only number Waiting into = cc
-  merged_only number Zero into = cc
-  merged_only number (Merged n) into = (refl, refl)
+  merged_only number state into = grind arith
 
   -- a row that waits for the row, which is merged, is of that page
   is_beside : merged_state row.state ≡ true → All (λ r. waits_for b.knobs row r ≡ true → names r.page beside ≡ true) b.rows
-  is_beside merged k d lt waits = by (partner b.knobs b.rows row) refl
+  is_beside merged k d lt waits = by _ refl
     where
       r : Row
       r = get_or b.rows k d
 
       named : (o : Option Row) → partner b.knobs b.rows row ≡ o → option_map (λ w. w.page) o ≡ beside
-      named o is =
-          ap (option_map (λ w. w.page)) (sym is)
-          ∙ ap (λ z. if z then option_map (λ w. w.page) (partner b.knobs b.rows row) else None) (sym merged)
+      named o is = rw merged (ap (option_map (λ w. w.page)) (sym is))
 
       by : (o : Option Row) → partner b.knobs b.rows row ≡ o → names r.page beside ≡ true
-      by None none = absurd (both_ways (waits_for b.knobs row r) (find_none (waits_for b.knobs row) b.rows none k d lt) waits)
-      by (Some w) is =
-          ap (names r.page) (sym (named (Some w) is))
-          ∙ ap (same_page w.page) (one_waits b row w sound is k d lt waits) ∙ same_page_refl w.page
+      by None none = grind (arith, nat_tests, none, find_none)
+      by (Some w) is = grind (arith, nat_tests, is, one_waits b row w sound is k d lt waits, same_page_refl w.page, named)
 
   -- a row that waits, of the tree and content of a dup into which the row is merged, is of that page
   is_of_dup : All (λ r. waiting_state r.state ≡ true → All (λ e. merged_into e.number row.state ≡ true
@@ -63,23 +48,22 @@ module _ (b : BookState) (sound : IsSound b) (page : GuestPage) (row : Row) (fou
   is_of_dup k d lt waiting j e lt_e into same =
       let r = get_or b.rows k d in
       let dup = get_or b.dups j e in
-      let merged = merged_only dup.number row.state into in
-      let of_dup : IsDupOf b.knobs b.dups row dup.number dup =
-      find_all (λ x. same_page x.page page) (λ x. merged_into dup.number x.state ≡ true → IsDupOf b.knobs b.dups x dup.number dup)
+      let merged = merged_only _ _ into in
+      let of_dup = find_all (λ x. same_page x.page page) (λ x. merged_into dup.number x.state ≡ true → IsDupOf b.knobs b.dups x dup.number dup)
       b.rows row found (dup_of_item b sound j e lt_e) into in
-      let group = and_parts (dup.tree == tree_of b.knobs r) (bytes_eq dup.bytes r.bytes) same in
+      let group = and_parts _ _ same in
       let other : same_page r.page row.page ≡ false = elim (cases_Bool (same_page r.page row.page)) [
         | inl is ↦
-            let it = row_of_page page b.rows row sound.rows_rise found k d lt
-            (ap (same_page r.page) (sym (found_page page b.rows row found)) ∙ is) in
-            absurd (both_ways (waiting_state row.state) merged.1 (ap (λ x. waiting_state x.state) (sym it) ∙ waiting))
+            let it = row_of_page _ _ row sound.rows_rise found k d lt
+            (ap (same_page r.page) (sym (found_page _ _ row found)) ∙ is) in
+            absurd (both_ways (waiting_state row.state) merged.1 (rw (← it) waiting))
         | inr apart ↦ apart
       ] in
       is_beside merged.0 k d lt (tells_waits b.knobs row r (record {
         state = waiting;
         other = other;
         tree = sym (eqb-true dup.tree (tree_of b.knobs r) group.0) ∙ of_dup.tree;
-        bytes = sym ((bytes_eq-Decides dup.bytes r.bytes).0 group.1) ∙ of_dup.bytes;
+        bytes = sym ((bytes_eq-Decides _ _).0 group.1) ∙ of_dup.bytes;
       }))
 
   -- of other rows each dup into which the row is not merged has as many items
@@ -87,17 +71,7 @@ module _ (b : BookState) (sound : IsSound b) (page : GuestPage) (row : Row) (fou
     -- a row that waits, and not on that page, can join none still where it could join no dup
     joins_none_then : All (λ r. waiting_state r.state ≡ true → names r.page beside ≡ false
         → All (λ e. may_join b.knobs b.rows r e ≡ false) b.dups → All (λ e. may_join b.knobs now r e ≡ false) b.dups) b.rows
-    joins_none_then k d lt waiting apart none j e lt_e =
-        let r = get_or b.rows k d in
-        let dup = get_or b.dups j e in
-        elim (cases_Bool (merged_into dup.number row.state)) [
-          | inl into ↦ elim (cases_Bool (dup.tree == tree_of b.knobs r && bytes_eq dup.bytes r.bytes)) [
-            | inl same ↦ absurd (both_ways (names r.page beside) apart (is_of_dup k d lt waiting j e lt_e into same))
-            | inr differ ↦
-                ap (λ z. z && nat_le 1 (item_count now dup) && nat_lt (item_count now dup) b.knobs.max_page_sharing) differ
-          ]
-          | inr out ↦ ap (joins b.knobs r dup) (counts dup out) ∙ none j e lt_e
-        ]
+    joins_none_then k d lt waiting apart none j e lt_e = grind (arith, nat_tests, is_of_dup, counts)
 
     -- where that page is due, with what was, each other row waits on beside those rows
     left_still : (old new : List GuestPage) → AreDue b old → ((p : GuestPage) → has_item p old ≡ true → has_item p new ≡ true)
@@ -107,7 +81,7 @@ module _ (b : BookState) (sound : IsSound b) (page : GuestPage) (row : Row) (fou
         let r = get_or b.rows k d in
         let is = more_due b old new more was k d lt restless out in
         let apart : names r.page beside ≡ false = elim (cases_Bool (names r.page beside)) [
-          | inl it ↦ absurd (both_ways (has_item r.page new) out (covers r.page it))
+          | inl it ↦ absurd (both_ways (has_item r.page new) out (covers _ it))
           | inr other ↦ other
         ] in
         on_still b now r (joins_none_then k d lt (on_tells b r is).waiting apart) is
@@ -118,11 +92,11 @@ module _ (b : BookState) (sound : IsSound b) (page : GuestPage) (row : Row) (fou
 module _ (b : BookState) (page : GuestPage) (old new : List GuestPage) (was : AreDue b old)
     (told : (p : GuestPage) → has_item p new ≡ (names p (page_beside b.knobs b.rows (row_at page b.rows)) || has_item p old)) where
   more_than_was : (p : GuestPage) → has_item p old ≡ true → has_item p new ≡ true
-  more_than_was p is = let tells = told p in grind (arith, tells, is)
+  more_than_was p is = let tells = told p in grind arith
 
   module _ (sound : IsSound b) (row : Row) (found : row_at page b.rows ≡ Some row) where
     covers : (p : GuestPage) → names p (page_beside b.knobs b.rows (Some row)) ≡ true → has_item p new ≡ true
-    covers p is = told p ∙ ap (λ o. names p (page_beside b.knobs b.rows o) || has_item p old) found ∙ ap (λ z. z || has_item p old) is
+    covers p is = grind (arith, nat_tests, is)
 
     -- that is so of the book once bytes are stored to the other, which is due too
     pub left_broken : (later : List GuestPage) → ((p : GuestPage) → has_item p later ≡ (same_page page p || has_item p new))
@@ -138,29 +112,27 @@ module _ (b : BookState) (page : GuestPage) (old new : List GuestPage) (was : Ar
         of_page r = same_page r.page page
 
         on : (p : GuestPage) → has_item p new ≡ true → has_item p later ≡ true
-        on p is = let tells = added p in grind (arith, tells, is)
+        on p is = let tells = added p in grind arith
 
         own : (p : GuestPage) → same_page p page ≡ true → has_item p later ≡ true
-        own p same = added p ∙ ap (λ z. z || has_item p new) (same_page_sym page p ∙ same)
+        own p same = added p ∙ ap (λ z. z || has_item p new) (same_page_sym _ p ∙ same)
 
         counts : (e : DupRow) → merged_into e.number row.state ≡ false
             → item_count (change_rows of_page (stored bytes) b.rows) e ≡ item_count b.rows e
-        counts e none = count_kept e.number of_page (stored bytes) b.rows (λ k d lt same.
-            subst (λ x. false ≡ merged_into e.number x.state) (sym (row_of_page page b.rows row sound.rows_rise found k d lt same)) (sym none))
+        counts e none = count_kept _ of_page _ _ (λ k d lt same.
+            rw (row_of_page _ _ row sound.rows_rise found k d lt same) (sym none))
 
     -- and once the other is dropped
     pub left_dropped : AreDue (record b { rows = without_page page b.rows }) new
-    left_dropped = All-filter (λ r. not (same_page r.page page))
-        (λ r. is_restless r ≡ true → has_item r.page new ≡ false → waits_on (record b { rows = without_page page b.rows }) r ≡ true) b.rows
-        (left_still b sound page row found (without_page page b.rows) counts old new was more_than_was covers)
+    left_dropped = All-filter _
+        (λ r. is_restless r ≡ true → has_item r.page new ≡ false → waits_on (record b { rows = without_page page b.rows }) r ≡ true) _
+        (left_still b sound _ row found (without_page page b.rows) counts old new was more_than_was covers)
       where
         counts : (e : DupRow) → merged_into e.number row.state ≡ false → item_count (without_page page b.rows) e ≡ item_count b.rows e
         counts e none =
-            let item : Row → Bool = λ r. merged_into e.number r.state in
-            let less = count_without_page item page b.rows row sound.rows_rise found in
-            let same : item_count (without_page page b.rows) e + 0 ≡ item_count b.rows e =
-            subst (λ z. item_count (without_page page b.rows) e + (if z then 1 else 0) ≡ item_count b.rows e) none less in
-            omega (arith, same)
+            let less = count_without_page (λ r. merged_into e.number r.state) _ _ row sound.rows_rise found in
+            let same = subst (λ z. item_count (without_page page b.rows) e + (if z then 1 else 0) ≡ item_count b.rows e) none less in
+            omega arith
 
 -- ---------------------------------------------------------------- a page comes
 
@@ -182,7 +154,7 @@ come_due b page node bytes pages absent was =
 module _ (b : BookState) (page : GuestPage) (old new : List GuestPage) (added : (p : GuestPage) → has_item p new ≡ (same_page page p || has_item p old))
     (was : AreDue b old) where
   more : (p : GuestPage) → has_item p old ≡ true → has_item p new ≡ true
-  more p is = let tells = added p in grind (arith, tells, is)
+  more p is = let tells = added p in grind arith
 
   -- that is so of the book as it is
   pub added_due : AreDue b new
@@ -193,32 +165,22 @@ module _ (b : BookState) (page : GuestPage) (old new : List GuestPage) (added : 
       → AreDue (record b { rows = with_row (fresh_row page node bytes) b.rows }) new
   added_come absent node bytes =
       more_due (record b { rows = with_row (fresh_row page node bytes) b.rows }) (page ∷ old) new (λ p is. added p ∙ is)
-      (come_due b page node bytes old absent was)
+      (come_due b _ _ _ old absent was)
 
 -- a page that has a row has one
 pub known_row : (rows : List Row) (page : GuestPage) → IsKnown page rows → (row : Row) × (row_at page rows ≡ Some row)
-known_row rows page known = by (row_at page rows) refl known
-  where
-    by : (o : Option Row) → row_at page rows ≡ o → is_some o ≡ true → (row : Row) × (row_at page rows ≡ Some row)
-    by None found is = cc
-    by (Some row) found is = (row, found)
+known_row rows page known = grind arith
 
 -- ---------------------------------------------------------------- a command that is answered with a reply
 
 -- a page that was registered had no row
 absent_then : (b : BookState) (page : GuestPage) (node : ℕ) (bytes : List ℕ) (reply : Reply) → IsAnswerOrMemory b (Register page node bytes) (Ok reply)
     → row_at page b.rows ≡ None
-absent_then b page node bytes reply answer = none_of (row_at page b.rows) (by (is_no_node b node) (is_known b page) answer)
-  where
-    by : (away known : Bool) → IsAnswerUnless (refused_if away BadNode (refused_if known AlreadyRegistered None)) b (Register page node bytes) (Ok reply)
-        → known ≡ false
-    by true known is = cc
-    by false true is = cc
-    by false false is = refl
+absent_then b page node bytes reply answer = grind arith
 
 -- a page that was dropped had a row
 known_then : (b : BookState) (page : GuestPage) (reply : Reply) → IsAnswerOrMemory b (Drop page) (Ok reply) → IsKnown page b.rows
-known_then b page reply answer = by (is_known b page) answer
+known_then b page reply answer = by _ answer
   where
     by : (known : Bool) → IsAnswerUnless (refused_if (not known) UnknownPage None) b (Drop page) (Ok reply) → known ≡ true
     by false is = cc
@@ -230,8 +192,8 @@ pub registered_due : (v w : BookView) (page : GuestPage) (node : ℕ) (bytes : L
     → (row_at page v.state.rows ≡ None → AreDue (record v.state { rows = with_row (fresh_row page node bytes) v.state.rows }) pages)
     → AreDue w.state pages
 registered_due v w page node bytes (Ok reply) pages carried kept come =
-    subst (λ b. AreDue b pages) (sym carried.state) (come (absent_then v.state page node bytes reply carried.answer))
-registered_due v w page node bytes (Err fault) pages carried kept come = subst (λ b. AreDue b pages) (sym carried.state) kept
+    rw carried.state (come (absent_then v.state page node bytes reply carried.answer))
+registered_due v w page node bytes (Err fault) pages carried kept come = rw carried.state kept
 
 -- where a page was to be dropped, what is due is so after it
 pub gone_due : (v w : BookView) (page : GuestPage) (answer : Answer) (pages : List GuestPage)
@@ -240,5 +202,5 @@ pub gone_due : (v w : BookView) (page : GuestPage) (answer : Answer) (pages : Li
     → AreDue w.state pages
 gone_due v w page (Ok reply) pages carried kept gone =
     let at = known_row v.state.rows page (known_then v.state page reply carried.answer) in
-    subst (λ b. AreDue b pages) (sym carried.state) (gone at.0 at.1)
-gone_due v w page (Err fault) pages carried kept gone = subst (λ b. AreDue b pages) (sym carried.state) kept
+    rw carried.state (gone at.0 at.1)
+gone_due v w page (Err fault) pages carried kept gone = rw carried.state kept

@@ -1,15 +1,16 @@
 -- The visit of a page that is due, by what was found of it: it takes over from none, but where a row further on waits
 -- for it; and which pages are due then.
-use Rattle.ksm_book.proofs.Names.{and_from, and_right, ap, AreDue, arith, Best, best_dup, BookState, BookValue, BookView, Bool, change_row, change_rows, Comes, comes_before, comes_later, cond_both, Deed, doing, Dup, due_row_visited, due_visited, DupRow, false, find_mapped, find_passes, FindsAt, get_or, GuestPage, has_item, HasStayed, if◌then◌else◌, InPageOrder, inl, inr, is_for_zero, is_none, is_restless, IsDueNoMore, IsSound, KeeperView, List, mapped, MatchOption, Merged, merged_state, None, not, not_both, one_before, Option, option_map, or_cases, page_visited, PagesView, paired, PageState, Partner, partner, Performs, Reached, refl, restless_at, restless_row, Row, row_at, row_visited, row_visiting, same_page, same_page_eq, same_page_refl, same_Some, shared_state, Some, state_of, StaysBefore, subst, sym, taken_over, takes_over, TakesOverFrom, true, view_of, visited, VisitsPage, waits_for, waits_tells, Zero, ℕ, ◌&&◌, ◌||◌, ◌∙◌, ◌∷◌, ◌≡◌}
+use Rattle.ksm_book.proofs.Names.{and_from, and_right, ap, AreDue, arith, Best, best_dup, BookState, BookValue, BookView, Bool, change_row, change_rows, Comes, comes_before, comes_later, cond_both, Deed, doing, Dup, due_visited, DupRow, false, find_mapped, find_passes, FindsAt, get_or, GuestPage, has_item, HasStayed, if◌then◌else◌, InPageOrder, is_for_zero, is_none, is_restless, IsDueNoMore, IsSound, KeeperView, List, mapped, MatchOption, Merged, None, not, not_both, one_before, Option, option_map, or_cases, page_visited, PagesView, paired, PageState, Partner, partner, Performs, Reached, refl, restless_at, restless_row, Row, row_at, row_visited, same_page, same_page_eq, same_page_refl, same_Some, shared_state, Some, state_of, StaysBefore, subst, sym, takes_over, TakesOverFrom, true, view_of, VisitsPage, waits_for, waits_tells, Zero, ℕ, ◌&&◌, ◌||◌, ◌∙◌, ◌∷◌, ◌≡◌, nat_tests}
 use Rattle.ksm_base.specs.declared.row.PageState.TheVariants.{Private}
 use Rattle.ksm_pages.specs.declared.pages.Find.TheVariants as finds
 use Rattle.ksm_pages.specs.Paged.{Finds}
 use Rattle.ksm_book.proofs.DueAlike.{due_sound}
-use Rattle.ksm_book.proofs.DueKept.{calm_undue, changed_due, more_due, single, visited_due}
+use Rattle.ksm_book.proofs.DueKept.{calm_undue, changed_due, more_due, visited_due}
 use Rattle.ksm_book.proofs.PageVisits.{shared_comes}
 use Rattle.ksm_book.proofs.Reached.{comes_to, first}
-use Rattle.ksm_book.proofs.RowVisits.{at_row, filled_by, Meets, page_is, restless_own, stayed_is, there_is, visited_by}
+use Rattle.ksm_book.proofs.RowVisits.{filled_by, Meets, page_is, restless_own, stayed_is, there_is, visited_by}
 use Rattle.ksm_book.proofs.Singles.{book}
+use Rattle.ksm_pages.proofs.Joined.{own_not_merged}
 
 -- ---------------------------------------------------------------- a row that takes over from none
 
@@ -18,10 +19,10 @@ abbrev pub TakesNone : GuestPage → BookState → Type 0
 TakesNone page b = (r : Row) → row_at page b.rows ≡ Some r → takes_over b r ≡ false
 
 not_first : (p q r s : Bool) → p ≡ false → (p && q && r && s) ≡ false
-not_first p q r s is = grind (arith, is)
+not_first p q r s is = grind arith
 
 not_third : (p q r s : Bool) → r ≡ false → (p && q && r && s) ≡ false
-not_third p q r s is = grind (arith, is)
+not_third p q r s is = grind arith
 
 module _ (b : BookState) (row : Row) where
   abbrev none : Bool
@@ -34,44 +35,34 @@ module _ (b : BookState) (row : Row) where
   later = comes_later row.page (partner b.knobs b.rows row)
 
   joins_takes_none : (d : DupRow) → best_dup b.knobs b.rows b.dups row ≡ Some d → takes_over b row ≡ false
-  joins_takes_none d best = not_first none row.unchanged other_bytes later (ap is_none best)
+  joins_takes_none d best = not_first _ _ _ _ (ap is_none best)
 
   zero_takes_none : is_for_zero b.knobs row ≡ true → takes_over b row ≡ false
-  zero_takes_none is = not_third none row.unchanged other_bytes later (ap not is)
+  zero_takes_none is = not_third none row.unchanged _ later (ap not is)
 
   waits_takes_none : (w : Row) → partner b.knobs b.rows row ≡ Some w → comes_before row.page w.page ≡ false → takes_over b row ≡ false
-  waits_takes_none w waits before =
-      and_right (none && row.unchanged && other_bytes) later (ap (comes_later row.page) waits ∙ before)
+  waits_takes_none w waits before = and_right _ _ (ap (comes_later row.page) waits ∙ before)
 
   takes : best_dup b.knobs b.rows b.dups row ≡ None → row.unchanged ≡ true → is_for_zero b.knobs row ≡ false
       → (w : Row) → partner b.knobs b.rows row ≡ Some w → comes_before row.page w.page ≡ true → takes_over b row ≡ true
-  takes best is zeroes w waits before =
-      and_from (none && row.unchanged && other_bytes) later
-      (and_from (none && row.unchanged) other_bytes (and_from none row.unchanged (ap is_none best) is) (ap not zeroes))
-      (ap (comes_later row.page) waits ∙ before)
+  takes best is zeroes w waits before = grind (arith, nat_tests, and_from)
 
 -- where the row of a page takes over from none, its visit is that of the definitions
 is_visited : (s : BookState × Deed) (page : GuestPage) → TakesNone page s.0 → due_visited doing s page ≡ page_visited doing s page
-is_visited s page none = by (row_at page s.0.rows) refl
-  where
-    by : (o : Option Row) → row_at page s.0.rows ≡ o → due_row_visited doing s o ≡ visited doing s o
-    by None found = refl
-    by (Some r) found = ap (λ z. if z then (taken_over s.0 r, s.1) else visited doing s (Some r))
-        (and_right (is_restless r) (takes_over s.0 r) (none r found))
+is_visited s page none = grind (arith, none)
 
 comes_so : (v w : BookValue) (page : GuestPage) → TakesNone page v.state → Comes v w (λ s. page_visited doing s page)
     → Comes v w (λ s. due_visited doing s page)
 comes_so v w page none comes = λ from s before.
-    subst (Reached from w) (sym (is_visited s page (subst (TakesNone page) before.0 none))) (comes from s before)
+    subst (Reached from w) (sym (is_visited s _ (subst (TakesNone page) before.0 none))) (comes from s before)
 
 module _ {P : BookState → Row → Type 0} {p : PagesView} {k : KeeperView} {cursor : Option GuestPage} {passes : ℕ} {v : BookView}
     {page : GuestPage} (at : Meets P p k cursor passes v page) where
   takes_none : takes_over (state_of p cursor passes) at.row ≡ false → TakesNone page v.state
-  takes_none none = subst (λ (x : BookView). TakesNone page x.state) at.is
-      (λ r found. subst (λ x. takes_over (state_of p cursor passes) x ≡ false) (same_Some at.row r (sym at.found ∙ found)) none)
+  takes_none none = rw (← at.is) (λ r found. rw (← same_Some _ r (sym at.found ∙ found)) none)
 
   sound_seen : IsSound v.state
-  sound_seen = subst (λ (x : BookView). IsSound x.state) at.is at.sound
+  sound_seen = rw (← at.is) at.sound
 
 -- ---------------------------------------------------------------- what is due but for one page
 
@@ -81,12 +72,12 @@ Without page old new = (p : GuestPage) → has_item p new ≡ (has_item p old &&
 
 kept : (page : GuestPage) (old new : List GuestPage) → Without page old new
     → (p : GuestPage) → has_item p old ≡ true → has_item p (page ∷ new) ≡ true
-kept page old new gone p is = let one = gone p in grind (arith, is, one)
+kept page old new gone p is = let one = gone p in grind arith
 
 -- a page that is due no more need not be among those that are
 pub less_due : (page : GuestPage) (b c : BookState) (old new : List GuestPage) → Without page old new → IsDueNoMore page b c
     → AreDue b old → AreDue c new
-less_due page b c old new gone no_more due = no_more new (more_due b old (page ∷ new) (kept page old new gone) due)
+less_due page b c old new gone no_more due = no_more new (more_due b old (page ∷ new) (kept _ old new gone) due)
 
 -- the row of a page that shares a frame from now on is none that a visit may change
 calm_then : (page : GuestPage) (rows : List Row) (row : Row) (test : Row → Bool) (state : PageState) → shared_state state ≡ true
@@ -99,7 +90,7 @@ calm_then page rows row test state shared found passes =
     (λ k d lt. let r = get_or rows k d in
     cond_both (test r) (record r { state = state }) r (λ x. same_page x.page page ≡ same_page r.page page) (λ _. refl) (λ _. refl))
     ∙ ap (option_map f) found ∙ ap (λ z. Some (if z then record row { state = state } else row)) passes)
-    ∙ ap (λ z. row.mergeable && not z) shared ∙ and_right row.mergeable false refl
+    ∙ ap (λ z. row.mergeable && not z) shared ∙ and_right _ false refl
 
 -- ---------------------------------------------------------------- a page that shares a frame from now on
 
@@ -109,46 +100,44 @@ module _ {P : BookState → Row → Type 0} {p : PagesView} {k : KeeperView} {cu
     (did : VisitsPage (book q k cursor passes) (view_of w) page) where
   -- where a search changed nothing and the row, which takes over from none, was visited, that is the visit of what is due
   pub shared_due_comes : Comes v w (λ s. due_visited doing s page)
-  shared_due_comes = comes_so v w page (takes_none at none) (shared_comes v w at restless q same did)
+  shared_due_comes = comes_so v w _ (takes_none at none) (shared_comes v w at restless q same did)
 
   state_is : w.state ≡ row_visited (state_of p cursor passes) at.row
-  state_is = (at_row (λ r. (w.state ≡ row_visited (state_of p cursor passes) r)
-      × Performs (mapped (book p k cursor passes)) (mapped (view_of w)) (row_visiting (state_of p cursor passes) p.frame r))
-      page p.rows at.row at.found (subst (λ (x : PagesView). VisitsPage (book x k cursor passes) (view_of w) page) same did)).0
+  state_is = grind arith
 
   -- and where no visit may change the row then, the page is due no longer
   pub shared_leaves : restless_at page (row_visited (state_of p cursor passes) at.row).rows ≡ false
       → (old new : List GuestPage) → Without page old new → AreDue v.state old → AreDue w.state new
-  shared_leaves calm old new gone = less_due page v.state w.state old new gone no_more
+  shared_leaves calm old new gone = less_due _ v.state w.state old new gone no_more
     where
       becomes : w.state ≡ (due_visited doing (first v) page).0
-      becomes = comes_to v w (λ s. due_visited doing s page) shared_due_comes
+      becomes = comes_to v w _ shared_due_comes
 
       rise : InPageOrder w.state.rows
-      rise = (subst IsSound (sym becomes) (due_sound (first v) page (sound_seen at))).rows_rise
+      rise = (subst IsSound (sym becomes) (due_sound _ _ (sound_seen at))).rows_rise
 
       no_more : IsDueNoMore page v.state w.state
       no_more pages was =
-          calm_undue w.state page rise (ap (λ (c : BookState). restless_at page c.rows) state_is ∙ calm) pages
+          calm_undue w.state _ rise (ap (λ (c : BookState). restless_at page c.rows) state_is ∙ calm) pages
           (subst (λ (c : BookState). AreDue c (page ∷ pages)) (sym becomes)
-          (visited_due (first v) page pages (sound_seen at) was (takes_none at none)))
+          (visited_due _ _ _ (sound_seen at) was (takes_none at none)))
 
 -- ---------------------------------------------------------------- by what was found
 
 module _ {p q : PagesView} {k : KeeperView} {cursor : Option GuestPage} {passes : ℕ} {v : BookView} {page : GuestPage} where
   module _ (best : Best) (at : Meets (λ _ r. FindsAt p q r (Dup best)) p k cursor passes v page) where
     joins : (d : DupRow) × (best_dup p.knobs p.rows p.dups at.row ≡ Some d) × ((best.number ≡ d.number) × (best.place ≡ d.place))
-    joins = filled_by (λ d. (best.number ≡ d.number) × (best.place ≡ d.place)) (best_dup p.knobs p.rows p.dups at.row) at.so.1
+    joins = filled_by _ _ at.so.1
 
     -- a page that joins a dup takes over from none
     pub dup_none : takes_over (state_of p cursor passes) at.row ≡ false
-    dup_none = joins_takes_none (state_of p cursor passes) at.row joins.0 joins.1
+    dup_none = joins_takes_none (state_of p cursor passes) at.row _ joins.1
 
     -- its row is none then that a visit may change
     pub dup_calm : restless_at page (row_visited (state_of p cursor passes) at.row).rows ≡ false
     dup_calm =
-        ap (λ (c : BookState). restless_at page c.rows) (visited_by (state_of p cursor passes) p.frame at.row (Some joins.0) at.so.0 joins.1).0
-        ∙ calm_then page p.rows at.row (λ r. same_page r.page at.row.page) (Merged joins.0.number) refl at.found (same_page_refl at.row.page)
+        ap (λ (c : BookState). restless_at page c.rows) (visited_by _ p.frame _ _ at.so.0 joins.1).0
+        ∙ calm_then page p.rows _ (λ r. same_page r.page at.row.page) (Merged joins.0.number) refl at.found (same_page_refl at.row.page)
 
   module _ (at : Meets (λ _ r. FindsAt p q r finds.Zero) p k cursor passes v page) where
     -- a page that becomes Zero takes over from none
@@ -160,48 +149,45 @@ module _ {p q : PagesView} {k : KeeperView} {cursor : Option GuestPage} {passes 
     zero_calm =
         let is = at.so in
         ap (λ (c : BookState). restless_at page c.rows)
-        (stayed_is (state_of p cursor passes) p.frame at.row true (record { restless = is.0; none = is.1; unchanged = is.2; zeroes = is.3 })).0
-        ∙ calm_then page p.rows at.row (λ r. same_page r.page at.row.page) Zero refl at.found (same_page_refl at.row.page)
+        (stayed_is _ p.frame _ true (record { restless = is.0; none = is.1; unchanged = is.2; zeroes = is.3 })).0
+        ∙ calm_then page p.rows _ (λ r. same_page r.page at.row.page) Zero refl at.found (same_page_refl at.row.page)
 
   module _ (other : GuestPage) (at : Meets (λ _ r. FindsAt p q r (Partner other)) p k cursor passes v page) where
     met : (w : Row) × (partner p.knobs p.rows at.row ≡ Some w) × (other ≡ w.page)
-    met = filled_by (λ w. other ≡ w.page) (partner p.knobs p.rows at.row) at.so.4
+    met = filled_by _ _ at.so.4
 
     stays : HasStayed (state_of p cursor passes) false at.row
     stays = (let is = at.so in record { restless = is.0; none = is.1; unchanged = is.2; zeroes = is.3 })
 
     -- a page that meets an earlier one takes over from none
     pub partner_none : comes_before other page ≡ true → takes_over (state_of p cursor passes) at.row ≡ false
-    partner_none before = waits_takes_none (state_of p cursor passes) at.row met.0 met.1
+    partner_none before = waits_takes_none (state_of p cursor passes) at.row _ met.1
         ((λ t. comes_before (page_is at t) (sym met.2 t)) ∙ not_both other page before)
 
     -- once it was visited, its row is none that a visit may change
     pub partner_calm : restless_at page (row_visited (state_of p cursor passes) at.row).rows ≡ false
     partner_calm =
-        ap (λ (c : BookState). restless_at page c.rows)
-        ((stayed_is (state_of p cursor passes) p.frame at.row false stays).0 ∙ ap (λ o. paired o (state_of p cursor passes) at.row) met.1)
-        ∙ calm_then page p.rows at.row (λ r. same_page r.page met.0.page || same_page r.page at.row.page) (Merged p.next) refl at.found
-        (let same = same_page_refl at.row.page in grind (arith, same))
+        rw ((stayed_is (state_of p cursor passes) p.frame at.row false stays).0 ∙ ap (λ o. paired o (state_of p cursor passes) at.row) met.1)
+        (calm_then page p.rows at.row (λ r. same_page r.page met.0.page || same_page r.page at.row.page) (Merged p.next) refl at.found
+        (let same = same_page_refl at.row.page in grind arith))
 
     -- a page that meets no earlier one is to wait in the stead of the other
     pub partner_takes : comes_before other page ≡ false → MatchOption (row_at page p.rows) (true ≡ false) (TakesOverFrom (state_of p cursor passes) other)
     partner_takes none =
-        let apart = (waits_tells p.knobs at.row met.0 (find_passes (waits_for p.knobs at.row) p.rows met.0 met.1)).other in
-        let before : comes_before at.row.page met.0.page ≡ true =
-        one_before met.0.page at.row.page apart ((λ t. comes_before (sym met.2 t) (page_is at t)) ∙ none) in
-        subst (λ o. MatchOption o (true ≡ false) (TakesOverFrom (state_of p cursor passes) other)) (sym at.found)
-        (at.so.0, takes (state_of p cursor passes) at.row stays.none stays.unchanged stays.zeroes met.0 met.1 before, at.so.4)
+        let apart = (waits_tells p.knobs at.row met.0 (find_passes (waits_for p.knobs at.row) p.rows _ met.1)).other in
+        let before = one_before met.0.page at.row.page apart ((λ t. comes_before (sym met.2 t) (page_is at t)) ∙ none) in
+        rw at.found
+        (at.so.0, takes (state_of p cursor passes) at.row stays.none stays.unchanged stays.zeroes _ met.1 before, at.so.4)
 
   -- a page whose bytes had changed stays due
   pub changed_keeps : Meets (λ _ r. FindsAt p q r finds.Changed) p k cursor passes v page → (due : List GuestPage)
       → has_item page due ≡ true → AreDue v.state due → AreDue (state_of q cursor passes) due
   changed_keeps at due there was =
-      subst (λ (x : PagesView). AreDue (state_of x cursor passes) due) (sym at.so.3)
+      rw at.so.3
       (more_due (record (state_of p cursor passes) { rows = change_row at.row.page f p.rows }) (at.row.page ∷ due) due back
-      (changed_due (state_of p cursor passes) at.row.page f due at.sound.rows_rise (λ r. refl)
+      (changed_due (state_of p cursor passes) _ f due at.sound.rows_rise (λ r. refl)
       (λ r found. (
-        subst (λ x. merged_state x.state ≡ false) (same_Some at.row r (sym (there_is at) ∙ found))
-            (single at.row.state (restless_own at.row at.so.0)),
+        rw (← same_Some _ r (sym (there_is at) ∙ found)) (own_not_merged _ (restless_own at.row at.so.0)),
         refl,
       ))
       (subst (λ (x : BookView). AreDue x.state due) (sym at.is) was)))
@@ -210,18 +196,11 @@ module _ {p q : PagesView} {k : KeeperView} {cursor : Option GuestPage} {passes 
       f r = record r { unchanged = true; state = Private }
 
       back : (g : GuestPage) → has_item g (at.row.page ∷ due) ≡ true → has_item g due ≡ true
-      back g is = elim (or_cases (same_page at.row.page g) (has_item g due) is) [
-        | inl same ↦ ap (λ x. has_item x due) (sym (same_page_eq at.row.page g same) ∙ page_is at) ∙ there
-        | inr among ↦ among
-      ]
+      back g is = grind (arith, nat_tests, is, page_is at, or_cases, same_page_eq)
 
 -- a search that found a page gone changed nothing
 pub gone_same : (p q : PagesView) (page : GuestPage) → Finds p q page finds.Gone → q ≡ p
-gone_same p q page told = by (row_at page p.rows) told
-  where
-    by : (o : Option Row) → MatchOption o ((finds.Gone ≡ finds.Gone) × (q ≡ p)) (λ r. FindsAt p q r finds.Gone) → q ≡ p
-    by None told = told.1
-    by (Some r) told = told.1
+gone_same p q page told = grind arith
 
 -- ---------------------------------------------------------------- books that look the same
 

@@ -1,11 +1,12 @@
 -- Passes that visit only the pages that are due: what waits on is left as it is, and what is due stays so.
-use Rattle.ksm_book.proofs.Names.{IsDueNoMore, restless_at, restless_row, All, All-cons, All-head, All-tail, AreDue, BookState, Bool, Contains, Deed, DupRow, Frames, GuestPage, HasStayed, InPageOrder, IsJoined, IsSound, Knobs, List, Merged, None, Option, PageState, Row, Some, Waiting, WaitsFor, Zero, [], all_changed, all_with_dup, and_from, and_parts, and_right, ap, arith, best_dup, best_dup_has_room, both_ways, bytes_eq, bytes_eq-Decides, cases_Bool, change_row, change_rows, comes_later, cond_both, count_by, count_mapped, doing, due_row_visited, due_visited, due_visits, dup_numbered, each_at_page, each_has_number, eq-eqb, eqb-true, false, find, find_all, find_none, find_nothing, find_passes, get_or, handled, has_item, idle, if◌then◌else◌, inl, inr, is_best, is_for_zero, is_no_rival, is_no_worse, is_none, is_restless, item_count, list_all, list_all-from_AllPass, made_dup, may_join, merged_into, merged_state, nat_le, nat_lt, nat_tests, ne_eqb, new_place, not, not-true, not_an_item, not_from_false, nowhere, one_of_each_page, or_cases, or_parts, ordered_change, paired, pairing, partner, place_count, refl, row_at, row_visited, row_visiting, same_Some, same_page, same_page_eq, same_page_refl, settled, settled_state, shared_state, stayed, subst, suc, sym, taken_over, takes_over, tells_waits, then_doing, tree_of, true, true≢false, visited, waiting_state, waits_for, waits_on, waits_tells, with_dup, ℕ, ◌&&◌, ◌+◌, ◌==◌, ◌||◌, ◌∙◌, ◌∷◌, ◌≡◌, ◌⊎◌}
+use Rattle.ksm_book.proofs.Names.{IsDueNoMore, restless_at, restless_row, All, All-cons, All-head, All-tail, AreDue, BookState, Bool, Contains, Deed, DupRow, Frames, GuestPage, HasStayed, InPageOrder, IsJoined, IsSound, Knobs, List, Merged, None, Option, PageState, Row, Some, Waiting, WaitsFor, Zero, [], all_changed, all_with_dup, and_from, and_parts, and_right, ap, arith, best_dup, best_dup_has_room, both_ways, bytes_eq, bytes_eq-Decides, cases_Bool, change_row, change_rows, comes_later, cond_both, count_by, count_mapped, doing, due_row_visited, due_visited, due_visits, dup_numbered, each_at_page, each_has_number, eq-eqb, eqb-true, false, find, find_all, find_none, find_nothing, find_passes, get_or, handled, has_item, idle, if◌then◌else◌, inl, inr, is_for_zero, is_restless, item_count, list_all, list_all-from_AllPass, made_dup, may_join, merged_into, merged_state, nat_le, nat_lt, nat_tests, ne_eqb, not, not-true, not_an_item, not_from_false, nowhere, one_of_each_page, or_cases, or_parts, ordered_change, paired, partner, refl, row_at, row_visited, row_visiting, same_Some, same_page, same_page_eq, same_page_refl, settled, settled_state, stayed, subst, suc, sym, taken_over, takes_over, tells_waits, tree_of, true, true≢false, visited, waiting_state, waits_for, waits_on, waits_tells, with_dup, ℕ, ◌&&◌, ◌+◌, ◌==◌, ◌||◌, ◌∙◌, ◌∷◌, ◌≡◌, ◌⊎◌}
 use Rattle.ksm_base.specs.declared.row.PageState.TheVariants.{Private}
 use Rattle.ksm_book.proofs.ByPage.{at_changed, found_page, row_of_page}
 use Rattle.ksm_book.proofs.Doing.{then_idle}
-use Rattle.ksm_book.proofs.DueAlike.{TakesOver, freed, freed_found, takes_tells}
+use Rattle.ksm_book.proofs.DueAlike.{TakesOver, freed, freed_found, takes_tells, none_is}
 use Rattle.ksm_book.proofs.RowVisits.{restless_own, stayed_is, visited_by}
 use Rattle.ksm_book.proofs.Singles.{change_still}
+use Rattle.ksm_pages.proofs.Joined.{own_not_merged}
 
 -- ---------------------------------------------------------------- the best of those that pass a test
 
@@ -22,10 +23,7 @@ module _ {X : Type 0} (p : X → Bool) (better : X → X → Bool) (total : (x y
     over : All (λ y. p y ≡ true → better x y ≡ true) xs
 
   with_itself : (x : X) → better x x ≡ true
-  with_itself x = elim (cases_Bool (better x x)) [
-    | inl is ↦ is
-    | inr less ↦ total x x less
-  ]
+  with_itself x = grind arith
 
   first_tops : (y : X) (ys : List X) → p y ≡ true → All (λ z. p z ≡ true → better y z ≡ true) ys → Tops (y ∷ ys) y
   first_tops y ys passes over = record {
@@ -59,43 +57,31 @@ module _ {X : Type 0} (p : X → Bool) (better : X → X → Bool) (total : (x y
   ]
 
   no_rival : (x y : X) → (p y ≡ true → better x y ≡ true) → (not (p y) || better x y) ≡ true
-  no_rival x y over = elim (cases_Bool (p y)) [
-    | inl is ↦ let more = over is in grind (arith, is, more)
-    | inr fails ↦ grind (arith, fails)
-  ]
+  no_rival x y over = grind (arith, over)
 
   -- where a search for the best finds nothing, none passes the test
   no_top : (xs : List X) → find (is_top xs) xs ≡ None → All (λ x. p x ≡ false) xs
-  no_top xs none = elim (top_in xs) [
-    | inl fail ↦ fail
-    | inr t ↦
-        let at : is_top xs t.0 ≡ false =
-        subst (λ x. is_top xs x ≡ false) t.1.there.2 (find_none (is_top xs) xs none t.1.there.0 t.0 t.1.there.1) in
-        absurd (both_ways (is_top xs t.0) at (and_from (p t.0) (list_all (λ y. not (p y) || better t.0 y) xs) t.1.passes
-        (list_all-from_AllPass (λ y. not (p y) || better t.0 y) xs (λ k d lt. no_rival t.0 (get_or xs k d) (t.1.over k d lt)))))
-  ]
+  no_top xs none = grind (arith, none, top_in xs, find_none, and_from, list_all-from_AllPass, no_rival)
 
 -- ---------------------------------------------------------------- the dups that a row may join
 
 worse_total : (n m i j : ℕ) → (nat_lt m n || (m == n && nat_le i j)) ≡ false → (nat_lt n m || (n == m && nat_le j i)) ≡ true
-worse_total n m i j less = grind (arith, nat_tests, less)
+worse_total n m i j less = grind arith
 
 worse_on : (n m k i j l : ℕ) → (nat_lt m n || (m == n && nat_le i j)) ≡ true → (nat_lt k m || (k == m && nat_le j l)) ≡ true
     → (nat_lt k n || (k == n && nat_le i l)) ≡ true
-worse_on n m k i j l first second = grind (arith, nat_tests, first, second)
+worse_on n m k i j l first second = grind arith
 
 module _ (knobs : Knobs) (rows : List Row) (dups : List DupRow) (row : Row) where
   -- where there is no best dup, there is none that the row may join
   pub none_to_join : best_dup knobs rows dups row ≡ None → All (λ d. may_join knobs rows row d ≡ false) dups
   none_to_join none =
-      no_top (may_join knobs rows row) (is_no_worse rows)
-      (λ d e. worse_total (item_count rows d) (item_count rows e) d.number e.number)
-      (λ d e f. worse_on (item_count rows d) (item_count rows e) (item_count rows f) d.number e.number f.number) dups none
+      no_top _ _ (λ d e. worse_total (item_count rows d) (item_count rows e) d.number e.number)
+      (λ d e f. worse_on (item_count rows d) (item_count rows e) (item_count rows f) d.number e.number f.number) _ none
 
   -- where there is no dup that the row may join, there is no best one
   pub none_is_best : All (λ d. may_join knobs rows row d ≡ false) dups → best_dup knobs rows dups row ≡ None
-  none_is_best none = find_nothing (is_best knobs rows dups row) dups
-      (λ k d lt. ap (λ z. z && list_all (is_no_rival knobs rows row (get_or dups k d)) dups) (none k d lt))
+  none_is_best none = find_nothing _ _ (λ k d lt. rw (none k d lt))
 
 -- ---------------------------------------------------------------- what a row that waits on is
 
@@ -106,30 +92,22 @@ pub record WaitsOn (b : BookState) (row : Row) : Type 0 where
   pub zeroes : is_for_zero b.knobs row ≡ false
   pub none : best_dup b.knobs b.rows b.dups row ≡ None
 
-none_there : {X : Type 0} (o : Option X) → is_none o ≡ true → o ≡ None
-none_there None is = refl
-none_there (Some x) is = cc
-
 -- a row that passes the test waits on
 pub on_tells : (b : BookState) (row : Row) → waits_on b row ≡ true → WaitsOn b row
 on_tells b row is =
-    let best = best_dup b.knobs b.rows b.dups row in
-    let last = and_parts _ (is_none best) is in
-    let third = and_parts _ (not (is_for_zero b.knobs row)) last.0 in
-    let first = and_parts (waiting_state row.state) row.unchanged third.0 in
+    let last = and_parts _ _ is in
+    let third = and_parts _ _ last.0 in
+    let first = and_parts _ _ third.0 in
     record {
       waiting = first.0;
       unchanged = first.1;
       zeroes = not-true (is_for_zero b.knobs row) third.1;
-      none = none_there best last.1;
+      none = none_is _ last.1;
     }
 
 -- a row that waits on passes the test
 pub tells_on : (b : BookState) (row : Row) → WaitsOn b row → waits_on b row ≡ true
-tells_on b row h =
-    and_from _ (is_none (best_dup b.knobs b.rows b.dups row))
-    (and_from _ (not (is_for_zero b.knobs row)) (and_from (waiting_state row.state) row.unchanged h.waiting h.unchanged)
-    (not_from_false (is_for_zero b.knobs row) h.zeroes)) (ap is_none h.none)
+tells_on b row h = grind (arith, nat_tests, h, and_from, not_from_false)
 
 -- ---------------------------------------------------------------- which pages are due
 
@@ -150,8 +128,8 @@ pub undue : (b : BookState) (page : GuestPage) (pages : List GuestPage) → InPa
 undue b page pages rise waits due = λ k d lt restless out.
     let r = get_or b.rows k d in
     elim (cases_Bool (same_page page r.page)) [
-      | inl same ↦ waits r (ap (λ p. row_at p b.rows) (same_page_eq page r.page same) ∙ each_at_page b.rows rise k d lt) restless
-      | inr other ↦ due k d lt restless (ap (λ z. z || has_item r.page pages) other ∙ out)
+      | inl same ↦ waits r (ap (λ p. row_at p b.rows) (same_page_eq _ _ same) ∙ each_at_page _ rise k d lt) restless
+      | inr other ↦ due k d lt restless (rw other out)
     ]
 
 -- ---------------------------------------------------------------- changes of rows
@@ -165,10 +143,7 @@ joins knobs row d items =
 pub count_kept : (number : ℕ) (test : Row → Bool) (f : Row → Row) (rows : List Row)
     → All (λ r. test r ≡ true → merged_into number (f r).state ≡ merged_into number r.state) rows
     → count_by (λ r. merged_into number r.state) (change_rows test f rows) ≡ count_by (λ r. merged_into number r.state) rows
-count_kept number test f rows same =
-    let p : Row → Bool = λ r. merged_into number r.state in
-    count_mapped (λ r. if test r then f r else r) p p rows
-    (λ k d lt. let r = get_or rows k d in cond_both (test r) (f r) r (λ x. p x ≡ p r) (same k d lt) (λ _. refl))
+count_kept number test f rows same = grind (arith, nat_tests, count_mapped)
 
 module _ (b : BookState) (test : Row → Bool) (f : Row → Row) (dups : List DupRow) (next : ℕ) where
   -- the book once the rows that pass a test were changed, and the dups
@@ -187,7 +162,7 @@ module _ (b : BookState) (test : Row → Bool) (f : Row → Row) (dups : List Du
         waiting = h.waiting;
         unchanged = h.unchanged;
         zeroes = h.zeroes;
-        none = none_is_best b.knobs changed.rows dups r (joins_none (none_to_join b.knobs b.rows b.dups r h.none));
+        none = none_is_best b.knobs changed.rows _ r (joins_none (none_to_join b.knobs b.rows _ r h.none));
       })
 
   -- what is due after a change: the changed rows that a visit may change, and what was due
@@ -210,10 +185,9 @@ module _ (b : BookState) (test : Row → Bool) (f : Row → Row)
     (single : All (λ r. test r ≡ true → (merged_state r.state ≡ false) × (merged_state (f r).state ≡ false)) b.rows) where
   -- each dup has as many items as it had
   same_items : (d : DupRow) → item_count (change_rows test f b.rows) d ≡ item_count b.rows d
-  same_items d = count_kept d.number test f b.rows (λ k e lt passes.
-      let r = get_or b.rows k e in
+  same_items d = count_kept _ _ f _ (λ k e lt passes.
       let both = single k e lt passes in
-      not_an_item d.number (f r).state both.1 ∙ sym (not_an_item d.number r.state both.0))
+      not_an_item _ _ both.1 ∙ sym (not_an_item _ _ both.0))
 
   -- a row that could join no dup can join none
   still_none : (r : Row) → StillJoinsNone b test f b.dups b.next r
@@ -225,16 +199,15 @@ module _ (b : BookState) (test : Row → Bool) (f : Row → Row)
       → All (λ r. test r ≡ true → is_restless (f r) ≡ true → has_item (f r).page more ≡ true) b.rows
       → AreDue b due → AreDue (record b { rows = change_rows test f b.rows }) more
   unmerged_due due more has ours was =
-      change_due b test f b.dups b.next due more has ours (λ k d lt _ _. still_none (get_or b.rows k d)) was
+      change_due b _ f b.dups b.next due _ has ours (λ k d lt _ _. still_none (get_or b.rows k d)) was
 
 -- what is due is due beside one page more
 pub one_more : (page : GuestPage) (pages : List GuestPage) (p : GuestPage) → has_item p pages ≡ true → has_item p (page ∷ pages) ≡ true
-one_more page pages p is = grind (arith, is)
+one_more page pages p is = grind arith
 
 -- a page is among itself and others
 pub itself : (page : GuestPage) (pages : List GuestPage) (p : GuestPage) → same_page p page ≡ true → has_item p (page ∷ pages) ≡ true
-itself page pages p same =
-    ap (λ z. z || has_item p pages) (ap (same_page page) (same_page_eq p page same) ∙ same_page_refl page)
+itself page pages p same = rw (ap (same_page page) (same_page_eq p _ same) ∙ same_page_refl page)
 
 -- a change of one row that is not merged, before or after, makes that row due
 pub changed_due : (b : BookState) (page : GuestPage) (f : Row → Row) (pages : List GuestPage) → InPageOrder b.rows
@@ -242,41 +215,32 @@ pub changed_due : (b : BookState) (page : GuestPage) (f : Row → Row) (pages : 
     → ((r : Row) → row_at page b.rows ≡ Some r → (merged_state r.state ≡ false) × (merged_state (f r).state ≡ false))
     → AreDue b pages → AreDue (record b { rows = change_row page f b.rows }) (page ∷ pages)
 changed_due b page f pages rise keeps single was =
-    unmerged_due b (λ r. same_page r.page page) f
-    (λ k d lt same. let r = get_or b.rows k d in
-    single r (ap (λ p. row_at p b.rows) (sym (same_page_eq r.page page same)) ∙ each_at_page b.rows rise k d lt))
-    pages (page ∷ pages) (one_more page pages)
+    unmerged_due b _ f
+    (λ k d lt same. single (get_or b.rows k d) (ap (λ p. row_at p b.rows) (sym (same_page_eq _ _ same)) ∙ each_at_page _ rise k d lt))
+    _ (page ∷ pages) (one_more page _)
     (λ k d lt same _. let r = get_or b.rows k d in
     ap (λ p. has_item p (page ∷ pages)) (keeps r) ∙ itself page pages r.page same) was
 
 -- ---------------------------------------------------------------- the visit of a row
 
--- a row with a frame of its own is not merged
-pub single : (state : PageState) → shared_state state ≡ false → merged_state state ≡ false
-single Private own = refl
-single Waiting own = refl
-single (Merged d) own = cc
-single Zero own = refl
-
 -- a row waits for another
 module _ (b : BookState) (sound : IsSound b) (row w : Row) (waits : partner b.knobs b.rows row ≡ Some w) where
   waiter : WaitsFor b.knobs row w
-  waiter = waits_tells b.knobs row w (find_passes (waits_for b.knobs row) b.rows w waits)
+  waiter = waits_tells _ row w (find_passes (waits_for b.knobs row) b.rows w waits)
 
   -- each row of the page of the one that waits is that one
   waiter_only : All (λ r. same_page r.page w.page ≡ true → r ≡ w) b.rows
-  waiter_only = find_all (waits_for b.knobs row) (λ r. All (λ t. same_page t.page r.page ≡ true → t ≡ r) b.rows) b.rows w waits
-      (one_of_each_page b.rows sound.rows_rise)
+  waiter_only = find_all _ (λ r. All (λ t. same_page t.page r.page ≡ true → t ≡ r) b.rows) _ w waits
+      (one_of_each_page _ sound.rows_rise)
 
   -- no row of another page waits with the tree and content of the one that waits
   waiter_alone : All (λ r. waiting_state r.state ≡ true → same_page r.page w.page ≡ false → tree_of b.knobs r ≡ tree_of b.knobs row
       → r.bytes ≡ row.bytes → true ≡ false) b.rows
   waiter_alone k d lt waiting apart tree bytes =
-      let r = get_or b.rows k d in
-      let none = find_none (waits_for b.knobs w) b.rows
+      let none = find_none _ _
       (find_all (waits_for b.knobs row) (λ x. waiting_state x.state ≡ true → partner b.knobs b.rows x ≡ None) b.rows w waits
       sound.waiting waiter.state) in
-      sym (tells_waits b.knobs w r (record {
+      sym (tells_waits b.knobs w (get_or b.rows k d) (record {
         state = waiting;
         other = apart;
         tree = tree ∙ sym waiter.tree;
@@ -286,7 +250,7 @@ module _ (b : BookState) (sound : IsSound b) (row w : Row) (waits : partner b.kn
 -- what is not to join, though it has an item and room, is of another tree or content
 not_of_group : (group some room more less : Bool) → some ≡ true → room ≡ true → (group && some && room) ≡ false
     → (group && more && less) ≡ false
-not_of_group group some room more less is_some has_room none = grind (arith, is_some, has_room, none)
+not_of_group group some room more less is_some has_room none = grind (arith, none)
 
 -- of other rows each dup but one, which has an item and room for one more, has as many items
 module _ (b : BookState) (sound : IsSound b) (new : List Row) (dup : DupRow) (stands : dup_numbered dup.number b.dups ≡ Some dup)
@@ -298,13 +262,9 @@ module _ (b : BookState) (sound : IsSound b) (new : List Row) (dup : DupRow) (st
       let e = get_or b.dups k d in
       elim (cases_Bool (e.number == dup.number)) [
         | inl same ↦
-            let is : e ≡ dup = same_Some e dup (sym (each_has_number b.dups sound.dups_rise k d lt)
+            let is = same_Some e dup (sym (each_has_number _ sound.dups_rise k d lt)
             ∙ ap (λ n. dup_numbered n b.dups) (eqb-true e.number dup.number same) ∙ stands) in
-            subst (λ x. may_join b.knobs new r x ≡ false) (sym is)
-            (not_of_group (dup.tree == tree_of b.knobs r && bytes_eq dup.bytes r.bytes) (nat_le 1 (item_count b.rows dup))
-            (nat_lt (item_count b.rows dup) b.knobs.max_page_sharing) (nat_le 1 (item_count new dup))
-            (nat_lt (item_count new dup) b.knobs.max_page_sharing) some room
-            (subst (λ x. may_join b.knobs b.rows r x ≡ false) is (none k d lt)))
+            rw is (not_of_group _ _ _ _ _ some room (subst (λ x. may_join b.knobs b.rows r x ≡ false) is (none k d lt)))
         | inr other ↦ ap (joins b.knobs r e) (same_count e other) ∙ none k d lt
       ]
 
@@ -314,16 +274,16 @@ module _ (b : BookState) (sound : IsSound b) (row : Row) (found : row_at row.pag
 
   -- each row of its page is this row
   only : All (λ r. of_page r ≡ true → r ≡ row) b.rows
-  only = row_of_page row.page b.rows row sound.rows_rise found
+  only = row_of_page _ _ row sound.rows_rise found
 
   unmerged : merged_state row.state ≡ false
-  unmerged = single row.state (restless_own row restless)
+  unmerged = own_not_merged _ (restless_own row restless)
 
   -- the row gets another state that is not merged, and another flag
   own_due : (f : Row → Row) (pages : List GuestPage) → ((r : Row) → (f r).page ≡ r.page) → merged_state (f row).state ≡ false
       → AreDue b (row.page ∷ pages) → AreDue (record b { rows = change_row row.page f b.rows }) (row.page ∷ pages)
   own_due f pages keeps after was =
-      unmerged_due b of_page f
+      unmerged_due b _ f
       (λ k d lt same. subst (λ r. (merged_state r.state ≡ false) × (merged_state (f r).state ≡ false)) (sym (only k d lt same))
       (unmerged, after))
       (row.page ∷ pages) (row.page ∷ pages) (λ p is. is)
@@ -334,11 +294,11 @@ module _ (b : BookState) (sound : IsSound b) (row : Row) (found : row_at row.pag
   joined_due : (dup : DupRow) (pages : List GuestPage) → best_dup b.knobs b.rows b.dups row ≡ Some dup → AreDue b (row.page ∷ pages)
       → AreDue (record b { rows = change_row row.page (λ r. record r { state = Merged dup.number }) b.rows }) (row.page ∷ pages)
   joined_due dup pages best was =
-      change_due b of_page f b.dups b.next (row.page ∷ pages) (row.page ∷ pages) (λ p is. is)
+      change_due b _ f b.dups b.next (row.page ∷ pages) (row.page ∷ pages) (λ p is. is)
       (λ k d lt same _. itself row.page pages (get_or b.rows k d).page same)
       (λ k d lt _ _.
-      let room = and_parts _ (nat_lt (item_count b.rows dup) b.knobs.max_page_sharing) joins_it in
-      let some = and_parts _ (nat_le 1 (item_count b.rows dup)) room.0 in
+      let room = and_parts _ _ joins_it in
+      let some = and_parts _ _ room.0 in
       joins_none_still b sound (change_rows of_page f b.rows) dup joined.stands some.1 room.1 same_count (get_or b.rows k d)) was
     where
       f : Row → Row
@@ -348,12 +308,11 @@ module _ (b : BookState) (sound : IsSound b) (row : Row) (found : row_at row.pag
       joined = best_dup_has_room b row dup sound best
 
       joins_it : may_join b.knobs b.rows row dup ≡ true
-      joins_it = (and_parts (may_join b.knobs b.rows row dup) (list_all (is_no_rival b.knobs b.rows row dup) b.dups)
-          (find_passes (is_best b.knobs b.rows b.dups row) b.dups dup best)).0
+      joins_it = grind (arith, nat_tests, and_parts, find_passes)
 
       same_count : (e : DupRow) → (e.number == dup.number) ≡ false → item_count (change_rows of_page f b.rows) e ≡ item_count b.rows e
-      same_count e other = count_kept e.number of_page f b.rows (λ k d lt same.
-          let was_none = subst (λ r. merged_into e.number r.state ≡ false) (sym (only k d lt same)) (not_an_item e.number row.state unmerged) in
+      same_count e other = count_kept _ _ f _ (λ k d lt same.
+          let was_none = subst (λ r. merged_into e.number r.state ≡ false) (sym (only k d lt same)) (not_an_item _ _ unmerged) in
           ne_eqb dup.number e.number (λ is. absurd (both_ways (e.number == dup.number) other (eq-eqb e.number dup.number (sym is))))
           ∙ sym was_none)
 
@@ -361,8 +320,8 @@ module _ (b : BookState) (sound : IsSound b) (row : Row) (found : row_at row.pag
   made_due : (place : ℕ) (w : Row) (pages : List GuestPage) → partner b.knobs b.rows row ≡ Some w → AreDue b (row.page ∷ pages)
       → AreDue (made_dup place b w row) (row.page ∷ pages)
   made_due place w pages waits was =
-      change_due b test f (with_dup new b.dups) (b.next + 1) (row.page ∷ pages) (row.page ∷ pages) (λ p is. is)
-      (λ k d lt _ calm. absurd (both_ways ((get_or b.rows k d).mergeable && false) (and_right (get_or b.rows k d).mergeable false refl) calm))
+      change_due b _ f (with_dup new b.dups) (b.next + 1) (row.page ∷ pages) (row.page ∷ pages) (λ p is. is)
+      (λ k d lt _ calm. absurd (both_ways ((get_or b.rows k d).mergeable && false) (and_right _ false refl) calm))
       others was
     where
       test : Row → Bool
@@ -376,90 +335,64 @@ module _ (b : BookState) (sound : IsSound b) (row : Row) (found : row_at row.pag
 
       no_items : (number : ℕ) → All (λ r. test r ≡ true → merged_into number r.state ≡ false) b.rows
       no_items number k d lt passes =
-          let r = get_or b.rows k d in
-          elim (or_cases (same_page r.page w.page) (same_page r.page row.page) passes) [
-            | inl same ↦ subst (λ x. merged_into number x.state ≡ false) (sym (waiter_only b sound row w waits k d lt same))
-                (no_item number w.state (waiter b sound row w waits).state)
-            | inr same ↦ subst (λ x. merged_into number x.state ≡ false) (sym (only k d lt same)) (not_an_item number row.state unmerged)
+          elim (or_cases _ _ passes) [
+            | inl same ↦ rw (waiter_only b sound row w waits k d lt same)
+                (no_item _ _ (waiter b sound row w waits).state)
+            | inr same ↦ rw (only k d lt same) (not_an_item _ _ unmerged)
           ]
         where
           no_item : (number : ℕ) (state : PageState) → waiting_state state ≡ true → merged_into number state ≡ false
-          no_item number Waiting is = refl
-          no_item number Private is = refl
-          no_item number (Merged n) is = cc
-          no_item number Zero is = refl
+          no_item number state is = grind arith
 
       of_another : All (λ r. waiting_state r.state ≡ true → same_page r.page w.page ≡ false
           → (new.tree == tree_of b.knobs r && bytes_eq new.bytes r.bytes) ≡ false) b.rows
-      of_another k d lt waiting apart =
-          let r = get_or b.rows k d in
-          elim (cases_Bool (new.tree == tree_of b.knobs r && bytes_eq new.bytes r.bytes)) [
-            | inl same ↦
-                let group = and_parts (new.tree == tree_of b.knobs r) (bytes_eq new.bytes r.bytes) same in
-                absurd (true≢false (waiter_alone b sound row w waits k d lt waiting apart
-                (sym (eqb-true new.tree (tree_of b.knobs r) group.0)) (sym ((bytes_eq-Decides new.bytes r.bytes).0 group.1))))
-            | inr other ↦ other
-          ]
+      of_another k d lt waiting apart = grind (arith, nat_tests, waiting, and_parts, waiter_alone, bytes_eq-Decides)
 
       others : All (λ r. test r ≡ false → WaitsOn b r → StillJoinsNone b test f (with_dup new b.dups) (b.next + 1) r) b.rows
       others k d lt fails h none =
           let r = get_or b.rows k d in
-          let apart = or_parts (same_page r.page w.page) (same_page r.page row.page) fails in
-          let other = of_another k d lt h.waiting apart.0 in
-          all_with_dup (λ e. may_join b.knobs (change_rows test f b.rows) r e ≡ false) new b.dups
-          (ap (λ z. z && nat_le 1 (item_count (change_rows test f b.rows) new)
-          && nat_lt (item_count (change_rows test f b.rows) new) b.knobs.max_page_sharing) other)
+          let other = of_another k d lt h.waiting (or_parts _ _ fails).0 in
+          all_with_dup (λ e. may_join b.knobs (change_rows test f b.rows) r e ≡ false) new _ (rw other)
           (λ j e lt_e.
           let old = get_or b.dups j e in
           let older = sound.numbers j e lt_e in
-          let same : item_count (change_rows test f b.rows) old ≡ item_count b.rows old =
-          count_kept old.number test f b.rows (λ i x lt_x passes.
-          ne_eqb b.next old.number (λ is. omega (arith, older, is)) ∙ sym (no_items old.number i x lt_x passes)) in
+          let same = count_kept _ _ f _ (λ i x lt_x passes.
+          ne_eqb b.next old.number (λ is. omega arith) ∙ sym (no_items _ i x lt_x passes)) in
           ap (joins b.knobs r old) same ∙ none j e lt_e)
 
   paired_due : (o : Option Row) (pages : List GuestPage) → partner b.knobs b.rows row ≡ o → AreDue b (row.page ∷ pages)
       → AreDue (paired o b row) (row.page ∷ pages)
-  paired_due (Some w) pages waits was = made_due (new_place (place_count b.shape) b.rows b.dups) w pages waits was
-  paired_due None pages alone was = own_due (λ r. record r { state = Waiting }) pages (λ r. refl) refl was
+  paired_due (Some w) pages waits was = made_due _ w _ waits was
+  paired_due None pages alone was = own_due _ _ (λ r. refl) refl was
 
   stayed_due : (pages : List GuestPage) → AreDue b (row.page ∷ pages) → AreDue (stayed b row) (row.page ∷ pages)
   stayed_due pages was =
       cond_both (is_for_zero b.knobs row) (record b { rows = change_row row.page (λ r. record r { state = Zero }) b.rows })
       (paired (partner b.knobs b.rows row) b row) (λ c. AreDue c (row.page ∷ pages))
-      (λ _. own_due (λ r. record r { state = Zero }) pages (λ r. refl) refl was)
-      (λ _. paired_due (partner b.knobs b.rows row) pages refl was)
+      (λ _. own_due (λ r. record r { state = Zero }) _ (λ r. refl) refl was) (λ _. paired_due _ _ refl was)
 
   handled_due : (o : Option DupRow) (pages : List GuestPage) → best_dup b.knobs b.rows b.dups row ≡ o → AreDue b (row.page ∷ pages)
       → AreDue (handled o b row) (row.page ∷ pages)
-  handled_due (Some dup) pages best was = joined_due dup pages best was
+  handled_due (Some dup) pages best was = joined_due dup _ best was
   handled_due None pages best was =
       cond_both row.unchanged (stayed b row)
       (record b { rows = change_row row.page (λ r. record r { unchanged = true; state = Private }) b.rows })
-      (λ c. AreDue c (row.page ∷ pages)) (λ _. stayed_due pages was)
-      (λ _. own_due (λ r. record r { unchanged = true; state = Private }) pages (λ r. refl) refl was)
+      (λ c. AreDue c (row.page ∷ pages)) (λ _. stayed_due _ was)
+      (λ _. own_due (λ r. record r { unchanged = true; state = Private }) _ (λ r. refl) refl was)
 
   -- the visit of a row leaves due what was, and its own page
   row_due : (pages : List GuestPage) → AreDue b (row.page ∷ pages) → AreDue (row_visited b row) (row.page ∷ pages)
   row_due pages was =
-      let best = best_dup b.knobs b.rows b.dups row in
-      subst (λ c. AreDue c (row.page ∷ pages)) (sym (visited_by b nowhere row best restless refl).0) (handled_due best pages refl was)
+      subst (λ c. AreDue c (row.page ∷ pages)) (sym (visited_by b nowhere row _ restless refl).0) (handled_due _ _ refl was)
 
 -- ---------------------------------------------------------------- the visit of a page
 
 -- the visit of a page that is none that a visit may change changes nothing
 pub calm_stays : (s : BookState × Deed) (page : GuestPage) → restless_at page s.0.rows ≡ false → due_visited doing s page ≡ s
-calm_stays s page calm = by (row_at page s.0.rows) calm
-  where
-    by : (o : Option Row) → restless_row o ≡ false → due_row_visited doing s o ≡ s
-    by None calm = refl
-    by (Some r) calm = ap (λ z. if z && takes_over s.0 r then (taken_over s.0 r, s.1) else
-        (if z then (row_visited s.0 r, doing s.0 s.1 r) else s)) calm
+calm_stays s page calm = grind arith
 
 waits_is : (state : PageState) → waiting_state state ≡ true → Waiting ≡ state
-waits_is Waiting is = refl
-waits_is Private is = cc
-waits_is (Merged d) is = cc
-waits_is Zero is = cc
+waits_is state is = grind arith
 
 module _ (b : BookState) (frame : Frames) (sound : IsSound b) (row : Row) (found : row_at row.page b.rows ≡ Some row)
     (restless : is_restless row ≡ true) (on : WaitsOn b row) where
@@ -470,7 +403,7 @@ module _ (b : BookState) (frame : Frames) (sound : IsSound b) (row : Row) (found
 
   -- so it takes over from none
   on_takes_none : takes_over b row ≡ false
-  on_takes_none = and_right _ (comes_later row.page (partner b.knobs b.rows row)) (ap (comes_later row.page) on_alone)
+  on_takes_none = and_right _ _ (ap (comes_later row.page) on_alone)
 
   on_stayed : HasStayed b false row
   on_stayed = record { restless = restless; none = on.none; unchanged = on.unchanged; zeroes = on.zeroes }
@@ -480,63 +413,51 @@ module _ (b : BookState) (frame : Frames) (sound : IsSound b) (row : Row) (found
   on_same = (stayed_is b frame row false on_stayed).0 ∙ ap (λ o. paired o b row) on_alone ∙ (λ t. record b { rows = still t })
     where
       still : change_row row.page (λ r. record r { state = Waiting }) b.rows ≡ b.rows
-      still = change_still row.page (λ r. record r { state = Waiting }) b.rows (λ k d lt same.
-          subst (λ r. record r { state = Waiting } ≡ r) (sym (row_of_page row.page b.rows row sound.rows_rise found k d lt same))
-          (λ t. record row { state = waits_is row.state on.waiting t }))
+      still = change_still _ _ _ (λ k d lt same. rw (row_of_page _ _ row sound.rows_rise found k d lt same)
+          (λ t. record row { state = waits_is _ on.waiting t }))
 
   -- and does nothing to the frames
   on_idle : row_visiting b frame row ≡ idle frame
-  on_idle = (stayed_is b frame row false on_stayed).1 ∙ ap (λ o. pairing o b frame row) on_alone
+  on_idle = grind (arith, nat_tests, on_alone, stayed_is)
 
 -- the visit of a page that waits on changes nothing
 pub on_stays : (s : BookState × Deed) (page : GuestPage) (r : Row) → IsSound s.0 → row_at page s.0.rows ≡ Some r
     → waits_on s.0 r ≡ true → is_restless r ≡ true → due_visited doing s page ≡ s
-on_stays s page r sound found is restless =
-    let on = on_tells s.0 r is in
-    let there : row_at r.page s.0.rows ≡ Some r = ap (λ p. row_at p s.0.rows) (found_page page s.0.rows r found) ∙ found in
-    ap (due_row_visited doing s) found
-    ∙ ap (λ z. if is_restless r && z then (taken_over s.0 r, s.1) else visited doing s (Some r))
-    (on_takes_none s.0 s.1.frame sound r there restless on)
-    ∙ ap (λ z. if z && false then (taken_over s.0 r, s.1) else (if z then (row_visited s.0 r, doing s.0 s.1 r) else s)) restless
-    ∙ (λ t. (on_same s.0 s.1.frame sound r there restless on t, then_doing s.1 (on_idle s.0 s.1.frame sound r there restless on t)))
-    ∙ (λ t. (s.0, then_idle s.1 t))
+on_stays s page r sound found is restless = grind (arith, nat_tests, found_page, on_takes_none, on_same, on_idle, then_idle)
 
 -- visits of pages of which none is due change nothing
 pub undue_stay : (pages : List GuestPage) (s : BookState × Deed) (due : List GuestPage) → IsSound s.0 → AreDue s.0 due
     → All (λ p. has_item p due ≡ false) pages → due_visits doing s pages ≡ s
 undue_stay [] s due sound are out = refl
 undue_stay (page ∷ pages) s due sound are out =
-    ap (λ z. due_visits doing z pages) (one (row_at page s.0.rows) refl)
-    ∙ undue_stay pages s due sound are (All-tail (λ p. has_item p due ≡ false) page pages out)
+    rw (one _ refl) (undue_stay pages s due sound are (All-tail (λ p. has_item p due ≡ false) page _ out))
   where
     one : (o : Option Row) → row_at page s.0.rows ≡ o → due_visited doing s page ≡ s
-    one None found = calm_stays s page (ap restless_row found)
+    one None found = calm_stays s _ (ap restless_row found)
     one (Some r) found = elim (cases_Bool (is_restless r)) [
       | inl restless ↦
-          let on : waits_on s.0 r ≡ true = find_all (λ x. same_page x.page page)
+          let on = find_all (λ x. same_page x.page page)
           (λ x. is_restless x ≡ true → has_item x.page due ≡ false → waits_on s.0 x ≡ true) s.0.rows r found are restless
-          (ap (λ p. has_item p due) (found_page page s.0.rows r found) ∙ All-head (λ p. has_item p due ≡ false) page pages out) in
-          on_stays s page r sound found on restless
-      | inr calm ↦ calm_stays s page (ap restless_row found ∙ calm)
+          (ap (λ p. has_item p due) (found_page _ _ r found) ∙ All-head (λ p. has_item p due ≡ false) _ _ out) in
+          on_stays s _ r sound found on restless
+      | inr calm ↦ calm_stays s _ (ap restless_row found ∙ calm)
     ]
 
 -- where the row of a page takes over from none, its visit leaves due what was, and that page
 pub visited_due : (s : BookState × Deed) (page : GuestPage) (pages : List GuestPage) → IsSound s.0 → AreDue s.0 (page ∷ pages)
     → ((r : Row) → row_at page s.0.rows ≡ Some r → takes_over s.0 r ≡ false)
     → AreDue (due_visited doing s page).0 (page ∷ pages)
-visited_due s page pages sound due none = by (row_at page s.0.rows) refl
+visited_due s page pages sound due none = by _ refl
   where
     by : (o : Option Row) → row_at page s.0.rows ≡ o → AreDue (due_row_visited doing s o).0 (page ∷ pages)
     by None found = due
     by (Some r) found =
-        let at = found_page page s.0.rows r found in
-        let there : row_at r.page s.0.rows ≡ Some r = ap (λ p. row_at p s.0.rows) at ∙ found in
+        let at = found_page _ _ r found in
+        let there = ap (λ p. row_at p s.0.rows) at ∙ found in
         subst (λ z. AreDue (if z then (taken_over s.0 r, s.1) else visited doing s (Some r)).0 (page ∷ pages))
-        (sym (and_right (is_restless r) (takes_over s.0 r) (none r found)))
+        (sym (and_right _ _ (none r found)))
         (cond_both (is_restless r) (row_visited s.0 r, doing s.0 s.1 r) s (λ z. AreDue z.0 (page ∷ pages))
-        (λ restless. subst (λ p. AreDue (row_visited s.0 r) (p ∷ pages)) at
-        (row_due s.0 sound r there restless pages (subst (λ p. AreDue s.0 (p ∷ pages)) (sym at) due)))
-        (λ calm. due))
+        (λ restless. rw (← at) (row_due s.0 sound r there restless _ (rw at due))) (λ calm. due))
 
 -- ---------------------------------------------------------------- a row that begins to wait
 
@@ -551,16 +472,16 @@ pub waits_then : (b : BookState) (row : Row) → row_at row.page b.rows ≡ Some
     × (waits_on (waits_now b row) (record row { state = Waiting }) ≡ true)
 waits_then b row found restless none unchanged zeroes rise =
     let f : Row → Row = λ r. record r { state = Waiting } in
-    let own = single row.state (restless_own row restless) in
+    let own = own_not_merged _ (restless_own row restless) in
     let single_at : All (λ r. same_page r.page row.page ≡ true → (merged_state r.state ≡ false) × (merged_state (f r).state ≡ false)) b.rows =
-    λ k d lt same. (subst (λ r. merged_state r.state ≡ false) (sym (row_of_page row.page b.rows row rise found k d lt same)) own, refl) in (
+    λ k d lt same. (rw (row_of_page _ _ row rise found k d lt same) own, refl) in (
       at_changed row.page f b.rows row (λ r. refl) found,
       tells_on (waits_now b row) (f row) (record {
         waiting = refl;
         unchanged = unchanged;
         zeroes = zeroes;
-        none = none_is_best b.knobs (waits_now b row).rows b.dups row
-            (still_none b (λ r. same_page r.page row.page) f single_at row (none_to_join b.knobs b.rows b.dups row none));
+        none = none_is_best b.knobs (waits_now b row).rows _ row
+            (still_none b (λ r. same_page r.page row.page) f single_at row (none_to_join b.knobs b.rows _ row none));
       }),
     )
 
@@ -569,24 +490,21 @@ pub waits_undue : (b : BookState) (row : Row) → row_at row.page b.rows ≡ Som
     → best_dup b.knobs b.rows b.dups row ≡ None → row.unchanged ≡ true → is_for_zero b.knobs row ≡ false → InPageOrder b.rows
     → IsDueNoMore row.page b (waits_now b row)
 waits_undue b row found restless none unchanged zeroes rise pages was =
-    undue (waits_now b row) row.page pages (ordered_change (λ r. same_page r.page row.page) f b.rows (λ r. refl) rise) on
-    (more_due (waits_now b row) (row.page ∷ row.page ∷ pages) (row.page ∷ pages) (λ p is. grind (arith, is))
-    (changed_due b row.page f (row.page ∷ pages) rise (λ r. refl)
-    (λ r at. (subst (λ x. merged_state x.state ≡ false) (same_Some row r (sym found ∙ at)) (single row.state (restless_own row restless)), refl))
-    was))
+    undue (waits_now b row) _ _ (ordered_change _ f _ (λ r. refl) rise) on
+    (more_due (waits_now b row) (row.page ∷ row.page ∷ pages) (row.page ∷ pages) (λ p is. grind arith)
+    (changed_due b _ f (row.page ∷ pages) rise (λ r. refl)
+    (λ r at. (rw (← same_Some row r (sym found ∙ at)) (own_not_merged _ (restless_own row restless)), refl)) was))
   where
     f : Row → Row
     f r = record r { state = Waiting }
 
     on : (r : Row) → row_at row.page (waits_now b row).rows ≡ Some r → is_restless r ≡ true → waits_on (waits_now b row) r ≡ true
-    on r at _ =
-        let then_waits = waits_then b row found restless none unchanged zeroes rise in
-        subst (λ x. waits_on (waits_now b row) x ≡ true) (same_Some (record row { state = Waiting }) r (sym then_waits.0 ∙ at)) then_waits.1
+    on r at _ = grind (arith, nat_tests, at, waits_then b row found restless none unchanged zeroes rise, same_Some)
 
 -- a page whose row a visit may not change is not due
 pub calm_undue : (b : BookState) (page : GuestPage) → InPageOrder b.rows → restless_at page b.rows ≡ false → IsDueNoMore page b b
 calm_undue b page rise calm pages was =
-    undue b page pages rise (λ r at restless. absurd (true≢false (sym restless ∙ ap restless_row (sym at) ∙ calm))) was
+    undue b _ _ rise (λ r at restless. absurd (true≢false (sym restless ∙ ap restless_row (sym at) ∙ calm))) was
 
 -- ---------------------------------------------------------------- a row that waits in the stead of another
 
@@ -605,24 +523,21 @@ module _ (b : BookState) (row w : Row) (sound : IsSound b) (found : row_at row.p
   -- a row that waits is not merged, nor is it once it is settled
   unmerged_settled : (state : PageState) → waiting_state state ≡ true
       → (merged_state state ≡ false) × (merged_state (settled_state state) ≡ false)
-  unmerged_settled Waiting is = (refl, refl)
-  unmerged_settled Private is = cc
-  unmerged_settled (Merged d) is = cc
-  unmerged_settled Zero is = cc
+  unmerged_settled state is = grind arith
 
   freed_single : All (λ r. waits_for b.knobs row r ≡ true → (merged_state r.state ≡ false) × (merged_state (settled r).state ≡ false)) b.rows
-  freed_single k d lt passes = unmerged_settled (get_or b.rows k d).state (waits_tells b.knobs row (get_or b.rows k d) passes).state
+  freed_single k d lt passes = unmerged_settled _ (waits_tells b.knobs row (get_or b.rows k d) passes).state
 
   freed_rise : InPageOrder (freed b row).rows
-  freed_rise = ordered_change (waits_for b.knobs row) settled b.rows (λ r. refl) sound.rows_rise
+  freed_rise = ordered_change _ _ _ (λ r. refl) sound.rows_rise
 
   -- the row waits on once it has taken over, and the one in whose stead it waits is due
   takes_due : (pages : List GuestPage) → AreDue b (row.page ∷ pages) → AreDue (taken_over b row) (w.page ∷ pages)
   takes_due pages was =
-      undue (taken_over b row) row.page (w.page ∷ pages) after_rise on
+      undue (taken_over b row) _ (w.page ∷ pages) after_rise on
       (more_due (taken_over b row) (row.page ∷ row.page ∷ w.page ∷ pages) (row.page ∷ w.page ∷ pages) twice
-      (changed_due (freed b row) row.page (λ r. record r { state = Waiting }) (row.page ∷ w.page ∷ pages) freed_rise (λ r. refl)
-      (λ r at. (subst (λ x. merged_state x.state ≡ false) (same_Some row r (sym (freed_found b row found) ∙ at)) (single row.state (restless_own row restless)), refl))
+      (changed_due (freed b row) _ _ (row.page ∷ w.page ∷ pages) freed_rise (λ r. refl)
+      (λ r at. (rw (← same_Some row r (sym (freed_found b row found) ∙ at)) (own_not_merged _ (restless_own row restless)), refl))
       (unmerged_due b (waits_for b.knobs row) settled freed_single (row.page ∷ pages) (row.page ∷ w.page ∷ pages)
       between
       (λ k d lt passes _. let r = get_or b.rows k d in
@@ -633,25 +548,25 @@ module _ (b : BookState) (row w : Row) (sound : IsSound b) (found : row_at row.p
       t = takes_tells b row takes
 
       after_rise : InPageOrder (taken_over b row).rows
-      after_rise = ordered_change (λ r. same_page r.page row.page) (λ r. record r { state = Waiting }) (freed b row).rows (λ r. refl) freed_rise
+      after_rise = ordered_change _ _ _ (λ r. refl) freed_rise
 
       twice : (p : GuestPage) → has_item p (row.page ∷ row.page ∷ w.page ∷ pages) ≡ true → has_item p (row.page ∷ w.page ∷ pages) ≡ true
-      twice p is = grind (arith, is)
+      twice p is = grind arith
 
       between : (p : GuestPage) → has_item p (row.page ∷ pages) ≡ true → has_item p (row.page ∷ w.page ∷ pages) ≡ true
-      between p is = grind (arith, is)
+      between p is = grind arith
 
       none_freed : best_dup b.knobs (freed b row).rows b.dups row ≡ None
-      none_freed = none_is_best b.knobs (freed b row).rows b.dups row
-          (still_none b (waits_for b.knobs row) settled freed_single row (none_to_join b.knobs b.rows b.dups row t.none))
+      none_freed = none_is_best b.knobs (freed b row).rows _ row
+          (still_none b (waits_for b.knobs row) _ freed_single row (none_to_join b.knobs b.rows _ row t.none))
 
       on : (r : Row) → row_at row.page (taken_over b row).rows ≡ Some r → is_restless r ≡ true → waits_on (taken_over b row) r ≡ true
       on r at _ =
           let waits_now = waits_then (freed b row) row (freed_found b row found) restless none_freed t.unchanged t.zeroes freed_rise in
-          subst (λ x. waits_on (taken_over b row) x ≡ true) (same_Some (record row { state = Waiting }) r (sym waits_now.0 ∙ at)) waits_now.1
+          rw (← same_Some _ r (sym waits_now.0 ∙ at)) waits_now.1
 
 -- a row that takes over waits on, and the one in whose stead it waits is due
 pub taken_due : (b : BookState) (row w : Row) (pages : List GuestPage) → IsSound b → row_at row.page b.rows ≡ Some row
     → is_restless row ≡ true → takes_over b row ≡ true → partner b.knobs b.rows row ≡ Some w → AreDue b (row.page ∷ pages)
     → AreDue (taken_over b row) (w.page ∷ pages)
-taken_due b row w pages sound found restless takes waits was = takes_due b row w sound found restless takes waits pages was
+taken_due b row w pages sound found restless takes waits was = takes_due b row w sound found restless takes waits _ was

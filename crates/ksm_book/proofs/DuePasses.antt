@@ -1,5 +1,5 @@
 -- A pass over what is due comes to what the pass of the definitions comes to.
-use Rattle.ksm_book.proofs.Names.{[], after_cursor, All, All-filter, ap, append-nil, AreAscending, AreDue, arith, BookState, Bool, both_ways, cases_Bool, comes_before, cond_both, Deed, doing, due_visited, due_visits, false, filter, filter_all, filter_passes, filter-append, get_or, get_or_from_slice_get, GuestPage, has_item, hidden, hidden_from, inl, inr, is_none, IsSound, List, list_any_at, map_alike, mergeable_pages, nat_lt, nat_tests, None, not, not-true, Option, pages_ahead, pages_visited, part_before, part_visited, pass_begun, refl, restless_at, Row, same_page, same_Some, settled, slice_get, slice_get_within, Some, subst, suc, sym, take, true, up_to, zero, waiting_state, with_none_waiting, ℕ, ◌++◌, ◌*◌, ◌+◌, ◌-◌, ◌<◌, ◌^◌, ◌∙◌, ◌∷◌, ◌≡◌, if◌then◌else◌}
+use Rattle.ksm_book.proofs.Names.{[], after_cursor, All, All-filter, ap, append-nil, AreAscending, AreDue, arith, BookState, Bool, both_ways, cases_Bool, comes_before, Deed, doing, due_visited, due_visits, false, filter, filter_all, filter_passes, filter-append, get_or, get_or_from_slice_get, GuestPage, has_item, hidden, hidden_from, inl, inr, IsSound, List, list_any_at, map_alike, mergeable_pages, nat_lt, nat_tests, None, not, not-true, Option, pages_ahead, pages_visited, part_before, part_visited, pass_begun, refl, restless_at, Row, same_page, same_Some, settled, slice_get, slice_get_within, Some, subst, suc, sym, take, true, zero, with_none_waiting, ℕ, ◌++◌, ◌*◌, ◌+◌, ◌-◌, ◌<◌, ◌^◌, ◌∙◌, ◌∷◌, ◌≡◌, if◌then◌else◌}
 use Rattle.ksm_book.specs.Scanned.{ahead_before}
 use Rattle.ksm_book.proofs.Along.{FitsPage}
 use Rattle.ksm_book.proofs.DueAlike.{due_alike, due_goes, due_visits_sound, hidden_all, hidden_none, mergeable_has, stays_settled, waits_mergeable}
@@ -22,7 +22,7 @@ visits_on (page ∷ some) more s = visits_on some more (due_visited doing s page
 -- of the rows of pages that scans visit those from one on are hidden: no row from there on waits
 hidden_rest : (b : BookState) → IsSound b → (page : GuestPage) → (pages : List GuestPage) → mergeable_pages b.rows ≡ pages
     → hidden (filter (λ p. not (comes_before p page)) pages) b ≡ hidden_from page b
-hidden_rest b sound page pages are = λ t. record b { rows = map_alike f g b.rows each t }
+hidden_rest b sound page pages are = λ t. record b { rows = map_alike f g _ each t }
   where
     rest : List GuestPage
     rest = filter (λ p. not (comes_before p page)) pages
@@ -34,23 +34,7 @@ hidden_rest b sound page pages are = λ t. record b { rows = map_alike f g b.row
     g r = if not (comes_before r.page page) then settled r else r
 
     each : All (λ r. f r ≡ g r) b.rows
-    each k d lt =
-        let r = get_or b.rows k d in
-        elim (cases_Bool (waiting_state r.state)) [
-          | inl waits ↦
-              let there : has_item r.page pages ≡ true =
-              ap (has_item r.page) (sym are) ∙ mergeable_has b.rows k d lt (waits_mergeable b sound k d lt waits) in
-              ap (λ z. if z then settled r else r)
-              (has_filter (λ p. not (comes_before p page)) r.page pages
-              ∙ (let h = there in let q = r.page in grind (arith, h)))
-          | inr none ↦
-              let same = stays_settled r none in
-              cond_both (has_item r.page rest) (settled r) r (λ x. x ≡ g r)
-              (λ _. same ∙ sym (calm r same)) (λ _. sym (calm r same))
-        ]
-      where
-        calm : (r : Row) → settled r ≡ r → g r ≡ r
-        calm r same = cond_both (not (comes_before r.page page)) (settled r) r (λ x. x ≡ r) (λ _. same) (λ _. refl)
+    each k d lt = grind (arith, nat_tests, mergeable_has, waits_mergeable, has_filter, stays_settled)
 
 -- a book as a pass begins, with what was done
 module _ (s : BookState × Deed) (sound : IsSound s.0) (start : s.0.cursor ≡ None) where
@@ -59,11 +43,11 @@ module _ (s : BookState × Deed) (sound : IsSound s.0) (start : s.0.cursor ≡ N
   all = mergeable_pages s.0.rows
 
   begun_none : pass_begun s.0 ≡ with_none_waiting s.0
-  begun_none = ap (λ o. if is_none o then with_none_waiting s.0 else s.0) start
+  begun_none = rw start
 
   -- all of them are ahead
   pub ahead_all : pages_ahead s.0 ≡ all
-  ahead_all = ap (λ o. filter (after_cursor o) all) start ∙ every_page s.0.rows
+  ahead_all = rw start (every_page s.0.rows)
 
   begun_all : pages_ahead (pass_begun s.0) ≡ all
   begun_all = begun_ahead s.0 ∙ ahead_all
@@ -71,18 +55,11 @@ module _ (s : BookState × Deed) (sound : IsSound s.0) (start : s.0.cursor ≡ N
   -- the visits of the first pages, where the others are hidden
   alike : (done rest : List GuestPage) → all ≡ done ++ rest
       → pages_visited doing (pass_begun s.0, s.1) done ≡ (hidden rest (due_visits doing s done).0, (due_visits doing s done).1)
-  alike done rest is =
-      (λ t. pages_visited doing ((begun_none ∙ sym (hidden_all s.0 sound) ∙ ap (λ l. hidden l s.0) is) t, s.1) done)
-      ∙ due_alike done rest s sound is
+  alike done rest is = grind (arith, nat_tests, begun_none, hidden_all s.0 sound, due_alike done rest s sound is)
 
   -- the visits of all pages
   pub whole_part : due_visits doing s (pages_ahead s.0) ≡ part_visited None s
-  whole_part =
-      ap (due_visits doing s) ahead_all
-      ∙ (λ t. (sym (hidden_none (due_visits doing s all).0) t, (due_visits doing s all).1))
-      ∙ sym (alike all [] (sym (append-nil all)))
-      ∙ ap (pages_visited doing (pass_begun s.0, s.1))
-      (sym (filter_all (up_to None) (pages_ahead (pass_begun s.0)) (λ k d lt. refl) ∙ begun_all))
+  whole_part = grind (arith, ahead_all, hidden_none (due_visits doing s all).0, alike all [] (sym (append-nil all)), begun_all, filter_all)
 
   -- the visits of the pages before one, once no row from there on waits
   pub before_part : (page : GuestPage) → (
@@ -92,27 +69,25 @@ module _ (s : BookState × Deed) (sound : IsSound s.0) (start : s.0.cursor ≡ N
   before_part page =
       let t : GuestPage → Bool = λ p. comes_before p page in
       let done = filter t all in
-      let rest = filter (λ p. not (t p)) all in
-      let ascends : AreAscending all = subst AreAscending ahead_all (ascending_ahead s.0 sound.rows_rise) in
+      let ascends = subst AreAscending ahead_all (ascending_ahead s.0 sound.rows_rise) in
       let after = due_visits doing s done in
-      (λ i. (hidden_from page (due_visits doing s (filter t (ahead_all i))).0, (due_visits doing s (filter t (ahead_all i))).1))
-      ∙ (λ i. (sym (hidden_rest after.0 (due_visits_sound done s sound) page all (due_goes done s sound).mergeable) i, after.1))
-      ∙ sym (alike done rest (parted t (before_down page) all ascends))
-      ∙ ap (λ l. pages_visited doing (pass_begun s.0, s.1) (filter t l)) (sym begun_all)
+      rw begun_all
+      ((λ i. (hidden_from page (due_visits doing s (filter t (ahead_all i))).0, (due_visits doing s (filter t (ahead_all i))).1))
+      ∙ (λ i. (sym (hidden_rest _ (due_visits_sound done s sound) page all (due_goes done s sound).mergeable) i, after.1))
+      ∙ sym (alike done (filter (λ p. not (t p)) all) (parted t (before_down _) all ascends)))
 
 -- ---------------------------------------------------------------- visits of what is due
 
 -- where a page is not behind a cursor, no page before that page is
 cursor_down : (cursor : Option GuestPage) → GoesDown (λ p. not (after_cursor cursor p))
 cursor_down cursor p q before fails = elim (cases_Bool (after_cursor cursor p)) [
-  | inl behind ↦ absurd (both_ways (after_cursor cursor q) (not-true (after_cursor cursor q) fails) (after_later cursor p q behind before))
+  | inl behind ↦ absurd (both_ways (after_cursor cursor q) (not-true (after_cursor cursor q) fails) (after_later _ p q behind before))
   | inr is ↦ ap not is
 ]
 
 -- a page that does not come before one behind the cursor is behind the cursor
 no_earlier : (c : Option GuestPage) (p q : GuestPage) → after_cursor c p ≡ true → comes_before q p ≡ false → after_cursor c q ≡ true
-no_earlier None p q behind no_less = refl
-no_earlier (Some l) p q behind no_less = grind (arith, nat_tests, behind, no_less)
+no_earlier c p q behind no_less = grind arith
 
 -- of pages in order those not behind a cursor were visited, and some pages are due then
 module _ (s : BookState × Deed) (sound : IsSound s.0) (pages : List GuestPage) (rise : AreAscending pages)
@@ -132,32 +107,23 @@ module _ (s : BookState × Deed) (sound : IsSound s.0) (pages : List GuestPage) 
     stay : (u : GuestPage → Bool) → ((q : GuestPage) → after_cursor cursor q ≡ true → u q ≡ true → has_item q due ≡ false)
         → due_visits doing reached (filter u left) ≡ reached
     stay u none =
-        undue_stay (filter u left) reached due (due_visits_sound (filter passed pages) s sound) are
+        undue_stay _ _ due (due_visits_sound (filter passed pages) s sound) are
         (λ k d lt. none (get_or (filter u left) k d)
-        (not-false (after_cursor cursor (get_or (filter u left) k d))
-        (All-filter u (λ q. not (passed q) ≡ true) left (filter_passes (λ p. not (passed p)) pages) k d lt))
-        (filter_passes u left k d lt))
+        (not-false _ (All-filter u (λ q. not (passed q) ≡ true) _ (filter_passes (λ p. not (passed p)) pages) k d lt))
+        (filter_passes u _ k d lt))
       where
         not-false : (b : Bool) → not (not b) ≡ true → b ≡ true
-        not-false true is = refl
-        not-false false is = cc
+        not-false b is = grind arith
 
     -- where no page behind the cursor is due, all pages were visited
     pub all_visited : All (λ p. after_cursor cursor p ≡ false) due → due_visits doing s pages ≡ reached
     all_visited none =
-        ap (due_visits doing s) (parted passed (cursor_down cursor) pages rise)
-        ∙ visits_on (filter passed pages) left s
+        ap (due_visits doing s) (parted _ (cursor_down cursor) _ rise) ∙ visits_on (filter passed pages) left s
         ∙ ap (due_visits doing reached) (sym (filter_all (λ _. true) left (λ k d lt. refl)))
         ∙ stay (λ _. true) (λ q behind _. undue_by (after_cursor cursor) q behind none)
       where
         undue_by : (t : GuestPage → Bool) (q : GuestPage) → t q ≡ true → All (λ p. t p ≡ false) due → has_item q due ≡ false
-        undue_by t q is fails = elim (cases_Bool (has_item q due)) [
-          | inr out ↦ out
-          | inl there ↦
-              let at = place_of q due there in
-              absurd (both_ways (t q) (subst (λ p. t p ≡ false) (get_or_from_slice_get due at.0 q q at.1)
-              (fails at.0 q (slice_get_within due at.0 q at.1))) is)
-        ]
+        undue_by t q is fails = grind (arith, nat_tests, place_of, get_or_from_slice_get, slice_get_within)
 
     module _ (page : GuestPage) (first : IsFirst cursor due page) where
       abbrev low : GuestPage → Bool
@@ -165,32 +131,19 @@ module _ (s : BookState × Deed) (sound : IsSound s.0) (pages : List GuestPage) 
 
       -- no page that is left and comes before it is due
       not_due : (q : GuestPage) → after_cursor cursor q ≡ true → low q ≡ true → has_item q due ≡ false
-      not_due q behind before = elim (cases_Bool (has_item q due)) [
-        | inr out ↦ out
-        | inl there ↦
-            let at = place_of q due there in
-            let none : after_cursor cursor q ≡ true → low q ≡ false =
-            subst (λ p. after_cursor cursor p ≡ true → low p ≡ false) (get_or_from_slice_get due at.0 q q at.1)
-            (first.2 at.0 q (slice_get_within due at.0 q at.1)) in
-            absurd (both_ways (low q) (none behind) before)
-      ]
+      not_due q behind before = grind (arith, nat_tests, place_of, get_or_from_slice_get, slice_get_within)
 
       -- what was passed comes before it
       passed_low : (q : GuestPage) → passed q ≡ true → low q ≡ true
-      passed_low q is = elim (cases_Bool (low q)) [
-        | inl before ↦ before
-        | inr no_less ↦
-            let behind : after_cursor cursor q ≡ true = no_earlier cursor page q first.1 no_less in
-            absurd (both_ways (after_cursor cursor q) (not-true (after_cursor cursor q) is) behind)
-      ]
+      passed_low q is = grind arith
 
       -- the pages before it were visited
       pub before_visited : due_visits doing s (filter low pages) ≡ reached
       before_visited =
-          ap (λ l. due_visits doing s (filter low l)) (parted passed (cursor_down cursor) pages rise)
+          ap (λ l. due_visits doing s (filter low l)) (parted _ (cursor_down cursor) _ rise)
           ∙ ap (due_visits doing s) (filter-append low (filter passed pages) left
-          ∙ ap (λ l. l ++ filter low left) (filter_all low (filter passed pages)
-          (λ k d lt. passed_low (get_or (filter passed pages) k d) (filter_passes passed pages k d lt))))
+          ∙ ap (λ l. l ++ filter low left) (filter_all low _
+          (λ k d lt. passed_low _ (filter_passes passed pages k d lt))))
           ∙ visits_on (filter passed pages) (filter low left) s
           ∙ stay low not_due
 
@@ -199,37 +152,29 @@ module _ (s : BookState × Deed) (sound : IsSound s.0) (pages : List GuestPage) 
           → due_visits doing s (filter (λ p. not (after_cursor (Some page) p)) pages) ≡ due_visited doing reached page
       next_visited known = elim (cases_Bool (has_item page pages)) [
         | inl there ↦
-            let at = place_of page pages there in
-            let splits = place_splits pages at.0 page rise at.1 in
-            ap (due_visits doing s) (splits.1 ∙ take_one pages at.0 page at.1 ∙ ap (λ l. l ++ page ∷ []) (sym splits.0))
-            ∙ visits_on (filter low pages) (page ∷ []) s
-            ∙ ap (λ z. due_visited doing z page) before_visited
+            let at = place_of _ _ there in
+            let splits = place_splits _ _ _ rise at.1 in
+            rw (← before_visited)
+            (ap (due_visits doing s) (splits.1 ∙ take_one _ _ _ at.1 ∙ ap (λ l. l ++ page ∷ []) (sym splits.0))
+            ∙ visits_on (filter low pages) (page ∷ []) s)
         | inr out ↦
-            ap (due_visits doing s) (filter_same (λ p. not (comes_before page p)) low pages
-            (λ k d lt. others (get_or pages k d) (absent page pages out k d lt)))
-            ∙ before_visited
-            ∙ sym (calm_stays reached page (calm out))
+            ap (due_visits doing s) (filter_same _ low _ (λ k d lt. others _ (absent _ _ out k d lt))) ∙ before_visited
+            ∙ sym (calm_stays _ _ (calm out))
       ]
         where
           calm : has_item page pages ≡ false → restless_at page reached.0.rows ≡ false
-          calm out = elim (cases_Bool (restless_at page reached.0.rows)) [
-            | inl restless ↦ absurd (both_ways (has_item page pages) out (known restless))
-            | inr is ↦ is
-          ]
+          calm out = grind arith
 
           others : (q : GuestPage) → same_page q page ≡ false → not (comes_before page q) ≡ low q
-          others q differ = grind (arith, nat_tests, differ)
+          others q differ = grind arith
 
           absent : (x : GuestPage) (ps : List GuestPage) → has_item x ps ≡ false → All (λ q. same_page q x ≡ false) ps
-          absent x ps out k d lt = elim (cases_Bool (same_page (get_or ps k d) x)) [
-            | inl is ↦ absurd (both_ways (has_item x ps) out (list_any_at (λ q. same_page q x) ps k d lt is))
-            | inr differ ↦ differ
-          ]
+          absent x ps out k d lt = grind (arith, nat_tests, list_any_at)
 
           take_one : (ps : List GuestPage) (n : ℕ) (p : GuestPage) → slice_get ps n ≡ Some p → take (suc n) ps ≡ take n ps ++ p ∷ []
           take_one [] n p is = cc
-          take_one (q ∷ ps) zero p is = ap (λ x. x ∷ []) (same_Some q p is)
-          take_one (q ∷ ps) (suc n) p is = ap (λ l. q ∷ l) (take_one ps n p is)
+          take_one (q ∷ ps) zero p is = rw (same_Some q p is)
+          take_one (q ∷ ps) (suc n) p is = rw (take_one ps n p is)
 
 -- ---------------------------------------------------------------- how far a walk can go
 
@@ -245,5 +190,4 @@ room_behind (Some p) = 2 ^ 48 - (p.guest * 2 ^ 32 + page_in p.page)
 -- there are fewer behind a page that is behind the cursor
 pub less_room : (cursor : Option GuestPage) (page : GuestPage) → FitsPage (Some page) → after_cursor cursor page ≡ true
     → room_behind (Some page) < room_behind cursor
-less_room None page (guest, few) behind = grind (arith, nat_tests, guest, few)
-less_room (Some p) page (guest, few) behind = grind (arith, nat_tests, guest, few, behind)
+less_room cursor page h2 behind = grind arith

@@ -7,7 +7,7 @@ use Rattle.ksm_book.proofs.DuePasses.{ahead_all, all_visited, before_part, befor
 use Rattle.ksm_book.proofs.Dues.{IsFirst}
 use Rattle.ksm_book.proofs.Folded.{ascending_ahead, still_on}
 use Rattle.ksm_book.proofs.PartBegun.{begins_still}
-use Rattle.ksm_book.proofs.Reached.{begins, comes_to, first as first_of}
+use Rattle.ksm_book.proofs.Reached.{begins, comes_to}
 use Rattle.ksm_book.proofs.Scanned.{begun_ahead, restless_mergeable}
 
 -- the pages ahead that are not behind a cursor were visited
@@ -17,7 +17,7 @@ passed_to last s = due_visits doing s (filter (λ p. not (after_cursor last p)) 
 -- before the first page nothing was
 pub none_passed : (v : BookValue) → Comes v v (passed_to None)
 none_passed v from s before =
-    subst (λ l. Reached from v (due_visits doing s l)) (sym (filter_none (λ p. not (after_cursor None p)) (pages_ahead s.0) (λ k d lt. refl))) before
+    rw (filter_none (λ p. not (after_cursor None p)) (pages_ahead s.0) (λ k d lt. refl)) before
 
 -- a pass begins at a book, and has come to another
 module _ (old mid : BookValue) (sound : IsSound old.state) (start : old.state.cursor ≡ None) (last : Option GuestPage) (due : List GuestPage)
@@ -33,20 +33,20 @@ module _ (old mid : BookValue) (sound : IsSound old.state) (start : old.state.cu
     there = comes from s before
 
     are_now : AreDue (passed_to last s).0 due
-    are_now = subst (λ b. AreDue b due) there.0 are
+    are_now = rw (← there.0) are
 
     -- a page that a visit may change is one of those ahead
     known : (page : GuestPage) → restless_at page (passed_to last s).0.rows ≡ true → has_item page (pages_ahead s.0) ≡ true
     known page restless =
         let done = filter (λ p. not (after_cursor last p)) (pages_ahead s.0) in
-        let begins : s.0.cursor ≡ None = subst (λ (b : BookState). b.cursor ≡ None) before.0 start in
-        subst (λ l. has_item page l ≡ true) ((due_goes done s sound_now).mergeable ∙ sym (ahead_all s sound_now begins))
+        let begins = subst (λ (b : BookState). b.cursor ≡ None) before.0 start in
+        rw (← ((due_goes done s sound_now).mergeable ∙ sym (ahead_all s sound_now begins)))
         (restless_mergeable page (passed_to last s).0.rows restless)
 
   -- where no page behind the last is due, all pages ahead were visited
   pub all_come : All (λ p. after_cursor last p ≡ false) due → Comes old mid (λ s. due_visits doing s (pages_ahead s.0))
   all_come none from s before =
-      subst (Reached from mid) (sym (all_visited s (sound_now from s before) (pages_ahead s.0) (rise from s before) last due (are_now from s before) none))
+      subst (Reached from mid) (sym (all_visited s (sound_now from s before) _ (rise from s before) _ due (are_now from s before) none))
       (there from s before)
 
   module _ (new : BookValue) (page : GuestPage) (first : IsFirst last due page) where
@@ -54,18 +54,16 @@ module _ (old mid : BookValue) (sound : IsSound old.state) (start : old.state.cu
     pub next_comes : Comes mid new (λ s. due_visited doing s page) → Comes old new (passed_to (Some page))
     next_comes visit from s before =
         subst (Reached from new)
-        (sym (next_visited s (sound_now from s before) (pages_ahead s.0) (rise from s before) last due (are_now from s before) page first
-        (known from s before page)))
-        (visit from (passed_to last s) (there from s before))
+        (sym (next_visited s (sound_now from s before) _ (rise from s before) _ due (are_now from s before) _ first
+        (known from s before _))) (visit from (passed_to last s) (there from s before))
 
     -- where that page was not visited, those before it were
     pub next_stops : StaysBefore page mid new → restless_at page mid.state.rows ≡ true → StopsDue old new page
     next_stops stays restless = record {
-      ahead = known old (first_of old) (begins old) page (subst (λ (b : BookState). restless_at page b.rows ≡ true)
-          (there old (first_of old) (begins old)).0 restless);
+      ahead = known old _ (begins old) _ (rw (← (there old _ (begins old)).0) restless);
       comes = λ from s before.
           subst (ReachedBefore page from new)
-          (sym (before_visited s (sound_now from s before) (pages_ahead s.0) (rise from s before) last due (are_now from s before) page first))
+          (sym (before_visited s (sound_now from s before) _ (rise from s before) _ due (are_now from s before) _ first))
           (stays from (passed_to last s) (there from s before));
     }
 
@@ -88,7 +86,7 @@ module _ (old : BookValue) (sound : IsSound old.state) (start : old.state.cursor
   pub whole_still : AreDue old.state [] → StaysStill old (part_visited None)
   whole_still are from s before =
       subst (IsStill s)
-      (sym (undue_stay (pages_ahead s.0) s [] (is_sound from s before) (subst (λ b. AreDue b []) before.0 are) (λ k d lt. refl))
+      (sym (undue_stay (pages_ahead s.0) s [] (is_sound from s before) (rw (← before.0) are) (λ k d lt. refl))
       ∙ whole_part s (is_sound from s before) (begins_pass from s before))
       (record { rest = refl; rows = refl; beside = refl })
 
@@ -113,23 +111,22 @@ module _ (old mid : BookValue) (begins_so : Comes old mid (λ s. (pass_begun s.0
 
   pub begun_cursor : mid.state.cursor ≡ old.state.cursor
   begun_cursor =
-      ap (λ (b : BookState). b.cursor) begins_as
-      ∙ cond_both (is_none old.state.cursor) (with_none_waiting old.state) old.state (λ b. b.cursor ≡ old.state.cursor) (λ _. refl) (λ _. refl)
+      rw begins_as
+      (cond_both (is_none old.state.cursor) (with_none_waiting old.state) old.state (λ b. b.cursor ≡ old.state.cursor) (λ _. refl) (λ _. refl))
 
   -- the visits behind that are those of the part
   pub part_visits : (new : BookValue) (last : Option GuestPage) (quiet : Bool)
       → HasVisited mid new (λ s. pages_visited doing s (ahead_up_to last s.0)) quiet → HasVisited old new (part_visited last) quiet
   part_visits new last quiet visited = record {
-    comes = λ from s before. visited.comes from (pass_begun s.0, s.1) (begins_so from s before);
-    still = λ is from s before.
-        still_on s (pass_begun s.0, s.1) (part_visited last s) (begins_still s)
-        (visited.still is from (pass_begun s.0, s.1) (begins_so from s before));
+    comes = λ from s before. visited.comes from _ (begins_so from s before);
+    still = λ is from s before. still_on s (pass_begun s.0, s.1) _ (begins_still s)
+        (visited.still is from _ (begins_so from s before));
   }
 
   -- so where they stopped
   pub part_stopped : (new : BookValue) (last : Option GuestPage) (page : GuestPage) → StopsBefore mid new last page → StopsInPart old new last page
   part_stopped new last page stops = record {
     within = stops.within;
-    ahead = subst (λ l. has_item page l ≡ true) (ap pages_ahead begins_as ∙ begun_ahead old.state) stops.ahead;
-    comes = λ from s before. stops.comes from (pass_begun s.0, s.1) (begins_so from s before);
+    ahead = rw (← (ap pages_ahead begins_as ∙ begun_ahead old.state)) stops.ahead;
+    comes = λ from s before. stops.comes from _ (begins_so from s before);
   }

@@ -1,15 +1,8 @@
 -- A store to a page with a frame of its own: where the page is due, if it waited, what is due stays so.
-use Rattle.ksm_book.proofs.Names.{and_from, and_parts, ap, AreDue, arith, BookState, Bool, both_ways, cases_Bool, change_row, false, find_all, GuestPage, has_item, inl, InPageOrder, inr, is_restless, IsAlone, List, MatchOption, Merged, merged_state, None, not, not_from_false, Option, ordered_change, PageState, refl, Row, row_at, same_page, same_page_eq, same_page_refl, same_Some, shared_state, Some, stored, subst, sym, true, true≢false, Waiting, waiting_state, waits_on, Zero, ℕ, ◌∙◌, ◌∷◌, ◌≡◌, ◌||◌}
-use Rattle.ksm_base.specs.declared.row.PageState.TheVariants.{Private}
+use Rattle.ksm_book.proofs.Names.{and_from, and_parts, ap, AreDue, arith, BookState, Bool, both_ways, cases_Bool, change_row, false, find_all, GuestPage, has_item, inl, InPageOrder, inr, is_restless, IsAlone, List, MatchOption, not_from_false, Option, ordered_change, refl, Row, row_at, same_page, same_page_refl, same_Some, shared_state, Some, stored, subst, sym, true, true≢false, waiting_state, waits_on, ℕ, ◌∙◌, ◌∷◌, ◌≡◌, ◌||◌}
 use Rattle.ksm_book.proofs.ByPage.{at_changed, found_page}
 use Rattle.ksm_book.proofs.DueKept.{changed_due, more_due, on_tells, undue}
-
--- a row with a frame of its own is not merged
-unmerged : (state : PageState) → shared_state state ≡ false → merged_state state ≡ false
-unmerged Private own = refl
-unmerged Waiting own = refl
-unmerged (Merged d) own = cc
-unmerged Zero own = refl
+use Rattle.ksm_pages.proofs.Joined.{own_not_merged}
 
 module _ (b : BookState) (page : GuestPage) (bytes : List ℕ) (row : Row) (pages : List GuestPage) (rise : InPageOrder b.rows)
     (found : row_at page b.rows ≡ Some row) (own : shared_state row.state ≡ false) (was : AreDue b pages)
@@ -20,46 +13,35 @@ module _ (b : BookState) (page : GuestPage) (bytes : List ℕ) (row : Row) (page
 
   -- the page is due beside what was
   beside : AreDue after (page ∷ pages)
-  beside = changed_due b page (stored bytes) pages rise (λ r. refl)
-      (λ r at. (subst (λ x. merged_state x.state ≡ false) (same_Some row r (sym found ∙ at)) (unmerged row.state own), refl)) was
+  beside = changed_due b _ _ _ rise (λ r. refl)
+      (λ r at. (rw (← same_Some row r (sym found ∙ at)) (own_not_merged _ own), refl)) was
 
   -- where the page was due nothing is due beside what was
   within : has_item page pages ≡ true → (p : GuestPage) → has_item p (page ∷ pages) ≡ true → has_item p pages ≡ true
-  within is p there = elim (cases_Bool (same_page page p)) [
-    | inl same ↦ subst (λ q. has_item q pages ≡ true) (same_page_eq page p same) is
-    | inr other ↦ sym (ap (λ z. z || has_item p pages) other) ∙ there
-  ]
+  within is p there = grind arith
 
   -- where it was not due no visit may change its row
   calm : has_item page pages ≡ false → (r : Row) → row_at page after.rows ≡ Some r → is_restless r ≡ true → waits_on after r ≡ true
   calm out r at restless =
-      let is : is_restless (stored bytes row) ≡ true =
-      subst (λ x. is_restless x ≡ true)
-      (sym (same_Some (stored bytes row) r (sym (at_changed page (stored bytes) b.rows row (λ x. refl) found) ∙ at))) restless in
-      let before : is_restless row ≡ true =
-      and_from row.mergeable (not (shared_state row.state)) (and_parts row.mergeable true is).0 (not_from_false (shared_state row.state) own) in
-      let on : waits_on b row ≡ true =
-      find_all (λ x. same_page x.page page) (λ x. is_restless x ≡ true → has_item x.page pages ≡ false → waits_on b x ≡ true) b.rows row found
-      was before (ap (λ p. has_item p pages) (found_page page b.rows row found) ∙ out) in
+      let is = subst (λ x. is_restless x ≡ true)
+      (sym (same_Some _ r (sym (at_changed page (stored bytes) b.rows row (λ x. refl) found) ∙ at))) restless in
+      let before = and_from _ _ (and_parts _ true is).0 (not_from_false _ own) in
+      let on = find_all (λ x. same_page x.page page) (λ x. is_restless x ≡ true → has_item x.page pages ≡ false → waits_on b x ≡ true) b.rows row found
+      was before (ap (λ p. has_item p pages) (found_page _ _ row found) ∙ out) in
       absurd (both_ways (has_item page pages) out (waits (on_tells b row on).waiting))
 
   -- what is due stays so
   pub stored_due : AreDue after pages
   stored_due = elim (cases_Bool (has_item page pages)) [
-    | inl is ↦ more_due after (page ∷ pages) pages (within is) beside
+    | inl is ↦ more_due after (page ∷ pages) _ (within is) beside
     | inr out ↦
-        undue after page pages (ordered_change (λ r. same_page r.page page) (stored bytes) b.rows (λ r. refl) rise) (calm out) beside
+        undue after _ _ (ordered_change _ _ _ (λ r. refl) rise) (calm out) beside
   ]
 
 -- a page with a frame of its own has a row
 alone_row : (rows : List Row) (page : GuestPage) → IsAlone page rows
     → (row : Row) × (row_at page rows ≡ Some row) × (shared_state row.state ≡ false)
-alone_row rows page alone = by (row_at page rows) refl alone
-  where
-    by : (o : Option Row) → row_at page rows ≡ o → MatchOption o (true ≡ false) (λ r. shared_state r.state ≡ false)
-        → (row : Row) × (row_at page rows ≡ Some row) × (shared_state row.state ≡ false)
-    by None none told = absurd (true≢false told)
-    by (Some row) found own = (row, found, own)
+alone_row rows page alone = grind arith
 
 -- where the page does not wait, what is due stays so
 pub stored_calm : (b : BookState) (page : GuestPage) (pages : List GuestPage) (waits : Bool) → InPageOrder b.rows → IsAlone page b.rows
@@ -67,10 +49,8 @@ pub stored_calm : (b : BookState) (page : GuestPage) (pages : List GuestPage) (w
     → (bytes : List ℕ) → AreDue (record b { rows = change_row page (stored bytes) b.rows }) pages
 stored_calm b page pages waits rise alone was told none bytes =
     let at = alone_row b.rows page alone in
-    let row : Row = at.0 in
-    let is : waits ≡ waiting_state row.state =
-    subst (λ (o : Option Row). MatchOption o (waits ≡ false) (λ r. waits ≡ waiting_state r.state)) at.1 told in
-    stored_due b page bytes row pages rise at.1 at.2 was (λ waiting. absurd (true≢false (sym waiting ∙ sym is ∙ none)))
+    let is = subst (λ (o : Option Row). MatchOption o (waits ≡ false) (λ r. waits ≡ waiting_state r.state)) at.1 told in
+    stored_due b _ bytes at.0 _ rise at.1 at.2 was (λ waiting. absurd (true≢false (sym waiting ∙ sym is ∙ none)))
 
 -- where the page is due beside what was, that is so once bytes are stored to it
 pub stored_added : (b : BookState) (page : GuestPage) (old new : List GuestPage) → InPageOrder b.rows → IsAlone page b.rows
@@ -78,8 +58,8 @@ pub stored_added : (b : BookState) (page : GuestPage) (old new : List GuestPage)
     → (bytes : List ℕ) → AreDue (record b { rows = change_row page (stored bytes) b.rows }) new
 stored_added b page old new rise alone was added bytes =
     let at = alone_row b.rows page alone in
-    stored_due b page bytes at.0 new rise at.1 at.2 (more_due b old new (λ p is. more p is) was)
+    stored_due b _ bytes _ new rise at.1 at.2 (more_due b old new (λ p is. more p is) was)
     (λ _. added page ∙ ap (λ z. z || has_item page old) (same_page_refl page))
   where
     more : (p : GuestPage) → has_item p old ≡ true → has_item p new ≡ true
-    more p is = let tells = added p in grind (arith, tells, is)
+    more p is = let tells = added p in grind arith

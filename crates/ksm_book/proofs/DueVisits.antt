@@ -9,32 +9,27 @@ use Rattle.ksm_book.proofs.RowVisits.{Meets, page_is, there_is}
 -- a page found to wait is due no longer
 pub waits_due : {p q : PagesView} {k : KeeperView} {cursor : Option GuestPage} {passes : ℕ} {v : BookView} {page : GuestPage}
     → Meets (λ _ r. FindsAt p q r finds.Waits) p k cursor passes v page → IsDueNoMore page v.state (state_of q cursor passes)
-waits_due {p} {q} {cursor = cursor} {passes} {v} {page} at pages was =
-    let b : BookState = state_of p cursor passes in
+waits_due {p} {cursor = cursor} {passes} {page = page} at pages was =
     let so = at.so in
-    subst (λ (x : PagesView). AreDue (state_of x cursor passes) pages) (sym so.5)
-    (waits_undue b at.row (there_is at) so.0 so.1 so.2 so.3 at.sound.rows_rise pages
-    (subst (λ (g : GuestPage). AreDue b (g ∷ pages)) (sym (page_is at))
-    (subst (λ (x : BookView). AreDue x.state (page ∷ pages)) (sym at.is) was)))
+    rw so.5
+    (waits_undue (state_of p cursor passes) _ (there_is at) so.0 so.1 so.2 so.3 at.sound.rows_rise pages
+    (rw (page_is at) (subst (λ (x : BookView). AreDue x.state (page ∷ pages)) (sym at.is) was)))
 
 -- a page found gone is not due
 pub gone_due : (p q : PagesView) (cursor : Option GuestPage) (passes : ℕ) (page : GuestPage) → InPageOrder p.rows
     → Finds p q page finds.Gone → IsDueNoMore page (state_of p cursor passes) (state_of q cursor passes)
-gone_due p q cursor passes page rise is = by (row_at page p.rows) refl is
+gone_due p q cursor passes page rise is = by _ refl is
   where
     b : BookState
     b = state_of p cursor passes
 
     by : (o : Option Row) → row_at page p.rows ≡ o → MatchOption o ((finds.Gone ≡ finds.Gone) × (q ≡ p)) (λ r. FindsAt p q r finds.Gone)
         → IsDueNoMore page b (state_of q cursor passes)
-    by None found told =
-        subst (λ (x : PagesView). IsDueNoMore page b (state_of x cursor passes)) (sym told.1) (calm_undue b page rise (ap restless_row found))
-    by (Some r) found told =
-        subst (λ (x : PagesView). IsDueNoMore page b (state_of x cursor passes)) (sym told.1)
-        (calm_undue b page rise (ap restless_row found ∙ told.0))
+    by None found told = rw told.1 (calm_undue b _ rise (ap restless_row found))
+    by (Some r) found told = rw told.1 (calm_undue b _ rise (ap restless_row found ∙ told.0))
 
 -- where all restless pages are listed, no other is due
 pub listed_due : (b : BookState) (pages : List GuestPage) → InPageOrder b.rows → AreListed b.rows pages → AreDue b pages
 listed_due b pages rise listed k d lt restless out =
     let r = get_or b.rows k d in
-    absurd (true≢false (sym (listed.1 r.page (ap restless_row (each_at_page b.rows rise k d lt) ∙ restless)) ∙ out))
+    absurd (true≢false (sym (listed.1 _ (ap restless_row (each_at_page _ rise k d lt) ∙ restless)) ∙ out))

@@ -1,6 +1,5 @@
 -- The pages that are due, as they are kept: which there are once one came or went, and the first behind a cursor.
 use Rattle.ksm_book.proofs.Names.{[], after_cursor, All, All-cons, All-map, any-filter_same, ap, append-nil, AreDue, arith, BookState, length, before_irrefl, Bool, cases_Bool, comes_before, Err, false, filter, find, get_or, GuestPage, has_item, inl, inr, is_some, List, list_any, map, MatchOption, nat_tests, None, not, not_both, Ok, Option, pages_ordered, pairs_head, pairs_tail, refl, Result, same_page, same_page_eq, same_page_refl, Some, subst, sym, true, true≢false, ◌&&◌, ◌++◌, ◌||◌, ◌==◌, ◌∙◌, ◌∷◌, ◌≡◌, if◌then◌else◌}
-use Rattle.std.proofs.Common.{ap₂}
 use Rattle.std.proofs.lemmas.List.Folds.{list_any-append}
 use Rattle.std.specs.Prelude.{OnErr, OnOk}
 use Rattle.ksm_pages.specs.Held.{pages_of}
@@ -16,61 +15,45 @@ pages_in order = map (λ n. n.page) order
 any_named : (x : GuestPage) (order : List Named)
     → has_item x (pages_in order) ≡ list_any (λ m. same_page m.page x) order
 any_named x [] = refl
-any_named x (m ∷ order) = ap (λ b. same_page m.page x || b) (any_named x order)
+any_named x (m ∷ order) = rw (any_named x order)
 
 -- a page is there exactly where a search finds it
 pub has_found : (x : GuestPage) (order : List Named) → has_item x (pages_in order) ≡ is_some (find (is_of x) order)
 has_found x [] = refl
-has_found x (m ∷ order) = let rest = has_found x order in grind (arith, rest)
+has_found x (m ∷ order) = let rest = has_found x order in grind arith
 
 joined : (x : GuestPage) (some more : List Named)
     → has_item x (pages_in (some ++ more)) ≡ (has_item x (pages_in some) || has_item x (pages_in more))
 joined x [] more = refl
-joined x (m ∷ some) more = let rest = joined x some more in grind (arith, rest)
+joined x (m ∷ some) more = let rest = joined x some more in grind arith
 
 picked : (u : GuestPage → Bool) (x : GuestPage) (order : List Named)
     → has_item x (pages_in (filter (λ m. u m.page) order)) ≡ (u x && has_item x (pages_in order))
-picked u x order =
-    any_named x (filter (λ m. u m.page) order)
-    ∙ any-filter_same (λ (m : Named). same_page m.page x) (λ m. u m.page) (u x)
-    (λ m is. ap u (same_page_eq m.page x is)) order
-    ∙ ap (λ b. u x && b) (sym (any_named x order))
+picked u x order = grind (arith, nat_tests, any_named, any-filter_same, same_page_eq)
 
 -- a page that is put in is there, and the others as before
 pub has_put : (n : Named) (order : List Named) (x : GuestPage)
     → has_item x (pages_in (with_named n order)) ≡ (same_page n.page x || has_item x (pages_in order))
-has_put n order x =
-    let low = picked (λ p. comes_before p n.page) x order in
-    let high = picked (λ p. comes_before n.page p) x order in
-    joined x (filter (λ m. comes_before m.page n.page) order) (n ∷ filter (λ m. comes_before n.page m.page) order)
-    ∙ ap₂ (λ b d. b || (same_page n.page x || d)) low high
-    ∙ (let h = has_item x (pages_in order) in let q = n.page in grind (arith, nat_tests))
+has_put n order x = grind (arith, picked (λ p. comes_before p n.page) x order, picked (λ p. comes_before n.page p) x order, joined)
 
 -- a page that is taken out is there no more, and the others as before
 pub has_taken : (page : GuestPage) (order : List Named) (x : GuestPage)
     → has_item x (pages_in (without_named page order)) ≡ (has_item x (pages_in order) && not (same_page page x))
-has_taken page order x =
-    picked (λ p. not (same_page p page)) x order
-    ∙ (let h = has_item x (pages_in order) in grind (arith, nat_tests))
+has_taken page order x = picked (λ p. not (same_page p page)) x order ∙ (grind arith)
 
 -- the pages stay in order with a page put in
 pub put_rises : (n : Named) (order : List Named) → AreAscending order → AreAscending (with_named n order)
-put_rises n order rise = with_rises pages_ordered (λ (m : Named). m.page) n.page n order refl rise
+put_rises n order rise = with_rises pages_ordered (λ (m : Named). m.page) _ n _ refl rise
 
 -- and with a page taken out
 pub taken_rises : (page : GuestPage) (order : List Named) → AreAscending order
     → AreAscending (without_named page order)
-taken_rises page order rise = without_rises pages_ordered (λ (m : Named). m.page) page order rise
+taken_rises page order rise = without_rises pages_ordered (λ (m : Named). m.page) page _ rise
 
 -- a page that is there is so with itself put in
 pub has_already : (page : GuestPage) (pages : List GuestPage) → has_item page pages ≡ true
     → (x : GuestPage) → has_item x pages ≡ (same_page page x || has_item x pages)
-has_already page pages has x = elim (cases_Bool (same_page page x)) [
-  | inl same ↦
-      subst (λ p. has_item p pages ≡ true) (same_page_eq page x same) has
-      ∙ sym (ap (λ b. b || has_item x pages) same)
-  | inr other ↦ sym (ap (λ b. b || has_item x pages) other)
-]
+has_already page pages has x = grind arith
 
 -- the pages stay in order where one is put in, or memory was refused
 pub inserted_rises : {T E : Type 0} (r : Result T E) (n : Named) (old new : List Named) → AreAscending old
@@ -86,27 +69,20 @@ has_either x some more = list_any-append (λ q. same_page q x) some more
 
 -- a page among those in order is there
 pub has_first : (x : GuestPage) (some more : List GuestPage) → has_item x some ≡ true → has_item x (some ++ more) ≡ true
-has_first x some more is = has_either x some more ∙ ap (λ b. b || has_item x more) is
+has_first x some more is = has_either x _ _ ∙ ap (λ b. b || has_item x more) is
 
 -- where one was put in, it is there, and the others as before, with some more behind them
 pub inserted_has : {T E : Type 0} (r : Result T E) (n : Named) (old new : List Named) (more pages : List GuestPage)
     → pages_in old ++ more ≡ pages → OnOk r (new ≡ with_named n old)
     → OnOk r ((x : GuestPage) → has_item x (pages_in new ++ more) ≡ (same_page n.page x || has_item x pages))
 inserted_has (Err e) n old new more pages same added = tt
-inserted_has (Ok u) n old new more pages same added = λ x.
-    ap (λ o. has_item x (pages_in o ++ more)) added ∙ has_either x (pages_in (with_named n old)) more
-    ∙ ap (λ b. b || has_item x more) (has_put n old x)
-    ∙ turned (same_page n.page x) (has_item x (pages_in old)) (has_item x more)
-    ∙ ap (λ b. same_page n.page x || b) (sym (has_either x (pages_in old) more) ∙ ap (has_item x) same)
-  where
-    turned : (a b c : Bool) → ((a || b) || c) ≡ (a || (b || c))
-    turned a b c = grind arith
+inserted_has (Ok u) n old new more pages same added = λ x. grind (arith, nat_tests, has_either, has_put)
 
 -- where all is ready no page was added that does not stand in order
 pub none_added : (known : Bool) (order : List Named) (added : List Spot) → (known && length added == 0) ≡ true
     → pages_in order ++ pages_of added ≡ pages_in order
 none_added known order [] is = append-nil (pages_in order)
-none_added known order (s ∷ added) is = absurd (grind (arith, is))
+none_added known order (s ∷ added) is = absurd (grind arith)
 
 -- where the same pages are there, the same are due
 pub same_due : (b : BookState) (old new : List GuestPage) → ((x : GuestPage) → has_item x new ≡ has_item x old)
@@ -130,10 +106,10 @@ module _ (cursor : Option GuestPage) where
 
   module _ (m : Named) (order : List Named) (rise : AreAscending (m ∷ order)) where
     there : has_item m.page (pages_in (m ∷ order)) ≡ true
-    there = ap (λ b. b || has_item m.page (pages_in order)) (same_page_refl m.page)
+    there = rw (same_page_refl m.page)
 
     head : All (λ (n : Named). comes_before m.page n.page ≡ true) order
-    head = pairs_head (λ (a b : Named). comes_before a.page b.page ≡ true) m order rise
+    head = pairs_head (λ (a b : Named). comes_before a.page b.page ≡ true) m _ rise
 
     later : All (λ p. after_cursor cursor p ≡ true → comes_before p m.page ≡ false) (pages_in order)
     later =
@@ -152,25 +128,24 @@ module _ (cursor : Option GuestPage) where
     -- one that is not behind it is passed over
     over : after_cursor cursor m.page ≡ false → (o : Option Named) → TellsFirst cursor (pages_in order) o
         → TellsFirst cursor (pages_in (m ∷ order)) o
-    over not_yet None none = All-cons (λ p. after_cursor cursor p ≡ false) m.page (pages_in order) not_yet none
+    over not_yet None none = All-cons (λ p. after_cursor cursor p ≡ false) m.page _ not_yet none
     over not_yet (Some n) (has, after, first) = (
-      (let own = same_page m.page n.page in grind (arith, has)),
+      (grind arith),
       after,
       All-cons (λ p. after_cursor cursor p ≡ true → comes_before p n.page ≡ false) m.page (pages_in order)
           (λ is. absurd (true≢false (sym is ∙ not_yet))) first,
     )
 
     is_found : (b : Bool) → behind m ≡ b → find behind (m ∷ order) ≡ (if b then Some m else find behind order)
-    is_found b is = ap (λ z. if z then Some m else find behind order) is
+    is_found b is = rw is
 
   -- a search in pages in order finds the first page behind the cursor, if there is one
   pub first_found : (order : List Named) → AreAscending order → TellsFirst cursor (pages_in order) (find behind order)
   first_found [] rise = λ k d lt. absurd (omega arith)
   first_found (m ∷ order) rise = elim (cases_Bool (behind m)) [
     | inl is ↦
-        subst (TellsFirst cursor (pages_in (m ∷ order))) (sym (is_found m order rise true is)) (here m order rise is)
+        subst (TellsFirst cursor (pages_in (m ∷ order))) (sym (is_found m _ rise true is)) (here m _ rise is)
     | inr not_yet ↦
-        let rest = first_found order (pairs_tail (λ a b. comes_before a.page b.page ≡ true) m order rise) in
-        subst (TellsFirst cursor (pages_in (m ∷ order))) (sym (is_found m order rise false not_yet))
-        (over m order rise not_yet (find behind order) rest)
+        subst (TellsFirst cursor (pages_in (m ∷ order))) (sym (is_found m _ rise false not_yet))
+        (over m _ rise not_yet _ (first_found order (pairs_tail (λ a b. comes_before a.page b.page ≡ true) m _ rise)))
   ]

@@ -1,20 +1,20 @@
 -- What is answered where a dup is to move.
-use Rattle.ksm_book.proofs.Names.{and_parts, Answer, ap, arith, BookState, IsCarried, crosses, Done, DupRow, eqb-true, Err, false, Fault, find, find_passes, FindsHeld, GuestPage, has_items, HasRemounted, InUse, IsAnswerUnless, KeeperView, live_dup_at, lying, MatchOption, MayMove, MoveDup, Moves, NoFrame, None, Ok, Option, PagesView, refusal, Some, state_of, subst, sym, ℕ, ◌&&◌, ◌==◌, ◌≡◌, nat_tests}
+use Rattle.ksm_book.proofs.Names.{and_parts, Answer, arith, BookState, IsCarried, crosses, Done, DupRow, eqb-true, Err, false, Fault, find, find_passes, GuestPage, has_items, HasRemounted, InUse, IsAnswerUnless, KeeperView, live_dup_at, MayMove, MoveDup, NoFrame, None, Ok, Option, PagesView, refusal, Some, state_of, sym, ℕ, ◌&&◌, ◌==◌, ◌≡◌, nat_tests}
 use Rattle.ksm_book.proofs.Singles.{book, there_is}
 
 module _ (b : BookState) (place node : ℕ) (dup : DupRow) (found : Some dup ≡ live_dup_at b place) where
   -- the dup that was found stands at the place that was asked for
   pub place_is : dup.place ≡ place
-  place_is = eqb-true dup.place place (and_parts (dup.place == place) (has_items b.rows dup) (find_passes (λ d. d.place == place && has_items b.rows d) b.dups dup (sym found))).0
+  place_is = eqb-true dup.place place (and_parts _ (has_items b.rows dup) (find_passes (λ d. d.place == place && has_items b.rows d) b.dups dup (sym found))).0
 
   -- the dup with items at its place is the dup
   pub live_there : find (λ d. d.place == dup.place && has_items b.rows d) b.dups ≡ Some dup
-  live_there = subst (λ x. find (λ d. d.place == x && has_items b.rows d) b.dups ≡ Some dup) (sym place_is) (sym found)
+  live_there = grind (arith, nat_tests, place_is)
 
   module _ (home : b.knobs.merge_across_nodes ≡ 0 → node ≡ dup.tree) where
     -- where it is to move is another node only where pages merge across nodes
     pub at_home : crosses b node (Some dup) ≡ false
-    at_home = grind (arith, nat_tests, home)
+    at_home = grind arith
 
 -- the command is carried out where the dup moved to a frame of the node, or stayed, as it answers
 module _ (p q : PagesView) (k l : KeeperView) (cursor : Option GuestPage) (passes place node : ℕ) (dup : DupRow)
@@ -33,23 +33,23 @@ module _ (p q : PagesView) (k l : KeeperView) (cursor : Option GuestPage) (passe
   pub done_carried : {X : Type 0} {done : X} → HasRemounted {X = X} p q k l dup node (Ok done) → Carries (Ok Done)
   done_carried h = record {
     own = own;
-    answer = answers (Ok Done) tt;
-    state = ap (λ (x : PagesView). state_of x cursor passes) h.rest;
-    steps = subst (λ o. MatchOption o ⊥ (λ d. Moves (lying p k) (lying q l) p.rows d node)) found h.moves;
+    answer = answers _ tt;
+    state = rw h.rest;
+    steps = rw (← found) h.moves;
   }
 
   -- it answers the fault for which the dup stayed
   pub fault_carried : {X : Type 0} (fault : Fault) → HasRemounted {X = X} p q k l dup node (Err fault) → Carries (Err fault)
   fault_carried (NoFrame n) h = record {
     own = own;
-    answer = answers (Err (NoFrame n)) h.moves.0;
-    state = ap (λ (x : PagesView). state_of x cursor passes) h.rest;
+    answer = answers _ h.moves.0;
+    state = rw h.rest;
     steps = h.moves.1;
   }
   fault_carried InUse h = record {
     own = own;
-    answer = answers (Err InUse) tt;
-    state = ap (λ (x : PagesView). state_of x cursor passes) h.rest;
-    steps = subst (λ o. MatchOption o ⊥ (λ d. FindsHeld (lying p k) (lying q l) p.rows d node)) found h.moves;
+    answer = answers _ tt;
+    state = rw h.rest;
+    steps = rw (← found) h.moves;
   }
   fault_carried _ h = absurd h.moves

@@ -1,18 +1,7 @@
 -- The frames of a worked scan, page by page.
-use Rattle.ksm_book.proofs.Names.{apart, Bool, false, lies_on, None, Option, page, refl, same_page, Some, together, true, ℕ, ◌≡◌, if◌then◌else◌}
+use Rattle.ksm_book.proofs.Names.{apart, lies_on, page, Some, together, ◌≡◌, arith}
 use Rattle.ksm_book.proofs.ByPage.{same_frames}
 
 -- pages that come to the first one's frame, one after the other, lie on it together
 pub all_joined : lies_on (page 2) (Some 0) (lies_on (page 1) (Some 0) apart) ≡ together
-all_joined = same_frames _ _ (λ p. by (same_page p (page 0)) (same_page p (page 1)) (same_page p (page 2)) (Some 0) (Some 1) (Some 4))
-  where
-    by : (a b c : Bool) (x y z : Option ℕ)
-        → (if c then x else if b then x else if a then x else if b then y else if c then z else None) ≡ (if a then x else if b then x else if c then x else None)
-    by true true true x y z = refl
-    by true true false x y z = refl
-    by true false true x y z = refl
-    by true false false x y z = refl
-    by false true true x y z = refl
-    by false true false x y z = refl
-    by false false true x y z = refl
-    by false false false x y z = refl
+all_joined = grind (arith, same_frames)

@@ -1,5 +1,5 @@
 -- Frames written, read, found and filled, and a dup's place that comes to name another frame.
-use Rattle.ksm_book.proofs.Names.{Add, ap, arith, blank, did, div-mul-add, Dying, Finds, FitsBase, frame_at, frames_of, Free, GenerationFits, get_or-set_other, get_or-set_same, inl, IsLawful, KeeperView, Kind, Ledger, length, length-set, List, loads, MakesSteps, mounting, None, Note, Open, PAGE_WORDS, Placed, Private, Provides, Publish, puts, Raise, raised, refl, replicate, replicate-append-replicate, same_Some, set-get_or, Shape, Some, spent, spent_on, stepped, subst, sym, HasNewFrame, with_frame, ℕ, ◌*◌, ◌+◌, ◌-◌, ◌/◌, ◌<◌, ◌∙◌, ◌≡◌, ◌≢◌, ◌≤◌, set-set}
+use Rattle.ksm_book.proofs.Names.{Add, ap, arith, blank, did, div-mul-add, Dying, Finds, FitsBase, frame_at, frames_of, Free, GenerationFits, get_or-set_other, get_or-set_same, inl, IsLawful, KeeperView, Kind, Ledger, length, length-set, List, loads, MakesSteps, mounting, None, Note, Open, PAGE_WORDS, Placed, Private, Provides, Publish, puts, Raise, raised, refl, replicate, replicate-append-replicate, same_Some, set-get_or, Shape, spent, spent_on, stepped, subst, sym, HasNewFrame, with_frame, ℕ, ◌*◌, ◌+◌, ◌-◌, ◌/◌, ◌<◌, ◌∙◌, ◌≡◌, ◌≢◌, ◌≤◌, set-set, nat_tests}
 use Rattle.ksm_book.proofs.ByPage.{one_same, one_other}
 use Rattle.ksm_book.proofs.Keeping.{node_end, searched_placed, searched_spends, spent_kept}
 use Rattle.ksm_book.proofs.Made.{made_one, made_part, made_then}
@@ -7,10 +7,7 @@ use Rattle.ksm_book.proofs.Noted.{noted}
 
 -- a frame between a node's first and its last is on that node
 pub on_node : (node size g : ℕ) → node * size ≤ g → g < node * size + size → g / size ≡ node
-on_node node size g low high =
-    let b : ℕ = g - node * size in
-    let e : g ≡ node * size + b = omega arith in
-    ap (λ x. x / size) e ∙ div-mul-add node size b (omega arith)
+on_node node size g low high = grind (arith, nat_tests, low, high, div-mul-add)
 
 -- ---------------------------------------------------------------- one frame's note
 
@@ -25,7 +22,7 @@ module _ (k : Ledger) (g : ℕ) (lt : g < length k.frames) where
 
   -- two changes of a frame's note, one after the other, are one change by both
   pub again : (a : Note) (F : Note → Note) → with_frame (with_frame k g a) g (F (frame_at (with_frame k g a) g)) ≡ with_frame k g (F a)
-  again a F = ap (λ x. with_frame (with_frame k g a) g (F x)) (at_again a) ∙ (λ i. record { frames = set-set k.frames g a (F a) i; places = k.places })
+  again a F = rw (at_again a) (λ i. record { frames = set-set k.frames g a (F a) i; places = k.places })
 
   -- a change of the frame's note that follows another is one change by both
   pub follow : {l m : Ledger} (a : Note) (F : Note → Note) → m ≡ with_frame l g (F (frame_at l g)) → l ≡ with_frame k g a → m ≡ with_frame k g (F a)
@@ -39,27 +36,26 @@ module _ (v w : KeeperView) (node g : ℕ) (less : node < v.table.shape.nodes) (
 
   -- rows and dups lie lawfully once the frame is found
   pub found_placed : Placed sh l.0 w.ledger l.1 l.2 l.3 None
-  found_placed = searched_placed node less finds.reaped l.0 l.1 l.2 l.3 None l.4
+  found_placed = searched_placed _ less finds.reaped l.0 l.1 l.2 l.3 None l.4
 
   -- the frame found is one of the table
   pub found_inside : g < frames_of sh
-  found_inside = let end = node_end node sh.nodes sh.frames_per_node less in let high = finds.lowest.high in omega (arith, end, high)
+  found_inside = grind (arith, nat_tests, node_end)
 
   -- the frame found is one that the keeper knows
   pub found_within : g < length w.ledger.frames
-  found_within = let long = found_placed.frames_long in let i = found_inside in omega (arith, long, i)
+  found_within = let long = found_placed.frames_long in let i = found_inside in omega arith
 
   -- once the frame found is raised it is ready to be filled
   pub raised_ready : (r : KeeperView) (n : ℕ) → r ≡ did w (Raise g) n
       → (g < length r.ledger.frames) × (frame_at r.ledger g ≡ raised (frame_at w.ledger g)) × (length (frame_at r.ledger g).content ≡ PAGE_WORDS)
   raised_ready r n is =
-      let note : Note = raised (frame_at w.ledger g) in
+      let note = raised (frame_at w.ledger g) in
       let room = length-set w.ledger.frames g note in
       let within = found_within in
       let at = at_again w.ledger g within note in
-      let inside : g < length (with_frame w.ledger g note).frames = omega (arith, room, within) in
-      subst (λ (z : KeeperView). (g < length z.ledger.frames) × (frame_at z.ledger g ≡ note) × (length (frame_at z.ledger g).content ≡ PAGE_WORDS)) (sym is)
-      (inside, at, ap (λ (x : Note). length x.content) at ∙ found_placed.widths g)
+      let inside : g < length (with_frame w.ledger g note).frames = omega arith in
+      rw is (inside, at, rw at (found_placed.widths g))
 
 -- ---------------------------------------------------------------- a frame is taken
 
@@ -74,34 +70,34 @@ module _ {v w : KeeperView} {node : ℕ} {bytes : List ℕ} {g : ℕ} (less : no
   pub took : w.ledger ≡ with_frame u.ledger g own → HasNewFrame v w node bytes g
   took taken_ledger =
       let free = h.finds.lowest.free in
-      let now : frame_at w.ledger g ≡ own = ap (λ z. frame_at z g) taken_ledger ∙ at_again u.ledger g (found_within v u node g less l h.finds) own in
-      let was : spent_on (frame_at u.ledger g) ≡ (frame_at u.ledger g).generation = ap (λ (x : Kind). spent_on (record { kind = x; base = (frame_at u.ledger g).base; generation = (frame_at u.ledger g).generation; content = (frame_at u.ledger g).content })) free in
-      let is : spent_on own ≡ (frame_at u.ledger g).generation = (let e : (frame_at u.ledger g).generation + 1 - 1 ≡ (frame_at u.ledger g).generation = omega arith in e) in
-      let more = spent_kept u.ledger g own (omega (arith, was, is)) in
-      let before = searched_spends node h.finds.reaped in
-      let end : spent w.ledger ≡ spent (with_frame u.ledger g own) = ap spent taken_ledger in
+      let now = ap (λ z. frame_at z g) taken_ledger ∙ at_again u.ledger g (found_within v u _ g less l h.finds) own in
+      let was = ap (λ (x : Kind). spent_on (record { kind = x; base = (frame_at u.ledger g).base; generation = (frame_at u.ledger g).generation; content = (frame_at u.ledger g).content })) free in
+      let is = (let e : (frame_at u.ledger g).generation + 1 - 1 ≡ (frame_at u.ledger g).generation = omega arith in e) in
+      let more = spent_kept u.ledger g own (omega arith) in
+      let before = searched_spends _ h.finds.reaped in
+      let end = ap spent taken_ledger in
       record {
         keeps = λ across rows frame dups p.
-            let q = searched_placed node less h.finds.reaped across rows frame dups None p in
-            let one = one_same g (Some g) refl in
-            let none : (frame_at u.ledger g).base ≡ 0 = subst (λ (x : Kind). FitsBase x (frame_at u.ledger g).base) free (q.kinds g) in
+            let q = searched_placed _ less h.finds.reaped _ _ _ _ None p in
+            let one = one_same g _ refl in
+            let none = subst (λ (x : Kind). FitsBase x (frame_at u.ledger g).base) free (q.kinds g) in
             let base = q.bases g in
-            let left : (frame_at u.ledger g).generation < v.table.shape.last_generation = subst (λ (x : Kind). GenerationFits v.table.shape.last_generation x (frame_at u.ledger g).generation) free (q.lives g) in
-            subst (λ (z : Ledger). Placed v.table.shape across z rows frame dups (Some g)) (sym taken_ledger)
-            (noted q g (found_inside v u node g less l h.finds) own (Some g) (record {
+            let left = subst (λ (x : Kind). GenerationFits v.table.shape.last_generation x (frame_at u.ledger g).generation) free (q.lives g) in
+            rw taken_ledger
+            (noted q g (found_inside v u _ g less l h.finds) own _ (record {
               wide = long;
-              lived = (omega arith, omega (arith, left));
-              base = omega (arith, one, none, base);
+              lived = (omega arith, omega arith);
+              base = omega arith;
               fits = refl;
-              same = λ some. absurd (omega (arith, none, base, some));
+              same = λ some. absurd (omega arith);
               life = inl (omega arith);
-            }) (λ f ne. one_other f (Some g) (λ e. ne (sym (same_Some g f e)))));
-        spent = omega (arith, before, more, end);
-        frame = found_inside v u node g less l h.finds;
-        kind = ap (λ (z : Note). z.kind) now;
-        content = ap (λ (z : Note). z.content) now;
-        given = subst (λ (z : Note). 1 ≤ z.generation) (sym now) (omega arith);
-        node = on_node node v.table.shape.frames_per_node g h.finds.lowest.low h.finds.lowest.high;
+            }) (λ f ne. one_other f _ (λ e. ne (sym (same_Some g f e)))));
+        spent = omega arith;
+        frame = found_inside v u _ g less l h.finds;
+        kind = rw now;
+        content = rw now;
+        given = rw now (omega arith);
+        node = on_node _ _ g h.finds.lowest.low h.finds.lowest.high;
       }
 
 -- ---------------------------------------------------------------- a place comes to name another frame
@@ -109,21 +105,19 @@ module _ {v w : KeeperView} {node : ℕ} {bytes : List ℕ} {g : ℕ} (less : no
 -- n references that came to a frame, and one more, are n + 1 steps of the keeper
 pub add_more : (v w w' : KeeperView) (f n found : ℕ) → MakesSteps v w (replicate n (Add f)) → w' ≡ did w (Add f) found → MakesSteps v w' (replicate (n + 1) (Add f))
 add_more v w w' f n found so_far is =
-    subst (MakesSteps v w') (replicate-append-replicate n 1 (Add f)) (made_then so_far (made_one w w' (Add f) found is))
+    subst (MakesSteps v w') (replicate-append-replicate n 1 (Add f)) (made_then so_far (made_one w w' _ _ is))
 
 -- the words of a dying frame stay where a free one is raised
 pub words_kept : (v w : KeeperView) (f g found : ℕ) → (frame_at v.ledger g).kind ≡ Free → (frame_at v.ledger f).kind ≡ Dying → w ≡ did v (Raise g) found
     → (frame_at w.ledger f).content ≡ (frame_at v.ledger f).content
 words_kept v w f g found free dying is =
-    let apart : f ≢ g = λ same. (let e = sym free ∙ ap (λ x. (frame_at v.ledger x).kind) (sym same) ∙ dying in grind (arith, e)) in
-    ap (λ (z : KeeperView). (frame_at z.ledger f).content) is ∙ ap (λ (x : Note). x.content) (get_or-set_other v.ledger.frames g f (raised (frame_at v.ledger g)) blank apart)
+    let apart : f ≢ g = λ same. (let e = sym free ∙ ap (λ x. (frame_at v.ledger x).kind) (sym same) ∙ dying in grind arith) in
+    rw (is, get_or-set_other v.ledger.frames g f (raised (frame_at v.ledger g)) blank apart)
 
 -- a frame is raised, words of another are loaded and stored there, it is opened, references come, and the place names it
 pub mounts : (v a b c d e w : KeeperView) (f g place count found opened' : ℕ) (bytes : List ℕ) → a ≡ did v (Raise g) found → b ≡ stepped a (loads f 0 bytes)
     → c ≡ stepped b (puts g 0 bytes) → d ≡ did c (Open g) opened' → MakesSteps d e (replicate (count - 1) (Add g)) → w ≡ did e (Publish place g) 0 → MakesSteps v w (mounting f g place count bytes)
 mounts v a b c d e w f g place count found opened' bytes raises loads' stores opens adds shows =
-    made_then (made_one v a (Raise g) found raises)
-    (made_then (made_part a b (loads f 0 bytes) loads')
-    (made_then (made_part b c (puts g 0 bytes) stores)
-    (made_then (made_one c d (Open g) opened' opens)
-    (made_then adds (made_one e w (Publish place g) 0 shows)))))
+    made_then (made_one v a _ _ raises)
+    (made_then (made_part a b _ loads')
+    (made_then (made_part b c _ stores) (made_then (made_one c d _ _ opens) (made_then adds (made_one e w _ 0 shows)))))

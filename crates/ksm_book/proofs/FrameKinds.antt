@@ -1,5 +1,5 @@
 -- The sets of the free and of the dying frames follow the keeper's steps.
-use Rattle.ksm_book.proofs.Names.{ap, AreSets, arith, blank, Bool, cases_eq, cases_lt, cond, count_in, did, Dying, dying_kind, false, frame_at, frames_of, Free, free_kind, Freeze, frozen, get_or-set_other, get_or-set_same, get_or_past, has, inl, inr, IsSetOf, KeeperStep, KeeperView, Kind, Ledger, ledger_after, length, length-set, List, lowered, Marks, ne_eqb, Note, Raise, raised, Reap, reaped, refl, set, Shape, Sub, subst, sym, true, with_frame, ℕ, ◌*◌, ◌-◌, ◌<◌, ◌==◌, ◌∙◌, ◌≡◌, ◌≢◌, ◌≤◌}
+use Rattle.ksm_book.proofs.Names.{ap, AreSets, arith, blank, Bool, cases_eq, cases_lt, cond, did, dying_kind, false, frame_at, frames_of, Free, free_kind, Freeze, get_or-set_other, get_or-set_same, get_or_past, has, inl, inr, IsSetOf, KeeperStep, KeeperView, Kind, Ledger, ledger_after, length, length-set, List, lowered, Marks, ne_eqb, Note, Raise, raised, Reap, refl, Shape, Sub, subst, sym, true, with_frame, ℕ, ◌*◌, ◌-◌, ◌<◌, ◌∙◌, ◌≡◌, ◌≢◌, ◌≤◌}
 
 -- ---------------------------------------------------------------- one frame's note is changed
 
@@ -17,27 +17,27 @@ TurnsOn (Freeze f) g = f ≡ g
 TurnsOn _ g = ⊥
 
 other_after : (sh : Shape) (k : Ledger) (e : KeeperStep) (n f g : ℕ) → TurnsOn e g → f ≢ g → frame_at (ledger_after sh k e n) f ≡ frame_at k f
-other_after sh k (Reap h) n f g on ne = other_if (count_in n == 0) k h f (reaped sh.last_generation (frame_at k h)) (λ e. ne (e ∙ on))
-other_after sh k (Raise h) n f g on ne = other_if true k h f (raised (frame_at k h)) (λ e. ne (e ∙ on))
-other_after sh k (Sub h) n f g on ne = other_if true k h f (lowered (frame_at k h)) (λ e. ne (e ∙ on))
-other_after sh k (Freeze h) n f g on ne = other_if (count_in n == (frame_at k h).base) k h f (frozen (frame_at k h)) (λ e. ne (e ∙ on))
+other_after sh k (Reap h) n f g on ne = other_if _ k h f _ (λ e. ne (e ∙ on))
+other_after sh k (Raise h) n f g on ne = other_if true k h f _ (λ e. ne (e ∙ on))
+other_after sh k (Sub h) n f g on ne = other_if true k h f _ (λ e. ne (e ∙ on))
+other_after sh k (Freeze h) n f g on ne = other_if _ k h f _ (λ e. ne (e ∙ on))
 other_after sh k _ n f g on ne = absurd on
 
 module _ (asked : Kind → Bool) (v w : KeeperView) (words : List ℕ) (table : w.table ≡ v.table) (are : IsSetOf asked v words) where
   room_kept : frames_of w.table.shape ≤ 64 * length words
-  room_kept = subst (λ (x : _). frames_of x.shape ≤ 64 * length words) (sym table) are.room
+  room_kept = rw table are.room
 
   known : (f : ℕ) → f < frames_of w.table.shape → f < frames_of v.table.shape
-  known f lt = subst (λ (x : _). f < frames_of x.shape) table lt
+  known f lt = rw (← table) lt
 
   -- the set is right again once the frame of the step is marked
   set_marked : (words' : List ℕ) (frame : ℕ) → ((f : ℕ) → f ≢ frame → frame_at w.ledger f ≡ frame_at v.ledger f)
       → Marks words words' frame (asked (frame_at w.ledger frame).kind) → IsSetOf asked w words'
   set_marked words' frame others marks = record {
-    room = subst (λ n. frames_of w.table.shape ≤ 64 * n) (sym marks.room) room_kept;
-    marked = λ f lt. elim (cases_eq f frame) [
+    room = rw marks.room room_kept;
+    marked = λ f lt. elim (cases_eq f _) [
       | inl same ↦ ap (has words') same ∙ marks.here ∙ ap (λ g. asked (frame_at w.ledger g).kind) (sym same)
-      | inr differs ↦ marks.others f differs ∙ are.marked f (known f lt) ∙ ap (λ (n : Note). asked n.kind) (sym (others f differs))
+      | inr differs ↦ rw (others f differs) (marks.others f differs ∙ are.marked f (known f lt))
     ];
   }
 
@@ -50,10 +50,11 @@ pub sets_marked : (v w : KeeperView) (e : KeeperStep) (found frame : ℕ) (free 
     → Marks free free' frame (free_kind (frame_at w.ledger frame).kind) → Marks dying dying' frame (dying_kind (frame_at w.ledger frame).kind) → AreSets w free' dying'
 sets_marked v w e found frame free dying free' dying' is on are f d =
     let table = ap (λ (z : KeeperView). z.table) is in
-    let others : (g : ℕ) → g ≢ frame → frame_at w.ledger g ≡ frame_at v.ledger g = λ g ne. ap (λ (z : KeeperView). frame_at z.ledger g) is ∙ other_after v.table.shape v.ledger e found g frame on ne in
+    let others : (g : ℕ) → g ≢ frame → frame_at w.ledger g ≡ frame_at v.ledger g = λ g ne. rw is
+    (other_after v.table.shape _ e _ g _ on ne) in
     record {
-      free = set_marked free_kind v w free table are.free free' frame others f;
-      dying = set_marked dying_kind v w dying table are.dying dying' frame others d;
+      free = set_marked _ v w _ table are.free _ _ others f;
+      dying = set_marked _ v w _ table are.dying _ _ others d;
     }
 
 -- a new note of a frame is among those asked for exactly if the old one was: then so is each frame
@@ -61,23 +62,23 @@ same_kinds : (asked : Kind → Bool) (k : Ledger) (f : ℕ) (note : Note) → as
     → (g : ℕ) → asked (frame_at (with_frame k f note) g).kind ≡ asked (frame_at k g).kind
 same_kinds asked k f note same g = elim (cases_eq g f) [
   | inl here ↦ ap (λ i. asked (frame_at (with_frame k f note) i).kind) here ∙ at_frame ∙ ap (λ i. asked (frame_at k i).kind) (sym here)
-  | inr differs ↦ ap (λ (n : Note). asked n.kind) (get_or-set_other k.frames f g note blank differs)
+  | inr differs ↦ rw (get_or-set_other k.frames f g note blank differs)
 ]
   where
     at_frame : asked (frame_at (with_frame k f note) f).kind ≡ asked (frame_at k f).kind
-    at_frame = elim (cases_lt f (length k.frames)) [
-      | inl within ↦ ap (λ (n : Note). asked n.kind) (get_or-set_same k.frames f note blank within) ∙ same
+    at_frame = elim (cases_lt f _) [
+      | inl within ↦ rw (get_or-set_same k.frames f note blank within) same
       | inr beyond ↦ ap (λ (n : Note). asked n.kind)
-          (get_or_past (set k.frames f note) f blank (omega (arith, beyond, length-set k.frames f note)) ∙ sym (get_or_past k.frames f blank beyond))
+          (get_or_past _ f _ (omega (arith, length-set k.frames f note)) ∙ sym (get_or_past _ f _ beyond))
     ]
 
 -- a frame that has lost a reference of the keeper, and has one left, is of the kind that it was
 kind_left : (k : Ledger) (f : ℕ) → (frame_at (with_frame k f (lowered (frame_at k f))) f).base ≢ 0 → (lowered (frame_at k f)).kind ≡ (frame_at k f).kind
-kind_left k f left = elim (cases_lt f (length k.frames)) [
+kind_left k f left = elim (cases_lt f _) [
   | inl within ↦
       let stands = ap (λ (n : Note). n.base) (get_or-set_same k.frames f (lowered (frame_at k f)) blank within) in
-      ap (λ b. cond b Dying (frame_at k f).kind) (ne_eqb (frame_at k f).base 1 (λ one. left (stands ∙ ap (λ n. n - 1) one)))
-  | inr beyond ↦ absurd (left (ap (λ (n : Note). n.base) (get_or_past (set k.frames f (lowered (frame_at k f))) f blank (omega (arith, beyond, length-set k.frames f (lowered (frame_at k f)))))))
+      rw (ne_eqb (frame_at k f).base 1 (λ one. left (stands ∙ ap (λ n. n - 1) one)))
+  | inr beyond ↦ absurd (left (ap (λ (n : Note). n.base) (get_or_past _ f _ (omega (arith, length-set k.frames f (lowered (frame_at k f)))))))
 ]
 
 -- where a free frame was raised, and marked by its kind among the free ones, the sets are those of the free and the dying frames
@@ -85,10 +86,12 @@ pub sets_raised : (v w : KeeperView) (found frame : ℕ) (free dying free' : Lis
     → AreSets v free dying → Marks free free' frame (free_kind (frame_at w.ledger frame).kind) → AreSets w free' dying
 sets_raised v w found frame free dying free' is may are marks =
     let table = ap (λ (z : KeeperView). z.table) is in
-    let others : (g : ℕ) → g ≢ frame → frame_at w.ledger g ≡ frame_at v.ledger g = λ g ne. ap (λ (z : KeeperView). frame_at z.ledger g) is ∙ other_after v.table.shape v.ledger (Raise frame) found g frame refl ne in
+    let others : (g : ℕ) → g ≢ frame → frame_at w.ledger g ≡ frame_at v.ledger g = λ g ne. rw is
+    (other_after v.table.shape v.ledger (Raise frame) found g _ refl ne) in
     record {
-      free = set_marked free_kind v w free table are.free free' frame others marks;
-      dying = set_stays dying_kind v w dying table are.dying (λ g. ap (λ (z : KeeperView). dying_kind (frame_at z.ledger g).kind) is ∙ same_kinds dying_kind v.ledger frame (raised (frame_at v.ledger frame)) (ap dying_kind (sym may)) g);
+      free = set_marked _ v w _ table are.free _ _ others marks;
+      dying = set_stays _ v w _ table are.dying (λ g. rw is
+          (same_kinds dying_kind v.ledger frame (raised (frame_at v.ledger frame)) (ap dying_kind (sym may)) g));
     }
 
 -- where a frame has lost a reference of the keeper, and has one left, the sets stay those of the free and the dying frames
@@ -98,8 +101,8 @@ sets_lowered v w found frame free dying is left are =
     let table = ap (λ (z : KeeperView). z.table) is in
     let kept = kind_left v.ledger frame (subst (λ (z : KeeperView). (frame_at z.ledger frame).base ≢ 0) is left) in
     let same : (asked : Kind → Bool) (g : ℕ) → asked (frame_at w.ledger g).kind ≡ asked (frame_at v.ledger g).kind = λ asked g.
-    ap (λ (z : KeeperView). asked (frame_at z.ledger g).kind) is ∙ same_kinds asked v.ledger frame (lowered (frame_at v.ledger frame)) (ap asked kept) g in
+    rw is (same_kinds asked v.ledger frame (lowered (frame_at v.ledger frame)) (ap asked kept) g) in
     record {
-      free = set_stays free_kind v w free table are.free (same free_kind);
-      dying = set_stays dying_kind v w dying table are.dying (same dying_kind);
+      free = set_stays _ v w _ table are.free (same free_kind);
+      dying = set_stays _ v w _ table are.dying (same dying_kind);
     }

@@ -1,5 +1,5 @@
 -- The visit of a row: it keeps which pages scans visit, makes no page restless, and does the same wherever the cursor stands.
-use Rattle.ksm_book.proofs.Names.{All, ap, arith, best_dup, BookState, Bool, change_row, change_rows, cond_both, DupRow, false, find_all, get_or, GuestPage, handled, InPageOrder, is_for_zero, is_none, is_some, List, map, mergeable_pages, Merged, next_row, None, not, one_of_each_page, Option, option_map, ordered_map, PageState, paired, partner, pass_begun, pass_ended, refl, restless_at, restless_row, Row, row_at, row_visited, same_page, settled, settled_state, shared_state, Some, stayed, subst, sym, true, true≢false, visit_begun, Waiting, with_none_waiting, Zero, ℕ, ◌&&◌, ◌||◌, ◌∙◌, ◌≡◌, if◌then◌else◌, filter_mapped, map_mapped, find_mapped, filter}
+use Rattle.ksm_book.proofs.Names.{All, ap, arith, best_dup, BookState, Bool, change_row, change_rows, cond_both, DupRow, false, find_all, get_or, GuestPage, handled, InPageOrder, is_for_zero, is_none, is_some, List, map, mergeable_pages, next_row, None, not, one_of_each_page, Option, option_map, ordered_map, PageState, paired, partner, pass_begun, pass_ended, refl, restless_at, restless_row, Row, row_at, row_visited, same_page, settled, settled_state, shared_state, Some, stayed, subst, sym, true, true≢false, visit_begun, Zero, ℕ, ◌&&◌, ◌∙◌, ◌≡◌, if◌then◌else◌, filter_mapped, map_mapped, find_mapped}
 use Rattle.ksm_base.specs.declared.row.PageState.TheVariants.{Private}
 
 -- ---------------------------------------------------------------- wherever the cursor stands
@@ -10,30 +10,20 @@ module _ (cursor : Option GuestPage) (passes : ℕ) where
   elsewhere b = record b { cursor = cursor; passes = passes }
 
   either : (z : Bool) (a b c d : BookState) → c ≡ elsewhere a → d ≡ elsewhere b → (if z then c else d) ≡ elsewhere (if z then a else b)
-  either true a b c d e f = e
-  either false a b c d e f = f
+  either z a b c d e f = grind arith
 
   paired_alike : (w : Option Row) (b : BookState) (row : Row) → paired w (elsewhere b) row ≡ elsewhere (paired w b row)
-  paired_alike (Some w) b row = refl
-  paired_alike None b row = refl
+  paired_alike w b row = grind arith
 
   stayed_alike : (b : BookState) (row : Row) → stayed (elsewhere b) row ≡ elsewhere (stayed b row)
-  stayed_alike b row =
-      let zero : BookState = record b { rows = change_row row.page (λ r. record r { state = Zero }) b.rows } in
-      either (is_for_zero b.knobs row) zero (paired (partner b.knobs b.rows row) b row) (elsewhere zero)
-      (paired (partner b.knobs b.rows row) (elsewhere b) row) refl (paired_alike (partner b.knobs b.rows row) b row)
+  stayed_alike b row = grind (arith, paired_alike (partner b.knobs b.rows row) b row, either)
 
   handled_alike : (d : Option DupRow) (b : BookState) (row : Row) → handled d (elsewhere b) row ≡ elsewhere (handled d b row)
-  handled_alike (Some d) b row = refl
-  handled_alike None b row =
-      let marked : BookState = record b { rows = change_row row.page (λ r. record r { unchanged = true; state = Private }) b.rows } in
-      either row.unchanged (stayed b row) marked (stayed (elsewhere b) row) (elsewhere marked) (stayed_alike b row) refl
+  handled_alike d b row = grind arith
 
   -- the visit of a row does the same to the book wherever its cursor stands and however many passes have ended
   pub row_visited_alike : (b : BookState) (row : Row) → row_visited (elsewhere b) row ≡ elsewhere (row_visited b row)
-  row_visited_alike b row =
-      let best = best_dup b.knobs b.rows b.dups row in
-      either (shared_state row.state) b (handled best b row) (elsewhere b) (handled best (elsewhere b) row) refl (handled_alike best b row)
+  row_visited_alike b row = either _ b _ _ _ refl (handled_alike _ b row)
 
 -- ---------------------------------------------------------------- what rows keep
 
@@ -65,48 +55,49 @@ KeepsPage change = (r : Row) → ((change r).page ≡ r.page) × ((change r).mer
 module _ (change : Row → Row) (keeps : KeepsPage change) where
   -- where a change keeps each row's page and whether scans visit it, scans visit the same pages
   pub mergeable_kept : (rows : List Row) → mergeable_pages (map change rows) ≡ mergeable_pages rows
-  mergeable_kept rows =
-      ap (map (λ r. r.page)) (filter_mapped change (λ r. r.mergeable) (λ r. r.mergeable) rows (λ i d lt. (keeps (get_or rows i d)).1))
-      ∙ map_mapped (λ r. r.page) change (λ r. r.page) (filter (λ r. r.mergeable) rows)
-      (λ i d lt. (keeps (get_or (filter (λ r. r.mergeable) rows) i d)).0)
+  mergeable_kept rows = grind (
+    arith,
+    filter_mapped change (λ r. r.mergeable) (λ r. r.mergeable) rows (λ i d lt. (keeps (get_or rows i d)).1),
+    map_mapped,
+  )
 
   row_changed : (page : GuestPage) (rows : List Row) → row_at page (map change rows) ≡ option_map change (row_at page rows)
   row_changed page rows = find_mapped change (λ r. same_page r.page page) (λ r. same_page r.page page) rows
-      (λ i d lt. ap (λ p. same_page p page) (keeps (get_or rows i d)).0)
+      (λ i d lt. rw (keeps (get_or rows i d)).0)
 
   -- each row is changed, and a shared one stays shared
   pub change_goes : (rows : List Row) → All (λ r. shared_state r.state ≡ true → shared_state (change r).state ≡ true) rows
       → Goes rows (map change rows)
   change_goes rows shared = record {
-    order = λ rise. ordered_map change rows (λ r. (keeps r).0) rise;
-    mergeable = mergeable_kept rows;
-    calm = λ page calm. ap restless_row (row_changed page rows) ∙ by page (row_at page rows) refl calm;
+    order = λ rise. ordered_map _ _ (λ r. (keeps r).0) rise;
+    mergeable = mergeable_kept _;
+    calm = λ page calm. ap restless_row (row_changed _ _) ∙ by _ _ refl calm;
   }
     where
       at : (m n s t : Bool) → n ≡ m → (s ≡ true → t ≡ true) → (m && not s) ≡ false → (n && not t) ≡ false
-      at m n s t same kept calm = grind (arith, same, kept, calm)
+      at m n s t same kept calm = grind (arith, calm)
 
       by : (page : GuestPage) (o : Option Row) → row_at page rows ≡ o → restless_row o ≡ false → restless_row (option_map change o) ≡ false
       by page None found calm = refl
       by page (Some r) found calm =
-          let kept = find_all (λ s. same_page s.page page)
-          (λ s. shared_state s.state ≡ true → shared_state (change s).state ≡ true) rows r found shared in
-          at r.mergeable (change r).mergeable (shared_state r.state) (shared_state (change r).state) (keeps r).1 kept calm
+          let kept = find_all _
+          (λ s. shared_state s.state ≡ true → shared_state (change s).state ≡ true) _ r found shared in
+          at _ _ _ _ (keeps r).1 kept calm
 
 -- the rows that pass a test are changed
 some_go : (test : Row → Bool) (f : Row → Row) (rows : List Row) → KeepsPage f
     → All (λ r. test r ≡ true → shared_state r.state ≡ true → shared_state (f r).state ≡ true) rows
     → Goes rows (change_rows test f rows)
 some_go test f rows keeps shared =
-    change_goes (λ r. if test r then f r else r)
-    (λ r. cond_both (test r) (f r) r (λ x. (x.page ≡ r.page) × (x.mergeable ≡ r.mergeable)) (λ _. keeps r) (λ _. (refl, refl))) rows
-    (λ k d lt is. let r = get_or rows k d in cond_both (test r) (f r) r (λ x. shared_state x.state ≡ true) (λ e. shared k d lt e is)
+    change_goes _
+    (λ r. cond_both _ (f r) r (λ x. (x.page ≡ r.page) × (x.mergeable ≡ r.mergeable)) (λ _. keeps r) (λ _. (refl, refl))) _
+    (λ k d lt is. let r = get_or rows k d in cond_both _ (f r) r (λ x. shared_state x.state ≡ true) (λ e. shared k d lt e is)
     (λ _. is))
 
 -- they become shared
 shares : (test : Row → Bool) (state : PageState) (rows : List Row) → shared_state state ≡ true
     → Goes rows (change_rows test (λ r. record r { state = state }) rows)
-shares test state rows is = some_go test (λ r. record r { state = state }) rows (λ r. (refl, refl)) (λ k d lt e s. is)
+shares test state rows is = some_go _ _ _ (λ r. (refl, refl)) (λ k d lt e s. is)
 
 module _ (b : BookState) (row : Row) (rise : InPageOrder b.rows) (found : row_at row.page b.rows ≡ Some row) where
   abbrev Comes : BookState → Type 0
@@ -117,12 +108,12 @@ module _ (b : BookState) (row : Row) (rise : InPageOrder b.rows) (found : row_at
   own_changes f keeps own =
       let only = find_all (λ r. same_page r.page row.page) (λ r. All (λ s. same_page s.page r.page ≡ true → s ≡ r) b.rows) b.rows row found
       (one_of_each_page b.rows rise) in
-      some_go (λ r. same_page r.page row.page) f b.rows keeps
+      some_go _ f _ keeps
       (λ k d lt here is. absurd (true≢false (sym is ∙ ap (λ (r : Row). shared_state r.state) (only k d lt here) ∙ own)))
 
   paired_goes : (w : Option Row) → shared_state row.state ≡ false → Comes (paired w b row)
-  paired_goes (Some w) own = shares (λ r. same_page r.page w.page || same_page r.page row.page) (Merged b.next) b.rows refl
-  paired_goes None own = own_changes (λ r. record r { state = Waiting }) (λ r. (refl, refl)) own
+  paired_goes (Some w) own = shares _ _ _ refl
+  paired_goes None own = own_changes _ (λ r. (refl, refl)) own
 
   stayed_goes : shared_state row.state ≡ false → Comes (stayed b row)
   stayed_goes own =
@@ -131,7 +122,7 @@ module _ (b : BookState) (row : Row) (rise : InPageOrder b.rows) (found : row_at
       (λ _. shares (λ r. same_page r.page row.page) Zero b.rows refl) (λ _. paired_goes (partner b.knobs b.rows row) own)
 
   handled_goes : (d : Option DupRow) → shared_state row.state ≡ false → Comes (handled d b row)
-  handled_goes (Some d) own = shares (λ r. same_page r.page row.page) (Merged d.number) b.rows refl
+  handled_goes (Some d) own = shares _ _ _ refl
   handled_goes None own =
       cond_both row.unchanged (stayed b row)
       (record b { rows = change_row row.page (λ r. record r { unchanged = true; state = Private }) b.rows }) Comes
@@ -141,13 +132,13 @@ module _ (b : BookState) (row : Row) (rise : InPageOrder b.rows) (found : row_at
   pub visited_goes : shared_state row.state ≡ false → Comes (row_visited b row)
   visited_goes own =
       subst Comes (sym (ap (λ s. if s then b else handled (best_dup b.knobs b.rows b.dups row) b row) own))
-      (handled_goes (best_dup b.knobs b.rows b.dups row) own)
+      (handled_goes _ own)
 
 -- ---------------------------------------------------------------- what a visit begins with
 
 -- once no row waits the rows keep their order and which pages scans visit, and no page becomes restless
 pub settled_goes : (rows : List Row) → Goes rows (map settled rows)
-settled_goes rows = change_goes settled (λ r. (refl, refl)) rows (λ k d lt is. by (get_or rows k d).state is)
+settled_goes rows = change_goes _ (λ r. (refl, refl)) _ (λ k d lt is. by _ is)
   where
     by : (s : PageState) → shared_state s ≡ true → shared_state (settled_state s) ≡ true
     by Private is = is
@@ -157,8 +148,7 @@ settled_goes rows = change_goes settled (λ r. (refl, refl)) rows (λ k d lt is.
 pub begun_goes : (b : BookState) → Goes b.rows (visit_begun b).rows
 begun_goes b =
     cond_both (is_some b.cursor && is_none (next_row b.cursor b.rows)) (pass_ended b) b (λ e. Goes b.rows (pass_begun e).rows)
-    (λ _. settled_goes b.rows) (λ _. begins)
+    (λ _. settled_goes _) (λ _. begins)
   where
     begins : Goes b.rows (pass_begun b).rows
-    begins =
-        cond_both (is_none b.cursor) (with_none_waiting b) b (λ c. Goes b.rows c.rows) (λ _. settled_goes b.rows) (λ _. goes_same b.rows)
+    begins = cond_both _ _ b (λ c. Goes b.rows c.rows) (λ _. settled_goes _) (λ _. goes_same _)

@@ -1,6 +1,5 @@
 -- Rows that wait no more: that of a page with a frame of its own, and those from a page on, one after another.
-use Rattle.ksm_book.proofs.Names.{[], All, ap, BookState, BookValue, Bool, change_row, change_rows, Comes, comes_before, cond_both, every_row, false, find, get_or, GuestPage, InPageOrder, inl, inr, is_before, IsAlone, is_next, IsLaid, IsSound, KeeperView, List, mapped, MatchOption, Merged, None, not, on_its_own, Option, option_map, ordered_change, PageState, PagesValue, PagesView, Performs, refl, Row, row_at, same_page, same_page_eq, seen, settled, settled_calmer, settled_state, shared_state, Some, sound_changed, state_of, subst, sym, true, true≢false, view_of, Waiting, Zero, ℕ, ◌∙◌, ◌∷◌, ◌++◌, ◌≡◌, ◌⊎◌, if◌then◌else◌, map_alike}
-use Rattle.ksm_base.specs.declared.row.PageState.TheVariants.{Private}
+use Rattle.ksm_book.proofs.Names.{[], All, ap, BookState, BookValue, Bool, change_row, change_rows, Comes, comes_before, cond_both, every_row, false, find, get_or, GuestPage, InPageOrder, inl, IsAlone, is_next, IsLaid, IsSound, KeeperView, List, mapped, MatchOption, None, not, on_its_own, Option, option_map, ordered_change, PageState, PagesValue, PagesView, Performs, refl, Row, row_at, same_page, same_page_eq, seen, settled, settled_calmer, settled_state, shared_state, Some, sound_changed, state_of, subst, sym, true, true≢false, view_of, ℕ, ◌∙◌, ◌∷◌, ◌++◌, ◌≡◌, ◌⊎◌, if◌then◌else◌, map_alike, arith, nat_tests}
 use Rattle.ksm_pages.proofs.Resting.{rests}
 use Rattle.ksm_book.specs.Due.{hidden_from}
 use Rattle.ksm_book.proofs.Along.{along_cut, along_end, FitsPage, IsAlong, IsCut}
@@ -12,50 +11,41 @@ use Rattle.ksm_book.proofs.Singles.{change_still}
 
 -- two changes come to the same where they do so wherever they are made
 one_by : (b : Bool) (x y z : Row) → (b ≡ true → x ≡ y) → (if b then x else z) ≡ (if b then y else z)
-one_by true x y z same = same refl
-one_by false x y z same = refl
+one_by b x y z same = grind arith
 
 -- two changes of the row of a page come to the same where they do at each row of that page
 alike_at : (page : GuestPage) (f g : Row → Row) (rows : List Row)
     → All (λ r. same_page r.page page ≡ true → f r ≡ g r) rows → change_row page f rows ≡ change_row page g rows
-alike_at page f g rows same =
-    map_alike (λ r. if same_page r.page page then f r else r) (λ r. if same_page r.page page then g r else r) rows
-    (λ k d lt. let r = get_or rows k d in one_by (same_page r.page page) (f r) (g r) r (same k d lt))
+alike_at page f g rows same = grind (arith, nat_tests, same, map_alike, one_by)
 
 -- ---------------------------------------------------------------- a page with a frame of its own
 
 -- it waits no more where it comes to be on its own
 pub alone_settled : (page : GuestPage) (rows : List Row) → InPageOrder rows → IsAlone page rows
     → change_row page on_its_own rows ≡ change_row page settled rows
-alone_settled page rows rise alone = by (row_at page rows) refl alone
+alone_settled page rows rise alone = by _ refl alone
   where
     by : (o : Option Row) → row_at page rows ≡ o → MatchOption o (true ≡ false) (λ r. shared_state r.state ≡ false)
         → change_row page on_its_own rows ≡ change_row page settled rows
     by None found none = absurd (true≢false none)
     by (Some row) found own =
-        let same : on_its_own row ≡ settled row = λ i. record row { state = sym (rests row.state own) i } in
-        alike_at page on_its_own settled rows
-        (λ k d lt is.
-        subst (λ x. on_its_own x ≡ settled x) (sym (row_of_page page rows row rise found k d lt is)) same)
+        let same : on_its_own row ≡ settled row = λ i. record row { state = sym (rests _ own) i } in
+        alike_at _ _ _ _ (λ k d lt is. rw (row_of_page _ _ row rise found k d lt is) same)
 
 module _ {p q : PagesView} (page : GuestPage) (goes : q ≡ record p { rows = change_row page settled p.rows }) where
   -- the book stays sound where a page waits no more
   pub sound_stopped : (cursor : Option GuestPage) (passes : ℕ) → IsSound (state_of p cursor passes)
       → IsSound (state_of q cursor passes)
   sound_stopped cursor passes sound =
-      subst (λ (x : PagesView). IsSound (state_of x cursor passes)) (sym goes)
-      (sound_changed (state_of p cursor passes) (λ r. same_page r.page page) settled settled_calmer
-      (λ r home. home) sound)
+      rw goes (sound_changed _ _ _ settled_calmer (λ r home. home) sound)
 
   -- and the pages lie as lawfully as they did
   pub laid_stopped : {k : KeeperView} → IsLaid p k → IsLaid q k
-  laid_stopped {k} laid =
-      subst (λ (x : PagesView). IsLaid x k) (sym goes)
-      (laid_mapped laid (λ r. if same_page r.page page then settled r else r) p.restless
-      (λ r. cond_both (same_page r.page page) (settled r) r (λ (x : Row). x.page ≡ r.page) (λ _. refl) (λ _. refl))
+  laid_stopped laid =
+      rw goes
+      (laid_mapped laid _ _ (λ r. cond_both _ _ r (λ (x : Row). x.page ≡ r.page) (λ _. refl) (λ _. refl))
       (λ i d lt. let r = get_or p.rows i d in
-      cond_both (same_page r.page page) (settled r) r (λ x. LodgesAs x r)
-      (λ _. settled_lodges r) (λ _. (refl, refl, inl refl))))
+      cond_both _ _ r (λ x. LodgesAs x r) (λ _. settled_lodges r) (λ _. (refl, refl, inl refl))))
 
 -- that page's row is all that changes in what was reached
 pub stop_comes : (p q : PagesValue) (k : KeeperView) (cursor : Option GuestPage) (passes : ℕ) (page : GuestPage)
@@ -76,29 +66,23 @@ abbrev pub hides : GuestPage → Row → Row
 hides page r = if not (comes_before r.page page) then settled r else r
 
 hides_kept : (page : GuestPage) (r : Row) → (hides page r).page ≡ r.page
-hides_kept page r =
-    cond_both (not (comes_before r.page page)) (settled r) r (λ (x : Row). x.page ≡ r.page) (λ _. refl) (λ _. refl)
+hides_kept page r = grind (arith, nat_tests)
 
 -- a shared state is settled
 shared_settled : (state : PageState) → shared_state state ≡ true → settled_state state ≡ state
-shared_settled Private is = cc
-shared_settled Waiting is = cc
-shared_settled (Merged d) is = refl
-shared_settled Zero is = refl
+shared_settled state is = grind arith
 
 -- a shared row stays as it is
 shared_stays : (page : GuestPage) (r : Row) → shared_state r.state ≡ true → hides page r ≡ r
-shared_stays page r is =
-    cond_both (not (comes_before r.page page)) (settled r) r (λ x. x ≡ r)
-    (λ _. ap (λ (st : PageState). record r { state = st }) (shared_settled r.state is)) (λ _. refl)
+shared_stays page r is = grind (arith, nat_tests, is, shared_settled)
 
 -- so does one whose page comes before
 before_stays : (page : GuestPage) (r : Row) → comes_before r.page page ≡ true → hides page r ≡ r
-before_stays page r is = ap (λ b. if not b then settled r else r) is
+before_stays page r is = rw is
 
 -- any other is settled
 behind_settles : (page : GuestPage) (r : Row) → comes_before r.page page ≡ false → settled r ≡ hides page r
-behind_settles page r is = sym (ap (λ b. if not b then settled r else r) is)
+behind_settles page r is = sym (rw is)
 
 -- up to a cursor, no row from a page on waits
 pub record IsHiding (page : GuestPage) (old new : BookValue) (last : Option GuestPage) : Type 0 where
@@ -121,10 +105,8 @@ module _ {page : GuestPage} {old now : BookValue} {last : Option GuestPage} (h :
   pub hiding_end : find (is_next None last) now.state.rows ≡ None → Comes old now (λ s. (hidden_from page s.0, s.1))
   hiding_end ended from s before =
       let reached = h.comes from s before in
-      let all = (along_end (hides page) (hides_kept page) h.along ended).0 in (
-        reached.0
-            ∙ ap (λ rows. record s.0 { rows = rows })
-            (all ∙ ap (λ (b : BookState). change_rows every_row (hides page) b.rows) before.0),
+      let all = (along_end _ (hides_kept _) h.along ended).0 in (
+        rw (← (all ∙ ap (λ (b : BookState). change_rows every_row (hides page) b.rows) before.0)) reached.0,
         reached.1,
       )
 
@@ -132,18 +114,15 @@ module _ {page : GuestPage} {old now : BookValue} {last : Option GuestPage} (h :
       (told : option_map (λ r. r.page) (find (is_next None last) now.state.rows) ≡ Some at)
       (fits : FitsPage (Some at)) where
     cut : IsCut every_row (hides page) old.state.rows now.state.rows h.done at
-    cut = along_cut (hides page) (hides_kept page) h.along rise at told
+    cut = along_cut _ (hides_kept _) h.along rise at told
 
     -- once the row of the page is changed, the cursor goes on to it
     along_on : (rows : List Row) → rows ≡ change_row at (hides page) now.state.rows
         → IsAlong every_row (hides page) old.state.rows rows (Some at) (cut.before ++ cut.row ∷ []) cut.rest
-    along_on rows same =
-        subst (λ x. IsAlong every_row (hides page) old.state.rows x (Some at) (cut.before ++ cut.row ∷ []) cut.rest)
-        (sym same) cut.next
+    along_on rows same = rw same cut.next
 
     now_rise : InPageOrder now.state.rows
-    now_rise = subst InPageOrder (sym cut.stop)
-        (ordered_change (λ x. is_before (Some cut.row) x) (hides page) old.state.rows (hides_kept page) rise)
+    now_rise = subst InPageOrder (sym cut.stop) (ordered_change _ _ _ (hides_kept _) rise)
 
     -- a shared page, or one that comes before, is left as it is
     pub hiding_over : (row : Row) → row_at at now.state.rows ≡ Some row
@@ -151,8 +130,8 @@ module _ {page : GuestPage} {old now : BookValue} {last : Option GuestPage} (h :
     hiding_over row found why = record {
       done = cut.before ++ cut.row ∷ [];
       left = cut.rest;
-      along = along_on now.state.rows (sym (change_still at (hides page) now.state.rows (λ k d lt same. stays
-          (get_or now.state.rows k d) (row_of_page at now.state.rows row now_rise found k d lt same) same why)));
+      along = along_on _ (sym (change_still at _ _ (λ k d lt same. stays
+          _ (row_of_page at _ row now_rise found k d lt same) same why)));
       comes = h.comes;
       own = h.own;
       restless = h.restless;
@@ -161,9 +140,7 @@ module _ {page : GuestPage} {old now : BookValue} {last : Option GuestPage} (h :
       where
         stays : (r : Row) → r ≡ row → same_page r.page at ≡ true
             → (shared_state row.state ≡ true) ⊎ (comes_before at page ≡ true) → hides page r ≡ r
-        stays r is same (inl shared) = shared_stays page r (ap (λ (x : Row). shared_state x.state) is ∙ shared)
-        stays r is same (inr before) =
-            before_stays page r (ap (λ p. comes_before p page) (same_page_eq r.page at same) ∙ before)
+        stays r is same h3 = grind arith
 
     -- any other page waits no more
     pub hiding_more : (next : BookValue) → comes_before at page ≡ false
@@ -172,9 +149,8 @@ module _ {page : GuestPage} {old now : BookValue} {last : Option GuestPage} (h :
     hiding_more next behind stops own restless = record {
       done = cut.before ++ cut.row ∷ [];
       left = cut.rest;
-      along = along_on next.state.rows (rows ∙ alike_at at settled (hides page) now.state.rows
-          (λ k d lt same. let r = get_or now.state.rows k d in
-          behind_settles page r (ap (λ p. comes_before p page) (same_page_eq r.page at same) ∙ behind)));
+      along = along_on _ (rows ∙ alike_at at _ _ _
+          (λ k d lt same. behind_settles _ (get_or now.state.rows k d) (rw (same_page_eq _ at same) behind)));
       comes = λ from s before.
           let reached = stops from (record s.0 { rows = now.state.rows }, s.1) (h.comes from s before) in
           (reached.0 ∙ ap (λ l. record s.0 { rows = l }) (sym rows), reached.1);
@@ -184,5 +160,4 @@ module _ {page : GuestPage} {old now : BookValue} {last : Option GuestPage} (h :
     }
       where
         rows : next.state.rows ≡ change_row at settled now.state.rows
-        rows = ap (λ (b : BookState). b.rows)
-            (comes_to now next (λ s. (record s.0 { rows = change_row at settled s.0.rows }, s.1)) stops)
+        rows = rw (comes_to now next _ stops)

@@ -1,5 +1,5 @@
 -- The keeper's steps as changes of a placement, and the lives that they spend.
-use Rattle.ksm_book.proofs.Names.{[], Add, added, All, All-filter, All-head, All-tail, ap, arith, blank, Bool, cases_lt, cond, count_in, did, DupRow, Dying, dying_kind, dying_on, false, Filling, filter_passes, FitsBase, frame_at, Frames, frames_of, Free, GenerationFits, get_or, get_or-range_with_len, get_or_past, IfSome, inl, inr, KeeperView, Kind, leaving, Ledger, ledger_after, length, length-range_with_len, List, lowered, MakesSteps, map, May, nat_tests, ne_eqb, None, Note, Option, past_lives, Placed, Private, range_with_len, Reap, reaped, refl, Retired, Row, same_Some, set, Shape, Some, spent, spent_on, Stable, Sub, subst, suc, sum_by, sum_by-cons, sum_by-set, sym, true, uses, with_frame, zero, ℕ, ◌*◌, ◌+◌, ◌-◌, ◌<◌, ◌==◌, ◌∷◌, ◌≡◌, ◌≢◌, ◌≤◌, cond_both}
+use Rattle.ksm_book.proofs.Names.{[], Add, added, All, All-filter, All-head, All-tail, arith, blank, Bool, cases_lt, cond, count_in, did, DupRow, Dying, dying_kind, dying_on, false, Filling, filter_passes, FitsBase, frame_at, Frames, frames_of, Free, GenerationFits, get_or, get_or-range_with_len, get_or_past, IfSome, inr, KeeperView, Kind, leaving, Ledger, ledger_after, length, length-range_with_len, List, MakesSteps, map, May, nat_tests, ne_eqb, None, Note, Option, past_lives, Placed, Private, range_with_len, Reap, reaped, refl, Retired, Row, same_Some, set, Shape, Some, spent, spent_on, Stable, Sub, subst, suc, sum_by, sum_by-cons, sum_by-set, sym, true, with_frame, zero, ℕ, ◌*◌, ◌+◌, ◌-◌, ◌<◌, ◌==◌, ◌∷◌, ◌≡◌, ◌≢◌, ◌≤◌, cond_both}
 use Rattle.ksm_book.proofs.ByPage.{one_same, one_other}
 use Rattle.ksm_book.proofs.Made.{first_made, none_made, step_made}
 use Rattle.ksm_book.proofs.Noted.{noted}
@@ -8,73 +8,66 @@ use Rattle.ksm_book.proofs.Sweeps.{is_dying_kind}
 -- ---------------------------------------------------------------- kinds
 
 taken_private : (b : Bool) (kind : Kind) → cond b Dying kind ≡ Private → kind ≡ Private
-taken_private true kind e = grind (arith, e)
-taken_private false kind e = e
+taken_private b kind e = grind arith
 
 fits_taken : (kind : Kind) (n : ℕ) → 1 ≤ n → FitsBase kind n → (b : Bool) → (b ≡ (n == 1)) → FitsBase (cond b Dying kind) (n - 1)
-fits_taken kind n some fits true e = let t : n ≡ 1 = grind (arith, e, nat_tests) in omega arith
-fits_taken Free n some fits false e = let z : n ≡ 0 = fits in omega arith
+fits_taken kind n some fits true e = let t : n ≡ 1 = grind arith in omega arith
+fits_taken Free n some fits false e = omega arith
 fits_taken Filling n some fits false e = absurd fits
-fits_taken Private n some fits false e = let z : n ≡ 1 = fits in absurd (grind (arith, e, z, nat_tests))
-fits_taken Stable n some fits false e = let z : ¬ (n ≡ 1) = λ is. grind (arith, e, is, nat_tests) in omega arith
-fits_taken _ n some fits false e = let z : n ≡ 0 = fits in omega arith
+fits_taken Private n some fits false e = let z = fits in absurd (grind arith)
+fits_taken Stable n some fits false e = let z : ¬ (n ≡ 1) = λ is. grind arith in omega arith
+fits_taken _ n some fits false e = omega arith
 
 lived_taken : (last n base : ℕ) (kind : Kind) (b : Bool) → 1 ≤ base → FitsBase kind base → GenerationFits last kind n → GenerationFits last (cond b Dying kind) n
 lived_taken last n base kind false some fits h = h
-lived_taken last n base Free true some fits h = let z : base ≡ 0 = fits in absurd (omega arith)
+lived_taken last n base Free true some fits h = absurd (omega arith)
 lived_taken last n base _ true some fits h = h
 
 -- ---------------------------------------------------------------- lives
 
 -- a generation that fits a frame's kind is at most the last generation
 pub lives_most : (last n : ℕ) (kind : Kind) → GenerationFits last kind n → n ≤ last
-lives_most last n Free h = omega (arith, h)
-lives_most last n _ h = h.1
+lives_most last n kind h = grind arith
 
 last_given : (last n : ℕ) (kind : Kind) → n ≡ last → GenerationFits last kind n → 1 ≤ n
-last_given last n Free e h = absurd (omega (arith, h, e))
-last_given last n _ e h = h.0
+last_given last n kind e h = grind arith
 
 lived_reaped : (last n : ℕ) (kind : Kind) (c : Bool) → c ≡ (n == last) → GenerationFits last kind n → GenerationFits last (cond c Retired Free) n
-lived_reaped last n kind true e h = let is : n ≡ last = grind (arith, nat_tests, e) in (last_given last n kind is h, lives_most last n kind h)
-lived_reaped last n kind false e h = let ne : n ≢ last = λ is. grind (arith, nat_tests, e, is) in let most = lives_most last n kind h in omega (arith, ne, most)
+lived_reaped last n kind true e h = (last_given _ n _ (grind (arith, nat_tests)) h, lives_most _ n _ h)
+lived_reaped last n kind false e h = let ne : n ≢ last = λ is. grind arith in let most = lives_most _ n _ h in omega arith
 
 -- the lives in which a frame does not hold one page alone are among those that it had
 pub past_le : (kind : Kind) (n : ℕ) → past_lives kind n ≤ n
-past_le Free n = omega arith
-past_le _ n = omega arith
+past_le kind n = grind arith
 
 -- the lives spent, where one frame's note is another, differ by those of this frame
 pub spent_set : (k : Ledger) (g : ℕ) (fr : Note) → g < length k.frames → spent (with_frame k g fr) + spent_on (frame_at k g) ≡ spent k + spent_on fr
-spent_set k g fr lt = sum_by-set spent_on k.frames g fr blank lt
+spent_set k g fr lt = sum_by-set _ _ g fr _ lt
 
 -- where a frame has spent no fewer lives, neither has the table
 pub spent_kept : (k : Ledger) (g : ℕ) (fr : Note) → spent_on (frame_at k g) ≤ spent_on fr → spent k ≤ spent (with_frame k g fr)
-spent_kept k g fr le = by k.frames g le
+spent_kept k g fr le = by _ g le
   where
     by : (xs : List Note) (i : ℕ) → spent_on (get_or xs i blank) ≤ spent_on fr → sum_by spent_on xs ≤ sum_by spent_on (set xs i fr)
     by [] i le = omega arith
-    by (x ∷ xs) zero le = let a = sum_by-cons spent_on x xs in let b = sum_by-cons spent_on fr xs in omega (arith, a, b, le)
-    by (x ∷ xs) (suc i) le = let a = sum_by-cons spent_on x xs in let b = sum_by-cons spent_on x (set xs i fr) in let c = by xs i le in omega (arith, a, b, c)
+    by (x ∷ xs) zero le = let a = sum_by-cons spent_on x xs in let b = sum_by-cons spent_on fr xs in omega arith
+    by (x ∷ xs) (suc i) le = let a = sum_by-cons spent_on x xs in let b = sum_by-cons spent_on x (set xs i fr) in let c = by xs i le in omega arith
 
 -- ---------------------------------------------------------------- a reference goes
 
 -- a frame with a reference is one that the keeper knows
 pub held_within : (k : Ledger) (f : ℕ) → 1 ≤ (frame_at k f).base → f < length k.frames
-held_within k f some = elim (cases_lt f (length k.frames)) [
-  | inl less ↦ less
-  | inr more ↦ absurd (let none = ap (λ (x : Note). x.base) (get_or_past k.frames f blank more) in omega (arith, some, none))
-]
+held_within k f some = grind (arith, nat_tests, cases_lt, get_or_past)
 
 -- a frame in hand is one of the table, and has a reference
 pub held_inside : {sh : Shape} {across : ℕ} {k : Ledger} {rows : List Row} {frame : Frames} {dups : List DupRow} {g : ℕ} → Placed sh across k rows frame dups (Some g)
     → (g < frames_of sh) × (1 ≤ (frame_at k g).base)
 held_inside {k = k} {g = g} p =
-    let one = one_same g (Some g) refl in
+    let one = one_same g _ refl in
     let base = p.bases g in
     let long = p.frames_long in
-    let some : 1 ≤ (frame_at k g).base = omega (arith, one, base) in
-    (omega (arith, held_within k g some, long), some)
+    let some : 1 ≤ (frame_at k g).base = omega arith in
+    (omega (arith, held_within k g some), some)
 
 -- the frame in hand, if there is one, may be left
 pub may_leave : (v : KeeperView) {sh : Shape} → v.table.shape ≡ sh → {across : ℕ} {rows : List Row} {frame : Frames} {dups : List DupRow} (o : Option ℕ)
@@ -82,36 +75,30 @@ pub may_leave : (v : KeeperView) {sh : Shape} → v.table.shape ≡ sh → {acro
 may_leave v same None p = tt
 may_leave v same (Some g) p =
     let held = held_inside p in
-    (subst (λ (s : Shape). g < frames_of s) (sym same) held.0, held.1)
+    (rw same held.0, held.1)
 
 -- what was in hand was given back: rows and dups lie lawfully
 pub left_placed : {v w : KeeperView} (o : Option ℕ) → MakesSteps v w (leaving o) → {sh : Shape} {across : ℕ} {rows : List Row} {frame : Frames} {dups : List DupRow}
     → Placed sh across v.ledger rows frame dups o → Placed sh across w.ledger rows frame dups None
-left_placed {v} {w} None m {sh} {across} {rows} {frame} {dups} p = subst (λ (z : KeeperView). Placed sh across z.ledger rows frame dups None) (sym (none_made m)) p
+left_placed {v} {w} None m {sh} {across} {rows} {frame} {dups} p = rw (none_made m) p
 left_placed {v} {w} (Some g) m {sh} {across} {rows} {frame} {dups} p =
-    let old : Note = frame_at v.ledger g in
     let in_hand = held_inside p in
-    let one = one_same g (Some g) refl in
+    let one = one_same g _ refl in
     let base = p.bases g in
-    subst (λ (z : KeeperView). Placed sh across z.ledger rows frame dups None) (sym (step_made m).1)
-    (noted p g in_hand.0 (lowered old) None (record {
+    rw (step_made m).1
+    (noted p g in_hand.0 _ None (record {
       wide = p.widths g;
-      lived = lived_taken sh.last_generation old.generation old.base old.kind (old.base == 1) in_hand.1 (p.kinds g) (p.lives g);
-      base = omega (arith, one, base);
-      fits = fits_taken old.kind old.base in_hand.1 (p.kinds g) (old.base == 1) refl;
-      same = λ some. let more : (old.base == 1) ≡ false = ne_eqb old.base 1 (λ e. omega (arith, one, base, some, e)) in (ap (λ (b : Bool). cond b Dying old.kind) more, refl, refl);
-      life = inr (refl, inr (refl, taken_private (old.base == 1) old.kind));
-    }) (λ f ne. sym (one_other f (Some g) (λ e. ne (sym (same_Some g f e))))))
+      lived = lived_taken _ _ _ _ _ in_hand.1 (p.kinds g) (p.lives g);
+      base = omega arith;
+      fits = fits_taken _ _ in_hand.1 (p.kinds g) _ refl;
+      same = λ some. let more = ne_eqb (frame_at v.ledger g).base 1 (λ e. omega arith) in (rw more, refl, refl);
+      life = inr (refl, inr (refl, taken_private _ _));
+    }) (λ f ne. sym (one_other f _ (λ e. ne (sym (same_Some g f e))))))
 
 -- a reference given back ends no life
 pub left_spends : {v w : KeeperView} (o : Option ℕ) → MakesSteps v w (leaving o) → spent v.ledger ≤ spent w.ledger
-left_spends {v} {w} None m = let same = ap (λ (z : KeeperView). spent z.ledger) (none_made m) in omega (arith, same)
-left_spends {v} {w} (Some g) m =
-    let old : Note = frame_at v.ledger g in
-    let same = ap (λ (z : KeeperView). spent z.ledger) (step_made m).1 in
-    let more = spent_kept v.ledger g (lowered old) (cond_both (old.base == 1) Dying old.kind
-    (λ x. past_lives old.kind old.generation ≤ past_lives x old.generation) (λ _. past_le old.kind old.generation) (λ _. omega arith)) in
-    omega (arith, same, more)
+left_spends None m = grind (arith, nat_tests, m, none_made m)
+left_spends (Some g) m = grind (arith, nat_tests, step_made m, spent_kept, past_le)
 
 -- ---------------------------------------------------------------- a reference comes
 
@@ -119,26 +106,21 @@ left_spends {v} {w} (Some g) m =
 pub added_placed : {v w : KeeperView} {g : ℕ} → MakesSteps v w (Add g ∷ []) → (frame_at v.ledger g).kind ≡ Stable → {sh : Shape} {across : ℕ} {rows : List Row} {frame : Frames} {dups : List DupRow}
     → g < frames_of sh → Placed sh across v.ledger rows frame dups None → Placed sh across w.ledger rows frame dups (Some g)
 added_placed {v} {w} {g} m stable {sh} {across} {rows} {frame} {dups} inside p =
-    let old : Note = frame_at v.ledger g in
-    let one = one_same g (Some g) refl in
-    let base : old.base ≡ uses g frame rows + 0 = p.bases g in
-    let some : 1 ≤ old.base + 1 = omega arith in
-    subst (λ (z : KeeperView). Placed sh across z.ledger rows frame dups (Some g)) (sym (step_made m).1)
-    (noted p g inside (added old) (Some g) (record {
+    let one = one_same g _ refl in
+    let base = p.bases g in
+    rw (step_made m).1
+    (noted p g inside _ _ (record {
       wide = p.widths g;
       lived = p.lives g;
-      base = omega (arith, one, base);
-      fits = subst (λ (x : Kind). FitsBase x (old.base + 1)) (sym stable) some;
+      base = omega arith;
+      fits = rw stable (omega arith);
       same = λ _. (refl, refl, refl);
       life = inr (refl, inr (refl, λ own. own));
-    }) (λ f ne. one_other f (Some g) (λ e. ne (sym (same_Some g f e)))))
+    }) (λ f ne. one_other f _ (λ e. ne (sym (same_Some g f e)))))
 
 -- a reference that came ends no life
 pub added_spends : {v w : KeeperView} {g : ℕ} → MakesSteps v w (Add g ∷ []) → spent v.ledger ≤ spent w.ledger
-added_spends {v} {w} {g} m =
-    let same = ap (λ (z : KeeperView). spent z.ledger) (step_made m).1 in
-    let more = spent_kept v.ledger g (added (frame_at v.ledger g)) (omega arith) in
-    omega (arith, same, more)
+added_spends {v} {w} {g} m = grind (arith, nat_tests, step_made m, spent_kept v.ledger g (added (frame_at v.ledger g)) (omega arith))
 
 -- ---------------------------------------------------------------- frames are reaped
 
@@ -168,12 +150,7 @@ module _ (sh : Shape) (k : Ledger) (g found : ℕ) where
   ]
 
   reap_spends : spent k ≤ spent (ledger_after sh k (Reap g) found)
-  reap_spends = elim (count_in found == 0) as (λ b. spent k ≤ spent (after b)) [
-    | true ↦ spent_kept k g (reaped sh.last_generation old) (cond_both (old.generation == sh.last_generation) Retired Free
-        (λ x. past_lives old.kind old.generation ≤ past_lives x old.generation)
-        (λ _. past_le old.kind old.generation) (λ _. past_le old.kind old.generation))
-    | false ↦ omega arith
-  ]
+  reap_spends = grind (arith, spent_kept, past_le)
 
   reap_placed : (across : ℕ) (rows : List Row) (frame : Frames) (dups : List DupRow) (hand : Option ℕ) → IsLeft sh k g → Placed sh across k rows frame dups hand
       → Placed sh across (ledger_after sh k (Reap g) found) rows frame dups hand
@@ -184,9 +161,9 @@ module _ (sh : Shape) (k : Ledger) (g found : ℕ) where
         noted p g left.0 (reaped sh.last_generation old) hand (record {
           wide = p.widths g;
           lived = lived_reaped sh.last_generation old.generation old.kind (old.generation == sh.last_generation) refl (p.lives g);
-          base = omega (arith, base, none);
+          base = omega arith;
           fits = cond_both (old.generation == sh.last_generation) Retired Free (λ x. FitsBase x 0) (λ _. refl) (λ _. refl);
-          same = λ some. absurd (omega (arith, base, none, some));
+          same = λ some. absurd (omega arith);
           life = inr (
             refl,
             inr (
@@ -202,22 +179,22 @@ module _ (sh : Shape) (k : Ledger) (g found : ℕ) where
 -- frames on which nothing is were reaped: rows and dups lie lawfully
 reaps_placed : (fs : List ℕ) (v w : KeeperView) → MakesSteps v w (map Reap fs) → (across : ℕ) (rows : List Row) (frame : Frames) (dups : List DupRow) (hand : Option ℕ)
     → All (IsLeft v.table.shape v.ledger) fs → Placed v.table.shape across v.ledger rows frame dups hand → Placed v.table.shape across w.ledger rows frame dups hand
-reaps_placed [] v w m across rows frame dups hand left p = subst (λ (z : KeeperView). Placed v.table.shape across z.ledger rows frame dups hand) (sym (none_made m)) p
+reaps_placed [] v w m across rows frame dups hand left p = rw (none_made m) p
 reaps_placed (f ∷ fs) v w m across rows frame dups hand left p =
-    let sh : Shape = v.table.shape in
+    let sh = v.table.shape in
     let first = first_made m in
     let rest = All-tail (IsLeft sh v.ledger) f fs left in
     reaps_placed fs (did v (Reap f) first.0) w first.1 across rows frame dups hand
-    (λ i d lt. still_left sh v.ledger f first.0 (get_or fs i d) (rest i d lt))
-    (reap_placed sh v.ledger f first.0 across rows frame dups hand (All-head (IsLeft sh v.ledger) f fs left) p)
+    (λ i d lt. still_left sh v.ledger f first.0 _ (rest i d lt))
+    (reap_placed sh _ f _ _ _ _ _ _ (All-head (IsLeft sh v.ledger) f fs left) p)
 
 reaps_spend : (fs : List ℕ) (v w : KeeperView) → MakesSteps v w (map Reap fs) → spent v.ledger ≤ spent w.ledger
-reaps_spend [] v w m = let same = ap (λ (z : KeeperView). spent z.ledger) (none_made m) in omega (arith, same)
+reaps_spend [] v w m = grind (arith, nat_tests, m, none_made m)
 reaps_spend (f ∷ fs) v w m =
     let first = first_made m in
     let here = reap_spends v.table.shape v.ledger f first.0 in
     let rest = reaps_spend fs (did v (Reap f) first.0) w first.1 in
-    omega (arith, here, rest)
+    omega arith
 
 -- the frames of a node end at the end of the table or before it
 pub node_end : (node nodes size : ℕ) → node < nodes → node * size + size ≤ nodes * size
@@ -228,23 +205,23 @@ pub searched_placed : {v w : KeeperView} (node : ℕ) → node < v.table.shape.n
     → (across : ℕ) (rows : List Row) (frame : Frames) (dups : List DupRow) (hand : Option ℕ) → Placed v.table.shape across v.ledger rows frame dups hand
     → Placed v.table.shape across w.ledger rows frame dups hand
 searched_placed {v} {w} node less m across rows frame dups hand p =
-    let sh : Shape = v.table.shape in
-    let size : ℕ = sh.frames_per_node in
-    let low : ℕ = node * size in
+    let sh = v.table.shape in
+    let size = sh.frames_per_node in
+    let low = node * size in
     let dies = λ (f : ℕ). dying_kind (frame_at v.ledger f).kind in
-    let end = node_end node sh.nodes size less in
+    let end = node_end _ _ size less in
     let inside : All (λ f. f < frames_of sh) (range_with_len low size) = λ i d lt.
     let long = length-range_with_len low size in
-    let at = get_or-range_with_len low size i d (omega (arith, lt, long)) in
-    omega (arith, at, long, lt, end) in
-    reaps_placed (dying_on sh v.ledger node) v w m across rows frame dups hand
+    let at = get_or-range_with_len low size i d (omega arith) in
+    omega arith in
+    reaps_placed _ v w m _ _ _ _ _
     (λ i d lt.
-    let f : ℕ = get_or (dying_on sh v.ledger node) i d in (
-      All-filter dies (λ f. f < frames_of sh) (range_with_len low size) inside i d lt,
+    let f = get_or (dying_on sh v.ledger node) i d in (
+      All-filter _ (λ f. f < frames_of sh) _ inside i d lt,
       subst (λ (x : Kind). FitsBase x (frame_at v.ledger f).base) (is_dying_kind _ (filter_passes dies (range_with_len low size) i d lt)) (p.kinds f),
     ))
     p
 
 -- reaping spends no fewer lives
 pub searched_spends : {v w : KeeperView} (node : ℕ) → MakesSteps v w (map Reap (dying_on v.table.shape v.ledger node)) → spent v.ledger ≤ spent w.ledger
-searched_spends {v} {w} node m = reaps_spend (dying_on v.table.shape v.ledger node) v w m
+searched_spends {v} {w} node m = reaps_spend _ v w m

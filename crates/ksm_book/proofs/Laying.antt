@@ -1,5 +1,5 @@
 -- What becomes of pages that lie lawfully, where the keeper makes its steps.
-use Rattle.ksm_book.proofs.Names.{[], All, ap, arith, blank, change_row, default_knobs, DupFits, DupRow, false, find_all, first_ledger, FitsBase, frame_at, Frames, frames_of, GenerationFits, get_or, GuestPage, holding, Houses, inl, InPageOrder, inr, IsLaid, IsLawful, IsReadable, IsServed, IsShape, KeeperView, Keeps, Kind, kind_for, Knobs, Ledger, length, length-replicate, lies_on, List, Listing, map, MatchOption, Merged, merged_into, None, Note, nowhere, Option, PAGE_WORDS, PageState, PagesView, Placed, Private, refl, replicate, Row, row_at, same_page, Shape, shared_state, slice_index_or, Some, spent, subst, suc, sym, HasNewFrame, true, with_frame, with_row, Zero, zero, zero_state, ℕ, ◌/◌, ◌<◌, ◌∙◌, ◌≡◌, ◌≤◌, ◌⊎◌, cond_both, if◌then◌else◌, Stable}
+use Rattle.ksm_book.proofs.Names.{[], All, ap, arith, blank, change_row, default_knobs, DupFits, DupRow, false, find_all, first_ledger, frame_at, Frames, frames_of, get_or, GuestPage, holding, Houses, inl, InPageOrder, inr, IsLaid, IsLawful, IsReadable, IsServed, IsShape, KeeperView, Keeps, Kind, kind_for, Knobs, Ledger, length, length-replicate, lies_on, List, Listing, map, MatchOption, Merged, merged_into, None, nowhere, Option, PAGE_WORDS, PageState, PagesView, Placed, Private, refl, replicate, Row, row_at, Shape, shared_state, slice_index_or, Some, spent, subst, suc, sym, HasNewFrame, true, with_frame, with_row, Zero, zero, zero_state, ℕ, ◌/◌, ◌∙◌, ◌≡◌, ◌≤◌, ◌⊎◌, cond_both, Stable}
 use Rattle.ksm_base.specs.declared.row.PageState.TheVariants.{Private as OwnPage}
 use Rattle.ksm_book.proofs.ByPage.{found_page, row_of_page}
 use Rattle.ksm_book.proofs.Keeping.{spent_kept}
@@ -8,7 +8,7 @@ use Rattle.ksm_book.proofs.Moves.{Serves, framed, inserted, own_agrees, remapped
 module _ {sh : Shape} {across : ℕ} (v : KeeperView) {rows : List Row} {frame : Frames} {dups : List DupRow} {hand : Option ℕ} (same : v.table.shape ≡ sh) where
   -- a placement by this shape is one by the shape of the keeper's table
   at_table : Placed sh across v.ledger rows frame dups hand → Placed v.table.shape across v.ledger rows frame dups hand
-  at_table p = subst (λ (s : Shape). Placed s across v.ledger rows frame dups hand) (sym same) p
+  at_table p = rw same p
 
   -- a placement by the shape of the table is lawful as the keeper sees it
   pub lawful : Placed sh across v.ledger rows frame dups hand → IsLawful v hand
@@ -16,22 +16,22 @@ module _ {sh : Shape} {across : ℕ} (v : KeeperView) {rows : List Row} {frame :
 
   -- a placement that is lawful before a call is lawful after it, where the call keeps every lawful placement
   pub kept : (w : KeeperView) (hand' : Option ℕ) → Keeps v w hand hand' → Placed sh across v.ledger rows frame dups hand → Placed sh across w.ledger rows frame dups hand'
-  kept w hand' keeps p = subst (λ (s : Shape). Placed s across w.ledger rows frame dups hand') same (keeps across rows frame dups (at_table p))
+  kept w hand' keeps p = rw (← same) (keeps across rows frame dups (at_table p))
 
 -- a keeper of the same table has its shape
 pub shape_same : (sh : Shape) (v w : KeeperView) → v.table.shape ≡ sh → w.table ≡ v.table → w.table.shape ≡ sh
-shape_same sh v w same e = ap (λ x. x.shape) e ∙ same
+shape_same sh v w same e = rw e same
 
 -- the frame taken serves a row with its bytes on its home
 module _ {sh : Shape} {across : ℕ} {v w : KeeperView} {rows : List Row} {frame : Frames} {dups : List DupRow} (same : v.table.shape ≡ sh) {node : ℕ} {bytes : List ℕ} {g : ℕ} (took : HasNewFrame v w node bytes g) (p : Placed sh across v.ledger rows frame dups None) where
   in_new_hand : Placed sh across w.ledger rows frame dups (Some g)
-  in_new_hand = kept v same w (Some g) took.keeps p
+  in_new_hand = kept v same w _ took.keeps p
 
   serves : (r : Row) → r.state ≡ OwnPage → r.home ≡ node → r.bytes ≡ bytes → Serves sh w.ledger dups r g
   serves r own home content = (
     record {
       mapped = ap zero_state own;
-      frame = subst (λ (s : Shape). g < frames_of s) same took.frame;
+      frame = rw (← same) took.frame;
       kind = took.kind ∙ ap kind_for (sym own);
       content = took.content ∙ sym content;
       given = took.given;
@@ -42,37 +42,32 @@ module _ {sh : Shape} {across : ℕ} {v w : KeeperView} {rows : List Row} {frame
 
   -- a page moves to the frame taken: its placement is lawful, with the frame that it had, if it had one, in hand
   pub moved_there : (page : GuestPage) (c : Row → Row) → InPageOrder rows → Houses c page node bytes rows → Placed sh across w.ledger (change_row page c rows) (lies_on page (Some g) frame) dups (frame page)
-  moved_there page c rise houses = by (row_at page rows) refl houses.row
+  moved_there page c rise houses = by _ refl houses.row
     where
       by : (o : Option Row) → row_at page rows ≡ o → MatchOption o ⊥ (λ r. ((c r).state ≡ OwnPage) × ((c r).home ≡ node) × ((c r).bytes ≡ bytes))
           → Placed sh across w.ledger (change_row page c rows) (lies_on page (Some g) frame) dups (frame page)
       by None found none = absurd none
-      by (Some row) found h = swapped (Some g) page c row rise found houses.pages in_new_hand (serves (c row) h.0 h.1 h.2)
+      by (Some row) found h = swapped _ _ c row rise found houses.pages in_new_hand (serves _ h.0 h.1 h.2)
 
   -- where a new row comes on the frame taken, rows and dups lie lawfully
   pub come_there : (r : Row) → row_at r.page rows ≡ None → r.state ≡ OwnPage → r.home ≡ node → r.bytes ≡ bytes → Placed sh across w.ledger (with_row r rows) (lies_on r.page (Some g) frame) dups None
-  come_there r absent own home content = inserted (Some g) r absent in_new_hand (serves r own home content)
+  come_there r absent own home content = inserted _ r absent in_new_hand (serves r own home content)
 
 -- the frame of a row that is not shared is Private
 pub own_kind : (s : PageState) → shared_state s ≡ false → kind_for s ≡ Private
-own_kind (Merged d) e = absurd (grind (arith, e))
-own_kind Zero e = absurd (grind (arith, e))
-own_kind _ e = refl
+own_kind s e = grind arith
 
 -- a page that is not shared is no item of any dup
 pub own_item : (s : PageState) → shared_state s ≡ false → (n : ℕ) → merged_into n s ≡ false
-own_item (Merged d) e n = absurd (grind (arith, e))
-own_item _ e n = refl
+own_item s e n = grind arith
 
 -- a row that is not shared is not Zero
 pub own_framed : (s : PageState) → shared_state s ≡ false → zero_state s ≡ false
-own_framed Zero e = absurd (grind (arith, e))
-own_framed _ e = refl
+own_framed s e = grind arith
 
 -- a row whose frame is Stable is an item of a dup
 pub number_of_kind : (s : PageState) → kind_for s ≡ Stable → (n : ℕ) × (s ≡ Merged n)
-number_of_kind (Merged n) is = (n, refl)
-number_of_kind _ is = cc
+number_of_kind s is = grind arith
 
 -- a row may stand in the stead of another on its frame: same home and bytes, and the same state, or neither is shared
 abbrev pub LodgesAs : Row → Row → Type 0
@@ -89,9 +84,9 @@ module _ {sh : Shape} {across : ℕ} {k : Ledger} {rows : List Row} {frame : Fra
 
     both_own : shared_state old.state ≡ false → shared_state r.state ≡ false → r.home ≡ old.home → r.bytes ≡ old.bytes → Serves sh k dups r f
     both_own was now home bytes =
-        let kind : (frame_at k f).kind ≡ Private = served.0.kind ∙ own_kind old.state was in (
-          record { mapped = own_framed r.state now; frame = served.0.frame; kind = kind ∙ sym (own_kind r.state now); content = served.0.content ∙ sym bytes; given = served.0.given; node = λ _. served.0.node was ∙ sym home },
-          own_agrees p r f (own_item r.state now) kind,
+        let kind = served.0.kind ∙ own_kind _ was in (
+          record { mapped = own_framed _ now; frame = served.0.frame; kind = kind ∙ sym (own_kind _ now); content = served.0.content ∙ sym bytes; given = served.0.given; node = λ _. served.0.node was ∙ sym home },
+          own_agrees p r f (own_item _ now) kind,
         )
 
     lodged : LodgesAs r old → Serves sh k dups r f
@@ -101,11 +96,11 @@ module _ {sh : Shape} {across : ℕ} {k : Ledger} {rows : List Row} {frame : Fra
   lodged_as : (old r : Row) (o : Option ℕ) → LodgesAs r old → IsServed sh k dups old o → IsServed sh k dups r o
   lodged_as old r (Some f) lodges served = lodged old r f served lodges
   lodged_as old r None (home, bytes, inl s) served = ap zero_state s ∙ served
-  lodged_as old r None (home, bytes, inr own) served = absurd (let none = own_framed old.state own.0 in grind (arith, none, served))
+  lodged_as old r None (home, bytes, inr own) served = absurd (let none = own_framed _ own.0 in grind arith)
 
   -- the row of a page is served by its frame
   pub served_at : (page : GuestPage) (row : Row) → row_at page rows ≡ Some row → IsServed sh k dups row (frame page)
-  served_at page row found = subst (λ q. IsServed sh k dups row (frame q)) (found_page page rows row found) (find_all (λ r. same_page r.page page) (λ r. IsServed sh k dups r (frame r.page)) rows row found p.each_row)
+  served_at page row found = subst (λ q. IsServed sh k dups row (frame q)) (found_page _ _ row found) (find_all _ (λ r. IsServed sh k dups r (frame r.page)) _ row found p.each_row)
 
 module _ {p : PagesView} {k : KeeperView} (h : IsLaid p k) where
   abbrev across : ℕ
@@ -120,7 +115,7 @@ module _ {p : PagesView} {k : KeeperView} (h : IsLaid p k) where
     small = h.small;
     same = shape_same sh k w h.same e;
     placed = kept k h.same w None keeps h.placed;
-    spent = (let s = h.spent in omega (arith, s, more));
+    spent = (let s = h.spent in omega arith);
   }
 
   -- pages lie lawfully with other rows and frames that are placed lawfully beside the same dups
@@ -130,40 +125,39 @@ module _ {p : PagesView} {k : KeeperView} (h : IsLaid p k) where
     small = h.small;
     same = shape_same sh k w h.same e;
     placed = placed;
-    spent = (let s = h.spent in omega (arith, s, more));
+    spent = (let s = h.spent in omega arith);
   }
 
   -- pages lie lawfully where each row changes into one that may stand in its stead on its frame
   pub laid_mapped : (c : Row → Row) (restless : Listing) → ((r : Row) → (c r).page ≡ r.page) → All (λ r. LodgesAs (c r) r) p.rows → IsLaid (record p { rows = map c p.rows; restless = restless }) k
-  laid_mapped c restless keeps lodges = laid_rows (map c p.rows) p.frame restless k refl (omega arith)
-      (remapped None c keeps h.placed (λ i d lt. let r = get_or p.rows i d in lodged_as h.placed r (c r) (p.frame r.page) (lodges i d lt)))
+  laid_mapped c restless keeps lodges = laid_rows _ _ _ k refl (omega arith)
+      (remapped None c keeps h.placed (λ i d lt. let r = get_or p.rows i d in lodged_as h.placed r (c r) _ (lodges i d lt)))
 
   -- pages lie lawfully where the row of a page changes into one that may stand in its stead on its frame
   pub laid_changed : (page : GuestPage) (row : Row) (c : Row → Row) (restless : Listing) → InPageOrder p.rows → row_at page p.rows ≡ Some row
       → ((r : Row) → (c r).page ≡ r.page) → LodgesAs (c row) row → IsLaid (record p { rows = change_row page c p.rows; restless = restless }) k
   laid_changed page row c restless rise found keeps lodges =
-      laid_mapped (λ r. if same_page r.page page then c r else r) restless
-      (λ r. cond_both (same_page r.page page) (c r) r (λ (x : Row). x.page ≡ r.page) (λ _. keeps r) (λ _. refl))
-      (λ i d lt. let r = get_or p.rows i d in cond_both (same_page r.page page) (c r) r (λ x. LodgesAs x r)
-      (λ is. subst (λ x. LodgesAs (c x) x) (sym (row_of_page page p.rows row rise found i d lt is)) lodges) (λ _. (refl, refl, inl refl)))
+      laid_mapped _ _ (λ r. cond_both _ (c r) r (λ (x : Row). x.page ≡ r.page) (λ _. keeps r) (λ _. refl))
+      (λ i d lt. let r = get_or p.rows i d in cond_both _ (c r) r (λ x. LodgesAs x r)
+      (λ is. rw (row_of_page _ _ row rise found i d lt is) lodges) (λ _. (refl, refl, inl refl)))
 
   -- a row that is not Zero lies on a frame that serves it
   pub has_frame : (page : GuestPage) (row : Row) → row_at page p.rows ≡ Some row → zero_state row.state ≡ false → (f : ℕ) × (p.frame page ≡ Some f) × Serves sh k.ledger p.dups row f
-  has_frame page row found other = framed sh k.ledger p.dups row (p.frame page) other (served_at h.placed page row found)
+  has_frame page row found other = framed sh _ _ row _ other (served_at h.placed _ row found)
 
   -- pages lie lawfully where the row of a page with a frame of its own gets new bytes, and the frame holds them
   pub laid_written : (page : GuestPage) (row : Row) (c : Row → Row) (restless : Listing) (w : KeeperView) (g : ℕ) → InPageOrder p.rows → row_at page p.rows ≡ Some row → ((r : Row) → (c r).page ≡ r.page) → p.frame page ≡ Some g
       → w.table ≡ k.table → w.ledger ≡ with_frame k.ledger g (holding (frame_at k.ledger g) (c row).bytes) → length (c row).bytes ≡ PAGE_WORDS → shared_state row.state ≡ false → (c row).home ≡ row.home → (c row).state ≡ OwnPage
       → IsLaid (record p { rows = change_row page c p.rows; restless = restless }) w
   laid_written page row c restless w g rise found keeps lies e ledger wide alone home is =
-      let served : Serves sh k.ledger p.dups row g = subst (IsServed sh k.ledger p.dups row) lies (served_at h.placed page row found) in
-      let kind : (frame_at k.ledger g).kind ≡ Private = served.0.kind ∙ own_kind row.state alone in
-      let fr : Note = holding (frame_at k.ledger g) (c row).bytes in
+      let served = subst (IsServed sh k.ledger p.dups row) lies (served_at h.placed _ row found) in
+      let kind = served.0.kind ∙ own_kind _ alone in
+      let fr = holding (frame_at k.ledger g) (c row).bytes in
       let more : spent k.ledger ≤ spent (with_frame k.ledger g fr) = spent_kept k.ledger g fr (omega arith) in
-      let end : spent w.ledger ≡ spent (with_frame k.ledger g fr) = ap spent ledger in
-      laid_rows (change_row page c p.rows) p.frame restless w e (omega (arith, more, end))
-      (subst (λ (z : Ledger). Placed sh across z (change_row page c p.rows) p.frame p.dups None) (sym ledger)
-      (written_in h.placed page row rise found g lies kind c keeps fr kind refl refl wide
+      let end = ap spent ledger in
+      laid_rows _ _ _ w e (omega arith)
+      (rw ledger
+      (written_in h.placed _ row rise found g lies kind c keeps fr kind refl refl wide
       (ap zero_state is) (ap kind_for is) (λ n. ap (merged_into n) is) home refl alone))
 
 -- a frame of the kind that a row has which is not Zero may be read
@@ -192,8 +186,8 @@ retuned {p} tuned {k} either h =
     }
   where
     by : (tuned.merge_across_nodes ≡ p.knobs.merge_across_nodes) ⊎ (p.dups ≡ []) → All (DupFits p.shape tuned.merge_across_nodes k.ledger) p.dups
-    by (inl same) = subst (λ a. All (DupFits p.shape a k.ledger) p.dups) (sym same) h.placed.each_dup
-    by (inr none) = subst (All (DupFits p.shape tuned.merge_across_nodes k.ledger)) (sym none) (λ i d lt. absurd (omega (arith, lt)))
+    by (inl same) = rw same h.placed.each_dup
+    by (inr none) = subst (All (DupFits p.shape tuned.merge_across_nodes k.ledger)) (sym none) (λ i d lt. absurd (omega arith))
 
 -- ---------------------------------------------------------------- no rows
 
@@ -203,7 +197,7 @@ same_in (suc n) zero a = refl
 same_in (suc n) (suc i) a = same_in n i a
 
 pub first_note : (sh : Shape) (f : ℕ) → frame_at (first_ledger sh) f ≡ blank
-first_note sh f = same_in (frames_of sh) f blank
+first_note _ f = same_in _ f _
 
 -- pages lie lawfully as they are opened, with no rows and no dups, where the keeper has its first ledger
 pub first_laid : (sh : Shape) (k : KeeperView) → IsShape sh → k.table.shape ≡ sh → k.ledger ≡ first_ledger sh
@@ -211,16 +205,16 @@ pub first_laid : (sh : Shape) (k : KeeperView) → IsShape sh → k.table.shape 
 first_laid sh k is same first = record {
   small = is;
   same = same;
-  placed = subst (λ (z : Ledger). Placed sh default_knobs.merge_across_nodes z [] nowhere [] None) (sym first) (record {
+  placed = rw first (record {
     frames_long = length-replicate (frames_of sh) blank;
     places_long = length-replicate (frames_of sh) None;
-    widths = λ f. ap (λ (n : Note). length n.content) (first_note sh f) ∙ length-replicate {A = ℕ} PAGE_WORDS 0;
-    lives = λ f. subst (λ (n : Note). GenerationFits sh.last_generation n.kind n.generation) (sym (first_note sh f)) (let low = is.generation_low in omega (arith, low));
-    each_row = λ i d lt. absurd (omega (arith, lt));
-    each_dup = λ i d lt. absurd (omega (arith, lt));
-    bases = λ f. ap (λ (n : Note). n.base) (first_note sh f);
-    kinds = λ f. subst (λ (n : Note). FitsBase n.kind n.base) (sym (first_note sh f)) refl;
-    empty = λ p none. same_in (frames_of sh) p None;
+    widths = λ f. rw (first_note sh f) (length-replicate {A = ℕ} PAGE_WORDS 0);
+    lives = λ f. rw (first_note sh f) (let low = is.generation_low in omega arith);
+    each_row = λ i d lt. absurd (omega arith);
+    each_dup = λ i d lt. absurd (omega arith);
+    bases = λ f. rw (first_note sh f);
+    kinds = λ f. rw (first_note sh f) refl;
+    empty = λ p none. same_in _ p None;
   });
   spent = omega arith;
 }

@@ -8,19 +8,18 @@ pages_are : (cursor : Option GuestPage) (rows : List Row)
     → map (λ r. r.page) (rows_ahead cursor rows) ≡ filter (after_cursor cursor) (mergeable_pages rows)
 pages_are cursor [] = refl
 pages_are cursor (r ∷ rows) =
-    let rest = pages_are cursor rows in grind (arith, rest)
+    let rest = pages_are cursor rows in grind arith
 
 -- where so many visits of the rows ahead end, so many visits of the pages ahead end
 pub ahead_ends : (cursor : Option GuestPage) (rows : List Row) (visits : ℕ) (ahead : Ahead) → ComesTo (rows_ahead cursor rows) visits ahead
     → EndsAt (filter (after_cursor cursor) (mergeable_pages rows)) visits ahead
-ahead_ends cursor rows visits ahead comes = subst (λ l. EndsAt l visits ahead) (pages_are cursor rows) (by ahead comes)
+ahead_ends cursor rows visits ahead comes = rw (← pages_are cursor rows) (by _ comes)
   where
     same : length (map (λ (r : Row). r.page) (rows_ahead cursor rows)) ≡ length (rows_ahead cursor rows)
     same = length-map (rows_ahead cursor rows) (λ (r : Row). r.page)
 
     by : (ahead : Ahead) → ComesTo (rows_ahead cursor rows) visits ahead → EndsAt (map (λ r. r.page) (rows_ahead cursor rows)) visits ahead
-    by (At page) told =
-        (let less = told.0 in omega (arith, same, less), slice_get-map (λ (r : Row). r.page) (rows_ahead cursor rows) (visits - 1) ∙ told.1)
+    by (At page) told = (let less = told.0 in omega (arith, same), slice_get-map _ (rows_ahead cursor rows) _ ∙ told.1)
     by (End made) told = (told.0 ∙ sym same, told.1)
 
 between_are : (cursor : Option GuestPage) (page : GuestPage) (rows : List Row)
@@ -54,11 +53,11 @@ some_pages rows = length-map (filter (λ (r : Row). r.mergeable) rows) (λ (r : 
 -- where all rows that a visit may change are listed, their pages are
 pub lists_all : (rows : List Row) (restless : Listing) → AreAscending restless.pages → RowsListed rows restless → restless.known ≡ true
     → AreListed rows restless.pages
-lists_all rows restless ascending listed known = (ascending, λ page is. by page (row_at page rows) refl is)
+lists_all rows restless ascending listed known = (ascending, λ page is. by _ (row_at page rows) refl is)
   where
     by : (page : GuestPage) (o : Option Row) → row_at page rows ≡ o → restless_row o ≡ true → has_item page restless.pages ≡ true
     by page None found is = absurd (true≢false (sym is))
     by page (Some r) found is =
-        let at = subst (Contains restless.pages) (found_page page rows r found)
+        let at = subst (Contains restless.pages) (found_page _ _ r found)
         (find_all (λ s. same_page s.page page) (λ s. is_restless s ≡ true → Contains restless.pages s.page) rows r found (listed known) is) in
-        list_any_at (λ p. same_page p page) restless.pages at.0 page at.1 (ap (λ p. same_page p page) at.2 ∙ same_page_refl page)
+        list_any_at _ _ _ _ at.1 (ap (λ p. same_page p page) at.2 ∙ same_page_refl page)

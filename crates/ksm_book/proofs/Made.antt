@@ -1,5 +1,5 @@
 -- Parts of a log, and lists of steps that were made, one after the other.
-use Rattle.ksm_book.proofs.Names.{length-take-le, [], along, ap, append-nil, append_assoc, arith, Allocates, did, drop, get_or, given_by, Gives, IsNeeded, KeeperStep, KeeperView, Ledger, ledger_after, length, List, Log, MakesSteps, map-append, needed_after, None, Option, refl, replayed, set, Shape, Some, stepped, steps_of, subst, suc, sym, take, take_more, zero, ℕ, ◌++◌, ◌+◌, ◌<◌, ◌∙◌, ◌∷◌, ◌≡◌}
+use Rattle.ksm_book.proofs.Names.{length-take-le, [], along, ap, append-nil, append_assoc, arith, Allocates, did, drop, get_or, given_by, Gives, IsNeeded, KeeperStep, KeeperView, Ledger, ledger_after, length, List, Log, MakesSteps, map-append, needed_after, Option, refl, replayed, set, Shape, stepped, steps_of, subst, suc, sym, take, take_more, zero, ℕ, ◌++◌, ◌+◌, ◌<◌, ◌∙◌, ◌∷◌, ◌≡◌, nat_tests}
 
 -- a log is replayed part by part
 pub replayed_append : (sh : Shape) (k : Ledger) (xs ys : Log) → replayed sh k (xs ++ ys) ≡ replayed sh (replayed sh k xs) ys
@@ -15,54 +15,50 @@ stepped_then v xs ys = λ i. record {
 }
 
 needed_more : (ms ns : List ℕ) (o : Option ℕ) (sh : Shape) (k : Ledger) → IsNeeded sh k ms o → IsNeeded sh k (ms ++ ns) o × (needed_after (ms ++ ns) o ≡ needed_after ms o ++ ns)
-needed_more [] ns (Some f) sh k h = absurd h
-needed_more [] [] None sh k h = (h, refl)
-needed_more [] (n ∷ ns) None sh k h = (h, refl)
-needed_more (m ∷ ms) ns (Some f) sh k h = (h, refl)
-needed_more (m ∷ ms) ns None sh k h = (h, refl)
+needed_more ms ns o sh k h = grind arith
 
 gives_append : (sh : Shape) (k : Ledger) (ms ns : List ℕ) (xs ys : Log) → Gives sh k ms xs → Gives sh (replayed sh k xs) ns ys → Gives sh k (ms ++ ns) (xs ++ ys)
-gives_append sh k ms ns [] ys h h' = subst (λ zs. Gives sh k (zs ++ ns) ys) (sym h) h'
+gives_append sh k ms ns [] ys h h' = rw h h'
 gives_append sh k ms ns (x ∷ xs) ys h h' =
-    let more = needed_more ms ns (given_by x.0) sh k h.0 in
-    let next : Ledger = ledger_after sh k x.0 x.1 in
-    (more.0, subst (λ zs. Gives sh next zs (xs ++ ys)) (sym more.1) (gives_append sh next (needed_after ms (given_by x.0)) ns xs ys h.1 h'))
+    let more = needed_more ms ns _ sh k h.0 in
+    (more.0, rw more.1 (gives_append sh (ledger_after sh k x.0 x.1) (needed_after ms (given_by x.0)) ns xs ys h.1 h'))
 
 -- two parts, one after the other, gave the frames of both
 pub chained : {u v w : KeeperView} {ms ns : List ℕ} {xs ys : Log} → Allocates u v ms xs → Allocates v w ns ys → Allocates u w (ms ++ ns) (xs ++ ys)
-chained {u} {v} {w} {ms} {ns} {xs} {ys} a b = record {
+chained {u} {ms = ms} {ns} {xs} {ys} a b = record {
   table = b.table ∙ a.table;
   log = b.log ∙ ap (λ l. l ++ ys) a.log ∙ append_assoc u.log xs ys;
-  ledger = b.ledger ∙ (λ i. replayed (a.table i).shape (a.ledger i) ys) ∙ sym (replayed_append u.table.shape u.ledger xs ys);
-  gives = gives_append u.table.shape u.ledger ms ns xs ys a.gives (subst (λ (z : Shape × Ledger). Gives z.0 z.1 ns ys) (λ i. ((a.table i).shape, a.ledger i)) b.gives);
+  ledger = b.ledger ∙ (λ i. replayed (a.table i).shape (a.ledger i) ys) ∙ sym (replayed_append u.table.shape _ xs ys);
+  gives = gives_append _ _ ms ns xs ys a.gives (subst (λ (z : Shape × Ledger). Gives z.0 z.1 ns ys) (λ i. ((a.table i).shape, a.ledger i)) b.gives);
 }
 
 along_push : (step : ℕ → ℕ → KeeperStep × ℕ) (j w : ℕ) (ws : List ℕ) → along step j (ws ++ w ∷ []) ≡ along step j ws ++ step (j + length ws) w ∷ []
-along_push step j w [] = ap (λ n. step n w ∷ []) (let e : j ≡ j + 0 = omega arith in e)
-along_push step j w (x ∷ xs) = ap (λ l. step j x ∷ l) (along_push step (j + 1) w xs ∙ (let e : j + 1 + length xs ≡ j + suc (length xs) = omega arith in ap (λ i. along step (j + 1) xs ++ step i w ∷ []) e))
+along_push step j w [] = grind (arith, nat_tests)
+along_push step j w (x ∷ xs) = rw (along_push step (j + 1) w xs ∙ (let e : j + 1 + length xs ≡ j + suc (length xs) = omega arith in ap (λ i. along step (j + 1) xs ++ step i w ∷ []) e))
 
 -- a step was made for each of the first words, and now for one more
 pub along_one : (step : ℕ → ℕ → KeeperStep × ℕ) (v w w' : KeeperView) (i : ℕ) (ws : List ℕ) → i < length ws → w ≡ stepped v (along step 0 (take i ws))
     → w' ≡ stepped w (step i (get_or ws i 0) ∷ []) → w' ≡ stepped v (along step 0 (take (i + 1) ws))
 along_one step v w w' i ws lt so_far is =
-    let word : ℕ = get_or ws i 0 in
+    let word = get_or ws i 0 in
     let place : 0 + length (take i ws) ≡ i = (let t = length-take-le i ws (omega arith) in omega arith) in
-    is ∙ ap (λ z. stepped z (step i word ∷ [])) so_far ∙ stepped_then v (along step 0 (take i ws)) (step i word ∷ [])
+    rw (take_more ws i 0 lt)
+    (is ∙ ap (λ z. stepped z (step i word ∷ [])) so_far ∙ stepped_then v _ _
     ∙ ap (λ n. stepped v (along step 0 (take i ws) ++ step n word ∷ [])) (sym place)
-    ∙ ap (stepped v) (sym (along_push step 0 word (take i ws))) ∙ ap (λ xs. stepped v (along step 0 xs)) (sym (take_more ws i 0 lt))
+    ∙ ap (stepped v) (sym (along_push _ 0 _ _)))
 
 -- one word more of a list is written over another
 pub word_written : (ws cs : List ℕ) (i : ℕ) → length cs ≡ length ws → i < length ws → set (take i ws ++ drop i cs) i (get_or ws i 0) ≡ take (i + 1) ws ++ drop (i + 1) cs
 word_written [] cs i same lt = absurd (omega arith)
 word_written (w ∷ ws) [] i same lt = absurd (omega arith)
 word_written (w ∷ ws) (c ∷ cs) zero same lt = refl
-word_written (w ∷ ws) (c ∷ cs) (suc i) same lt = ap (λ l. w ∷ l) (word_written ws cs i (omega arith) (omega arith)) ∙ (let e : suc (i + 1) ≡ suc i + 1 = omega arith in λ t. take (e t) (w ∷ ws) ++ drop (e t) (c ∷ cs))
+word_written (w ∷ ws) (c ∷ cs) (suc i) same lt = grind (arith, nat_tests, word_written ws cs i (omega arith) (omega arith))
 
 -- ---------------------------------------------------------------- steps, and no others
 
 -- where the keeper stays as it is, no step was made
 pub made_none : {v w : KeeperView} → w ≡ v → MakesSteps v w []
-made_none {v} {w} e = record { part = []; after = e ∙ (λ i. record { table = v.table; ledger = v.ledger; log = sym (append-nil v.log) i }); are = refl }
+made_none {v} e = record { part = []; after = e ∙ (λ i. record { table = v.table; ledger = v.ledger; log = sym (append-nil v.log) i }); are = refl }
 
 -- a keeper that went on by one step has made that step and no other
 pub made_one : (v w : KeeperView) (e : KeeperStep) (found : ℕ) → w ≡ did v e found → MakesSteps v w (e ∷ [])
@@ -74,39 +70,38 @@ made_part v w part is = record { part = part; after = is; are = refl }
 
 -- two pieces of work, one after the other, have made the steps of both
 pub made_then : {u v w : KeeperView} {xs ys : List KeeperStep} → MakesSteps u v xs → MakesSteps v w ys → MakesSteps u w (xs ++ ys)
-made_then {u} {v} {w} {xs} {ys} a b = record {
+made_then {u} a b = record {
   part = a.part ++ b.part;
-  after = b.after ∙ ap (λ (z : KeeperView). stepped z b.part) a.after ∙ stepped_then u a.part b.part;
+  after = b.after ∙ ap (λ (z : KeeperView). stepped z b.part) a.after ∙ stepped_then u _ _;
   are = map-append (λ (e : KeeperStep × ℕ). e.0) a.part b.part ∙ (λ i. a.are i ++ b.are i);
 }
 
 -- where no step was made, nothing changed
 pub none_made : {v w : KeeperView} → MakesSteps v w [] → w ≡ v
-none_made {v} {w} m = by m.part m.after m.are
+none_made {v} {w} m = by _ m.after m.are
   where
     by : (part : Log) → w ≡ stepped v part → steps_of part ≡ [] → w ≡ v
     by [] after are = after ∙ (λ i. record { table = v.table; ledger = v.ledger; log = append-nil v.log i })
-    by (e ∷ es) after are = absurd (grind (arith, are))
+    by (e ∷ es) after are = absurd (grind arith)
 
 -- a keeper that made some steps made the first of them and then the others
 pub first_made : {v w : KeeperView} {e : KeeperStep} {es : List KeeperStep} → MakesSteps v w (e ∷ es) → (found : ℕ) × MakesSteps (did v e found) w es
-first_made {v} {w} {e} {es} m = by m.part m.after m.are
+first_made {v} {w} {e} {es} m = by _ m.after m.are
   where
     by : (part : Log) → w ≡ stepped v part → steps_of part ≡ e ∷ es → (found : ℕ) × MakesSteps (did v e found) w es
-    by [] after are = absurd (grind (arith, are))
+    by [] after are = absurd (grind arith)
     by (s ∷ part) after are =
-        let first : s.0 ≡ e = grind (arith, are) in
-        let rest : steps_of part ≡ es = grind (arith, are) in
-        (s.1, record { part = part; after = after ∙ sym (stepped_then v (s ∷ []) part) ∙ ap (λ x. stepped (did v x s.1) part) first; are = rest })
+        let first : s.0 ≡ e = grind arith in
+        (s.1, record { part = part; after = rw (← first) (after ∙ sym (stepped_then v _ _)); are = grind arith })
 
 -- a keeper that made one step went on by that step, with some word that it found
 pub step_made : {v w : KeeperView} {e : KeeperStep} → MakesSteps v w (e ∷ []) → (found : ℕ) × (w ≡ did v e found)
-step_made {v} {w} {e} m = let first = first_made m in (first.0, none_made first.1)
+step_made m = let first = first_made m in (first.0, none_made first.1)
 
 -- a keeper that made the steps of two lists made those of the first and then those of the second
 pub parts_made : {v w : KeeperView} (xs ys : List KeeperStep) → MakesSteps v w (xs ++ ys) → (between : KeeperView) × MakesSteps v between xs × MakesSteps between w ys
-parts_made {v} {w} [] ys m = (v, made_none refl, m)
-parts_made {v} {w} (x ∷ xs) ys m =
+parts_made {v} [] ys m = (v, made_none refl, m)
+parts_made {v} (x ∷ xs) ys m =
     let first = first_made m in
     let rest = parts_made {v = did v x first.0} xs ys first.1 in
-    (rest.0, made_then (made_one v (did v x first.0) x first.0 refl) rest.1, rest.2)
+    (rest.0, made_then (made_one v _ x _ refl) rest.1, rest.2)

@@ -4,7 +4,7 @@ pub use Rattle.frame_core.specs.Ledger.{added, blank, filled, first_ledger, fram
 pub use Rattle.frame_core.specs.Rule.{GenerationFits}
 pub use Rattle.frame_core.specs.State.{count_in}
 pub use Rattle.frame_core.specs.declared.event.KeeperStep.{KeeperStep}
-pub use Rattle.frame_core.specs.declared.event.KeeperStep.TheVariants.{Add, Freeze, Open, Publish, Put, Raise, Reap, Sub, Withdraw, Word}
+pub use Rattle.frame_core.specs.declared.event.KeeperStep.TheVariants.{Add, Freeze, Open, Publish, Raise, Reap, Sub, Withdraw, Word}
 pub use Rattle.frame_core.specs.declared.frame.Kind.{Kind}
 pub use Rattle.frame_core.specs.declared.frame.Kind.TheVariants.{Dying, Filling, Free, Private, Retired, Stable}
 pub use Rattle.frame_core.specs.declared.ledger.Ledger.{Ledger}
@@ -23,22 +23,22 @@ pub use Rattle.ksm_base.proofs.SoundKnobs.{none_shared, sound_set_across, sound_
 pub use Rattle.ksm_base.proofs.SoundPair.{IsFree, new_place_free, next_is_new, tells_waits, waits_tells, WaitsFor}
 pub use Rattle.ksm_base.proofs.SoundScan.{settled_calmer, sound_none_waiting, sound_row_visited}
 pub use Rattle.ksm_base.proofs.SoundSteps.{sound_after, sound_opening}
-pub use Rattle.ksm_base.proofs.SoundVisit.{all_changed, best_dup_has_room, IsJoined, sound_waiting}
+pub use Rattle.ksm_base.proofs.SoundVisit.{all_changed, best_dup_has_room, IsJoined}
 pub use Rattle.ksm_base.proofs.Visits.{rowwise_visits}
 pub use Rattle.ksm_base.specs.Answers.{Answer, every_row, IsAnswerUnless, IsScanned, IsUnmerged, shared_rows}
 pub use Rattle.ksm_base.specs.Apply.{effect, fresh_row, is_before, let_go, moved, scan_stopped, stored, unshare_stopped, unshared}
-pub use Rattle.ksm_base.specs.Counting.{counters_of, mergeable_count}
-pub use Rattle.ksm_base.specs.Reading.{bytes_of, mappers_of}
+pub use Rattle.ksm_base.specs.Counting.{mergeable_count}
+pub use Rattle.ksm_base.specs.Reading.{mappers_of}
 pub use Rattle.ksm_base.specs.Refusals.{changes_while_shared, crosses, has_guest, is_of, live_dup_at, refusal}
 pub use Rattle.ksm_base.specs.Rows.{change_row, change_rows, comes_before, dup_numbered, has_items, InPageOrder, InPlaceOrder, is_stale, item_count, merged_into, merged_state, private_state, row_at, same_page, settled, settled_state, shared_state, waiting_state, with_dup, with_row, without_page, zero_state}
 pub use Rattle.ksm_base.specs.Sound.{IsDupOf, IsSound}
 pub use Rattle.ksm_base.specs.State.{BookState, default_knobs, pass_ended, place_count, tree_of, with_none_waiting}
 pub use Rattle.ksm_base.specs.Values.{frames_of, IsShape}
-pub use Rattle.ksm_base.specs.Visit.{after_cursor, best_dup, empty_from, handled, is_best, is_for_zero, is_no_rival, is_no_worse, made_dup, may_join, new_place, next_row, paired, partner, pass_begun, pass_ended_at_last, place_or, row_visited, stayed, visit, visit_begun, visit_of, visits, waits_for}
+pub use Rattle.ksm_base.specs.Visit.{after_cursor, best_dup, empty_from, handled, is_best, is_for_zero, is_no_rival, made_dup, may_join, new_place, next_row, paired, partner, pass_begun, pass_ended_at_last, place_or, row_visited, stayed, visit, visit_begun, visit_of, visits, waits_for}
 pub use Rattle.ksm_base.specs.declared.command.Command.{Command}
 pub use Rattle.ksm_base.specs.declared.command.Command.TheVariants.{Drop, Mergeable, MoveDup, MovePage, Prune, Register, Scan, SetAcross, SetLimit, SetPagesToScan, SetRun, SetZeroPages, Store, Unmerge}
 pub use Rattle.ksm_base.specs.declared.fault.Fault.{Fault}
-pub use Rattle.ksm_base.specs.declared.fault.Fault.TheVariants.{InUse, Memory, NoFrame, UnknownPage}
+pub use Rattle.ksm_base.specs.declared.fault.Fault.TheVariants.{InUse, NoFrame, UnknownPage}
 pub use Rattle.ksm_base.specs.declared.knobs.Knobs.{Knobs}
 pub use Rattle.ksm_base.specs.declared.limits.TheConstants.{MOST_REFERENCES}
 pub use Rattle.ksm_base.specs.declared.page.GuestPage.{GuestPage}
@@ -50,7 +50,7 @@ pub use Rattle.ksm_base.specs.declared.row.PageState.{PageState}
 pub use Rattle.ksm_base.specs.declared.row.PageState.TheVariants.{Merged, Waiting, Zero}
 pub use Rattle.ksm_base.specs.declared.row.Row.{Row}
 pub use Rattle.ksm_base.specs.declared.shape.Shape.{Shape}
-pub use Rattle.ksm_book.specs.Carried.{CarriedOut, IsCarried, JournaledBook, UnmergesTo}
+pub use Rattle.ksm_book.specs.Carried.{CarriedOut, IsCarried, UnmergesTo}
 pub use Rattle.ksm_book.specs.Commands.{Deed, dup_frame, emptying, Finds, FindsHeld, FindsNone, founding, frame_found, frame_number, frame_on, handling, idle, instead, joining, leaving, Mapped, mounting, Moves, pairing, Performs, Provides, pruning, Resettles, ResettlesEach, rewriting, row_visiting, scanning, staying, then_doing, visiting, visiting_of, withdrawing}
 pub use Rattle.ksm_book.specs.Due.{AreDue, comes_later, due_row_visited, DueView, due_visited, due_visits, hidden, hidden_from, IsDueNoMore, taken_over, takes_over, waits_on}
 pub use Rattle.ksm_book.specs.DuePass.{part_before, part_visited, ReachedBefore, StaysBefore, StopsDue, StopsInPart, TakesOverFrom}
@@ -58,11 +58,11 @@ pub use Rattle.ksm_book.specs.Folded.{begun, IsBeside, IsStill, last_of, mergeab
 pub use Rattle.ksm_tree.specs.NumberSets.{has, Marks}
 pub use Rattle.ksm_book.specs.FrameSets.{AreSets, IsSetOf, NoneOf}
 pub use Rattle.ksm_book.specs.Keeping.{holding, IsLawful, Keeps, NoneLeft, past_lives, spent, spent_on, HasNewFrame, with_more}
-pub use Rattle.ksm_book.specs.Laid.{HasRemounted, Houses, IsLaid, LoadsIf, lying, MayMove, Resettled, state_of, TurnedAway}
+pub use Rattle.ksm_book.specs.Laid.{HasRemounted, Houses, IsLaid, lying, MayMove, Resettled, state_of, TurnedAway}
 pub use Rattle.ksm_book.specs.Mounted.{HasLost, HasMoved, MayMount, once_mounted}
 pub use Rattle.ksm_book.specs.Placement.{Agrees, DupFits, FitsBase, in_hand, is_frame, IsInLife, IsServed, kind_for, life_or, node_of, place_frame, place_life, Placed, RowFits, uses}
-pub use Rattle.ksm_book.specs.Promised.{dup_frames, FindsPlace, HasItsOwn, is_in_use, IsOutlived, LieOn, NumbersAreSmall, own_frames, StandsOn}
-pub use Rattle.ksm_book.specs.Scanned.{AreListed, Comes, doing, EndsAt, from_to, HasScanned, HasStayed, is_nowhere, IsForZero, last_visited, ListsAll, MayJoin, MeetsPage, Reached, up_to, VisitsPage}
+pub use Rattle.ksm_book.specs.Promised.{dup_frames, FindsPlace, HasItsOwn, is_in_use, IsOutlived, LieOn, own_frames, StandsOn}
+pub use Rattle.ksm_book.specs.Scanned.{AreListed, Comes, doing, EndsAt, from_to, HasScanned, HasStayed, is_nowhere, IsForZero, last_visited, MayJoin, MeetsPage, Reached, up_to, VisitsPage}
 pub use Rattle.ksm_book.specs.Steps.{along, Allocates, AllocatesOn, dying_from, dying_kind, dying_on, free_kind, given_by, Gives, IsLowestFree, IsNeeded, loads, Log, MakesSteps, needed_after, puts, replayed, stepped, steps_of}
 pub use Rattle.ksm_book.specs.Unmerged.{HasLeft, is_shared_of, IsStop, left_by, MayNotLeave, shared_of, Unshares}
 pub use Rattle.ksm_book.specs.Whole.{BookValue, BookView, HasShown, listed, mapped, nodes_got, view_of}
@@ -80,7 +80,7 @@ pub use Rattle.ksm_rmap.proofs.Pages.{pages_ordered}
 pub use Rattle.ksm_rmap.specs.Items.{AreAscending, has_item}
 pub use Rattle.ksm_tree.proofs.Alike.{count_alike, count_mapped, filter_mapped, find_mapped, map_alike, map_mapped, pairs_mapped}
 pub use Rattle.ksm_tree.specs.declared.dup.Best.{Best}
-pub use Rattle.std.proofs.Common.{[], ap, append-nil, append_assoc, arith, Bool, cond, drop, eq-eqb, Err, false, get_or, get_or-set_other, get_or-set_same, inl, inr, IsSome, length, length-set, List, map, None, Ok, Option, refl, replicate, rules, set, slice_index_or, Some, subst, suc, suc-mul, sym, take, true, true≢false, zero, zero-mul, ℕ, ◌%◌, ◌*◌, ◌++◌, ◌+◌, ◌-◌, ◌/◌, ◌<◌, ◌^◌, ◌∙◌, ◌∷◌, ◌≡◌, ◌≢◌, ◌≤◌, ◌⊎◌}
+pub use Rattle.std.proofs.Common.{[], ap, append-nil, append_assoc, arith, Bool, cond, drop, eq-eqb, Err, false, get_or, get_or-set_other, get_or-set_same, inl, inr, IsSome, length, length-set, List, map, None, Ok, Option, refl, replicate, rules, set, slice_index_or, Some, subst, suc, suc-mul, sym, take, true, true≢false, zero, ℕ, ◌%◌, ◌*◌, ◌++◌, ◌+◌, ◌-◌, ◌/◌, ◌<◌, ◌^◌, ◌∙◌, ◌∷◌, ◌≡◌, ◌≢◌, ◌≤◌, ◌⊎◌}
 pub use Rattle.std.proofs.Math.Bool.{and-true}
 pub use Rattle.std.proofs.Math.Dec.{eqb}
 pub use Rattle.std.proofs.Math.ListN.{drop_of_length-le}

@@ -33,7 +33,7 @@ module _ {sh : Shape} {across : ℕ} {k : Ledger} {rows : List Row} {frame : Fra
   pub by_frame : (P : Note → Type 0) (h : ℕ) → (h ≡ g → P new) → (h ≢ g → P (frame_at k h)) → P (frame_at next h)
   by_frame P h here there = dite (ℕ_discrete h g)
       (λ e. let long = p.frames_long in
-      subst P (sym (get_or-set_same k.frames g new blank (omega (arith, long, inside))) ∙ ap (frame_at next) (sym e)) (here e))
+      subst P (sym (get_or-set_same k.frames g new blank (omega arith)) ∙ ap (frame_at next) (sym e)) (here e))
       (λ ne. subst P (sym (get_or-set_other k.frames g h new blank ne)) (there ne))
 
   module _ (hand' : Option ℕ) (n : Follows sh.last_generation (uses g frame rows) (in_hand g hand') old new) where
@@ -41,20 +41,24 @@ module _ {sh : Shape} {across : ℕ} {k : Ledger} {rows : List Row} {frame : Fra
     on : (f : ℕ) → (f ≡ g → 1 ≤ uses g frame rows)
         → ((frame_at next f).kind ≡ (frame_at k f).kind) × ((frame_at next f).content ≡ (frame_at k f).content) × ((frame_at next f).generation ≡ (frame_at k f).generation)
     on f used = by_frame (λ x. (x.kind ≡ (frame_at k f).kind) × (x.content ≡ (frame_at k f).content) × (x.generation ≡ (frame_at k f).generation)) f
-        (λ e. subst (λ h. (new.kind ≡ (frame_at k h).kind) × (new.content ≡ (frame_at k h).content) × (new.generation ≡ (frame_at k h).generation)) (sym e) (n.same (used e)))
-        (λ _. (refl, refl, refl))
+        (λ e. rw e (n.same (used e))) (λ _. (refl, refl, refl))
 
     -- a frame that a dup's place names, and that is in the life named, was in it before, and serves the dup still
     in_life : (d : DupRow) → DupFits sh across k d → IsInLife next d.place
         → IsInLife k d.place × ((frame_at next (place_frame k d.place)).content ≡ d.bytes) × ¬ ((frame_at next (place_frame k d.place)).kind ≡ Private)
     in_life d m = by_frame (λ x. x.generation ≡ place_life k d.place → IsInLife k d.place × (x.content ≡ d.bytes) × ¬ (x.kind ≡ Private)) (place_frame k d.place)
         (λ e life. elim n.life [
-          | inl later ↦ absurd (let low : place_life k d.place ≤ old.generation = subst (λ h. place_life k d.place ≤ (frame_at k h).generation) e m.life in omega (arith, later, low, life))
+          | inl later ↦ absurd (let low = subst (λ h. place_life k d.place ≤ (frame_at k h).generation) e m.life in omega (arith, life))
           | inr stays ↦
-              let was : IsInLife k d.place = ap (λ h. (frame_at k h).generation) e ∙ sym stays.0 ∙ life in
+              let was = ap (λ h. (frame_at k h).generation) e ∙ sym stays.0 ∙ life in
               elim stays.1 [
-                | inl own ↦ absurd (m.shown was (ap (λ h. (frame_at k h).kind) e ∙ own))
-                | inr named ↦ (was, named.0 ∙ ap (λ h. (frame_at k h).content) (sym e) ∙ m.content was, λ own. m.shown was (ap (λ h. (frame_at k h).kind) e ∙ named.1 own))
+                | inl own ↦ absurd (m.shown was (rw e own))
+                | inr named ↦ (
+                  was,
+                  named.0 ∙ ap (λ h. (frame_at k h).content) (sym e) ∙ m.content was,
+                  λ own. m.shown was (rw e
+                      (named.1 own)),
+                )
               ]
         ])
         (λ _ life. (life, m.content life, m.shown life))
@@ -63,10 +67,10 @@ module _ {sh : Shape} {across : ℕ} {k : Ledger} {rows : List Row} {frame : Fra
     served r None used h = h
     served r (Some f) used h =
         let same = on f (used f refl) in (
-          record { mapped = h.0.mapped; frame = h.0.frame; kind = same.0 ∙ h.0.kind; content = same.1 ∙ h.0.content; given = subst (λ y. 1 ≤ y) (sym same.2) h.0.given; node = h.0.node },
+          record { mapped = h.0.mapped; frame = h.0.frame; kind = same.0 ∙ h.0.kind; content = same.1 ∙ h.0.content; given = rw same.2 h.0.given; node = h.0.node },
           λ i d lt. let a = h.1 i d lt in record {
-            item = λ m. let y = a.item m in (y.0, ap (λ h. (frame_at next h).generation) (sym y.0) ∙ same.2 ∙ ap (λ h. (frame_at k h).generation) y.0 ∙ y.1);
-            back = λ life e. a.back (in_life (get_or dups i d) (p.each_dup i d lt) life).0 e;
+            item = λ m. let y = a.item m in (y.0, rw (← y.0) (same.2 ∙ ap (λ h. (frame_at k h).generation) y.0 ∙ y.1));
+            back = λ life e. a.back (in_life _ (p.each_dup i d lt) life).0 e;
           },
         )
 
@@ -83,19 +87,18 @@ module _ {sh : Shape} {across : ℕ} {k : Ledger} {rows : List Row} {frame : Fra
         named = m.named;
         frame = m.frame;
         life = by_frame (λ x. place_life k d.place ≤ x.generation) (place_frame k d.place)
-            (λ e. let low : place_life k d.place ≤ old.generation = subst (λ h. place_life k d.place ≤ (frame_at k h).generation) e m.life in
+            (λ e. let low : place_life k d.place ≤ old.generation = rw (← e) m.life in
             elim n.life [
-              | inl later ↦ omega (arith, low, later)
-              | inr stays ↦ let same = stays.0 in omega (arith, low, same)
+              | inl later ↦ omega arith
+              | inr stays ↦ omega (arith, stays.0)
             ])
             (λ _. m.life);
         content = λ life. (in_life d m life).1;
         shown = λ life. (in_life d m life).2;
         node = m.node;
       }) dups p.each_dup;
-      bases = λ f. by_frame (λ x. x.base ≡ uses f frame rows + in_hand f hand') f
-          (λ e. subst (λ h. new.base ≡ uses h frame rows + in_hand h hand') (sym e) n.base)
-          (λ ne. p.bases f ∙ ap (λ x. uses f frame rows + x) (sym (other f ne)));
+      bases = λ f. by_frame (λ x. x.base ≡ uses f frame rows + in_hand f hand') f (λ e. rw e n.base)
+          (λ ne. rw (other f ne) (p.bases f));
       kinds = λ f. by_frame (λ x. FitsBase x.kind x.base) f (λ _. n.fits) (λ _. p.kinds f);
       empty = p.empty;
     }

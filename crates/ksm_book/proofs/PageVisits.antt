@@ -1,6 +1,5 @@
 -- The visit of a page: what was found of its row, and what becomes of the book where the row alone changes.
-use Rattle.ksm_book.proofs.Names.{All, ap, arith, BookState, BookValue, BookView, change_row, Comes, cond_both, Deed, doing, false, Find, FindsAt, Frames, get_or, GuestPage, HasStayed, idle, InPageOrder, inr, is_restless, IsLaid, IsSound, IsStill, KeeperView, List, lying, map, mapped, MatchOption, Merged, None, Option, page_visited, PageState, PagesView, paired, pairing, partner, Performs, refl, restless_at, restless_row, Row, row_at, row_visited, row_visiting, same_page, settled, settled_state, shared_state, Some, state_of, subst, sym, then_doing, true, view_of, visited, VisitsPage, Waiting, Zero, ℕ, ◌∙◌, ◌≡◌, if◌then◌else◌, map_mapped}
-use Rattle.ksm_base.specs.declared.row.PageState.TheVariants.{Private}
+use Rattle.ksm_book.proofs.Names.{All, ap, arith, BookState, BookValue, BookView, change_row, Comes, Deed, doing, false, Find, FindsAt, Frames, GuestPage, HasStayed, idle, InPageOrder, inr, is_restless, IsLaid, IsSound, IsStill, KeeperView, List, lying, map, MatchOption, None, Option, page_visited, PagesView, paired, partner, Performs, refl, restless_at, restless_row, Row, row_at, row_visited, row_visiting, same_page, settled, shared_state, Some, state_of, subst, sym, then_doing, true, view_of, visited, VisitsPage, Waiting, ℕ, ◌∙◌, ◌≡◌, if◌then◌else◌, map_mapped, nat_tests}
 use Rattle.ksm_pages.specs.declared.pages.Find.TheVariants as finds
 use Rattle.ksm_pages.specs.Paged.{Finds, visited as row_changed}
 use Rattle.ksm_book.proofs.ByPage.{found_page, row_of_page}
@@ -17,7 +16,7 @@ pub finds_it : (f : Find) → (f ≡ finds.Gone → ⊥) → {p : PagesView} {k 
     → IsSound (state_of p cursor passes) × IsLaid p k → book p k cursor passes ≡ v → (q : PagesView) (page : GuestPage) {found : Find} →
     found ≡ f
     → Finds p q page found → Meets (λ _ r. FindsAt p q r f) p k cursor passes v page
-finds_it f some {p} {k} {cursor} {passes} {v} lawful same q page is told = by (row_at page p.rows) refl (subst (Finds p q page) is told)
+finds_it f some {p} {k} {cursor} {passes} {v} lawful same q page is told = by _ refl (subst (Finds p q page) is told)
   where
     by : (o : Option Row) → row_at page p.rows ≡ o → MatchOption o ((f ≡ finds.Gone) × (q ≡ p)) (λ r. FindsAt p q r f)
         → Meets (λ _ r. FindsAt p q r f) p k cursor passes v page
@@ -30,9 +29,8 @@ finds_it f some {p} {k} {cursor} {passes} {v} lawful same q page is told = by (r
 visits_come : (v w : BookValue) (page : GuestPage) → restless_at page v.state.rows ≡ true → VisitsPage (view_of v) (view_of w) page → Comes
     v w (λ s. page_visited doing s page)
 visits_come v w page restless did =
-    let at = filled_by (λ r. (w.state ≡ row_visited v.state r) × Performs (mapped (view_of v)) (mapped (view_of w))
-    (row_visiting v.state (view_of v).frame r)) (row_at page v.state.rows) did in
-    visit_comes v w page at.0 at.1 (ap restless_row (sym at.1) ∙ restless) at.2.0 at.2.1
+    let at = filled_by _ _ did in
+    visit_comes v w _ _ at.1 (ap restless_row (sym at.1) ∙ restless) at.2.0 at.2.1
 
 -- where a search changed nothing and the page's row was visited then, the visit of the page was reached
 pub shared_comes : {P : BookState → Row → Type 0} {p : PagesView} {k : KeeperView} {cursor : Option GuestPage} {passes : ℕ}
@@ -40,20 +38,12 @@ pub shared_comes : {P : BookState → Row → Type 0} {p : PagesView} {k : Keepe
     {page : GuestPage} (at : Meets P p k cursor passes (view_of v) page) → is_restless at.row ≡ true → (q : PagesView) → q ≡ p
     → VisitsPage (book q k cursor passes) (view_of w) page → Comes v w (λ s. page_visited doing s page)
 shared_comes {k = k} {cursor} {passes} v w {page} at restless q same did =
-    visits_come v w page (subst (λ (x : BookView). restless_at page x.state.rows ≡ true) at.is (ap restless_row at.found ∙ restless))
-    (subst (λ (x : BookView). VisitsPage x (view_of w) page) (ap (λ x. book x k cursor passes) same ∙ at.is) did)
+    visits_come v w _ (subst (λ (x : BookView). restless_at page x.state.rows ≡ true) at.is (ap restless_row at.found ∙ restless))
+    (subst (λ (x : BookView). VisitsPage x (view_of w) page) (rw same at.is) did)
 
 waiting_settles : (page : GuestPage) (rows : List Row) → All (λ r. same_page r.page page ≡ true → shared_state r.state ≡ false) rows
     → map settled (change_row page (λ r. record r { state = Waiting }) rows) ≡ map settled rows
-waiting_settles page rows alone =
-    map_mapped settled (λ r. if same_page r.page page then record r { state = Waiting } else r) settled rows (λ i d lt. let r = get_or rows i d in
-    cond_both (same_page r.page page) (record r { state = Waiting }) r (λ (x : Row). settled x ≡ settled r)
-    (λ is t. record r { state = by r.state (alone i d lt is) t }) (λ _. refl))
-  where
-    by : (s : PageState) → shared_state s ≡ false → Private ≡ settled_state s
-    by (Merged d) e = absurd (grind (arith, e))
-    by Zero e = absurd (grind (arith, e))
-    by _ e = refl
+waiting_settles page rows alone = grind (arith, nat_tests, map_mapped)
 
 -- a row whose bytes have stayed, and with which none waits, waits, and no step is made
 module _ (b : BookState) (row : Row) (stays : HasStayed b false row) (alone : partner b.knobs b.rows row ≡ None) where
@@ -63,23 +53,19 @@ module _ (b : BookState) (row : Row) (stays : HasStayed b false row) (alone : pa
 
   -- the visit of a row that has stayed and has no partner does nothing to the frames
   pub waiting_is : (frame : Frames) → row_visiting b frame row ≡ idle frame
-  waiting_is frame = (stayed_is b frame row false stays).1 ∙ ap (λ o. pairing o b frame row) alone
+  waiting_is frame = grind (arith, nat_tests, stayed_is)
 
   -- the visit of a row that has stayed and has no partner changes nothing but which rows wait
   pub waits_still : (deed : Deed) (page : GuestPage) → InPageOrder b.rows → row_at page b.rows ≡ Some row → IsStill (b, deed)
       (page_visited doing (b, deed) page)
   waits_still deed page rise found =
-      let is : page_visited doing (b, deed) page ≡ (
-        record b { rows = change_row row.page (λ r. record r { state = Waiting }) b.rows },
-        deed,
-      ) =
-      ap (visited doing (b, deed)) found ∙ ap (λ t. if t then (row_visited b row, doing b deed row) else (b, deed)) stays.restless
-      ∙ (λ t. (waits_is t, (ap (then_doing deed) (waiting_is deed.frame) ∙ then_idle deed) t)) in
-      let at = ap (λ q. row_at q b.rows) (found_page page b.rows row found) ∙ found in
+      let is = ap (visited doing (b, deed)) found ∙ ap (λ t. if t then (row_visited b row, doing b deed row) else (b, deed)) stays.restless
+      ∙ (λ t. (waits_is t, (ap (then_doing deed) (waiting_is deed.frame) ∙ then_idle _) t)) in
+      let at = ap (λ q. row_at q b.rows) (found_page _ _ row found) ∙ found in
       subst (IsStill (b, deed)) (sym is) (record {
         rest = refl;
-        rows = waiting_settles row.page b.rows (λ i d lt same. ap (λ (r : Row). shared_state r.state)
-            (row_of_page row.page b.rows row rise at i d lt same) ∙ restless_own row stays.restless);
+        rows = waiting_settles _ _ (λ i d lt same. rw (row_of_page _ _ row rise at i d lt same)
+            (restless_own row stays.restless));
         beside = refl;
       })
 
@@ -95,13 +81,10 @@ row_leads : {P : BookState → Row → Type 0} {p : PagesView} {k : KeeperView} 
     → Leads v q k cursor passes page
 row_leads {p = p} {k} {cursor} {passes} at restless c keeps lodges becomes rests {q} goes =
     leads at q k restless
-    (subst (λ (x : PagesView). IsLaid x k) (sym goes)
-    (laid_changed at.laid at.row.page at.row c p.restless at.sound.rows_rise (there_is at) keeps lodges))
-    (ap (λ (x : PagesView). state_of x cursor passes) goes ∙ sym becomes)
+    (rw goes (laid_changed at.laid _ _ c _ at.sound.rows_rise (there_is at) keeps lodges)) (rw goes (sym becomes))
     (subst (Performs (lying p k) (lying q k)) (sym rests) (record {
       made = made_none refl;
-      frame = ap (λ (x : PagesView). x.frame)
-          goes;
+      frame = rw goes;
     }))
 
 module _ {p q : PagesView} {k : KeeperView} {cursor : Option GuestPage} {passes : ℕ} {v : BookView} {page : GuestPage}
@@ -111,20 +94,16 @@ module _ {p q : PagesView} {k : KeeperView} {cursor : Option GuestPage} {passes 
 
   -- where a visit found that the page is to wait, and made its row Waiting, the book is what the visit leads to
   pub waits_leads : Leads v q k cursor passes page
-  waits_leads = row_leads at at.so.0 (λ r. record r { state = Waiting }) (λ r. refl) (refl, refl, inr (restless_own at.row at.so.0, refl))
-      (waits_is (state_of p cursor passes) at.row stays at.so.4) (waiting_is (state_of p cursor passes) at.row stays at.so.4 p.frame)
-      at.so.5
+  waits_leads = row_leads at at.so.0 _ (λ r. refl) (refl, refl, inr (restless_own at.row at.so.0, refl))
+      (waits_is _ _ stays at.so.4) (waiting_is _ _ stays at.so.4 _) at.so.5
 
   -- the visit of a page that is to wait changes nothing but which rows wait
   pub waits_quiet : (deed : Deed) → IsStill (v.state, deed) (page_visited doing (v.state, deed) page)
-  waits_quiet deed = subst (λ (x : BookView). IsStill (x.state, deed) (page_visited doing (x.state, deed) page)) at.is
-      (waits_still (state_of p cursor passes) at.row stays at.so.4 deed page at.sound.rows_rise at.found)
+  waits_quiet deed = rw (← at.is) (waits_still _ _ stays at.so.4 _ _ at.sound.rows_rise at.found)
 
 -- where a visit found the page's bytes changed, and marked its row, the book is what the visit leads to
 pub changed_leads : {p q : PagesView} {k : KeeperView} {cursor : Option GuestPage} {passes : ℕ} {v : BookView} {page : GuestPage}
     → Meets (λ _ r. FindsAt p q r finds.Changed) p k cursor passes v page → Leads v q k cursor passes page
-changed_leads {p} {q} {k} {cursor} {passes} at =
-    let marked = marked_is (state_of p cursor passes) p.frame at.row at.so.0 at.so.1 at.so.2 in
-    row_leads at at.so.0 (λ r. record r { unchanged = true; state = Private }) (λ r. refl)
-    (refl, refl, inr (restless_own at.row at.so.0, refl))
-    marked.0 marked.1 at.so.3
+changed_leads {p} at =
+    let marked = marked_is _ p.frame _ at.so.0 at.so.1 at.so.2 in
+    row_leads at at.so.0 _ (λ r. refl) (refl, refl, inr (restless_own at.row at.so.0, refl)) marked.0 marked.1 at.so.3

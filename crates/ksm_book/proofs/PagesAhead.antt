@@ -1,5 +1,5 @@
 -- Ascending lists of pages: their parts before and behind a page, by test and by index; and each is known by what it has.
-use Rattle.ksm_book.proofs.Names.{[], after_cursor, All, All-cons, All-filter, All-head, and_right, any-filter_same, ap, AreAscending, arith, before_differs, before_irrefl, before_trans, Bool, cases_Bool, cases_lt, comes_before, Contains-from_any, drop, drop-append-le, drop_of_length-le, false, filter, filter_all, filter_none, from_to, get_or, get_or-drop, get_or-take, get_or_from_slice_get, GuestPage, has_item, inl, inr, last_of, length, length-drop, length-take, length-take-le, List, list_any_none, max, None, not, not_both, one_before, Option, pairs_head, pairs_tail, refl, same_page, same_page_eq, same_page_refl, same_Some, slice_get, slice_get-get_or, slice_get_within, Some, subst, suc, sym, take, take_more, true, true≢false, up_to, zero, ℕ, ◌&&◌, ◌++◌, ◌+◌, ◌-◌, ◌<◌, ◌||◌, ◌∙◌, ◌∷◌, ◌≡◌, ◌≤◌, filter_mapped, if◌then◌else◌}
+use Rattle.ksm_book.proofs.Names.{[], after_cursor, All, All-cons, All-filter, All-head, and_right, any-filter_same, ap, AreAscending, arith, before_differs, before_irrefl, before_trans, Bool, cases_Bool, cases_lt, comes_before, Contains-from_any, drop, drop-append-le, drop_of_length-le, false, filter, filter_all, filter_none, from_to, get_or, get_or-drop, get_or-take, get_or_from_slice_get, GuestPage, has_item, inl, inr, last_of, length, length-drop, length-take, length-take-le, List, list_any_none, max, None, not, not_both, one_before, Option, pairs_head, pairs_tail, refl, same_page, same_page_eq, same_page_refl, same_Some, slice_get, slice_get-get_or, slice_get_within, Some, subst, suc, sym, take, take_more, true, true≢false, up_to, zero, ℕ, ◌&&◌, ◌++◌, ◌+◌, ◌-◌, ◌<◌, ◌||◌, ◌∙◌, ◌∷◌, ◌≡◌, ◌≤◌, filter_mapped}
 use Rattle.std.proofs.Common.{ap₂}
 use Rattle.std.proofs.lemmas.List.{map-id}
 
@@ -9,39 +9,35 @@ Before p q = comes_before p q ≡ true
 
 -- a filter keeps a first element that passes the test
 pub filter_in : {X : Type 0} (t : X → Bool) (x : X) (xs : List X) → t x ≡ true → filter t (x ∷ xs) ≡ x ∷ filter t xs
-filter_in t x xs passes = ap (λ b. if b then x ∷ filter t xs else filter t xs) passes
+filter_in t x xs passes = rw passes
 
 -- a filter leaves out a first element that fails the test
 pub filter_out : {X : Type 0} (t : X → Bool) (x : X) (xs : List X) → t x ≡ false → filter t (x ∷ xs) ≡ filter t xs
-filter_out t x xs fails = ap (λ b. if b then x ∷ filter t xs else filter t xs) fails
+filter_out t x xs fails = rw fails
 
 -- what comes behind a page that is behind the cursor is behind the cursor
 pub after_later : (cursor : Option GuestPage) (p q : GuestPage) → after_cursor cursor p ≡ true → comes_before p q ≡ true
     → after_cursor cursor q ≡ true
-after_later None p q is later = refl
-after_later (Some c) p q is later = before_trans c p q is later
+after_later cursor p q is later = grind arith
 
 -- where a page and others are those behind a cursor in an ascending list, the others are those behind that page
 pub behind_first : (cursor : Option GuestPage) (pages : List GuestPage) (page : GuestPage) (more : List GuestPage) → AreAscending pages
     → filter (after_cursor cursor) pages ≡ page ∷ more → filter (after_cursor (Some page)) pages ≡ more
 behind_first cursor [] page more rise is = cc
 behind_first cursor (p ∷ pages) page more rise is =
-    let behind = pairs_head Before p pages rise in
+    let behind = pairs_head Before p _ rise in
     elim (cases_Bool (after_cursor cursor p)) [
       | inl here ↦
-          let all : filter (after_cursor cursor) pages ≡ pages =
-          filter_all (after_cursor cursor) pages (λ k d lt. after_later cursor p (get_or pages k d) here (behind k d lt)) in
-          let both : p ∷ filter (after_cursor cursor) pages ≡ page ∷ more = sym (filter_in (after_cursor cursor) p pages here) ∙ is in
+          let all = filter_all _ _ (λ k d lt. after_later _ p _ here (behind k d lt)) in
           let first : p ≡ page = cc in
           let rest : filter (after_cursor cursor) pages ≡ more = cc in
           subst (λ q. filter (after_cursor (Some q)) (p ∷ pages) ≡ more) first
           (filter_out (after_cursor (Some p)) p pages (before_irrefl p) ∙ filter_all (after_cursor (Some p)) pages behind ∙ sym all ∙ rest)
       | inr before ↦
-          let found : filter (after_cursor cursor) pages ≡ page ∷ more = sym (filter_out (after_cursor cursor) p pages before) ∙ is in
-          let later : comes_before p page ≡ true =
-          All-head (Before p) page more (subst (All (Before p)) found (All-filter (after_cursor cursor) (Before p) pages behind)) in
-          filter_out (after_cursor (Some page)) p pages (not_both p page later)
-          ∙ behind_first cursor pages page more (pairs_tail Before p pages rise) found
+          let found = sym (filter_out (after_cursor cursor) p pages before) ∙ is in
+          let later = All-head (Before p) page _ (subst (All (Before p)) found (All-filter _ (Before p) _ behind)) in
+          filter_out (after_cursor (Some page)) p pages (not_both p _ later)
+          ∙ behind_first cursor pages page more (pairs_tail Before p _ rise) found
     ]
 
 -- a test goes down: where a page passes it, each page before that page passes it
@@ -51,33 +47,33 @@ GoesDown t = (p q : GuestPage) → comes_before p q ≡ true → t q ≡ true �
 -- where a page is not behind a last one, no page before that page is
 pub up_to_down : (last : Option GuestPage) → GoesDown (up_to last)
 up_to_down None p q before is = refl
-up_to_down (Some last) p q before is = let after = before_trans last p q in grind (arith, after, before, is)
+up_to_down (Some last) p q before is = let after = before_trans last p q in grind arith
 
 -- where a page comes before another, each page before that page does
 pub before_down : (page : GuestPage) → GoesDown (λ p. comes_before p page)
-before_down page p q before is = before_trans p q page before is
+before_down page p q before is = before_trans p q _ before is
 
 -- tests that agree on each of a list pick the same
 pub filter_same : {X : Type 0} (t u : X → Bool) (xs : List X) → All (λ x. t x ≡ u x) xs → filter t xs ≡ filter u xs
-filter_same t u xs same = ap (filter t) (sym (map-id xs)) ∙ filter_mapped (λ x. x) t u xs same ∙ map-id (filter u xs)
+filter_same t u xs same = ap (filter t) (sym (map-id xs)) ∙ filter_mapped _ t u xs same ∙ map-id (filter u xs)
 
 module _ (t : GuestPage → Bool) (down : GoesDown t) where
   -- where the first page fails such a test, all do
   none_pass : (p : GuestPage) (pages : List GuestPage) → AreAscending (p ∷ pages) → t p ≡ false → All (λ q. t q ≡ false) (p ∷ pages)
   none_pass p pages rise fails =
-      All-cons (λ q. t q ≡ false) p pages fails (λ k d lt. too (get_or pages k d) (pairs_head Before p pages rise k d lt))
+      All-cons (λ q. t q ≡ false) p _ fails (λ k d lt. too (get_or pages k d) (pairs_head Before p _ rise k d lt))
     where
       too : (q : GuestPage) → comes_before p q ≡ true → t q ≡ false
-      too q later = let passes = down p q later in grind (arith, passes, fails)
+      too q later = let passes = down p q later in grind arith
 
   -- the first pages, as many as pass, are those that pass
   pub take_down : (pages : List GuestPage) → AreAscending pages → take (length (filter t pages)) pages ≡ filter t pages
   take_down [] rise = refl
   take_down (p ∷ pages) rise =
       elim (cases_Bool (t p)) [
-        | inl passes ↦ let rest = take_down pages (pairs_tail Before p pages rise) in grind (arith, passes, rest)
+        | inl passes ↦ let rest = take_down pages (pairs_tail Before p _ rise) in grind arith
         | inr fails ↦
-            let none = filter_none t (p ∷ pages) (none_pass p pages rise fails) in ap (λ l. take (length l) (p ∷ pages)) none ∙ sym none
+            let none = filter_none t (p ∷ pages) (none_pass p _ rise fails) in ap (λ l. take (length l) (p ∷ pages)) none ∙ sym none
       ]
 
   -- the list is those that pass, and behind them those that fail
@@ -87,11 +83,11 @@ module _ (t : GuestPage → Bool) (down : GoesDown t) where
       let fail : GuestPage → Bool = λ q. not (t q) in
       elim (cases_Bool (t p)) [
         | inl passes ↦
-            ap (λ l. p ∷ l) (parted pages (pairs_tail Before p pages rise))
-            ∙ sym (ap₂ (λ some more. some ++ more) (filter_in t p pages passes) (filter_out fail p pages (ap not passes)))
+            ap (λ l. p ∷ l) (parted pages (pairs_tail Before p _ rise))
+            ∙ sym (ap₂ (λ some more. some ++ more) (filter_in t p _ passes) (filter_out fail p pages (ap not passes)))
         | inr fails ↦
-            let all = none_pass p pages rise fails in
-            sym (ap₂ (λ some more. some ++ more) (filter_none t (p ∷ pages) all) (filter_all fail (p ∷ pages) (λ k d lt. ap not (all k d lt))))
+            let all = none_pass p _ rise fails in
+            sym (ap₂ (λ some more. some ++ more) (filter_none t (p ∷ pages) all) (filter_all fail _ (λ k d lt. ap not (all k d lt))))
       ]
 
   -- in an ascending list, the pages behind a cursor that pass a test that goes down stand between two counts
@@ -102,27 +98,25 @@ module _ (t : GuestPage → Bool) (down : GoesDown t) where
   between_is cursor (p ∷ pages) rise =
       let low : GuestPage → Bool = λ q. not (after_cursor cursor q) in
       let both : GuestPage → Bool = λ q. after_cursor cursor q && t q in
-      let behind = pairs_head Before p pages rise in
+      let behind = pairs_head Before p _ rise in
       elim (cases_Bool (after_cursor cursor p)) [
         | inl above ↦
-            let all : All (λ q. after_cursor cursor q ≡ true) (p ∷ pages) =
-            All-cons (λ q. after_cursor cursor q ≡ true) p pages above
-            (λ k d lt. after_later cursor p (get_or pages k d) above (behind k d lt)) in
-            let none : filter low (p ∷ pages) ≡ [] = filter_none low (p ∷ pages) (λ k d lt. ap not (all k d lt)) in
-            ap (λ l. from_to (length l) (length (filter t (p ∷ pages))) (p ∷ pages)) none ∙ take_down (p ∷ pages) rise
-            ∙ filter_same t both (p ∷ pages) (λ k d lt. ap (λ a. a && t (get_or (p ∷ pages) k d)) (sym (all k d lt)))
+            let all = All-cons (λ q. after_cursor cursor q ≡ true) p _ above
+            (λ k d lt. after_later _ p (get_or pages k d) above (behind k d lt)) in
+            let none = filter_none low (p ∷ pages) (λ k d lt. ap not (all k d lt)) in
+            rw none
+            (take_down (p ∷ pages) rise
+            ∙ filter_same t both (p ∷ pages) (λ k d lt. ap (λ a. a && t (get_or (p ∷ pages) k d)) (sym (all k d lt))))
         | inr below ↦
             elim (cases_Bool (t p)) [
               | inl passes ↦
-                  let rest = between_is cursor pages (pairs_tail Before p pages rise) in
-                  grind (arith, below, passes, rest)
+                  let rest = between_is cursor pages (pairs_tail Before p _ rise) in
+                  grind arith
               | inr fails ↦
-                  let all = none_pass p pages rise fails in
-                  let neither : filter both (p ∷ pages) ≡ [] =
-                  filter_none both (p ∷ pages)
-                  (λ k d lt. and_right (after_cursor cursor (get_or (p ∷ pages) k d)) (t (get_or (p ∷ pages) k d)) (all k d lt)) in
-                  ap (λ l. from_to (length (filter low (p ∷ pages))) (length l) (p ∷ pages)) (filter_none t (p ∷ pages) all)
-                  ∙ drop_of_length-le [] (omega arith) ∙ sym neither
+                  let all = none_pass p _ rise fails in
+                  let neither = filter_none both (p ∷ pages)
+                  (λ k d lt. and_right (after_cursor cursor (get_or (p ∷ pages) k d)) _ (all k d lt)) in
+                  rw (filter_none t (p ∷ pages) all) (drop_of_length-le [] (omega arith) ∙ sym neither)
             ]
       ]
 
@@ -134,25 +128,24 @@ place_splits (p ∷ pages) zero page rise at =
     let behind = pairs_head Before p pages rise in
     let upto : GuestPage → Bool = λ q. not (comes_before p q) in
     subst (λ x. (filter (λ q. comes_before q x) (p ∷ pages) ≡ []) × (filter (λ q. not (comes_before x q)) (p ∷ pages) ≡ p ∷ []))
-    (same_Some p page at) (
+    (same_Some p _ at) (
       filter_none (λ q. comes_before q p) (p ∷ pages)
           (All-cons (λ q. comes_before q p ≡ false) p pages (before_irrefl p) (λ k d lt. not_both p (get_or pages k d) (behind k d lt))),
       filter_in upto p pages (ap not (before_irrefl p)) ∙ ap (λ l. p ∷ l) (filter_none upto pages (λ k d lt. ap not (behind k d lt))),
     )
 place_splits (p ∷ pages) (suc n) page rise at =
-    let first : comes_before p page ≡ true =
-    subst (Before p) (get_or_from_slice_get pages n page page at)
-    (pairs_head Before p pages rise n page (slice_get_within pages n page at)) in
-    let rest = place_splits pages n page (pairs_tail Before p pages rise) at in (
-      filter_in (λ q. comes_before q page) p pages first ∙ ap (λ l. p ∷ l) rest.0,
-      filter_in (λ q. not (comes_before page q)) p pages (ap not (not_both p page first)) ∙ ap (λ l. p ∷ l) rest.1,
+    let first = subst (Before p) (get_or_from_slice_get _ n _ page at)
+    (pairs_head Before p _ rise n page (slice_get_within _ n _ at)) in
+    let rest = place_splits pages n page (pairs_tail Before p _ rise) at in (
+      rw (← rest.0) (filter_in (λ q. comes_before q page) p pages first),
+      rw (← rest.1) (filter_in (λ q. not (comes_before page q)) p pages (ap not (not_both p _ first))),
     )
 
 -- a page that a list has stands at an index of the list
 pub place_of : (page : GuestPage) (pages : List GuestPage) → has_item page pages ≡ true → (n : ℕ) × (slice_get pages n ≡ Some page)
 place_of page pages has =
-    let there = Contains-from_any {eq = λ q p. same_page p q} (λ x y e. sym (same_page_eq y x e)) page pages has in
-    (there.0, slice_get-get_or pages there.0 page there.1 ∙ ap Some there.2)
+    let there = Contains-from_any {eq = λ q p. same_page p q} (λ x y e. sym (same_page_eq y x e)) _ _ has in
+    (there.0, slice_get-get_or _ _ _ there.1 ∙ ap Some there.2)
 
 -- the last of the first n + 1 pages is the page at index n
 pub last_of_take : (pages : List GuestPage) (n : ℕ) (cursor : Option GuestPage) (page : GuestPage) → slice_get pages n ≡ Some page
@@ -165,20 +158,20 @@ last_of_take (p ∷ pages) (suc n) cursor page is = last_of_take pages n (Some p
 pub from_to_more : (pages : List GuestPage) (first at : ℕ) (page : GuestPage) → first ≤ at → slice_get pages at ≡ Some page
     → from_to first (at + 1) pages ≡ from_to first at pages ++ page ∷ []
 from_to_more pages first at page le is =
-    let within = slice_get_within pages at page is in
-    let short : length (take at pages) ≡ at = length-take-le at pages (omega (arith, within)) in
-    ap (drop first) (take_more pages at page within)
-    ∙ ap (λ p. drop first (take at pages ++ p ∷ [])) (get_or_from_slice_get pages at page page is)
-    ∙ drop-append-le first (take at pages) (page ∷ []) (omega (arith, le, short))
+    let within = slice_get_within _ at _ is in
+    let short = length-take-le at pages (omega arith) in
+    ap (drop first) (take_more _ at page within)
+    ∙ ap (λ p. drop first (take at pages ++ p ∷ [])) (get_or_from_slice_get _ at _ _ is)
+    ∙ drop-append-le first (take at pages) (page ∷ []) (omega arith)
 
 -- the pages from a first index up to the greater of it and an end are the pages from it up to the end
 pub from_to_end : (pages : List GuestPage) (first at end : ℕ) → end ≤ at → at ≤ max first end → first ≤ at
     → from_to first at pages ≡ from_to first end pages
 from_to_end pages first at end past within le = elim (cases_lt first end) [
-  | inl less ↦ let same : at ≡ end = omega (arith, past, within, less) in ap (λ n. from_to first n pages) same
+  | inl less ↦ let same : at ≡ end = omega arith in rw same
   | inr no_less ↦
-      let short : (n : ℕ) → n ≤ first → length (take n pages) ≤ first = λ n less. omega (arith, less, length-take n pages) in
-      drop_of_length-le (take at pages) (short at (omega (arith, within, no_less)))
+      let short : (n : ℕ) → n ≤ first → length (take n pages) ≤ first = λ n less. omega (arith, length-take n pages) in
+      drop_of_length-le (take at pages) (short at (omega arith))
       ∙ sym (drop_of_length-le (take end pages) (short end no_less))
 ]
 
@@ -186,19 +179,18 @@ from_to_end pages first at end past within le = elim (cases_lt first end) [
 pub between_at : (pages : List GuestPage) (first at end : ℕ) (page : GuestPage) → slice_get pages at ≡ Some page → first ≤ at → at < end
     → (at - first < length (from_to first end pages)) × (get_or (from_to first end pages) (at - first) page ≡ page)
 between_at pages first at end page is low high =
-    let within = slice_get_within pages at page is in
-    let sum : first + (at - first) ≡ at = omega (arith, low) in (
-      omega (arith, low, high, within, length-drop first (take end pages), length-take end pages),
-      get_or-drop first (take end pages) (at - first) page ∙ ap (λ n. get_or (take end pages) n page) sum
-          ∙ get_or-take end pages at page high ∙ get_or_from_slice_get pages at page page is,
+    let within = slice_get_within _ at _ is in (
+      omega (arith, length-drop first (take end pages), length-take end pages),
+      get_or-drop first (take end pages) (at - first) page ∙ ap (λ n. get_or (take end pages) n page) (omega arith)
+          ∙ get_or-take end pages at page high ∙ get_or_from_slice_get _ at _ _ is,
     )
 
 -- pages behind a page are not that page
 not_behind : (p : GuestPage) (pages : List GuestPage) → All (Before p) pages → has_item p pages ≡ false
-not_behind p pages behind = list_any_none (λ q. same_page q p) pages (λ k d lt. before_differs p (get_or pages k d) (behind k d lt))
+not_behind p pages behind = list_any_none _ _ (λ k d lt. before_differs p _ (behind k d lt))
 
 has_first : (p : GuestPage) (pages : List GuestPage) → has_item p (p ∷ pages) ≡ true
-has_first p pages = ap (λ b. b || has_item p pages) (same_page_refl p)
+has_first p pages = rw (same_page_refl p)
 
 -- ascending lists that have the same pages begin with no earlier page than the other
 no_earlier : (p q : GuestPage) (ps qs : List GuestPage) → AreAscending (q ∷ qs)
@@ -208,7 +200,7 @@ no_earlier p q ps qs rise same =
     (All-cons (Before p) q qs before (λ k d lt. before_trans p q (get_or qs k d) before (pairs_head Before q qs rise k d lt))) in
     let first = has_first p ps in
     let both = same p in
-    grind (arith, behind, first, both)
+    grind arith
 
 -- ascending lists that have the same pages are the same
 pub same_pages : (ps qs : List GuestPage) → AreAscending ps → AreAscending qs → ((x : GuestPage) → has_item x ps ≡ has_item x qs) → ps ≡ qs
@@ -222,18 +214,16 @@ same_pages (p ∷ ps) (q ∷ qs) rise rise' same =
           let later = one_before p q differ (no_earlier p q ps qs rise' same) in
           absurd (true≢false (sym later ∙ no_earlier q p qs ps rise (λ x. sym (same x))))
     ] in
-    let there : All (Before p) qs = subst (λ x. All (Before x) qs) (sym first) (pairs_head Before q qs rise') in
-    let rest : ps ≡ qs =
-    same_pages ps qs (pairs_tail Before p ps rise) (pairs_tail Before q qs rise') (λ x. elim (cases_Bool (same_page p x)) [
+    let there = subst (λ x. All (Before x) qs) (sym first) (pairs_head Before q qs rise') in
+    let rest = same_pages ps qs (pairs_tail Before p ps rise) (pairs_tail Before q qs rise') (λ x. elim (cases_Bool (same_page p x)) [
       | inl is ↦
-          subst (λ y. has_item y ps ≡ has_item y qs) (same_page_eq p x is)
-          (not_behind p ps (pairs_head Before p ps rise) ∙ sym (not_behind p qs there))
+          rw (← same_page_eq p x is) (not_behind p ps (pairs_head Before p ps rise) ∙ sym (not_behind p qs there))
       | inr differ ↦
-          let other : same_page q x ≡ false = ap (λ y. same_page y x) (sym first) ∙ differ in
+          let other = ap (λ y. same_page y x) (sym first) ∙ differ in
           ap (λ b. b || has_item x ps) (sym differ) ∙ same x ∙ ap (λ b. b || has_item x qs) other
     ]) in
     λ t. first t ∷ rest t
 
 -- a filtered list has a page exactly where the list has it and the page passes the test
 pub has_filter : (t : GuestPage → Bool) (x : GuestPage) (pages : List GuestPage) → has_item x (filter t pages) ≡ (t x && has_item x pages)
-has_filter t x pages = any-filter_same (λ p. same_page p x) t (t x) (λ p is. ap t (same_page_eq p x is)) pages
+has_filter t x pages = any-filter_same _ t (t x) (λ p is. ap t (same_page_eq p x is)) _

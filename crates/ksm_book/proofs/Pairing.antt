@@ -1,5 +1,5 @@
 -- A visited page makes a dup with the page that waits for it: what the keeper may do, and what becomes of the book.
-use Rattle.ksm_book.proofs.Names.{[], Add, All, All-contains_itself, ap, arith, BookState, BookView, Bool, change_row, change_rows, Contains, Contains-append_right, count_none, did, dup_of_row, DupRow, each_at_page, eq-eqb, false, filter, find_all, find_changed_other, find_passes, frame_number, frames_of, GuestPage, IfSome, if◌then◌else◌, InPageOrder, IsFree, IsLaid, IsSound, IsVacant, item_count, joined_count, KeeperView, leaving, lies_on, List, list_any, lying, MakesSteps, MatchOption, May, MayPair, MeetsPage, Merged, merged_into, merged_state, MOST_REFERENCES, nat_lt, nat_tests, new_place, new_place_free, next_is_new, Option, ordered_change, PageState, PagesView, paired, pairing, partner, Performs, place_count, Publish, refl, Row, row_at, row_visiting, same_page, shared_state, Some, state_of, Sub, subst, sym, true, waiting_state, waits_for, waits_tells, WaitsFor, with_dup, Withdraw, withdrawing, Zero, ℕ, ◌++◌, ◌+◌, ◌-◌, ◌<◌, ◌==◌, ◌||◌, ◌∙◌, ◌∷◌, ◌≡◌, ◌≤◌}
+use Rattle.ksm_book.proofs.Names.{[], Add, All, All-contains_itself, ap, arith, BookState, BookView, Bool, change_row, change_rows, Contains, Contains-append_right, count_none, did, dup_of_row, DupRow, each_at_page, eq-eqb, false, filter, find_all, find_changed_other, find_passes, frame_number, frames_of, GuestPage, IfSome, if◌then◌else◌, InPageOrder, IsFree, IsLaid, IsSound, IsVacant, item_count, joined_count, KeeperView, leaving, lies_on, List, list_any, lying, MakesSteps, MatchOption, May, MayPair, MeetsPage, Merged, merged_into, merged_state, MOST_REFERENCES, nat_lt, nat_tests, new_place, new_place_free, next_is_new, Option, ordered_change, PageState, PagesView, paired, pairing, partner, Performs, place_count, Publish, refl, Row, row_at, row_visiting, same_page, shared_state, Some, state_of, Sub, subst, sym, true, waiting_state, waits_for, waits_tells, WaitsFor, with_dup, Withdraw, withdrawing, ℕ, ◌++◌, ◌+◌, ◌-◌, ◌<◌, ◌==◌, ◌||◌, ◌∙◌, ◌∷◌, ◌≡◌, ◌≤◌}
 use Rattle.ksm_pages.specs.Paged.{paired as are_paired}
 use Rattle.ksm_book.proofs.Made.{made_one, made_then}
 use Rattle.ksm_book.proofs.Sharing.{laid_found, laid_joined, may_clear, may_found, may_join, may_part, spent_most, tree_is_home}
@@ -9,9 +9,7 @@ use Rattle.ksm_book.proofs.Promised.{finds_place}
 
 -- a row that waits is not shared
 waiting_is_alone : (s : PageState) → waiting_state s ≡ true → (shared_state s ≡ false) × (merged_state s ≡ false)
-waiting_is_alone (Merged d) e = absurd (grind (arith, e))
-waiting_is_alone Zero e = absurd (grind (arith, e))
-waiting_is_alone _ e = (refl, refl)
+waiting_is_alone s e = grind arith
 
 -- rows of two pages get a state
 abbrev in_state : PageState → Row → Row
@@ -20,7 +18,7 @@ in_state s r = record r { state = s }
 two_changes : (p q : GuestPage) (s : PageState) (rows : List Row) → change_row q (in_state s) (change_row p (in_state s) rows) ≡ change_rows
     (λ r. same_page r.page p || same_page r.page q) (in_state s) rows
 two_changes p q s [] = refl
-two_changes p q s (r ∷ rs) = let rest = two_changes p q s rs in grind (arith, rest)
+two_changes p q s (r ∷ rs) = let rest = two_changes p q s rs in grind arith
 
 contains_dup : (d : DupRow) (dups : List DupRow) → Contains (with_dup d dups) d
 contains_dup d dups =
@@ -42,7 +40,7 @@ module _ (other : GuestPage) {p : PagesView} {k : KeeperView} {cursor : Option G
 
   -- the partner of the visited page
   pub met : (w : Row) × (partner p.knobs p.rows row ≡ Some w) × (other ≡ w.page)
-  met = filled_by (λ w. other ≡ w.page) (partner p.knobs p.rows row) at.so.1
+  met = filled_by _ _ at.so.1
 
   abbrev w : Row
   w = met.0
@@ -57,31 +55,31 @@ module _ (other : GuestPage) {p : PagesView} {k : KeeperView} {cursor : Option G
   at_page = page_is at
 
   tells : WaitsFor p.knobs row w
-  tells = waits_tells p.knobs row w (find_passes (waits_for p.knobs row) p.rows w met.1)
+  tells = waits_tells _ row w (find_passes (waits_for p.knobs row) p.rows w met.1)
 
   -- the waiting row is found at its page
   pub waits_at : row_at w.page p.rows ≡ Some w
-  waits_at = find_all (waits_for p.knobs row) (λ r. row_at r.page p.rows ≡ Some r) p.rows w met.1 (each_at_page p.rows s.rows_rise)
+  waits_at = find_all _ (λ r. row_at r.page p.rows ≡ Some r) _ w met.1 (each_at_page _ s.rows_rise)
 
   alone : shared_state w.state ≡ false
-  alone = (waiting_is_alone w.state tells.state).0
+  alone = (waiting_is_alone _ tells.state).0
 
   apart : same_page w.page page ≡ false
   apart = ap (same_page w.page) (sym at_page) ∙ tells.other
 
   -- the place for a new dup is one of the places
   pub room : new_place (place_count p.shape) p.rows p.dups < place_count p.shape
-  room = finds_place b k.ledger s p.frame h.placed row (find_all (λ r. same_page r.page page) (Contains p.rows) p.rows row at.found
+  room = finds_place b _ s _ h.placed row (find_all (λ r. same_page r.page page) (Contains p.rows) p.rows row at.found
       (All-contains_itself p.rows)) (restless_own row at.so.0.restless)
 
   inside : place < frames_of p.shape
-  inside = subst (λ x. x < place_count p.shape) (sym chosen) room
+  inside = rw chosen room
 
   vacant : IsVacant place p.rows p.dups
   vacant = λ n d lt same.
-      let free : IsFree b place = subst (IsFree b) (sym chosen) (new_place_free b s) in
+      let free = subst (IsFree b) (sym chosen) (new_place_free b s) in
       let other = free.apart n d lt in
-      grind (arith, nat_tests, other, same)
+      grind arith
 
   fresh : All (λ r. merged_into p.next r.state ≡ false) p.rows
   fresh = next_is_new b s
@@ -95,13 +93,13 @@ module _ (other : GuestPage) {p : PagesView} {k : KeeperView} {cursor : Option G
     apart = tells.other;
     inside = inside;
     vacant = vacant;
-    number = (let most = spent_most h in omega (arith, most));
+    number = (let most = spent_most h in omega arith);
     fresh = fresh;
   }
 
   -- what the place of the new dup names may be withdrawn
   pub may_withdraw : May k (Withdraw place)
-  may_withdraw = may_clear k h place inside vacant
+  may_withdraw = may_clear k h _ inside vacant
 
   -- and at the page that was told
   pub waits_one : row_at one p.rows ≡ Some w
@@ -109,9 +107,7 @@ module _ (other : GuestPage) {p : PagesView} {k : KeeperView} {cursor : Option G
 
   -- the two pages may become the items of a new dup at the place
   pub pair_may : MatchOption (row_at one p.rows) (true ≡ false) (λ r. MatchOption (row_at page p.rows) (true ≡ false) (MayPair p place r))
-  pair_may = subst (λ o. MatchOption o (true ≡ false) (λ r. MatchOption (row_at page p.rows) (true ≡ false) (MayPair p place r)))
-      (sym waits_one)
-      (subst (λ o. MatchOption o (true ≡ false) (MayPair p place w)) (sym at.found) may_pair)
+  pair_may = rw waits_one (rw at.found may_pair)
 
   module _ {f : ℕ} (stands : p.frame one ≡ Some f) {k1 : KeeperView} {taken : Bool}
       (taken_is : taken ≡ list_any (λ d. d.place == place) p.dups)
@@ -120,11 +116,11 @@ module _ (other : GuestPage) {p : PagesView} {k : KeeperView} {cursor : Option G
     lies = ap p.frame (sym (is ∙ met.2)) ∙ stands
 
     clears : MakesSteps k k1 (withdrawing p.dups place)
-    clears = subst (λ t. MakesSteps k k1 (if t then Withdraw place ∷ [] else [])) taken_is cleared
+    clears = rw (← taken_is) cleared
 
     -- once its place is cleared, the new dup may be published there on the frame of the page that waits
     pub may_publish : May k1 (Publish place f)
-    may_publish = may_found h s.rows_rise w.page w f waits_at lies alone dup refl inside vacant k1 clears
+    may_publish = may_found h s.rows_rise _ w f waits_at lies alone dup refl inside vacant k1 clears
 
     abbrev change : Row → Row
     change = in_state (Merged p.next)
@@ -135,12 +131,12 @@ module _ (other : GuestPage) {p : PagesView} {k : KeeperView} {cursor : Option G
     module _ {k2 : KeeperView} (shown : k2 ≡ did k1 (Publish place f) 0) where
       first_laid : IsLaid first k2
       first_laid =
-          laid_found h s.rows_rise w.page w f waits_at lies alone dup refl inside vacant change k1 k2 p.restless (λ r. refl) refl refl
+          laid_found h s.rows_rise _ w f waits_at lies alone dup refl inside vacant change k1 k2 p.restless (λ r. refl) refl refl
           clears shown (sym tells.bytes)
           (λ none. tree_is_home p.knobs w none ∙ tells.tree) s.numbers fresh
 
       first_rise : InPageOrder first.rows
-      first_rise = ordered_change (λ r. same_page r.page w.page) change p.rows (λ r. refl) s.rows_rise
+      first_rise = ordered_change _ _ _ (λ r. refl) s.rows_rise
 
       row_still : row_at page first.rows ≡ Some row
       row_still = find_changed_other (λ (r : Row). r.page) w.page change (λ r. refl) page p.rows apart ∙ at.found
@@ -151,47 +147,45 @@ module _ (other : GuestPage) {p : PagesView} {k : KeeperView} {cursor : Option G
       one_item : item_count first.rows dup ≤ MOST_REFERENCES - 1
       one_item =
           let none : item_count p.rows dup ≡ 0 = count_none (λ r. merged_into p.next r.state) p.rows fresh in
-          let one : item_count first.rows dup ≡ item_count p.rows dup + 1 = joined_count p.rows w dup s.rows_rise waits_at
-          (waiting_is_alone w.state tells.state).1 in
-          omega (arith, none, one)
+          let one = joined_count _ w dup s.rows_rise waits_at (waiting_is_alone _ tells.state).1 in
+          omega arith
 
       -- once the place names the frame of the page that waits, a reference may come to that frame
       pub may_add_to : May k2 (Add f)
-      may_add_to = may_join first_laid first_rise page row (change w) row_still item_at f lies refl dup (contains_dup dup p.dups)
+      may_add_to = may_join first_laid first_rise _ row _ row_still item_at f lies refl dup (contains_dup dup _)
           (eq-eqb p.next p.next refl) one_item
 
       module _ {lone : ℕ} (left : p.frame page ≡ Some lone) where
         -- once a reference came to the frame of the page that waits, the visited page's own frame may be left
         pub may_sub_from : {k3 : KeeperView} → MakesSteps k2 k3 (Add f ∷ []) → May k3 (Sub lone)
         may_sub_from {k3} comes = subst (λ o. IfSome o (λ g. May k3 (Sub g))) left
-            (may_part first_laid first_rise page row (change w) row_still item_at f lies refl change (λ r. refl) refl
+            (may_part first_laid first_rise _ row _ row_still item_at f lies refl change (λ r. refl) refl
             (sym tells.bytes) k3 comes)
 
         module _ {k3 l : KeeperView} (comes : MakesSteps k2 k3 (Add f ∷ [])) (leaves : MakesSteps k3 l (Sub lone ∷ [])) (q : PagesView)
             (told : MatchOption (row_at one p.rows) (true ≡ false) (λ r. MatchOption (row_at page p.rows) (true ≡ false)
             (λ x. q ≡ are_paired place r x p))) where
           goes : q ≡ are_paired place w row p
-          goes = at_row (λ x. q ≡ are_paired place w x p) page p.rows row at.found
-              (at_row (λ r. MatchOption (row_at page p.rows) (true ≡ false) (λ x. q ≡ are_paired place r x p)) one p.rows w waits_one told)
+          goes = at_row (λ x. q ≡ are_paired place w x p) page p.rows row at.found (at_row _ one _ w waits_one told)
 
           steps : MakesSteps k2 l (Add f ∷ leaving (p.frame page))
-          steps = subst (λ o. MakesSteps k2 l (Add f ∷ leaving o)) (sym left) (made_then comes leaves)
+          steps = rw left (made_then comes leaves)
 
           both : change_row page change first.rows ≡ change_rows (λ r. same_page r.page w.page || same_page r.page row.page) change p.rows
-          both = ap (λ x. change_row x change first.rows) (sym at_page) ∙ two_changes w.page row.page (Merged p.next) p.rows
+          both = grind (arith, nat_tests, at_page, two_changes)
 
           q_is : q ≡ record first { rows = change_row page change first.rows; frame = lies_on page (Some f) p.frame }
-          q_is = goes ∙ (λ t. record first { rows = sym both t; frame = lies_on (at_page t) (lies t) p.frame })
+          q_is = grind (arith, nat_tests, goes, both, at_page, lies)
 
           all_steps : MakesSteps k l (withdrawing p.dups place ++ (Publish place f ∷ Add f ∷ leaving (p.frame page)))
-          all_steps = made_then clears (made_then (made_one k1 k2 (Publish place f) 0 shown) steps)
+          all_steps = made_then clears (made_then (made_one k1 k2 _ 0 shown) steps)
 
           deed_is : row_visiting b p.frame row ≡ record {
             steps = withdrawing p.dups place ++
                 (Publish place f ∷ Add f ∷ leaving (p.frame page));
             frame = lies_on page (Some f) p.frame;
           }
-          deed_is = (stayed_is b p.frame row false at.so.0).1 ∙ ap (λ o. pairing o b p.frame row) met.1
+          deed_is = (stayed_is b _ row false at.so.0).1 ∙ ap (λ o. pairing o b p.frame row) met.1
               ∙ (λ t. record {
                 steps = withdrawing p.dups (sym chosen t) ++ (Publish (sym chosen t) (frame_number (lies t)) ∷ Add
                     (frame_number (lies t)) ∷ leaving (p.frame (at_page t)));
@@ -201,10 +195,11 @@ module _ (other : GuestPage) {p : PagesView} {k : KeeperView} {cursor : Option G
           -- once the two pages are the items of a new dup, on one frame, the book is what the visit leads to
           pub pair_leads : Leads v q l cursor passes page
           pair_leads = leads at q l at.so.0.restless
-              (subst (λ (x : PagesView). IsLaid x l) (sym q_is)
-              (laid_joined first_laid first_rise page row (change w) row_still item_at f lies refl change (λ r. refl) refl (sym tells.bytes)
+              (rw q_is
+              (laid_joined first_laid first_rise _ row _ row_still item_at f lies refl change (λ r. refl) refl (sym tells.bytes)
               l p.restless steps))
-              (ap (λ (x : PagesView). state_of x cursor passes) goes ∙ (λ t. state_of (are_paired (chosen t) w row p) cursor passes)
-              ∙ sym ((stayed_is b p.frame row false at.so.0).0 ∙ ap (λ o. paired o b row) met.1))
+              (rw goes
+              ((λ t. state_of (are_paired (chosen t) w row p) cursor passes)
+              ∙ sym ((stayed_is b p.frame row false at.so.0).0 ∙ ap (λ o. paired o b row) met.1)))
               (subst (Performs (lying p k) (lying q l)) (sym deed_is) (record
-              { made = all_steps; frame = ap (λ (x : PagesView). x.frame) q_is }))
+              { made = all_steps; frame = rw q_is }))

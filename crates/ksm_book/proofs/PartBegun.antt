@@ -1,5 +1,5 @@
 -- The beginning of a part of a pass: it changes only which rows wait, and what is due stays so where the cursor moves.
-use Rattle.ksm_book.proofs.Names.{ap, AreDue, BookState, BookValue, Comes, cond_both, Deed, GuestPage, InPageOrder, is_none, is_some, IsStill, List, next_row, pages_ahead, pass_begun, pass_ended, pass_ended_at_last, Reached, refl, subst, sym, visit_begun, with_none_waiting, ◌&&◌, ◌∙◌, ◌≡◌}
+use Rattle.ksm_book.proofs.Names.{ap, AreDue, BookState, BookValue, Comes, cond_both, Deed, GuestPage, InPageOrder, IsStill, List, pages_ahead, pass_begun, pass_ended_at_last, Reached, refl, sym, visit_begun, ◌∙◌, ◌≡◌, arith}
 use Rattle.ksm_book.proofs.Folded.{settled_twice}
 use Rattle.ksm_book.proofs.Reached.{comes_to, first, in_order}
 use Rattle.ksm_book.proofs.Scanned.{begun_ahead}
@@ -8,23 +8,20 @@ use Rattle.ksm_book.proofs.Scanned.{begun_ahead}
 
 -- a beginning visit leaves the cursor where it stands once the pass was ended, if it had gone through all pages
 pub begun_cursor : (b : BookState) → (visit_begun b).cursor ≡ (pass_ended_at_last b).cursor
-begun_cursor b =
-    let closed = pass_ended_at_last b in
-    cond_both (is_none closed.cursor) (with_none_waiting closed) closed (λ c. c.cursor ≡ closed.cursor) (λ _. refl) (λ _. refl)
+begun_cursor b = grind arith
 
 -- as a pass begins nothing changes but which rows wait
 pub begins_still : {X : Type 0} (s : BookState × X) → IsStill s (pass_begun s.0, s.1)
-begins_still {X = X} s =
-    cond_both (is_none s.0.cursor) (with_none_waiting s.0) s.0 (λ b. IsStill {X = X} s (b, s.1))
-    (λ _. record { rest = refl; rows = settled_twice s.0.rows; beside = refl })
+begins_still {X} s =
+    cond_both _ _ s.0 (λ b. IsStill {X = X} s (b, s.1))
+    (λ _. record { rest = refl; rows = settled_twice _; beside = refl })
     (λ _. record { rest = refl; rows = refl; beside = refl })
 
 -- what changed only which rows wait changed no more once a pass begins
 pub begun_still : {X : Type 0} (b : BookState) (x : X) (new : BookState × X) → IsStill (b, x) new → IsStill (pass_begun b, x) new
-begun_still {X = X} b x new still =
-    cond_both (is_none b.cursor) (with_none_waiting b) b (λ c. IsStill {X = X} (c, x) new)
-    (λ _. record { rest = still.rest; rows = still.rows ∙ sym (settled_twice b.rows); beside = still.beside })
-    (λ _. still)
+begun_still {X} b x new still =
+    cond_both _ _ b (λ c. IsStill {X = X} (c, x) new)
+    (λ _. record { rest = still.rest; rows = still.rows ∙ sym (settled_twice _); beside = still.beside }) (λ _. still)
 
 -- the book where the pass was ended, if it had gone through all pages, and what a visit finds as it begins
 pub record Closes (w : BookValue) (b : BookState) : Type 0 where
@@ -39,19 +36,17 @@ pub record Closes (w : BookValue) (b : BookState) : Type 0 where
 pub closed : (v w : BookValue) → InPageOrder v.state.rows → Comes v w (λ s. (pass_ended_at_last s.0, s.1))
     → (from : BookValue) (s : BookState × Deed) → Reached from v s → Closes w s.0
 closed v w rise comes from s before =
-    let at = in_order v w (λ (z : BookState × Deed). (pass_ended_at_last z.0, z.1)) rise comes from s before in
+    let at = in_order v w _ rise comes from s before in
     record { order = at.0; state = at.1; ahead = ap pages_ahead at.1 ∙ sym (begun_ahead (pass_ended_at_last s.0)) }
 
 -- ---------------------------------------------------------------- what is due
 
 -- the end of a pass leaves due what was
 pub closed_due : (b : BookState) (pages : List GuestPage) → AreDue b pages → AreDue (pass_ended_at_last b) pages
-closed_due b pages due =
-    cond_both (is_some b.cursor && is_none (next_row b.cursor b.rows)) (pass_ended b) b (λ c. AreDue c pages) (λ _. due) (λ _. due)
+closed_due b pages due = cond_both _ _ b (λ c. AreDue c pages) (λ _. due) (λ _. due)
 
 -- what keeps due what was, whatever the book, keeps it so from one book to another
 pub comes_due : (v w : BookValue) (change : BookState × Deed → BookState × Deed) (pages : List GuestPage)
     → ((s : BookState × Deed) → AreDue s.0 pages → AreDue (change s).0 pages) → Comes v w change
     → AreDue v.state pages → AreDue w.state pages
-comes_due v w change pages keeps comes due =
-    subst (λ (b : BookState). AreDue b pages) (sym (comes_to v w change comes)) (keeps (first v) due)
+comes_due v w change pages keeps comes due = rw (comes_to v w _ comes) (keeps (first v) due)

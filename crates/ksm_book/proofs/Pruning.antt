@@ -1,22 +1,21 @@
 -- Stale dups go one by one.
-use Rattle.ksm_book.proofs.Names.{[], All, All-head, All-tail, ap, append-nil, append_assoc, arith, cases_Bool, count_by, count_by-le-length, did, DupRow, elsewhere, eqb-true, false, filter, filter_all, filter_none, find, find_all, find_none, find_passes, frames_at_most, frames_of, get_or, has_items, inl, InPlaceOrder, inr, is_stale, IsLaid, IsVacant, item_count, KeeperView, length, length-append, length-filter, List, lying, MakesSteps, map, map-append, May, nat_tests, None, not, one_of_each_place, option_map, ordered_filter, PagesView, pairs_tail, Performs, pruning, refl, Row, Shape, Some, subst, suc, sym, true, Withdraw, ℕ, ◌++◌, ◌+◌, ◌<◌, ◌==◌, ◌^◌, ◌∙◌, ◌∷◌, ◌≡◌, ◌≤◌}
+use Rattle.ksm_book.proofs.Names.{[], All, All-head, All-tail, ap, append-nil, append_assoc, arith, cases_Bool, count_by, count_by-le-length, did, DupRow, elsewhere, eqb-true, false, filter, filter_all, filter_none, find, find_all, find_none, find_passes, frames_at_most, frames_of, get_or, has_items, inl, InPlaceOrder, inr, is_stale, IsLaid, IsVacant, item_count, KeeperView, length, length-append, length-filter, List, lying, MakesSteps, map, map-append, May, nat_tests, None, not, one_of_each_place, option_map, ordered_filter, PagesView, pairs_tail, Performs, pruning, refl, Row, Some, subst, suc, sym, true, Withdraw, ℕ, ◌++◌, ◌+◌, ◌<◌, ◌==◌, ◌^◌, ◌∙◌, ◌∷◌, ◌≡◌, ◌≤◌}
 use Rattle.std.proofs.lemmas.Bool.{eq-eqb}
 use Rattle.ksm_book.proofs.Sharing.{laid_cleared, vacant_loose}
 use Rattle.ksm_book.proofs.Made.{made_one, made_then}
 use Rattle.ksm_book.proofs.Withdrawn.{elsewhere_so}
-use Rattle.ksm_book.proofs.ByPage.{mapped_from, none_mapped}
+use Rattle.ksm_pages.proofs.Options.{mapped_some, none_mapped}
 
 -- the place of the first stale dup has no other dup
 pub stale_vacant : (rows : List Row) (dups : List DupRow) (d : DupRow) → InPlaceOrder dups → find (is_stale rows) dups ≡ Some d → IsVacant d.place rows dups
 stale_vacant rows dups d rise found k x lt same =
     let once = find_all (is_stale rows) (λ e. All (λ y. (y.place == e.place) ≡ true → y ≡ e) dups) dups d found (one_of_each_place dups rise) in
-    let is : get_or dups k x ≡ d = once k x lt (eq-eqb (get_or dups k x).place d.place same) in
+    let is = once k x lt (eq-eqb (get_or dups k x).place d.place same) in
     ap (item_count rows) is ∙ eqb-true (item_count rows d) 0 (find_passes (is_stale rows) dups d found)
 
 -- where no stale dup is found, all dups have items
 pub none_stale : (rows : List Row) (dups : List DupRow) → find (is_stale rows) dups ≡ None → filter (has_items rows) dups ≡ dups
-none_stale rows dups none = filter_all (has_items rows) dups
-    (λ k x lt. let lives = find_none (is_stale rows) dups none k x lt in grind (arith, nat_tests, lives))
+none_stale rows dups none = filter_all _ _ (λ k x lt. let lives = find_none _ _ none k x lt in grind arith)
 
 -- a stale dup less is no dup with items less
 pub live_elsewhere : (rows : List Row) (place : ℕ) (dups : List DupRow) → IsVacant place rows dups → filter (has_items rows) (filter (elsewhere place) dups) ≡ filter (has_items rows) dups
@@ -25,7 +24,7 @@ live_elsewhere rows place (d ∷ ds) vacant =
     let P : DupRow → Type 0 = λ x. x.place ≡ place → item_count rows x ≡ 0 in
     let rest = live_elsewhere rows place ds (All-tail P d ds vacant) in
     let none = All-head P d ds vacant in
-    grind (arith, nat_tests, rest, none)
+    grind (arith, none)
 
 -- the first stale dup is the first to go
 pub first_stale : (rows : List Row) (dups : List DupRow) (d : DupRow) → InPlaceOrder dups → find (is_stale rows) dups ≡ Some d
@@ -34,29 +33,29 @@ first_stale rows [] d rise found = absurd (grind (arith, found))
 first_stale rows (x ∷ xs) d rise found = elim (cases_Bool (is_stale rows x)) [
   | inl stale ↦
       let is : x ≡ d = grind (arith, found, stale) in
-      let gone : elsewhere d.place x ≡ false = ap (λ (y : DupRow). not (y.place == d.place)) is ∙ ap not (eq-eqb d.place d.place refl) in
-      let off : All (λ e. elsewhere d.place e ≡ true) xs = λ i e lt. elsewhere_so d.place (get_or xs i e)
-      (λ same. (let later = (rise 0 (suc i) e (omega arith) (omega (arith, lt))).0 in let here = ap (λ (y : DupRow). y.place) is in
-      omega (arith, later, here, same))) in
+      let gone = ap (λ (y : DupRow). not (y.place == d.place)) is ∙ ap not (eq-eqb d.place d.place refl) in
+      let off : All (λ e. elsewhere d.place e ≡ true) xs = λ i e lt. elsewhere_so _ (get_or xs i e)
+      (λ same. (let later = (rise 0 (suc i) e (omega arith) (omega arith)).0 in let here = ap (λ (y : DupRow). y.place) is in
+      omega arith)) in
       let all : filter (elsewhere d.place) xs ≡ xs = filter_all (elsewhere d.place) xs off in
-      grind (arith, stale, gone, all, is)
+      grind (arith, stale, gone, all)
   | inr lives ↦
       let rest = first_stale rows xs d (pairs_tail (λ (a b : DupRow). (a.place < b.place) × ((a.number == b.number) ≡ false)) x xs rise)
-      (grind (arith, found, lives)) in
-      grind (arith, lives, rest)
+      (grind (arith, found)) in
+      grind arith
 ]
 
 -- dups in the order of their places, each place below a bound, are no more than the bound
 few_from : (m n : ℕ) (dups : List DupRow) → m ≤ n → InPlaceOrder dups → All (λ d. (m ≤ d.place) × (d.place < n)) dups → m + length dups ≤ n
-few_from m n [] le rise all = omega (arith, le)
+few_from m n [] le rise all = omega arith
 few_from m n (d ∷ ds) le rise all =
     let here = All-head (λ (e : DupRow). (m ≤ e.place) × (e.place < n)) d ds all in
     let rest = All-tail (λ (e : DupRow). (m ≤ e.place) × (e.place < n)) d ds all in
     let low = here.0 in
     let high = here.1 in
-    let tail = few_from (d.place + 1) n ds (omega (arith, high)) (pairs_tail (λ (a b : DupRow). (a.place < b.place) × ((a.number == b.number) ≡ false)) d ds rise)
-    (λ i e lt. (let above = (rise 0 (suc i) e (omega arith) (omega (arith, lt))).0 in omega (arith, above), (rest i e lt).1)) in
-    omega (arith, tail, low)
+    let tail = few_from (d.place + 1) n ds (omega arith) (pairs_tail (λ (a b : DupRow). (a.place < b.place) × ((a.number == b.number) ≡ false)) d ds rise)
+    (λ i e lt. (let above = (rise 0 (suc i) e (omega arith) (omega arith)).0 in omega arith, (rest i e lt).1)) in
+    omega arith
 
 -- so far so many stale dups went, and rows and dups lie lawfully
 pub record Drops (p q : PagesView) (k l : KeeperView) (count : ℕ) : Type 0 where
@@ -85,86 +84,86 @@ pub record Drops (p q : PagesView) (k l : KeeperView) (count : ℕ) : Type 0 whe
 module _ {p q : PagesView} {k l : KeeperView} {count : ℕ} (h : Drops p q k l count) {place : ℕ}
     (told : Some place ≡ option_map (λ d. d.place) (find (is_stale q.rows) q.dups)) where
   rows_are : q.rows ≡ p.rows
-  rows_are = ap (λ (x : PagesView). x.rows) h.pages
+  rows_are = rw h.pages
 
   stale : (d : DupRow) × (find (is_stale q.rows) q.dups ≡ Some d) × (d.place ≡ place)
-  stale = mapped_from (λ (d : DupRow). d.place) (find (is_stale q.rows) q.dups) place (sym told)
+  stale = mapped_some _ _ _ (sym told)
 
   found : find (is_stale p.rows) q.dups ≡ Some stale.0
-  found = ap (λ rows. find (is_stale rows) q.dups) (sym rows_are) ∙ stale.1
+  found = grind (arith, nat_tests, rows_are)
 
   -- no dup with items stands at the place of the first stale dup
   pub drop_vacant : IsVacant place q.rows q.dups
-  drop_vacant = subst (λ x. IsVacant x q.rows q.dups) stale.2 (stale_vacant q.rows q.dups stale.0 h.rise stale.1)
+  drop_vacant = rw (← stale.2) (stale_vacant q.rows _ _ h.rise stale.1)
 
   inside : place < frames_of q.shape
-  inside = subst (λ x. x < frames_of q.shape) stale.2 (find_all (is_stale q.rows) (λ d. d.place < frames_of q.shape) q.dups stale.0 stale.1 (λ n d lt. (h.laid.placed.each_dup n d lt).place))
+  inside = rw (← stale.2) (find_all _ (λ d. d.place < frames_of q.shape) _ _ stale.1 (λ n d lt. (h.laid.placed.each_dup n d lt).place))
 
   -- what the place of the first stale dup names may be withdrawn
   pub drop_may : May l (Withdraw place)
-  drop_may = (subst (λ (s : Shape). place < frames_of s) (sym h.laid.same) inside, vacant_loose place h.laid.placed drop_vacant)
+  drop_may = (rw h.laid.same inside, vacant_loose _ h.laid.placed drop_vacant)
 
   -- it is the first of those still stale
   next : filter (is_stale p.rows) q.dups ≡ stale.0 ∷ filter (is_stale p.rows) (filter (elsewhere place) q.dups)
-  next = first_stale p.rows q.dups stale.0 h.rise found
-      ∙ ap (λ x. stale.0 ∷ filter (is_stale p.rows) (filter (elsewhere x) q.dups)) stale.2
+  next = grind (arith, nat_tests, first_stale)
 
   -- once the first stale dup goes, one dup less is stale
   pub drop_fewer : count_by (is_stale p.rows) (filter (elsewhere place) q.dups) + 1 ≡ count_by (is_stale p.rows) q.dups
-  drop_fewer = omega (arith, ap length next, length-filter (is_stale p.rows) q.dups, length-filter (is_stale p.rows) (filter (elsewhere place) q.dups))
+  drop_fewer = omega (
+    arith,
+    ap length next,
+    length-filter (is_stale p.rows) q.dups,
+    length-filter (is_stale p.rows) (filter (elsewhere place) q.dups),
+  )
 
   -- the count of stale dups that went, and the next one, is below 2^64
   pub drop_few : count + 1 < 2 ^ 64
   drop_few =
-      let frames = few_from 0 (frames_of p.shape) p.dups (omega arith) h.first (λ n d lt. (omega arith, (h.before.placed.each_dup n d lt).place)) in
+      let frames = few_from 0 _ _ (omega arith) h.first (λ n d lt. (omega arith, (h.before.placed.each_dup n d lt).place)) in
       omega (
         arith,
-        h.many,
         ap length h.all,
         length-append h.gone (filter (is_stale p.rows) q.dups),
         length-filter (is_stale p.rows) p.dups,
         count_by-le-length (is_stale p.rows) p.dups,
-        frames,
         frames_at_most p.shape h.before.small,
       )
 
   -- where the place of the first stale dup is withdrawn and that dup goes, one stale dup more went
   pub drops_more : (q' : PagesView) (l' : KeeperView) → l' ≡ did l (Withdraw place) 0 → q' ≡ record q { dups = filter (elsewhere place) q.dups } → Drops p q' k l' (count + 1)
   drops_more q' l' is goes =
-      let dups : q'.dups ≡ filter (elsewhere place) q.dups = ap (λ (x : PagesView). x.dups) goes in
+      let dups = ap (λ (x : PagesView). x.dups) goes in
       let vacant = subst (λ rows. IsVacant place rows q.dups) rows_are drop_vacant in
-      let one = subst (λ x. MakesSteps l l' (Withdraw x ∷ [])) (sym stale.2) (made_one l l' (Withdraw place) 0 is) in
+      let one = subst (λ x. MakesSteps l l' (Withdraw x ∷ [])) (sym stale.2) (made_one l l' _ 0 is) in
       record {
         pages = goes ∙ (λ t. record (h.pages t) { dups = filter (elsewhere place) q.dups }) ∙ (λ t. record p { dups = sym dups t });
-        live = ap (filter (has_items p.rows)) dups ∙ live_elsewhere p.rows place q.dups vacant ∙ h.live;
+        live = ap (filter (has_items p.rows)) dups ∙ live_elsewhere p.rows _ _ vacant ∙ h.live;
         gone = h.gone ++ stale.0 ∷ [];
-        all = h.all ∙ ap (λ ds. h.gone ++ ds) next ∙ sym (append_assoc h.gone (stale.0 ∷ []) _)
-            ∙ ap (λ ds. (h.gone ++ stale.0 ∷ []) ++ filter (is_stale p.rows) ds) (sym dups);
-        many = omega (arith, h.many, length-append h.gone (stale.0 ∷ []));
+        all = rw dups (h.all ∙ ap (λ ds. h.gone ++ ds) next ∙ sym (append_assoc h.gone (stale.0 ∷ []) _));
+        many = omega (arith, length-append h.gone (stale.0 ∷ []));
         made = subst (MakesSteps k l') (sym (map-append (λ (d : DupRow). Withdraw d.place) h.gone (stale.0 ∷ []))) (made_then h.made one);
         first = h.first;
-        rise = subst InPlaceOrder (sym dups) (ordered_filter (elsewhere place) q.dups h.rise);
+        rise = subst InPlaceOrder (sym dups) (ordered_filter _ _ h.rise);
         before = h.before;
-        laid = subst (λ (x : PagesView). IsLaid x l') (sym goes)
-            (laid_cleared l' place h.laid inside (ap (λ (z : KeeperView). z.table) is) (ap (λ (z : KeeperView). z.ledger) is));
+        laid = rw goes (laid_cleared l' _ h.laid inside (rw is) (rw is));
       }
 
 -- where none is stale any more, all are gone
 module _ {p q : PagesView} {k l : KeeperView} {count : ℕ} (h : Drops p q k l count)
     (told : None ≡ option_map (λ d. d.place) (find (is_stale q.rows) q.dups)) where
   none : find (is_stale p.rows) q.dups ≡ None
-  none = ap (λ (x : PagesView). find (is_stale x.rows) q.dups) (sym h.pages) ∙ none_mapped (λ (d : DupRow). d.place) (find (is_stale q.rows) q.dups) (sym told)
+  none = grind (arith, nat_tests, none_mapped)
 
   -- where no stale dup is left, the dups are those with items, as many went as were stale, and just the steps of a pruning were made
   pub dropped : (q ≡ record p { dups = filter (has_items p.rows) p.dups }) × (count ≡ count_by (is_stale p.rows) p.dups)
       × Performs (lying p k) (lying q l) (pruning p.rows p.dups p.frame)
   dropped =
-      let all : filter (is_stale p.rows) p.dups ≡ h.gone = h.all
+      let all = h.all
       ∙ ap (λ ds. h.gone ++ ds) (filter_none (is_stale p.rows) q.dups (find_none (is_stale p.rows) q.dups none)) ∙ append-nil h.gone in (
-        h.pages ∙ (λ t. record p { dups = (sym (none_stale p.rows q.dups none) ∙ h.live) t }),
+        h.pages ∙ (λ t. record p { dups = (sym (none_stale p.rows _ none) ∙ h.live) t }),
         h.many ∙ ap length (sym all) ∙ length-filter (is_stale p.rows) p.dups,
         record {
-          made = subst (λ ds. MakesSteps k l (map (λ (d : DupRow). Withdraw d.place) ds)) (sym all) h.made;
-          frame = ap (λ (x : PagesView). x.frame) h.pages;
+          made = rw all h.made;
+          frame = rw h.pages;
         },
       )

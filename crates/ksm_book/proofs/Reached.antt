@@ -1,5 +1,5 @@
 -- What was reached of a scan: it begins with no step, and tells the state of the book.
-use Rattle.ksm_book.proofs.Names.{BookState, BookValue, Comes, Deed, GuestPage, idle, InPageOrder, KeeperView, Option, PagesValue, Reached, refl, seen, state_of, subst, view_of, ℕ, ◌≡◌}
+use Rattle.ksm_book.proofs.Names.{BookState, BookValue, Comes, Deed, GuestPage, idle, InPageOrder, KeeperView, Option, PagesValue, Reached, refl, seen, state_of, view_of, ℕ, ◌≡◌}
 use Rattle.ksm_book.proofs.Made.{made_none}
 
 -- the state of a book, and a deed without a step
@@ -18,7 +18,7 @@ comes_to v w change comes = (comes v (first v) (begins v)).0
 pub in_order : (v w : BookValue) (change : BookState × Deed → BookState × Deed) → InPageOrder v.state.rows → Comes v w change
     → (from : BookValue) (s : BookState × Deed) → Reached from v s
     → InPageOrder s.0.rows × (w.state ≡ (change s).0)
-in_order v w change rise comes from s before = (subst (λ (b : BookState). InPageOrder b.rows) before.0 rise, (comes from s before).0)
+in_order v w change rise comes from s before = (rw (← before.0) rise, (comes from s before).0)
 
 -- what proofs tell the book by, of its pages, the keeper, the cursor and the passes
 abbrev pub value : PagesValue → KeeperView → Option GuestPage → ℕ → BookValue

@@ -1,5 +1,5 @@
 -- A dup moves to another frame, with all of its items.
-use Rattle.ksm_book.proofs.Names.{eqb-true, Agrees, All, ap, arith, blank, Bool, cond, count_none, DupFits, DupRow, Dying, eq-eqb, FitsBase, frame_at, Frames, frames_of, Free, GenerationFits, get_or, get_or-set_other, get_or-set_same, GuestPage, inl, inr, instead, is_frame, is_some, IsInLife, IsServed, Kind, kind_for, Ledger, length, length-set, Life, life_or, List, Merged, merged_into, named_at, ne_eqb, node_of, None, none_counted, Note, Option, PAGE_WORDS, PageState, place_frame, place_life, Placed, Private, refl, Row, RowFits, same_Some, set, Shape, shared_state, Some, Stable, subst, sym, true, uses, ℕ, ◌+◌, ◌<◌, ◌∙◌, ◌≡◌, ◌≢◌, ◌≤◌, count_alike, if◌then◌else◌}
+use Rattle.ksm_book.proofs.Names.{Agrees, All, ap, arith, blank, Bool, cond, count_none, DupFits, DupRow, Dying, eq-eqb, FitsBase, frame_at, Frames, frames_of, Free, GenerationFits, get_or, get_or-set_other, get_or-set_same, GuestPage, instead, is_frame, is_some, IsInLife, IsServed, Kind, kind_for, Ledger, length, length-set, Life, life_or, List, merged_into, named_at, ne_eqb, node_of, None, none_counted, Note, Option, PAGE_WORDS, PageState, place_frame, place_life, Placed, Private, refl, Row, RowFits, same_Some, set, Shape, shared_state, Some, Stable, subst, sym, true, uses, ℕ, ◌+◌, ◌<◌, ◌∙◌, ◌≡◌, ◌≢◌, ◌≤◌, count_alike, nat_tests}
 use mathlib.Core.Logic.{dite}
 use native.Mathlib.Decide.{ℕ_discrete}
 use Rattle.ksm_book.proofs.ByPage.{frame_cases, not_on, uses_some}
@@ -7,42 +7,26 @@ use Rattle.ksm_book.proofs.Moves.{Serves}
 use Rattle.ksm_book.proofs.Laying.{number_of_kind}
 
 one_number : (s : PageState) (m n : ℕ) → merged_into m s ≡ true → merged_into n s ≡ true → n ≡ m
-one_number (Merged d) m n a b = sym (eqb-true d n b) ∙ eqb-true d m a
-one_number _ m n a b = absurd (grind (arith, a))
+one_number s m n a b = grind arith
 
 -- where frame g comes in the stead of f, a page that lay on f lies on g
 instead_here : (f g : ℕ) (frame : Frames) (page : GuestPage) → frame page ≡ Some f → instead f g frame page ≡ Some g
-instead_here f g frame page e = ap (λ (o : Option ℕ). cond (is_frame f o) (Some g) o) e ∙ ap (λ (b : Bool). cond b (Some g) (Some f)) (eq-eqb f f refl)
+instead_here f g frame page e = rw (e, (eq-eqb f f refl))
 
 -- where frame g comes in the stead of f, a page that did not lie on f lies where it lay
 pub instead_there : (f g : ℕ) (frame : Frames) (page : GuestPage) → frame page ≢ Some f → instead f g frame page ≡ frame page
-instead_there f g frame page ne = ap (λ (b : Bool). if b then Some g else frame page) (not_on f (frame page) ne)
+instead_there f g frame page ne = rw (not_on f _ ne)
 
 -- those that lay on f lie on g, and none lies on f any more
 module _ (f g : ℕ) (frame : Frames) (rows : List Row) where
   uses_new : uses g frame rows ≡ 0 → uses g (instead f g frame) rows ≡ uses f frame rows
-  uses_new none = count_alike _ _ rows (λ i d lt.
-      let page = (get_or rows i d).page in
-      elim (frame_cases f (frame page)) [
-        | inl on ↦ ap (is_frame g) (instead_here f g frame page on) ∙ eq-eqb g g refl ∙ sym (ap (is_frame f) on ∙ eq-eqb f f refl)
-        | inr off ↦ ap (is_frame g) (instead_there f g frame page off) ∙ none_counted (λ r. is_frame g (frame r.page)) rows none i d lt ∙ sym (not_on f (frame page) off)
-      ])
+  uses_new none = grind (arith, nat_tests, count_alike, frame_cases, instead_here, instead_there, none_counted, not_on)
 
   uses_old : g ≢ f → uses f (instead f g frame) rows ≡ 0
-  uses_old ne = count_none (λ r. is_frame f (instead f g frame r.page)) rows (λ i d lt.
-      let page = (get_or rows i d).page in
-      elim (frame_cases f (frame page)) [
-        | inl on ↦ ap (is_frame f) (instead_here f g frame page on) ∙ not_on f (Some g) (λ e. ne (same_Some g f e))
-        | inr off ↦ ap (is_frame f) (instead_there f g frame page off) ∙ not_on f (frame page) off
-      ])
+  uses_old ne = grind (arith, nat_tests, count_none, frame_cases, instead_here, not_on, same_Some, instead_there)
 
   uses_still : (x : ℕ) → x ≢ f → x ≢ g → uses x (instead f g frame) rows ≡ uses x frame rows
-  uses_still x nf ng = count_alike _ _ rows (λ i d lt.
-      let page = (get_or rows i d).page in
-      elim (frame_cases f (frame page)) [
-        | inl on ↦ ap (is_frame x) (instead_here f g frame page on) ∙ not_on x (Some g) (λ e. ng (sym (same_Some g x e))) ∙ sym (ap (is_frame x) on ∙ not_on x (Some f) (λ e. nf (sym (same_Some f x e))))
-        | inr off ↦ ap (is_frame x) (instead_there f g frame page off)
-      ])
+  uses_still x nf ng = grind (arith, nat_tests, count_alike, frame_cases, instead_here, not_on, same_Some, instead_there)
 
 -- one of the dups moves from the frame that its place names to another
 module _ {sh : Shape} {across : ℕ} {k : Ledger} {rows : List Row} {frame : Frames} {dups : List DupRow}
@@ -73,33 +57,33 @@ module _ {sh : Shape} {across : ℕ} {k : Ledger} {rows : List Row} {frame : Fra
     fits = among (DupFits sh across k) p.each_dup
 
     apart : g ≢ left
-    apart e = let both : Free ≡ Stable = sym free ∙ ap (λ h. (frame_at k h).kind) e ∙ stable in cc
+    apart e = cc
 
     unused : uses g frame rows ≡ 0
-    unused = let none : (frame_at k g).base ≡ 0 = subst (λ (x : Kind). FitsBase x (frame_at k g).base) free (p.kinds g) in let is : (frame_at k g).base ≡ uses g frame rows + 0 = p.bases g in omega (arith, is, none)
+    unused = grind (arith, nat_tests)
 
     some : 1 ≤ (frame_at k left).base
-    some = subst (λ (x : Kind). FitsBase x (frame_at k left).base) stable (p.kinds left)
+    some = grind (arith, nat_tests)
 
     at : (P : Note → Type 0) (h : ℕ) → (h ≡ g → P mounted) → (h ≡ left → P dead) → (h ≢ g → h ≢ left → P (frame_at k h)) → P (frame_at next h)
     at P h here there else' =
-        let long : length k.frames ≡ frames_of sh = p.frames_long in
-        let long' : length (set k.frames left dead) ≡ length k.frames = length-set k.frames left dead in
-        let low : left < frames_of sh = subst (λ x. x < frames_of sh) (sym leaves) fits.frame in
+        let long = p.frames_long in
+        let long' = length-set k.frames left dead in
+        let low = subst (λ x. x < frames_of sh) (sym leaves) fits.frame in
         dite (ℕ_discrete h g)
-        (λ e. subst P (sym (ap (frame_at next) e ∙ get_or-set_same (set k.frames left dead) g mounted blank (omega (arith, long, long', inside)))) (here e))
+        (λ e. subst P (sym (ap (frame_at next) e ∙ get_or-set_same (set k.frames left dead) g mounted blank (omega arith))) (here e))
         (λ ne. subst P (sym (get_or-set_other (set k.frames left dead) g h mounted blank ne)) (dite (ℕ_discrete h left)
-        (λ e. subst P (sym (ap (λ x. get_or (set k.frames left dead) x blank) e ∙ get_or-set_same k.frames left dead blank (omega (arith, long, low)))) (there e))
+        (λ e. subst P (sym (rw e (get_or-set_same k.frames left dead blank (omega arith)))) (there e))
         (λ off. subst P (sym (get_or-set_other k.frames left h dead blank off)) (else' ne off))))
 
     named : named_at next q ≡ Some life
-    named = let pl : length k.places ≡ frames_of sh = p.places_long in let low : q < frames_of sh = fits.place in get_or-set_same k.places q (Some life) None (omega (arith, pl, low))
+    named = let pl = p.places_long in let low = fits.place in get_or-set_same k.places q (Some life) None (omega arith)
 
     named_off : (e : ℕ) → e ≢ q → named_at next e ≡ named_at k e
     named_off e ne = get_or-set_other k.places q e (Some life) None ne
 
     frame_is : (e : ℕ) → e ≡ q → place_frame next e ≡ g
-    frame_is e same = ap (place_frame next) same ∙ ap (λ x. (life_or x).frame) named
+    frame_is e same = grind (arith, nat_tests, same, named)
 
     frame_off : (e : ℕ) → e ≢ q → place_frame next e ≡ place_frame k e
     frame_off e ne = ap (λ x. (life_or x).frame) (named_off e ne)
@@ -111,24 +95,24 @@ module _ {sh : Shape} {across : ℕ} {k : Ledger} {rows : List Row} {frame : Fra
     at_g P m = at P g (λ _. m) (λ e. absurd (apart e)) (λ ne _. absurd (ne refl))
 
     is_in_life : (e : ℕ) → e ≡ q → IsInLife next e
-    is_in_life e same = subst (λ x. IsInLife next x) (sym same) (subst (λ (x : Option Life). (frame_at next (life_or x).frame).generation ≡ (life_or x).generation) (sym named) (at_g (λ x. x.generation ≡ (frame_at k g).generation + 1) refl))
+    is_in_life e same = rw same (subst (λ (x : Option Life). (frame_at next (life_or x).frame).generation ≡ (life_or x).generation) (sym named) (at_g (λ x. x.generation ≡ (frame_at k g).generation + 1) refl))
 
     -- no other place names the frame in its new life
     too_young : (e : DupRow) → DupFits sh across k e → e.place ≢ q → place_frame k e.place ≡ g → IsInLife next e.place → ⊥
     too_young e m ne same l =
-        let now : (frame_at next g).generation ≡ place_life k e.place = ap (λ h. (frame_at next h).generation) (sym (frame_off e.place ne ∙ same)) ∙ l ∙ life_off e.place ne in
-        let new : (frame_at next g).generation ≡ (frame_at k g).generation + 1 = at_g (λ x. x.generation ≡ (frame_at k g).generation + 1) refl in
-        let old : place_life k e.place ≤ (frame_at k g).generation = subst (λ h. place_life k e.place ≤ (frame_at k h).generation) same m.life in
-        omega (arith, now, new, old)
+        let now = ap (λ h. (frame_at next h).generation) (sym (frame_off _ ne ∙ same)) ∙ l ∙ life_off _ ne in
+        let new = at_g (λ x. x.generation ≡ (frame_at k g).generation + 1) refl in
+        let old = subst (λ h. place_life k e.place ≤ (frame_at k h).generation) same m.life in
+        omega arith
 
     -- a frame that is not g stays in its life
     same_life : (h : ℕ) → h ≢ g → (frame_at next h).generation ≡ (frame_at k h).generation
-    same_life h ne = at (λ x. x.generation ≡ (frame_at k h).generation) h (λ e. absurd (ne e)) (λ e. ap (λ y. (frame_at k y).generation) (sym e)) (λ _ _. refl)
+    same_life h ne = at (λ x. x.generation ≡ (frame_at k h).generation) h (λ e. absurd (ne e)) (λ e. rw (← e)) (λ _ _. refl)
 
     off : (e : DupRow) → DupFits sh across k e → e.place ≢ q → IsInLife next e.place → IsInLife k e.place × (place_frame k e.place ≢ g)
     off e m ne l =
         let far : place_frame k e.place ≢ g = λ same. too_young e m ne same l in
-        (sym (same_life (place_frame k e.place) far) ∙ ap (λ h. (frame_at next h).generation) (sym (frame_off e.place ne)) ∙ l ∙ life_off e.place ne, far)
+        (sym (same_life _ far) ∙ ap (λ h. (frame_at next h).generation) (sym (frame_off _ ne)) ∙ l ∙ life_off _ ne, far)
 
     -- a row on the frame that it has now
     module _ (r : Row) (f : ℕ) (far : f ≢ g) (had : Serves sh k dups r f) where
@@ -140,31 +124,34 @@ module _ {sh : Shape} {across : ℕ} {k : Ledger} {rows : List Row} {frame : Fra
         mapped = was.mapped;
         frame = inside;
         kind = at_g (λ x. x.kind ≡ kind_for r.state) (sym stable ∙ ap (λ h. (frame_at k h).kind) (sym e) ∙ was.kind);
-        content = at_g (λ x. x.content ≡ r.bytes) (ap (λ h. (frame_at k h).content) (sym e) ∙ was.content);
+        content = at_g (λ x. x.content ≡ r.bytes) (rw (← e) was.content);
         given = at_g (λ x. 1 ≤ x.generation) (omega arith);
-        node = λ alone. absurd (grind (arith, alone, ap shared_state (number_of_kind r.state (sym was.kind ∙ ap (λ h. (frame_at k h).kind) e ∙ stable)).1));
+        node = λ alone. absurd (grind (
+          arith,
+          ap shared_state (number_of_kind r.state (sym was.kind ∙ ap (λ h. (frame_at k h).kind) e ∙ stable)).1,
+        ));
       }
 
       moved_agrees : f ≡ left → (e : DupRow) → DupFits sh across k e → (e.place ≢ q → e.number ≢ moving.number) → Agrees k r f e → Agrees next r g e
       moved_agrees is e m others a = dite (ℕ_discrete e.place q)
           (λ same. record {
-            item = λ _. (sym (frame_is e.place same), is_in_life e.place same);
-            back = λ _ _. a.back (subst (λ x. IsInLife k x) (sym same) in_life) (is ∙ leaves ∙ ap (place_frame k) (sym same));
+            item = λ _. (sym (frame_is _ same), is_in_life _ same);
+            back = λ _ _. a.back (rw same in_life) (is ∙ leaves ∙ ap (place_frame k) (sym same));
           })
           (λ ne. record {
-            item = λ t. absurd (others ne (one_number r.state moving.number e.number ((among (Agrees k r f) had.1).back in_life (is ∙ leaves)) t));
-            back = λ l t. absurd ((off e m ne l).1 (sym (frame_off e.place ne) ∙ sym t));
+            item = λ t. absurd (others ne (one_number _ _ _ ((among (Agrees k r f) had.1).back in_life (is ∙ leaves)) t));
+            back = λ l t. absurd ((off e m ne l).1 (sym (frame_off _ ne) ∙ sym t));
           })
 
       still_row : f ≢ left → RowFits sh next r f
       still_row ne =
-          let same : frame_at next f ≡ frame_at k f = at (λ x. x ≡ frame_at k f) f (λ e. absurd (far e)) (λ e. absurd (ne e)) (λ _ _. refl) in
+          let same = at (λ x. x ≡ frame_at k f) f (λ e. absurd (far e)) (λ e. absurd (ne e)) (λ _ _. refl) in
           record {
             mapped = was.mapped;
             frame = was.frame;
-            kind = ap (λ (x : Note). x.kind) same ∙ was.kind;
-            content = ap (λ (x : Note). x.content) same ∙ was.content;
-            given = subst (λ (x : Note). 1 ≤ x.generation) (sym same) was.given;
+            kind = rw same was.kind;
+            content = rw same was.content;
+            given = rw same was.given;
             node = was.node;
           }
 
@@ -172,11 +159,15 @@ module _ {sh : Shape} {across : ℕ} {k : Ledger} {rows : List Row} {frame : Fra
       still_agrees not' e m a = dite (ℕ_discrete e.place q)
           (λ same. record {
             item = λ t. absurd (not' ((a.item t).0 ∙ ap (place_frame k) same ∙ sym leaves));
-            back = λ _ t. absurd (far (t ∙ frame_is e.place same));
+            back = λ _ t. absurd (far (t ∙ frame_is _ same));
           })
           (λ ne. record {
-            item = λ t. let y = a.item t in (y.0 ∙ sym (frame_off e.place ne), ap (λ h. (frame_at next h).generation) (frame_off e.place ne ∙ sym y.0) ∙ same_life f far ∙ ap (λ h. (frame_at k h).generation) y.0 ∙ y.1 ∙ sym (life_off e.place ne));
-            back = λ l t. a.back (off e m ne l).0 (t ∙ frame_off e.place ne);
+            item = λ t. let y = a.item t in (
+              y.0 ∙ sym (frame_off _ ne),
+              rw (frame_off _ ne ∙ sym y.0)
+                  (same_life f far ∙ ap (λ h. (frame_at k h).generation) y.0 ∙ y.1 ∙ sym (life_off _ ne)),
+            );
+            back = λ l t. a.back (off e m ne l).0 (t ∙ frame_off _ ne);
           })
 
     served : (r : Row) (o : Option ℕ) → o ≢ Some g → IsServed sh k dups r o → IsServed sh next dups r (cond (is_frame left o) (Some g) o)
@@ -185,19 +176,20 @@ module _ {sh : Shape} {across : ℕ} {k : Ledger} {rows : List Row} {frame : Fra
         let far : f ≢ g = λ e. other (ap Some e) in
         dite (ℕ_discrete f left)
         (λ e. subst (IsServed sh next dups r) (sym (ap (λ (b : Bool). cond b (Some g) (Some f)) (eq-eqb f left e)))
-        (moved_row r f far h e, λ m x l. moved_agrees r f far h e (get_or dups m x) (p.each_dup m x l) (numbers m x l) (h.1 m x l)))
+        (moved_row r f far h e, λ m x l. moved_agrees r f far h e _ (p.each_dup m x l) (numbers m x l) (h.1 m x l)))
         (λ ne. subst (IsServed sh next dups r) (sym (ap (λ (b : Bool). cond b (Some g) (Some f)) (ne_eqb f left ne)))
-        (still_row r f far h ne, λ m x l. still_agrees r f far h ne (get_or dups m x) (p.each_dup m x l) (h.1 m x l)))
+        (still_row r f far h ne, λ m x l. still_agrees r f far h ne _ (p.each_dup m x l) (h.1 m x l)))
 
     dup_here : (e : DupRow) → e.place ≡ q → DupFits sh across k e → DupFits sh across next e
     dup_here e same m =
-        let fr : place_frame next e.place ≡ g = frame_is e.place same in
+        let fr = frame_is _ same in
         record {
           place = m.place;
-          named = ap (λ x. is_some (named_at next x)) same ∙ ap is_some named;
-          frame = subst (λ x. x < frames_of sh) (sym fr) inside;
-          life = (let l : (frame_at next (place_frame next e.place)).generation ≡ place_life next e.place = is_in_life e.place same in omega (arith, l));
-          content = λ _. ap (λ h. (frame_at next h).content) fr ∙ at_g (λ x. x.content ≡ e.bytes) (ap (λ x. (frame_at k x).content) (leaves ∙ ap (place_frame k) (sym same)) ∙ m.content (subst (λ x. IsInLife k x) (sym same) in_life));
+          named = rw same (ap is_some named);
+          frame = rw fr inside;
+          life = (let l = is_in_life _ same in omega arith);
+          content = λ _. rw fr
+              (at_g (λ x. x.content ≡ e.bytes) (ap (λ x. (frame_at k x).content) (leaves ∙ ap (place_frame k) (sym same)) ∙ m.content (rw same in_life)));
           shown = λ _ own. at_g (λ x. x.kind ≡ Private → ⊥) (λ bad. cc) (ap (λ h. (frame_at next h).kind) (sym fr) ∙ own);
           node = λ z. ap (node_of sh) fr ∙ node z ∙ ap (node_of sh) (leaves ∙ ap (place_frame k) (sym same)) ∙ m.node z;
         }
@@ -209,14 +201,15 @@ module _ {sh : Shape} {across : ℕ} {k : Ledger} {rows : List Row} {frame : Fra
         record {
           place = m.place;
           named = ap is_some (named_off e.place ne) ∙ m.named;
-          frame = subst (λ x. x < frames_of sh) (sym fo) m.frame;
+          frame = rw fo m.frame;
           life = subst (λ (x : ℕ × ℕ). x.0 ≤ x.1) (λ t. (sym (life_off e.place ne) t, ap (λ y. (frame_at next y).generation) (sym fo) t))
               (at (λ x. place_life k e.place ≤ x.generation) h
-              (λ same. let old : place_life k e.place ≤ (frame_at k g).generation = subst (λ y. place_life k e.place ≤ (frame_at k y).generation) same m.life in omega (arith, old))
-              (λ same. subst (λ y. place_life k e.place ≤ (frame_at k y).generation) same m.life)
-              (λ _ _. m.life));
-          content = λ l. let o = off e m ne l in ap (λ y. (frame_at next y).content) fo ∙ at (λ x. x.content ≡ e.bytes) h (λ same. absurd (o.1 same)) (λ same. ap (λ y. (frame_at k y).content) (sym same) ∙ m.content o.0) (λ _ _. m.content o.0);
-          shown = λ l own. let o = off e m ne l in at (λ x. x.kind ≡ Private → ⊥) h (λ same. absurd (o.1 same)) (λ _ bad. cc) (λ _ _. m.shown o.0) (ap (λ y. (frame_at next y).kind) (sym fo) ∙ own);
+              (λ same. let old : place_life k e.place ≤ (frame_at k g).generation = rw (← same) m.life in omega arith)
+              (λ same. rw (← same) m.life) (λ _ _. m.life));
+          content = λ l. let o = off e m ne l in rw fo
+              (at (λ x. x.content ≡ e.bytes) h (λ same. absurd (o.1 same)) (λ same. ap (λ y. (frame_at k y).content) (sym same) ∙ m.content o.0) (λ _ _. m.content o.0));
+          shown = λ l own. let o = off e m ne l in at (λ x. x.kind ≡ Private → ⊥) h (λ same. absurd (o.1 same)) (λ _ bad. cc) (λ _ _. m.shown o.0) (rw (← fo)
+              own);
           node = λ z. ap (node_of sh) fo ∙ m.node z;
         }
 
@@ -227,16 +220,16 @@ module _ {sh : Shape} {across : ℕ} {k : Ledger} {rows : List Row} {frame : Fra
       places_long = length-set k.places q (Some life) ∙ p.places_long;
       widths = λ h. at (λ x. length x.content ≡ PAGE_WORDS) h (λ _. p.widths left) (λ _. p.widths left) (λ _ _. p.widths h);
       lives = λ h. at (λ x. GenerationFits sh.last_generation x.kind x.generation) h
-          (λ _. let below : (frame_at k g).generation < sh.last_generation = subst (λ (x : Kind). GenerationFits sh.last_generation x (frame_at k g).generation) free (p.lives g) in (omega arith, omega (arith, below)))
+          (λ _. let below : (frame_at k g).generation < sh.last_generation = subst (λ (x : Kind). GenerationFits sh.last_generation x (frame_at k g).generation) free (p.lives g) in (omega arith, omega arith))
           (λ _. subst (λ (x : Kind). GenerationFits sh.last_generation x (frame_at k left).generation) stable (p.lives left))
           (λ _ _. p.lives h);
       each_row = λ i r0 low. let r = get_or rows i r0 in served r (frame r.page)
-          (λ e. (let used = uses_some g frame rows i r0 low e in omega (arith, used, unused))) (p.each_row i r0 low);
+          (λ e. (let used = uses_some g frame rows i r0 low e in omega (arith, unused))) (p.each_row i r0 low);
       each_dup = λ m x l. dite (ℕ_discrete (get_or dups m x).place q) (λ same. dup_here (get_or dups m x) same (p.each_dup m x l)) (λ ne. dup_there (get_or dups m x) ne (p.each_dup m x l));
       bases = λ h. at (λ x. x.base ≡ uses h (instead left g frame) rows + 0) h
-          (λ e. let new : uses h (instead left g frame) rows ≡ uses left frame rows = ap (λ y. uses y (instead left g frame) rows) e ∙ uses_new left g frame rows unused in let old : (frame_at k left).base ≡ uses left frame rows + 0 = p.bases left in omega (arith, new, old))
-          (λ e. let none : uses h (instead left g frame) rows ≡ 0 = ap (λ y. uses y (instead left g frame) rows) e ∙ uses_old left g frame rows apart in omega (arith, none))
-          (λ ng nf. let still : uses h (instead left g frame) rows ≡ uses h frame rows = uses_still left g frame rows h nf ng in let old : (frame_at k h).base ≡ uses h frame rows + 0 = p.bases h in omega (arith, still, old));
+          (λ e. let new : uses h (instead left g frame) rows ≡ uses left frame rows = rw e (uses_new left g frame rows unused) in let old : (frame_at k left).base ≡ uses left frame rows + 0 = p.bases left in omega arith)
+          (λ e. let none : uses h (instead left g frame) rows ≡ 0 = rw e (uses_old left g frame rows apart) in omega arith)
+          (λ ng nf. let still : uses h (instead left g frame) rows ≡ uses h frame rows = uses_still left g frame rows h nf ng in let old : (frame_at k h).base ≡ uses h frame rows + 0 = p.bases h in omega arith);
       kinds = λ h. at (λ x. FitsBase x.kind x.base) h (λ _. some) (λ _. refl) (λ _ _. p.kinds h);
       empty = λ e none. dite (ℕ_discrete e q) (λ same. absurd (among (λ d. d.place ≢ e) none (sym same))) (λ ne. named_off e ne ∙ p.empty e none);
     }

@@ -1,5 +1,5 @@
 -- A dup with items, and where its pages lie before and after it moves.
-use Rattle.ksm_book.proofs.Names.{list_any_at, [], All, and_parts, ap, arith, blank, Bool, cond, count_in, did, dup_frame, dup_numbered, DupFits, DupRow, Dying, each_has_number, eq-eqb, find_all, find_passes, Err, Finds, FindsHeld, FindsNone, HasRemounted, InUse, MayMount, MayMove, NoFrame, Ok, frame_at, frame_found, frame_number, frames_of, Free, Freeze, get_or, get_or-set_other, GuestPage, has_items, instead, is_frame, is_item, IsInLife, IsLaid, IsLoose, IsLowestFree, item_count, items_on, KeeperView, Ledger, length, length-set, Life, life_or, List, list_any, ltb-true, lying, MakesSteps, merged_into, mounting, Moves, named_at, ne_eqb, node_of, None, Note, Option, PagesView, place_frame, Placed, Publish, refl, Row, row_at, same_page, same_Some, set, Shape, Some, spent, Stable, subst, sym, true, with_frame, ℕ, ◌&&◌, ◌*◌, ◌+◌, ◌<◌, ◌==◌, ◌∙◌, ◌∷◌, ◌≡◌, ◌≢◌, ◌≤◌, if◌then◌else◌, once_mounted, All-contains_itself, Contains}
+use Rattle.ksm_book.proofs.Names.{list_any_at, [], All, and_parts, ap, arith, blank, Bool, count_in, did, dup_frame, dup_numbered, DupFits, DupRow, Dying, each_has_number, eq-eqb, find_all, find_passes, Err, Finds, FindsHeld, FindsNone, HasRemounted, InUse, MayMount, MayMove, NoFrame, Ok, frame_at, frame_found, frame_number, frames_of, Free, Freeze, get_or, get_or-set_other, GuestPage, has_items, instead, is_frame, is_item, IsInLife, IsLaid, IsLoose, IsLowestFree, item_count, items_on, KeeperView, Ledger, length, length-set, Life, life_or, List, list_any, lying, MakesSteps, merged_into, mounting, Moves, ne_eqb, node_of, None, Note, Option, PagesView, place_frame, Placed, Publish, refl, Row, row_at, same_Some, set, Shape, Some, spent, Stable, subst, sym, true, with_frame, ℕ, ◌&&◌, ◌+◌, ◌<◌, ◌==◌, ◌∙◌, ◌∷◌, ◌≡◌, ◌≢◌, ◌≤◌, if◌then◌else◌, once_mounted, All-contains_itself, Contains, nat_tests}
 use mathlib.Core.Logic.{dite}
 use native.Mathlib.Decide.{ℕ_discrete}
 use Rattle.ksm_book.proofs.ByPage.{found_page, same_frames}
@@ -15,7 +15,7 @@ use Rattle.ksm_book.proofs.Standing.{Lives, lives}
 -- where no frame of the node is left, the dup stays
 pub turned_away : {X : Type 0} {p : PagesView} {k l : KeeperView} {dup : DupRow} {node : ℕ} → MayMove p k dup node → FindsNone k l node
     → HasRemounted {X = X} p p k l dup node (Err (NoFrame node))
-turned_away {p = p} may none =
+turned_away may none =
     let away = turned may.laid may.exists none in
     record { rest = refl; laid = away.laid; moves = (refl, away.turns) }
 
@@ -40,19 +40,18 @@ module _ {v : PagesView} {k : KeeperView} {dup : DupRow} {node g : ℕ} (may : M
 
   -- what holds of all dups holds of the one that moves
   among : (P : DupRow → Type 0) → All P dups → P dup
-  among P all = find_all test P dups dup may.live all
+  among P all = find_all _ P _ dup may.live all
 
   item_some : 1 ≤ item_count v.rows dup
-  item_some = ltb-true 0 (item_count v.rows dup) (and_parts (dup.place == dup.place) (has_items v.rows dup)
-      (find_passes test dups dup may.live)).1
+  item_some = grind (arith, nat_tests, find_passes test dups dup may.live, and_parts)
 
   stands : dup_numbered dup.number dups ≡ Some dup
-  stands = among (λ d. dup_numbered d.number dups ≡ Some d) (each_has_number dups may.sound.2.dups_rise)
+  stands = among (λ d. dup_numbered d.number dups ≡ Some d) (each_has_number _ may.sound.2.dups_rise)
 
   numbers : All (λ e. e.place ≢ dup.place → e.number ≢ dup.number) dups
   numbers n x lt apart same =
-      let there : dup_numbered (get_or dups n x).number dups ≡ Some (get_or dups n x) = each_has_number dups may.sound.2.dups_rise n x lt in
-      apart (ap (λ (y : DupRow). y.place) (same_Some _ _ (sym there ∙ ap (λ m. dup_numbered m dups) same ∙ stands)))
+      let there = each_has_number _ may.sound.2.dups_rise n x lt in
+      apart (rw (same_Some _ _ (sym there ∙ ap (λ m. dup_numbered m dups) same ∙ stands)))
 
   module _ {w : KeeperView} {f : ℕ} (to : Finds k w node f) where
     abbrev p : Placed sh across w.ledger v.rows v.frame dups None
@@ -61,7 +60,7 @@ module _ {v : PagesView} {k : KeeperView} {dup : DupRow} {node g : ℕ} (may : M
         rows frame ds None) may.laid.placed
 
     more_spent : spent k.ledger ≤ spent w.ledger
-    more_spent = searched_spends node to.reaped
+    more_spent = searched_spends _ to.reaped
 
     abbrev n : Note
     n = frame_at w.ledger g
@@ -70,7 +69,7 @@ module _ {v : PagesView} {k : KeeperView} {dup : DupRow} {node g : ℕ} (may : M
     dup_fits = among (DupFits sh across w.ledger) p.each_dup
 
     live : Lives w.ledger dups sh v.rows v.frame dup
-    live = among (λ d. (item_count v.rows d ≡ 0 → ⊥) → Lives w.ledger dups sh v.rows v.frame d) (lives p) (λ none. omega (arith, none, item_some))
+    live = among (λ d. (item_count v.rows d ≡ 0 → ⊥) → Lives w.ledger dups sh v.rows v.frame d) (lives p) (λ none. omega (arith, item_some))
 
     item_lies : v.frame live.item.page ≡ Some g
     item_lies = find_all by_item (λ r. by_item r ≡ true → v.frame r.page ≡ Some g) v.rows live.item live.first
@@ -85,58 +84,59 @@ module _ {v : PagesView} {k : KeeperView} {dup : DupRow} {node g : ℕ} (may : M
     on_frame = same_Some _ _ (sym item_lies ∙ live.lies)
 
     inside_g : g < frames_of sh
-    inside_g = subst (λ x. x < frames_of sh) (sym on_frame) dup_fits.frame
+    inside_g = rw on_frame dup_fits.frame
 
     stable : n.kind ≡ Stable
-    stable = ap (λ x. (frame_at w.ledger x).kind) on_frame ∙ live.kind
+    stable = rw on_frame live.kind
 
     -- the dup's items are the rows on its frame
     on_it : All (λ r. is_frame g (v.frame r.page) ≡ merged_into dup.number r.state) v.rows
-    on_it i r lt = ap (λ x. is_frame x (v.frame (get_or v.rows i r).page)) on_frame
-        ∙ among (λ d. IsInLife w.ledger d.place → is_frame (place_frame w.ledger d.place) (v.frame (get_or v.rows i r).page)
-        ≡ merged_into d.number (get_or v.rows i r).state) (λ m d less life. lies_as_item p m d less life i r lt) live.life
+    on_it i r lt = rw on_frame
+        (among (λ d. IsInLife w.ledger d.place → is_frame (place_frame w.ledger d.place) (v.frame (get_or v.rows i r).page)
+        ≡ merged_into d.number (get_or v.rows i r).state) (λ m d less life. lies_as_item p m d less life i r lt) live.life)
 
     -- so they go from there
     items_go : (f' : ℕ) → items_on dup.number f' v.rows v.frame ≡ instead g f' v.frame
-    items_go f' = same_frames _ _ (λ page. by page (row_at page v.rows) refl)
+    items_go f' = same_frames _ _ (λ page. by _ _ refl)
       where
         by : (page : GuestPage) (o : Option Row) → row_at page v.rows ≡ o
             → items_on dup.number f' v.rows v.frame page ≡ instead g f' v.frame page
-        by page None none = ap (λ (o : Option Row). if is_item dup.number o then Some f' else v.frame page) none
-            ∙ sym (instead_there g f' v.frame page (λ on. (let e : None ≡ Some g = sym (absent page none) ∙ on in cc)))
+        by page None none = grind (
+          arith,
+          nat_tests,
+          instead_there g f' v.frame page (λ on. (let e : None ≡ Some g = sym (absent page none) ∙ on in cc)),
+        )
         by page (Some r) found =
-            let same = ap (λ q. is_frame g (v.frame q)) (sym (found_page page v.rows r found))
-            ∙ find_all (λ s. same_page s.page page) (λ s. is_frame g (v.frame s.page) ≡ merged_into dup.number s.state) v.rows r found
-            on_it in
+            let same = ap (λ q. is_frame g (v.frame q)) (sym (found_page _ _ r found))
+            ∙ find_all _ (λ s. is_frame g (v.frame s.page) ≡ merged_into dup.number s.state) _ r found on_it in
             ap (λ (b : Bool). if b then Some f' else v.frame page) (ap (is_item dup.number) found ∙ sym same)
 
     base : n.base ≡ item_count v.rows dup
-    base = ap (λ x. (frame_at w.ledger x).base) on_frame
-        ∙ among (λ d. IsInLife w.ledger d.place → (frame_at w.ledger (place_frame w.ledger d.place)).base ≡ item_count v.rows d)
-        (λ i d lt. base_is_items p i d lt) live.life
+    base = rw on_frame
+        (among (λ d. IsInLife w.ledger d.place → (frame_at w.ledger (place_frame w.ledger d.place)).base ≡ item_count v.rows d)
+        (λ i d lt. base_is_items p i d lt) live.life)
 
     bytes : n.content ≡ dup.bytes
-    bytes = ap (λ x. (frame_at w.ledger x).content) on_frame ∙ dup_fits.content live.life
+    bytes = rw on_frame (dup_fits.content live.life)
 
     shape_is : w.table.shape ≡ sh
-    shape_is = shape_same sh k w may.laid.same (ap (λ (z : KeeperView). z.table) to.reaped.after)
+    shape_is = shape_same sh k w may.laid.same (rw to.reaped.after)
 
     -- the frame that the dup is to leave is one of the table and Stable, so the exchange of its count may be tried
     pub may_freeze : (g < frames_of w.table.shape) × (n.kind ≡ Stable)
-    may_freeze = (subst (λ (x : Shape). g < frames_of x) (sym shape_is) inside_g, stable)
+    may_freeze = (rw shape_is inside_g, stable)
 
     lowest : IsLowestFree sh w.ledger node f
-    lowest = subst (λ (x : Shape). IsLowestFree x w.ledger node f) may.laid.same to.lowest
+    lowest = rw (← may.laid.same) to.lowest
 
     inside : f < frames_of sh
-    inside = let end : node * sh.frames_per_node + sh.frames_per_node ≤ frames_of sh = node_end node sh.nodes sh.frames_per_node may.exists in
-        let high = lowest.high in omega (arith, end, high)
+    inside = grind (arith, node_end node sh.nodes sh.frames_per_node may.exists)
 
     within : f < length w.ledger.frames
-    within = let long : length w.ledger.frames ≡ frames_of sh = p.frames_long in let lt = inside in omega (arith, long, lt)
+    within = let long = p.frames_long in let lt = inside in omega arith
 
     within_g : g < length w.ledger.frames
-    within_g = let long : length w.ledger.frames ≡ frames_of sh = p.frames_long in let lt = inside_g in omega (arith, long, lt)
+    within_g = let long = p.frames_long in let lt = inside_g in omega arith
 
     apart : f ≢ g
     apart e = let both : Free ≡ Stable = sym lowest.free ∙ ap (λ x. (frame_at w.ledger x).kind) e ∙ stable in cc
@@ -144,25 +144,23 @@ module _ {v : PagesView} {k : KeeperView} {dup : DupRow} {node g : ℕ} (may : M
     -- the exchange of the old frame's count
     module _ {u : KeeperView} (found : ℕ) (freezes : u ≡ did w (Freeze g) found) where
       by_freeze : MakesSteps w u (Freeze g ∷ [])
-      by_freeze = made_one w u (Freeze g) found freezes
+      by_freeze = made_one w u _ _ freezes
 
       frozen_table : u.table ≡ w.table
-      frozen_table = ap (λ (z : KeeperView). z.table) freezes
+      frozen_table = rw freezes
 
       -- it fails where a reader holds the frame
       module _ (other : count_in found ≢ n.base) where
         still : u.ledger ≡ w.ledger
-        still = ap (λ (z : KeeperView). z.ledger) freezes ∙ ap
-            (λ (b : Bool). cond b (with_frame w.ledger g (record
-            { kind = Dying; base = 0; generation = n.generation; content = n.content })) w.ledger) (ne_eqb (count_in found) n.base other)
+        still = rw (freezes, ne_eqb (count_in found) n.base other)
 
         found_held : FindsHeld (lying v k) (lying v u) v.rows dup node
         found_held = record {
           got = f;
           searched = w;
           finds = to;
-          freezes = subst (λ x. MakesSteps w u (Freeze x ∷ [])) (sym dup_frame_is) by_freeze;
-          kept = ap (λ x. (frame_at u.ledger x).kind) dup_frame_is ∙ ap (λ (z : Ledger). (frame_at z g).kind) still ∙ stable;
+          freezes = rw dup_frame_is by_freeze;
+          kept = rw (dup_frame_is, still) stable;
           frame = refl;
         }
 
@@ -170,9 +168,8 @@ module _ {v : PagesView} {k : KeeperView} {dup : DupRow} {node g : ℕ} (may : M
         laid_lost = record {
           small = may.laid.small;
           same = shape_same sh w u shape_is frozen_table;
-          placed = subst (λ (z : Ledger). Placed sh across z v.rows v.frame dups None) (sym still) p;
-          spent = (let before = may.laid.spent in let more = more_spent in let e : spent u.ledger ≡ spent w.ledger = ap spent still in omega
-              (arith, before, more, e));
+          placed = rw still p;
+          spent = (let before = may.laid.spent in let more = more_spent in let e = ap spent still in omega arith);
         }
 
         -- where the exchange found another count than the keeper's references, the dup stays
@@ -189,43 +186,35 @@ module _ {v : PagesView} {k : KeeperView} {dup : DupRow} {node g : ℕ} (may : M
         dead = record { kind = Dying; base = 0; generation = n.generation; content = n.content }
 
         frozen : u.ledger ≡ with_frame w.ledger g dead
-        frozen = ap (λ (z : KeeperView). z.ledger) freezes ∙ ap (λ (b : Bool). cond b (with_frame w.ledger g dead) w.ledger)
-            (eq-eqb (count_in found) n.base all)
+        frozen = rw (freezes, eq-eqb (count_in found) n.base all)
 
         at_g : frame_at u.ledger g ≡ dead
-        at_g = ap (λ (z : Ledger). frame_at z g) frozen ∙ at_again w.ledger g within_g dead
+        at_g = rw frozen (at_again w.ledger g within_g _)
 
         at_other : (x : ℕ) → x ≢ g → frame_at u.ledger x ≡ frame_at w.ledger x
-        at_other x ne = ap (λ (z : Ledger). frame_at z x) frozen ∙ get_or-set_other w.ledger.frames g x dead blank ne
+        at_other x ne = rw frozen (get_or-set_other w.ledger.frames g x dead blank ne)
 
         -- the place of the dup names the frame that is Dying now
         loose_of : (o : Option Life) → (life_or o).frame ≡ g → IsLoose u.ledger o
         loose_of None e = tt
         loose_of (Some life) e = λ _ kind.
-            let both : Dying ≡ Stable = sym (ap (λ (x : Note). x.kind) at_g) ∙ ap (λ x. (frame_at u.ledger x).kind) (sym e) ∙ kind in cc
+            let both : Dying ≡ Stable = sym (rw at_g) ∙ ap (λ x. (frame_at u.ledger x).kind) (sym e) ∙ kind in cc
 
         -- after the exchange the new frame may take the place of the old one, with as many references as that had
         pub may_mount : {items : ℕ} → items ≡ n.base → MayMount u g f dup.place items
         may_mount is =
-            let same : sh ≡ u.table.shape = sym (shape_same sh w u shape_is frozen_table) in record {
-              exists = subst (λ (x : Shape). f < frames_of x) same inside;
+            let same = sym (shape_same sh w u shape_is frozen_table) in record {
+              exists = rw (← same) inside;
               known = omega (arith, within, ap (λ (z : Ledger). length z.frames) frozen, length-set w.ledger.frames g dead);
-              free = ap (λ (x : Note). x.kind) (at_other f apart) ∙ lowest.free;
-              old = subst (λ (x : Shape). g < frames_of x) same inside_g;
-              dying = ap (λ (x : Note). x.kind) at_g;
-              wide = λ x. dite (ℕ_discrete x g)
-                  (λ e. ap (λ y. length (frame_at u.ledger y).content) e ∙ ap (λ (y : Note). length y.content) at_g ∙ p.widths g)
-                  (λ ne. ap (λ (y : Note). length y.content) (at_other x ne) ∙ p.widths x);
-              at = subst (λ (x : Shape). dup.place < frames_of x) same dup_fits.place;
-              loose = loose_of (named_at u.ledger dup.place) (ap (λ (z : Ledger). place_frame z dup.place) frozen ∙ sym on_frame);
-              some = omega (arith, is, base, item_some);
-              few = omega (
-                arith,
-                is,
-                base,
-                among (λ d. item_count v.rows d ≤ v.knobs.max_page_sharing) may.sound.2.limit,
-                may.sound.2.knobs.max_page_sharing.1,
-              );
+              free = rw (at_other f apart) lowest.free;
+              old = rw (← same) inside_g;
+              dying = rw at_g;
+              wide = λ x. dite (ℕ_discrete x g) (λ e. rw (e, at_g) (p.widths g))
+                  (λ ne. rw (at_other x ne) (p.widths x));
+              at = rw (← same) dup_fits.place;
+              loose = loose_of _ (rw frozen (sym on_frame));
+              some = omega (arith, base, item_some);
+              few = omega (arith, base, among (λ d. item_count v.rows d ≤ v.knobs.max_page_sharing) may.sound.2.limit);
             }
 
         -- and the dup stands on the new frame
@@ -233,11 +222,11 @@ module _ {v : PagesView} {k : KeeperView} {dup : DupRow} {node g : ℕ} (may : M
             (does : MakesSteps u x (mounting g f dup.place items (frame_at u.ledger g).content))
             (knows : x.ledger ≡ once_mounted u.ledger g f dup.place items) where
           mounts : MakesSteps u x (mounting g f dup.place n.base (frame_at u.ledger g).content)
-          mounts = subst (λ y. MakesSteps u x (mounting g f dup.place y (frame_at u.ledger g).content)) items_are does
+          mounts = rw (← items_are) does
 
           module _ (q : PagesView) (goes : q ≡ record v { frame = items_on dup.number f v.rows v.frame }) where
             goes_there : q.frame ≡ instead g f v.frame
-            goes_there = ap (λ (y : PagesView). y.frame) goes ∙ items_go f
+            goes_there = rw goes (items_go f)
 
             moves : (before : KeeperView) × (x ≡ did before (Publish dup.place f) 0) → Moves (lying v k) (lying q x) v.rows dup node
             moves named = record {
@@ -245,13 +234,13 @@ module _ {v : PagesView} {k : KeeperView} {dup : DupRow} {node g : ℕ} (may : M
               searched = w;
               finds = to;
               frozen = u;
-              freezes = subst (λ y. MakesSteps w u (Freeze y ∷ [])) (sym dup_frame_is) by_freeze;
-              stood = ap (λ y. (frame_at w.ledger y).kind) dup_frame_is ∙ stable;
-              exchanged = ap (λ y. (frame_at u.ledger y).kind) dup_frame_is ∙ (may_mount refl).dying;
+              freezes = rw dup_frame_is by_freeze;
+              stood = rw dup_frame_is stable;
+              exchanged = rw dup_frame_is (may_mount refl).dying;
               mounts = subst (λ (z : ℕ × ℕ × List ℕ). MakesSteps u x (mounting z.0 f dup.place z.1 z.2))
                   (λ t. (sym dup_frame_is t, base t, (ap (λ (y : Note). y.content) at_g ∙ bytes) t)) mounts;
               named = named;
-              frame = goes_there ∙ ap (λ y. instead y f v.frame) (sym dup_frame_is);
+              frame = rw dup_frame_is goes_there;
             }
 
             abbrev full : Note
@@ -277,27 +266,27 @@ module _ {v : PagesView} {k : KeeperView} {dup : DupRow} {node g : ℕ} (may : M
             laid_moved_dup : IsLaid q x
             laid_moved_dup =
                 let there = remounted p dup among g f on_frame inside lowest.free live.life stable
-                (λ z. on_node node sh.frames_per_node f lowest.low lowest.high ∙ may.home z ∙ sym (dup_fits.node z)
+                (λ z. on_node _ _ f lowest.low lowest.high ∙ may.home z ∙ sym (dup_fits.node z)
                 ∙ ap (node_of sh) (sym on_frame)) numbers in
-                subst (λ (y : PagesView). IsLaid y x) (sym (goes ∙ ap (λ fr. record v { frame = fr }) (items_go f))) (record {
+                rw (goes ∙ ap (λ fr. record v { frame = fr }) (items_go f)) (record {
                   small = may.laid.small;
-                  same = shape_same sh u x (shape_same sh w u shape_is frozen_table) (ap (λ (z : KeeperView). z.table) mounts.after);
-                  placed = subst (λ (z : Ledger). Placed sh across z v.rows (instead g f v.frame) dups None) (sym ledger_is) there;
+                  same = shape_same sh u x (shape_same sh w u shape_is frozen_table) (rw mounts.after);
+                  placed = rw ledger_is there;
                   spent = spent_still;
                 })
               where
                 spent_still : v.next ≤ spent x.ledger
                 spent_still =
-                    let k1 : Ledger = with_frame w.ledger g dead in
-                    let here : frame_at k1 f ≡ frame_at w.ledger f = get_or-set_other w.ledger.frames g f dead blank apart in
+                    let k1 = with_frame w.ledger g dead in
+                    let here = get_or-set_other w.ledger.frames g f dead blank apart in
                     let same = ap (λ (y : Note). y.generation) here in
                     let past = past_le (frame_at k1 f).kind (frame_at k1 f).generation in
                     let one = spent_kept w.ledger g dead (past_le n.kind n.generation) in
-                    let two = spent_kept k1 f full (omega (arith, same, past)) in
-                    let end : spent x.ledger ≡ spent (with_frame k1 f full) = ap spent ledger_is in
+                    let two = spent_kept k1 f full (omega arith) in
+                    let end = ap spent ledger_is in
                     let before = may.laid.spent in
                     let more = more_spent in
-                    omega (arith, one, two, end, before, more)
+                    omega arith
 
             -- once the new frame is mounted and the items lie there, the dup has moved to a frame of the node
             pub has_remounted : {X : Type 0} {done : X} → (before : KeeperView) × (x ≡ did before (Publish dup.place f) 0)
@@ -312,7 +301,6 @@ module _ {v : PagesView} {k : KeeperView} {dup : DupRow} {node g : ℕ} (may : M
 -- where a dup is to move from a place, a dup stands at that place
 pub taken_place : {v : PagesView} {k : KeeperView} {dup : DupRow} {node : ℕ} → MayMove v k dup node
     → list_any (λ d. d.place == dup.place) v.dups ≡ true
-taken_place {v} {k} {dup} {node} may =
+taken_place {v} {dup = dup} may =
     let at = find_all (λ d. d.place == dup.place && has_items v.rows d) (Contains v.dups) v.dups dup may.live (All-contains_itself v.dups) in
-    list_any_at (λ d. d.place == dup.place) v.dups at.0 dup at.1
-    (ap (λ (d : DupRow). d.place == dup.place) at.2 ∙ eq-eqb dup.place dup.place refl)
+    list_any_at (λ d. d.place == dup.place) v.dups at.0 dup at.1 (rw at.2 (eq-eqb dup.place dup.place refl))

@@ -1,5 +1,5 @@
 -- How a page gets another frame.
-use Rattle.ksm_book.proofs.Names.{ap, arith, change_row, FindsNone, Frames, GuestPage, Houses, IfSome, InPageOrder, is_some, IsKnown, IsLaid, KeeperView, leaving, lies_on, List, MakesSteps, MatchOption, May, None, on_its_own, Option, PagesView, Placed, Provides, refl, Resettled, Row, row_at, Shape, Some, Sub, subst, sym, HasNewFrame, true, TurnedAway, ℕ, ◌<◌, ◌∙◌, ◌≡◌}
+use Rattle.ksm_book.proofs.Names.{ap, arith, change_row, FindsNone, GuestPage, Houses, IfSome, InPageOrder, is_some, IsKnown, IsLaid, KeeperView, leaving, lies_on, List, MakesSteps, MatchOption, May, None, on_its_own, Option, PagesView, Placed, Provides, refl, Resettled, Row, Some, Sub, subst, sym, HasNewFrame, true, TurnedAway, ℕ, ◌<◌, ◌∙◌, ◌≡◌}
 use Rattle.ksm_base.specs.declared.row.PageState.TheVariants.{Private}
 use Rattle.ksm_book.proofs.Shown.{provides_does}
 use Rattle.ksm_book.proofs.Keeping.{left_placed, left_spends, may_leave, searched_placed, searched_spends}
@@ -15,30 +15,29 @@ module _ {p : PagesView} {k w : KeeperView} (h : IsLaid p k) (rise : InPageOrder
   across = p.knobs.merge_across_nodes
 
   houses : Houses (housed node bytes) page node bytes p.rows
-  houses = record { pages = λ r. refl; row = by (row_at page p.rows) known }
+  houses = record { pages = λ r. refl; row = by _ known }
     where
       by : (o : Option Row) → is_some o ≡ true → MatchOption o ⊥ (λ r. ((housed node bytes r).state ≡ Private) × ((housed node bytes r).home ≡ node) × ((housed node bytes r).bytes ≡ bytes))
-      by None none = grind (arith, none)
-      by (Some row) some = (refl, refl, refl)
+      by o none = grind arith
 
   same : w.table.shape ≡ p.shape
-  same = shape_same p.shape k w h.same ((provides_does provides).1.table)
+  same = shape_same _ k w h.same ((provides_does provides).1.table)
 
   -- once the page lies on the frame taken, the one that it had is in the hand
   in_hand : (change : Row → Row) → Houses change page node bytes p.rows → Placed p.shape across w.ledger (change_row page change p.rows) (lies_on page (Some g) p.frame) p.dups (p.frame page)
-  in_hand change by_this = moved_there h.same taken h.placed page change rise by_this
+  in_hand change by_this = moved_there h.same taken h.placed _ _ rise by_this
 
   module _ (left : Option ℕ) (was : left ≡ p.frame page) where
     -- once a page has a new frame in hand, the frame that it had, if it had one, may be left
     pub may_left : IfSome left (λ f. May w (Sub f))
-    may_left = subst (λ o. IfSome o (λ f. May w (Sub f))) (sym was) (may_leave w same (p.frame page) (in_hand (housed node bytes) houses))
+    may_left = rw was (may_leave w same _ (in_hand _ houses))
 
     -- a page that took a frame with its bytes on a node, and left the one that it had, is resettled there
     pub resettled : (q : PagesView) (u : KeeperView) → q ≡ record p { rows = change_row page on_its_own p.rows; frame = lies_on page (Some g) p.frame; restless = q.restless }
         → MakesSteps w u (leaving left) → Resettled p q k u page node bytes
     resettled q u goes made =
         let leaves = subst (λ o. MakesSteps w u (leaving o)) was made in
-        let lies : q.frame ≡ lies_on page (Some g) p.frame = ap (λ (x : PagesView). x.frame) goes in
+        let lies = ap (λ (x : PagesView). x.frame) goes in
         record {
           pages = goes ∙ (λ t. record p { rows = change_row page on_its_own p.rows; frame = sym lies t; restless = q.restless });
           resettles = record {
@@ -48,16 +47,15 @@ module _ {p : PagesView} {k w : KeeperView} (h : IsLaid p k) (rise : InPageOrder
             leaves = leaves;
             frame = lies;
           };
-          placed = λ change by_this. subst (λ (f : Frames). Placed p.shape across u.ledger (change_row page change p.rows) f p.dups None) (sym lies)
-              (left_placed (p.frame page) leaves (in_hand change by_this));
-          spent = (let s = h.spent in let m = taken.spent in let more = left_spends (p.frame page) leaves in omega (arith, s, m, more));
+          placed = λ change by_this. rw lies (left_placed _ leaves (in_hand _ by_this));
+          spent = (let s = h.spent in let m = taken.spent in let more = left_spends _ leaves in omega arith);
         }
 
 -- where no frame of a node was found, pages that lie lawfully are turned away, and no page changed
 pub turned : {p : PagesView} {k w : KeeperView} {node : ℕ} → IsLaid p k → node < p.shape.nodes → FindsNone k w node → TurnedAway p p k w node
-turned {p} {k} {w} {node} h less none = record {
+turned {w = w} h less none = record {
   pages = refl;
   turns = record { searched = none; frame = refl };
-  laid = laid_kept h w (ap (λ (z : KeeperView). z.table) none.reaped.after)
-      (λ across rows frame dups. searched_placed node (subst (λ (s : Shape). node < s.nodes) (sym h.same) less) none.reaped across rows frame dups None) (searched_spends node none.reaped);
+  laid = laid_kept h w (rw none.reaped.after)
+      (λ across rows frame dups. searched_placed _ (rw h.same less) none.reaped _ _ _ _ None) (searched_spends _ none.reaped);
 }

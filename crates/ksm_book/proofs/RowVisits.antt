@@ -1,5 +1,5 @@
 -- The visit of a row, by what is found: what becomes of the book, and what is done to the frames.
-use Rattle.ksm_book.proofs.Names.{[], Add, All, All-contains_itself, and_parts, ap, arith, Best, best_dup, best_dup_has_room, BookState, BookValue, BookView, Bool, change_row, Comes, Contains, doing, DupRow, each_at_page, emptying, false, find_all, find_passes, frame_found, frame_number, Frames, GuestPage, handled, handling, HasRoom, HasStayed, idle, IfSome, if◌then◌else◌, is_best, is_restless, IsDupOf, IsForZero, IsJoined, IsLaid, IsSound, item_count, joining, KeeperStep, KeeperView, leaving, lies_on, List, lying, MakesSteps, mapped, MatchOption, May, MayJoin, Merged, merged_into, merged_state, MOST_REFERENCES, nat_tests, None, not, Option, page_visited, PagesView, paired, pairing, partner, Performs, Placed, Reached, refl, Row, row_at, row_visited, row_visiting, same_Some, shared_state, Some, sound_row_visited, state_of, Sub, subst, sym, true, true≢false, view_of, visited, VisitsPage, Zero, ℕ, ◌-◌, ◌∙◌, ◌∷◌, ◌≡◌, ◌≤◌}
+use Rattle.ksm_book.proofs.Names.{[], Add, All, All-contains_itself, and_parts, ap, arith, Best, best_dup, best_dup_has_room, BookState, BookValue, BookView, Bool, change_row, Comes, Contains, doing, DupRow, each_at_page, emptying, false, find_all, find_passes, frame_found, frame_number, Frames, GuestPage, handled, handling, HasRoom, HasStayed, idle, IfSome, if◌then◌else◌, is_best, is_restless, IsDupOf, IsForZero, IsJoined, IsLaid, IsSound, item_count, joining, KeeperStep, KeeperView, leaving, lies_on, List, lying, MakesSteps, mapped, MatchOption, May, MayJoin, Merged, merged_into, merged_state, MOST_REFERENCES, nat_tests, None, not, Option, page_visited, PagesView, paired, pairing, partner, Performs, Placed, Reached, refl, Row, row_at, row_visited, row_visiting, same_Some, shared_state, Some, sound_row_visited, state_of, Sub, subst, sym, true, view_of, visited, VisitsPage, Zero, ℕ, ◌-◌, ◌∙◌, ◌∷◌, ◌≡◌, ◌≤◌}
 use Rattle.ksm_base.specs.declared.row.PageState.TheVariants.{Private}
 use Rattle.frame_table.specs.Kept.{Did}
 use Rattle.ksm_book.proofs.ByPage.{found_page, row_of_page}
@@ -13,12 +13,11 @@ use Rattle.ksm_book.proofs.Standing.{Lives, lives}
 
 -- where something is told of what an option holds, it holds something, of which that is so
 pub filled_by : {X : Type 0} (P : X → Type 0) (o : Option X) → MatchOption o (true ≡ false) P → (x : X) × (o ≡ Some x) × P x
-filled_by P None told = absurd (true≢false told)
-filled_by P (Some x) told = (x, refl, told)
+filled_by P o told = grind (arith, told)
 
 -- a row that a visit may change has a frame of its own
 pub restless_own : (row : Row) → is_restless row ≡ true → shared_state row.state ≡ false
-restless_own row is = let both = and_parts row.mergeable (not (shared_state row.state)) is in grind (arith, both.1)
+restless_own row is = let both = and_parts row.mergeable (not (shared_state row.state)) is in grind arith
 
 -- to the book and to the frames the visit of a row that a visit may change does what its handling does, by the dup that it may join
 pub visited_by : (b : BookState) (frame : Frames) (row : Row) (o : Option DupRow) → is_restless row ≡ true
@@ -38,9 +37,7 @@ pub stayed_is : (b : BookState) (frame : Frames) (row : Row) (zeroes : Bool) →
     → (row_visited b row ≡ (if zeroes then record b { rows = change_row row.page (λ r. record r { state = Zero }) b.rows } else
     paired (partner b.knobs b.rows row) b row))
     × (row_visiting b frame row ≡ (if zeroes then emptying frame row.page else pairing (partner b.knobs b.rows row) b frame row))
-stayed_is b frame row zeroes stays =
-    let own = restless_own row stays.restless in
-    (rw (own, stays.none, stays.unchanged, stays.zeroes), rw (own, stays.none, stays.unchanged, stays.zeroes))
+stayed_is b frame row zeroes stays = grind (arith, nat_tests, restless_own row stays.restless)
 
 -- ---------------------------------------------------------------- what the visit of a page comes to
 
@@ -51,7 +48,7 @@ at_row P page rows row found is = subst (λ o. MatchOption o (true ≡ false) P)
 
 -- a step of the keeper was made, as its call says
 pub made_by : {v w : KeeperView} {e : KeeperStep} → Did v e w → MakesSteps v w (e ∷ [])
-made_by {v} {w} {e} did = made_one v w e did.0 did.1
+made_by {v} {w} {e} did = made_one v w e _ did.1
 
 -- a book, seen as v, lies lawfully, and something is so of the row of a page
 pub record Meets (P : BookState → Row → Type 0) (p : PagesView) (k : KeeperView) (cursor : Option GuestPage) (passes : ℕ) (v : BookView)
@@ -74,7 +71,7 @@ pub meets : (P : BookState → Row → Type 0) {p : PagesView} {k : KeeperView} 
     {page : GuestPage} → IsSound (state_of p cursor passes) × IsLaid p k → book p k cursor passes ≡ now
     → MatchOption (row_at page now.state.rows) (true ≡ false) (P now.state) → Meets P p k cursor passes now page
 meets P {p} {cursor = cursor} {passes} {page = page} lawful same told =
-    let at = filled_by (P (state_of p cursor passes)) (row_at page p.rows)
+    let at = filled_by _ _
     (subst (λ (x : BookView). MatchOption (row_at page x.state.rows) (true ≡ false) (P x.state)) (sym same) told) in
     record { is = same; sound = lawful.0; laid = lawful.1; row = at.0; found = at.1; so = at.2 }
 
@@ -89,7 +86,7 @@ module _ {P : BookState → Row → Type 0} {p : PagesView} {k : KeeperView} {cu
     {page : GuestPage} (at : Meets P p k cursor passes v page) where
   -- the row that is met is of the page
   pub page_is : at.row.page ≡ page
-  page_is = found_page page p.rows at.row at.found
+  page_is = found_page _ _ _ at.found
 
   -- the row that is met is found at its own page
   pub there_is : row_at at.row.page p.rows ≡ Some at.row
@@ -101,15 +98,13 @@ module _ {P : BookState → Row → Type 0} {p : PagesView} {k : KeeperView} {cu
       → Performs (lying p k) (lying q l) (row_visiting (state_of p cursor passes) p.frame at.row) → Leads v q l cursor passes page
   leads q l restless laid state does = record {
     lawful = (
-      subst IsSound (sym state) (sound_row_visited (state_of p cursor passes) at.row (record {
-        mergeable = (and_parts at.row.mergeable (not (shared_state at.row.state)) restless).0;
-        once = row_of_page at.row.page p.rows at.row at.sound.rows_rise there_is;
+      subst IsSound (sym state) (sound_row_visited _ _ (record {
+        mergeable = (and_parts _ _ restless).0;
+        once = row_of_page _ _ _ at.sound.rows_rise there_is;
       }) at.sound),
       laid,
     );
-    visits = subst (λ (x : BookView). VisitsPage x (book q l cursor passes) page) at.is
-        (subst (λ o. MatchOption o (true ≡ false) (λ r. (state_of q cursor passes ≡ row_visited (state_of p cursor passes) r)
-        × Performs (lying p k) (lying q l) (row_visiting (state_of p cursor passes) p.frame r))) (sym at.found) (state, does));
+    visits = rw (← at.is) (rw at.found (state, does));
   }
 
 -- where the row of a page was visited, with what that does to the frames, the visit of the page was reached
@@ -118,14 +113,12 @@ pub visit_comes : (v w : BookValue) (page : GuestPage) (row : Row) → row_at pa
     → Performs (mapped (view_of v)) (mapped (view_of w)) (row_visiting v.state (view_of v).frame row) → Comes v w
     (λ s. page_visited doing s page)
 visit_comes v w page row found restless state does = λ from s before.
-    let is : page_visited doing s page ≡ (row_visited s.0 row, doing s.0 s.1 row) =
-    ap (visited doing s) (ap (λ (b : BookState). row_at page b.rows) (sym before.0) ∙ found) ∙ ap
+    let is = ap (visited doing s) (ap (λ (b : BookState). row_at page b.rows) (sym before.0) ∙ found) ∙ ap
     (λ t. if t then (row_visited s.0 row, doing s.0 s.1 row) else s) restless in
-    let there : Performs (mapped (view_of v)) (mapped (view_of w)) (row_visiting s.0 s.1.frame row) =
-    subst (λ (z : BookState × Frames). Performs (mapped (view_of v)) (mapped (view_of w)) (row_visiting z.0 z.1 row))
+    let there = subst (λ (z : BookState × Frames). Performs (mapped (view_of v)) (mapped (view_of w)) (row_visiting z.0 z.1 row))
     (λ t. (before.0 t, before.1.frame t)) does in
     subst (Reached from w) (sym is) (
-      state ∙ ap (λ (b : BookState). row_visited b row) before.0,
+      rw (← before.0) state,
       record {
         made = made_then before.1.made there.made;
         frame = there.frame;
@@ -138,7 +131,7 @@ visit_comes v w page row found restless state does = λ from s before.
 best_has_item : (b : BookState) (row : Row) (dup : DupRow) → best_dup b.knobs b.rows b.dups row ≡ Some dup → 1 ≤ item_count b.rows dup
 best_has_item b row dup found =
     let best = find_passes (is_best b.knobs b.rows b.dups row) b.dups dup found in
-    grind (arith, nat_tests, best)
+    grind arith
 
 module _ (best : Best) {p : PagesView} {k : KeeperView} {cursor : Option GuestPage} {passes : ℕ} {v : BookView} {page : GuestPage}
     (at : Meets (λ b. MayJoin b best) p k cursor passes v page) where
@@ -148,50 +141,50 @@ module _ (best : Best) {p : PagesView} {k : KeeperView} {cursor : Option GuestPa
   module _ (g : ℕ) (lies : All (λ d. d.place ≡ best.place → All (λ r. merged_into d.number r.state ≡ true → p.frame r.page ≡ Some g) p.rows)
       p.dups) where
     told : (d : DupRow) × (best_dup p.knobs p.rows p.dups row ≡ Some d) × ((best.number ≡ d.number) × (best.place ≡ d.place))
-    told = filled_by (λ d. (best.number ≡ d.number) × (best.place ≡ d.place)) (best_dup p.knobs p.rows p.dups row) at.so.1
+    told = filled_by _ _ at.so.1
 
     abbrev dup : DupRow
     dup = told.0
 
     -- what holds of all dups holds of this one, and what holds of all rows of its first item
     among : (P : DupRow → Type 0) → All P p.dups → P dup
-    among P all = find_all (is_best p.knobs p.rows p.dups row) P p.dups dup told.1 all
+    among P all = find_all _ P _ dup told.1 all
 
     live : Lives k.ledger p.dups p.shape p.rows p.frame dup
     live = among (λ d. (item_count p.rows d ≡ 0 → ⊥) → Lives k.ledger p.dups p.shape p.rows p.frame d) (lives at.laid.placed)
-        (λ none. let some = best_has_item (state_of p cursor passes) row dup told.1 in omega (arith, none, some))
+        (λ none. let some = best_has_item (state_of p cursor passes) row dup told.1 in omega arith)
 
     abbrev item : Row
     item = live.item
 
     of_item : (P : Row → Type 0) → All P p.rows → P item
-    of_item P all = find_all (λ r. merged_into dup.number r.state) P p.rows item live.first all
+    of_item P all = find_all _ P _ _ live.first all
 
     item_merged : merged_state item.state ≡ true
-    item_merged = ap merged_state (state_of_item dup.number item.state live.merged)
+    item_merged = ap merged_state (state_of_item _ _ live.merged)
 
     found_item : row_at item.page p.rows ≡ Some item
-    found_item = of_item (λ r. row_at r.page p.rows ≡ Some r) (each_at_page p.rows at.sound.rows_rise)
+    found_item = of_item (λ r. row_at r.page p.rows ≡ Some r) (each_at_page _ at.sound.rows_rise)
 
     there : p.frame item.page ≡ Some g
     there = of_item (λ r. merged_into dup.number r.state ≡ true → p.frame r.page ≡ Some g) (among (λ d. d.place ≡ best.place → All
         (λ r. merged_into d.number r.state ≡ true → p.frame r.page ≡ Some g) p.rows) lies (sym told.2.1)) live.merged
 
     joins : IsJoined (state_of p cursor passes) row dup
-    joins = best_dup_has_room (state_of p cursor passes) row dup at.sound told.1
+    joins = best_dup_has_room _ row dup at.sound told.1
 
     same_bytes : row.bytes ≡ item.bytes
     same_bytes =
         let its = of_item (λ r. (number : ℕ) → r.state ≡ Merged number → (d : DupRow) × IsDupOf p.knobs p.dups r number d) at.sound.items
-        dup.number (state_of_item dup.number item.state live.merged) in
-        let same : its.0 ≡ dup = same_Some its.0 dup (sym its.1.stands ∙ joins.stands) in
+        dup.number (state_of_item _ _ live.merged) in
+        let same = same_Some _ dup (sym its.1.stands ∙ joins.stands) in
         sym joins.bytes ∙ ap (λ (d : DupRow). d.bytes) (sym same) ∙ its.1.bytes
 
     few : item_count p.rows dup ≤ MOST_REFERENCES - 1
-    few = (let r = joins.room in let m = at.sound.knobs.max_page_sharing.1 in omega (arith, r, m))
+    few = (let r = joins.room in let m = at.sound.knobs.max_page_sharing.1 in omega arith)
 
     stands : Contains p.dups dup
-    stands = among (Contains p.dups) (All-contains_itself p.dups)
+    stands = among (Contains p.dups) (All-contains_itself _)
 
     -- the dup that a page is to join has room for one item more
     pub has_room : HasRoom p.rows p.dups best.number
@@ -199,20 +192,20 @@ module _ (best : Best) {p : PagesView} {k : KeeperView} {cursor : Option GuestPa
 
     -- a reference may come to the frame of the dup that a page is to join
     pub may_add : May k (Add g)
-    may_add = join_may at.laid at.sound.rows_rise page row item at.found found_item g there
+    may_add = join_may at.laid at.sound.rows_rise _ row _ at.found found_item g there
         item_merged dup stands live.merged few
 
     abbrev change : Row → Row
     change r = record r { state = Merged best.number }
 
     state_is : Merged best.number ≡ item.state
-    state_is = ap Merged told.2.0 ∙ sym (state_of_item dup.number item.state live.merged)
+    state_is = ap Merged told.2.0 ∙ sym (state_of_item _ _ live.merged)
 
     module _ (lone : ℕ) (left : p.frame page ≡ Some lone) where
       -- once a reference came to the dup's frame, the joining page's own frame may be left
       pub may_sub : {w : KeeperView} → MakesSteps k w (Add g ∷ []) → May w (Sub lone)
       may_sub {w} comes = subst (λ o. IfSome o (λ f. May w (Sub f))) left
-          (may_part at.laid at.sound.rows_rise page row item at.found found_item g there item_merged
+          (may_part at.laid at.sound.rows_rise _ row _ at.found found_item g there item_merged
           change (λ r. refl) state_is same_bytes w comes)
 
       module _ {w l : KeeperView} (comes : MakesSteps k w (Add g ∷ [])) (leaves : MakesSteps w l (Sub lone ∷ [])) (q : PagesView)
@@ -220,31 +213,32 @@ module _ (best : Best) {p : PagesView} {k : KeeperView} {cursor : Option GuestPa
           (frame : All (λ r. merged_into best.number r.state ≡ true → q.frame ≡ lies_on page (p.frame r.page) p.frame) p.rows) where
         frame_is : q.frame ≡ lies_on page (Some g) p.frame
         frame_is =
-            of_item (λ r. merged_into best.number r.state ≡ true → q.frame ≡ lies_on page (p.frame r.page) p.frame) frame
-            (ap (λ n. merged_into n item.state) told.2.0 ∙ live.merged) ∙ ap (λ o. lies_on page o p.frame) there
+            rw (← there)
+            (of_item (λ r. merged_into best.number r.state ≡ true → q.frame ≡ lies_on page (p.frame r.page) p.frame) frame
+            (ap (λ n. merged_into n item.state) told.2.0 ∙ live.merged))
 
         q_is : q ≡ record p { rows = change_row page change p.rows; frame = lies_on page (Some g) p.frame }
-        q_is = goes ∙ (λ t. record p { rows = change_row page change p.rows; frame = frame_is t })
+        q_is = grind (arith, nat_tests, frame_is)
 
         steps : MakesSteps k l (Add g ∷ leaving (p.frame page))
-        steps = subst (λ o. MakesSteps k l (Add g ∷ leaving o)) (sym left) (made_then comes leaves)
+        steps = rw left (made_then comes leaves)
 
         deed_is : row_visiting (state_of p cursor passes) p.frame row ≡ joining p.frame page g
-        deed_is = (visited_by (state_of p cursor passes) p.frame row (Some dup) at.so.0 told.1).1
+        deed_is = (visited_by (state_of p cursor passes) _ row _ at.so.0 told.1).1
             ∙ (λ t. joining p.frame (page_is at t) ((ap (frame_found p.frame) live.first ∙ ap frame_number there) t))
 
         -- once the page is an item of the dup and lies on the dup's frame, the book is what the visit leads to
         pub joined_leads : Leads v q l cursor passes page
         joined_leads = leads at q l at.so.0
-            (subst (λ (x : PagesView). IsLaid x l) (sym q_is)
-            (laid_joined at.laid at.sound.rows_rise page row item at.found found_item g there
-            item_merged change (λ r. refl) state_is same_bytes l p.restless steps))
-            (ap (λ (x : PagesView). state_of x cursor passes) q_is
-            ∙ (λ t. record (state_of p cursor passes) {
+            (rw q_is
+            (laid_joined at.laid at.sound.rows_rise _ row _ at.found found_item g there
+            item_merged _ (λ r. refl) state_is same_bytes l _ steps))
+            (rw q_is
+            ((λ t. record (state_of p cursor passes) {
               rows = change_row (sym (page_is at) t) (λ r. record r { state = Merged (told.2.0 t) })
                   p.rows;
             })
-            ∙ sym (visited_by (state_of p cursor passes) p.frame row (Some dup) at.so.0 told.1).0)
+            ∙ sym (visited_by _ p.frame row _ at.so.0 told.1).0))
             (subst (Performs (lying p k) (lying q l)) (sym deed_is) (record { made = steps; frame = frame_is }))
 
 -- ---------------------------------------------------------------- a page becomes Zero
@@ -256,11 +250,11 @@ module _ {p : PagesView} {k : KeeperView} {cursor : Option GuestPage} {passes : 
 
   zero_hand : Placed p.shape p.knobs.merge_across_nodes k.ledger (change_row page zeroed p.rows) (lies_on page None p.frame) p.dups
       (p.frame page)
-  zero_hand = swapped None page zeroed at.row at.sound.rows_rise at.found (λ r. refl) at.laid.placed refl
+  zero_hand = swapped None _ _ _ at.sound.rows_rise at.found (λ r. refl) at.laid.placed refl
 
   -- the frame of a page that is to become Zero may be left
   pub may_empty : {left : Option ℕ} → left ≡ p.frame page → IfSome left (λ f. May k (Sub f))
-  may_empty was = subst (λ o. IfSome o (λ f. May k (Sub f))) (sym was) (may_leave k at.laid.same (p.frame page) zero_hand)
+  may_empty was = rw was (may_leave k at.laid.same _ zero_hand)
 
   -- once the page is Zero and has left its frame, the book is what the visit leads to
   pub zero_leads : (q : PagesView) {l : KeeperView} {left : Option ℕ} → left ≡ p.frame page → MakesSteps k l (leaving left)
@@ -269,10 +263,9 @@ module _ {p : PagesView} {k : KeeperView} {cursor : Option GuestPage} {passes : 
       let b = state_of p cursor passes in
       let leaves = subst (λ o. MakesSteps k l (leaving o)) was made in
       leads at q l at.so.restless
-      (subst (λ (x : PagesView). IsLaid x l) (sym goes)
-      (laid_rows at.laid (change_row page zeroed p.rows) (lies_on page None p.frame) p.restless l
-      (ap (λ (z : KeeperView). z.table) leaves.after) (left_spends (p.frame page) leaves) (left_placed (p.frame page) leaves zero_hand)))
-      (ap (λ (x : PagesView). state_of x cursor passes) goes ∙ (λ t. record b { rows = change_row (sym (page_is at) t) zeroed p.rows }) ∙
-      sym (stayed_is b p.frame at.row true at.so).0)
-      (subst (Performs (lying p k) (lying q l)) (sym ((stayed_is b p.frame at.row true at.so).1 ∙ ap (emptying p.frame) (page_is at)))
-      (record { made = leaves; frame = ap (λ (x : PagesView). x.frame) goes }))
+      (rw goes (laid_rows at.laid _ _ _ l (rw leaves.after) (left_spends _ leaves) (left_placed _ leaves zero_hand)))
+      (rw goes
+      ((λ t. record b { rows = change_row (sym (page_is at) t) zeroed p.rows }) ∙
+      sym (stayed_is b p.frame _ true at.so).0))
+      (subst (Performs (lying p k) (lying q l)) (sym ((stayed_is b _ _ true at.so).1 ∙ ap (emptying p.frame) (page_is at)))
+      (record { made = leaves; frame = rw goes }))

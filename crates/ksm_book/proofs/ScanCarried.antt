@@ -1,5 +1,5 @@
 -- A scan carried out: what its visits come to is what the command promises.
-use Rattle.ksm_book.proofs.Names.{[], ap, arith, BookValue, IsCarried, Comes, Deed, doing, Done, false, Fault, HasScanned, IsScanned, length, List, list_any, list_any_none, MakesSteps, Memory, mergeable_pages, None, none_counted, Ok, Option, Reply, Row, Scan, scan_stopped, Scanned, Some, subst, sym, true, view_of, visits_beside, ℕ, ◌∙◌, ◌∷◌, ◌≡◌, ◌≤◌, if◌then◌else◌}
+use Rattle.ksm_book.proofs.Names.{[], ap, arith, BookValue, IsCarried, Comes, Deed, doing, Done, false, Fault, HasScanned, IsScanned, length, List, list_any, list_any_none, MakesSteps, mergeable_pages, None, none_counted, Ok, Option, Reply, Row, Scan, scan_stopped, Scanned, Some, subst, sym, true, view_of, visits_beside, ℕ, ◌∙◌, ◌∷◌, ◌≡◌, ◌≤◌}
 use Rattle.ksm_book.proofs.Doing.{scanning_is}
 use Rattle.ksm_book.proofs.Folded.{beside_state}
 use Rattle.ksm_book.proofs.Listed.{some_pages}
@@ -9,8 +9,8 @@ use Rattle.ksm_book.proofs.Reached.{begins, first}
 
 -- where there are pages to visit, some row is mergeable
 any_some : (rows : List Row) → 1 ≤ length (mergeable_pages rows) → list_any (λ r. r.mergeable) rows ≡ true
-any_some [] some = absurd (omega (arith, some))
-any_some (r ∷ rows) some = let rest = any_some rows in grind (arith, some, rest)
+any_some [] some = absurd (omega arith)
+any_some (r ∷ rows) some = let rest = any_some rows in grind arith
 
 -- where no page is mergeable, no row is
 pub any_none : (rows : List Row) → length (mergeable_pages rows) ≡ 0 → list_any (λ r. r.mergeable) rows ≡ false
@@ -29,16 +29,14 @@ module _ (v w : BookValue) (count : ℕ) (running : v.state.knobs.run ≡ 1) (ta
         own = table;
         answer = rw running is;
         state = there.0 ∙ ap (scan_stopped stop) (beside_state doing made (first v));
-        steps = record { made = steps; frame = there.1.frame ∙ ap (λ (d : Deed). d.frame) deed };
+        steps = record { made = steps; frame = rw (← deed) there.1.frame };
       }
 
   -- `Scan` is carried out where there is a page to visit and the visits that it replies were made
   pub visits_carried : (reply : Reply) → 1 ≤ length (mergeable_pages v.state.rows) → HasScanned v w count reply
       → IsCarried (view_of v) (view_of w) (Scan count) (Ok reply)
-  visits_carried (Scanned made None) some did =
-      scanned made None (did.0 ∙ ap (λ b. if b then count else 0) (sym (any_some v.state.rows some))) did.1
+  visits_carried (Scanned made None) some did = scanned _ None (rw (any_some v.state.rows some) did.0) did.1
   visits_carried (Scanned made (Some fault)) some did =
-      subst (λ f. IsCarried (view_of v) (view_of w) (Scan count) (Ok (Scanned made (Some f)))) (sym did.0)
-      (scanned made (Some Memory) (any_some v.state.rows some, did.1.fewer) did.1.comes)
+      rw did.0 (scanned _ _ (any_some v.state.rows some, did.1.fewer) did.1.comes)
   visits_carried Done some did = absurd did
   visits_carried _ some did = absurd did

@@ -1,6 +1,6 @@
 -- What becomes of the layout where rows change together, join a dup, or make or lose one.
 use Rattle.ksm_base.specs.declared.limits.TheConstants.{MOST_FRAMES, MOST_LIVES, MOST_REFERENCES}
-use Rattle.ksm_book.proofs.Names.{[], Add, All, All-filter, ap, arith, blank, Bool, both_ways, cases_Bool, change_row, Contains, count_by, count_none, did, DupRow, elsewhere, eq-eqb, eqb-true, false, filter, filter_passes, find, find_all, find_none, find_passes, FitsBase, frame_at, Frames, frames_at_most, frames_of, get_or, get_or-set_same, get_or_default, GuestPage, IfSome, if◌then◌else◌, inl, InPageOrder, inr, IsInLife, IsLaid, IsLoose, IsServed, IsVacant, item_count, KeeperView, Kind, kind_for, Knobs, leaving, Ledger, ledger_after, length, lies_on, Life, life_or, List, list_any, Listing, MakesSteps, May, Merged, merged_into, merged_state, named_at, nat_lt, nat_tests, None, none_found, not-true, Note, Option, PageState, PagesView, past_lives, place_frame, Placed, Private, Publish, refl, Row, row_at, RowFits, set, set-get_or, settled, settled_state, Shape, shared_state, Some, spent, spent_on, Stable, Sub, subst, sum_by-le, sym, tree_of, true, Waiting, with_dup, with_frame, Withdraw, withdrawing, ℕ, ◌*◌, ◌++◌, ◌+◌, ◌-◌, ◌<◌, ◌==◌, ◌∙◌, ◌∷◌, ◌≡◌, ◌≢◌, ◌≤◌, ◌⊎◌}
+use Rattle.ksm_book.proofs.Names.{[], Add, All, All-filter, ap, arith, blank, Bool, both_ways, cases_Bool, change_row, Contains, count_by, count_none, did, DupRow, elsewhere, eq-eqb, eqb-true, false, filter, filter_passes, find, find_all, find_none, find_passes, FitsBase, frame_at, Frames, frames_at_most, frames_of, get_or, get_or-set_same, get_or_default, GuestPage, IfSome, if◌then◌else◌, inl, InPageOrder, inr, IsInLife, IsLaid, IsLoose, IsServed, IsVacant, item_count, KeeperView, Kind, kind_for, Knobs, leaving, Ledger, ledger_after, length, lies_on, Life, life_or, List, list_any, Listing, MakesSteps, May, Merged, merged_into, merged_state, named_at, nat_lt, nat_tests, None, none_found, not-true, Note, Option, PageState, PagesView, place_frame, Placed, Private, Publish, refl, Row, row_at, RowFits, set, set-get_or, settled, settled_state, Shape, shared_state, Some, spent, spent_on, Stable, Sub, subst, sum_by-le, sym, tree_of, true, with_dup, with_frame, Withdraw, withdrawing, ℕ, ◌*◌, ◌++◌, ◌+◌, ◌-◌, ◌<◌, ◌==◌, ◌∙◌, ◌∷◌, ◌≡◌, ◌≢◌, ◌≤◌, ◌⊎◌}
 use Rattle.ksm_book.proofs.Moves.{Serves, joined, published, base_is_items, stale_is_loose}
 use Rattle.ksm_book.proofs.Laying.{LodgesAs, laid_rows, own_kind, served_at, shape_same}
 use Rattle.ksm_book.proofs.Keeping.{added_placed, added_spends, left_placed, left_spends, lives_most, may_leave, past_le, spent_set}
@@ -8,21 +8,19 @@ use Rattle.ksm_book.proofs.Made.{none_made, parts_made, step_made}
 use Rattle.ksm_book.proofs.Withdrawn.{withdrawn}
 
 merged_as : (s : PageState) → merged_state s ≡ true → (n : ℕ) × (s ≡ Merged n)
-merged_as (Merged d) e = (d, refl)
-merged_as _ e = absurd (grind (arith, e))
+merged_as s e = grind arith
 
 -- the state of an item of a dup is Merged with the dup's number
 pub state_of_item : (n : ℕ) (s : PageState) → merged_into n s ≡ true → s ≡ Merged n
-state_of_item n (Merged d) e = ap Merged (eqb-true d n e)
-state_of_item n _ e = absurd (grind (arith, e))
+state_of_item n s e = grind arith
 
 -- where a test counts one element at least, a search for it finds one
 pub first_found : {X : Type 0} (t : X → Bool) (xs : List X) → 1 ≤ count_by t xs → (x : X) × (find t xs ≡ Some x)
-first_found t xs some = by (find t xs) refl
+first_found t xs some = by _ refl
   where
     by : (o : Option _) → find t xs ≡ o → (x : _) × (find t xs ≡ Some x)
     by (Some x) found = (x, found)
-    by None none = absurd (let zero' = count_none t xs (find_none t xs none) in omega (arith, zero', some))
+    by None none = absurd (let zero' = count_none t xs (find_none t xs none) in omega arith)
 
 -- a page joins the dup of an item
 module _ {p : PagesView} {k : KeeperView} (h : IsLaid p k) (rise : InPageOrder p.rows) (page : GuestPage) (row item : Row)
@@ -32,22 +30,22 @@ module _ {p : PagesView} {k : KeeperView} (h : IsLaid p k) (rise : InPageOrder p
   across = p.knobs.merge_across_nodes
 
   item_fits : Serves p.shape k.ledger p.dups item g
-  item_fits = subst (IsServed p.shape k.ledger p.dups item) there (served_at h.placed item.page item found_item)
+  item_fits = subst (IsServed p.shape k.ledger p.dups item) there (served_at h.placed _ _ found_item)
 
   item_stable : (frame_at k.ledger g).kind ≡ Stable
-  item_stable = item_fits.0.kind ∙ ap kind_for (merged_as item.state merged).1
+  item_stable = item_fits.0.kind ∙ ap kind_for (merged_as _ merged).1
 
   -- one reference more may come to an item's frame, where its dup has room for one item more
   pub may_join : (d : DupRow) → Contains p.dups d → merged_into d.number item.state ≡ true → item_count p.rows d ≤ MOST_REFERENCES - 1 → May k (Add g)
   may_join d stands into few =
-      let n : ℕ = stands.0 in
-      let is : get_or p.dups n d ≡ d = stands.2 in
-      let a = (item_fits.1 n d stands.1).item (ap (λ (x : DupRow). merged_into x.number item.state) is ∙ into) in
+      let n = stands.0 in
+      let is = stands.2 in
+      let a = (item_fits.1 n d stands.1).item (rw is into) in
       let base = ap (λ x. (frame_at k.ledger x).base) a.0 ∙ base_is_items h.placed n d
       stands.1 a.1 ∙ ap (item_count p.rows) is in (
-        subst (λ (x : Shape). g < frames_of x) (sym h.same) item_fits.0.frame,
+        rw h.same item_fits.0.frame,
         subst (λ (x : Kind). FitsBase x (frame_at k.ledger g).base) item_stable (h.placed.kinds g),
-        subst (λ x. x ≤ MOST_REFERENCES - 1) (sym base) few,
+        rw base few,
       )
 
   module _ (c : Row → Row) (keeps : (r : Row) → (c r).page ≡ r.page) (state : (c row).state ≡ item.state)
@@ -57,23 +55,22 @@ module _ {p : PagesView} {k : KeeperView} (h : IsLaid p k) (rise : InPageOrder p
         (lies_on page (Some g) p.frame) p.dups (p.frame page)
     joined_hand w comes =
         let q = added_placed comes item_stable item_fits.0.frame h.placed in
-        joined page row item g c rise found keeps
-        (subst (IsServed p.shape w.ledger p.dups item) there (served_at q item.page item found_item)) state bytes
-        (ap shared_state (merged_as item.state merged).1) q
+        joined _ row _ g c rise found keeps
+        (subst (IsServed p.shape w.ledger p.dups item) there (served_at q _ _ found_item)) state bytes
+        (ap shared_state (merged_as _ merged).1) q
 
     -- once a reference came to the item's frame, the frame of the page that joins, if it has one, may be left
     pub may_part : (w : KeeperView) → MakesSteps k w (Add g ∷ []) → IfSome (p.frame page) (λ f. May w (Sub f))
-    may_part w comes = may_leave w (shape_same p.shape k w h.same (ap (λ (z : KeeperView). z.table) comes.after)) (p.frame page) (joined_hand w comes)
+    may_part w comes = may_leave w (shape_same _ k w h.same (rw comes.after)) _ (joined_hand w comes)
 
     -- rows and dups lie lawfully once a page is an item, lies on the item's frame and has left its own
     pub laid_joined : (u : KeeperView) (restless : Listing) → MakesSteps k u (Add g ∷ leaving (p.frame page))
         → IsLaid (record p { rows = change_row page c p.rows; frame = lies_on page (Some g) p.frame; restless = restless }) u
     laid_joined u restless m =
-        let parts = parts_made (Add g ∷ []) (leaving (p.frame page)) m in
+        let parts = parts_made _ _ m in
         let more = added_spends parts.1 in
-        let more' = left_spends (p.frame page) parts.2 in
-        laid_rows h (change_row page c p.rows) (lies_on page (Some g) p.frame) restless u (ap (λ (z : KeeperView). z.table) m.after)
-        (omega (arith, more, more')) (left_placed (p.frame page) parts.2 (joined_hand parts.0 parts.1))
+        let more' = left_spends _ parts.2 in
+        laid_rows h _ _ _ u (rw m.after) (omega arith) (left_placed _ parts.2 (joined_hand _ parts.1))
 
 -- a place where no dup with items stands may be named anew, or not at all
 module _ (k : Ledger) where
@@ -84,22 +81,22 @@ module _ (k : Ledger) where
 
 has_none : (place : ℕ) (dups : List DupRow) → list_any (λ d. d.place == place) dups ≡ false → All (λ d. d.place ≢ place) dups
 has_none place dups e k x lt same =
-    both_ways ((get_or dups k x).place == place) (find_none (λ d. d.place == place) dups (none_found _ dups e) k x lt) (eq-eqb _ _ same)
+    both_ways ((get_or dups k x).place == place) (find_none (λ d. d.place == place) _ (none_found _ dups e) k x lt) (eq-eqb _ _ same)
 
 -- a place where no dup with items stands names no frame that is Stable in the life named
 pub vacant_loose : {sh : Shape} {across : ℕ} {k : Ledger} {rows : List Row} {frame : Frames} {dups : List DupRow} (place : ℕ)
     → Placed sh across k rows frame dups None → IsVacant place rows dups → IsLoose k (named_at k place)
-vacant_loose {k = k} {dups = dups} place p vacant = by (find (λ d. d.place == place) dups) refl
+vacant_loose {k = k} {dups = dups} place p vacant = by _ refl
   where
     Loose : ℕ → Type 0
     Loose q = IsInLife k q → ¬ ((frame_at k (place_frame k q)).kind ≡ Stable)
 
     by : (o : Option DupRow) → find (λ d. d.place == place) dups ≡ o → IsLoose k (named_at k place)
     by None none = subst (IsLoose k) (sym (p.empty place (λ n x lt same. both_ways ((get_or dups n x).place == place)
-        (find_none (λ d. d.place == place) dups none n x lt) (eq-eqb _ _ same)))) tt
-    by (Some d) found = loose_named k (named_at k place) (subst Loose (eqb-true d.place place (find_passes (λ e. e.place == place) dups d found))
+        (find_none _ _ none n x lt) (eq-eqb _ _ same)))) tt
+    by (Some d) found = loose_named k _ (subst Loose (eqb-true d.place place (find_passes (λ e. e.place == place) _ d found))
         (find_all (λ e. e.place == place) (λ e. e.place ≡ place → Loose e.place) dups d found
-        (λ n x lt same. stale_is_loose p n x lt (vacant n x lt same)) (eqb-true d.place place (find_passes (λ e. e.place == place) dups d found))))
+        (λ n x lt same. stale_is_loose p n x lt (vacant n x lt same)) (eqb-true d.place place (find_passes (λ e. e.place == place) _ d found))))
 
 -- what a vacant place names is withdrawn, and then it names nothing
 module _ {p : PagesView} {k : KeeperView} (w : KeeperView) (h : IsLaid p k) (place : ℕ) (inside : place < frames_of p.shape)
@@ -107,20 +104,20 @@ module _ {p : PagesView} {k : KeeperView} (w : KeeperView) (h : IsLaid p k) (pla
   -- what is named by a place where no dup with items stands may be withdrawn
   pub may_clear : May k (Withdraw place)
   may_clear = (
-    subst (λ (s : Shape). place < frames_of s) (sym h.same) inside,
-    vacant_loose place h.placed vacant,
+    rw h.same inside,
+    vacant_loose _ h.placed vacant,
   )
 
   -- once what a vacant place names is withdrawn, the place names nothing, and the keeper knows the rest as it was
   pub cleared_ledger : MakesSteps k w (withdrawing p.dups place) → w.ledger ≡ record
       { frames = k.ledger.frames; places = set k.ledger.places place None }
   cleared_ledger m = elim (cases_Bool (list_any (λ d. d.place == place) p.dups)) [
-    | inl taken ↦ ap (λ (z : KeeperView). z.ledger) (step_made
+    | inl taken ↦ rw (step_made
         (subst (λ (b : Bool). MakesSteps k w (if b then Withdraw place ∷ [] else [])) taken m)).1
     | inr none ↦
-        let empty = h.placed.empty place (has_none place p.dups none) in
-        ap (λ (z : KeeperView). z.ledger) (none_made (subst (λ (b : Bool). MakesSteps k w (if b then Withdraw place ∷ [] else [])) none m))
-        ∙ (λ t. record {
+        let empty = h.placed.empty place (has_none _ _ none) in
+        rw (none_made (subst (λ (b : Bool). MakesSteps k w (if b then Withdraw place ∷ [] else [])) none m))
+        (λ t. record {
           frames = k.ledger.frames;
           places = sym
               (ap (set k.ledger.places place) (sym empty) ∙ set-get_or k.ledger.places place None) t;
@@ -133,25 +130,24 @@ pub laid_cleared : {p : PagesView} {k : KeeperView} (w : KeeperView) (place : �
     → IsLaid (record p { dups = filter (elsewhere place) p.dups }) w
 laid_cleared {p} {k} w place h inside e is = record {
   small = h.small;
-  same = shape_same p.shape k w h.same e;
-  placed = subst (λ (z : Ledger). Placed p.shape p.knobs.merge_across_nodes z p.rows p.frame (filter (elsewhere place) p.dups) None)
-      (sym is) (withdrawn place inside h.placed);
-  spent = (let same : spent w.ledger ≡ spent k.ledger = ap spent is in let s = h.spent in omega (arith, same, s));
+  same = shape_same _ k w h.same e;
+  placed = rw is (withdrawn _ inside h.placed);
+  spent = (let same = ap spent is in let s = h.spent in omega arith);
 }
 
 -- what is above or below a place is elsewhere
 below_elsewhere : (place : ℕ) (ds : List DupRow) → filter (λ d. nat_lt d.place place) (filter (elsewhere place) ds) ≡ filter
     (λ d. nat_lt d.place place) ds
 below_elsewhere place [] = refl
-below_elsewhere place (d ∷ ds) = grind (arith, nat_tests, below_elsewhere place ds)
+below_elsewhere place (d ∷ ds) = grind (arith, below_elsewhere place ds)
 
 above_elsewhere : (place : ℕ) (ds : List DupRow) → filter (λ d. nat_lt place d.place) (filter (elsewhere place) ds) ≡ filter
     (λ d. nat_lt place d.place) ds
 above_elsewhere place [] = refl
-above_elsewhere place (d ∷ ds) = grind (arith, nat_tests, above_elsewhere place ds)
+above_elsewhere place (d ∷ ds) = grind (arith, above_elsewhere place ds)
 
 product_most : (a b m n : ℕ) → a ≤ m → b ≤ n → a * b ≤ m * n
-product_most a b m n le le' = grind (arith, le, le')
+product_most a b m n le le' = grind arith
 
 -- no more dups were ever made than there are lives of all frames, since each spent one
 pub spent_most : {v : PagesView} {k : KeeperView} → IsLaid v k → v.next ≤ MOST_FRAMES * MOST_LIVES
@@ -162,21 +158,20 @@ spent_most {v} {k} h =
     let most : spent k.ledger ≤ length k.ledger.frames * last = sum_by-le spent_on last k.ledger.frames (λ i d lt.
     let past = past_le (frame_at k.ledger i).kind (frame_at k.ledger i).generation in
     let lived = lives_most last (frame_at k.ledger i).generation (frame_at k.ledger i).kind (p.lives i) in
-    subst (λ (x : Note). spent_on x ≤ last) (sym (get_or_default k.ledger.frames i d blank lt)) (omega (arith, past, lived))) in
+    rw (get_or_default k.ledger.frames i d blank lt) (omega arith)) in
     let long : length k.ledger.frames ≡ frames_of sh = p.frames_long in
     let few : frames_of sh ≤ MOST_FRAMES = frames_at_most sh h.small in
     let short : length k.ledger.frames * last ≤ MOST_FRAMES * MOST_LIVES = product_most (length k.ledger.frames) last MOST_FRAMES MOST_LIVES
-    (omega (arith, long, few)) h.small.generation_high in
+    (omega arith) h.small.generation_high in
     let s = h.spent in
-    omega (arith, s, most, short)
+    omega arith
 
 -- a row that waits no more may stand on its frame in the stead of the row as it was
 pub settled_lodges : (r : Row) → LodgesAs (settled r) r
-settled_lodges r = (refl, refl, by r.state)
+settled_lodges r = (refl, refl, by _)
   where
     by : (s : PageState) → (settled_state s ≡ s) ⊎ ((shared_state s ≡ false) × (shared_state (settled_state s) ≡ false))
-    by Waiting = inr (refl, refl)
-    by _ = inl refl
+    by s = grind arith
 
 -- a new dup stands on the frame of a row, which is its first item
 module _ {p : PagesView} {k : KeeperView} (h : IsLaid p k) (rise : InPageOrder p.rows) (page : GuestPage) (row : Row) (f : ℕ)
@@ -195,23 +190,22 @@ module _ {p : PagesView} {k : KeeperView} (h : IsLaid p k) (rise : InPageOrder p
   stable = record { kind = Stable; base = o.base; generation = o.generation; content = o.content }
 
   fits : RowFits sh k.ledger row f
-  fits = (subst (IsServed sh k.ledger p.dups row) lies (served_at h.placed
-      page row found)).0
+  fits = (subst (IsServed sh k.ledger p.dups row) lies (served_at h.placed _ row found)).0
 
   own : o.kind ≡ Private
-  own = fits.kind ∙ own_kind row.state alone
+  own = fits.kind ∙ own_kind _ alone
 
   -- once its place is cleared, a new dup may be published there on the frame of a row that is not shared
   pub may_found : (w : KeeperView) → MakesSteps k w (withdrawing p.dups d.place) → May w (Publish d.place f)
   may_found w m =
-      let empty = cleared_ledger w h d.place inside vacant m in
+      let empty = cleared_ledger w h _ inside vacant m in
       let same = sym (ap (λ (z : KeeperView). z.table.shape) m.after ∙ h.same) in
       let long = h.placed.places_long in (
-        subst (λ (s : Shape). d.place < frames_of s) same inside,
-        subst (λ (s : Shape). f < frames_of s) same fits.frame,
-        ap (λ (z : Ledger). (frame_at z f).kind) empty ∙ own,
+        rw (← same) inside,
+        rw (← same) fits.frame,
+        rw empty own,
         subst (IsLoose w.ledger) (sym (ap (λ (z : Ledger). named_at z d.place) empty
-            ∙ get_or-set_same k.ledger.places d.place None None (omega (arith, long, inside)))) tt,
+            ∙ get_or-set_same k.ledger.places d.place None None (omega arith))) tt,
       )
 
   -- rows and dups lie lawfully once the row's frame is published at the place of the new dup
@@ -223,31 +217,30 @@ module _ {p : PagesView} {k : KeeperView} (h : IsLaid p k) (rise : InPageOrder p
       → IsLaid (record p { rows = change_row page c p.rows; dups = with_dup d p.dups; next = p.next + 1; restless = restless }) w
   laid_found c w1 w restless keeps state same clears is bytes tree numbers fresh =
       let empty = cleared_ledger w1 h d.place inside vacant clears in
-      let table = ap (λ (z : KeeperView). z.table) clears.after in
       let q : Placed sh p.knobs.merge_across_nodes cleared p.rows p.frame
       (filter (elsewhere d.place) p.dups) None = withdrawn d.place
       inside h.placed in
       let shown = published q page row rise found f lies own d inside c keeps (state ∙ ap Merged (sym number)) same bytes tree alone
-      (λ i r lt. ap (λ n. merged_into n (get_or p.rows i r).state) number ∙ fresh i r lt)
+      (λ i r lt. rw number (fresh i r lt))
       (All-filter (elsewhere d.place) (λ e. ¬ (e.number ≡ d.number)) p.dups
-      (λ n x lt same. (let below = numbers n x lt in omega (arith, below, same, number))))
+      (λ n x lt same. (let below = numbers n x lt in omega arith)))
       (λ n x lt at. let e = get_or (filter (elsewhere d.place) p.dups) n x in
       both_ways (e.place == d.place) (not-true (e.place == d.place) (filter_passes (elsewhere d.place) p.dups n x lt)) (eq-eqb e.place d.place at)) in
-      let ledger : w.ledger ≡ ledger_after w1.table.shape cleared (Publish d.place f) 0 = ap (λ (z : KeeperView). z.ledger) is
-      ∙ (λ t. ledger_after w1.table.shape (empty t) (Publish d.place f) 0) in
+      let ledger : w.ledger ≡ ledger_after w1.table.shape cleared (Publish d.place f) 0 = rw is
+      (λ t. ledger_after w1.table.shape (empty t) (Publish d.place f) 0) in
       let within : f < length k.ledger.frames = (let long : length k.ledger.frames ≡ frames_of sh = h.placed.frames_long in let lt =
-      fits.frame in omega (arith, long, lt)) in
+      fits.frame in omega arith) in
       let more : spent (with_frame k.ledger f stable) + spent_on o ≡ spent k.ledger + o.generation = spent_set k.ledger f stable within in
-      let was : spent_on o ≡ o.generation - 1 = ap (λ (x : Kind). past_lives x o.generation) own in
+      let was : spent_on o ≡ o.generation - 1 = rw own in
       let now : spent w.ledger ≡ spent (with_frame k.ledger f stable) = ap spent ledger in
       record {
         small = h.small;
-        same = ap (λ (z : KeeperView). z.table.shape) is ∙ ap (λ x. x.shape) table ∙ h.same;
+        same = rw (is, ap (λ (z : KeeperView). z.table) clears.after) h.same;
         placed = subst (λ (z : Ledger × List DupRow). Placed sh p.knobs.merge_across_nodes z.0 (change_row page c p.rows) p.frame z.1 None)
             (λ t. (sym ledger t, below_elsewhere d.place p.dups t ++ d ∷ above_elsewhere d.place p.dups t)) shown;
-        spent = (let s = h.spent in let given = fits.given in omega (arith, s, more, was, now, given));
+        spent = (let s = h.spent in let given = fits.given in omega arith);
       }
 
 -- where pages merge on their nodes alone, a row's tree is its home
 pub tree_is_home : (knobs : Knobs) (r : Row) → knobs.merge_across_nodes ≡ 0 → r.home ≡ tree_of knobs r
-tree_is_home knobs r none = let e : (knobs.merge_across_nodes == 1) ≡ false = grind (arith, nat_tests, none) in grind (arith, e)
+tree_is_home knobs r none = grind (arith, nat_tests, none)

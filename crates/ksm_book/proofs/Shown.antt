@@ -1,5 +1,5 @@
 -- The frames that steps give, and what the log shows of a frame that was not found, of one in use, and of a dup that moved.
-use Rattle.ksm_book.proofs.Names.{[], Add, append-nil, Fault, GuestPage, NoFrame, Resettles, ResettlesEach, UnmergesTo, ap, append_cancel_left, arith, blank, Bool, cases_Bool, cond, Contains, Contains-append_right, Contains-push, count_in, Allocates, did, AllocatesOn, dup_frame, DupRow, Dying, dying_kind, dying_on, false, FindsHeld, FindsNone, frame_at, Free, free_kind, Freeze, frozen, get_or, get_or-range_with_len, get_or-set_other, given_by, Gives, HasLost, HasMoved, inl, inr, IsLowestFree, IsNeeded, item_count, KeeperStep, KeeperView, leaving, Ledger, ledger_after, length, length-append, length-range_with_len, List, loads, Log, MakesSteps, map, Mapped, Moves, nat_tests, needed_after, None, NoneLeft, Note, Open, Option, Provides, Publish, puts, Raise, range_with_len, Reap, reaped, refl, replicate, Retired, Row, set, Shape, Some, Stable, stepped, steps_of, subst, suc, sym, true, with_frame, Withdraw, zero, ℕ, ◌*◌, ◌++◌, ◌+◌, ◌-◌, ◌<◌, ◌==◌, ◌∙◌, ◌∷◌, ◌≡◌, ◌≢◌, ◌≤◌, drop}
+use Rattle.ksm_book.proofs.Names.{[], Add, append-nil, Fault, GuestPage, NoFrame, Resettles, ResettlesEach, UnmergesTo, ap, append_cancel_left, arith, blank, Bool, cases_Bool, cond, Contains, Contains-append_right, Contains-push, count_in, Allocates, did, AllocatesOn, dup_frame, DupRow, Dying, dying_kind, dying_on, false, FindsHeld, FindsNone, frame_at, Free, free_kind, Freeze, frozen, get_or, get_or-range_with_len, get_or-set_other, given_by, Gives, HasLost, HasMoved, inl, inr, IsLowestFree, item_count, KeeperStep, KeeperView, leaving, Ledger, ledger_after, length, length-append, length-range_with_len, List, loads, Log, MakesSteps, map, Mapped, Moves, None, NoneLeft, Note, Open, Option, Provides, Publish, puts, Raise, Reap, reaped, refl, replicate, Retired, Row, set, Shape, Some, Stable, stepped, steps_of, subst, suc, sym, true, with_frame, Withdraw, zero, ℕ, ◌*◌, ◌++◌, ◌+◌, ◌-◌, ◌<◌, ◌==◌, ◌∙◌, ◌∷◌, ◌≡◌, ◌≢◌, ◌≤◌, drop}
 use Rattle.ksm_book.proofs.Keeping.{set_holds}
 use Rattle.ksm_book.proofs.Made.{chained, stepped_then, first_made, made_none, made_then, none_made, step_made}
 use Rattle.ksm_base.proofs.Changes.{contains_filter}
@@ -47,54 +47,52 @@ quiet_leaving (Some f) = (refl, tt)
 -- a part of the log whose steps give no frame gave none
 pub part_did : (v w : KeeperView) (part : Log) → w ≡ stepped v part → GivesNone (steps_of part) → Allocates v w [] part
 part_did v w part is quiet = record {
-  table = ap (λ (z : KeeperView). z.table) is;
-  log = ap (λ (z : KeeperView). z.log) is;
-  ledger = ap (λ (z : KeeperView). z.ledger) is;
-  gives = by v.ledger part quiet;
+  table = rw is;
+  log = rw is;
+  ledger = rw is;
+  gives = by _ _ quiet;
 }
   where
     by : (k : Ledger) (part : Log) → GivesNone (steps_of part) → Gives v.table.shape k [] part
     by k [] q = refl
-    by k (s ∷ part) q =
-        let next : Ledger = ledger_after v.table.shape k s.0 s.1 in
-        subst (λ (o : Option ℕ). IsNeeded v.table.shape k [] o × Gives v.table.shape next (needed_after [] o) part) (sym q.0) (tt, by next part q.1)
+    by k (s ∷ part) q = rw q.0 (tt, by (ledger_after v.table.shape k s.0 s.1) part q.1)
 
 -- steps that give no frame gave none by the part of the log in which they were made
 pub quiet_did : {v w : KeeperView} {steps : List KeeperStep} (m : MakesSteps v w steps) → GivesNone steps → Allocates v w [] m.part
-quiet_did {v} {w} {steps} m quiet = part_did v w m.part m.after (subst GivesNone (sym m.are) quiet)
+quiet_did {v} {w} m quiet = part_did v w _ m.after (subst GivesNone (sym m.are) quiet)
 
 -- a keeper that made steps that give no frame gave none
 pub quiet_does : {v w : KeeperView} {steps : List KeeperStep} → MakesSteps v w steps → GivesNone steps → AllocatesOn v w []
-quiet_does {v} {w} {steps} m quiet = (m.part, quiet_did m quiet)
+quiet_does m quiet = (m.part, quiet_did m quiet)
 
 -- frames given on some nodes and then on others were given on the nodes of both, in order
 pub does_then : {u v w : KeeperView} {ms ns : List ℕ} → AllocatesOn u v ms → AllocatesOn v w ns → AllocatesOn u w (ms ++ ns)
-does_then {u} {v} {w} {ms} {ns} a b = (a.0 ++ b.0, chained a.1 b.1)
+does_then a b = (a.0 ++ b.0, chained a.1 b.1)
 
 -- the lowest free frame of a node was raised, and no other was given
 pub raised_does : {v w : KeeperView} {g node : ℕ} {steps : List KeeperStep} → IsLowestFree v.table.shape v.ledger node g → MakesSteps v w (Raise g ∷ steps) → GivesNone steps → AllocatesOn v w (node ∷ [])
-raised_does {v} {w} {g} {node} {steps} lowest m quiet =
+raised_does {v} {g = g} {node} lowest m quiet =
     let first = first_made m in
-    let r : KeeperView = did v (Raise g) first.0 in
+    let r = did v (Raise g) first.0 in
     let one : Allocates v r (node ∷ []) ((Raise g, first.0) ∷ []) = record { table = refl; log = refl; ledger = refl; gives = (lowest, refl) } in
     does_then ((Raise g, first.0) ∷ [], one) (quiet_does first.1 quiet)
 
 -- a keeper that reaped the dying frames of a node gave no frame
 pub searched_does : {v w : KeeperView} (node : ℕ) → MakesSteps v w (map Reap (dying_on v.table.shape v.ledger node)) → AllocatesOn v w []
-searched_does {v} {w} node m = quiet_does m (quiet_reaps (dying_on v.table.shape v.ledger node))
+searched_does node m = quiet_does m (quiet_reaps _)
 
 -- a keeper that provided a frame with bytes gave one frame, on the node asked for
 pub provides_does : {v w : KeeperView} {node : ℕ} {bytes : List ℕ} {g : ℕ} → Provides v w node bytes g → AllocatesOn v w (node ∷ [])
-provides_does {v} {w} {node} {bytes} {g} h =
-    let u : KeeperView = h.searched in
-    let searched = searched_does node h.finds.reaped in
-    let lowest : IsLowestFree u.table.shape u.ledger node g = subst (λ (t : _). IsLowestFree t.shape u.ledger node g) (sym searched.1.table) h.finds.lowest in
+provides_does {node = node} {bytes} {g} h =
+    let u = h.searched in
+    let searched = searched_does _ h.finds.reaped in
+    let lowest = subst (λ (t : _). IsLowestFree t.shape u.ledger node g) (sym searched.1.table) h.finds.lowest in
     does_then searched
     (raised_does lowest h.fills (quiet_both (steps_of (puts g 0 bytes)) (Open g ∷ []) (quiet_puts g 0 bytes) (refl, tt)))
 
 -- a page that was resettled was given one frame, on the node asked for
 pub resettles_does : {v w : Mapped} {page : GuestPage} {node : ℕ} {bytes : List ℕ} → Resettles v w page node bytes → AllocatesOn v.keeper w.keeper (node ∷ [])
-resettles_does {v} {page = page} h = does_then (provides_does h.provides) (quiet_does h.leaves (quiet_leaving (v.frame page)))
+resettles_does h = does_then (provides_does h.provides) (quiet_does h.leaves (quiet_leaving _))
 
 -- and the keeper is of the same table
 pub resettles_own : {v w : Mapped} {page : GuestPage} {node : ℕ} {bytes : List ℕ} → Resettles v w page node bytes → w.keeper.table ≡ v.keeper.table
@@ -108,8 +106,7 @@ each_does (r ∷ rows) v w h = does_then (resettles_does h.1) (each_does rows h.
 -- ---------------------------------------------------------------- what the log shows
 
 not_dying : (c : Bool) → ¬ (cond c Retired Free ≡ Dying)
-not_dying true e = grind (arith, e)
-not_dying false e = grind (arith, e)
+not_dying c e = grind arith
 
 -- a note that was put at a frame is there, if the keeper knows the frame
 set_here : (P : Note → Type 0) (xs : List Note) (i : ℕ) (y : Note) → P y → P blank → P (get_or (set xs i y) i blank)
@@ -121,11 +118,11 @@ set_here P (x ∷ xs) (suc i) y new none = set_here P xs i y new none
 
 -- a frame that is not dying does not become so where frames are reaped
 lives_on : (fs : List ℕ) (v w : KeeperView) (f : ℕ) → MakesSteps v w (map Reap fs) → ¬ ((frame_at v.ledger f).kind ≡ Dying) → ¬ ((frame_at w.ledger f).kind ≡ Dying)
-lives_on [] v w f m alive = subst (λ (z : KeeperView). ¬ ((frame_at z.ledger f).kind ≡ Dying)) (sym (none_made m)) alive
+lives_on [] v w f m alive = rw (none_made m) alive
 lives_on (g ∷ fs) v w f m alive =
     let first = first_made m in
-    let old : Note = frame_at v.ledger g in
-    let note : Note = reaped v.table.shape.last_generation old in
+    let old = frame_at v.ledger g in
+    let note = reaped v.table.shape.last_generation old in
     lives_on fs (did v (Reap g) first.0) w f first.1
     (elim (count_in first.0 == 0) as (λ b. ¬ ((frame_at (cond b (with_frame v.ledger g note) v.ledger) f).kind ≡ Dying)) [
       | true ↦ set_holds (λ x. ¬ (x.kind ≡ Dying)) v.ledger.frames g f note (not_dying (old.generation == v.table.shape.last_generation)) alive
@@ -135,31 +132,31 @@ lives_on (g ∷ fs) v w f m alive =
 -- a frame that was reaped and is dying still was found with a count above zero
 waits : (fs : List ℕ) (v w : KeeperView) (f : ℕ) (part : Log) → w ≡ stepped v part → steps_of part ≡ map Reap fs → Contains fs f → (frame_at w.ledger f).kind ≡ Dying
     → (n : ℕ) × (1 ≤ count_in n) × Contains part (Reap f, n)
-waits [] v w f part after are has still = absurd (let lt = has.1 in omega (arith, lt))
-waits (g ∷ fs) v w f [] after are has still = absurd (grind (arith, are))
+waits [] v w f part after are has still = absurd (let lt = has.1 in omega arith)
+waits (g ∷ fs) v w f [] after are has still = absurd (grind arith)
 waits (g ∷ fs) v w f (s ∷ part) after are (suc i, lt, is) still =
-    let rest : steps_of part ≡ map Reap fs = grind (arith, are) in
-    let later = waits fs (did v s.0 s.1) w f part (after ∙ sym (stepped_then v (s ∷ []) part)) rest (i, omega (arith, lt), is) still in
-    (later.0, later.1, (suc later.2.0, (let low = later.2.1 in omega (arith, low)), later.2.2))
+    let rest : steps_of part ≡ map Reap fs = grind arith in
+    let later = waits fs (did v s.0 s.1) w f part (after ∙ sym (stepped_then v _ _)) rest (i, omega arith, is) still in
+    (later.0, later.1, (suc later.2.0, (let low = later.2.1 in omega arith), later.2.2))
 waits (g ∷ fs) v w f (s ∷ part) after are (zero, lt, is) still =
-    let first : s.0 ≡ Reap f = grind (arith, are, is) in
-    let rest : steps_of part ≡ map Reap fs = grind (arith, are) in
-    let u : KeeperView = did v (Reap f) s.1 in
-    let m : MakesSteps u w (map Reap fs) = record { part = part; after = after ∙ sym (stepped_then v (s ∷ []) part) ∙ ap (λ x. stepped (did v x s.1) part) first; are = rest } in
-    (s.1, found (count_in s.1) (λ gone. lives_on fs u w f m gone still), (0, omega arith, (λ t. (first t, s.1))))
+    let first : s.0 ≡ Reap f = grind arith in
+    let rest : steps_of part ≡ map Reap fs = grind arith in
+    let u = did v (Reap f) s.1 in
+    let m : MakesSteps u w (map Reap fs) = record { part = part; after = after ∙ sym (stepped_then v _ _) ∙ ap (λ x. stepped (did v x s.1) part) first; are = rest } in
+    (s.1, found _ (λ gone. lives_on fs u w f m gone still), (0, omega arith, (λ t. (first t, s.1))))
   where
     note : Note
     note = reaped v.table.shape.last_generation (frame_at v.ledger f)
 
     found : (n : ℕ) → (¬ ((frame_at (cond (n == 0) (with_frame v.ledger f note) v.ledger) f).kind ≡ Dying) → ⊥) → 1 ≤ n
-    found zero dies = absurd (dies (set_here (λ x. ¬ (x.kind ≡ Dying)) v.ledger.frames f note (not_dying ((frame_at v.ledger f).generation == v.table.shape.last_generation)) (λ e. grind (arith, e))))
+    found zero dies = absurd (dies (set_here (λ x. ¬ (x.kind ≡ Dying)) v.ledger.frames f note (not_dying ((frame_at v.ledger f).generation == v.table.shape.last_generation)) (λ e. grind arith)))
     found (suc n) dies = omega arith
 
 -- where no frame of a node was found, each that is dying still was found with a count above zero
 pub none_left : {v w : KeeperView} {node : ℕ} → FindsNone v w node → NoneLeft v w node
 none_left {v} {w} {node} h =
-    let sh : Shape = v.table.shape in
-    let size : ℕ = sh.frames_per_node in
+    let sh = v.table.shape in
+    let size = sh.frames_per_node in
     let fs = dying_on sh v.ledger node in
     let m = h.reaped in
     record {
@@ -167,11 +164,11 @@ none_left {v} {w} {node} h =
       did = quiet_did m (quiet_reaps fs);
       waited = λ f low high still. elim (cases_Bool (dying_kind (frame_at v.ledger f).kind)) [
         | inl dies ↦
-            let lt : f - node * size < size = omega (arith, low, high) in
-            let at = get_or-range_with_len (node * size) size (f - node * size) f lt in
+            let lt : f - node * size < size = omega arith in
+            let at = get_or-range_with_len (node * size) _ _ f lt in
             let long = length-range_with_len (node * size) size in
-            waits fs v w f m.part m.after m.are (contains_filter (λ g. dying_kind (frame_at v.ledger g).kind) (range_with_len (node * size) size) f (f - node * size, omega (arith, lt, long), at ∙ omega (arith, low)) dies) still
-        | inr alive ↦ absurd (lives_on fs v w f m (λ is. (let e = ap dying_kind is in grind (arith, alive, e))) still)
+            waits fs v w f _ m.after m.are (contains_filter _ _ f (f - node * size, omega arith, at ∙ omega arith) dies) still
+        | inr alive ↦ absurd (lives_on fs v w f m (λ is. (let e = ap dying_kind is in grind arith)) still)
       ];
       none = h.none;
     }
@@ -181,25 +178,25 @@ none_left {v} {w} {node} h =
 -- a frame that is stable after an exchange was tried was found with another count
 pub lost : (v w : Mapped) (rows : List Row) (dup : DupRow) (node : ℕ) → FindsHeld v w rows dup node → HasLost v.keeper w.keeper
 lost v w rows dup node h =
-    let f : ℕ = dup_frame v.frame rows dup.number in
-    let s : KeeperView = h.searched in
+    let f = dup_frame v.frame rows dup.number in
+    let s = h.searched in
     let step = step_made h.freezes in
-    let searched = searched_does node h.finds.reaped in
+    let searched = searched_does _ h.finds.reaped in
     let freezes = quiet_did (record { part = (Freeze f, step.0) ∷ []; after = step.1; are = refl }) (refl, tt) in
     record {
       part = searched.0 ++ (Freeze f, step.0) ∷ [];
       did = chained searched.1 freezes;
       frame = f;
       found = step.0;
-      tried = Contains-push searched.0 (Freeze f, step.0);
+      tried = Contains-push _ (Freeze f, step.0);
       other = subst (λ (z : KeeperView). count_in step.0 ≢ (frame_at z.ledger f).base) (sym step.1)
-          (by s.ledger f (count_in step.0) (count_in step.0 == (frame_at s.ledger f).base) refl (ap (λ (z : KeeperView). (frame_at z.ledger f).kind) (sym step.1) ∙ h.kept));
+          (by _ f (count_in step.0) (count_in step.0 == (frame_at s.ledger f).base) refl (ap (λ (z : KeeperView). (frame_at z.ledger f).kind) (sym step.1) ∙ h.kept));
     }
   where
     by : (k : Ledger) (f n : ℕ) (b : Bool) → b ≡ (n == (frame_at k f).base) → (frame_at (cond b (with_frame k f (frozen (frame_at k f))) k) f).kind ≡ Stable
         → n ≢ (frame_at (cond b (with_frame k f (frozen (frame_at k f))) k) f).base
-    by k f n true e stable = absurd (set_here (λ x. ¬ (x.kind ≡ Stable)) k.frames f (frozen (frame_at k f)) (λ is. grind (arith, is)) (λ is. grind (arith, is)) stable)
-    by k f n false e stable = λ same. grind (arith, nat_tests, e, same)
+    by k f n true e stable = absurd (set_here (λ x. ¬ (x.kind ≡ Stable)) k.frames f (frozen (frame_at k f)) (λ is. grind arith) (λ is. grind arith) stable)
+    by k f n false e stable = λ same. grind arith
 
 -- the lowest free frame of a node is so still where a stable one begins to die
 lowest_still : (sh : Shape) (k : Ledger) (node f g : ℕ) (b : Bool) → IsLowestFree sh k node g → (frame_at k f).kind ≡ Stable → IsLowestFree sh (cond b (with_frame k f (frozen (frame_at k f))) k) node g
@@ -207,21 +204,22 @@ lowest_still sh k node f g false h stable = h
 lowest_still sh k node f g true h stable = record {
   low = h.low;
   high = h.high;
-  free = ap (λ (x : Note). x.kind) (get_or-set_other k.frames f g (frozen (frame_at k f)) blank (λ same. (let e = sym h.free ∙ ap (λ x. (frame_at k x).kind) same ∙ stable in grind (arith, e)))) ∙ h.free;
+  free = rw (get_or-set_other k.frames f g (frozen (frame_at k f)) blank (λ same. (let e = sym h.free ∙ ap (λ x. (frame_at k x).kind) same ∙ stable in grind arith)))
+      h.free;
   least = λ i low lt. set_holds (λ x. free_kind x.kind ≡ false) k.frames f i (frozen (frame_at k f)) refl (h.least i low lt);
 }
 
 -- a step that is told is in the log, with what it found
 found_in : (part : Log) (step : KeeperStep) → Contains (steps_of part) step → (found : ℕ) × Contains part (step, found)
-found_in [] step (i, lt, is) = absurd (omega (arith, lt))
-found_in (e ∷ part) step (zero, lt, is) = (e.1, (0, omega arith, ap (λ s. (s, e.1)) is))
-found_in (e ∷ part) step (suc i, lt, is) = let more = found_in part step (i, omega (arith, lt), is) in (more.0, (suc more.1.0, (let inside = more.1.1 in omega (arith, inside)), more.1.2))
+found_in [] step (i, lt, is) = absurd (omega arith)
+found_in (e ∷ part) step (zero, lt, is) = (e.1, (0, omega arith, rw is))
+found_in (e ∷ part) step (suc i, lt, is) = let more = found_in part step (i, omega arith, is) in (more.0, (suc more.1.0, (let inside = more.1.1 in omega arith), more.1.2))
 
 -- a part of the log that is not empty ends as the log does
 ends_so : {X : Type 0} (xs part ys : List X) (e : X) → 1 ≤ length part → xs ++ part ≡ ys ++ e ∷ [] → Contains part e
-ends_so [] part ys e some same = subst (λ zs. Contains zs e) (sym same) (Contains-push ys e)
+ends_so [] part ys e some same = rw same (Contains-push ys e)
 ends_so (x ∷ xs) part [] e some same =
-    (let lengths = ap length same in let both = length-append xs part in absurd (omega (arith, some, lengths, both)))
+    (let lengths = ap length same in let both = length-append xs part in absurd (omega arith))
 ends_so (x ∷ xs) part (y ∷ ys) e some same = ends_so xs part ys e some (ap (drop 1) same)
 
 -- a dup that moved: a frame of the node was raised, and published at the dup's place
@@ -236,38 +234,37 @@ moved v w rows dup node h =
     let rest = steps_of (loads f 0 dup.bytes) ++ stores in
     let reaps = map Reap (dying_on v.keeper.table.shape v.keeper.ledger node) in
     let searched = searched_does node h.finds.reaped in
-    let freezes = quiet_does h.freezes (refl, tt) in
     let step = step_made h.freezes in
-    let lowest : IsLowestFree h.frozen.table.shape h.frozen.ledger node g = subst (λ (z : KeeperView). IsLowestFree z.table.shape z.ledger node g) (sym step.1)
+    let lowest : IsLowestFree h.frozen.table.shape h.frozen.ledger node g = rw step.1
     (lowest_still h.searched.table.shape h.searched.ledger node f g (count_in step.0 == (frame_at h.searched.ledger f).base)
-    (subst (λ (t : _). IsLowestFree t.shape h.searched.ledger node g) (sym searched.1.table) h.finds.lowest) h.stood) in
+    (rw searched.1.table h.finds.lowest) h.stood) in
     let mounts = raised_does lowest h.mounts
     (quiet_both (steps_of (loads f 0 dup.bytes)) stores (quiet_loads f 0 dup.bytes) (quiet_both (steps_of (puts g 0 dup.bytes)) (Open g ∷ end) (quiet_puts g 0 dup.bytes)
     (refl, quiet_both (replicate (count - 1) (Add g)) (Publish dup.place g ∷ []) (quiet_adds (count - 1) g) (refl, tt)))) in
-    let does = does_then (does_then searched freezes) mounts in
+    let does = does_then (does_then searched (quiet_does h.freezes (refl, tt))) mounts in
     let made = made_then h.finds.reaped (made_then h.freezes h.mounts) in
     let told : steps_of does.0 ≡ reaps ++ (Freeze f ∷ Raise g ∷ rest) =
     ap steps_of (append_cancel_left v.keeper.log does.0 made.part (sym does.1.log ∙ ap (λ (z : KeeperView). z.log) made.after)) ∙ made.are in
-    let raised = found_in does.0 (Raise g) (subst (λ steps. Contains steps (Raise g)) (sym told) (Contains-append_right reaps (Freeze f ∷ Raise g ∷ rest) (Raise g) (1, omega arith, refl))) in
+    let raised = found_in does.0 (Raise g) (rw told (Contains-append_right reaps (Freeze f ∷ Raise g ∷ rest) (Raise g) (1, omega arith, refl))) in
     record {
       part = does.0;
       did = does.1;
       frame = g;
       before = raised.0;
       raised = raised.1;
-      published = ends_so v.keeper.log does.0 ends.0.log (Publish dup.place g, 0) (let inside = raised.1.1 in omega (arith, inside)) (sym does.1.log ∙ ap (λ (z : KeeperView). z.log) ends.1);
+      published = ends_so v.keeper.log does.0 ends.0.log (Publish dup.place g, 0) (let inside = raised.1.1 in omega arith) (sym does.1.log ∙ ap (λ (z : KeeperView). z.log) ends.1);
     }
 
 -- ---------------------------------------------------------------- pages that are unmerged
 
 -- rows that were unmerged, to the last or up to a stop, were given a frame each, on their homes
 pub unmerges_does : (rows : List Row) (stop : Option Fault) (v w : Mapped) → UnmergesTo rows stop v w → AllocatesOn v.keeper w.keeper (map (λ r. r.home) rows)
-unmerges_does rows None v w h = each_does rows v w h
+unmerges_does rows None v w h = each_does _ v w h
 unmerges_does rows (Some (NoFrame node)) v w h =
     let left = none_left h.2.searched in
-    subst (AllocatesOn v.keeper w.keeper) (append-nil (map (λ r. r.home) rows)) (does_then (each_does rows v h.0 h.1) (left.part, left.did))
+    subst (AllocatesOn v.keeper w.keeper) (append-nil (map (λ r. r.home) rows)) (does_then (each_does _ v h.0 h.1) (left.part, left.did))
 unmerges_does rows _ v w h = absurd h
 
 -- and the keeper is of the same table
 pub unmerges_own : (rows : List Row) (stop : Option Fault) (v w : Mapped) → UnmergesTo rows stop v w → w.keeper.table ≡ v.keeper.table
-unmerges_own rows stop v w h = (unmerges_does rows stop v w h).1.table
+unmerges_own rows stop v w h = (unmerges_does _ _ v w h).1.table

@@ -1,5 +1,5 @@
 -- The commands on single pages, carried out.
-use Rattle.ksm_book.proofs.Names.{[], All, Answer, ap, arith, BookValue, BookView, Bool, IsCarried, change_row, comes_before, Command, cond_both, Done, Drop, Err, false, filter, FindsNone, frame_at, frame_number, frame_on, Frames, frames_of, fresh_row, get_or, GuestPage, Houses, IfErr, IfSome, InPageOrder, is_some, IsAlone, IsLaid, IsReadable, IsServed, IsSound, IsWritable, KeeperView, leaving, length, lies_on, List, lying, MakesSteps, MatchBool, MatchOption, May, moved, MovePage, nat_le, nat_tests, NoFrame, None, not, Ok, on_its_own, Option, ordered_with, PAGE_WORDS, PagesView, Performs, Placed, Provides, puts, refl, Register, Resettled, Resettles, Result, rewriting, Row, row_at, same_page, same_page_refl, Shape, shared_state, Some, sound_after, state_of, stepped, steps_of, Store, stored, Sub, subst, sym, true, view_of, with_row, without_page, ℕ, ◌++◌, ◌<◌, ◌==◌, ◌∙◌, ◌∷◌, ◌≡◌, map_fixed, without_between, pages_ordered, absent_parts, find_put, filter_passes, cond, if◌then◌else◌, Held, IsHeld, HasNewFrame}
+use Rattle.ksm_book.proofs.Names.{[], All, Answer, ap, arith, BookValue, BookView, Bool, IsCarried, change_row, comes_before, Command, cond_both, Done, Drop, Err, false, filter, FindsNone, frame_at, frame_number, frame_on, Frames, frames_of, fresh_row, GuestPage, Houses, IfErr, IfSome, InPageOrder, is_some, IsAlone, IsLaid, IsReadable, IsServed, IsSound, IsWritable, KeeperView, leaving, length, lies_on, List, lying, MakesSteps, MatchBool, May, moved, MovePage, nat_le, nat_tests, NoFrame, None, not, Ok, on_its_own, Option, ordered_with, PAGE_WORDS, PagesView, Performs, Placed, Provides, puts, refl, Register, Resettled, Resettles, Result, rewriting, Row, row_at, same_page, same_page_refl, shared_state, Some, sound_after, state_of, stepped, steps_of, Store, stored, Sub, subst, sym, true, view_of, with_row, without_page, ℕ, ◌++◌, ◌<◌, ◌==◌, ◌∙◌, ◌∷◌, ◌≡◌, map_fixed, without_between, pages_ordered, absent_parts, find_put, filter_passes, cond, if◌then◌else◌, Held, IsHeld, HasNewFrame}
 use Rattle.std.proofs.lemmas.Bool.{eq-eqb}
 use Rattle.ksm_base.specs.declared.row.PageState.TheVariants.{Private}
 use Rattle.ksm_book.proofs.ByPage.{at_changed, change_twice, found_page, lies_again, lies_still, row_of_page}
@@ -20,15 +20,15 @@ Carries p k q l cursor passes command answer = IsCarried (book p k cursor passes
 
 -- a command that was carried out leaves a sound state
 pub sound_carried : {v w : BookView} {command : Command} {answer : Answer} → IsSound v.state → IsCarried v w command answer → IsSound w.state
-sound_carried {v} {w} {command} {answer} s h = subst IsSound (sym h.state) (sound_after v.state command answer s h.answer)
+sound_carried {v} {w} {command} {answer} s h = subst IsSound (sym h.state) (sound_after _ command answer s h.answer)
 
 -- a command carried out from one book value was carried out from an equal one, and so was an equal command
 pub carried_so : {old now : BookValue} {w : BookView} {by given : Command} {answer : Answer} → old ≡ now → by ≡ given → IsCarried (view_of old) w by answer → IsCarried (view_of now) w given answer
-carried_so {old} {now} {w} {by} {given} {answer} same told h = subst (λ (z : BookValue × Command). IsCarried (view_of z.0) w z.1 answer) (λ t. (same t, told t)) h
+carried_so {w = w} {answer = answer} same told h = subst (λ (z : BookValue × Command). IsCarried (view_of z.0) w z.1 answer) (λ t. (same t, told t)) h
 
 -- the row of a page is found by the page that was told of it
 pub row_held : {p : PagesView} {page : GuestPage} {held : Held} (h : IsHeld p page held) → row_at held.spot.page p.rows ≡ Some h.row
-row_held {p} h = ap (λ q. row_at q p.rows) h.spot ∙ h.found
+row_held h = rw h.spot h.found
 
 -- ---------------------------------------------------------------- a page with another frame
 
@@ -41,39 +41,37 @@ pub settled_then : {p m q : PagesView} {k l : KeeperView} {page : GuestPage} {no
     → (q ≡ record p { rows = change_row page change p.rows; frame = q.frame; restless = q.restless })
     × Resettles (lying p k) (lying q l) row.page node bytes × IsLaid q l
 settled_then {p} {m} {q} {k} {l} {page} {node} {bytes} {row} h rise found r d change goes keeps to housed =
-    let one = row_of_page page p.rows row rise found in
-    let rows = change_twice page on_its_own d change p.rows (λ x. refl)
+    let one = row_of_page _ _ row rise found in
+    let rows = change_twice _ _ d _ _ (λ x. refl)
     (λ i x lt at. subst (λ y. d (on_its_own y) ≡ change y) (sym (one i x lt at)) to) in
-    let frame : q.frame ≡ m.frame = ap (λ (x : PagesView). x.frame) goes in
-    let pages : q ≡ record p { rows = change_row page change p.rows; frame = q.frame; restless = q.restless } =
-    goes ∙ (λ t. record (r.pages t) { rows = change_row page d (r.pages t).rows; restless = q.restless })
+    let frame = ap (λ (x : PagesView). x.frame) goes in
+    let pages = goes ∙ (λ t. record (r.pages t) { rows = change_row page d (r.pages t).rows; restless = q.restless })
     ∙ (λ t. record p { rows = rows t; frame = sym frame t; restless = q.restless }) in
     let houses : Houses change page node bytes p.rows = record {
       pages = keeps;
-      row = subst (λ o. MatchOption o ⊥ (λ x. ((change x).state ≡ Private) × ((change x).home ≡ node) × ((change x).bytes ≡ bytes))) (sym found) housed;
+      row = rw found housed;
     } in (
       pages,
       subst (λ (z : Frames × GuestPage). Resettles (lying p k) (record { frame = z.0; keeper = l }) z.1 node bytes)
-          (λ t. (sym frame t, sym (found_page page p.rows row found) t)) r.resettles,
-      subst (λ (x : PagesView). IsLaid x l) (sym pages) (record {
+          (λ t. (sym frame t, sym (found_page _ p.rows row found) t)) r.resettles,
+      rw pages (record {
         small = h.small;
-        same = shape_same p.shape k l h.same (resettles_own r.resettles);
-        placed = subst (λ (f : Frames). Placed p.shape p.knobs.merge_across_nodes l.ledger (change_row page change p.rows) f p.dups None)
-            (sym frame) (r.placed change houses);
+        same = shape_same _ k l h.same (resettles_own r.resettles);
+        placed = rw frame (r.placed _ houses);
         spent = r.spent;
       }),
     )
 
 -- a page whose row is found and not shared has a frame of its own
 pub alone_now : (rows : List Row) (page : GuestPage) (row : Row) → row_at page rows ≡ Some row → shared_state row.state ≡ false → IsAlone page rows
-alone_now rows page row found alone = subst (λ o. MatchOption o (true ≡ false) (λ r. shared_state r.state ≡ false)) (sym found) alone
+alone_now rows page row found alone = rw found alone
 
 -- the frame of a page may be read, and has the page's bytes
 pub may_read : {p : PagesView} {k : KeeperView} → IsLaid p k → (page : GuestPage) (row : Row) → row_at page p.rows ≡ Some row → (g : ℕ) → p.frame page ≡ Some g
     → (g < frames_of k.table.shape) × IsReadable (frame_at k.ledger g).kind × (length (frame_at k.ledger g).content ≡ PAGE_WORDS) × ((frame_at k.ledger g).content ≡ row.bytes)
 may_read {p} {k} h page row found g lies =
-    let served : IsServed p.shape k.ledger p.dups row (Some g) = subst (IsServed p.shape k.ledger p.dups row) lies (served_at h.placed page row found) in
-    (subst (λ (s : Shape). g < frames_of s) (sym h.same) served.0.frame, readable (frame_at k.ledger g).kind row.state served.0.mapped served.0.kind, h.placed.widths g, served.0.content)
+    let served = subst (IsServed p.shape k.ledger p.dups row) lies (served_at h.placed _ row found) in
+    (rw h.same served.0.frame, readable _ _ served.0.mapped served.0.kind, h.placed.widths g, served.0.content)
 
 -- what is true anyway is true of each error of a result
 pub if_err : {T E : Type 0} (r : Result T E) (P : Type 0) → P → IfErr r (λ _. P)
@@ -84,7 +82,7 @@ if_err (Err e) P h = h
 pub found_resettled : {p m : PagesView} {k l : KeeperView} {page : GuestPage} {node : ℕ} {bytes : List ℕ} {row : Row}
     → Resettled p m k l page node bytes → row_at page p.rows ≡ Some row → row_at page m.rows ≡ Some (on_its_own row)
 found_resettled {p} {page = page} {row = row} r found =
-    ap (λ (x : PagesView). row_at page x.rows) r.pages ∙ at_changed page on_its_own p.rows row (λ x. refl) found
+    rw r.pages (at_changed page on_its_own p.rows row (λ x. refl) found)
 
 -- ---------------------------------------------------------------- a store
 
@@ -92,10 +90,10 @@ found_resettled {p} {page = page} {row = row} r found =
 pub own_ready : {p : PagesView} {k : KeeperView} → IsLaid p k → (page : GuestPage) (row : Row) → row_at page p.rows ≡ Some row → shared_state row.state ≡ false → (g : ℕ) → p.frame page ≡ Some g
     → (g < frames_of k.table.shape) × (g < length k.ledger.frames) × IsWritable (frame_at k.ledger g).kind × (length (frame_at k.ledger g).content ≡ PAGE_WORDS)
 own_ready {p} {k} h page row found alone g lies =
-    let served : IsServed p.shape k.ledger p.dups row (Some g) = subst (IsServed p.shape k.ledger p.dups row) lies (served_at h.placed page row found) in
+    let served = subst (IsServed p.shape k.ledger p.dups row) lies (served_at h.placed _ row found) in
     let inside = served.0.frame in
-    let long : length k.ledger.frames ≡ frames_of p.shape = h.placed.frames_long in
-    (subst (λ (s : Shape). g < frames_of s) (sym h.same) inside, omega (arith, inside, long), subst IsWritable (sym (served.0.kind ∙ own_kind row.state alone)) tt, h.placed.widths g)
+    let long = h.placed.frames_long in
+    (rw h.same inside, omega arith, subst IsWritable (sym (served.0.kind ∙ own_kind _ alone)) tt, h.placed.widths g)
 
 module _ (p : PagesView) (k l : KeeperView) (cursor : Option GuestPage) (passes : ℕ) (page : GuestPage) (bytes : List ℕ) (row : Row) (found : row_at page p.rows ≡ Some row) (table : l.table ≡ k.table) where
   module _ (q : PagesView) (state : state_of q cursor passes ≡ record (state_of p cursor passes) { rows = change_row page (stored bytes) p.rows }) where
@@ -113,9 +111,9 @@ module _ (p : PagesView) (k l : KeeperView) (cursor : Option GuestPage) (passes 
   pub store_written : (q : PagesView) (g : ℕ) → q ≡ record p { rows = change_row page (stored bytes) p.rows; restless = q.restless } → shared_state row.state ≡ false → p.frame page ≡ Some g → l ≡ stepped k (puts g 0 bytes)
       → IsCarried (book p k cursor passes) (book q l cursor passes) (Store page bytes) (Ok Done)
   store_written q g goes alone lies wrote =
-      stores q (ap (λ x. state_of x cursor passes) goes) false alone (record {
-        made = subst (λ f. MakesSteps k l (steps_of (puts f 0 bytes))) (sym (ap (frame_on p.frame) (found_page page p.rows row found) ∙ ap frame_number lies)) (made_part k l (puts g 0 bytes) wrote);
-        frame = ap (λ (x : PagesView). x.frame) goes;
+      stores q (rw goes) false alone (record {
+        made = subst (λ f. MakesSteps k l (steps_of (puts f 0 bytes))) (sym (ap (frame_on p.frame) (found_page _ _ row found) ∙ ap frame_number lies)) (made_part k l _ wrote);
+        frame = rw goes;
       })
 
   -- `Store` is carried out, and all lies lawfully, where a shared page is resettled with the bytes, as its row tells
@@ -123,30 +121,29 @@ module _ (p : PagesView) (k l : KeeperView) (cursor : Option GuestPage) (passes 
       → q ≡ record m { rows = change_row page (stored bytes) m.rows; restless = q.restless } → shared_state row.state ≡ true
       → Carries p k q l cursor passes (Store page bytes) (Ok Done)
   store_copied m q h rise r goes shared =
-      let s = settled_then h rise found r (stored bytes) (stored bytes) goes (λ x. refl) refl (refl, refl, refl) in
-      (stores q (ap (λ x. state_of x cursor passes) s.0) true shared s.1, s.2)
+      let s = settled_then h rise found r _ (stored bytes) goes (λ x. refl) refl (refl, refl, refl) in
+      (stores q (rw s.0) true shared s.1, s.2)
 
 -- ---------------------------------------------------------------- a move to another node
 
 -- a change that leaves the rows of a page as they are changes nothing
 pub change_still : (page : GuestPage) (f : Row → Row) (rows : List Row) → All (λ r. same_page r.page page ≡ true → f r ≡ r) rows → change_row page f rows ≡ rows
-change_still page f rows still = map_fixed (λ r. if same_page r.page page then f r else r) rows
-    (λ i d lt. let r = get_or rows i d in cond_both (same_page r.page page) (f r) r (λ x. x ≡ r) (still i d lt) (λ _. refl))
+change_still page f rows still = grind (arith, nat_tests, still, map_fixed)
 
 -- a node that is there is not told as none
 pub there_is : (nodes node : ℕ) → node < nodes → nat_le nodes node ≡ false
-there_is nodes node less = grind (arith, nat_tests, less)
+there_is nodes node less = grind (arith, less)
 
 module _ (p : PagesView) (k : KeeperView) (cursor : Option GuestPage) (passes : ℕ) (page : GuestPage) (node : ℕ) (row : Row) (rise : InPageOrder p.rows) (found : row_at page p.rows ≡ Some row) (less : node < p.shape.nodes) where
   there : nat_le p.shape.nodes node ≡ false
-  there = there_is p.shape.nodes node less
+  there = there_is _ _ less
 
   -- `MovePage` to the node where the page is at home is carried out with nothing changed
   pub move_home : row.home ≡ node → IsCarried (book p k cursor passes) (book p k cursor passes) (MovePage page node) (Ok Done)
   move_home same =
-      let is : (row.home == node) ≡ true = eq-eqb row.home node same in
-      let one = row_of_page page p.rows row rise found in
-      let still : change_row page (moved node) p.rows ≡ p.rows = change_still page (moved node) p.rows (λ i x lt of_page. subst (λ r. moved node r ≡ r) (sym (one i x lt of_page)) (ap (λ (x : Bool). if x then row else record row { home = node; state = Private }) is)) in
+      let is = eq-eqb row.home node same in
+      let one = row_of_page _ _ row rise found in
+      let still = change_still _ _ _ (λ i x lt of_page. subst (λ r. moved node r ≡ r) (sym (one i x lt of_page)) (rw is)) in
       record {
         own = refl;
         answer = rw (there, found) tt;
@@ -159,11 +156,10 @@ module _ (p : PagesView) (k : KeeperView) (cursor : Option GuestPage) (passes : 
     pub move_moved : (m q : PagesView) → IsLaid p k → Resettled p m k l page node row.bytes → q ≡ record m { rows = change_row page (λ r. record r { home = node }) m.rows; restless = q.restless }
         → Carries p k q l cursor passes (MovePage page node) (Ok Done)
     move_moved m q h r goes =
-        let to : moved node row ≡ record row { home = node; state = Private } =
-        ap (λ (x : Bool). if x then row else record row { home = node; state = Private }) away in
-        let s = settled_then h rise found r (λ r. record r { home = node }) (moved node) goes
-        (λ x. cond_both (x.home == node) x (record x { home = node; state = Private }) (λ y. y.page ≡ x.page) (λ _. refl) (λ _. refl))
-        (sym to) (ap (λ (x : Row). x.state) to, ap (λ (x : Row). x.home) to, ap (λ (x : Row). x.bytes) to) in (
+        let to = ap (λ (x : Bool). if x then row else record row { home = node; state = Private }) away in
+        let s = settled_then h rise found r _ _ goes
+        (λ x. cond_both _ x _ (λ y. y.page ≡ x.page) (λ _. refl) (λ _. refl))
+        (sym to) (rw to, rw to, rw to) in (
           record {
             own = table;
             answer = rw (there, found) tt;
@@ -178,11 +174,11 @@ module _ (p : PagesView) (k : KeeperView) (cursor : Option GuestPage) (passes : 
 module _ {p : PagesView} {k : KeeperView} (h : IsLaid p k) (rise : InPageOrder p.rows) {page : GuestPage} {row : Row}
     (found : row_at page p.rows ≡ Some row) {left : Option ℕ} (was : left ≡ p.frame page) where
   gone_hand : Placed p.shape p.knobs.merge_across_nodes k.ledger (without_page page p.rows) (lies_on page None p.frame) p.dups (p.frame page)
-  gone_hand = removed page row rise found h.placed
+  gone_hand = removed _ row rise found h.placed
 
   -- the frame of a page that goes, if it has one, may be left
   pub drop_may : IfSome left (λ f. May k (Sub f))
-  drop_may = subst (λ o. IfSome o (λ f. May k (Sub f))) (sym was) (may_leave k h.same (p.frame page) gone_hand)
+  drop_may = rw was (may_leave k h.same _ gone_hand)
 
   -- `Drop` is carried out, and all lies lawfully, where the page has left its frame and its row is gone
   pub drop_gone : (cursor : Option GuestPage) (passes : ℕ) (q : PagesView) (l : KeeperView) → q ≡ record p { rows = without_page page p.rows; frame = lies_on page None p.frame; restless = q.restless } → MakesSteps k l (leaving left)
@@ -193,11 +189,10 @@ module _ {p : PagesView} {k : KeeperView} (h : IsLaid p k) (rise : InPageOrder p
         record {
           own = table;
           answer = rw found tt;
-          state = ap (λ x. state_of x cursor passes) goes;
-          steps = record { made = leaves; frame = ap (λ (x : PagesView). x.frame) goes };
+          state = rw goes;
+          steps = record { made = leaves; frame = rw goes };
         },
-        subst (λ (x : PagesView). IsLaid x l) (sym goes) (laid_rows h (without_page page p.rows) (lies_on page None p.frame) q.restless l table (left_spends (p.frame page) leaves)
-            (left_placed (p.frame page) leaves gone_hand)),
+        rw goes (laid_rows h _ _ _ l table (left_spends _ leaves) (left_placed _ leaves gone_hand)),
       )
 
 -- ---------------------------------------------------------------- a page that comes
@@ -209,7 +204,7 @@ without_come row rows rise absent =
     let high = filter (λ r. comes_before row.page r.page) rows in
     without_between pages_ordered (λ (r : Row). r.page) row.page low (row ∷ []) high (filter_passes _ rows) (filter_passes _ rows)
     ∙ ap (λ b. low ++ (cond (not b) (row ∷ []) [] ++ high)) (same_page_refl row.page)
-    ∙ sym (absent_parts pages_ordered (λ (r : Row). r.page) row.page rows rise absent)
+    ∙ sym (absent_parts pages_ordered (λ (r : Row). r.page) row.page _ rise absent)
 
 -- `Register` of a page without a row is refused with nothing changed, where a search for a frame finds none by no step
 pub register_refused : (p : PagesView) (k : KeeperView) (cursor : Option GuestPage) (passes : ℕ) (page : GuestPage) (node : ℕ) (bytes : List ℕ) → node < p.shape.nodes → row_at page p.rows ≡ None
@@ -237,46 +232,45 @@ module _ {p m : PagesView} {page : GuestPage} {node : ℕ} {bytes : List ℕ} (n
   fresh = fresh_row page node bytes
 
   found_fresh : row_at page (with_row fresh p.rows) ≡ Some fresh
-  found_fresh = find_put (λ (r : Row). r.page) page fresh p.rows refl
+  found_fresh = find_put (λ (r : Row). r.page) _ _ p.rows refl
 
   -- a page that came has a row
   pub come_known : is_some (row_at page m.rows) ≡ true
-  come_known = ap (λ (x : PagesView). is_some (row_at page x.rows)) new.comes ∙ ap is_some found_fresh
+  come_known = rw new.comes (ap is_some found_fresh)
 
   -- `Register` is carried out, and all lies lawfully, where the page comes on a frame taken with its bytes
   pub register_come : {k l : KeeperView} (h : IsLaid p k) (cursor : Option GuestPage) (passes : ℕ) (q : PagesView) {g : ℕ} → q ≡ record m { rows = change_row page on_its_own m.rows; frame = lies_on page (Some g) m.frame; restless = q.restless } → Provides k l node bytes g → HasNewFrame k l node bytes g
       → Carries p k q l cursor passes (Register page node bytes) (Ok Done)
   register_come {k = k} {l = l} h cursor passes q {g} goes provides taken =
       let table = (provides_does provides).1.table in
-      let one = row_of_page page (with_row fresh p.rows) fresh (ordered_with fresh p.rows new.rise) found_fresh in
-      let rows : change_row page on_its_own (with_row fresh p.rows) ≡ with_row fresh p.rows = change_still page on_its_own (with_row fresh p.rows) (λ i x lt of_page. subst (λ r. on_its_own r ≡ r) (sym (one i x lt of_page)) refl) in
-      let frame : lies_on page (Some g) m.frame ≡ lies_on page (Some g) p.frame = ap (lies_on page (Some g)) new.others ∙ lies_again page (m.frame page) (Some g) p.frame in
-      let there : q ≡ record p { rows = with_row fresh p.rows; frame = lies_on page (Some g) p.frame; restless = q.restless } = goes ∙ (λ t. record (new.comes t) { rows = change_row page on_its_own (new.comes t).rows; frame = lies_on page (Some g) m.frame; restless = q.restless })
+      let one = row_of_page _ _ _ (ordered_with _ _ new.rise) found_fresh in
+      let rows = change_still _ _ _ (λ i x lt of_page. subst (λ r. on_its_own r ≡ r) (sym (one i x lt of_page)) refl) in
+      let frame = ap (lies_on page (Some g)) new.others ∙ lies_again _ _ _ _ in
+      let there = goes ∙ (λ t. record (new.comes t) { rows = change_row page on_its_own (new.comes t).rows; frame = lies_on page (Some g) m.frame; restless = q.restless })
       ∙ (λ t. record p { rows = rows t; frame = frame t; restless = q.restless }) in (
         record {
           own = table;
           answer = rw (there_is p.shape.nodes node new.less, new.absent) tt;
-          state = ap (λ x. state_of x cursor passes) there;
-          steps = record { got = g; provides = provides; frame = ap (λ (x : PagesView). x.frame) there };
+          state = rw there;
+          steps = record { got = g; provides = provides; frame = rw there };
         },
-        subst (λ (x : PagesView). IsLaid x l) (sym there) (laid_rows h (with_row fresh p.rows) (lies_on page (Some g) p.frame) q.restless l table taken.spent
-            (come_there h.same taken h.placed fresh new.absent refl refl refl)),
+        rw there (laid_rows h _ _ _ l table taken.spent (come_there h.same taken h.placed _ new.absent refl refl refl)),
       )
 
   -- `Register` is refused, and all lies lawfully, where no frame of the node was left and the page went again
   pub register_turned : {k l : KeeperView} (h : IsLaid p k) (cursor : Option GuestPage) (passes : ℕ) (q : PagesView) → p.frame page ≡ None → q ≡ record m { rows = without_page page m.rows; frame = lies_on page None m.frame; restless = q.restless } → FindsNone k l node
       → Carries p k q l cursor passes (Register page node bytes) (Err (NoFrame node))
-  register_turned {k = k} {l = l} h cursor passes q nowhere_there goes searched =
+  register_turned {l = l} h cursor passes q nowhere_there goes searched =
       let turns = turned h new.less searched in
       let table = ap (λ (z : KeeperView). z.table) searched.reaped.after in
-      let rows = without_come fresh p.rows new.rise new.absent in
-      let frame : lies_on page None m.frame ≡ p.frame = ap (lies_on page None) new.others ∙ lies_again page (m.frame page) None p.frame ∙ lies_still page None p.frame nowhere_there in
-      let back : q ≡ record p { restless = q.restless } = goes ∙ (λ t. record (new.comes t) { rows = without_page page (new.comes t).rows; frame = lies_on page None m.frame; restless = q.restless }) ∙ (λ t. record p { rows = rows t; frame = frame t; restless = q.restless }) in (
+      let rows = without_come _ _ new.rise new.absent in
+      let frame = ap (lies_on page None) new.others ∙ lies_again _ _ None _ ∙ lies_still _ None _ nowhere_there in
+      let back = goes ∙ (λ t. record (new.comes t) { rows = without_page page (new.comes t).rows; frame = lies_on page None m.frame; restless = q.restless }) ∙ (λ t. record p { rows = rows t; frame = frame t; restless = q.restless }) in (
         record {
           own = table;
           answer = rw (there_is p.shape.nodes node new.less, new.absent) refl;
           state = ap (λ x. state_of x cursor passes) back;
-          steps = record { searched = searched; frame = ap (λ (x : PagesView). x.frame) back };
+          steps = record { searched = searched; frame = rw back };
         },
-        subst (λ (x : PagesView). IsLaid x l) (sym back) (laid_rows h p.rows p.frame q.restless l table (searched_spends node searched.reaped) turns.laid.placed),
+        rw back (laid_rows h _ _ _ l table (searched_spends _ searched.reaped) turns.laid.placed),
       )

@@ -1,5 +1,5 @@
 -- The frames of dups with items in a lawful placement.
-use Rattle.ksm_book.proofs.Names.{find_passes, Merged, [], ap, arith, Bool, DupRow, empty_from, eqb-true, find, find_all, frame_at, Frames, get_or, InPlaceOrder, IsInLife, IsServed, item_count, kind_for, Ledger, length, List, merged_into, nat_tests, None, place_frame, Placed, Row, Shape, Some, Stable, subst, sym, true, zero_state, ℕ, ◌+◌, ◌<◌, ◌==◌, ◌∙◌, ◌∷◌, ◌≡◌, ◌≢◌, ◌≤◌}
+use Rattle.ksm_book.proofs.Names.{find_passes, [], ap, arith, Bool, DupRow, empty_from, find, find_all, frame_at, Frames, get_or, InPlaceOrder, IsInLife, IsServed, item_count, kind_for, Ledger, length, List, merged_into, nat_tests, None, place_frame, Placed, Row, Shape, Some, Stable, true, zero_state, ℕ, ◌+◌, ◌<◌, ◌∙◌, ◌∷◌, ◌≡◌, ◌≢◌, ◌≤◌}
 use Rattle.ksm_book.proofs.Moves.{framed}
 use Rattle.ksm_book.proofs.Sharing.{first_found, state_of_item}
 
@@ -26,12 +26,12 @@ module _ {sh : Shape} {across : ℕ} {k : Ledger} {rows : List Row} {frame : Fra
   lives n d lt some =
       let e = get_or dups n d in
       let test : Row → Bool = λ r. merged_into e.number r.state in
-      let first = first_found test rows (omega (arith, some)) in
+      let first = first_found test rows (omega arith) in
       let row = first.0 in
       let into = find_passes test rows row first.1 in
-      let state : row.state ≡ Merged e.number = state_of_item e.number row.state into in
-      let served = find_all test (λ r. IsServed sh k dups r (frame r.page)) rows row first.1 p.each_row in
-      let has = framed sh k dups row (frame row.page) (ap zero_state state) served in
+      let state = state_of_item e.number _ into in
+      let served = find_all _ (λ r. IsServed sh k dups r (frame r.page)) _ row first.1 p.each_row in
+      let has = framed sh k _ row _ (ap zero_state state) served in
       let fits = has.2 in
       let on = (fits.1 n d lt).item into in
       record {
@@ -41,19 +41,13 @@ module _ {sh : Shape} {across : ℕ} {k : Ledger} {rows : List Row} {frame : Fra
         merged = into;
         lies = has.1 ∙ ap Some on.0;
         life = on.1;
-        kind = ap (λ f. (frame_at k f).kind) (sym on.0) ∙ fits.0.kind ∙ ap kind_for state;
+        kind = rw (← on.0) (fits.0.kind ∙ ap kind_for state);
       }
 
   -- two dups with items on one frame have one number
   one_number : (n m : ℕ) (d : DupRow) → n < length dups → m < length dups → Lives k dups sh rows frame (get_or dups n d) → Lives k dups sh rows frame (get_or dups m d)
       → place_frame k (get_or dups n d).place ≡ place_frame k (get_or dups m d).place → (get_or dups m d).number ≡ (get_or dups n d).number
-  one_number n m d lt lt' a b same =
-      let e = get_or dups n d in
-      let e' = get_or dups m d in
-      let state = state_of_item e.number a.item.state a.merged in
-      let both : merged_into e'.number a.item.state ≡ true = ((subst (IsServed sh k dups a.item) a.lies a.served).1 m d lt').back b.life same in
-      let number : (e.number == e'.number) ≡ true = ap (merged_into e'.number) (sym state) ∙ both in
-      sym (eqb-true e.number e'.number number)
+  one_number n m d lt lt' a b same = grind (arith, nat_tests, state_of_item)
 
   -- the frames of dups with items differ, and none of them is a page's own
   module _ (rise : InPlaceOrder dups) where
@@ -62,12 +56,12 @@ module _ {sh : Shape} {across : ℕ} {k : Ledger} {rows : List Row} {frame : Fra
         → place_frame k (get_or dups n d).place ≢ place_frame k (get_or dups m d).place
     frames_apart n m d before lt a b same =
         let other = (rise n m d before lt).1 in
-        let one = one_number n m d (omega (arith, before, lt)) lt a b same in
-        absurd (grind (arith, nat_tests, other, one))
+        let one = one_number n m d (omega arith) lt a b same in
+        absurd (grind arith)
 
 -- from p on there are at most as many places taken as dups
 pub empty_from_most : (p : ℕ) (dups : List DupRow) → empty_from p dups ≤ p + length dups
 empty_from_most p [] = omega arith
 empty_from_most p (d ∷ ds) =
     let rest = empty_from_most (p + 1) ds in
-    grind (arith, rest)
+    grind arith

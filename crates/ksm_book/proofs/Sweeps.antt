@@ -1,48 +1,44 @@
 -- The dying frames of a range, one after another.
-use Rattle.ksm_book.proofs.Names.{[], ap, append-nil, arith, Bool, Dying, dying_from, dying_kind, false, filter, filter-append, frame_at, Kind, Ledger, NoneOf, Note, range_with_len, refl, suc, sym, true, zero, ℕ, ◌++◌, ◌+◌, ◌-◌, ◌<◌, ◌∙◌, ◌∷◌, ◌≡◌, ◌≤◌, if◌then◌else◌}
+use Rattle.ksm_book.proofs.Names.{[], ap, append-nil, arith, Bool, Dying, dying_from, dying_kind, false, filter-append, frame_at, Kind, Ledger, NoneOf, Note, range_with_len, suc, sym, true, zero, ℕ, ◌++◌, ◌+◌, ◌-◌, ◌<◌, ◌∙◌, ◌∷◌, ◌≡◌, ◌≤◌, if◌then◌else◌, nat_tests}
 
 -- a kind that tests as dying is Dying
 pub is_dying_kind : (x : Kind) → dying_kind x ≡ true → x ≡ Dying
-is_dying_kind Dying e = refl
-is_dying_kind _ e = absurd (grind (arith, e))
+is_dying_kind x e = grind arith
 
 -- one frame more is looked at
 range_more : (low n : ℕ) → range_with_len low (n + 1) ≡ range_with_len low n ++ (low + n) ∷ []
-range_more low zero = ap (λ f. f ∷ []) (let e : low ≡ low + 0 = omega arith in e)
-range_more low (suc n) = (let e : suc n + 1 ≡ suc (n + 1) = omega arith in ap (range_with_len low) e)
-    ∙ ap (λ fs. low ∷ fs) (range_more (low + 1) n ∙ ap (λ f. range_with_len (low + 1) n ++ f ∷ []) (let e : low + 1 + n ≡ low + suc n = omega arith in e))
+range_more low zero = grind (arith, nat_tests)
+range_more low (suc n) = grind (arith, range_more (low + 1) n)
 
 module _ (k : Ledger) (low : ℕ) where
   abbrev dies : ℕ → Bool
   dies f = dying_kind (frame_at k f).kind
 
   dying_more : (n : ℕ) (b : Bool) → dies (low + n) ≡ b → dying_from k low (n + 1) ≡ dying_from k low n ++ (if b then (low + n) ∷ [] else [])
-  dying_more n b is = ap (filter dies) (range_more low n) ∙ filter-append dies (range_with_len low n) ((low + n) ∷ [])
-      ∙ ap (λ fs. dying_from k low n ++ fs) (grind (arith, is))
+  dying_more n b is = grind (arith, nat_tests, range_more low n, filter-append dies (range_with_len low n) ((low + n) ∷ []))
 
   dying_past : (n m : ℕ) → ((f : ℕ) → low + n ≤ f → f < low + n + m → dies f ≡ false) → dying_from k low (n + m) ≡ dying_from k low n
-  dying_past n zero none = let e : n + 0 ≡ n = omega arith in ap (dying_from k low) e
+  dying_past n zero none = ap (dying_from k low) (omega arith)
   dying_past n (suc m) none =
       let e : n + suc m ≡ n + m + 1 = omega arith in
-      ap (dying_from k low) e ∙ dying_more (n + m) false (none (low + (n + m)) (omega arith) (omega arith)) ∙ append-nil (dying_from k low (n + m))
-      ∙ dying_past n m (λ f ge lt. none f ge (omega (arith, lt)))
+      ap (dying_from k low) e ∙ dying_more _ false (none (low + (n + m)) (omega arith) (omega arith)) ∙ append-nil (dying_from k low (n + m))
+      ∙ dying_past n m (λ f ge lt. none f ge (omega arith))
 
   -- those before a place were reaped, and those from there on are as they were
   module _ (k' : Ledger) (from : ℕ) (onward : low ≤ from) (later : (f : ℕ) → from ≤ f → frame_at k' f ≡ frame_at k f) where
     -- where no frame from `from` up to `to` is dying, the dying frames up to `to` are those up to `from`
     pub passed : (to : ℕ) → from ≤ to → NoneOf dying_kind k' from to → dying_from k low (to - low) ≡ dying_from k low (from - low)
     passed to further none =
-        let e : to - low ≡ from - low + (to - from) = omega (arith, onward, further) in
-        ap (dying_from k low) e ∙ dying_past (from - low) (to - from) (λ f ge lt.
-        let there : from ≤ f = omega (arith, onward, ge) in
-        ap (λ (x : Note). dying_kind x.kind) (sym (later f there)) ∙ none f there (omega (arith, onward, further, lt)))
+        let e : to - low ≡ from - low + (to - from) = omega arith in
+        ap (dying_from k low) e ∙ dying_past _ _ (λ f ge lt.
+        let there : from ≤ f = omega arith in
+        rw (← later f there) (none f there (omega arith)))
 
     -- where the next dying frame is `to`, the dying frames up to it are those up to `from`, and then it
     pub next_reaped : (to : ℕ) → from ≤ to → NoneOf dying_kind k' from to → dying_kind (frame_at k' to).kind ≡ true
         → dying_from k low (to + 1 - low) ≡ dying_from k low (from - low) ++ to ∷ []
     next_reaped to further none there =
-        let e : to + 1 - low ≡ to - low + 1 = omega (arith, onward, further) in
-        let at : low + (to - low) ≡ to = omega (arith, onward, further) in
-        ap (dying_from k low) e
-        ∙ dying_more (to - low) true (ap dies at ∙ ap (λ (x : Note). dying_kind x.kind) (sym (later to further)) ∙ there)
+        let at : low + (to - low) ≡ to = omega arith in
+        ap (dying_from k low) (omega arith)
+        ∙ dying_more _ true (ap dies at ∙ ap (λ (x : Note). dying_kind x.kind) (sym (later to further)) ∙ there)
         ∙ (λ i. passed to further none i ++ at i ∷ [])

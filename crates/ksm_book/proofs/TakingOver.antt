@@ -1,8 +1,7 @@
 -- A page waits in the stead of one further on: what becomes of the book, and which pages are due then.
-use Rattle.ksm_book.proofs.Names.{All, and_from, ap, AreDue, arith, before_differs, BookState, BookValue, both_ways, cases_Bool, change_row, change_rows, Comes, comes_before, comes_later, cond_both, Deed, doing, due_row_visited, due_visited, each_at_page, false, find_all, find_passes, get_or, GuestPage, has_item, hidden_from, idle, inl, inr, is_restless, IsAlone, IsSound, List, map_alike, map_mapped, MatchOption, not, not_both, or_cases, page_visited, PageState, partner, Reached, refl, Row, row_at, same_page, same_page_eq, same_page_refl, same_page_sym, settled, shared_state, Some, StaysBefore, subst, sym, taken_over, takes_over, TakesOverFrom, true, view_of, visited, Waiting, waiting_state, waits_for, WaitsFor, waits_tells, Merged, Zero, ◌&&◌, ◌∙◌, ◌∷◌, ◌≡◌, ◌||◌, if◌then◌else◌}
-use Rattle.ksm_base.specs.declared.row.PageState.TheVariants.{Private}
+use Rattle.ksm_book.proofs.Names.{All, and_from, ap, AreDue, arith, before_differs, BookState, BookValue, both_ways, cases_Bool, change_row, change_rows, Comes, comes_before, cond_both, Deed, doing, due_visited, each_at_page, false, find_all, find_passes, get_or, GuestPage, has_item, hidden_from, idle, inl, inr, is_restless, IsAlone, IsSound, List, map_alike, map_mapped, MatchOption, not, not_both, or_cases, page_visited, PageState, partner, Reached, refl, Row, row_at, same_page, same_page_eq, same_page_refl, same_page_sym, settled, shared_state, Some, StaysBefore, subst, sym, taken_over, takes_over, TakesOverFrom, true, view_of, waiting_state, waits_for, WaitsFor, waits_tells, ◌&&◌, ◌∙◌, ◌∷◌, ◌≡◌, ◌||◌, if◌then◌else◌, nat_tests}
 use Rattle.ksm_book.proofs.ByPage.{found_page, row_of_page}
-use Rattle.ksm_book.proofs.DueAlike.{freed, freed_found, one_waits, settled_once, taken_is, takes_tells}
+use Rattle.ksm_book.proofs.DueAlike.{freed_found, one_waits, settled_once, taken_is}
 use Rattle.ksm_book.proofs.DueKept.{more_due, taken_due}
 use Rattle.ksm_book.proofs.Reached.{comes_to}
 use Rattle.ksm_book.proofs.RowVisits.{filled_by}
@@ -24,8 +23,8 @@ pub record Takes (b : BookState) (page other : GuestPage) : Type 0 where
 pub takes_from : (b : BookState) (page other : GuestPage) → IsSound b
     → MatchOption (row_at page b.rows) (true ≡ false) (TakesOverFrom b other) → Takes b page other
 takes_from b page other sound told =
-    let at = filled_by (TakesOverFrom b other) (row_at page b.rows) told in
-    let met = filled_by (λ w. other ≡ w.page) (partner b.knobs b.rows at.0) at.2.2 in
+    let at = filled_by _ _ told in
+    let met = filled_by _ _ at.2.2 in
     record {
       sound = sound;
       row = at.0;
@@ -39,71 +38,54 @@ takes_from b page other sound told =
 
 -- a row that waits has a frame of its own
 waits_alone : (state : PageState) → waiting_state state ≡ true → shared_state state ≡ false
-waits_alone Waiting is = refl
-waits_alone Private is = cc
-waits_alone (Merged d) is = cc
-waits_alone Zero is = cc
+waits_alone state is = grind (arith, is)
 
 module _ {b : BookState} {page other : GuestPage} (at : Takes b page other) where
   page_is : at.row.page ≡ page
-  page_is = found_page page b.rows at.row at.found
+  page_is = found_page _ _ _ at.found
 
   there : row_at at.row.page b.rows ≡ Some at.row
   there = ap (λ p. row_at p b.rows) page_is ∙ at.found
 
   passes : waits_for b.knobs at.row at.waiter ≡ true
-  passes = find_passes (waits_for b.knobs at.row) b.rows at.waiter at.waits
+  passes = find_passes (waits_for b.knobs at.row) b.rows _ at.waits
 
   tells : WaitsFor b.knobs at.row at.waiter
-  tells = waits_tells b.knobs at.row at.waiter passes
+  tells = waits_tells _ _ _ passes
 
   -- the row that waits is found at the other page
   pub waits_at : row_at other b.rows ≡ Some at.waiter
-  waits_at = ap (λ q. row_at q b.rows) at.is
-      ∙ find_all (waits_for b.knobs at.row) (λ r. row_at r.page b.rows ≡ Some r) b.rows at.waiter at.waits
-      (each_at_page b.rows at.sound.rows_rise)
+  waits_at = rw at.is (find_all _ (λ r. row_at r.page b.rows ≡ Some r) _ _ at.waits (each_at_page _ at.sound.rows_rise))
 
   -- it has a frame of its own
   pub other_alone : IsAlone other b.rows
-  other_alone = subst (λ o. MatchOption o (true ≡ false) (λ r. shared_state r.state ≡ false)) (sym waits_at)
-      (waits_alone at.waiter.state tells.state)
+  other_alone = rw waits_at (waits_alone _ tells.state)
 
   later : comes_before page other ≡ true
-  later = (λ t. comes_before (sym page_is t) (at.is t)) ∙ sym (ap (comes_later at.row.page) at.waits)
-      ∙ (takes_tells b at.row at.takes).further
+  later = grind (arith, nat_tests, page_is)
 
   -- the rows of the other page are those that wait for the row
   agree : All (λ r. same_page r.page other ≡ waits_for b.knobs at.row r) b.rows
   agree k d lt = let r = get_or b.rows k d in elim (cases_Bool (same_page r.page other)) [
-    | inl same ↦ same ∙ sym (subst (λ x. waits_for b.knobs at.row x ≡ true)
-        (sym (row_of_page other b.rows at.waiter at.sound.rows_rise waits_at k d lt same)) passes)
+    | inl same ↦ same ∙ sym (rw (row_of_page _ _ _ at.sound.rows_rise waits_at k d lt same) passes)
     | inr apart ↦ elim (cases_Bool (waits_for b.knobs at.row r)) [
       | inl waits ↦ absurd (both_ways (same_page r.page other) apart
-          (ap (λ p. same_page p other) (one_waits b at.row at.waiter at.sound at.waits k d lt waits ∙ sym at.is) ∙ same_page_refl other))
+          (rw (one_waits b at.row _ at.sound at.waits k d lt waits ∙ sym at.is) (same_page_refl other)))
       | inr none ↦ apart ∙ sym none
     ]
   ]
 
   freed_rows : change_row other settled b.rows ≡ change_rows (waits_for b.knobs at.row) settled b.rows
-  freed_rows = map_alike (λ r. if same_page r.page other then settled r else r)
-      (λ r. if waits_for b.knobs at.row r then settled r else r) b.rows
-      (λ k d lt. let r = get_or b.rows k d in ap (λ z. if z then settled r else r) (agree k d lt))
+  freed_rows = grind (arith, nat_tests, map_alike, agree)
 
   -- the visit of the page, as one that is due, has its row wait in the stead of the other one
   due_is : (deed : Deed) → due_visited doing (b, deed) page ≡ (taken_over b at.row, deed)
-  due_is deed =
-      ap (due_row_visited doing (b, deed)) at.found
-      ∙ ap (λ z. if z then (taken_over b at.row, deed) else visited doing (b, deed) (Some at.row))
-      (and_from (is_restless at.row) (takes_over b at.row) at.restless at.takes)
+  due_is deed = grind (arith, and_from)
 
   -- so does the visit of the definitions once the other one waits no more
   then_is : (deed : Deed)
       → page_visited doing (record b { rows = change_row other settled b.rows }, deed) page ≡ (taken_over b at.row, deed)
-  then_is deed =
-      (λ t. page_visited doing (record b { rows = freed_rows t }, deed) page)
-      ∙ ap (visited doing (freed b at.row, deed))
-      (ap (λ p. row_at p (freed b at.row).rows) (sym page_is) ∙ freed_found b at.row there)
-      ∙ taken_is b at.row there at.restless (takes_tells b at.row at.takes) deed
+  then_is deed = grind (arith, page_is, freed_rows, freed_found, taken_is)
 
 -- the other row waits no more
 abbrev pub once_freed : GuestPage → BookState × Deed → BookState × Deed
@@ -128,47 +110,35 @@ module _ (v m w : BookValue) {page other : GuestPage} (at : Takes v.state page o
       hides r = if not (comes_before r.page page) then settled r else r
 
       behind : (r : Row) → same_page r.page other ≡ true → not (comes_before r.page page) ≡ true
-      behind r same = ap (λ p. not (comes_before p page)) (same_page_eq r.page other same)
-          ∙ ap not (not_both page other (later at))
+      behind r same = grind (arith, nat_tests, same, later at, same_page_eq, not_both)
 
       again : (r : Row) → same_page r.page other ≡ true → hides (settled r) ≡ hides r
-      again r same =
-          ap (λ z. if z then settled (settled r) else settled r) (behind r same) ∙ settled_once r
-          ∙ sym (ap (λ z. if z then settled r else r) (behind r same))
+      again r same = grind (arith, nat_tests, same, behind r same, settled_once r)
 
       still : (rows : List Row)
           → change_rows (λ r. not (comes_before r.page page)) settled (change_row other settled rows)
           ≡ change_rows (λ r. not (comes_before r.page page)) settled rows
-      still rows = map_mapped hides (λ r. if same_page r.page other then settled r else r) hides rows
+      still rows = map_mapped _ _ _ _
           (λ k d lt. let r = get_or rows k d in
-          cond_both (same_page r.page other) (settled r) r (λ x. hides x ≡ hides r) (again r) (λ _. refl))
+          cond_both _ _ r (λ x. hides x ≡ hides r) (again r) (λ _. refl))
 
   module _ (old more new : List GuestPage)
       (added : (p : GuestPage) → has_item p more ≡ (same_page other p || has_item p old))
       (gone : (p : GuestPage) → has_item p new ≡ (has_item p more && not (same_page page p))) where
     kept : (p : GuestPage) → has_item p old ≡ true → has_item p (page ∷ new) ≡ true
-    kept p is = let one = added p in let two = gone p in grind (arith, is, one, two)
+    kept p is = grind (arith, nat_tests, is, is)
 
     same_kept : (p : GuestPage) → same_page other p ≡ true → has_item p new ≡ true
-    same_kept p same =
-        let one = added p in
-        let two = gone p in
-        let apart : same_page page p ≡ false =
-        ap (same_page page) (sym (same_page_eq other p same)) ∙ same_page_sym page other ∙ before_differs page other (later at) in
-        grind (arith, same, one, two, apart)
+    same_kept p same = grind (arith, nat_tests, same_page_sym page other, before_differs page other (later at), same_page_eq)
 
     other_kept : (p : GuestPage) → has_item p (at.waiter.page ∷ new) ≡ true → has_item p new ≡ true
-    other_kept p is = elim (or_cases (same_page at.waiter.page p) (has_item p new) is) [
-      | inl same ↦ same_kept p (ap (λ q. same_page q p) at.is ∙ same)
-      | inr among ↦ among
-    ]
+    other_kept p is = grind (arith, nat_tests, is, or_cases, same_kept)
 
     -- the other page is due then, and the first one no longer
     pub taken_leaves : Comes m w (λ s. page_visited doing s page) → AreDue v.state old → AreDue w.state new
     taken_leaves visits due =
-        let state : w.state ≡ taken_over v.state at.row =
-        comes_to v w (λ s. due_visited doing s page) (taken_comes visits) ∙ (λ t. (due_is at (idle (view_of v).frame) t).0) in
-        subst (λ (b : BookState). AreDue b new) (sym state)
+        let state = comes_to v w _ (taken_comes visits) ∙ (λ t. (due_is at (idle (view_of v).frame) t).0) in
+        rw state
         (more_due (taken_over v.state at.row) (at.waiter.page ∷ new) new other_kept
-        (taken_due v.state at.row at.waiter new at.sound (there at) at.restless at.takes at.waits
-        (subst (λ p. AreDue v.state (p ∷ new)) (sym (page_is at)) (more_due v.state old (page ∷ new) kept due))))
+        (taken_due _ _ _ new at.sound (there at) at.restless at.takes at.waits
+        (rw (page_is at) (more_due v.state old (page ∷ new) kept due))))

@@ -1,5 +1,5 @@
 -- Pages that leave their dups, or the zero page, one after another.
-use Rattle.ksm_book.proofs.Names.{[], All, and-true, ap, append-nil, arith, Bool, change_row, change_rows, cond-false, cond-true, cond_both, false, Fault, filter, filter-append, filter_none, find, get_or, GuestPage, HasLeft, Held, inl, InPageOrder, inr, is_next, is_of, is_shared_of, is_some, IsAlone, IsHeld, IsKnown, IsLaid, KeeperView, left_by, length, length-append, let_go, List, lying, Mapped, MayNotLeave, NoFrame, None, not, not-false, not-true, of_guest, on_its_own, Option, option_map, PagesView, refl, Resettled, ResettlesEach, Row, row_at, same_page, same_Some, shared_of, shared_state, slice_get, Some, subst, suc, sym, take, take-append_seam, true, UnmergesTo, unshared, Unshares, ℕ, ◌&&◌, ◌++◌, ◌+◌, ◌<◌, ◌∙◌, ◌∷◌, ◌≡◌, ◌≤◌, if◌then◌else◌, Contains-append_right}
+use Rattle.ksm_book.proofs.Names.{[], All, and-true, ap, append-nil, arith, Bool, change_row, change_rows, cond-false, cond-true, cond_both, false, Fault, filter, filter-append, filter_none, find, GuestPage, HasLeft, Held, inl, InPageOrder, inr, is_next, is_of, is_shared_of, is_some, IsAlone, IsHeld, IsKnown, IsLaid, KeeperView, left_by, length, length-append, let_go, List, lying, Mapped, MayNotLeave, NoFrame, None, not, not-false, not-true, of_guest, on_its_own, Option, option_map, PagesView, refl, Resettled, ResettlesEach, Row, row_at, same_page, same_Some, shared_of, shared_state, slice_get, Some, subst, suc, sym, take, take-append_seam, true, Unshares, ℕ, ◌&&◌, ◌++◌, ◌+◌, ◌<◌, ◌∙◌, ◌∷◌, ◌≡◌, ◌≤◌, if◌then◌else◌, Contains-append_right, nat_tests}
 use Rattle.ksm_base.proofs.Edits.{count_more}
 use Rattle.ksm_base.specs.Counting.{mergeable_count}
 use Rattle.ksm_base.specs.declared.row.PageState.TheVariants.{Private}
@@ -14,7 +14,7 @@ use Rattle.ksm_book.proofs.Singles.{alone_now, change_still, found_resettled, se
 pub stay_in_scan : (test : Row → Bool) (rows : List Row) → mergeable_count rows ≡ length rows
     → rows ≡ change_rows test (λ r. record r { mergeable = true }) rows
 stay_in_scan test [] all = refl
-stay_in_scan test (r ∷ rows) all = by r.mergeable refl (stay_in_scan test rows)
+stay_in_scan test (r ∷ rows) all = by _ refl (stay_in_scan test rows)
   where
     one_if : Bool → ℕ
     one_if mergeable = if mergeable then 1 else 0
@@ -24,27 +24,20 @@ stay_in_scan test (r ∷ rows) all = by r.mergeable refl (stay_in_scan test rows
 
     by : (m : Bool) → r.mergeable ≡ m → (mergeable_count rows ≡ length rows → rows ≡ change_rows test (λ s. record s { mergeable = true }) rows)
         → r ∷ rows ≡ change_rows test (λ s. record s { mergeable = true }) (r ∷ rows)
-    by true is rest =
-        let here : r ≡ (if test r then record r { mergeable = true } else r) =
-        cond_both (test r) (record r { mergeable = true }) r (λ s. r ≡ s) (λ _ i. record r { mergeable = is i }) (λ _. refl) in
-        let others = rest (omega (arith, sum, ap one_if is)) in
-        (λ i. here i ∷ others i)
-    by false is rest = let few = count_by-le-length (λ s. s.mergeable) rows in absurd (omega (arith, sum, ap one_if is, few))
+    by true is rest = grind (arith, nat_tests, sum)
+    by false is rest = absurd (omega (arith, sum, ap one_if is, count_by-le-length (λ s. s.mergeable) rows))
 
 -- a row that is left keeps its page
 pub page_left : (guest : Option ℕ) (r : Row) → (left_by guest r).page ≡ r.page
-page_left None r = cond_both (shared_state r.state) (unshared r) r (λ x. x.page ≡ r.page) (λ _. refl) (λ _. refl)
-page_left (Some guest) r = refl
+page_left guest r = grind arith
 
 -- a guest's is let go
 guest_left : (guest : Option ℕ) → is_some guest ≡ true → left_by guest ≡ let_go
-guest_left (Some guest) some = refl
-guest_left None none = absurd (grind (arith, none))
+guest_left guest some = grind arith
 
 -- where no guest is told, any is left alike
 any_left : (guest : Option ℕ) → is_some guest ≡ false → left_by guest ≡ left_by None
-any_left (Some guest) some = absurd (grind (arith, some))
-any_left None none = refl
+any_left guest some = grind arith
 
 -- ---------------------------------------------------------------- one page
 
@@ -55,33 +48,32 @@ module _ {p : PagesView} {k : KeeperView} (guest : Option ℕ) {page : GuestPage
   row = told.row
 
   one : All (λ r. same_page r.page page ≡ true → r ≡ row) p.rows
-  one = row_of_page page p.rows row rise told.found
+  one = row_of_page _ _ row rise told.found
 
   module _ (test : not held.shared ≡ true) where
     alone : shared_state row.state ≡ false
     alone = sym told.shared ∙ not-true held.shared test
 
     still : left_by None row ≡ row
-    still = cond-false (shared_state row.state) (unshared row) row alone
+    still = cond-false _ _ row alone
 
     lodges : (g : Option ℕ) → LodgesAs (left_by g row) row
     lodges (Some n) = (refl, refl, inr (alone, refl))
-    lodges None = subst (λ (x : Row). LodgesAs x row) (sym still) (refl, refl, inl refl)
+    lodges None = rw still (refl, refl, inl refl)
 
     -- a page with a frame of its own gets none
     left_own : (q : PagesView) → q ≡ record p { rows = change_row page (left_by guest) p.rows; restless = q.restless }
         → HasLeft p q k k guest page 0
     left_own q goes =
-        let frame : q.frame ≡ p.frame = ap (λ (x : PagesView). x.frame) goes in
-        let none : shared_of row ≡ [] = cond-false (shared_state row.state) (row ∷ []) [] alone in
+        let frame = ap (λ (x : PagesView). x.frame) goes in
+        let none = cond-false _ _ [] alone in
         record {
           row = row;
           found = told.found;
           given = ap length (sym none);
           pages = goes ∙ (λ t. record p { rows = change_row page (left_by guest) p.rows; frame = sym frame t; restless = q.restless });
-          steps = subst (λ rs. ResettlesEach rs (lying p k) (lying q k)) (sym none) (record { keeper = refl; frame = frame });
-          laid = subst (λ (x : PagesView). IsLaid x k) (sym goes)
-              (laid_changed h page row (left_by guest) q.restless rise told.found (page_left guest) (lodges guest));
+          steps = rw none (record { keeper = refl; frame = frame });
+          laid = rw goes (laid_changed h _ row _ _ rise told.found (page_left _) (lodges _));
         }
 
     -- a row with a frame of its own is left as it is where all pages are asked for
@@ -89,14 +81,12 @@ module _ {p : PagesView} {k : KeeperView} (guest : Option ℕ) {page : GuestPage
     left_still none = left_own p (λ t. record p { rows = sym same t })
       where
         same : change_row page (left_by guest) p.rows ≡ p.rows
-        same = ap (λ f. change_row page f p.rows) (any_left guest none)
-            ∙ change_still page (left_by None) p.rows (λ i d lt is. subst (λ r. left_by None r ≡ r) (sym (one i d lt is)) still)
+        same = rw (any_left _ none) (change_still _ _ _ (λ i d lt is. rw (one i d lt is) still))
 
     -- a guest's row with a frame of its own is left once it is let go, and no frame is given for it
     pub left_alone : is_some guest ≡ true → {q : PagesView} → q ≡ record p { rows = change_row page let_go p.rows; restless = q.restless }
         → HasLeft p q k k guest page 0
-    left_alone some {q} goes =
-        left_own q (subst (λ f. q ≡ record p { rows = change_row page f p.rows; restless = q.restless }) (sym (guest_left guest some)) goes)
+    left_alone some {q} goes = left_own q (rw (guest_left _ some) goes)
 
   -- a shared page gets a frame of its own first
   module _ {m : PagesView} {l : KeeperView} {bytes : List ℕ} (test : not held.shared ≡ false)
@@ -113,38 +103,37 @@ module _ {p : PagesView} {k : KeeperView} (guest : Option ℕ) {page : GuestPage
 
     -- a shared page that was resettled has a frame of its own
     pub left_lone : IsAlone page m.rows
-    left_lone = alone_now m.rows page (on_its_own row) now refl
+    left_lone = alone_now m.rows page _ now refl
 
     left_shared : (q : PagesView) (d : Row → Row) → q ≡ record m { rows = change_row page d m.rows; restless = q.restless }
         → ((x : Row) → shared_state x.state ≡ true → d (on_its_own x) ≡ left_by guest x) → (d (on_its_own row)).state ≡ Private
         → (d (on_its_own row)).home ≡ row.home → (d (on_its_own row)).bytes ≡ row.bytes → HasLeft p q k l guest page 1
     left_shared q d goes same state home content =
-        let wrote : bytes ≡ row.bytes = same_Some bytes row.bytes (sym are ∙ ap (option_map (λ (x : Row). x.bytes)) told.found) in
+        let wrote = same_Some _ _ (sym are ∙ ap (option_map (λ (x : Row). x.bytes)) told.found) in
         let got = subst (λ (z : ℕ × List ℕ). Resettled p m k l page z.0 z.1) (λ t. (told.home t, wrote t)) r in
-        let all : shared_of row ≡ row ∷ [] = cond-true (shared_state row.state) (row ∷ []) [] shared in
+        let all = cond-true _ _ [] shared in
         let to = same row shared in
-        let s = settled_then h rise told.found got d (left_by guest) goes (page_left guest) to
-        (subst (λ (x : Row). (x.state ≡ Private) × (x.home ≡ row.home) × (x.bytes ≡ row.bytes)) to (state, home, content)) in
+        let s = settled_then h rise told.found got d _ goes (page_left _) to (rw (← to) (state, home, content)) in
         record {
           row = row;
           found = told.found;
           given = ap length (sym all);
           pages = s.0;
-          steps = subst (λ rs. ResettlesEach rs (lying p k) (lying q l)) (sym all) (lying q l, s.1, record { keeper = refl; frame = refl });
+          steps = rw all (lying q l, s.1, record { keeper = refl; frame = refl });
           laid = s.2;
         }
 
     -- a shared row of a guest is left once its page was resettled and it is let go, and one frame is given for it
     pub left_guest : is_some guest ≡ true → {q : PagesView} → q ≡ record m { rows = change_row page let_go m.rows; restless = q.restless }
         → HasLeft p q k l guest page 1
-    left_guest some {q} goes = left_shared q let_go goes (λ x _ t. sym (guest_left guest some) t x) refl refl refl
+    left_guest some {q} goes = left_shared q _ goes (λ x _ t. sym (guest_left _ some) t x) refl refl refl
 
     -- where all pages are asked for, a shared row is left once its page was resettled and it is not unchanged
     pub left_any : is_some guest ≡ false → {q : PagesView}
         → q ≡ record m { rows = change_row page (λ x. record x { unchanged = false }) m.rows; restless = q.restless }
         → HasLeft p q k l guest page 1
-    left_any none {q} goes = left_shared q (λ x. record x { unchanged = false }) goes
-        (λ x is. sym ((λ t. any_left guest none t x) ∙ cond-true (shared_state x.state) (unshared x) x is)) refl refl refl
+    left_any none {q} goes = left_shared q _ goes
+        (λ x is. sym ((λ t. any_left _ none t x) ∙ cond-true _ _ x is)) refl refl refl
 
 -- ---------------------------------------------------------------- pages one after another
 
@@ -178,7 +167,7 @@ pub record IsUnsharing (p q : PagesView) (k l : KeeperView) (guest : Option ℕ)
 -- rows that were unshared, to the last or up to a stop, are in the frames of the same table
 pub unshares_own : {p q : PagesView} {k l : KeeperView} {guest : Option ℕ} {count : ℕ} {stop : Option Fault} → Unshares p q k l guest count stop
     → l.table ≡ k.table
-unshares_own {p} {q} {k} {l} {guest} {count} {stop} u = unmerges_own (take count (filter (is_shared_of guest) p.rows)) stop (lying p k) (lying q l) u.unmerges
+unshares_own u = unmerges_own _ _ _ _ u.unmerges
 
 module _ {p q : PagesView} {k l : KeeperView} {guest : Option ℕ} {count : ℕ} {last : Option GuestPage}
     (u : IsUnsharing p q k l guest count last) (rise : InPageOrder p.rows) where
@@ -187,11 +176,11 @@ module _ {p q : PagesView} {k l : KeeperView} {guest : Option ℕ} {count : ℕ}
 
   -- the keeper is of the same table
   pub unsharing_own : l.table ≡ k.table
-  unsharing_own = (each_does met (lying p k) (lying q l) u.each).1.table
+  unsharing_own = (each_does met _ _ u.each).1.table
 
   module _ {page : GuestPage} (told : option_map (λ r. r.page) (find (is_next guest last) q.rows) ≡ Some page) where
     cut : IsCut (of_guest guest) (left_by guest) p.rows q.rows u.done page
-    cut = along_cut (left_by guest) (page_left guest) u.along rise page told
+    cut = along_cut _ (page_left _) u.along rise _ told
 
     abbrev r : Row
     r = cut.row
@@ -201,39 +190,37 @@ module _ {p q : PagesView} {k l : KeeperView} {guest : Option ℕ} {count : ℕ}
 
     -- the next page is at home on a node that is there
     pub unsharing_home : {held : Held} → IsHeld q page held → All (λ x. x.home < p.shape.nodes) p.rows → held.home < q.shape.nodes
-    unsharing_home {held} h homes =
+    unsharing_home h homes =
         let fits = λ (x : Row). x.home < p.shape.nodes in
-        let here = Contains-append_right cut.before (r ∷ cut.rest) r (0, omega arith, refl) in
-        let at : r.home < p.shape.nodes = subst fits here.2 (subst (All fits) cut.whole homes here.0 r here.1) in
-        let home : held.home ≡ r.home = h.home ∙ ap (λ (x : Row). x.home) (same_Some h.row r (sym h.found ∙ cut.there)) in
+        let here = Contains-append_right cut.before _ r (0, omega arith, refl) in
+        let at = subst fits here.2 (subst (All fits) cut.whole homes here.0 r here.1) in
+        let home = h.home ∙ ap (λ (x : Row). x.home) (same_Some _ r (sym h.found ∙ cut.there)) in
         subst (λ (z : ℕ × ℕ). z.0 < z.1) (λ t. (sym home t, (sym u.pages t).shape.nodes)) at
 
     -- once the next page was left too, so many pages more got frames of their own, up to that page
     pub unsharing_next : {v : PagesView} {w : KeeperView} {given : ℕ} → HasLeft q v l w guest page given → FitsPage (Some page)
         → IsUnsharing p v k w guest (count + given) (Some page)
-    unsharing_next {v} {w} {given} h fits =
-        let e : h.row ≡ r = same_Some h.row r (sym h.found ∙ cut.there) in
-        let rows : v.rows ≡ change_row page (left_by guest) q.rows = ap (λ (x : PagesView). x.rows) h.pages in
-        let more : filter (is_shared_of guest) (cut.before ++ r ∷ []) ≡ met ++ shared_of h.row =
-        filter-append (is_shared_of guest) cut.before (r ∷ [])
+    unsharing_next {v} h fits =
+        let e = same_Some _ r (sym h.found ∙ cut.there) in
+        let rows = ap (λ (x : PagesView). x.rows) h.pages in
+        let more = filter-append (is_shared_of guest) cut.before (r ∷ [])
         ∙ (λ t. met_before t ++ (if cut.of t && shared_state r.state then r ∷ [] else [])) ∙ ap (λ x. met ++ shared_of x) (sym e) in
         record {
           done = cut.before ++ r ∷ [];
           left = cut.rest;
-          along = subst (λ x. IsAlong (of_guest guest) (left_by guest) p.rows x (Some page) (cut.before ++ r ∷ []) cut.rest) (sym rows)
+          along = rw rows
               cut.next;
           pages = h.pages ∙ (λ t. record (u.pages t) { rows = sym rows t; frame = v.frame; restless = v.restless });
           counted = (λ t. u.counted t + h.given t) ∙ sym (length-append met (shared_of h.row)) ∙ ap length (sym more);
-          each = subst (λ xs. ResettlesEach xs (lying p k) (lying v w)) (sym more)
-              (each_then met (shared_of h.row) (lying p k) (lying q l) (lying v w) u.each h.steps);
+          each = rw more (each_then met _ _ _ _ u.each h.steps);
           laid = h.laid;
           few =
-              let far = further guest last q.rows page u.fits told in
+              let far = further guest _ q.rows _ u.fits told in
               let was = u.few in
               let one : length (shared_of h.row) ≤ 1 =
               cond_both (shared_state h.row.state) (h.row ∷ []) [] (λ xs. length xs ≤ 1) (λ _. omega arith) (λ _. omega arith) in
               let more = h.given in
-              omega (arith, far, was, one, more);
+              omega (arith, one);
           fits = fits;
         }
 
@@ -241,26 +228,23 @@ module _ {p q : PagesView} {k l : KeeperView} {guest : Option ℕ} {count : ℕ}
     pub unsharing_stop : {v : PagesView} {w : KeeperView} {fault : Fault} → MayNotLeave q v l w page fault
         → Unshares p v k w guest count (Some fault)
     unsharing_stop {v} {w} {fault} h =
-        let e : h.row ≡ r = same_Some h.row r (sym h.found ∙ cut.there) in
+        let e = same_Some _ r (sym h.found ∙ cut.there) in
         let home = ap (λ (x : Row). x.home) e in
-        let is : shared_state r.state ≡ true = ap (λ (x : Row). shared_state x.state) (sym e) ∙ h.shared in
+        let is = ap (λ (x : Row). shared_state x.state) (sym e) ∙ h.shared in
         let later = filter (is_shared_of guest) cut.rest in
-        let all : filter (is_shared_of guest) p.rows ≡ met ++ r ∷ later =
-        ap (filter (is_shared_of guest)) cut.whole ∙ filter-append (is_shared_of guest) cut.before (r ∷ cut.rest)
+        let all = ap (filter (is_shared_of guest)) cut.whole ∙ filter-append (is_shared_of guest) cut.before (r ∷ cut.rest)
         ∙ (λ t. met_before t ++ (if cut.of t && is t then r ∷ later else later)) in
-        let taken : met ≡ take count (filter (is_shared_of guest) p.rows) =
-        sym (ap (take count) all ∙ ap (λ n. take n (met ++ r ∷ later)) u.counted ∙ take-append_seam met _) in
+        let taken = sym (ap (take count) all ∙ ap (λ n. take n (met ++ r ∷ later)) u.counted ∙ take-append_seam met _) in
         record {
           at = Some r;
           fault = ap Some (h.says ∙ ap NoFrame home);
-          stands = ap (λ xs. slice_get xs count) all ∙ ap (slice_get (met ++ r ∷ later)) u.counted ∙ get_seam met r _;
+          stands = rw all (ap (slice_get (met ++ r ∷ later)) u.counted ∙ get_seam met r _);
           pages = h.turned.pages ∙ u.pages ∙ (λ t. record p {
             rows = cut.stop t;
             frame = ap (λ (x : PagesView). x.frame) (sym h.turned.pages) t;
             restless = ap (λ (x : PagesView). x.restless) (sym h.turned.pages) t;
           });
-          unmerges = subst (λ f. UnmergesTo (take count (filter (is_shared_of guest) p.rows)) (Some f) (lying p k) (lying v w)) (sym h.says)
-              (lying q l, subst (λ xs. ResettlesEach xs (lying p k) (lying q l)) taken u.each, h.turned.turns);
+          unmerges = rw h.says (lying q l, rw (← taken) u.each, h.turned.turns);
           laid = h.turned.laid;
         }
       where
@@ -271,13 +255,10 @@ module _ {p q : PagesView} {k l : KeeperView} {guest : Option ℕ} {count : ℕ}
   -- where no page is left to look at, the shared rows of the guest, or of all, are unshared with no stop
   pub unsharing_end : find (is_next guest last) q.rows ≡ None → Unshares p q k l guest count None
   unsharing_end ended =
-      let done = along_end (left_by guest) (page_left guest) u.along ended in
-      let all : filter (is_shared_of guest) p.rows ≡ met =
-      ap (filter (is_shared_of guest)) u.along.whole ∙ filter-append (is_shared_of guest) u.done u.left
-      ∙ ap (λ l. met ++ l) (filter_none (is_shared_of guest) u.left (λ i d lt. ap (λ b. b && shared_state (get_or u.left i d).state)
-      (done.1 i d lt))) ∙ append-nil met in
-      let taken : met ≡ take count (filter (is_shared_of guest) p.rows) =
-      sym (ap (take count) (all ∙ sym (append-nil met)) ∙ ap (λ n. take n (met ++ [])) u.counted ∙ take-append_seam met []) in
+      let done = along_end _ (page_left _) u.along ended in
+      let all = ap (filter (is_shared_of guest)) u.along.whole ∙ filter-append (is_shared_of guest) u.done u.left
+      ∙ ap (λ l. met ++ l) (filter_none (is_shared_of guest) _ (λ i d lt. rw (done.1 i d lt))) ∙ append-nil met in
+      let taken = sym (ap (take count) (all ∙ sym (append-nil met)) ∙ ap (λ n. take n (met ++ [])) u.counted ∙ take-append_seam met []) in
       record {
         at = None;
         fault = refl;
@@ -285,7 +266,7 @@ module _ {p q : PagesView} {k l : KeeperView} {guest : Option ℕ} {count : ℕ}
         pages =
             let rows = done.0 ∙ (λ i. change_rows (λ r. sym (and-true (of_guest guest r)) i) (left_by guest) p.rows) in
             u.pages ∙ (λ t. record p { rows = rows t; frame = q.frame; restless = q.restless });
-        unmerges = subst (λ xs. ResettlesEach xs (lying p k) (lying q l)) taken u.each;
+        unmerges = rw (← taken) u.each;
         laid = u.laid;
       }
 
@@ -313,17 +294,17 @@ module _ {p q : PagesView} {guest : ℕ} {last : Option GuestPage} (u : IsMarkin
   module _ (rise : InPageOrder p.rows) {page : GuestPage}
       (told : option_map (λ r. r.page) (find (is_next (Some guest) last) q.rows) ≡ Some page) where
     at : IsCut (is_of guest) in_scan p.rows q.rows u.done page
-    at = along_cut in_scan (λ _. refl) u.along rise page told
+    at = along_cut _ (λ _. refl) u.along rise _ told
 
     -- once the next page of the guest is mergeable too, the guest's pages are so up to that page
     pub marking_next : {v : PagesView} → v ≡ record q { rows = change_row page in_scan q.rows; restless = v.restless }
         → FitsPage (Some page) → IsMarking p v guest (Some page)
     marking_next {v} goes fits =
-        let rows : v.rows ≡ change_row page in_scan q.rows = ap (λ (x : PagesView). x.rows) goes in
+        let rows = ap (λ (x : PagesView). x.rows) goes in
         record {
           done = at.before ++ at.row ∷ [];
           left = at.rest;
-          along = subst (λ x. IsAlong (is_of guest) in_scan p.rows x (Some page) (at.before ++ at.row ∷ []) at.rest) (sym rows) at.next;
+          along = rw rows at.next;
           pages = goes ∙ (λ t. record (u.pages t) { rows = sym rows t; restless = v.restless });
           fits = fits;
         }
@@ -331,4 +312,4 @@ module _ {p q : PagesView} {guest : ℕ} {last : Option GuestPage} (u : IsMarkin
   -- where no page of the guest is left, all its rows are mergeable
   pub marking_end : find (is_next (Some guest) last) q.rows ≡ None → q ≡ record p { rows = change_rows (is_of guest) in_scan p.rows; restless = q.restless }
   marking_end ended =
-      let done = along_end in_scan (λ _. refl) u.along ended in u.pages ∙ (λ t. record p { rows = done.0 t; restless = q.restless })
+      let done = along_end _ (λ _. refl) u.along ended in u.pages ∙ (λ t. record p { rows = done.0 t; restless = q.restless })

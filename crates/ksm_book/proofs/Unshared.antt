@@ -1,20 +1,20 @@
 -- The commands on all pages of a guest, or on all there are, carried out.
-use Rattle.ksm_book.proofs.Names.{All, All-map, and-true, ap, arith, BookState, IsCarried, change_rows, cond_both, Done, Err, every_row, false, Fault, find, get_or, GuestPage, has_guest, Held, inl, inr, is_before, is_next, is_of, is_some, IsHeld, IsLaid, IsStop, IsUnmerged, KeeperView, Knobs, left_by, let_go, List, list_any, lying, map, MatchOption, Mergeable, NoFrame, None, of_guest, Ok, Option, option_map, PagesView, refl, Row, SetRun, shared_rows, shared_state, slice_get, slice_get_past, Some, state_of, subst, sym, take, true, UnknownPage, Unmerge, Unmerged, UnmergesTo, unshare_stopped, unshared, Unshares, ℕ, ◌&&◌, ◌∙◌, ◌≡◌, none_of, any_found, if◌then◌else◌, map_alike, map_mapped}
+use Rattle.ksm_book.proofs.Names.{All, All-map, and-true, ap, arith, BookState, IsCarried, change_rows, cond_both, Done, Err, every_row, false, Fault, find, get_or, GuestPage, has_guest, Held, inl, inr, is_before, is_next, is_of, is_some, IsHeld, IsLaid, IsStop, IsUnmerged, KeeperView, Knobs, left_by, List, list_any, map, MatchOption, Mergeable, NoFrame, None, of_guest, Ok, Option, option_map, PagesView, refl, Row, SetRun, shared_rows, shared_state, slice_get, slice_get_past, Some, state_of, subst, sym, true, UnknownPage, Unmerge, Unmerged, unshare_stopped, unshared, Unshares, ℕ, ◌&&◌, ◌∙◌, ◌≡◌, none_of, any_found, map_alike, map_mapped}
 use Rattle.ksm_book.proofs.Laying.{LodgesAs, laid_mapped, retuned}
 use Rattle.ksm_book.proofs.Singles.{book}
 use Rattle.ksm_book.proofs.Unmerged.{in_scan, unshares_own}
-use Rattle.ksm_book.proofs.ByPage.{mapped_from, none_mapped}
+use Rattle.ksm_pages.proofs.Options.{none_mapped}
 
 -- the row at which there was a stop is the next of the shared ones
 stop_is : (rows : List Row) (k : ℕ) (at : Option Row) → IsStop rows k at → slice_get rows k ≡ at
-stop_is rows k None h = slice_get_past rows k (omega (arith, h))
+stop_is rows k None h = slice_get_past _ k (omega arith)
 stop_is rows k (Some row) h = h
 
 -- where there was a stop, the answer says so
 is_unmerged : (rows : List Row) (k : ℕ) (at : Option Row) → IsStop rows k at
     → IsUnmerged rows (Ok (Unmerged k (option_map (λ r. NoFrame r.home) at)))
 is_unmerged rows k None at = at
-is_unmerged rows k (Some row) at = subst (λ o. MatchOption o ⊥ (λ r. row.home ≡ r.home)) (sym at) refl
+is_unmerged rows k (Some row) at = rw at refl
 
 -- the first row of a guest is told, if it has one
 abbrev pub IsTold : PagesView → ℕ → Option Held → Type 0
@@ -26,8 +26,7 @@ pub has_told : (p : PagesView) (guest : ℕ) (o : Option Held) → IsTold p gues
 has_told p guest o told = any_found (is_of guest) p.rows ∙ (λ i. is_some (find (λ r. sym (and-true (is_of guest r)) i) p.rows)) ∙ by o told
   where
     by : (o : Option Held) → IsTold p guest o → is_some (find (is_next (Some guest) None) p.rows) ≡ is_some o
-    by None none = ap is_some none
-    by (Some held) found = ap is_some (mapped_from (λ (r : Row). r.page) _ held.spot.page found.1).1
+    by o none = grind arith
 
 -- `Unmerge` of a guest without a row is refused, and nothing changes
 pub unmerge_refused : (p : PagesView) (k : KeeperView) (cursor : Option GuestPage) (passes guest : ℕ)
@@ -56,14 +55,11 @@ pub unmerge_carried : {p q : PagesView} {k l : KeeperView} (cursor : Option Gues
     → Unshares p q k l (Some guest) count stop → has_guest (state_of p cursor passes) guest ≡ true
     → IsCarried (book p k cursor passes) (book q l cursor passes) (Unmerge guest) (Ok (Unmerged count stop))
 unmerge_carried {p} {q} {k} {l} cursor passes {guest} {count} {stop} u has =
-    let b = state_of p cursor passes in
-    let rows = shared_rows (is_of guest) b in
+    let rows = shared_rows (is_of guest) (state_of p cursor passes) in
     record {
       own = unshares_own u;
-      answer = rw (has, u.fault) (is_unmerged rows count u.at u.stands);
-      state = ap (λ x. state_of x cursor passes) u.pages
-          ∙ ap (λ o. record b { rows = change_rows (λ r. is_of guest r && is_before o r) let_go b.rows })
-          (sym (stop_is rows count u.at u.stands));
+      answer = rw (has, u.fault) (is_unmerged _ _ _ u.stands);
+      state = rw (u.pages, ← stop_is _ _ _ u.stands);
       steps = u.unmerges;
     }
 
@@ -76,22 +72,21 @@ module _ {p q : PagesView} {k : KeeperView} (cursor : Option GuestPage) (passes 
   mergeable_carried has = record {
     own = refl;
     answer = rw has tt;
-    state = ap (λ x. state_of x cursor passes) goes;
-    steps = record { keeper = refl; frame = ap (λ (x : PagesView). x.frame) goes };
+    state = rw goes;
+    steps = record { keeper = refl; frame = rw goes };
   }
 
   -- rows and dups lie lawfully once a guest's rows are in the scan
   pub mergeable_laid : IsLaid q k
-  mergeable_laid = subst (λ (x : PagesView). IsLaid x k) (sym goes) (laid_mapped h (λ r. if is_of guest r then in_scan r else r) q.restless
-      (λ r. cond_both (is_of guest r) (in_scan r) r (λ x. x.page ≡ r.page) (λ _. refl) (λ _. refl))
+  mergeable_laid = rw goes (laid_mapped h _ _ (λ r. cond_both _ _ r (λ x. x.page ≡ r.page) (λ _. refl) (λ _. refl))
       (λ i d lt. let r = get_or p.rows i d in
-      cond_both (is_of guest r) (in_scan r) r (λ x. LodgesAs x r) (λ _. (refl, refl, inl refl)) (λ _. (refl, refl, inl refl))))
+      cond_both _ _ r (λ x. LodgesAs x r) (λ _. (refl, refl, inl refl)) (λ _. (refl, refl, inl refl))))
 
 -- where all pages are asked for, those before the stop that were shared are unshared
 stopped_rows : (at : Option Row) (rows : List Row)
     → change_rows (λ r. of_guest None r && is_before at r) (left_by None) rows
     ≡ change_rows (λ r. shared_state r.state && is_before at r) unshared rows
-stopped_rows at rows = map_alike _ _ rows (λ i d lt. grind arith)
+stopped_rows at rows = map_alike _ _ _ (λ i d lt. grind arith)
 
 -- a run of 2
 module _ {p m : PagesView} {k l : KeeperView} (cursor : Option GuestPage) (passes : ℕ) {count : ℕ} {stop : Option Fault}
@@ -108,44 +103,43 @@ module _ {p m : PagesView} {k l : KeeperView} (cursor : Option GuestPage) (passe
   carried q cursor' frame state =
       record {
         own = unshares_own u;
-        answer = rw u.fault (is_unmerged met count u.at u.stands);
+        answer = rw u.fault (is_unmerged met _ _ u.stands);
         state = state;
-        steps = subst (λ f. UnmergesTo (take count met) stop (lying p k) (record { frame = f; keeper = l })) (sym frame) u.unmerges;
+        steps = rw frame u.unmerges;
       }
 
   across : knobs.merge_across_nodes ≡ m.knobs.merge_across_nodes
-  across = ap (λ (x : Knobs). x.merge_across_nodes) same ∙ sym (ap (λ (x : PagesView). x.knobs.merge_across_nodes) u.pages)
+  across = rw same (sym (rw u.pages))
 
   -- `SetRun` 2 is carried out, and all lies lawfully, where the unsharing of all rows stopped and run is 0 then
   pub unshare_stops : is_some stop ≡ true → {q : PagesView} → q ≡ record m { knobs = record knobs { run = 0 } }
       → IsCarried (book p k cursor passes) (book q l cursor passes) (SetRun 2) (Ok (Unmerged count stop)) × IsLaid q l
   unshare_stops some {q} goes =
       let rows = stopped_rows u.at p.rows
-      ∙ ap (λ o. change_rows (λ r. shared_state r.state && is_before o r) unshared p.rows) (sym (stop_is met count u.at u.stands)) in (
-        carried q cursor (ap (λ (x : PagesView). x.frame) goes) (ap (λ x. state_of x cursor passes) goes
-            ∙ (λ t. record (state_of (u.pages t) cursor passes) { knobs = record (same t) { run = 0 } })
-            ∙ (λ t. record b { rows = rows t; knobs = record p.knobs { run = 0 } }) ∙ by stop some),
-        subst (λ (x : PagesView). IsLaid x l) (sym goes) (retuned (record knobs { run = 0 }) (inl across) u.laid),
+      ∙ ap (λ o. change_rows (λ r. shared_state r.state && is_before o r) unshared p.rows) (sym (stop_is met _ _ u.stands)) in (
+        carried q _ (rw goes) (rw goes
+            ((λ t. record (state_of (u.pages t) cursor passes) { knobs = record (same t) { run = 0 } })
+            ∙ (λ t. record b { rows = rows t; knobs = record p.knobs { run = 0 } }) ∙ by _ some)),
+        rw goes (retuned _ (inl across) u.laid),
       )
     where
       by : (s : Option Fault) → is_some s ≡ true → record b {
         rows = change_rows (λ r. shared_state r.state && is_before (slice_get met count) r) unshared b.rows;
         knobs = record b.knobs { run = 0 };
       } ≡ unshare_stopped s count b
-      by None none = absurd (grind (arith, none))
+      by None none = absurd (grind arith)
       by (Some fault) _ = refl
 
   -- it went through
   module _ (none : is_some stop ≡ false) where
     went : m.rows ≡ map (left_by None) p.rows
-    went = ap (λ (x : PagesView). x.rows) u.pages ∙ ap (λ o. change_rows (λ r. of_guest None r && is_before o r) (left_by None) p.rows)
-        (none_mapped (λ (r : Row). NoFrame r.home) u.at (sym u.fault ∙ none_of stop none))
+    went = rw (u.pages, none_mapped _ _ (sym u.fault ∙ none_of _ none))
 
     -- where the unsharing of all rows did not stop, no row is merged or Zero
     pub unshare_none : All (λ r. shared_state r.state ≡ false) m.rows
     unshare_none = subst (All (λ r. shared_state r.state ≡ false)) (sym went)
-        (All-map (λ r. shared_state r.state ≡ false) (left_by None) p.rows (λ i d lt. let r = get_or p.rows i d in
-        cond_both (shared_state r.state) (unshared r) r (λ x. shared_state x.state ≡ false) (λ _. refl) (λ alone. alone)))
+        (All-map (λ r. shared_state r.state ≡ false) _ _ (λ i d lt. let r = get_or p.rows i d in
+        cond_both _ (unshared r) r (λ x. shared_state x.state ≡ false) (λ _. refl) (λ alone. alone)))
 
     -- `SetRun` 2 is carried out, and all lies lawfully, where the unsharing of all rows went through and run is 2 then
     pub unshare_ends : {w q : PagesView} → w ≡ record m { rows = map unshared m.rows; restless = w.restless }
@@ -153,18 +147,16 @@ module _ {p m : PagesView} {k l : KeeperView} (cursor : Option GuestPage) (passe
         → IsCarried (book p k cursor passes) (book q l None passes) (SetRun 2) (Ok (Unmerged count stop)) × IsLaid q l
     unshare_ends {w} {q} wide goes =
         let rows = ap (map unshared) went
-        ∙ map_mapped unshared (left_by None) unshared p.rows (λ i d lt. grind arith) in (
-          carried q None (ap (λ (x : PagesView). x.frame) goes ∙ ap (λ (x : PagesView). x.frame) wide)
-              (ap (λ x. state_of x None passes) goes
-              ∙ (λ t. record (state_of (wide t) None passes) { knobs = record knobs { run = 2 } })
-              ∙ (λ t. record (state_of (u.pages t) None passes) { rows = rows t; knobs = record (same t) { run = 2 } }) ∙ by stop none),
-          subst (λ (x : PagesView). IsLaid x l) (sym goes) (retuned (record knobs { run = 2 })
-              (inl (across ∙ sym (ap (λ (x : PagesView). x.knobs.merge_across_nodes) wide)))
+        ∙ map_mapped _ _ _ _ (λ i d lt. grind arith) in (
+          carried q None (rw (goes, wide))
+              (rw goes
+              ((λ t. record (state_of (wide t) None passes) { knobs = record knobs { run = 2 } })
+              ∙ (λ t. record (state_of (u.pages t) None passes) { rows = rows t; knobs = record (same t) { run = 2 } }) ∙ by _ none)),
+          rw goes (retuned _ (inl (across ∙ sym (ap (λ (x : PagesView). x.knobs.merge_across_nodes) wide)))
               (subst (λ (x : PagesView). IsLaid x l) (sym wide)
-              (laid_mapped u.laid unshared w.restless (λ r. refl) (λ i d lt. (refl, refl, inr (unshare_none i d lt, refl)))))),
+              (laid_mapped u.laid _ _ (λ r. refl) (λ i d lt. (refl, refl, inr (unshare_none i d lt, refl)))))),
         )
       where
         by : (s : Option Fault) → is_some s ≡ false
             → record b { rows = map unshared b.rows; cursor = None; knobs = record b.knobs { run = 2 } } ≡ unshare_stopped s count b
-        by None _ = refl
-        by (Some fault) some = absurd (grind (arith, some))
+        by s some = grind arith

@@ -1,5 +1,5 @@
 -- A place is emptied, and the dup that stood there goes.
-use Rattle.ksm_book.proofs.Names.{not-true, both_ways, Agrees, All, All-filter, ap, arith, DupFits, DupRow, elsewhere, eq-eqb, filter, filter_passes, frame_at, Frames, frames_of, get_or, get_or-set_other, get_or-set_same, is_some, IsInLife, Ledger, length, length-set, life_or, List, named_at, ne_eqb, None, not, Option, place_frame, Placed, refl, Row, RowFits, set, Shape, subst, sym, true, ℕ, ◌/◌, ◌<◌, ◌==◌, ◌∙◌, ◌≡◌, ◌≢◌, ◌≤◌}
+use Rattle.ksm_book.proofs.Names.{not-true, both_ways, Agrees, All, All-filter, ap, arith, DupFits, DupRow, elsewhere, eq-eqb, filter, filter_passes, frame_at, Frames, frames_of, get_or, get_or-set_other, get_or-set_same, is_some, IsInLife, Ledger, length-set, life_or, List, named_at, ne_eqb, None, not, Option, place_frame, Placed, refl, Row, set, Shape, subst, sym, true, ℕ, ◌<◌, ◌==◌, ◌∙◌, ◌≡◌, ◌≢◌, ◌≤◌}
 use mathlib.Core.Logic.{dite}
 use native.Mathlib.Decide.{ℕ_discrete}
 use Rattle.ksm_base.proofs.Changes.{contains_filter}
@@ -20,19 +20,19 @@ module _ {sh : Shape} {across : ℕ} {k : Ledger} {rows : List Row} {frame : Fra
   named_off r ne = get_or-set_other k.places q r None None ne
 
   frame_off : (e : DupRow) → e.place ≢ q → place_frame emptied e.place ≡ place_frame k e.place
-  frame_off e ne = ap (λ x. (life_or x).frame) (named_off e.place ne)
+  frame_off e ne = ap (λ x. (life_or x).frame) (named_off _ ne)
 
   off : (e : DupRow) → e.place ≢ q → IsInLife emptied e.place → IsInLife k e.place
-  off e ne l = ap (λ h. (frame_at k h).generation) (sym (frame_off e ne)) ∙ l ∙ ap (λ x. (life_or x).generation) (named_off e.place ne)
+  off e ne l = ap (λ h. (frame_at k h).generation) (sym (frame_off e ne)) ∙ l ∙ ap (λ x. (life_or x).generation) (named_off _ ne)
 
   on : (e : DupRow) → e.place ≢ q → IsInLife k e.place → IsInLife emptied e.place
-  on e ne l = ap (λ h. (frame_at k h).generation) (frame_off e ne) ∙ l ∙ ap (λ x. (life_or x).generation) (sym (named_off e.place ne))
+  on e ne l = ap (λ h. (frame_at k h).generation) (frame_off e ne) ∙ l ∙ ap (λ x. (life_or x).generation) (sym (named_off _ ne))
 
   -- what holds of each dup is said of those that stay
   staying : (P Q : DupRow → Type 0) → ((d : DupRow) → d.place ≢ q → P d → Q d) → All P dups → All Q (filter (elsewhere q) dups)
   staying P Q f h = λ n x lt. let e = get_or (filter (elsewhere q) dups) n x in
       f e (λ at. both_ways (e.place == q) (not-true (e.place == q) (filter_passes (elsewhere q) dups n x lt)) (eq-eqb e.place q at))
-      (All-filter (elsewhere q) P dups h n x lt)
+      (All-filter _ P _ h n x lt)
 
   -- rows and dups lie lawfully where the place names nothing and the dup that stood there is gone
   pub withdrawn : Placed sh across emptied rows frame (filter (elsewhere q) dups) hand
@@ -42,9 +42,9 @@ module _ {sh : Shape} {across : ℕ} {k : Ledger} {rows : List Row} {frame : Fra
     widths = p.widths;
     lives = p.lives;
     each_row = λ i r0 lt.
-        let r : Row = get_or rows i r0 in
-        served_as sh k emptied dups (filter (elsewhere q) dups) r r (frame r.page) refl (λ f is both.
-        let n : RowFits sh k r f = both.0 in (
+        let r = get_or rows i r0 in
+        served_as sh k _ _ _ r r _ refl (λ f is both.
+        let n = both.0 in (
           record { mapped = n.mapped; frame = n.frame; kind = n.kind; content = n.content; given = n.given; node = n.node },
           staying (Agrees k r f) (Agrees emptied r f) (λ e ne a. record {
             item = λ m. let y = a.item m in (y.0 ∙ sym (frame_off e ne), on e ne y.1);
@@ -53,18 +53,18 @@ module _ {sh : Shape} {across : ℕ} {k : Ledger} {rows : List Row} {frame : Fra
         )) (p.each_row i r0 lt);
     each_dup = staying (DupFits sh across k) (DupFits sh across emptied) (λ e ne m. record {
       place = m.place;
-      named = ap is_some (named_off e.place ne) ∙ m.named;
-      frame = subst (λ y. y < frames_of sh) (sym (frame_off e ne)) m.frame;
-      life = subst (λ (y : Option _). (life_or y).generation ≤ (frame_at k (life_or y).frame).generation) (sym (named_off e.place ne)) m.life;
-      content = λ life. ap (λ h. (frame_at k h).content) (frame_off e ne) ∙ m.content (off e ne life);
-      shown = λ life own. m.shown (off e ne life) (ap (λ h. (frame_at k h).kind) (sym (frame_off e ne)) ∙ own);
-      node = λ z. ap (λ h. h / sh.frames_per_node) (frame_off e ne) ∙ m.node z;
+      named = ap is_some (named_off _ ne) ∙ m.named;
+      frame = rw (frame_off e ne) m.frame;
+      life = subst (λ (y : Option _). (life_or y).generation ≤ (frame_at k (life_or y).frame).generation) (sym (named_off _ ne)) m.life;
+      content = λ life. rw (frame_off e ne) (m.content (off e ne life));
+      shown = λ life own. m.shown (off e ne life) (rw (← frame_off e ne) own);
+      node = λ z. rw (frame_off e ne) (m.node z);
     }) p.each_dup;
     bases = p.bases;
     kinds = p.kinds;
     empty = λ r h. dite (ℕ_discrete r q)
-        (λ e. ap (named_at emptied) e ∙ get_or-set_same k.places q None None (let pl : length k.places ≡ frames_of sh = p.places_long in omega (arith, pl, inside)))
+        (λ e. ap (named_at emptied) e ∙ get_or-set_same k.places q None None (let pl = p.places_long in omega arith))
         (λ ne. named_off r ne ∙ p.empty r (λ n x lt same.
-        let at = contains_filter (elsewhere q) dups (get_or dups n x) (Contains-get_or dups n x lt) (elsewhere_so q (get_or dups n x) (λ at. ne (sym same ∙ at))) in
+        let at = contains_filter _ _ _ (Contains-get_or _ n x lt) (elsewhere_so q (get_or dups n x) (λ at. ne (sym same ∙ at))) in
         subst (λ (e : DupRow). e.place ≢ r) at.2 (h at.0 (get_or dups n x) at.1) same));
   }

@@ -1,4 +1,4 @@
-use Rattle.ksm_book.proofs.Names.{ap, arith, dying_from, dying_kind, FindsNone, free_kind, KeeperView, MakesSteps, map, NoneOf, Reap, Shape, subst, sym, ℕ, ◌*◌, ◌+◌, ◌-◌, ◌∙◌, ◌≡◌, [], refl}
+use Rattle.ksm_book.proofs.Names.{ap, arith, dying_from, dying_kind, FindsNone, free_kind, KeeperView, NoneOf, Shape, subst, ℕ, ◌*◌, ◌+◌, ◌-◌, ◌∙◌, ◌≡◌, refl}
 use Rattle.ksm_book.proofs.Made.{made_none}
 use Rattle.ksm_book.proofs.Sweeps.{passed}
 use Rattle.ksm_book.proofs.frames.is_used_up.Goals as goal
@@ -16,12 +16,11 @@ in_vain v node none =
     let many = v.table.shape.frames_per_node in
     let all : many ≡ low + many - low = omega arith in
     let nothing : low - low ≡ 0 = omega arith in
-    let dying : dying_from v.ledger low many ≡ [] =
-    ap (dying_from v.ledger low) all ∙ passed v.ledger low v.ledger low (omega arith) (λ f ge. refl) (low + many) (omega arith) none.1 ∙ ap (dying_from v.ledger low) nothing in
+    let dying = ap (dying_from v.ledger low) all ∙ passed v.ledger low v.ledger low (omega arith) (λ f ge. refl) _ (omega arith) none.1 ∙ ap (dying_from v.ledger low) nothing in
     record {
-      reaped = subst (λ fs. MakesSteps v v (map Reap fs)) (sym dying) (made_none refl);
+      reaped = rw dying (made_none refl);
       none = none.0;
     }
 
 pub returns-in-None : goal.returns-in-None
-returns-in-None c used_up = in_vain c.args.keeper.now c.args.node (subst (HasNone c.args.keeper.now c.args.node) c.requires.shape (c.in_default.ensures, c.in-None.ensures))
+returns-in-None c used_up = in_vain _ _ (subst (HasNone c.args.keeper.now c.args.node) c.requires.shape (c.in_default.ensures, c.in-None.ensures))

@@ -1,4 +1,4 @@
-use Rattle.ksm_book.proofs.Names.{ap, frame_at, frames_of, holding, IsWritable, KeeperView, length, Note, Open, PAGE_WORDS, puts, Raise, raised, Shape, subst, sym, ◌<◌, ◌∙◌, ◌≡◌, Provides, opened, rules}
+use Rattle.ksm_book.proofs.Names.{ap, frame_at, holding, KeeperView, length, Open, PAGE_WORDS, puts, Raise, raised, Shape, subst, ◌<◌, ◌∙◌, ◌≡◌, Provides, opened, rules}
 use Rattle.ksm_book.proofs.Filling.{at_again, found_inside, raised_ready, follow, found_within, took}
 use Rattle.ksm_book.proofs.Made.{made_one, made_part, made_then}
 use Rattle.ksm_book.proofs.frames.take_frame.Goals as goal
@@ -6,14 +6,14 @@ use Rattle.ksm_book.proofs.frames.take_frame.Goals as goal
 ready : (c : goal.After-write-arg-1) → (c.in_ok-frame.frame < length c.raise.new.self.ledger.frames)
     × (frame_at c.raise.new.self.ledger c.in_ok-frame.frame ≡ raised (frame_at c.find_frame.new.keeper.ledger c.in_ok-frame.frame))
     × (length (frame_at c.raise.new.self.ledger c.in_ok-frame.frame).content ≡ PAGE_WORDS)
-ready c = raised_ready c.args.keeper.now c.find_frame.new.keeper c.args.node c.in_ok-frame.frame (subst (λ (s : Shape). c.args.node < s.nodes) c.requires.shape c.requires.node)
-    c.requires.lawful c.in_ok-frame.ensures c.raise.new.self c.raise.ensures.0 c.raise.ensures.1
+ready c = raised_ready _ _ _ _ (rw (← c.requires.shape) c.requires.node)
+    c.requires.lawful c.in_ok-frame.ensures _ _ c.raise.ensures.1
 
 pub write-requires-clause-within : goal.write-requires-clause-within
 write-requires-clause-within c = (ready c).0
 
 pub write-requires-clause-writable : goal.write-requires-clause-writable
-write-requires-clause-writable c = subst (λ (n : Note). IsWritable n.kind) (sym (ready c).1) tt
+write-requires-clause-writable c = rw (ready c).1 tt
 
 pub write-requires-clause-wide : goal.write-requires-clause-wide
 write-requires-clause-wide c = (ready c).2
@@ -22,12 +22,11 @@ pub open-requires-clause-may : goal.open-requires-clause-may
 open-requires-clause-may c =
     let frame = c.in_ok-frame.frame in
     let r = c.raise.new.self in
-    let now = raised_ready c.args.keeper.now c.find_frame.new.keeper c.args.node frame (subst (λ (s : Shape). c.args.node < s.nodes) c.requires.shape c.requires.node)
-    c.requires.lawful c.in_ok-frame.ensures r c.raise.ensures.0 c.raise.ensures.1 in (
-      subst (λ (s : Shape). frame < frames_of s)
-          (sym (ap (λ (z : KeeperView). z.table.shape) c.write.ensures.wrote ∙ ap (λ (z : KeeperView). z.table.shape) c.raise.ensures.1 ∙ ap (λ (z : KeeperView). z.table.shape) c.in_ok-frame.ensures.reaped.after))
-          (found_inside c.args.keeper.now c.find_frame.new.keeper c.args.node frame (subst (λ (s : Shape). c.args.node < s.nodes) c.requires.shape c.requires.node) c.requires.lawful c.in_ok-frame.ensures),
-      ap (λ k. (frame_at k frame).kind) c.write.ensures.ledger ∙ ap (λ (n : Note). n.kind) (at_again r.ledger frame now.0 (holding (frame_at r.ledger frame) c.args.bytes.now)) ∙ ap (λ (n : Note). n.kind) now.1,
+    let now = raised_ready _ _ _ _ (rw (← c.requires.shape) c.requires.node)
+    c.requires.lawful c.in_ok-frame.ensures r _ c.raise.ensures.1 in (
+      rw (ap (λ (z : KeeperView). z.table.shape) c.write.ensures.wrote ∙ ap (λ (z : KeeperView). z.table.shape) c.raise.ensures.1 ∙ ap (λ (z : KeeperView). z.table.shape) c.in_ok-frame.ensures.reaped.after)
+          (found_inside _ _ _ _ (rw (← c.requires.shape) c.requires.node) c.requires.lawful c.in_ok-frame.ensures),
+      rw (c.write.ensures.ledger, at_again r.ledger _ now.0 _, now.1),
     )
 
 abbrev provided : (c : goal.After-open) → Provides c.args.keeper.now c.open.new.self c.args.node c.args.bytes.now c.in_ok-frame.frame
@@ -47,11 +46,8 @@ returns-clause-provides c = provided c
 
 pub returns-clause-took : goal.returns-clause-took
 returns-clause-took c =
-    let v = c.args.keeper.now in
-    let w = c.find_frame.new.keeper in
     let frame = c.in_ok-frame.frame in
     let less = subst (λ (s : Shape). c.args.node < s.nodes) c.requires.shape c.requires.node in
-    let within = found_within v w c.args.node frame less c.requires.lawful c.in_ok-frame.ensures in
-    let fresh = raised (frame_at w.ledger frame) in
-    took less c.requires.lawful (search rules) (provided c) (follow w.ledger frame within (holding fresh c.args.bytes.now) opened (ap (λ (z : KeeperView). z.ledger) c.open.ensures)
-    (follow w.ledger frame within fresh (λ x. holding x c.args.bytes.now) c.write.ensures.ledger (ap (λ (z : KeeperView). z.ledger) c.raise.ensures.1)))
+    let within = found_within c.args.keeper.now c.find_frame.new.keeper _ _ less c.requires.lawful c.in_ok-frame.ensures in
+    took less c.requires.lawful (search rules) (provided c) (follow _ _ within _ opened (rw c.open.ensures)
+    (follow _ _ within _ (λ x. holding x c.args.bytes.now) c.write.ensures.ledger (ap (λ (z : KeeperView). z.ledger) c.raise.ensures.1)))

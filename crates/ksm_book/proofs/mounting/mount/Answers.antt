@@ -1,14 +1,13 @@
-use Rattle.ksm_book.proofs.Names.{List, MakesSteps, mounting, subst, ℕ, ◌∙◌, ap, arith, KeeperView, ledger_after, frame_at, holding, opened, raised, shown, set, Some, Stable, Publish, with_more, ◌+◌, ◌-◌, ◌≡◌}
+use Rattle.ksm_book.proofs.Names.{◌∙◌, ap, arith, KeeperView, frame_at, holding, opened, raised, shown, set, Some, Stable, with_more, ◌+◌, ◌-◌, ◌≡◌}
 use Rattle.ksm_book.proofs.Filling.{mounts, words_kept, again, at_again, follow}
 use Rattle.ksm_book.proofs.mounting.mount.Goals as goal
 
 pub returns-clause-made : goal.returns-clause-made
 returns-clause-made c =
     let v = c.args.keeper.now in
-    subst (λ (bs : List ℕ). MakesSteps v c.publish.new.self (mounting c.args.left c.args.frame c.args.place c.args.count bs))
-    (c.load-bytes.ensures.bytes ∙ words_kept v c.raise.new.self c.args.left c.args.frame c.raise.ensures.0 c.requires.may.free c.requires.may.dying c.raise.ensures.1)
-    (mounts v c.raise.new.self c.load-bytes.new.keeper c.write.new.keeper c.open.new.self c.add_times.new.keeper c.publish.new.self c.args.left c.args.frame c.args.place c.args.count
-    c.raise.ensures.0 _ c.load-bytes.result c.raise.ensures.1 c.load-bytes.ensures.loaded c.write.ensures.wrote c.open.ensures c.add_times.ensures.made c.publish.ensures)
+    rw (← (c.load-bytes.ensures.bytes ∙ words_kept v _ _ _ _ c.requires.may.free c.requires.may.dying c.raise.ensures.1))
+    (mounts v _ _ _ _ _ _ _ _ _ _
+    _ _ _ c.raise.ensures.1 c.load-bytes.ensures.loaded c.write.ensures.wrote c.open.ensures c.add_times.ensures.made c.publish.ensures)
 
 pub returns-clause-ledger : goal.returns-clause-ledger
 returns-clause-ledger c =
@@ -16,18 +15,18 @@ returns-clause-ledger c =
     let g = c.args.frame in
     let may = c.requires.may in
     let raises = ap (λ (z : KeeperView). z.ledger) c.raise.ensures.1 in
-    let writes = follow k g may.known (raised (frame_at k g)) (λ x. holding x c.load-bytes.result) c.write.ensures.ledger (c.load-bytes.ensures.ledger ∙ raises) in
-    let opens = follow k g may.known (holding (raised (frame_at k g)) c.load-bytes.result) opened (ap (λ (z : KeeperView). z.ledger) c.open.ensures) writes in
-    let adds = follow k g may.known (opened (holding (raised (frame_at k g)) c.load-bytes.result)) (λ x. with_more x (c.args.count - 1)) c.add_times.ensures.ledger opens in
+    let writes = follow k g may.known _ (λ x. holding x c.load-bytes.result) c.write.ensures.ledger (c.load-bytes.ensures.ledger ∙ raises) in
+    let opens = follow k g may.known _ opened (rw c.open.ensures) writes in
+    let adds = follow k g may.known _ (λ x. with_more x (c.args.count - 1)) c.add_times.ensures.ledger opens in
     let full = with_more (opened (holding (raised (frame_at k g)) c.load-bytes.result)) (c.args.count - 1) in
-    let sum : 1 + (c.args.count - 1) ≡ c.args.count = (let some = may.some in omega (arith, some)) in
-    let words = c.load-bytes.ensures.bytes ∙ words_kept c.args.keeper.now c.raise.new.self c.args.left g c.raise.ensures.0 may.free may.dying c.raise.ensures.1 in
-    ap (λ (z : KeeperView). z.ledger) c.publish.ensures ∙ ap (λ z. ledger_after c.add_times.new.keeper.table.shape z (Publish c.args.place g) 0) adds
-    ∙ (λ t. record {
+    let sum : 1 + (c.args.count - 1) ≡ c.args.count = (let some = may.some in omega arith) in
+    let words = c.load-bytes.ensures.bytes ∙ words_kept _ _ _ g _ may.free may.dying c.raise.ensures.1 in
+    rw (c.publish.ensures, adds)
+    ((λ t. record {
       frames = (again k g may.known full shown t).frames;
       places = set k.places c.args.place (Some (record { frame = g; generation = (at_again k g may.known full t).generation }));
     })
     ∙ (λ t. record {
       frames = set k.frames g (record { kind = Stable; base = sum t; generation = (frame_at k g).generation + 1; content = words t });
       places = set k.places c.args.place (Some (record { frame = g; generation = (frame_at k g).generation + 1 }));
-    })
+    }))

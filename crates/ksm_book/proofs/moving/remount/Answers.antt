@@ -15,12 +15,12 @@ base-items-requires c =
 
 pub returns-then-not-freeze-clause-remounted : goal.returns-then-not-freeze-clause-remounted
 returns-then-not-freeze-clause-remounted c =
-    stays c.requires.may c.dup_frame-left.ensures c.lie_in_order.ensures.absent c.in-Some.ensures c.freeze.ensures.0
-    c.freeze.ensures.1 (λ e. absurd (grind (arith, c.if-not-freeze.true, c.freeze.ensures.2.1 e)))
+    stays c.requires.may c.dup_frame-left.ensures c.lie_in_order.ensures.absent c.in-Some.ensures _
+    c.freeze.ensures.1 (λ e. absurd (grind (arith, c.freeze.ensures.2.1 e)))
 
 pub mount-requires-clause-may : goal.mount-requires-clause-may
 mount-requires-clause-may c =
-    may_mount c.requires.may c.dup_frame-left.ensures c.lie_in_order.ensures.absent c.in-Some.ensures c.freeze.ensures.0
+    may_mount c.requires.may c.dup_frame-left.ensures c.lie_in_order.ensures.absent c.in-Some.ensures _
     c.freeze.ensures.1 (c.freeze.ensures.2.0 c.if-not-freeze.false) c.base-items.ensures
 
 pub set_dup_frame-requires : goal.set_dup_frame-requires
@@ -28,10 +28,9 @@ set_dup_frame-requires c = taken_place c.requires.may
 
 pub returns-clause-remounted : goal.returns-clause-remounted
 returns-clause-remounted c =
-    has_remounted c.requires.may c.dup_frame-left.ensures c.lie_in_order.ensures.absent c.in-Some.ensures c.freeze.ensures.0
+    has_remounted c.requires.may c.dup_frame-left.ensures c.lie_in_order.ensures.absent c.in-Some.ensures _
     c.freeze.ensures.1 (c.freeze.ensures.2.0 c.if-not-freeze.false) c.base-items.ensures c.mount.ensures.made
-    c.mount.ensures.ledger
-    (seen c.set_dup_frame.new.self)
+    c.mount.ensures.ledger _
     (find_all (λ d. d.place == c.args.dup.place && has_items c.args.pages.now.rows d)
     (λ d. d.place ≡ c.args.dup.place → seen c.set_dup_frame.new.self
     ≡ record (seen c.args.pages.now) { frame = items_on d.number c.in-Some.frame c.args.pages.now.rows (seen c.args.pages.now).frame })

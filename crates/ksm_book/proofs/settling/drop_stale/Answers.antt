@@ -1,4 +1,4 @@
-use Rattle.ksm_book.proofs.Names.{ap, arith, count_by, is_stale, PagesView, seen, sym, ◌∙◌}
+use Rattle.ksm_book.proofs.Names.{ap, arith, count_by, is_stale, PagesView, sym, ◌∙◌}
 use Rattle.ksm_book.proofs.Pruning.{drop_few, drop_fewer, drop_vacant, drops_more, drop_may, dropped}
 use Rattle.ksm_book.proofs.settling.drop_stale.Goals as goal
 
@@ -10,17 +10,16 @@ drop_stale-requires c = drop_vacant c.stale.invariant (sym c.in-Some.is ∙ c.st
 
 pub stale-preserved : goal.stale-preserved
 stale-preserved c =
-    drops_more c.stale.invariant (sym c.in-Some.is ∙ c.stale_place.ensures) (seen c.drop_stale.new.self) c.withdraw.new.self
-    c.withdraw.ensures c.drop_stale.ensures
+    drops_more c.stale.invariant (sym c.in-Some.is ∙ c.stale_place.ensures) _ _ c.withdraw.ensures c.drop_stale.ensures
 
 pub overflow_add-count : goal.overflow_add-count
-overflow_add-count c = let few = drop_few c.stale.invariant (sym c.in-Some.is ∙ c.stale_place.ensures) in omega (arith, few)
+overflow_add-count c = let few = drop_few c.stale.invariant (sym c.in-Some.is ∙ c.stale_place.ensures) in omega arith
 
 pub stale-smaller : goal.stale-smaller
 stale-smaller c =
     let fewer = drop_fewer c.stale.invariant (sym c.in-Some.is ∙ c.stale_place.ensures) in
     let dups = ap (λ (p : PagesView). count_by (is_stale c.args.pages.now.rows) p.dups) c.drop_stale.ensures in
-    omega (arith, fewer, dups)
+    omega arith
 
 pub returns : goal.returns
 returns c =

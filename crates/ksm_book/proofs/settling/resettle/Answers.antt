@@ -1,4 +1,4 @@
-use Rattle.ksm_book.proofs.Names.{refl, seen}
+use Rattle.ksm_book.proofs.Names.{refl}
 use Rattle.ksm_book.proofs.Resettled.{may_left, resettled, turned}
 use Rattle.ksm_book.proofs.settling.resettle.Goals as goal
 
@@ -7,9 +7,9 @@ returns-in_default-clause-turned c = (refl, turned c.requires.laid c.requires.no
 
 pub release_if-requires-clause-may : goal.release_if-requires-clause-may
 release_if-requires-clause-may c =
-    may_left c.requires.laid c.lie_in_order.ensures.rise c.args.spot.page c.requires.known c.in-Some.ensures.provides c.in-Some.ensures.took c.resettle-left.result c.resettle-left.ensures.left
+    may_left c.requires.laid c.lie_in_order.ensures.rise _ c.requires.known c.in-Some.ensures.provides c.in-Some.ensures.took _ c.resettle-left.ensures.left
 
 pub returns-clause-resettled : goal.returns-clause-resettled
 returns-clause-resettled c =
-    resettled c.requires.laid c.lie_in_order.ensures.rise c.args.spot.page c.requires.known c.in-Some.ensures.provides c.in-Some.ensures.took c.resettle-left.result c.resettle-left.ensures.left
-    (seen c.resettle-left.new.self) c.release_if.new.keeper c.resettle-left.ensures.settled c.release_if.ensures
+    resettled c.requires.laid c.lie_in_order.ensures.rise _ c.requires.known c.in-Some.ensures.provides c.in-Some.ensures.took _ c.resettle-left.ensures.left
+    _ _ c.resettle-left.ensures.settled c.release_if.ensures

@@ -3,11 +3,11 @@ use Rattle.ksm_book.proofs.Unmerged.{left_alone, left_any, left_guest, left_know
 use Rattle.ksm_book.proofs.unmerging.leave.Goals as goal
 
 pub returns-then-is_some-clause-left : goal.returns-then-is_some-clause-left
-returns-then-is_some-clause-left c = left_alone c.args.guest c.requires.held c.requires.laid c.lie_in_order.ensures.rise c.if-not-held.true
+returns-then-is_some-clause-left c = left_alone _ c.requires.held c.requires.laid c.lie_in_order.ensures.rise c.if-not-held.true
     (sym c.is_some.ensures ∙ c.if-is_some.true) c.let_go.ensures
 
 pub returns-else-is_some-clause-left : goal.returns-else-is_some-clause-left
-returns-else-is_some-clause-left c = left_still c.args.guest c.requires.held c.requires.laid c.lie_in_order.ensures.rise c.if-not-held.true
+returns-else-is_some-clause-left c = left_still _ c.requires.held c.requires.laid c.lie_in_order.ensures.rise c.if-not-held.true
     (sym c.is_some.ensures ∙ c.if-is_some.false)
 
 pub let_go-requires-then-is_some-2 : goal.let_go-requires-then-is_some-2
@@ -15,7 +15,7 @@ let_go-requires-then-is_some-2 c = left_lone c.args.guest c.requires.held c.requ
     c.if-not-held.false c.bytes-bytes.ensures c.in_default.ensures.resettled
 
 pub returns-then-is_some-2-clause-left : goal.returns-then-is_some-2-clause-left
-returns-then-is_some-2-clause-left c = left_guest c.args.guest c.requires.held c.requires.laid c.lie_in_order.ensures.rise
+returns-then-is_some-2-clause-left c = left_guest _ c.requires.held c.requires.laid c.lie_in_order.ensures.rise
     c.if-not-held.false c.bytes-bytes.ensures c.in_default.ensures.resettled
     (sym c.is_some-2.ensures ∙ c.if-is_some-2.true) c.let_go-then-is_some-2.ensures
 
@@ -24,6 +24,6 @@ forget_unchanged-requires c = left_known c.args.guest c.requires.held c.requires
     c.if-not-held.false c.bytes-bytes.ensures c.in_default.ensures.resettled
 
 pub returns-clause-left : goal.returns-clause-left
-returns-clause-left c = left_any c.args.guest c.requires.held c.requires.laid c.lie_in_order.ensures.rise
+returns-clause-left c = left_any _ c.requires.held c.requires.laid c.lie_in_order.ensures.rise
     c.if-not-held.false c.bytes-bytes.ensures c.in_default.ensures.resettled
     (sym c.is_some-2.ensures ∙ c.if-is_some-2.false) c.forget_unchanged.ensures

@@ -1,5 +1,4 @@
-use Rattle.ksm_book.proofs.Names.{arith, is_of, length, rules, seen, Some, sym, ◌∙◌}
-use Rattle.ksm_base.specs.Counting.{mergeable_count}
+use Rattle.ksm_book.proofs.Names.{arith, is_of, rules, seen, Some, sym, ◌∙◌}
 use Rattle.std.proofs.lemmas.Bool.Decides.{Decides-eqb}
 use Rattle.ksm_book.proofs.Along.{further, not_far}
 use Rattle.ksm_book.proofs.Unmerged.{marking_end, marking_next, stay_in_scan}
@@ -11,10 +10,9 @@ pages-preserved c =
 
 pub pages-smaller : goal.pages-smaller
 pages-smaller c =
-    let page = c.in-Some.held.spot.page in
-    let far = further (Some c.args.guest) c.pages.last c.pages.pages.rows page c.pages.invariant.fits c.in-Some.ensures.1 in
-    let end = not_far (Some page) (search rules, search rules) in
-    omega (arith, far, end)
+    let far = further (Some c.args.guest) _ c.pages.pages.rows _ c.pages.invariant.fits c.in-Some.ensures.1 in
+    let end = not_far (Some c.in-Some.held.spot.page) (search rules, search rules) in
+    omega arith
 
 pub returns : goal.returns
 returns c = marking_end c.pages.invariant c.in_default.ensures
@@ -23,5 +21,5 @@ pub returns-then-all_mergeable : goal.returns-then-all_mergeable
 returns-then-all_mergeable c =
     let rows = c.args.pages.now.rows in
     λ i. record (seen c.args.pages.now) {
-      rows = stay_in_scan (is_of c.args.guest) rows ((Decides-eqb (mergeable_count rows) (length rows)).0 (sym c.all_mergeable.ensures ∙ c.if-all_mergeable.true)) i;
+      rows = stay_in_scan (is_of c.args.guest) _ ((Decides-eqb _ _).0 (sym c.all_mergeable.ensures ∙ c.if-all_mergeable.true)) i;
     }

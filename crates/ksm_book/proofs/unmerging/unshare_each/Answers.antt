@@ -26,10 +26,9 @@ pages-preserved c =
 
 pub pages-smaller : goal.pages-smaller
 pages-smaller c =
-    let page = c.in-Some.held.spot.page in
-    let far = further c.args.guest c.pages.last c.pages.pages.rows page c.pages.invariant.fits c.in-Some.ensures.1 in
-    let end = not_far (Some page) (search rules, search rules) in
-    omega (arith, far, end)
+    let far = further c.args.guest _ c.pages.pages.rows _ c.pages.invariant.fits c.in-Some.ensures.1 in
+    let end = not_far (Some c.in-Some.held.spot.page) (search rules, search rules) in
+    omega arith
 
 pub returns-clause-unshares : goal.returns-clause-unshares
 returns-clause-unshares c = unsharing_end c.pages.invariant c.lie_in_order.ensures.rise c.in_default.ensures

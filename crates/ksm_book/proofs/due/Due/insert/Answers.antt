@@ -1,4 +1,4 @@
-use Rattle.ksm_book.proofs.Names.{ap, DueView, has_item, is_some, sym, true, ◌∙◌}
+use Rattle.ksm_book.proofs.Names.{ap, DueView, is_some, sym, true, ◌∙◌}
 use Rattle.ksm_pages.specs.Held.{pages_of}
 use Rattle.ksm_pages.specs.declared.named.Named.{Named}
 use Rattle.ksm_book.proofs.Dues.{has_already, has_first, has_found, inserted_has, inserted_rises, pages_in}
@@ -10,20 +10,17 @@ abbrev named : After-insert → Named
 named c = record { page = c.args.spot.page; key = c.unwrap_or-key.result; mergeable = true }
 
 pub invariant_of-self : goal.invariant_of-self
-invariant_of-self c =
-    inserted_rises c.insert.result (named c) c.self.inside.order c.insert.new.self c.self.invariant
-    c.insert.ensures.added c.insert.ensures.kept
+invariant_of-self c = inserted_rises _ _ _ _ c.self.invariant c.insert.ensures.added c.insert.ensures.kept
 
 pub returns-in-Some-clause-added : goal.returns-in-Some-clause-added
 returns-in-Some-clause-added c =
     let order = c.self.inside.order in
     let page = c.args.spot.page in
-    has_already page c.args.self.now.pages
-    (ap (λ (d : DueView). has_item page d.pages) (sym c.self.view_is)
-    ∙ has_first page (pages_in order) (pages_of c.self.inside.added.items)
-    (has_found page order ∙ ap is_some (sym c.find.ensures ∙ c.in-Some.is)))
+    has_already _ _
+    (rw (← c.self.view_is)
+    (has_first page (pages_in order) (pages_of c.self.inside.added.items)
+    (has_found page order ∙ ap is_some (sym c.find.ensures ∙ c.in-Some.is))))
 
 pub returns-in-None-clause-added : goal.returns-in-None-clause-added
 returns-in-None-clause-added c =
-    inserted_has c.insert.result (named c) c.self.inside.order c.insert.new.self (pages_of c.self.inside.added.items)
-    c.args.self.now.pages (ap (λ (d : DueView). d.pages) c.self.view_is) c.insert.ensures.added
+    inserted_has _ _ _ _ _ _ (ap (λ (d : DueView). d.pages) c.self.view_is) c.insert.ensures.added

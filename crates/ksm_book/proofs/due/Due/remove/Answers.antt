@@ -5,24 +5,19 @@ use Rattle.ksm_book.proofs.due.Due.remove.Goals as goal
 
 pub remove-requires : goal.remove-requires
 remove-requires c =
-    let s = c.self.inside in
     record {
-      there = sym (has_found c.args.page s.order)
+      there = sym (has_found c.args.page c.self.inside.order)
           ∙ sym (ap (has_item c.args.page)
-          (none_added s.known s.order s.added.items (ap (λ (d : DueView). d.ready) c.self.view_is ∙ c.requires.ready)))
+          (none_added _ _ _ (ap (λ (d : DueView). d.ready) c.self.view_is ∙ c.requires.ready)))
           ∙ ap (λ (d : DueView). has_item c.args.page d.pages) c.self.view_is ∙ c.requires.due;
     }
 
 pub invariant_of-self : goal.invariant_of-self
-invariant_of-self c =
-    subst AreAscending (sym c.remove.ensures) (taken_rises c.args.page c.self.inside.order c.self.invariant)
+invariant_of-self c = subst AreAscending (sym c.remove.ensures) (taken_rises _ _ c.self.invariant)
 
 pub returns-clause-gone : goal.returns-clause-gone
 returns-clause-gone c = λ other.
-    let s = c.self.inside in
     let ready = ap (λ (d : DueView). d.ready) c.self.view_is ∙ c.requires.ready in
-    ap (has_item other) (none_added s.known c.remove.new.self s.added.items ready)
-    ∙ ap (λ order. has_item other (pages_in order)) c.remove.ensures
-    ∙ has_taken c.args.page s.order other
-    ∙ ap (λ l. has_item other l && not (same_page c.args.page other))
-    (sym (none_added s.known s.order s.added.items ready) ∙ ap (λ (d : DueView). d.pages) c.self.view_is)
+    ap (has_item other) (none_added _ _ _ ready) ∙ ap (λ order. has_item other (pages_in order)) c.remove.ensures
+    ∙ has_taken c.args.page c.self.inside.order other ∙ ap (λ l. has_item other l && not (same_page c.args.page other))
+    (rw (← c.self.view_is) (sym (none_added _ _ _ ready)))

@@ -10,8 +10,7 @@ gone : (c : goal.After-release_if) → Carries (seen c.self.inside.pages) c.self
     c.release_if.new.keeper c.self.inside.cursor c.self.inside.passes (Drop c.in-Some.held.spot.page) (Ok Done)
 gone c =
     drop_gone c.self.invariant.1 c.self.invariant.0.rows_rise (row_held c.in-Some.ensures) c.remove-left.ensures.left
-    c.self.inside.cursor c.self.inside.passes (seen c.remove-left.new.self) c.release_if.new.keeper c.remove-left.ensures.gone
-    c.release_if.ensures
+    _ _ _ _ c.remove-left.ensures.gone c.release_if.ensures
 
 pub returns : goal.returns
 returns c = carried_so c.self.view_is (ap Drop c.in-Some.ensures.spot) (gone c).0

@@ -1,13 +1,11 @@
-use Rattle.ksm_book.proofs.Names.{after_cursor, ap, arith, count_by-le-length, filter_all, GuestPage, length, length-filter, not, refl, sym, up_to, ◌∙◌}
+use Rattle.ksm_book.proofs.Names.{after_cursor, ap, arith, count_by-le-length, filter_all, GuestPage, length, length-filter, not, refl, sym, ◌∙◌}
 use Rattle.ksm_book.proofs.state.State.listed_to.Goals as goal
 
 pub returns-in-Some-clause-within : goal.returns-in-Some-clause-within
 returns-in-Some-clause-within c =
     let low = λ (p : GuestPage). not (after_cursor c.args.last p) in
     let pages = c.args.self.now.restless.pages in
-    omega (arith, c.listed_up_to.ensures, length-filter low pages, count_by-le-length low pages)
+    omega (arith, length-filter low pages, count_by-le-length low pages)
 
 pub returns-in-None-clause-many : goal.returns-in-None-clause-many
-returns-in-None-clause-many c =
-    let pages = c.args.self.now.restless.pages in
-    c.listed_len.ensures ∙ ap length (sym (filter_all (up_to c.args.last) pages (λ k d lt. rw c.in-None.is refl)))
+returns-in-None-clause-many c = c.listed_len.ensures ∙ ap length (sym (filter_all _ _ (λ k d lt. rw c.in-None.is refl)))

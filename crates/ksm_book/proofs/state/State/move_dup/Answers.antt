@@ -1,4 +1,4 @@
-use Rattle.ksm_book.proofs.Names.{ap, BookView, IsCarried, inl, inr, Knobs, KeeperView, MayMove, MoveDup, PagesView, refl, seen, Shape, state_of, subst, sym, ◌<◌, ◌∙◌}
+use Rattle.ksm_book.proofs.Names.{IsCarried, inl, inr, MayMove, MoveDup, refl, seen, state_of, subst, sym}
 use Rattle.ksm_book.proofs.DupMoves.{done_carried, fault_carried, live_there}
 use Rattle.ksm_book.proofs.Singles.{book, carried_so}
 use Rattle.ksm_book.proofs.state.State.move_dup.Goals as goal
@@ -11,11 +11,11 @@ may c =
     record {
       laid = c.self.invariant.1;
       sound = (s.cursor, s.passes, c.self.invariant.0);
-      live = live_there (state_of (seen s.pages) s.cursor s.passes) c.args.place c.args.node c.in-Some.dup c.in-Some.ensures;
-      exists = subst (λ (x : Shape). c.args.node < x.nodes) c.shape.ensures c.if-node-shape.false;
+      live = live_there (state_of (seen s.pages) s.cursor s.passes) _ c.args.node _ c.in-Some.ensures;
+      exists = rw (← c.shape.ensures) c.if-node-shape.false;
       home = elim c.else-knobs-eq0.either [
         | inl both ↦ λ _. sym both.1
-        | inr differ ↦ λ none. absurd (differ (ap (λ (x : Knobs). x.merge_across_nodes) c.knobs.ensures ∙ none))
+        | inr differ ↦ λ none. absurd (differ (rw c.knobs.ensures none))
       ];
     }
 
@@ -25,18 +25,16 @@ remount-requires-clause-may c = may ((goal.at.remount-requires-clause-may c).Joi
 pub returns : goal.returns
 returns c =
     let s = c.self.inside in
-    let p : PagesView = seen s.pages in
-    let q : PagesView = seen c.remount.new.pages in
-    let l : KeeperView = c.remount.new.keeper in
-    let old : BookView = book p s.keeper s.cursor s.passes in
-    let new : BookView = book q l s.cursor s.passes in
+    let p = seen s.pages in
+    let q = seen c.remount.new.pages in
+    let l = c.remount.new.keeper in
+    let old = book p s.keeper s.cursor s.passes in
+    let new = book q l s.cursor s.passes in
     let command = MoveDup c.args.place c.args.node in
     let there = may ((goal.at.returns c).Joined-else-knobs-eq0) in
     carried_so c.self.view_is refl (elim c.match-remount.branch [
       | in-Ok w ↦ subst (IsCarried old new command) (sym w.result-is)
-          (done_carried p q s.keeper l s.cursor s.passes c.args.place c.args.node c.in-Some.dup c.in-Some.ensures there c.remount.ensures.own
-          w.in-Ok.ensures.remounted)
+          (done_carried p q _ l _ _ _ _ _ c.in-Some.ensures there c.remount.ensures.own w.in-Ok.ensures.remounted)
       | in-Err w ↦ subst (IsCarried old new command) (sym w.result-is)
-          (fault_carried p q s.keeper l s.cursor s.passes c.args.place c.args.node c.in-Some.dup c.in-Some.ensures there c.remount.ensures.own
-          w.in-Err.fault w.in-Err.ensures.remounted)
+          (fault_carried p q _ l _ _ _ _ _ c.in-Some.ensures there c.remount.ensures.own _ w.in-Err.ensures.remounted)
     ])

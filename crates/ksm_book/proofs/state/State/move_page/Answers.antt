@@ -1,33 +1,32 @@
-use Rattle.ksm_book.proofs.Names.{ap, IsCarried, Done, MovePage, ne_eqb, Ok, option_map, refl, Resettled, same_Some, seen, Shape, subst, sym, view_of, ◌<◌, ◌∙◌, ◌≡◌, MatchOption, private_state, true, false}
+use Rattle.ksm_book.proofs.Names.{ap, Done, MovePage, ne_eqb, Ok, option_map, refl, Resettled, same_Some, seen, subst, sym, view_of, ◌∙◌, true, false}
 use Rattle.ksm_book.proofs.Shown.{resettles_own}
-use Rattle.ksm_book.proofs.Singles.{book, carried_so, move_home, move_moved, sound_carried, row_held, Carries, found_resettled}
+use Rattle.ksm_book.proofs.Singles.{carried_so, move_home, move_moved, sound_carried, row_held, Carries, found_resettled}
 use Rattle.ksm_book.proofs.state.State.move_page.Goals as goal
 
 pub returns-then-held-node : goal.returns-then-held-node
 returns-then-held-node c =
     carried_so c.self.view_is refl
-    (subst (λ x. IsCarried (book (seen c.self.inside.pages) c.self.inside.keeper c.self.inside.cursor c.self.inside.passes) x (MovePage c.args.page c.args.node) (Ok Done)) (ap view_of c.self.view_is)
-    (move_home (seen c.self.inside.pages) c.self.inside.keeper c.self.inside.cursor c.self.inside.passes c.args.page c.args.node c.in-Some.ensures.row c.self.invariant.0.rows_rise c.in-Some.ensures.found
-    (subst (λ (s : Shape). c.args.node < s.nodes) c.shape.ensures c.if-node-shape.false) (sym c.in-Some.ensures.home ∙ c.if-held-node.true)))
+    (rw (← ap view_of c.self.view_is)
+    (move_home (seen c.self.inside.pages) _ _ _ _ _ _ c.self.invariant.0.rows_rise c.in-Some.ensures.found
+    (rw (← c.shape.ensures) c.if-node-shape.false) (sym c.in-Some.ensures.home ∙ c.if-held-node.true)))
 
 pub set_home-requires : goal.set_home-requires
-set_home-requires c = subst (λ o. MatchOption o (true ≡ false) (λ r. private_state r.state ≡ true))
-    (sym (found_resettled c.in_default-resettle.ensures.resettled (row_held c.in-Some.ensures))) refl
+set_home-requires c = rw (found_resettled c.in_default-resettle.ensures.resettled (row_held c.in-Some.ensures)) refl
 
 moved_there : (c : goal.After-set_home) → Carries (seen c.self.inside.pages) c.self.inside.keeper (seen c.set_home.new.self)
     c.resettle.new.keeper c.self.inside.cursor c.self.inside.passes (MovePage c.in-Some.held.spot.page c.args.node) (Ok Done)
 moved_there c =
     let found = row_held c.in-Some.ensures in
-    let bytes : c.bytes-bytes.result ≡ c.in-Some.ensures.row.bytes = same_Some _ _ (sym c.bytes-bytes.ensures ∙ ap (option_map (λ r. r.bytes)) found) in
-    move_moved (seen c.self.inside.pages) c.self.inside.keeper c.self.inside.cursor c.self.inside.passes c.in-Some.held.spot.page c.args.node c.in-Some.ensures.row c.self.invariant.0.rows_rise found
-    (subst (λ (s : Shape). c.args.node < s.nodes) c.shape.ensures c.if-node-shape.false) c.resettle.new.keeper (resettles_own c.in_default-resettle.ensures.resettled.resettles)
+    let bytes = same_Some _ _ (sym c.bytes-bytes.ensures ∙ ap (option_map (λ r. r.bytes)) found) in
+    move_moved _ _ _ _ _ _ _ c.self.invariant.0.rows_rise found
+    (rw (← c.shape.ensures) c.if-node-shape.false) _ (resettles_own c.in_default-resettle.ensures.resettled.resettles)
     (ne_eqb c.in-Some.ensures.row.home c.args.node (λ e. c.if-held-node.false (c.in-Some.ensures.home ∙ e)))
-    (seen c.resettle.new.pages) (seen c.set_home.new.self) c.self.invariant.1
+    _ _ c.self.invariant.1
     (subst (λ bs. Resettled (seen c.self.inside.pages) (seen c.resettle.new.pages) c.self.inside.keeper c.resettle.new.keeper c.in-Some.held.spot.page c.args.node bs) bytes c.in_default-resettle.ensures.resettled)
     c.set_home.ensures
 
 pub returns : goal.returns
-returns c = carried_so c.self.view_is (ap (λ q. MovePage q c.args.node) c.in-Some.ensures.spot) (moved_there c).0
+returns c = carried_so c.self.view_is (rw c.in-Some.ensures.spot) (moved_there c).0
 
 pub invariant_of-self-2 : goal.invariant_of-self-2
 invariant_of-self-2 c = (sound_carried c.self.invariant.0 (moved_there c).0, (moved_there c).1)

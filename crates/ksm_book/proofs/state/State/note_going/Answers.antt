@@ -1,16 +1,8 @@
-use Rattle.ksm_book.proofs.Names.{GuestPage, has_item, row_at, subst, ◌||◌, ◌≡◌}
-use Rattle.ksm_pages.specs.Paged.{page_beside}
-use Rattle.ksm_tree.specs.Waits.{names}
 use Rattle.ksm_book.proofs.DueBroken.{left_dropped}
 use Rattle.ksm_book.proofs.state.State.note_going.Goals as goal
 
 pub returns-in-Some-clause-gone : goal.returns-in-Some-clause-gone
 returns-in-Some-clause-gone c = λ known row found.
-    let b = c.args.self.now.state in
-    let old = c.args.due.now.pages in
-    let new = c.note_leaving.new.due.pages in
     let left = c.note_leaving.ensures known in
-    left_dropped b c.args.page old new (c.requires.due left.0)
-    (subst (λ q. (p : GuestPage) → has_item p new ≡ (names p (page_beside b.knobs b.rows (row_at q b.rows)) || has_item p old))
-    c.in-Some.ensures.spot left.1)
+    left_dropped c.args.self.now.state _ c.args.due.now.pages c.note_leaving.new.due.pages (c.requires.due left.0) (rw (← c.in-Some.ensures.spot) left.1)
     c.lies_lawfully.ensures.sound row found

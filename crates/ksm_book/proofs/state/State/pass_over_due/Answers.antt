@@ -13,5 +13,4 @@ returns-in-Ok-clause-visited c =
 
 pub returns-in-Err-clause-stopped : goal.returns-in-Err-clause-stopped
 returns-in-Err-clause-stopped c =
-    part_stops c.args.self.now c.lies_lawfully.ensures.sound c.requires.start c.visit_all_due.new.self c.hide_from.new.self c.in-Err.page
-    c.in-Err.ensures.stopped c.hide_from.ensures.comes
+    part_stops _ c.lies_lawfully.ensures.sound c.requires.start _ _ _ c.in-Err.ensures.stopped c.hide_from.ensures.comes

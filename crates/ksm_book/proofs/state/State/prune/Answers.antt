@@ -1,11 +1,11 @@
-use Rattle.ksm_book.proofs.Names.{KeeperView, ap, IsCarried, Ok, PagesView, Prune, Pruned, seen, state_of}
+use Rattle.ksm_book.proofs.Names.{ap, IsCarried, Ok, PagesView, Prune, Pruned, seen, state_of}
 use Rattle.ksm_book.proofs.Singles.{book, sound_carried}
 use Rattle.ksm_book.proofs.state.State.prune.Goals as goal
 
 pruned : (c : goal.After-drop_stale-count) → IsCarried (book (seen c.self.inside.pages) c.self.inside.keeper c.self.inside.cursor c.self.inside.passes) (book (seen c.drop_stale-count.new.pages) c.drop_stale-count.new.keeper c.self.inside.cursor c.self.inside.passes) Prune (Ok (Pruned c.drop_stale-count.result))
 pruned c = record {
-  own = ap (λ (z : KeeperView). z.table) c.drop_stale-count.ensures.performs.made.after;
-  answer = ap (λ n. Ok (Pruned n)) c.drop_stale-count.ensures.count;
+  own = rw c.drop_stale-count.ensures.performs.made.after;
+  answer = rw c.drop_stale-count.ensures.count;
   state = ap (λ (p : PagesView). state_of p c.self.inside.cursor c.self.inside.passes) c.drop_stale-count.ensures.pages;
   steps = c.drop_stale-count.ensures.performs;
 }

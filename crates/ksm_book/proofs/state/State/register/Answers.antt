@@ -1,39 +1,34 @@
-use Rattle.ksm_book.proofs.Names.{ap, change_row, Done, Err, is_some, IsCarried, lies_on, NoFrame, None, Ok, on_its_own, refl, Register, row_at, seen, Shape, Some, subst, sym, true, view_of, without_page, ◌<◌, ◌∙◌, ◌≡◌, none_of}
-use Rattle.ksm_book.proofs.Singles.{HasCome, book, carried_so, come_known, register_come, register_refused, register_turned, sound_carried, Carries}
+use Rattle.ksm_book.proofs.Names.{ap, Done, Err, NoFrame, Ok, refl, Register, seen, sym, true, view_of, ◌∙◌, none_of}
+use Rattle.ksm_book.proofs.Singles.{HasCome, carried_so, come_known, register_come, register_refused, register_turned, sound_carried, Carries}
 use Rattle.ksm_book.proofs.state.State.register.Goals as goal
 use Rattle.ksm_book.proofs.state.State.register.Goals.{In_ok-spot}
 
 pub returns-then-is_used_up : goal.returns-then-is_used_up
 returns-then-is_used_up c =
-    let p = seen c.self.inside.pages in
     carried_so c.self.view_is refl
-    (subst (λ x. IsCarried (book p c.self.inside.keeper c.self.inside.cursor c.self.inside.passes) x (Register c.args.page c.args.node c.args.bytes.now) (Err (NoFrame c.args.node))) (ap view_of c.self.view_is)
-    (register_refused p c.self.inside.keeper c.self.inside.cursor c.self.inside.passes c.args.page c.args.node c.args.bytes.now
-    (subst (λ (s : Shape). c.args.node < s.nodes) c.shape-shape.ensures c.if-node-shape.false)
-    (none_of (row_at c.args.page c.self.inside.pages.rows) (sym c.has.ensures ∙ c.if-has.false)) (c.is_used_up.ensures c.if-is_used_up.true)))
+    (rw (← ap view_of c.self.view_is)
+    (register_refused (seen c.self.inside.pages) _ _ _ _ _ _ (rw (← c.shape-shape.ensures) c.if-node-shape.false)
+    (none_of _ (sym c.has.ensures ∙ c.if-has.false)) (c.is_used_up.ensures c.if-is_used_up.true)))
 
 -- the page came
 new : (c : In_ok-spot) → HasCome (seen c.self.inside.pages) (seen c.insert.new.self) c.args.page c.args.node c.args.bytes.now
 new c = record {
   rise = c.self.invariant.0.rows_rise;
-  absent = none_of (row_at c.args.page c.self.inside.pages.rows) (sym c.has.ensures ∙ c.if-has.false);
+  absent = none_of _ (sym c.has.ensures ∙ c.if-has.false);
   comes = c.in_ok-spot.ensures.added;
   others = c.in_ok-spot.ensures.others;
-  less = subst (λ (s : Shape). c.args.node < s.nodes) c.shape-shape.ensures c.if-node-shape.false;
+  less = rw (← c.shape-shape.ensures) c.if-node-shape.false;
 }
 
 pub remove-requires : goal.remove-requires
-remove-requires c =
-    subst (λ q. is_some (row_at q c.insert.new.self.rows) ≡ true) (sym c.in_ok-spot.ensures.spot)
-    (come_known (new ((goal.at.remove-requires c).In_ok-spot)))
+remove-requires c = rw c.in_ok-spot.ensures.spot (come_known (new ((goal.at.remove-requires c).In_ok-spot)))
 
 module _ (c : goal.After-remove) (came : HasCome (seen c.self.inside.pages) (seen c.insert.new.self) c.args.page c.args.node c.args.bytes.now) where
   turned : Carries (seen c.self.inside.pages) c.self.inside.keeper (seen c.remove.new.self)
       c.take_frame.new.keeper c.self.inside.cursor c.self.inside.passes (Register c.args.page c.args.node c.args.bytes.now) (Err (NoFrame c.args.node))
   turned =
-      register_turned came c.self.invariant.1 c.self.inside.cursor c.self.inside.passes (seen c.remove.new.self) c.in_ok-spot.ensures.nowhere
-      (subst (λ q. seen c.remove.new.self ≡ record (seen c.insert.new.self) { rows = without_page q c.insert.new.self.rows; frame = lies_on q None (seen c.insert.new.self).frame; restless = c.remove.new.self.restless }) c.in_ok-spot.ensures.spot c.remove.ensures.gone)
-      c.in_default.ensures.provides
+      register_turned came c.self.invariant.1 _ _ _ c.in_ok-spot.ensures.nowhere
+      (rw (← c.in_ok-spot.ensures.spot) c.remove.ensures.gone) c.in_default.ensures.provides
 
 pub returns-in_default : goal.returns-in_default
 returns-in_default c = carried_so c.self.view_is refl (turned c (new ((goal.at.returns-in_default c).In_ok-spot))).0
@@ -44,16 +39,13 @@ invariant_of-self-in_default c =
     (sound_carried c.self.invariant.0 done.0, done.1)
 
 pub resettle-requires : goal.resettle-requires
-resettle-requires c =
-    subst (λ q. is_some (row_at q c.insert.new.self.rows) ≡ true) (sym c.in_ok-spot.ensures.spot)
-    (come_known (new ((goal.at.resettle-requires c).In_ok-spot)))
+resettle-requires c = rw c.in_ok-spot.ensures.spot (come_known (new ((goal.at.resettle-requires c).In_ok-spot)))
 
 module _ (c : goal.After-resettle) (came : HasCome (seen c.self.inside.pages) (seen c.insert.new.self) c.args.page c.args.node c.args.bytes.now) where
   come : Carries (seen c.self.inside.pages) c.self.inside.keeper (seen c.resettle.new.self)
       c.take_frame.new.keeper c.self.inside.cursor c.self.inside.passes (Register c.args.page c.args.node c.args.bytes.now) (Ok Done)
   come =
-      register_come came c.self.invariant.1 c.self.inside.cursor c.self.inside.passes (seen c.resettle.new.self)
-      (subst (λ q. seen c.resettle.new.self ≡ record (seen c.insert.new.self) { rows = change_row q on_its_own c.insert.new.self.rows; frame = lies_on q (Some c.in-Some.frame) (seen c.insert.new.self).frame; restless = c.resettle.new.self.restless }) c.in_ok-spot.ensures.spot c.resettle.ensures.settled)
+      register_come came c.self.invariant.1 _ _ _ (rw (← c.in_ok-spot.ensures.spot) c.resettle.ensures.settled)
       c.in-Some.ensures.provides c.in-Some.ensures.took
 
 pub returns : goal.returns

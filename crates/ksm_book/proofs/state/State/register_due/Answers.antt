@@ -1,9 +1,6 @@
-use Rattle.ksm_book.proofs.Names.{view_of}
 use Rattle.ksm_book.proofs.DueBroken.{registered_due}
 use Rattle.ksm_book.proofs.state.State.register_due.Goals as goal
 
 pub returns-clause-due : goal.returns-clause-due
-returns-clause-due c = λ known.
-    registered_due (view_of c.args.self.now) (view_of c.register.new.self) c.args.page c.args.node c.args.bytes.now c.register.result
-    c.note_coming.new.due.pages c.register.ensures (c.note_coming.ensures.kept known)
-    (λ absent. c.note_coming.ensures.come known absent c.args.node c.args.bytes.now)
+returns-clause-due c = λ known. registered_due _ _ _ _ _ _ _ c.register.ensures (c.note_coming.ensures.kept known)
+    (λ absent. c.note_coming.ensures.come known absent _ c.args.bytes.now)

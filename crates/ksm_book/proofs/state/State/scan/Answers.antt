@@ -1,28 +1,26 @@
-use Rattle.ksm_book.proofs.Names.{ap, AreDue, arith, BookValue, BookView, IsCarried, Knobs, length, mergeable_pages, None, Ok, refl, Scan, subst, sym, view_of, ◌∙◌, ◌≡◌, ◌≤◌, if◌then◌else◌}
+use Rattle.ksm_book.proofs.Names.{ap, AreDue, arith, BookView, length, mergeable_pages, None, refl, subst, sym, ◌∙◌, ◌≡◌, ◌≤◌, if◌then◌else◌}
 use Rattle.ksm_book.proofs.ScanCarried.{any_none, scanned, visits_carried}
 use Rattle.ksm_book.proofs.state.State.scan.Goals as goal
 use Rattle.ksm_book.proofs.state.State.scan.Goals.{After-count_mergeable}
 
 running : (c : After-count_mergeable) → c.args.self.now.state.knobs.run ≡ 1
-running c =
-    ap (λ (v : BookValue). v.state.knobs.run) (sym c.self.view_is) ∙ ap (λ (k : Knobs). k.run) (sym c.knobs.ensures) ∙ c.if-knobs-ne1.false
+running c = rw (← c.self.view_is, ← c.knobs.ensures) c.if-knobs-ne1.false
 
 pub returns-then-count_mergeable-eq0-clause-carried : goal.returns-then-count_mergeable-eq0-clause-carried
 returns-then-count_mergeable-eq0-clause-carried c =
     let v = c.args.self.now in
     let none = any_none v.state.rows (sym c.count_mergeable.ensures ∙ c.if-count_mergeable-eq0.true) in
-    scanned v v c.args.count (running ((goal.at.returns-then-count_mergeable-eq0-clause-carried c).After-count_mergeable)) refl 0 None
+    scanned v v _ (running ((goal.at.returns-then-count_mergeable-eq0-clause-carried c).After-count_mergeable)) refl 0 None
     (ap (λ b. if b then c.args.count else 0) (sym none)) (λ from s before. before)
 
 pub returns-clause-carried : goal.returns-clause-carried
 returns-clause-carried c =
     let view = c.list_restless.ensures.view in
-    let some = subst (λ (v : BookView). 1 ≤ length (mergeable_pages v.state.rows)) (sym view)
-    (omega (arith, c.count_mergeable.ensures, c.if-count_mergeable-eq0.false)) in
-    subst (λ v. IsCarried v (view_of c.visits.new.self) (Scan c.args.count) (Ok c.visits.result)) view
-    (visits_carried c.list_restless.new.self c.visits.new.self c.args.count
+    let some = subst (λ (v : BookView). 1 ≤ length (mergeable_pages v.state.rows)) (sym view) (omega arith) in
+    rw (← view)
+    (visits_carried _ _ _
     (ap (λ (v : BookView). v.state.knobs.run) view ∙ running ((goal.at.returns-clause-carried c).After-count_mergeable)) c.visits.ensures.own
-    c.visits.result some c.visits.ensures.scanned)
+    _ some c.visits.ensures.scanned)
 
 pub visits-requires-clause-due : goal.visits-requires-clause-due
 visits-requires-clause-due c = λ known.

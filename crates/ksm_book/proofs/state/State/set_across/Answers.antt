@@ -1,7 +1,7 @@
-use Rattle.ksm_book.proofs.Names.{[], All, ap, arith, BookValue, changes_while_shared, Done, effect, false, get_or, inr, IsLaid, IsSound, Knobs, nat_tests, ne_eqb, no_dup_lives, None, none_shared, PageState, PagesView, refl, refusal, rules, seen, SetAcross, settled, settled_state, sound_set_across, state_of, subst, sym, waiting_state, ◌==◌, ◌∙◌, ◌≡◌, ◌≤◌, All-map}
-use Rattle.ksm_base.specs.declared.row.PageState.TheVariants.{Private}
+use Rattle.ksm_book.proofs.Names.{[], All, ap, arith, BookValue, changes_while_shared, Done, effect, false, get_or, inr, IsLaid, IsSound, Knobs, nat_tests, ne_eqb, no_dup_lives, none_shared, PagesView, refl, rules, seen, SetAcross, sound_set_across, state_of, subst, sym, waiting_state, ◌∙◌, ◌≡◌, ◌≤◌, All-map}
 use Rattle.ksm_book.proofs.Laying.{laid_mapped, retuned}
 use Rattle.ksm_book.proofs.Sharing.{settled_lodges}
+use Rattle.ksm_pages.proofs.Resting.{settled_still}
 use Rattle.ksm_book.proofs.state.State.set_across.Goals as goal
 
 calm : (c : goal.After-set_knobs) → changes_while_shared (state_of (seen c.self.inside.pages) c.self.inside.cursor c.self.inside.passes) c.self.inside.pages.knobs.merge_across_nodes c.args.across ≡ false
@@ -15,32 +15,26 @@ none_left : (c : goal.After-set_knobs) → c.settle_all.new.self.dups ≡ []
 none_left c =
     let s = c.self.inside in
     let b = state_of (seen s.pages) s.cursor s.passes in
-    let other : (c.args.across == b.knobs.merge_across_nodes) ≡ false = ne_eqb c.args.across b.knobs.merge_across_nodes (λ e. c.if-across-knobs.false (e ∙ sym (ap (λ (k : Knobs). k.merge_across_nodes) c.knobs-knobs.ensures))) in
+    let other = ne_eqb c.args.across b.knobs.merge_across_nodes (λ e. c.if-across-knobs.false (e ∙ sym (rw c.knobs-knobs.ensures))) in
     ap (λ (p : PagesView). p.dups) c.settle_all.ensures ∙ ap (λ (p : PagesView). p.dups) c.drop_stale.ensures.pages
-    ∙ no_dup_lives b (none_shared b (c.args.across == b.knobs.merge_across_nodes) (calm c) other)
+    ∙ no_dup_lives b (none_shared b _ (calm c) other)
 
 pub set_knobs-requires : goal.set_knobs-requires
 set_knobs-requires c = inr (subst (λ (p : PagesView). All (λ r. waiting_state r.state ≡ false) p.rows) (sym c.settle_all.ensures)
-    (All-map (λ r. waiting_state r.state ≡ false) settled c.drop_stale.new.pages.rows (λ i d lt. still (get_or c.drop_stale.new.pages.rows i d).state)))
-  where
-    still : (s : PageState) → waiting_state (settled_state s) ≡ false
-    still Private = refl
-    still _ = refl
+    (All-map (λ r. waiting_state r.state ≡ false) _ _ (λ i d lt. settled_still (get_or c.drop_stale.new.pages.rows i d).state)))
 
 laid : (c : goal.After-set_knobs) → IsLaid (seen c.set_knobs.new.self) c.drop_stale.new.keeper
 laid c =
-    let k = c.drop_stale.new.keeper in
-    let there = subst (λ (p : PagesView). IsLaid p k) (sym c.settle_all.ensures)
-    (laid_mapped c.drop_stale.ensures.laid settled c.drop_stale.new.pages.restless (λ r. refl) (λ i d lt. settled_lodges (get_or c.drop_stale.new.pages.rows i d))) in
-    subst (λ (p : PagesView). IsLaid p k) (sym c.set_knobs.ensures) (retuned _ (inr (none_left c)) there)
+    let there = subst (λ (p : PagesView). IsLaid p c.drop_stale.new.keeper) (sym c.settle_all.ensures)
+    (laid_mapped c.drop_stale.ensures.laid _ _ (λ r. refl) (λ i d lt. settled_lodges (get_or c.drop_stale.new.pages.rows i d))) in
+    rw c.set_knobs.ensures (retuned _ (inr (none_left c)) there)
 
 sound : (c : goal.After-set_knobs) → IsSound (effect (state_of (seen c.self.inside.pages) c.self.inside.cursor c.self.inside.passes) (SetAcross c.args.across) Done)
 sound c =
     let b = state_of (seen c.self.inside.pages) c.self.inside.cursor c.self.inside.passes in
     let low : c.args.across ≤ 1 = search rules in
     let quiet = calm c in
-    let accepted : refusal b (SetAcross c.args.across) ≡ None = grind (arith, nat_tests, low, quiet) in
-    sound_set_across b c.args.across Done accepted c.self.invariant.0
+    sound_set_across b _ Done (grind (arith, nat_tests)) c.self.invariant.0
 
 pub invariant_of-self : goal.invariant_of-self
 invariant_of-self c = (subst IsSound (search rules) (sound c), laid c)

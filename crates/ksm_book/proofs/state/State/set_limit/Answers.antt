@@ -1,4 +1,4 @@
-use Rattle.ksm_book.proofs.Names.{ap, arith, BookValue, changes_while_shared, Done, false, inl, IsLaid, IsSound, Knobs, nat_tests, None, PagesView, refusal, rules, seen, SetLimit, sound_set_limit, state_of, subst, sym, ◌∙◌, ◌≡◌, ◌≤◌}
+use Rattle.ksm_book.proofs.Names.{ap, arith, BookValue, changes_while_shared, Done, inl, IsSound, Knobs, None, PagesView, refusal, rules, seen, SetLimit, sound_set_limit, state_of, subst, sym, ◌∙◌, ◌≡◌, ◌≤◌}
 use Rattle.ksm_base.specs.declared.limits.TheConstants.{MOST_REFERENCES}
 use Rattle.ksm_book.proofs.Laying.{retuned}
 use Rattle.ksm_book.proofs.state.State.set_limit.Goals as goal
@@ -7,14 +7,12 @@ pub invariant_of-self : goal.invariant_of-self
 invariant_of-self c =
     let s = c.self.inside in
     let b = state_of (seen s.pages) s.cursor s.passes in
-    let inside = c.if-not-contains.ensures in
     let within : (2 ≤ c.args.limit) × (c.args.limit ≤ MOST_REFERENCES) = search rules in
-    let calm : changes_while_shared b b.knobs.max_page_sharing c.args.limit ≡ false =
-    ap (λ (k : Knobs). changes_while_shared b k.max_page_sharing c.args.limit) (sym c.knobs-knobs.ensures)
+    let calm = ap (λ (k : Knobs). changes_while_shared b k.max_page_sharing c.args.limit) (sym c.knobs-knobs.ensures)
     ∙ ap (λ (x : BookValue). changes_while_shared x.state c.knobs-knobs.result.max_page_sharing c.args.limit) c.self.view_is ∙ sym c.if-would_change_shared.ensures in
-    let accepted : refusal b (SetLimit c.args.limit) ≡ None = grind (arith, nat_tests, within.0, within.1, calm) in
+    let accepted : refusal b (SetLimit c.args.limit) ≡ None = grind arith in
     let there = c.drop_stale.ensures.pages in (
       subst IsSound (search rules) (sound_set_limit b c.args.limit Done accepted c.self.invariant.0),
-      subst (λ (p : PagesView). IsLaid p c.drop_stale.new.keeper) (sym c.set_knobs.ensures)
-          (retuned _ (inl (ap (λ (k : Knobs). k.merge_across_nodes) c.knobs-knobs.ensures ∙ sym (ap (λ (p : PagesView). p.knobs.merge_across_nodes) there))) c.drop_stale.ensures.laid),
+      rw c.set_knobs.ensures
+          (retuned _ (inl (rw c.knobs-knobs.ensures (sym (ap (λ (p : PagesView). p.knobs.merge_across_nodes) there)))) c.drop_stale.ensures.laid),
     )

@@ -1,4 +1,4 @@
-use Rattle.ksm_book.proofs.Names.{ap, Done, inl, IsLaid, IsSound, Knobs, Ok, PagesView, rules, seen, SetPagesToScan, sound_after, state_of, subst, sym}
+use Rattle.ksm_book.proofs.Names.{Done, inl, IsSound, Ok, rules, seen, SetPagesToScan, sound_after, state_of, subst}
 use Rattle.ksm_book.proofs.Laying.{retuned}
 use Rattle.ksm_book.proofs.state.State.set_pages_to_scan.Goals as goal
 
@@ -6,5 +6,5 @@ pub invariant_of-self : goal.invariant_of-self
 invariant_of-self c =
     let s = c.self.inside in (
       subst IsSound (search rules) (sound_after (state_of (seen s.pages) s.cursor s.passes) (SetPagesToScan c.args.pages) (Ok Done) c.self.invariant.0 (search rules)),
-      subst (λ (p : PagesView). IsLaid p s.keeper) (sym c.set_knobs.ensures) (retuned _ (inl (ap (λ (k : Knobs). k.merge_across_nodes) c.knobs-knobs.ensures)) c.self.invariant.1),
+      rw c.set_knobs.ensures (retuned _ (inl (rw c.knobs-knobs.ensures)) c.self.invariant.1),
     )

@@ -1,4 +1,4 @@
-use Rattle.ksm_book.proofs.Names.{ap, AreDue, BookState, BookValue, change_row, IsAlone, IsCarried, Done, find_all, is_some, IsLaid, KeeperView, length, Ok, PAGE_WORDS, PagesView, refl, Resettled, rules, same_page, seen, Store, stored, subst, state_of, sym, ◌<◌, ◌∙◌, ◌≡◌}
+use Rattle.ksm_book.proofs.Names.{ap, AreDue, BookState, BookValue, change_row, IsCarried, Done, find_all, is_some, length, Ok, PAGE_WORDS, PagesView, refl, Resettled, rules, seen, Store, stored, subst, state_of, sym, ◌<◌, ◌∙◌, ◌≡◌}
 use Rattle.ksm_book.proofs.Laying.{has_frame, laid_written, own_framed}
 use Rattle.ksm_book.proofs.Shown.{resettles_own}
 use Rattle.ksm_book.proofs.Singles.{alone_now, book, carried_so, own_ready, sound_carried, store_copied, store_written, row_held, Carries, found_resettled}
@@ -6,14 +6,14 @@ use Rattle.ksm_book.proofs.state.State.store.Goals as goal
 
 pub known_frame-frame-requires : goal.known_frame-frame-requires
 known_frame-frame-requires c =
-    let f = has_frame c.self.invariant.1 c.args.page c.in-Some.ensures.row c.in-Some.ensures.found
-    (own_framed c.in-Some.ensures.row.state (sym c.in-Some.ensures.shared ∙ c.if-held.false)) in
+    let f = has_frame c.self.invariant.1 _ _ c.in-Some.ensures.found
+    (own_framed _ (sym c.in-Some.ensures.shared ∙ c.if-held.false)) in
     ap is_some (c.in-Some.ensures.frame ∙ f.1)
 
 pub write-requires : goal.write-requires
 write-requires c =
-    let ready = own_ready c.self.invariant.1 c.args.page c.in-Some.ensures.row c.in-Some.ensures.found (sym c.in-Some.ensures.shared ∙ c.if-held.false)
-    c.known_frame-frame.result (sym c.in-Some.ensures.frame ∙ c.known_frame-frame.ensures) in
+    let ready = own_ready c.self.invariant.1 _ _ c.in-Some.ensures.found (sym c.in-Some.ensures.shared ∙ c.if-held.false)
+    _ (sym c.in-Some.ensures.frame ∙ c.known_frame-frame.ensures) in
     record { own = search rules; inside = ready.0; within = ready.1; writable = ready.2; wide = ready.3 }
 
 pub store-requires-2 : goal.store-requires-2
@@ -23,28 +23,28 @@ store-requires-2 c = alone_now c.self.inside.pages.rows c.in-Some.held.spot.page
 module _ (c : goal.After-store-2) where
   written : IsCarried (book (seen c.self.inside.pages) c.self.inside.keeper c.self.inside.cursor c.self.inside.passes) (book (seen c.store-2.new.self) c.write.new.keeper c.self.inside.cursor c.self.inside.passes) (Store c.in-Some.held.spot.page c.args.bytes.now) (Ok Done)
   written =
-      store_written (seen c.self.inside.pages) c.self.inside.keeper c.write.new.keeper c.self.inside.cursor c.self.inside.passes c.in-Some.held.spot.page c.args.bytes.now c.in-Some.ensures.row
-      (row_held c.in-Some.ensures) (ap (λ (z : KeeperView). z.table) c.write.ensures.wrote)
-      (seen c.store-2.new.self) c.known_frame-frame.result c.store-2.ensures (sym c.in-Some.ensures.shared ∙ c.if-held.false)
+      store_written (seen c.self.inside.pages) _ _ _ _ _ _ c.in-Some.ensures.row
+      (row_held c.in-Some.ensures) (rw c.write.ensures.wrote)
+      _ _ c.store-2.ensures (sym c.in-Some.ensures.shared ∙ c.if-held.false)
       (ap (seen c.self.inside.pages).frame c.in-Some.ensures.spot ∙ sym c.in-Some.ensures.frame ∙ c.known_frame-frame.ensures) c.write.ensures.wrote
 
 pub returns-clause-carried : goal.returns-clause-carried
-returns-clause-carried c = carried_so c.self.view_is (ap (λ q. Store q c.args.bytes.now) c.in-Some.ensures.spot) (written c)
+returns-clause-carried c = carried_so c.self.view_is (rw c.in-Some.ensures.spot) (written c)
 
 pub invariant_of-self-2 : goal.invariant_of-self-2
 invariant_of-self-2 c =
     let p = seen c.self.inside.pages in
     let wide : length c.args.bytes.now ≡ PAGE_WORDS = search rules in (
       sound_carried c.self.invariant.0 (written c),
-      subst (λ (x : PagesView). IsLaid x c.write.new.keeper) (sym c.store-2.ensures)
-          (laid_written c.self.invariant.1 c.in-Some.held.spot.page c.in-Some.ensures.row (stored c.args.bytes.now) c.store-2.new.self.restless c.write.new.keeper c.known_frame-frame.result c.self.invariant.0.rows_rise
+      rw c.store-2.ensures
+          (laid_written c.self.invariant.1 _ c.in-Some.ensures.row _ _ _ _ c.self.invariant.0.rows_rise
           (row_held c.in-Some.ensures) (λ r. refl)
-          (ap p.frame c.in-Some.ensures.spot ∙ sym c.in-Some.ensures.frame ∙ c.known_frame-frame.ensures) (ap (λ (z : KeeperView). z.table) c.write.ensures.wrote) c.write.ensures.ledger wide (sym c.in-Some.ensures.shared ∙ c.if-held.false) refl refl),
+          (ap p.frame c.in-Some.ensures.spot ∙ sym c.in-Some.ensures.frame ∙ c.known_frame-frame.ensures) (rw c.write.ensures.wrote) c.write.ensures.ledger wide (sym c.in-Some.ensures.shared ∙ c.if-held.false) refl refl),
     )
 
 pub resettle-requires-clause-node : goal.resettle-requires-clause-node
-resettle-requires-clause-node c = subst (λ n. n < c.self.inside.pages.shape.nodes) (sym c.in-Some.ensures.home)
-    (find_all (λ r. same_page r.page c.args.page) (λ r. r.home < c.self.inside.pages.shape.nodes) c.self.inside.pages.rows c.in-Some.ensures.row c.in-Some.ensures.found c.self.invariant.0.homes)
+resettle-requires-clause-node c = rw c.in-Some.ensures.home
+    (find_all _ (λ r. r.home < c.self.inside.pages.shape.nodes) _ _ c.in-Some.ensures.found c.self.invariant.0.homes)
 
 pub store-requires : goal.store-requires
 store-requires c = alone_now c.resettle.new.pages.rows c.in-Some.held.spot.page _
@@ -53,21 +53,21 @@ store-requires c = alone_now c.resettle.new.pages.rows c.in-Some.held.spot.page 
 copied : (c : goal.After-store) → Carries (seen c.self.inside.pages) c.self.inside.keeper (seen c.store.new.self)
     c.resettle.new.keeper c.self.inside.cursor c.self.inside.passes (Store c.in-Some.held.spot.page c.args.bytes.now) (Ok Done)
 copied c =
-    store_copied (seen c.self.inside.pages) c.self.inside.keeper c.resettle.new.keeper c.self.inside.cursor c.self.inside.passes c.in-Some.held.spot.page c.args.bytes.now c.in-Some.ensures.row
+    store_copied _ _ _ _ _ _ _ c.in-Some.ensures.row
     (row_held c.in-Some.ensures) (resettles_own c.in_default-resettle.ensures.resettled.resettles)
-    (seen c.resettle.new.pages) (seen c.store.new.self) c.self.invariant.1 c.self.invariant.0.rows_rise
+    _ _ c.self.invariant.1 c.self.invariant.0.rows_rise
     (subst (λ n. Resettled (seen c.self.inside.pages) (seen c.resettle.new.pages) c.self.inside.keeper c.resettle.new.keeper c.in-Some.held.spot.page n c.args.bytes.now) c.in-Some.ensures.home c.in_default-resettle.ensures.resettled)
     c.store.ensures (sym c.in-Some.ensures.shared ∙ c.if-held.true)
 
 pub returns-then-held-clause-carried : goal.returns-then-held-clause-carried
-returns-then-held-clause-carried c = carried_so c.self.view_is (ap (λ q. Store q c.args.bytes.now) c.in-Some.ensures.spot) (copied c).0
+returns-then-held-clause-carried c = carried_so c.self.view_is (rw c.in-Some.ensures.spot) (copied c).0
 
 pub invariant_of-self-then-held : goal.invariant_of-self-then-held
 invariant_of-self-then-held c = (sound_carried c.self.invariant.0 (copied c).0, (copied c).1)
 
 pub note_store-requires-clause-own : goal.note_store-requires-clause-own
 note_store-requires-clause-own c =
-    subst (λ (v : BookValue). IsAlone c.in-Some.held.spot.page v.state.rows) c.self.view_is
+    rw (← c.self.view_is)
     (alone_now c.self.inside.pages.rows c.in-Some.held.spot.page c.in-Some.ensures.row (row_held c.in-Some.ensures)
     (sym c.in-Some.ensures.shared ∙ c.if-held.false))
 

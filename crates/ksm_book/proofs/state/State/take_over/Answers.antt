@@ -1,4 +1,4 @@
-use Rattle.ksm_book.proofs.Names.{ap, BookValue, Comes, GuestPage, has_item, IsAlone, IsSound, row_at, same_page, subst, sym, ◌∙◌, ◌≡◌, ◌||◌}
+use Rattle.ksm_book.proofs.Names.{ap, BookValue, Comes, row_at, sym, ◌∙◌}
 use Rattle.std.proofs.lemmas.Option.{none-some}
 use Rattle.ksm_tree.proofs.Numbers.{on_err}
 use Rattle.ksm_book.proofs.TakingOver.{once_freed, other_alone, taken_comes, taken_leaves, taken_refused, Takes, takes_from, waits_at}
@@ -7,12 +7,11 @@ use Rattle.ksm_book.proofs.state.State.take_over.Goals.{After-held, After-stop_w
 
 -- the page is to wait in the stead of the other one
 takes : (c : After-held) → Takes c.args.self.now.state c.args.spot.page c.args.other
-takes c = takes_from c.args.self.now.state c.args.spot.page c.args.other
-    (subst (λ (v : BookValue). IsSound v.state) c.self.view_is c.self.invariant.0) c.requires.takes
+takes c = takes_from _ _ _ (rw (← c.self.view_is) c.self.invariant.0) c.requires.takes
 
 -- that one waits no more
 freed : (c : After-stop_waiting) → Comes c.args.self.now c.stop_waiting.new.self (once_freed c.args.other)
-freed c = subst (λ (p : GuestPage). Comes c.args.self.now c.stop_waiting.new.self (once_freed p)) c.in-Some.ensures.spot c.stop_waiting.ensures.comes
+freed c = rw (← c.in-Some.ensures.spot) c.stop_waiting.ensures.comes
 
 pub unreachable-requires : goal.unreachable-requires
 unreachable-requires c =
@@ -20,12 +19,10 @@ unreachable-requires c =
     ∙ waits_at (takes (goal.at.unreachable-requires c).After-held))
 
 pub stop_waiting-requires : goal.stop_waiting-requires
-stop_waiting-requires c =
-    subst (λ (p : GuestPage). IsAlone p c.args.self.now.state.rows) (sym c.in-Some.ensures.spot)
-    (other_alone (takes (goal.at.stop_waiting-requires c).After-held))
+stop_waiting-requires c = rw c.in-Some.ensures.spot (other_alone (takes (goal.at.stop_waiting-requires c).After-held))
 
 pub returns-in_err-visit-clause-refused : goal.returns-in_err-visit-clause-refused
-returns-in_err-visit-clause-refused c = on_err c.from_residual-in_err-visit.result
+returns-in_err-visit-clause-refused c = on_err _
     (taken_refused c.args.self.now c.stop_waiting.new.self c.visit.new.self (takes (goal.at.returns-in_err-visit-clause-refused c).After-held)
     (freed (goal.at.returns-in_err-visit-clause-refused c).After-stop_waiting) (c.in_err-visit.ensures.refused))
 
@@ -37,6 +34,5 @@ returns-clause-comes c =
 pub returns-clause-due : goal.returns-clause-due
 returns-clause-due c =
     taken_leaves c.args.self.now c.stop_waiting.new.self c.visit.new.self (takes (goal.at.returns-clause-due c).After-held)
-    (freed (goal.at.returns-clause-due c).After-stop_waiting) c.args.due.now.pages c.insert.new.self.pages c.remove.new.self.pages
-    (subst (λ (q : GuestPage). (p : GuestPage) → has_item p c.insert.new.self.pages ≡ (same_page q p || has_item p c.args.due.now.pages))
-    c.in-Some.ensures.spot c.in_ok-insert.ensures.added) c.remove.ensures.gone c.in_ok-visit.ensures.comes c.requires.due
+    (freed (goal.at.returns-clause-due c).After-stop_waiting) _ _ _
+    (rw (← c.in-Some.ensures.spot) c.in_ok-insert.ensures.added) c.remove.ensures.gone c.in_ok-visit.ensures.comes c.requires.due

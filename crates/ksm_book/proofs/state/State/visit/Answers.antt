@@ -1,7 +1,6 @@
-use Rattle.ksm_book.proofs.Names.{true, ap, BookState, BookValue, Comes, doing, FindsAt, IsDueNoMore, IsStill, page_visited, refl, seen, state_of, subst, view_of, ◌∙◌, ◌≡◌}
-use Rattle.std.specs.Prelude.{IfOk, OnErr, OnOk}
-use Rattle.ksm_book.specs.Commands.{Deed}
-use Rattle.ksm_book.specs.Scanned.{Reached, is_quiet}
+use Rattle.ksm_book.proofs.Names.{true, ap, BookValue, FindsAt, IsDueNoMore, refl, seen, state_of, subst, view_of, ◌≡◌}
+use Rattle.std.specs.Prelude.{IfOk}
+use Rattle.ksm_book.specs.Scanned.{is_quiet}
 use Rattle.ksm_pages.specs.declared.pages.Find.TheVariants as finds
 use Rattle.ksm_book.specs.contracts.state.State.{the_view}
 use Rattle.ksm_book.proofs.DueVisits.{gone_due, waits_due}
@@ -13,33 +12,30 @@ use Rattle.ksm_book.proofs.state.State.visit.Goals.{In-Waits, After-visit_any}
 -- the page waits
 met : (c : In-Waits) → Meets (λ _ r. FindsAt (seen c.self.inside.pages) (seen c.glance.new.self) r finds.Waits) (seen c.self.inside.pages) c.self.inside.keeper
     c.self.inside.cursor c.self.inside.passes (view_of c.args.self.now) c.args.spot.page
-met c = finds_it finds.Waits (λ e. cc) c.self.invariant (ap view_of c.self.view_is) (seen c.glance.new.self) c.args.spot.page refl (c.glance.ensures.waits c.in-Waits.is)
+met c = finds_it _ (λ e. cc) c.self.invariant (ap view_of c.self.view_is) _ _ refl (c.glance.ensures.waits c.in-Waits.is)
 
 pub invariant_of-self-in-Waits : goal.invariant_of-self-in-Waits
 invariant_of-self-in-Waits c = (waits_leads (met (goal.at.invariant_of-self-in-Waits c).In-Waits)).lawful
 
 pub returns-in-Waits-clause-quiet : goal.returns-in-Waits-clause-quiet
 returns-in-Waits-clause-quiet c = λ _ from s before.
-    subst (λ (b : BookState). IsStill (b, s.1) (page_visited doing (b, s.1) c.args.spot.page)) before.0 (waits_quiet (met (goal.at.returns-in-Waits-clause-quiet c).In-Waits) s.1)
+    rw (← before.0) (waits_quiet (met (goal.at.returns-in-Waits-clause-quiet c).In-Waits) s.1)
 
 -- where a glance tells nothing, the book is as it was
 as_before : (c : After-visit_any) → the_view (record c.self.inside { pages = c.glance.new.self }) ≡ c.args.self.now
-as_before c = ap (λ p. the_view (record c.self.inside { pages = p })) (c.glance.ensures.nothing c.in-Nothing.is) ∙ c.self.view_is
+as_before c = rw (c.glance.ensures.nothing c.in-Nothing.is) c.self.view_is
 
 pub returns-in-Nothing-clause-comes : goal.returns-in-Nothing-clause-comes
 returns-in-Nothing-clause-comes c =
-    subst (λ (v : BookValue). OnOk c.visit_any.result (Comes v c.visit_any.new.self (λ s. page_visited doing s c.args.spot.page)))
-    (as_before (goal.at.returns-in-Nothing-clause-comes c).After-visit_any) c.visit_any.ensures.comes
+    rw (← as_before (goal.at.returns-in-Nothing-clause-comes c).After-visit_any) c.visit_any.ensures.comes
 
 pub returns-in-Nothing-clause-quiet : goal.returns-in-Nothing-clause-quiet
 returns-in-Nothing-clause-quiet c =
-    subst (λ (v : BookValue). IfOk c.visit_any.result (λ visited. is_quiet visited ≡ true → (from : BookValue) (s : BookState × Deed)
-    → Reached from v s → IsStill s (page_visited doing s c.args.spot.page)))
-    (as_before (goal.at.returns-in-Nothing-clause-quiet c).After-visit_any) c.visit_any.ensures.quiet
+    rw (← as_before (goal.at.returns-in-Nothing-clause-quiet c).After-visit_any) c.visit_any.ensures.quiet
 
 pub returns-in-Nothing-clause-refused : goal.returns-in-Nothing-clause-refused
 returns-in-Nothing-clause-refused c =
-    subst (λ (v : BookValue). OnErr c.visit_any.result (Comes v c.visit_any.new.self (λ s. s))) (as_before (goal.at.returns-in-Nothing-clause-refused c).After-visit_any) c.visit_any.ensures.refused
+    rw (← as_before (goal.at.returns-in-Nothing-clause-refused c).After-visit_any) c.visit_any.ensures.refused
 
 pub returns-in-Gone-clause-due : goal.returns-in-Gone-clause-due
 returns-in-Gone-clause-due c = λ _.

@@ -1,5 +1,3 @@
-use Rattle.ksm_book.proofs.Names.{Some}
-use Rattle.ksm_book.proofs.Along.{FitsPage}
 use Rattle.ksm_book.proofs.DuePasses.{less_room}
 use Rattle.ksm_book.proofs.DueSteps.{all_come, next_comes, next_stops, none_passed}
 use Rattle.std.proofs.Common.{rules, refl, ◌∙◌}
@@ -9,15 +7,12 @@ pub loop-spot-init : goal.loop-spot-init
 loop-spot-init c = (none_passed c.args.self.now, c.requires.due, c.requires.ready, refl, refl)
 
 pub loop-spot-smaller : goal.loop-spot-smaller
-loop-spot-smaller c =
-    let page = c.in-Some.spot.page in
-    let fits : FitsPage (Some page) = (search rules, search rules) in
-    less_room c.loop-spot.last page fits c.in-Some.ensures.1
+loop-spot-smaller c = less_room _ _ (search rules, search rules) c.in-Some.ensures.1
 
 pub loop-spot-preserved : goal.loop-spot-preserved
 loop-spot-preserved c = (
-  next_comes c.args.self.now c.loop-spot.self c.lies_lawfully.ensures.sound c.requires.start c.loop-spot.last c.loop-spot.due.pages
-      c.loop-spot.invariant.1 c.loop-spot.invariant.0 c.visit_due.new.self c.in-Some.spot.page c.in-Some.ensures c.in-Ok.ensures.comes,
+  next_comes c.args.self.now c.loop-spot.self c.lies_lawfully.ensures.sound c.requires.start _ _
+      c.loop-spot.invariant.1 c.loop-spot.invariant.0 c.visit_due.new.self _ c.in-Some.ensures c.in-Ok.ensures.comes,
   c.in-Ok.ensures.due,
   c.visit_due.ensures.ready,
   c.visit_due.ensures.restless ∙ c.loop-spot.invariant.3,
@@ -26,11 +21,11 @@ loop-spot-preserved c = (
 
 pub returns-in-Err-clause-stopped : goal.returns-in-Err-clause-stopped
 returns-in-Err-clause-stopped c =
-    next_stops c.args.self.now c.loop-spot.self c.lies_lawfully.ensures.sound c.requires.start c.loop-spot.last c.loop-spot.due.pages
-    c.loop-spot.invariant.1 c.loop-spot.invariant.0 c.visit_due.new.self c.in-Some.spot.page c.in-Some.ensures c.in-Err.ensures.refused
+    next_stops _ c.loop-spot.self c.lies_lawfully.ensures.sound c.requires.start _ _
+    c.loop-spot.invariant.1 c.loop-spot.invariant.0 _ _ c.in-Some.ensures c.in-Err.ensures.refused
     c.in-Err.ensures.refused_row
 
 pub returns-clause-visited : goal.returns-clause-visited
 returns-clause-visited c =
-    all_come c.args.self.now c.loop-spot.self c.lies_lawfully.ensures.sound c.requires.start c.loop-spot.last c.loop-spot.due.pages
+    all_come c.args.self.now c.loop-spot.self c.lies_lawfully.ensures.sound c.requires.start _ _
     c.loop-spot.invariant.1 c.loop-spot.invariant.0 c.in_default.ensures

@@ -1,4 +1,4 @@
-use Rattle.ksm_book.proofs.Names.{ap, BookState, BookValue, Find, FindsAt, doing, Dup, IsDueNoMore, IsLaid, IsSound, IsStill, page_visited, PagesView, Partner, seen, state_of, subst, sym, view_of, ◌≡◌}
+use Rattle.ksm_book.proofs.Names.{ap, BookValue, Find, FindsAt, IsDueNoMore, IsLaid, IsSound, PagesView, seen, state_of, subst, sym, view_of, ◌≡◌}
 use Rattle.ksm_pages.specs.declared.pages.Find.TheVariants as finds
 use Rattle.ksm_pages.specs.Paged.{Finds}
 use Rattle.ksm_book.proofs.DueVisits.{gone_due, waits_due}
@@ -11,55 +11,53 @@ use Rattle.ksm_book.proofs.state.State.visit_any.Goals.{In_ok-found}
 met_by : (c : In_ok-found) (f : Find) → (f ≡ finds.Gone → ⊥) → c.in_ok-found.found ≡ f
     → Meets (λ _ r. FindsAt (seen c.self.inside.pages) (seen c.visit.new.self) r f) (seen c.self.inside.pages) c.self.inside.keeper
     c.self.inside.cursor c.self.inside.passes (view_of c.args.self.now) c.args.spot.page
-met_by c f some is =
-    finds_it f some c.self.invariant (ap view_of c.self.view_is) (seen c.visit.new.self) c.args.spot.page is c.in_ok-found.ensures.found
+met_by c f some is = finds_it f some c.self.invariant (ap view_of c.self.view_is) _ _ is c.in_ok-found.ensures.found
 
 pub invariant_of-self-in-Waits : goal.invariant_of-self-in-Waits
-invariant_of-self-in-Waits c = (waits_leads (met_by ((goal.at.invariant_of-self-in-Waits c).In_ok-found) finds.Waits (λ e. cc) c.in-Waits.is)).lawful
+invariant_of-self-in-Waits c = (waits_leads (met_by ((goal.at.invariant_of-self-in-Waits c).In_ok-found) _ (λ e. cc) c.in-Waits.is)).lawful
 
 pub invariant_of-self-in-Changed : goal.invariant_of-self-in-Changed
-invariant_of-self-in-Changed c = (changed_leads (met_by ((goal.at.invariant_of-self-in-Changed c).In_ok-found) finds.Changed (λ e. cc) c.in-Changed.is)).lawful
+invariant_of-self-in-Changed c = (changed_leads (met_by ((goal.at.invariant_of-self-in-Changed c).In_ok-found) _ (λ e. cc) c.in-Changed.is)).lawful
 
 pub invariant_of-self-in-Dup : goal.invariant_of-self-in-Dup
 invariant_of-self-in-Dup c =
     let s = c.self.inside in
-    let met = met_by ((goal.at.invariant_of-self-in-Dup c).In_ok-found) (Dup c.in-Dup.best) (λ e. cc) c.in-Dup.is in
+    let met = met_by ((goal.at.invariant_of-self-in-Dup c).In_ok-found) _ (λ e. cc) c.in-Dup.is in
     subst (λ (x : PagesView). IsSound (state_of x s.cursor s.passes) × IsLaid x s.keeper) (sym met.so.2) c.self.invariant
 
 pub invariant_of-self-in-Partner : goal.invariant_of-self-in-Partner
 invariant_of-self-in-Partner c =
     let s = c.self.inside in
-    let met = met_by ((goal.at.invariant_of-self-in-Partner c).In_ok-found) (Partner c.in-Partner.other) (λ e. cc) c.in-Partner.is in
+    let met = met_by ((goal.at.invariant_of-self-in-Partner c).In_ok-found) _ (λ e. cc) c.in-Partner.is in
     subst (λ (x : PagesView). IsSound (state_of x s.cursor s.passes) × IsLaid x s.keeper) (sym met.so.5) c.self.invariant
 
 pub returns-in-Waits-clause-quiet : goal.returns-in-Waits-clause-quiet
 returns-in-Waits-clause-quiet c = λ _ from s before.
-    let met = met_by ((goal.at.returns-in-Waits-clause-quiet c).In_ok-found) finds.Waits (λ e. cc) c.in-Waits.is in
-    subst (λ (b : BookState). IsStill (b, s.1) (page_visited doing (b, s.1) c.args.spot.page)) before.0 (waits_quiet met s.1)
+    let met = met_by ((goal.at.returns-in-Waits-clause-quiet c).In_ok-found) _ (λ e. cc) c.in-Waits.is in
+    rw (← before.0) (waits_quiet met s.1)
 
 pub returns-in_ok-join-in-Dup-clause-comes : goal.returns-in_ok-join-in-Dup-clause-comes
 returns-in_ok-join-in-Dup-clause-comes c =
-    let met = met_by ((goal.at.returns-in_ok-join-in-Dup-clause-comes c).In_ok-found) (Dup c.in-Dup.best) (λ e. cc) c.in-Dup.is in
-    shared_comes c.args.self.now c.join.new.self met met.so.0 (seen c.visit.new.self) met.so.2 c.in_ok-join-in-Dup.ensures.visited
+    let met = met_by ((goal.at.returns-in_ok-join-in-Dup-clause-comes c).In_ok-found) _ (λ e. cc) c.in-Dup.is in
+    shared_comes c.args.self.now c.join.new.self met met.so.0 _ met.so.2 c.in_ok-join-in-Dup.ensures.visited
 
 pub returns-in-Zero-clause-comes : goal.returns-in-Zero-clause-comes
 returns-in-Zero-clause-comes c =
-    let met = met_by ((goal.at.returns-in-Zero-clause-comes c).In_ok-found) finds.Zero (λ e. cc) c.in-Zero.is in
-    shared_comes c.args.self.now c.become_zero.new.self met met.so.0 (seen c.visit.new.self) met.so.4 c.become_zero.ensures.visited
+    let met = met_by ((goal.at.returns-in-Zero-clause-comes c).In_ok-found) _ (λ e. cc) c.in-Zero.is in
+    shared_comes c.args.self.now c.become_zero.new.self met met.so.0 _ met.so.4 c.become_zero.ensures.visited
 
 pub returns-in_ok-pair-in-Partner-clause-comes : goal.returns-in_ok-pair-in-Partner-clause-comes
 returns-in_ok-pair-in-Partner-clause-comes c =
-    let met = met_by ((goal.at.returns-in_ok-pair-in-Partner-clause-comes c).In_ok-found) (Partner c.in-Partner.other) (λ e. cc) c.in-Partner.is in
-    shared_comes c.args.self.now c.pair.new.self met met.so.0 (seen c.visit.new.self) met.so.5 c.in_ok-pair-in-Partner.ensures.visited
+    let met = met_by ((goal.at.returns-in_ok-pair-in-Partner-clause-comes c).In_ok-found) _ (λ e. cc) c.in-Partner.is in
+    shared_comes c.args.self.now c.pair.new.self met met.so.0 _ met.so.5 c.in_ok-pair-in-Partner.ensures.visited
 
 pub returns-in-Gone-clause-due : goal.returns-in-Gone-clause-due
 returns-in-Gone-clause-due c = λ _.
     let s = c.self.inside in
-    let found : Finds (seen s.pages) (seen c.visit.new.self) c.args.spot.page finds.Gone =
-    subst (Finds (seen s.pages) (seen c.visit.new.self) c.args.spot.page) c.in-Gone.is c.in_ok-found.ensures.found in
+    let found = subst (Finds (seen s.pages) (seen c.visit.new.self) c.args.spot.page) c.in-Gone.is c.in_ok-found.ensures.found in
     subst (λ (v : BookValue). IsDueNoMore c.args.spot.page v.state (state_of (seen c.visit.new.self) s.cursor s.passes)) c.self.view_is
     (gone_due (seen s.pages) (seen c.visit.new.self) s.cursor s.passes c.args.spot.page c.self.invariant.0.rows_rise found)
 
 pub returns-in-Waits-clause-due : goal.returns-in-Waits-clause-due
 returns-in-Waits-clause-due c = λ _.
-    waits_due (met_by ((goal.at.returns-in-Waits-clause-due c).In_ok-found) finds.Waits (λ e. cc) c.in-Waits.is)
+    waits_due (met_by ((goal.at.returns-in-Waits-clause-due c).In_ok-found) _ (λ e. cc) c.in-Waits.is)

@@ -1,5 +1,4 @@
-use Rattle.ksm_book.proofs.Names.{[], and_parts, ap, AreDue, arith, rules, BookState, Deed, doing, drop, drop_more, from_to, get_or_from_slice_get, GuestPage, IsStill, Listing, page_visited, pages_visited, Reached, slice_get, slice_get_within, Some, subst, sym, ◌++◌, ◌+◌, ◌∙◌, ◌∷◌, ◌≡◌}
-use Rattle.ksm_book.specs.Scanned.{is_quiet}
+use Rattle.ksm_book.proofs.Names.{and_parts, ap, AreDue, arith, rules, BookState, Deed, doing, drop, drop_more, from_to, get_or_from_slice_get, GuestPage, IsStill, Listing, pages_visited, Reached, slice_get, slice_get_within, subst, sym, ◌+◌, ◌∙◌, ◌∷◌, ◌≡◌}
 use Rattle.ksm_book.proofs.Folded.{still_on, visited_more}
 use Rattle.ksm_book.proofs.PagesAhead.{from_to_end, from_to_more}
 use Rattle.ksm_book.proofs.state.State.visit_listed.Goals as goal
@@ -9,46 +8,35 @@ loop-at-preserved c =
     let all = c.args.self.now.restless.pages in
     let pages = from_to c.args.first c.loop-at.at all in
     let page = c.listed_at-spot.result.page in
-    let stands : slice_get all c.loop-at.at ≡ Some page =
-    ap (λ (l : Listing). slice_get l.pages c.loop-at.at) (sym c.loop-at.invariant.1) ∙ c.listed_at-spot.ensures in
-    let more : from_to c.args.first (c.loop-at.at + 1) all ≡ pages ++ page ∷ [] =
-    from_to_more all c.args.first c.loop-at.at page c.loop-at.auto.at stands in
+    let stands = ap (λ (l : Listing). slice_get l.pages c.loop-at.at) (sym c.loop-at.invariant.1) ∙ c.listed_at-spot.ensures in
+    let more = from_to_more all _ _ _ c.loop-at.auto.at stands in
     let visit = λ (s : BookState × Deed). sym (visited_more doing pages s page) ∙ ap (pages_visited doing s) (sym more) in (
       omega arith,
       c.visit.ensures.restless ∙ c.loop-at.invariant.1,
       λ from s before. subst (Reached from c.visit.new.self) (visit s)
-          (c.in-Ok.ensures.comes from (pages_visited doing s pages) (c.loop-at.invariant.2 from s before)),
+          (c.in-Ok.ensures.comes from _ (c.loop-at.invariant.2 from s before)),
       λ quiet from s before.
-          let both = and_parts c.loop-at.made.quiet (is_quiet c.in-Ok.visited) (sym c.and-made.ensures ∙ quiet) in
+          let both = and_parts _ _ (sym c.and-made.ensures ∙ quiet) in
           subst (IsStill s) (visit s)
-          (still_on s (pages_visited doing s pages) (page_visited doing (pages_visited doing s pages) page)
-          (c.loop-at.invariant.3 both.0 from s before)
-          (c.in-Ok.ensures.quiet both.1 from (pages_visited doing s pages)
-          (c.loop-at.invariant.2 from s before))),
+          (still_on s _ _ (c.loop-at.invariant.3 both.0 from s before)
+          (c.in-Ok.ensures.quiet both.1 from _ (c.loop-at.invariant.2 from s before))),
       c.visit.ensures.own ∙ c.loop-at.invariant.4,
       λ quiet was.
-          let both = and_parts c.loop-at.made.quiet (is_quiet c.in-Ok.visited) (sym c.and-made.ensures ∙ quiet) in
-          let within = slice_get_within all c.loop-at.at page stands in
-          let cut : drop c.loop-at.at all ≡ page ∷ drop (c.loop-at.at + 1) all =
-          drop_more all c.loop-at.at page within
-          ∙ ap (λ (p : GuestPage). p ∷ drop (c.loop-at.at + 1) all) (get_or_from_slice_get all c.loop-at.at page page stands) in
-          c.in-Ok.ensures.due both.1 (drop (c.loop-at.at + 1) all)
-          (subst (AreDue c.loop-at.self.state) cut (c.loop-at.invariant.5 both.0 was)),
+          let both = and_parts _ _ (sym c.and-made.ensures ∙ quiet) in
+          let cut = drop_more all _ page (slice_get_within all _ _ stands)
+          ∙ ap (λ (p : GuestPage). p ∷ drop (c.loop-at.at + 1) all) (get_or_from_slice_get all _ _ _ stands) in
+          c.in-Ok.ensures.due both.1 _ (subst (AreDue c.loop-at.self.state) cut (c.loop-at.invariant.5 both.0 was)),
     )
 
 -- the pages between, once the loop is over
 all_done : (c : goal.After-loop-at)
     → from_to c.args.first c.loop-at.at c.args.self.now.restless.pages ≡ from_to c.args.first c.args.end c.args.self.now.restless.pages
-all_done c =
-    from_to_end c.args.self.now.restless.pages c.args.first c.loop-at.at c.args.end c.loop-at-test.false c.loop-at.invariant.0
-    c.loop-at.auto.at
+all_done c = from_to_end _ _ _ _ c.loop-at-test.false c.loop-at.invariant.0 c.loop-at.auto.at
 
 pub returns-clause-visited : goal.returns-clause-visited
 returns-clause-visited c = record {
-  comes = λ from s before.
-      subst (λ l. Reached from c.loop-at.self (pages_visited doing s l)) (all_done c) (c.loop-at.invariant.2 from s before);
-  still = λ quiet from s before.
-      subst (λ l. IsStill s (pages_visited doing s l)) (all_done c) (c.loop-at.invariant.3 quiet from s before);
+  comes = λ from s before. rw (← all_done c) (c.loop-at.invariant.2 from s before);
+  still = λ quiet from s before. rw (← all_done c) (c.loop-at.invariant.3 quiet from s before);
 }
 
 pub returns-in-Err-clause-stopped : goal.returns-in-Err-clause-stopped
@@ -57,11 +45,11 @@ returns-in-Err-clause-stopped c =
     record {
       low = c.loop-at.auto.at;
       high = omega arith;
-      comes = λ from s before. c.in-Err.ensures.refused from (pages_visited doing s done) (c.loop-at.invariant.2 from s before);
+      comes = λ from s before. c.in-Err.ensures.refused from _ (c.loop-at.invariant.2 from s before);
       restless = search rules;
     }
 
 pub returns-clause-due : goal.returns-clause-due
 returns-clause-due c = λ quiet least was.
-    let over : c.loop-at.at ≡ c.args.end = omega (arith, least, c.loop-at-test.false, c.loop-at.invariant.0) in
-    subst (λ n. AreDue c.loop-at.self.state (drop n c.args.self.now.restless.pages)) over (c.loop-at.invariant.5 quiet was)
+    let over : c.loop-at.at ≡ c.args.end = omega arith in
+    rw (← over) (c.loop-at.invariant.5 quiet was)

@@ -6,9 +6,7 @@ use Rattle.ksm_book.proofs.state.State.visit_part.Goals as goal
 use Rattle.ksm_book.proofs.state.State.visit_part.Goals.{In-Ok}
 
 visits : (c : In-Ok) → HasVisited c.args.self.now c.visit_up_to.new.self (part_visited c.args.last) c.in-Ok.quiet
-visits c =
-    part_visits c.args.self.now c.begin_pass.new.self c.begin_pass.ensures.comes c.visit_up_to.new.self c.args.last c.in-Ok.quiet
-    c.in-Ok.ensures.visited
+visits c = part_visits _ _ c.begin_pass.ensures.comes _ _ _ c.in-Ok.ensures.visited
 
 pub returns-then-quiet-clause-visited : goal.returns-then-quiet-clause-visited
 returns-then-quiet-clause-visited c = visits (goal.at.returns-then-quiet-clause-visited c).In-Ok
@@ -24,12 +22,10 @@ returns-then-quiet-clause-due c = λ _.
     (begun_cursor c.args.self.now c.begin_pass.new.self c.begin_pass.ensures.comes ∙ whole.0) whole.1)
 
 pub returns-in-Err-clause-stopped : goal.returns-in-Err-clause-stopped
-returns-in-Err-clause-stopped c =
-    part_stopped c.args.self.now c.begin_pass.new.self c.begin_pass.ensures.comes c.visit_up_to.new.self c.args.last c.in-Err.page
-    c.in-Err.ensures.stopped
+returns-in-Err-clause-stopped c = part_stopped _ _ c.begin_pass.ensures.comes _ _ _ c.in-Err.ensures.stopped
 
 pub pass_over_due-requires-clause-due : goal.pass_over_due-requires-clause-due
 pass_over_due-requires-clause-due c =
     let put = c.put_in_order.ensures in
     let same = put.same (put.known ∙ sym put.ready ∙ c.if-put_in_order.true) in
-    same_due c.args.self.now.state c.args.due.now.pages c.put_in_order.new.self.pages same.1 (c.requires.due same.0)
+    same_due c.args.self.now.state _ _ same.1 (c.requires.due same.0)

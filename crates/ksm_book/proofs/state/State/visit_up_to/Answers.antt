@@ -1,4 +1,4 @@
-use Rattle.ksm_book.proofs.Names.{[], after_cursor, ap, AreDue, arith, BookState, Bool, comes_before, Deed, doing, drop, filter, filter_all, filter_none, from_to, GuestPage, IsStill, length, length-take-le, List, Listing, None, not, pages_ahead, pages_visited, Reached, refl, restless_at, slice_get, slice_get_within, Some, subst, sym, true, up_to, ℕ, ◌∙◌, ◌∷◌, ◌≡◌}
+use Rattle.ksm_book.proofs.Names.{[], after_cursor, ap, AreDue, arith, BookState, Bool, Deed, doing, drop, filter, filter_all, filter_none, from_to, GuestPage, IsStill, length, length-take-le, List, None, not, pages_ahead, pages_visited, Reached, refl, restless_at, slice_get, slice_get_within, Some, subst, sym, true, up_to, ℕ, ◌∙◌, ◌∷◌, ◌≡◌}
 use Rattle.ksm_book.proofs.DueVisits.{listed_due}
 use Rattle.ksm_book.proofs.Folded.{pages_go}
 use Rattle.ksm_book.proofs.PagesAhead.{GoesDown, before_down, place_splits, up_to_down}
@@ -13,15 +13,13 @@ part : (c : After-visit_listed) (t : GuestPage → Bool) → GoesDown t → (end
     → pages_visited doing s (from_to c.listed_up_to-first.result end c.args.self.now.restless.pages)
     ≡ pages_visited doing s (filter t (pages_ahead s.0))
 part c t down end high s same =
-    let start = c.args.self.now in
-    part_visited t down start.restless.pages c.listed_up_to-first.result end c.cursor.result start.state c.lies_in_order.ensures.rise
-    (c.lies_in_order.ensures.listed c.requires.known)
+    part_visited t down _ _ end _ _ c.lies_in_order.ensures.rise (c.lies_in_order.ensures.listed c.requires.known)
     c.listed_up_to-first.ensures c.cursor.ensures high doing s same
 
 pub returns-in-Ok-clause-visited : goal.returns-in-Ok-clause-visited
 returns-in-Ok-clause-visited c =
-    let same = part ((goal.at.returns-in-Ok-clause-visited c).After-visit_listed) (up_to c.args.last)
-    (up_to_down c.args.last) c.listed_to-end.result c.listed_to-end.ensures.many in
+    let same = part ((goal.at.returns-in-Ok-clause-visited c).After-visit_listed) _
+    (up_to_down _) _ c.listed_to-end.ensures.many in
     record {
       comes = λ from s before.
           subst (Reached from c.drop_over.new.self) (same s before.0)
@@ -31,7 +29,7 @@ returns-in-Ok-clause-visited c =
 
 -- the page that was not visited stands at its index
 stands : (c : After-listed_at) → slice_get c.args.self.now.restless.pages c.in-Err.at ≡ Some c.listed_at.result.page
-stands c = ap (λ (l : Listing). slice_get l.pages c.in-Err.at) (sym c.visit_listed.ensures.restless) ∙ c.listed_at.ensures
+stands c = rw (← c.visit_listed.ensures.restless) c.listed_at.ensures
 
 pub returns-in-Err-clause-stopped : goal.returns-in-Err-clause-stopped
 returns-in-Err-clause-stopped c =
@@ -42,23 +40,19 @@ returns-in-Err-clause-stopped c =
     let done = from_to c.listed_up_to-first.result c.in-Err.at all in
     let at = stands ((goal.at.returns-in-Err-clause-stopped c).After-listed_at) in
     let listed = c.lies_in_order.ensures.listed c.requires.known in
-    let within = slice_get_within all c.in-Err.at page at in
-    let many : c.in-Err.at ≡ length (filter (λ p. comes_before p page) all) =
-    sym (length-take-le c.in-Err.at all (omega (arith, within))) ∙ ap length (sym (place_splits all c.in-Err.at page listed.0 at).0) in
+    let within = slice_get_within all _ _ at in
+    let many = sym (length-take-le c.in-Err.at all (omega arith)) ∙ ap length (sym (place_splits all _ _ listed.0 at).0) in
     let restless = subst (λ (b : BookState). restless_at page b.rows ≡ true)
-    (comes_to start c.visit_listed.new.self (λ s. pages_visited doing s done) stopped.comes) (stopped.restless page at) in
-    let there = part_ahead (up_to c.args.last)
-    (up_to_down c.args.last) all c.listed_up_to-first.result c.listed_to-end.result c.cursor.result start.state
-    c.lies_in_order.ensures.rise listed c.listed_up_to-first.ensures c.cursor.ensures c.listed_to-end.ensures.many c.in-Err.at page at
+    (comes_to start c.visit_listed.new.self _ stopped.comes) (stopped.restless page at) in
+    let there = part_ahead _ (up_to_down _) all _ _ _ start.state
+    c.lies_in_order.ensures.rise listed c.listed_up_to-first.ensures c.cursor.ensures c.listed_to-end.ensures.many _ _ at
     stopped.low stopped.high
-    (was_restless start.state.rows (pages_visited doing (first start) done).0.rows
-    (pages_go doing done (first start) c.lies_in_order.ensures.rise) page restless) in
+    (was_restless _ _ (pages_go doing done (first start) c.lies_in_order.ensures.rise) _ restless) in
     record {
       within = there.0;
       ahead = there.1;
       comes = λ from s before. subst (Reached from c.visit_listed.new.self)
-          (part ((goal.at.returns-in-Err-clause-stopped c).After-visit_listed) (λ p. comes_before p page)
-          (before_down page) c.in-Err.at many s before.0)
+          (part ((goal.at.returns-in-Err-clause-stopped c).After-visit_listed) _ (before_down _) _ many s before.0)
           (stopped.comes from s before);
     }
 
@@ -66,21 +60,16 @@ pub returns-in-Ok-clause-due : goal.returns-in-Ok-clause-due
 returns-in-Ok-clause-due c = λ quiet start none.
     let v = c.args.self.now in
     let pages = v.restless.pages in
-    let first : c.listed_up_to-first.result ≡ 0 =
-    c.listed_up_to-first.ensures
+    let first = c.listed_up_to-first.ensures
     ∙ ap (λ o. length (filter (λ p. not (after_cursor o p)) pages)) (c.cursor.ensures ∙ start)
     ∙ ap length (filter_none (λ p. not (after_cursor None p)) pages (λ k d lt. refl)) in
-    let end : c.listed_to-end.result ≡ length pages =
-    c.listed_to-end.ensures.many ∙ ap (λ o. length (filter (up_to o) pages)) none
-    ∙ ap length (filter_all (up_to None) pages (λ k d lt. refl)) in
-    let was : AreDue v.state (drop c.listed_up_to-first.result pages) =
-    subst (λ n. AreDue v.state (drop n pages)) (sym first)
-    (listed_due v.state pages c.lies_in_order.ensures.rise (c.lies_in_order.ensures.listed c.requires.known)) in
-    let now : AreDue c.visit_listed.new.self.state [] =
-    subst (AreDue c.visit_listed.new.self.state) (ap (λ n. drop n pages) end ∙ drop_all pages)
+    let end = c.listed_to-end.ensures.many ∙ ap (λ o. length (filter (up_to o) pages)) none
+    ∙ ap length (filter_all (up_to None) _ (λ k d lt. refl)) in
+    let was = subst (λ n. AreDue v.state (drop n pages)) (sym first)
+    (listed_due v.state _ c.lies_in_order.ensures.rise (c.lies_in_order.ensures.listed c.requires.known)) in
+    let now = subst (AreDue c.visit_listed.new.self.state) (ap (λ n. drop n pages) end ∙ drop_all pages)
     (c.in-Ok.ensures.due quiet (omega (arith, first)) was) in
-    subst (λ (b : BookState). AreDue b [])
-    (sym (comes_to c.visit_listed.new.self c.drop_over.new.self (λ s. s) c.drop_over.ensures.comes)) now
+    rw (comes_to c.visit_listed.new.self c.drop_over.new.self _ c.drop_over.ensures.comes) now
   where
     drop_all : (pages : List GuestPage) → drop (length pages) pages ≡ []
     drop_all [] = refl

@@ -1,4 +1,4 @@
-use Rattle.ksm_book.proofs.Names.{ap, arith, begun, BookState, doing, length, mergeable_pages, Reached, refl, subst, sym, visits_beside, ℕ, ◌+◌, ◌∙◌, ◌≡◌, ◌≤◌}
+use Rattle.ksm_book.proofs.Names.{ap, arith, begun, BookState, doing, mergeable_pages, Reached, refl, subst, sym, ◌∙◌, ◌≡◌}
 use Rattle.ksm_book.proofs.Folded.{beside_on, visits_mergeable}
 use Rattle.ksm_book.proofs.Reached.{comes_to, first}
 use Rattle.ksm_book.proofs.state.State.visits.Goals as goal
@@ -6,42 +6,36 @@ use Rattle.ksm_book.proofs.state.State.visits.Goals as goal
 pub go_on-requires-clause-some : goal.go_on-requires-clause-some
 go_on-requires-clause-some c =
     let start = c.args.self.now in
-    subst (λ l. 1 ≤ length l)
-    (sym (ap (λ (b : BookState). mergeable_pages b.rows)
-    (comes_to start c.loop-done.self (visits_beside doing c.loop-done.done) c.loop-done.invariant.2)
-    ∙ visits_mergeable doing c.loop-done.done (first start))) c.requires.some
+    rw (ap (λ (b : BookState). mergeable_pages b.rows) (comes_to start c.loop-done.self _ c.loop-done.invariant.2)
+    ∙ visits_mergeable doing c.loop-done.done (first start)) c.requires.some
 
 pub loop-done-preserved : goal.loop-done-preserved
 loop-done-preserved c =
-    let n : ℕ = c.loop-done.done in
-    let k : ℕ = c.in-Ok.visits in (
+    let n = c.loop-done.done in (
       omega (arith, c.in-Ok.ensures.made.fit, c.loop-done.invariant.0),
       c.go_on.ensures.known,
-      λ from s before.
-          subst (Reached from c.go_on.new.self) (sym (beside_on doing n k (n + k) s refl))
-          (c.in-Ok.ensures.made.comes from (visits_beside doing n s) (c.loop-done.invariant.2 from s before)),
+      λ from s before. subst (Reached from c.go_on.new.self) (sym (beside_on doing n c.in-Ok.visits _ s refl))
+          (c.in-Ok.ensures.made.comes from _ (c.loop-done.invariant.2 from s before)),
       c.go_on.ensures.own ∙ c.loop-done.invariant.3,
       c.go_on.ensures.due,
     )
 
 pub returns-in-Err-clause-scanned : goal.returns-in-Err-clause-scanned
 returns-in-Err-clause-scanned c =
-    let n : ℕ = c.loop-done.done in
-    let k : ℕ = c.in-Err.made in
+    let n = c.loop-done.done in
+    let k = c.in-Err.made in
     let stopped = c.in-Err.ensures.stopped in (
       refl,
       record {
-        fewer = omega (arith, stopped.fewer, c.loop-done.invariant.0);
-        comes = λ from s before.
-            subst (Reached from c.go_on.new.self) (ap begun (sym (beside_on doing n k (n + k) s refl)))
-            (stopped.comes from (visits_beside doing n s) (c.loop-done.invariant.2 from s before));
+        fewer = omega arith;
+        comes = λ from s before. subst (Reached from c.go_on.new.self) (ap begun (sym (beside_on doing n k _ s refl)))
+            (stopped.comes from _ (c.loop-done.invariant.2 from s before));
       },
     )
 
 pub returns-clause-scanned : goal.returns-clause-scanned
 returns-clause-scanned c =
-    let all : c.loop-done.done ≡ c.args.count = omega (arith, c.loop-done-test.false, c.loop-done.invariant.0) in (
+    let all : c.loop-done.done ≡ c.args.count = omega arith in (
       refl,
-      λ from s before. subst (λ n. Reached from c.loop-done.self (visits_beside doing n s)) all
-          (c.loop-done.invariant.2 from s before),
+      λ from s before. rw (← all) (c.loop-done.invariant.2 from s before),
     )
