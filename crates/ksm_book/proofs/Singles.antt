@@ -181,7 +181,7 @@ module _ {p : PagesView} {k : KeeperView} (h : IsLaid p k) (rise : InPageOrder p
   drop_may = rw was (may_leave k h.same _ gone_hand)
 
   -- `Drop` is carried out, and all lies lawfully, where the page has left its frame and its row is gone
-  pub drop_gone : (cursor : Option GuestPage) (passes : ℕ) (q : PagesView) (l : KeeperView) → q ≡ record p { rows = without_page page p.rows; frame = lies_on page None p.frame; restless = q.restless } → MakesSteps k l (leaving left)
+  pub drop_gone : (cursor : Option GuestPage) (passes : ℕ) (q : PagesView) (l : KeeperView) → q ≡ record p { rows = without_page page p.rows; frame = lies_on page None p.frame } → MakesSteps k l (leaving left)
       → Carries p k q l cursor passes (Drop page) (Ok Done)
   drop_gone cursor passes q l goes made =
       let table = ap (λ (z : KeeperView). z.table) made.after in
@@ -258,14 +258,14 @@ module _ {p m : PagesView} {page : GuestPage} {node : ℕ} {bytes : List ℕ} (n
       )
 
   -- `Register` is refused, and all lies lawfully, where no frame of the node was left and the page went again
-  pub register_turned : {k l : KeeperView} (h : IsLaid p k) (cursor : Option GuestPage) (passes : ℕ) (q : PagesView) → p.frame page ≡ None → q ≡ record m { rows = without_page page m.rows; frame = lies_on page None m.frame; restless = q.restless } → FindsNone k l node
+  pub register_turned : {k l : KeeperView} (h : IsLaid p k) (cursor : Option GuestPage) (passes : ℕ) (q : PagesView) → p.frame page ≡ None → q ≡ record m { rows = without_page page m.rows; frame = lies_on page None m.frame } → FindsNone k l node
       → Carries p k q l cursor passes (Register page node bytes) (Err (NoFrame node))
   register_turned {l = l} h cursor passes q nowhere_there goes searched =
       let turns = turned h new.less searched in
       let table = ap (λ (z : KeeperView). z.table) searched.reaped.after in
       let rows = without_come _ _ new.rise new.absent in
       let frame = ap (lies_on page None) new.others ∙ lies_again _ _ None _ ∙ lies_still _ None _ nowhere_there in
-      let back = goes ∙ (λ t. record (new.comes t) { rows = without_page page (new.comes t).rows; frame = lies_on page None m.frame; restless = q.restless }) ∙ (λ t. record p { rows = rows t; frame = frame t; restless = q.restless }) in (
+      let back = goes ∙ (λ t. record (new.comes t) { rows = without_page page (new.comes t).rows; frame = lies_on page None m.frame }) ∙ (λ t. record p { rows = rows t; frame = frame t; restless = m.restless }) in (
         record {
           own = table;
           answer = rw (there_is p.shape.nodes node new.less, new.absent) refl;

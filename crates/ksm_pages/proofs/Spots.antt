@@ -68,8 +68,8 @@ no_value None is = refl
 no_value (Some x) is = absurd (true≢false (sym is))
 
 -- a page that is swept out of the list is there in vain
-vain_of : {entries : Slab Entry} {order : List Named} (s : Spot) → is_useless order s (get entries s.key) ≡ true → IsInVain entries order s.page
-vain_of {entries} {order} s useless = go _ refl useless
+vain_of : {entries : Slab Entry} (order : List Named) (s : Spot) → is_useless order s (get entries s.key) ≡ true → IsInVain entries order s.page
+vain_of {entries} order s useless = go _ refl useless
   where
     unnamed : is_none (find (is_of s.page) order) ≡ true → IsInVain entries order s.page
     unnamed none = inl (no_value _ none)
@@ -90,9 +90,9 @@ vain_of {entries} {order} s useless = go _ refl useless
         ]
 
 -- a page of the spots stays once useless spots are swept out, or is there in vain
-pub swept : {entries : Slab Entry} {order : List Named} (spots : List Spot) {page : GuestPage} → has_item page (pages_of spots) ≡ true
+pub swept : {entries : Slab Entry} (order : List Named) (spots : List Spot) {page : GuestPage} → has_item page (pages_of spots) ≡ true
     → (has_item page (pages_of (filter (λ s. not (is_useless order s (get entries s.key))) spots)) ≡ true) ⊎ IsInVain entries order page
-swept {entries} {order} spots {page} has = go _ refl (sym (listed_found page _) ∙ has)
+swept {entries} order spots {page} has = go _ refl (sym (listed_found page _) ∙ has)
   where
     it : Spot → Bool
     it s = same_page s.page page
@@ -103,7 +103,7 @@ swept {entries} {order} spots {page} has = go _ refl (sym (listed_found page _) 
     go : (o : Option Spot) → find it spots ≡ o → is_some o ≡ true → (has_item page (pages_of (filter keeps spots)) ≡ true) ⊎ IsInVain entries order page
     go None is none = absurd (true≢false (sym none))
     go (Some s) is some = elim (cases_Bool (is_useless order s (get entries s.key))) [
-      | inl useless ↦ inr (subst (IsInVain entries order) (same_page_eq s.page page (find_passes it spots s is)) (vain_of _ useless))
+      | inl useless ↦ inr (subst (IsInVain entries order) (same_page_eq s.page page (find_passes it spots s is)) (vain_of order _ useless))
       | inr kept ↦ inl (listed_found _ (filter keeps spots) ∙ ap is_some (find_filter _ _ spots s is (ap not kept)))
     ]
 

@@ -11,4 +11,4 @@ invariant_of-self c =
     subst AreInOrder (sym (left c)) (AllPairs-filter (λ s t. comes_before s.page t.page ≡ true) _ c.self.inside.spots.items c.self.invariant)
 
 pub returns-then-self-len-clause-kept : goal.returns-then-self-len-clause-kept
-returns-then-self-len-clause-kept c page has = rw (left c) (swept _ ((λ i. has_item page (c.self.view_is i).pages) ∙ has))
+returns-then-self-len-clause-kept c page has = rw (left c) (swept _ _ ((λ i. has_item page (c.self.view_is i).pages) ∙ has))
