@@ -80,12 +80,12 @@ vain_of {entries} order s useless = go _ refl useless
         let either : Bool → Bool = λ same. if same then not (is_restless e) else is_none (find (is_of s.page) order) in
         elim (cases_Bool (same_page e.page s.page)) [
           | inl same ↦ inr (record {
-              key = s.key;
-              entry = e;
-              stands = is;
-              of_page = same_page_eq _ _ same;
-              calm = not-true (is_restless e) (sym (ap either same) ∙ useless);
-            })
+            key = s.key;
+            entry = e;
+            stands = is;
+            of_page = same_page_eq _ _ same;
+            calm = not-true (is_restless e) (sym (ap either same) ∙ useless);
+          })
           | inr other ↦ unnamed (sym (ap either other) ∙ useless)
         ]
 

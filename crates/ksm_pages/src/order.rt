@@ -165,7 +165,10 @@ impl Order {
         ensures ahead { ahead_of cursor self.now ≡ drop result (visited self.now) }
         ensures within { result ≤ length (visited self.now) }
     {
-        self.pages.up_to(from_of(cursor))
+        match cursor {
+            None => 0,
+            Some(_) => self.pages.up_to(from_of(cursor)),
+        }
     }
 
     /// What so many visits behind the cursor come to, one at least.

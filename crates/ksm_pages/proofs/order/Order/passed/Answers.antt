@@ -7,8 +7,8 @@ use Rattle.ksm_order.proofs.Parts.{up_to_few}
 use Rattle.ksm_pages.proofs.Ranked.{kept_from, visited_by}
 use Rattle.ksm_pages.proofs.order.Order.passed.Goals as goal
 
-pub returns : goal.returns
-returns c =
+pub returns-in-Some : goal.returns-in-Some
+returns-in-Some c =
     let items = c.self.inside.pages in
     let from = c.from_of.result in
     let kept = filter_mapped named_by (λ n. n.mergeable && after_cursor c.args.cursor n.page) (λ x. x.marked && is_from from x) items
