@@ -54,7 +54,7 @@ lies_again page o n frame = same_frames _ _ (λ p. grind arith)
 
 -- a page that lies where it lay changes nothing
 pub lies_still : (page : GuestPage) (o : Option ℕ) (frame : Frames) → frame page ≡ o → lies_on page o frame ≡ frame
-lies_still page o frame there = same_frames _ _ (λ p. let same = same_page_eq p page in grind arith)
+lies_still page o frame there = same_frames _ _ (λ p. grind (arith, same_page_eq p page))
 
 -- ---------------------------------------------------------------- the rows
 
@@ -62,7 +62,7 @@ lies_still page o frame there = same_frames _ _ (λ p. let same = same_page_eq p
 pub row_of_page : (page : GuestPage) (rows : List Row) (row : Row) → InPageOrder rows → row_at page rows ≡ Some row → All (λ r. same_page r.page page ≡ true → r ≡ row) rows
 row_of_page page rows row rise found =
     let each = find_all (λ r. same_page r.page page) (λ r. All (λ s. same_page s.page r.page ≡ true → s ≡ r) rows) rows row found (one_of_each_page rows rise) in
-    λ i d lt same. each i d lt (ap (same_page (get_or rows i d).page) (found_page page rows row found) ∙ same)
+    λ i d lt same. each i d lt (grind (arith, found_page page rows row found, same))
 
 -- where P holds of each row and the row of a page changes, Q holds of each, if P gives Q there and elsewhere
 pub all_changed_row : (P Q : Row → Type 0) (page : GuestPage) (c : Row → Row) (rows : List Row) (row : Row) → InPageOrder rows → row_at page rows ≡ Some row → All P rows

@@ -1,5 +1,5 @@
 -- Visits of pages do what those of the definitions do, where the rows further on that still wait are hidden from these.
-use Rattle.ksm_book.proofs.Names.{[], All, All-cons, All-head, All-map, and_parts, ap, append_assoc, AreAscending, arith, before_irrefl, best_dup, BookState, Bool, bytes_eq, cases_Bool, change_row, change_rows, comes_before, comes_later, cond_both, count_mapped, Deed, doing, due_row_visited, due_visited, due_visits, dup_frame, DupRow, each_at_page, empty_from, emptying, false, filter, filter-append, filter_all, filter_none, find, find_all, find_mapped, find_none, find_nothing, find_passes, founding, Frames, get_or, GuestPage, handled, handling, has_item, hidden, if◌then◌else◌, inl, inr, is_for_zero, is_no_rival, is_none, is_restless, IsSound, item_count, Knobs, List, list_all, map_alike, map_mapped, may_join, mergeable_pages, Merged, merged_into, nat_le, nat_lt, new_place, None, not, not-true, not_both, Option, option_map, page, page_visited, pages_visited, PageState, paired, pairing, pairs_cross, pairs_head, pairs_tail, partner, place_count, place_or, private_state, refl, restless_at, restless_row, Row, row_at, row_visited, same_page, same_page_eq, same_page_refl, same_page_sym, seen, settled, settled_calmer, settled_state, shared_state, Some, sound_changed, sound_row_visited, stayed, staying, subst, sym, taken_over, takes_over, tells_waits, then_doing, tree_of, true, true≢false, visited, Waiting, waiting_not_private, waiting_state, waits_for, waits_tells, with_dup, with_none_waiting, Zero, ℕ, ◌&&◌, ◌++◌, ◌+◌, ◌==◌, ◌||◌, ◌∙◌, ◌∷◌, ◌≡◌, nat_tests}
+use Rattle.ksm_book.proofs.Names.{[], All, All-cons, All-head, All-map, and_parts, ap, append_assoc, AreAscending, arith, before_irrefl, best_dup, BookState, Bool, cases_Bool, change_row, change_rows, comes_before, comes_later, cond_both, count_mapped, Deed, doing, due_row_visited, due_visited, due_visits, dup_frame, DupRow, each_at_page, empty_from, emptying, false, filter, filter-append, filter_all, filter_none, find, find_all, find_mapped, find_none, find_nothing, find_passes, Frames, get_or, GuestPage, handled, handling, has_item, hidden, if◌then◌else◌, inl, inr, is_for_zero, is_no_rival, is_none, is_restless, IsSound, item_count, Knobs, List, list_all, map_alike, map_mapped, may_join, mergeable_pages, Merged, merged_into, nat_lt, new_place, None, not, not-true, not_both, Option, option_map, page, page_visited, pages_visited, PageState, paired, pairing, pairs_cross, pairs_head, pairs_tail, partner, place_count, place_or, private_state, refl, restless_at, restless_row, Row, row_at, row_visited, same_page, same_page_eq, same_page_refl, same_page_sym, seen, settled, settled_calmer, settled_state, shared_state, Some, sound_changed, sound_row_visited, stayed, staying, subst, sym, taken_over, takes_over, tells_waits, then_doing, tree_of, true, true≢false, visited, Waiting, waiting_not_private, waiting_state, waits_for, waits_tells, with_dup, with_none_waiting, Zero, ℕ, ◌&&◌, ◌++◌, ◌+◌, ◌==◌, ◌||◌, ◌∙◌, ◌∷◌, ◌≡◌, nat_tests}
 use Rattle.ksm_base.specs.declared.row.PageState.TheVariants.{Private}
 use Rattle.ksm_book.proofs.ByPage.{found_page, row_of_page}
 use Rattle.ksm_book.proofs.Doing.{then_idle}
@@ -23,11 +23,11 @@ settled_is s none = grind (arith, none)
 
 -- a row that does not wait stays as it is where it is to wait no more
 pub stays_settled : (r : Row) → waiting_state r.state ≡ false → settled r ≡ r
-stays_settled r none = λ t. record r { state = settled_is _ none t }
+stays_settled r none = grind (arith, settled_is)
 
 -- to settle a row twice is to settle it once
 pub settled_once : (r : Row) → settled (settled r) ≡ settled r
-settled_once r = λ t. record r { state = settled_again r.state t }
+settled_once r = grind (arith, settled_again r.state)
 
 -- a row that waits no more waits for no row
 waits_not : (knobs : Knobs) (r x : Row) → waits_for knobs r (settled x) ≡ false
@@ -43,7 +43,7 @@ mergeable_has [] = λ k d lt. absurd (omega arith)
 mergeable_has (r ∷ rows) =
     let same = same_page_refl r.page in
     All-cons (λ x. x.mergeable ≡ true → has_item x.page (mergeable_pages (r ∷ rows)) ≡ true) r rows (λ is. grind arith)
-    (λ k d lt is. let rest = mergeable_has rows k d lt is in grind arith)
+    (λ k d lt is. grind (arith, mergeable_has rows k d lt is))
 
 -- the row is of one of these pages
 abbrev is_among : List GuestPage → Row → Bool
@@ -65,7 +65,7 @@ hidden_all b s = λ t. record b { rows = map_alike (calmed (is_among pages)) set
 
 -- with the rows of no page hidden the book is as it is
 pub hidden_none : (b : BookState) → hidden [] b ≡ b
-hidden_none b = λ t. record b { rows = map-id b.rows t }
+hidden_none b = grind (arith, map-id b.rows)
 
 -- ---------------------------------------------------------------- a book in which some rows wait no more
 
@@ -102,15 +102,10 @@ module _ (test : Row → Bool) where
 
     module _ (knobs : Knobs) (row : Row) where
       may_kept : (d : DupRow) → may_join knobs calm_rows row d ≡ may_join knobs rows row d
-      may_kept d =
-          λ t. d.tree == tree_of knobs row && bytes_eq d.bytes row.bytes && nat_le 1 (count_kept d t)
-          && nat_lt (count_kept d t) knobs.max_page_sharing
+      may_kept d = grind (arith, count_kept d)
 
       rival_kept : (d e : DupRow) → is_no_rival knobs calm_rows row d e ≡ is_no_rival knobs rows row d e
-      rival_kept d e =
-          λ t. not (may_kept e t)
-          || (nat_lt (count_kept e t) (count_kept d t)
-          || (count_kept e t == count_kept d t && nat_le d.number e.number))
+      rival_kept d e = grind (arith, may_kept e, count_kept e, count_kept d)
 
       best_kept : (dups : List DupRow) → best_dup knobs calm_rows dups row ≡ best_dup knobs rows dups row
       best_kept dups = λ t. find (λ d. may_kept d t && list_all (λ e. rival_kept d e t) dups) dups
@@ -217,7 +212,7 @@ module _ (later : List GuestPage) (b : BookState) (r : Row) (fresh : has_item r.
   -- with what waits for it in the book it is paired alike
   paired_alike : (o : Option Row) → partner b.knobs b.rows r ≡ o → NoneCovered
       → paired o covered (settled r) ≡ hidden later (paired o b r)
-  paired_alike None found near = λ t. record b { rows = becomes_alike Waiting t }
+  paired_alike None found near = grind (arith, becomes_alike Waiting)
   paired_alike (Some w) found near =
       λ t. record b {
         rows = change_alike _ (becomes (Merged b.next)) (λ x. refl) (λ x. refl) own apart t;
@@ -227,7 +222,7 @@ module _ (later : List GuestPage) (b : BookState) (r : Row) (fresh : has_item r.
       }
     where
       own : (q : GuestPage) → (same_page q w.page || same_page q r.page) ≡ false → same_page r.page q ≡ false
-      own q neither = let back = same_page_sym r.page q in grind arith
+      own q neither = grind (arith, same_page_sym r.page q)
 
       near_w : has_item w.page pages ≡ false
       near_w = found_open near w found
@@ -242,7 +237,7 @@ module _ (later : List GuestPage) (b : BookState) (r : Row) (fresh : has_item r.
     where
       by : (o : Option Row) → pairing o covered frame (settled r) ≡ pairing o b frame r
       by None = refl
-      by (Some w) = λ t. founding b.dups frame (place_kept t) w.page r.page
+      by (Some w) = grind (arith, place_kept)
 
   -- what its visit does with the dup that it may join; no row that waits for it is hidden if it is to wait
   module _ (o : Option DupRow)
@@ -259,7 +254,7 @@ module _ (later : List GuestPage) (b : BookState) (r : Row) (fresh : has_item r.
     handled_alike = by o refl
       where
         by : (e : Option DupRow) → o ≡ e → handled e covered (settled r) ≡ hidden later (handled e b r)
-        by (Some d) is = λ t. record b { rows = becomes_alike (Merged d.number) t }
+        by (Some d) is = grind (arith, becomes_alike (Merged d.number))
         by None is = grind (arith, nat_tests, is, stayed_alike is, chosen, own_change)
 
     staying_alike : (frame : Frames) → o ≡ None → r.unchanged ≡ true
@@ -390,9 +385,7 @@ visited_sound b deed r s found =
 
 visited_rows_go : (b : BookState) (deed : Deed) (r : Row) → IsSound b → row_at r.page b.rows ≡ Some r
     → Goes b.rows (visited doing (b, deed) (Some r)).0.rows
-visited_rows_go b deed r s found =
-    subst (λ o. Goes b.rows (visited doing (b, deed) o).0.rows) found
-    (pages_go doing (r.page ∷ []) (b, deed) s.rows_rise)
+visited_rows_go b deed r s found = grind (arith, found, pages_go doing (r.page ∷ []) (b, deed) s.rows_rise)
 
 -- our visit of a page keeps the book sound, and which pages scans visit
 due_keeps : (s : BookState × Deed) (page : GuestPage) → IsSound s.0
@@ -414,8 +407,7 @@ due_keeps s page sound = by _ refl
         let found_free = freed_found b r there in
         let goes = visited_rows_go _ s.1 r free found_free in (
           subst (λ (z : BookState × Deed). IsSound z.0) taken (visited_sound _ s.1 r free found_free),
-          goes_on _ _ _ (calmed_goes (waits_for b.knobs r) _)
-              (subst (λ (z : BookState × Deed). Goes (freed b r).rows z.0.rows) taken goes),
+          goes_on _ _ _ (calmed_goes (waits_for b.knobs r) _) (grind (arith, taken, goes)),
         ))
         (λ _. (visited_sound b s.1 r sound there, visited_rows_go b s.1 r sound there))
 
@@ -496,8 +488,7 @@ module _ (b : BookState) (s : IsSound b) where
         let of_w = waits_tells b.knobs r w (find_passes (waits_for b.knobs r) b.rows w found_w) in
         let apart = same_page_sym r.page w.page ∙ of_w.other in
         let not_on = ahead w.page ∙ ap (λ z. z && scanned w.page) sooner in
-        λ k d lt is.
-        ap (λ q. has_item q (r.page ∷ later)) (one_waits b r w s found_w k d lt is) ∙ (λ t. apart t || not_on t)
+        λ k d lt is. grind (arith, one_waits b r w s found_w k d lt is, apart, not_on)
 
     -- where it is further on, the same book is hidden whether the rows that wait for it wait or not
     all_covered : (o : Option Row) → partner b.knobs b.rows r ≡ o → comes_later r.page o ≡ true
@@ -516,7 +507,7 @@ module _ (b : BookState) (s : IsSound b) where
               let on : has_item x.page (r.page ∷ later) ≡ true = grind arith in
               ap (λ z. hides (if z then settled x else x)) is
               ∙ ap (λ z. if z then settled (settled x) else settled x) on ∙ settled_once x ∙ sym (rw on)
-          | inr not_so ↦ ap (λ z. hides (if z then settled x else x)) not_so
+          | inr not_so ↦ grind (arith, not_so)
         ]
 
     -- where a visit may change a row, and its page is hidden with those further on, the visit of the definitions does what
@@ -535,7 +526,7 @@ module _ (b : BookState) (s : IsSound b) where
       | inr stays ↦
           let waiting = partner b.knobs b.rows r in
           let due : visited doing (b, deed) (Some r) ≡ due_row_visited doing (b, deed) (Some r) =
-          λ t. if sym is t && sym stays t then (taken_over b r, deed) else visited doing (b, deed) (Some r) in
+          grind (arith, is, stays) in
           rw (← due)
           (visit_alike _ b r fresh _ is
           (λ none unchanged zeroes.
@@ -559,13 +550,11 @@ module _ (b : BookState) (s : IsSound b) where
       due o = due_row_visited doing (b, deed) o
 
       calm_stays : (r : Row) → is_restless r ≡ false → (b, deed) ≡ due (Some r)
-      calm_stays r calm =
-          λ t. if sym calm t && takes_over b r then (taken_over b r, deed)
-          else (if sym calm t then (row_visited b r, doing b deed r) else (b, deed))
+      calm_stays r calm = grind (arith, calm)
 
       by : (o : Option Row) → row_at page b.rows ≡ o
           → visited doing (hides, deed) (option_map cover o) ≡ (hidden later (due o).0, (due o).1)
-      by None found = λ t. (calm_hidden _ later (ap restless_row found) t, deed)
+      by None found = grind (arith, calm_hidden)
       by (Some r) found = elim (cases_Bool (is_restless r)) [
         | inl is ↦
             let at = found_page _ _ r found in
@@ -606,8 +595,7 @@ those_ahead b gone page later s are q = ap (has_item q) (sym behind) ∙ has_fil
 
     behind : filter (comes_before page) (mergeable_pages b.rows) ≡ later
     behind =
-        ap (filter (comes_before page)) are ∙ filter-append _ gone _
-        ∙ (λ t. gone_by t ++ filter (comes_before page) (page ∷ later))
+        ap (filter (comes_before page)) are ∙ filter-append _ gone _ ∙ (grind (arith, gone_by))
         ∙ filter_out (comes_before page) _ _ (before_irrefl page) ∙ filter_all _ _
         (pairs_head Before _ _ (ascending_right _ (page ∷ later) rise))
 

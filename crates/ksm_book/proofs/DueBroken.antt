@@ -36,7 +36,7 @@ module _ (b : BookState) (sound : IsSound b) (page : GuestPage) (row : Row) (fou
       r = get_or b.rows k d
 
       named : (o : Option Row) → partner b.knobs b.rows row ≡ o → option_map (λ w. w.page) o ≡ beside
-      named o is = rw merged (ap (option_map (λ w. w.page)) (sym is))
+      named o is = rw merged (grind (arith, is))
 
       by : (o : Option Row) → partner b.knobs b.rows row ≡ o → names r.page beside ≡ true
       by None none = grind (arith, nat_tests, none, find_none)
@@ -54,8 +54,7 @@ module _ (b : BookState) (sound : IsSound b) (page : GuestPage) (row : Row) (fou
       let group = and_parts _ _ same in
       let other : same_page r.page row.page ≡ false = elim (cases_Bool (same_page r.page row.page)) [
         | inl is ↦
-            let it = row_of_page _ _ row sound.rows_rise found k d lt
-            (ap (same_page r.page) (sym (found_page _ _ row found)) ∙ is) in
+            let it = row_of_page _ _ row sound.rows_rise found k d lt (grind (arith, found_page, is)) in
             absurd (both_ways (waiting_state row.state) merged.1 (rw (← it) waiting))
         | inr apart ↦ apart
       ] in
@@ -92,7 +91,7 @@ module _ (b : BookState) (sound : IsSound b) (page : GuestPage) (row : Row) (fou
 module _ (b : BookState) (page : GuestPage) (old new : List GuestPage) (was : AreDue b old)
     (told : (p : GuestPage) → has_item p new ≡ (names p (page_beside b.knobs b.rows (row_at page b.rows)) || has_item p old)) where
   more_than_was : (p : GuestPage) → has_item p old ≡ true → has_item p new ≡ true
-  more_than_was p is = let tells = told p in grind arith
+  more_than_was p is = grind (arith, told p)
 
   module _ (sound : IsSound b) (row : Row) (found : row_at page b.rows ≡ Some row) where
     covers : (p : GuestPage) → names p (page_beside b.knobs b.rows (Some row)) ≡ true → has_item p new ≡ true
@@ -112,10 +111,10 @@ module _ (b : BookState) (page : GuestPage) (old new : List GuestPage) (was : Ar
         of_page r = same_page r.page page
 
         on : (p : GuestPage) → has_item p new ≡ true → has_item p later ≡ true
-        on p is = let tells = added p in grind arith
+        on p is = grind (arith, added p)
 
         own : (p : GuestPage) → same_page p page ≡ true → has_item p later ≡ true
-        own p same = added p ∙ ap (λ z. z || has_item p new) (same_page_sym _ p ∙ same)
+        own p same = grind (arith, added p, same_page_sym, same)
 
         counts : (e : DupRow) → merged_into e.number row.state ≡ false
             → item_count (change_rows of_page (stored bytes) b.rows) e ≡ item_count b.rows e
@@ -154,7 +153,7 @@ come_due b page node bytes pages absent was =
 module _ (b : BookState) (page : GuestPage) (old new : List GuestPage) (added : (p : GuestPage) → has_item p new ≡ (same_page page p || has_item p old))
     (was : AreDue b old) where
   more : (p : GuestPage) → has_item p old ≡ true → has_item p new ≡ true
-  more p is = let tells = added p in grind arith
+  more p is = grind (arith, added p)
 
   -- that is so of the book as it is
   pub added_due : AreDue b new

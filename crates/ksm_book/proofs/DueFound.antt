@@ -1,6 +1,6 @@
 -- The visit of a page that is due, by what was found of it: it takes over from none, but where a row further on waits
 -- for it; and which pages are due then.
-use Rattle.ksm_book.proofs.Names.{and_from, and_right, ap, AreDue, arith, Best, best_dup, BookState, BookValue, BookView, Bool, change_row, change_rows, Comes, comes_before, comes_later, cond_both, Deed, doing, Dup, due_visited, DupRow, false, find_mapped, find_passes, FindsAt, get_or, GuestPage, has_item, HasStayed, if◌then◌else◌, InPageOrder, is_for_zero, is_none, is_restless, IsDueNoMore, IsSound, KeeperView, List, mapped, MatchOption, Merged, None, not, not_both, one_before, Option, option_map, or_cases, page_visited, PagesView, paired, PageState, Partner, partner, Performs, Reached, refl, restless_at, restless_row, Row, row_at, row_visited, same_page, same_page_eq, same_page_refl, same_Some, shared_state, Some, state_of, StaysBefore, subst, sym, takes_over, TakesOverFrom, true, view_of, VisitsPage, waits_for, waits_tells, Zero, ℕ, ◌&&◌, ◌||◌, ◌∙◌, ◌∷◌, ◌≡◌, nat_tests}
+use Rattle.ksm_book.proofs.Names.{and_from, and_right, ap, AreDue, arith, Best, best_dup, BookState, BookValue, BookView, Bool, change_row, change_rows, Comes, comes_before, comes_later, cond_both, Deed, doing, Dup, due_visited, DupRow, false, find_mapped, find_passes, FindsAt, get_or, GuestPage, has_item, HasStayed, if◌then◌else◌, InPageOrder, is_for_zero, is_none, is_restless, IsDueNoMore, IsSound, KeeperView, List, MatchOption, Merged, None, not, not_both, one_before, Option, option_map, or_cases, page_visited, PagesView, paired, PageState, Partner, partner, Reached, refl, restless_at, restless_row, Row, row_at, row_visited, same_page, same_page_eq, same_page_refl, same_Some, shared_state, Some, state_of, StaysBefore, subst, sym, takes_over, TakesOverFrom, true, view_of, VisitsPage, waits_for, waits_tells, Zero, ℕ, ◌&&◌, ◌||◌, ◌∙◌, ◌∷◌, ◌≡◌, nat_tests}
 use Rattle.ksm_base.specs.declared.row.PageState.TheVariants.{Private}
 use Rattle.ksm_pages.specs.declared.pages.Find.TheVariants as finds
 use Rattle.ksm_pages.specs.Paged.{Finds}
@@ -53,8 +53,7 @@ is_visited s page none = grind (arith, none)
 
 comes_so : (v w : BookValue) (page : GuestPage) → TakesNone page v.state → Comes v w (λ s. page_visited doing s page)
     → Comes v w (λ s. due_visited doing s page)
-comes_so v w page none comes = λ from s before.
-    subst (Reached from w) (sym (is_visited s _ (subst (TakesNone page) before.0 none))) (comes from s before)
+comes_so v w page none comes = λ from s before. grind (arith, is_visited, comes from s before)
 
 module _ {P : BookState → Row → Type 0} {p : PagesView} {k : KeeperView} {cursor : Option GuestPage} {passes : ℕ} {v : BookView}
     {page : GuestPage} (at : Meets P p k cursor passes v page) where
@@ -72,7 +71,7 @@ Without page old new = (p : GuestPage) → has_item p new ≡ (has_item p old &&
 
 kept : (page : GuestPage) (old new : List GuestPage) → Without page old new
     → (p : GuestPage) → has_item p old ≡ true → has_item p (page ∷ new) ≡ true
-kept page old new gone p is = let one = gone p in grind arith
+kept page old new gone p is = grind (arith, gone p)
 
 -- a page that is due no more need not be among those that are
 pub less_due : (page : GuestPage) (b c : BookState) (old new : List GuestPage) → Without page old new → IsDueNoMore page b c
@@ -119,8 +118,7 @@ module _ {P : BookState → Row → Type 0} {p : PagesView} {k : KeeperView} {cu
       no_more : IsDueNoMore page v.state w.state
       no_more pages was =
           calm_undue w.state _ rise (ap (λ (c : BookState). restless_at page c.rows) state_is ∙ calm) pages
-          (subst (λ (c : BookState). AreDue c (page ∷ pages)) (sym becomes)
-          (visited_due _ _ _ (sound_seen at) was (takes_none at none)))
+          (grind (arith, becomes, visited_due))
 
 -- ---------------------------------------------------------------- by what was found
 
@@ -162,7 +160,7 @@ module _ {p q : PagesView} {k : KeeperView} {cursor : Option GuestPage} {passes 
     -- a page that meets an earlier one takes over from none
     pub partner_none : comes_before other page ≡ true → takes_over (state_of p cursor passes) at.row ≡ false
     partner_none before = waits_takes_none (state_of p cursor passes) at.row _ met.1
-        ((λ t. comes_before (page_is at t) (sym met.2 t)) ∙ not_both other page before)
+        (grind (arith, page_is at, met.2, not_both other page before))
 
     -- once it was visited, its row is none that a visit may change
     pub partner_calm : restless_at page (row_visited (state_of p cursor passes) at.row).rows ≡ false
@@ -175,7 +173,7 @@ module _ {p q : PagesView} {k : KeeperView} {cursor : Option GuestPage} {passes 
     pub partner_takes : comes_before other page ≡ false → MatchOption (row_at page p.rows) (true ≡ false) (TakesOverFrom (state_of p cursor passes) other)
     partner_takes none =
         let apart = (waits_tells p.knobs at.row met.0 (find_passes (waits_for p.knobs at.row) p.rows _ met.1)).other in
-        let before = one_before met.0.page at.row.page apart ((λ t. comes_before (sym met.2 t) (page_is at t)) ∙ none) in
+        let before = one_before met.0.page at.row.page apart (grind (arith, met.2, page_is at, none)) in
         rw at.found
         (at.so.0, takes (state_of p cursor passes) at.row stays.none stays.unchanged stays.zeroes _ met.1 before, at.so.4)
 
@@ -206,8 +204,7 @@ gone_same p q page told = grind arith
 
 module _ (v m w : BookValue) (same : view_of m ≡ view_of v) where
   reached_as : (from : BookValue) (s : BookState × Deed) → Reached from v s → Reached from m s
-  reached_as from s before =
-      subst (λ (x : BookView). (x.state ≡ s.0) × Performs (mapped (view_of from)) (mapped x) s.1) (sym same) before
+  reached_as from s before = grind (arith, same, before)
 
   -- what is reached from a book is reached from one that looks the same
   pub comes_as : (change : BookState × Deed → BookState × Deed) → Comes m w change → Comes v w change

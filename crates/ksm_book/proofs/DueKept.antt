@@ -262,8 +262,7 @@ module _ (b : BookState) (sound : IsSound b) (new : List Row) (dup : DupRow) (st
       let e = get_or b.dups k d in
       elim (cases_Bool (e.number == dup.number)) [
         | inl same ↦
-            let is = same_Some e dup (sym (each_has_number _ sound.dups_rise k d lt)
-            ∙ ap (λ n. dup_numbered n b.dups) (eqb-true e.number dup.number same) ∙ stands) in
+            let is = same_Some e dup (grind (arith, each_has_number, eqb-true e.number dup.number same, stands)) in
             rw is (not_of_group _ _ _ _ _ some room (subst (λ x. may_join b.knobs b.rows r x ≡ false) is (none k d lt)))
         | inr other ↦ ap (joins b.knobs r e) (same_count e other) ∙ none k d lt
       ]
@@ -288,7 +287,7 @@ module _ (b : BookState) (sound : IsSound b) (row : Row) (found : row_at row.pag
       (unmerged, after))
       (row.page ∷ pages) (row.page ∷ pages) (λ p is. is)
       (λ k d lt same _. let r = get_or b.rows k d in
-      ap (λ p. has_item p (row.page ∷ pages)) (keeps r) ∙ itself row.page pages r.page same) was
+      grind (arith, keeps r, itself row.page pages r.page same)) was
 
   -- the row joins a dup: rows of other pages that wait on are of another tree or content
   joined_due : (dup : DupRow) (pages : List GuestPage) → best_dup b.knobs b.rows b.dups row ≡ Some dup → AreDue b (row.page ∷ pages)
@@ -410,11 +409,11 @@ module _ (b : BookState) (frame : Frames) (sound : IsSound b) (row : Row) (found
 
   -- its visit leaves the book as it is
   on_same : row_visited b row ≡ b
-  on_same = (stayed_is b frame row false on_stayed).0 ∙ ap (λ o. paired o b row) on_alone ∙ (λ t. record b { rows = still t })
+  on_same = grind (arith, (stayed_is b frame row false on_stayed).0, on_alone, still)
     where
       still : change_row row.page (λ r. record r { state = Waiting }) b.rows ≡ b.rows
       still = change_still _ _ _ (λ k d lt same. rw (row_of_page _ _ row sound.rows_rise found k d lt same)
-          (λ t. record row { state = waits_is _ on.waiting t }))
+          (grind (arith, waits_is)))
 
   -- and does nothing to the frames
   on_idle : row_visiting b frame row ≡ idle frame
@@ -438,7 +437,7 @@ undue_stay (page ∷ pages) s due sound are out =
       | inl restless ↦
           let on = find_all (λ x. same_page x.page page)
           (λ x. is_restless x ≡ true → has_item x.page due ≡ false → waits_on s.0 x ≡ true) s.0.rows r found are restless
-          (ap (λ p. has_item p due) (found_page _ _ r found) ∙ All-head (λ p. has_item p due ≡ false) _ _ out) in
+          (grind (arith, found_page, All-head)) in
           on_stays s _ r sound found on restless
       | inr calm ↦ calm_stays s _ (ap restless_row found ∙ calm)
     ]
@@ -504,7 +503,7 @@ waits_undue b row found restless none unchanged zeroes rise pages was =
 -- a page whose row a visit may not change is not due
 pub calm_undue : (b : BookState) (page : GuestPage) → InPageOrder b.rows → restless_at page b.rows ≡ false → IsDueNoMore page b b
 calm_undue b page rise calm pages was =
-    undue b _ _ rise (λ r at restless. absurd (true≢false (sym restless ∙ ap restless_row (sym at) ∙ calm))) was
+    undue b _ _ rise (λ r at restless. absurd (true≢false (grind (arith, restless, at, calm)))) was
 
 -- ---------------------------------------------------------------- a row that waits in the stead of another
 

@@ -155,8 +155,7 @@ module _ (s : BookState × Deed) (sound : IsSound s.0) (pages : List GuestPage) 
             let at = place_of _ _ there in
             let splits = place_splits _ _ _ rise at.1 in
             rw (← before_visited)
-            (ap (due_visits doing s) (splits.1 ∙ take_one _ _ _ at.1 ∙ ap (λ l. l ++ page ∷ []) (sym splits.0))
-            ∙ visits_on (filter low pages) (page ∷ []) s)
+            (grind (arith, splits.1, take_one, splits.0, visits_on (filter low pages) (page ∷ []) s))
         | inr out ↦
             ap (due_visits doing s) (filter_same _ low _ (λ k d lt. others _ (absent _ _ out k d lt))) ∙ before_visited
             ∙ sym (calm_stays _ _ (calm out))

@@ -13,7 +13,7 @@ on_node node size g low high = grind (arith, nat_tests, low, high, div-mul-add)
 
 -- what the keeper knows with a frame written as it was
 pub as_it_was : (k : Ledger) (g : ℕ) → with_frame k g (frame_at k g) ≡ k
-as_it_was k g = λ i. record { frames = set-get_or k.frames g blank i; places = k.places }
+as_it_was k g = grind (arith, set-get_or k.frames g blank)
 
 module _ (k : Ledger) (g : ℕ) (lt : g < length k.frames) where
   -- the frame has the note that it got
@@ -22,11 +22,11 @@ module _ (k : Ledger) (g : ℕ) (lt : g < length k.frames) where
 
   -- two changes of a frame's note, one after the other, are one change by both
   pub again : (a : Note) (F : Note → Note) → with_frame (with_frame k g a) g (F (frame_at (with_frame k g a) g)) ≡ with_frame k g (F a)
-  again a F = rw (at_again a) (λ i. record { frames = set-set k.frames g a (F a) i; places = k.places })
+  again a F = rw (at_again a) (grind (arith, set-set k.frames g a (F a)))
 
   -- a change of the frame's note that follows another is one change by both
   pub follow : {l m : Ledger} (a : Note) (F : Note → Note) → m ≡ with_frame l g (F (frame_at l g)) → l ≡ with_frame k g a → m ≡ with_frame k g (F a)
-  follow a F is was = is ∙ ap (λ z. with_frame z g (F (frame_at z g))) was ∙ again a F
+  follow a F is was = grind (arith, is, was, again a F)
 
 -- ---------------------------------------------------------------- a frame is found
 
@@ -44,7 +44,7 @@ module _ (v w : KeeperView) (node g : ℕ) (less : node < v.table.shape.nodes) (
 
   -- the frame found is one that the keeper knows
   pub found_within : g < length w.ledger.frames
-  found_within = let long = found_placed.frames_long in let i = found_inside in omega arith
+  found_within = omega (arith, found_placed.frames_long, found_inside)
 
   -- once the frame found is raised it is ready to be filled
   pub raised_ready : (r : KeeperView) (n : ℕ) → r ≡ did w (Raise g) n
@@ -104,14 +104,13 @@ module _ {v w : KeeperView} {node : ℕ} {bytes : List ℕ} {g : ℕ} (less : no
 
 -- n references that came to a frame, and one more, are n + 1 steps of the keeper
 pub add_more : (v w w' : KeeperView) (f n found : ℕ) → MakesSteps v w (replicate n (Add f)) → w' ≡ did w (Add f) found → MakesSteps v w' (replicate (n + 1) (Add f))
-add_more v w w' f n found so_far is =
-    subst (MakesSteps v w') (replicate-append-replicate n 1 (Add f)) (made_then so_far (made_one w w' _ _ is))
+add_more v w w' f n found so_far is = grind (arith, replicate-append-replicate n 1 (Add f), made_then)
 
 -- the words of a dying frame stay where a free one is raised
 pub words_kept : (v w : KeeperView) (f g found : ℕ) → (frame_at v.ledger g).kind ≡ Free → (frame_at v.ledger f).kind ≡ Dying → w ≡ did v (Raise g) found
     → (frame_at w.ledger f).content ≡ (frame_at v.ledger f).content
 words_kept v w f g found free dying is =
-    let apart : f ≢ g = λ same. (let e = sym free ∙ ap (λ x. (frame_at v.ledger x).kind) (sym same) ∙ dying in grind arith) in
+    let apart : f ≢ g = λ same. (grind (arith, sym free ∙ ap (λ x. (frame_at v.ledger x).kind) (sym same) ∙ dying)) in
     rw (is, get_or-set_other v.ledger.frames g f (raised (frame_at v.ledger g)) blank apart)
 
 -- a frame is raised, words of another are loaded and stored there, it is opened, references come, and the place names it

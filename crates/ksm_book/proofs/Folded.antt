@@ -1,5 +1,5 @@
 -- The visits of a pass are a fold over its pages, only restless pages count, and a quiet pass is repeated by those behind it.
-use Rattle.ksm_book.proofs.Names.{[], after_cursor, All, All-head, All-tail, AllPairs-filter, and_parts, ap, append-nil, AreAscending, arith, begun, BookState, Bool, cases_Bool, comes_before, cond_both, each_at_page, false, filter, filter_all, find_all, find_passes, GuestPage, has_item, inl, InPageOrder, inr, is_none, IsBeside, IsStill, last_of, length, List, map, mergeable_pages, min, next_row, next_visited, None, not, not-true, Option, option_map, page_visited, pages_ahead, pages_visited, pass_at, pass_ended, pass_ended_at_last, refl, restless_at, Row, row_at, row_visited, rowwise_visits, same_page, same_page_eq, settled, shared_state, slice_get, Some, subst, suc, suc-mul, sym, true, visit, visit_begun, visit_of, visited, visits, visits_beside, with_none_waiting, zero, ℕ, ◌&&◌, ◌*◌, ◌++◌, ◌+◌, ◌-◌, ◌^◌, ◌∙◌, ◌∷◌, ◌≡◌, ◌≤◌, map_mapped, if◌then◌else◌, and_right, pairs_mapped, ⊤, nat_tests}
+use Rattle.ksm_book.proofs.Names.{[], after_cursor, All, All-head, All-tail, AllPairs-filter, and_parts, ap, append-nil, AreAscending, arith, begun, BookState, Bool, cases_Bool, comes_before, cond_both, each_at_page, false, filter, filter_all, find_all, find_passes, GuestPage, has_item, inl, InPageOrder, inr, is_none, IsBeside, IsStill, last_of, length, List, map, mergeable_pages, min, next_row, next_visited, None, not-true, Option, option_map, page_visited, pages_ahead, pages_visited, pass_at, pass_ended, pass_ended_at_last, refl, restless_at, Row, row_at, row_visited, rowwise_visits, same_page, same_page_eq, settled, shared_state, slice_get, Some, subst, suc, suc-mul, sym, true, visit, visit_begun, visit_of, visited, visits, visits_beside, with_none_waiting, zero, ℕ, ◌&&◌, ◌*◌, ◌++◌, ◌+◌, ◌-◌, ◌^◌, ◌∙◌, ◌∷◌, ◌≡◌, ◌≤◌, map_mapped, and_right, pairs_mapped, ⊤, nat_tests}
 use Rattle.ksm_book.proofs.Going.{Goes, begun_goes, elsewhere, goes_on, mergeable_kept, goes_same, settled_goes, visited_goes}
 use Rattle.ksm_book.proofs.PagesAhead.{Before, behind_first, filter_in, filter_out, has_filter, same_pages}
 use Rattle.ksm_pages.proofs.Options.{mapped_some, none_mapped}
@@ -10,8 +10,7 @@ use Rattle.ksm_pages.proofs.Options.{mapped_some, none_mapped}
 pub next_first : (cursor : Option GuestPage) (rows : List Row)
     → option_map (λ r. r.page) (next_row cursor rows) ≡ slice_get (filter (after_cursor cursor) (mergeable_pages rows)) 0
 next_first cursor [] = refl
-next_first cursor (r ∷ rows) =
-    let rest = next_first cursor rows in grind arith
+next_first cursor (r ∷ rows) = grind (arith, next_first cursor rows)
 
 -- the next row, where a page is ahead
 some_next : (c : BookState) (page : GuestPage) (more : List GuestPage) → pages_ahead c ≡ page ∷ more
@@ -65,7 +64,7 @@ every_page rows = filter_all (after_cursor None) _ (λ k d lt. refl)
 -- where nothing but which rows wait changed from a first book to a second and to a third, so it is from first to third
 pub still_on : {X : Type 0} (first second third : BookState × X) → IsStill first second → IsStill second third → IsStill first third
 still_on first second third f g = record {
-  rest = g.rest ∙ ap (λ (b : BookState). record b { rows = third.0.rows }) f.rest;
+  rest = grind (arith, g.rest, f.rest);
   rows = g.rows ∙ f.rows;
   beside = g.beside ∙ f.beside;
 }
@@ -92,8 +91,7 @@ module _ {X : Type 0} (step : BookState → X → Row → X) where
   pub visits_mergeable : (n : ℕ) (s : BookState × X) → mergeable_pages (visits_beside step n s).0.rows ≡ mergeable_pages s.0.rows
   visits_mergeable n s =
       let h = rowwise_visits n s.0 in
-      rw (beside_state n s)
-      (ap mergeable_pages h.rows ∙ mergeable_kept _ (λ r. ((h.keeps r).page, (h.keeps r).mergeable)) _)
+      rw (beside_state n s) (grind (arith, h.rows, mergeable_kept))
 
   -- n visits, of which the first has begun
   abbrev goes : ℕ → BookState × X → BookState × X
@@ -105,7 +103,7 @@ module _ {X : Type 0} (step : BookState → X → Row → X) where
 
   visits_go_on : (n : ℕ) (s : BookState × X) → visit_begun s.0 ≡ s.0 → visits_beside step n s ≡ goes n s
   visits_go_on zero s is = refl
-  visits_go_on (suc n) s is = visits_go n s ∙ ap (λ c. goes (suc n) (c, s.1)) is
+  visits_go_on (suc n) s is = grind (arith, visits_go n s, is)
 
   pass_moved : (page : GuestPage) (done left : List GuestPage) (s : BookState × X)
       → pass_at done left (record s.0 { cursor = Some page }, s.1) ≡ pass_at (page ∷ done) left s
@@ -156,7 +154,7 @@ module _ {X : Type 0} (step : BookState → X → Row → X) where
             (λ k d lt off. first.calm _ (rest k d lt off))
         | inr goes_out ↦
             rw (calm_stays s _ (All-head P _ _ calm goes_out))
-            (ap (pages_visited step s) (filter_out t _ _ goes_out) ∙ settled_out t pages s rise rest)
+            (grind (arith, filter_out, settled_out t pages s rise rest))
       ]
 
   -- visits of two ascending lists of pages with the same restless pages come to the same
@@ -173,7 +171,7 @@ module _ {X : Type 0} (step : BookState → X → Row → X) where
       t page = restless_at page s.0.rows
 
       alike : (x : GuestPage) → has_item x (filter t ps) ≡ has_item x (filter t qs)
-      alike x = has_filter t x ps ∙ (let is = same x in grind arith) ∙ sym (has_filter t x qs)
+      alike x = has_filter t x ps ∙ (grind (arith, same x)) ∙ sym (has_filter t x qs)
 
   module _ (beside : IsBeside step) where
     -- the visit of the next row is that of its page
@@ -192,7 +190,7 @@ module _ {X : Type 0} (step : BookState → X → Row → X) where
 
         by : (z : Bool) → shared_state row.state ≡ z → visited step s (Some row) ≡ (row_visited c row, step c s.1 row)
         by true is = grind (arith, nat_tests, mergeable)
-        by false is = λ t. if mergeable t && not (is t) then (row_visited c row, step c s.1 row) else s
+        by false is = grind (arith, mergeable, is)
 
     -- visits of pages do the same wherever the cursor stands and however many passes have ended
     module _ (cursor : Option GuestPage) (passes : ℕ) where
@@ -224,8 +222,7 @@ module _ {X : Type 0} (step : BookState → X → Row → X) where
         let passes = ap (λ (s : BookState × X). s.0.passes) (pages_alike v.0.cursor v.0.passes (next ∷ done) v) in
         rw (pass_goes_on here _ _ is)
         (visits_go_on (suc (length done)) (here, v.1) (begun_goes_on _ _ _ _ refl is) ∙ rest (omega arith)
-        ∙ ap (pass_at (next ∷ done) left) (pages_alike (Some page) v.0.passes (next ∷ done) v)
-        ∙ (λ t. pass_at (next ∷ done) left (record after.0 { cursor = Some page; passes = sym passes t }, after.1))
+        ∙ ap (pass_at (next ∷ done) left) (pages_alike (Some page) v.0.passes (next ∷ done) v) ∙ (grind (arith, passes))
         ∙ pass_moved page (next ∷ done) left after)
 
     -- visits from a state in which a visit has begun

@@ -1,5 +1,5 @@
 -- The sets of the free and of the dying frames follow the keeper's steps.
-use Rattle.ksm_book.proofs.Names.{ap, AreSets, arith, blank, Bool, cases_eq, cases_lt, cond, did, dying_kind, false, frame_at, frames_of, Free, free_kind, Freeze, get_or-set_other, get_or-set_same, get_or_past, has, inl, inr, IsSetOf, KeeperStep, KeeperView, Kind, Ledger, ledger_after, length, length-set, List, lowered, Marks, ne_eqb, Note, Raise, raised, Reap, refl, Shape, Sub, subst, sym, true, with_frame, ℕ, ◌*◌, ◌-◌, ◌<◌, ◌∙◌, ◌≡◌, ◌≢◌, ◌≤◌}
+use Rattle.ksm_book.proofs.Names.{ap, AreSets, arith, blank, Bool, cases_eq, cases_lt, cond, did, dying_kind, false, frame_at, frames_of, Free, free_kind, Freeze, get_or-set_other, get_or-set_same, get_or_past, has, inl, inr, IsSetOf, KeeperStep, KeeperView, Kind, Ledger, ledger_after, length, length-set, List, lowered, Marks, ne_eqb, Note, Raise, raised, Reap, refl, Shape, Sub, sym, true, with_frame, ℕ, ◌*◌, ◌-◌, ◌<◌, ◌∙◌, ◌≡◌, ◌≢◌, ◌≤◌}
 
 -- ---------------------------------------------------------------- one frame's note is changed
 
@@ -61,7 +61,7 @@ sets_marked v w e found frame free dying free' dying' is on are f d =
 same_kinds : (asked : Kind → Bool) (k : Ledger) (f : ℕ) (note : Note) → asked note.kind ≡ asked (frame_at k f).kind
     → (g : ℕ) → asked (frame_at (with_frame k f note) g).kind ≡ asked (frame_at k g).kind
 same_kinds asked k f note same g = elim (cases_eq g f) [
-  | inl here ↦ ap (λ i. asked (frame_at (with_frame k f note) i).kind) here ∙ at_frame ∙ ap (λ i. asked (frame_at k i).kind) (sym here)
+  | inl here ↦ grind (arith, here, at_frame)
   | inr differs ↦ rw (get_or-set_other k.frames f g note blank differs)
 ]
   where
@@ -99,7 +99,7 @@ pub sets_lowered : (v w : KeeperView) (found frame : ℕ) (free dying : List ℕ
     → AreSets v free dying → AreSets w free dying
 sets_lowered v w found frame free dying is left are =
     let table = ap (λ (z : KeeperView). z.table) is in
-    let kept = kind_left v.ledger frame (subst (λ (z : KeeperView). (frame_at z.ledger frame).base ≢ 0) is left) in
+    let kept = kind_left v.ledger frame (grind (arith, is, left)) in
     let same : (asked : Kind → Bool) (g : ℕ) → asked (frame_at w.ledger g).kind ≡ asked (frame_at v.ledger g).kind = λ asked g.
     rw is (same_kinds asked v.ledger frame (lowered (frame_at v.ledger frame)) (ap asked kept) g) in
     record {

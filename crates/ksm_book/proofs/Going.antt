@@ -108,8 +108,7 @@ module _ (b : BookState) (row : Row) (rise : InPageOrder b.rows) (found : row_at
   own_changes f keeps own =
       let only = find_all (λ r. same_page r.page row.page) (λ r. All (λ s. same_page s.page r.page ≡ true → s ≡ r) b.rows) b.rows row found
       (one_of_each_page b.rows rise) in
-      some_go _ f _ keeps
-      (λ k d lt here is. absurd (true≢false (sym is ∙ ap (λ (r : Row). shared_state r.state) (only k d lt here) ∙ own)))
+      some_go _ f _ keeps (λ k d lt here is. absurd (true≢false (grind (arith, is, only k d lt here, own))))
 
   paired_goes : (w : Option Row) → shared_state row.state ≡ false → Comes (paired w b row)
   paired_goes (Some w) own = shares _ _ _ refl

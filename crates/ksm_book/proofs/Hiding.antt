@@ -1,5 +1,5 @@
 -- Rows that wait no more: that of a page with a frame of its own, and those from a page on, one after another.
-use Rattle.ksm_book.proofs.Names.{[], All, ap, BookState, BookValue, Bool, change_row, change_rows, Comes, comes_before, cond_both, every_row, false, find, get_or, GuestPage, InPageOrder, inl, IsAlone, is_next, IsLaid, IsSound, KeeperView, List, mapped, MatchOption, None, not, on_its_own, Option, option_map, ordered_change, PageState, PagesValue, PagesView, Performs, refl, Row, row_at, same_page, same_page_eq, seen, settled, settled_calmer, settled_state, shared_state, Some, sound_changed, state_of, subst, sym, true, true≢false, view_of, ℕ, ◌∙◌, ◌∷◌, ◌++◌, ◌≡◌, ◌⊎◌, if◌then◌else◌, map_alike, arith, nat_tests}
+use Rattle.ksm_book.proofs.Names.{[], All, ap, BookState, BookValue, Bool, change_row, change_rows, Comes, comes_before, cond_both, every_row, false, find, get_or, GuestPage, InPageOrder, inl, IsAlone, is_next, IsLaid, IsSound, KeeperView, List, MatchOption, None, not, on_its_own, Option, option_map, ordered_change, PageState, PagesValue, PagesView, refl, Row, row_at, same_page, same_page_eq, seen, settled, settled_calmer, settled_state, shared_state, Some, sound_changed, state_of, sym, true, true≢false, ℕ, ◌∙◌, ◌∷◌, ◌++◌, ◌≡◌, ◌⊎◌, if◌then◌else◌, map_alike, arith, nat_tests}
 use Rattle.ksm_pages.proofs.Resting.{rests}
 use Rattle.ksm_book.specs.Due.{hidden_from}
 use Rattle.ksm_book.proofs.Along.{along_cut, along_end, FitsPage, IsAlong, IsCut}
@@ -29,7 +29,7 @@ alone_settled page rows rise alone = by _ refl alone
         → change_row page on_its_own rows ≡ change_row page settled rows
     by None found none = absurd (true≢false none)
     by (Some row) found own =
-        let same : on_its_own row ≡ settled row = λ i. record row { state = sym (rests _ own) i } in
+        let same : on_its_own row ≡ settled row = grind (arith, rests) in
         alike_at _ _ _ _ (λ k d lt is. rw (row_of_page _ _ row rise found k d lt is) same)
 
 module _ {p q : PagesView} (page : GuestPage) (goes : q ≡ record p { rows = change_row page settled p.rows }) where
@@ -53,10 +53,8 @@ pub stop_comes : (p q : PagesValue) (k : KeeperView) (cursor : Option GuestPage)
     → Comes (value p k cursor passes) (value q k cursor passes)
     (λ s. (record s.0 { rows = change_row page settled s.0.rows }, s.1))
 stop_comes p q k cursor passes page goes from s before = (
-  ap (λ x. state_of x cursor passes) goes
-      ∙ ap (λ (b : BookState). record b { rows = change_row page settled b.rows }) before.0,
-  subst (λ (x : PagesView). Performs (mapped (view_of from)) (record { frame = x.frame; keeper = k }) s.1)
-      (sym goes) before.1,
+  grind (arith, goes, before.0),
+  grind (arith, goes, before.1),
 )
 
 -- ---------------------------------------------------------------- the pages from one on
@@ -122,7 +120,7 @@ module _ {page : GuestPage} {old now : BookValue} {last : Option GuestPage} (h :
     along_on rows same = rw same cut.next
 
     now_rise : InPageOrder now.state.rows
-    now_rise = subst InPageOrder (sym cut.stop) (ordered_change _ _ _ (hides_kept _) rise)
+    now_rise = grind (arith, cut.stop, ordered_change)
 
     -- a shared page, or one that comes before, is left as it is
     pub hiding_over : (row : Row) → row_at at now.state.rows ≡ Some row
@@ -150,10 +148,10 @@ module _ {page : GuestPage} {old now : BookValue} {last : Option GuestPage} (h :
       done = cut.before ++ cut.row ∷ [];
       left = cut.rest;
       along = along_on _ (rows ∙ alike_at at _ _ _
-          (λ k d lt same. behind_settles _ (get_or now.state.rows k d) (rw (same_page_eq _ at same) behind)));
+          (λ k d lt same. behind_settles _ _ (rw (same_page_eq _ at same) behind)));
       comes = λ from s before.
           let reached = stops from (record s.0 { rows = now.state.rows }, s.1) (h.comes from s before) in
-          (reached.0 ∙ ap (λ l. record s.0 { rows = l }) (sym rows), reached.1);
+          (grind (arith, reached.0, rows), reached.1);
       own = own ∙ h.own;
       restless = restless ∙ h.restless;
       fits = fits;

@@ -34,7 +34,7 @@ last_given last n kind e h = grind arith
 
 lived_reaped : (last n : ℕ) (kind : Kind) (c : Bool) → c ≡ (n == last) → GenerationFits last kind n → GenerationFits last (cond c Retired Free) n
 lived_reaped last n kind true e h = (last_given _ n _ (grind (arith, nat_tests)) h, lives_most _ n _ h)
-lived_reaped last n kind false e h = let ne : n ≢ last = λ is. grind arith in let most = lives_most _ n _ h in omega arith
+lived_reaped last n kind false e h = let ne : n ≢ last = λ is. grind arith in omega (arith, lives_most _ n _ h)
 
 -- the lives in which a frame does not hold one page alone are among those that it had
 pub past_le : (kind : Kind) (n : ℕ) → past_lives kind n ≤ n
@@ -50,7 +50,7 @@ spent_kept k g fr le = by _ g le
   where
     by : (xs : List Note) (i : ℕ) → spent_on (get_or xs i blank) ≤ spent_on fr → sum_by spent_on xs ≤ sum_by spent_on (set xs i fr)
     by [] i le = omega arith
-    by (x ∷ xs) zero le = let a = sum_by-cons spent_on x xs in let b = sum_by-cons spent_on fr xs in omega arith
+    by (x ∷ xs) zero le = omega (arith, sum_by-cons spent_on x xs, sum_by-cons spent_on fr xs)
     by (x ∷ xs) (suc i) le = let a = sum_by-cons spent_on x xs in let b = sum_by-cons spent_on x (set xs i fr) in let c = by xs i le in omega arith
 
 -- ---------------------------------------------------------------- a reference goes
@@ -192,9 +192,7 @@ reaps_spend : (fs : List ℕ) (v w : KeeperView) → MakesSteps v w (map Reap fs
 reaps_spend [] v w m = grind (arith, nat_tests, m, none_made m)
 reaps_spend (f ∷ fs) v w m =
     let first = first_made m in
-    let here = reap_spends v.table.shape v.ledger f first.0 in
-    let rest = reaps_spend fs (did v (Reap f) first.0) w first.1 in
-    omega arith
+    omega (arith, reap_spends v.table.shape v.ledger f first.0, reaps_spend fs (did v (Reap f) first.0) w first.1)
 
 -- the frames of a node end at the end of the table or before it
 pub node_end : (node nodes size : ℕ) → node < nodes → node * size + size ≤ nodes * size

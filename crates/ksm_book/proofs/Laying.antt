@@ -1,5 +1,5 @@
 -- What becomes of pages that lie lawfully, where the keeper makes its steps.
-use Rattle.ksm_book.proofs.Names.{[], All, ap, arith, blank, change_row, default_knobs, DupFits, DupRow, false, find_all, first_ledger, frame_at, Frames, frames_of, get_or, GuestPage, holding, Houses, inl, InPageOrder, inr, IsLaid, IsLawful, IsReadable, IsServed, IsShape, KeeperView, Keeps, Kind, kind_for, Knobs, Ledger, length, length-replicate, lies_on, List, Listing, map, MatchOption, Merged, merged_into, None, nowhere, Option, PAGE_WORDS, PageState, PagesView, Placed, Private, refl, replicate, Row, row_at, Shape, shared_state, slice_index_or, Some, spent, subst, suc, sym, HasNewFrame, true, with_frame, with_row, Zero, zero, zero_state, ℕ, ◌/◌, ◌∙◌, ◌≡◌, ◌≤◌, ◌⊎◌, cond_both, Stable}
+use Rattle.ksm_book.proofs.Names.{[], All, ap, arith, blank, change_row, default_knobs, DupFits, DupRow, false, find_all, first_ledger, frame_at, Frames, frames_of, get_or, GuestPage, holding, Houses, inl, InPageOrder, inr, IsLaid, IsLawful, IsReadable, IsServed, IsShape, KeeperView, Keeps, Kind, kind_for, Knobs, Ledger, length, length-replicate, lies_on, List, Listing, map, MatchOption, Merged, merged_into, None, nowhere, Option, PAGE_WORDS, PageState, PagesView, Placed, Private, refl, replicate, Row, row_at, Shape, shared_state, slice_index_or, Some, spent, subst, suc, sym, HasNewFrame, true, with_frame, with_row, Zero, zero, zero_state, ℕ, ◌∙◌, ◌≡◌, ◌≤◌, ◌⊎◌, cond_both, Stable}
 use Rattle.ksm_base.specs.declared.row.PageState.TheVariants.{Private as OwnPage}
 use Rattle.ksm_book.proofs.ByPage.{found_page, row_of_page}
 use Rattle.ksm_book.proofs.Keeping.{spent_kept}
@@ -35,7 +35,7 @@ module _ {sh : Shape} {across : ℕ} {v w : KeeperView} {rows : List Row} {frame
       kind = took.kind ∙ ap kind_for (sym own);
       content = took.content ∙ sym content;
       given = took.given;
-      node = λ _. subst (λ (s : Shape). g / s.frames_per_node ≡ node) same took.node ∙ sym home;
+      node = λ _. grind (arith, same, took.node, home);
     },
     own_agrees in_new_hand r g (λ n. ap (merged_into n) own) took.kind,
   )
@@ -96,7 +96,7 @@ module _ {sh : Shape} {across : ℕ} {k : Ledger} {rows : List Row} {frame : Fra
   lodged_as : (old r : Row) (o : Option ℕ) → LodgesAs r old → IsServed sh k dups old o → IsServed sh k dups r o
   lodged_as old r (Some f) lodges served = lodged old r f served lodges
   lodged_as old r None (home, bytes, inl s) served = ap zero_state s ∙ served
-  lodged_as old r None (home, bytes, inr own) served = absurd (let none = own_framed _ own.0 in grind arith)
+  lodged_as old r None (home, bytes, inr own) served = absurd (grind (arith, own_framed _ own.0))
 
   -- the row of a page is served by its frame
   pub served_at : (page : GuestPage) (row : Row) → row_at page rows ≡ Some row → IsServed sh k dups row (frame page)
@@ -115,7 +115,7 @@ module _ {p : PagesView} {k : KeeperView} (h : IsLaid p k) where
     small = h.small;
     same = shape_same sh k w h.same e;
     placed = kept k h.same w None keeps h.placed;
-    spent = (let s = h.spent in omega arith);
+    spent = (omega (arith, h.spent));
   }
 
   -- pages lie lawfully with other rows and frames that are placed lawfully beside the same dups
@@ -125,7 +125,7 @@ module _ {p : PagesView} {k : KeeperView} (h : IsLaid p k) where
     small = h.small;
     same = shape_same sh k w h.same e;
     placed = placed;
-    spent = (let s = h.spent in omega arith);
+    spent = (omega (arith, h.spent));
   }
 
   -- pages lie lawfully where each row changes into one that may stand in its stead on its frame
@@ -209,7 +209,7 @@ first_laid sh k is same first = record {
     frames_long = length-replicate (frames_of sh) blank;
     places_long = length-replicate (frames_of sh) None;
     widths = λ f. rw (first_note sh f) (length-replicate {A = ℕ} PAGE_WORDS 0);
-    lives = λ f. rw (first_note sh f) (let low = is.generation_low in omega arith);
+    lives = λ f. rw (first_note sh f) (omega (arith, is.generation_low));
     each_row = λ i d lt. absurd (omega arith);
     each_dup = λ i d lt. absurd (omega arith);
     bases = λ f. rw (first_note sh f);

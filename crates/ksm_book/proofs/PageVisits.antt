@@ -38,7 +38,7 @@ pub shared_comes : {P : BookState → Row → Type 0} {p : PagesView} {k : Keepe
     {page : GuestPage} (at : Meets P p k cursor passes (view_of v) page) → is_restless at.row ≡ true → (q : PagesView) → q ≡ p
     → VisitsPage (book q k cursor passes) (view_of w) page → Comes v w (λ s. page_visited doing s page)
 shared_comes {k = k} {cursor} {passes} v w {page} at restless q same did =
-    visits_come v w _ (subst (λ (x : BookView). restless_at page x.state.rows ≡ true) at.is (ap restless_row at.found ∙ restless))
+    visits_come v w _ (grind (arith, at.is, at.found, restless))
     (subst (λ (x : BookView). VisitsPage x (view_of w) page) (rw same at.is) did)
 
 waiting_settles : (page : GuestPage) (rows : List Row) → All (λ r. same_page r.page page ≡ true → shared_state r.state ≡ false) rows

@@ -73,7 +73,7 @@ module _ (b : BookState) (k : Ledger) (s : IsSound b) (frame : Frames) (p : Plac
   -- a row that is not shared has its own frame
   owns : All (λ r. shared_state r.state ≡ false → (f : ℕ) × (frame r.page ≡ Some f) × HasItsOwn b.shape k r f) b.rows
   owns i r0 lt alone =
-      let has = framed _ k _ (get_or b.rows i r0) _ (own_framed _ alone) (p.each_row i r0 lt) in
+      let has = framed _ k _ _ _ (own_framed _ alone) (p.each_row i r0 lt) in
       let fits = has.2.0 in
       let kind = fits.kind ∙ own_kind _ alone in (
         has.0,
@@ -81,7 +81,7 @@ module _ (b : BookState) (k : Ledger) (s : IsSound b) (frame : Frames) (p : Plac
         record {
           exists = fits.frame;
           kind = kind;
-          base = subst (λ (x : Kind). FitsBase x (frame_at k has.0).base) kind (p.kinds has.0);
+          base = grind (arith, kind, p.kinds has.0);
           node = fits.node alone;
           content = fits.content;
         },
@@ -192,9 +192,8 @@ module _ (b : BookState) (k : Ledger) (s : IsSound b) (frame : Frames) (p : Plac
 
   outlived : All (λ d. has_items b.rows d ≡ false → IsOutlived k d.place) b.dups
   outlived n d lt none =
-      let e = get_or b.dups n d in
       record {
-        life = life_or (named_at k e.place);
+        life = life_or (named_at k (get_or b.dups n d).place);
         named = named_life _ (p.each_dup n d lt).named;
         over = λ life. stale_is_loose p n d lt (grind (arith, nat_tests)) life;
       }
@@ -205,9 +204,9 @@ module _ (b : BookState) (k : Ledger) (s : IsSound b) (frame : Frames) (p : Plac
     own = λ i r lt alone. let o = owns i r lt alone in
         rw o.1 o.2;
     merged = λ i r lt n d l into.
-        let has = framed _ k _ (get_or b.rows i r) _ (ap zero_state (state_of_item _ _ into)) (p.each_row i r lt) in
+        let has = framed _ k _ _ _ (ap zero_state (state_of_item _ _ into)) (p.each_row i r lt) in
         has.1 ∙ ap Some ((has.2.1 n d l).item into).0;
-    zero = λ i r lt zero_is. (zero_none (get_or b.rows i r) _ (p.each_row i r lt) zero_is, s.zero i r lt zero_is);
+    zero = λ i r lt zero_is. (zero_none _ _ (p.each_row i r lt) zero_is, s.zero i r lt zero_is);
     absent = absent;
     dups = stands;
     distinct = all_distinct;

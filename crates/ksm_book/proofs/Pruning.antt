@@ -15,16 +15,15 @@ stale_vacant rows dups d rise found k x lt same =
 
 -- where no stale dup is found, all dups have items
 pub none_stale : (rows : List Row) (dups : List DupRow) → find (is_stale rows) dups ≡ None → filter (has_items rows) dups ≡ dups
-none_stale rows dups none = filter_all _ _ (λ k x lt. let lives = find_none _ _ none k x lt in grind arith)
+none_stale rows dups none = filter_all _ _ (λ k x lt. grind (arith, find_none _ _ none k x lt))
 
 -- a stale dup less is no dup with items less
 pub live_elsewhere : (rows : List Row) (place : ℕ) (dups : List DupRow) → IsVacant place rows dups → filter (has_items rows) (filter (elsewhere place) dups) ≡ filter (has_items rows) dups
 live_elsewhere rows place [] vacant = refl
 live_elsewhere rows place (d ∷ ds) vacant =
     let P : DupRow → Type 0 = λ x. x.place ≡ place → item_count rows x ≡ 0 in
-    let rest = live_elsewhere rows place ds (All-tail P d ds vacant) in
     let none = All-head P d ds vacant in
-    grind (arith, none)
+    grind (arith, none, live_elsewhere rows place ds (All-tail P d ds vacant))
 
 -- the first stale dup is the first to go
 pub first_stale : (rows : List Row) (dups : List DupRow) (d : DupRow) → InPlaceOrder dups → find (is_stale rows) dups ≡ Some d
@@ -35,9 +34,8 @@ first_stale rows (x ∷ xs) d rise found = elim (cases_Bool (is_stale rows x)) [
       let is : x ≡ d = grind (arith, found, stale) in
       let gone = ap (λ (y : DupRow). not (y.place == d.place)) is ∙ ap not (eq-eqb d.place d.place refl) in
       let off : All (λ e. elsewhere d.place e ≡ true) xs = λ i e lt. elsewhere_so _ (get_or xs i e)
-      (λ same. (let later = (rise 0 (suc i) e (omega arith) (omega arith)).0 in let here = ap (λ (y : DupRow). y.place) is in
-      omega arith)) in
-      let all : filter (elsewhere d.place) xs ≡ xs = filter_all (elsewhere d.place) xs off in
+      (λ same. (omega (arith, (rise 0 (suc i) e (omega arith) (omega arith)).0, ap (λ (y : DupRow). y.place) is))) in
+      let all : filter (elsewhere d.place) xs ≡ xs = filter_all _ xs off in
       grind (arith, stale, gone, all)
   | inr lives ↦
       let rest = first_stale rows xs d (pairs_tail (λ (a b : DupRow). (a.place < b.place) × ((a.number == b.number) ≡ false)) x xs rise)
@@ -136,12 +134,12 @@ module _ {p q : PagesView} {k l : KeeperView} {count : ℕ} (h : Drops p q k l c
       let vacant = subst (λ rows. IsVacant place rows q.dups) rows_are drop_vacant in
       let one = subst (λ x. MakesSteps l l' (Withdraw x ∷ [])) (sym stale.2) (made_one l l' _ 0 is) in
       record {
-        pages = goes ∙ (λ t. record (h.pages t) { dups = filter (elsewhere place) q.dups }) ∙ (λ t. record p { dups = sym dups t });
-        live = ap (filter (has_items p.rows)) dups ∙ live_elsewhere p.rows _ _ vacant ∙ h.live;
+        pages = grind (arith, goes, h.pages, dups);
+        live = grind (arith, dups, live_elsewhere, h.live);
         gone = h.gone ++ stale.0 ∷ [];
-        all = rw dups (h.all ∙ ap (λ ds. h.gone ++ ds) next ∙ sym (append_assoc h.gone (stale.0 ∷ []) _));
+        all = rw dups (grind (arith, h.all, next, append_assoc));
         many = omega (arith, length-append h.gone (stale.0 ∷ []));
-        made = subst (MakesSteps k l') (sym (map-append (λ (d : DupRow). Withdraw d.place) h.gone (stale.0 ∷ []))) (made_then h.made one);
+        made = grind (arith, map-append (λ (d : DupRow). Withdraw d.place) h.gone (stale.0 ∷ []), made_then h.made one);
         first = h.first;
         rise = subst InPlaceOrder (sym dups) (ordered_filter _ _ h.rise);
         before = h.before;

@@ -71,7 +71,7 @@ module _ {sh : Shape} {across : ℕ} {k : Ledger} {rows : List Row} {frame : Fra
         let long' = length-set k.frames left dead in
         let low = subst (λ x. x < frames_of sh) (sym leaves) fits.frame in
         dite (ℕ_discrete h g)
-        (λ e. subst P (sym (ap (frame_at next) e ∙ get_or-set_same (set k.frames left dead) g mounted blank (omega arith))) (here e))
+        (λ e. grind (arith, e, get_or-set_same (set k.frames left dead) g mounted blank (omega arith), here e))
         (λ ne. subst P (sym (get_or-set_other (set k.frames left dead) g h mounted blank ne)) (dite (ℕ_discrete h left)
         (λ e. subst P (sym (rw e (get_or-set_same k.frames left dead blank (omega arith)))) (there e))
         (λ off. subst P (sym (get_or-set_other k.frames left h dead blank off)) (else' ne off))))
@@ -86,10 +86,10 @@ module _ {sh : Shape} {across : ℕ} {k : Ledger} {rows : List Row} {frame : Fra
     frame_is e same = grind (arith, nat_tests, same, named)
 
     frame_off : (e : ℕ) → e ≢ q → place_frame next e ≡ place_frame k e
-    frame_off e ne = ap (λ x. (life_or x).frame) (named_off e ne)
+    frame_off e ne = grind (arith, named_off e ne)
 
     life_off : (e : ℕ) → e ≢ q → place_life next e ≡ place_life k e
-    life_off e ne = ap (λ x. (life_or x).generation) (named_off e ne)
+    life_off e ne = grind (arith, named_off e ne)
 
     at_g : (P : Note → Type 0) → P mounted → P (frame_at next g)
     at_g P m = at P g (λ _. m) (λ e. absurd (apart e)) (λ ne _. absurd (ne refl))
@@ -112,7 +112,7 @@ module _ {sh : Shape} {across : ℕ} {k : Ledger} {rows : List Row} {frame : Fra
     off : (e : DupRow) → DupFits sh across k e → e.place ≢ q → IsInLife next e.place → IsInLife k e.place × (place_frame k e.place ≢ g)
     off e m ne l =
         let far : place_frame k e.place ≢ g = λ same. too_young e m ne same l in
-        (sym (same_life _ far) ∙ ap (λ h. (frame_at next h).generation) (sym (frame_off _ ne)) ∙ l ∙ life_off _ ne, far)
+        (grind (arith, same_life, frame_off, l, life_off), far)
 
     -- a row on the frame that it has now
     module _ (r : Row) (f : ℕ) (far : f ≢ g) (had : Serves sh k dups r f) where
@@ -136,10 +136,10 @@ module _ {sh : Shape} {across : ℕ} {k : Ledger} {rows : List Row} {frame : Fra
       moved_agrees is e m others a = dite (ℕ_discrete e.place q)
           (λ same. record {
             item = λ _. (sym (frame_is _ same), is_in_life _ same);
-            back = λ _ _. a.back (rw same in_life) (is ∙ leaves ∙ ap (place_frame k) (sym same));
+            back = λ _ _. a.back (rw same in_life) (grind (arith, is, leaves, same));
           })
           (λ ne. record {
-            item = λ t. absurd (others ne (one_number _ _ _ ((among (Agrees k r f) had.1).back in_life (is ∙ leaves)) t));
+            item = grind (arith, one_number);
             back = λ l t. absurd ((off e m ne l).1 (sym (frame_off _ ne) ∙ sym t));
           })
 
@@ -158,14 +158,13 @@ module _ {sh : Shape} {across : ℕ} {k : Ledger} {rows : List Row} {frame : Fra
       still_agrees : f ≢ left → (e : DupRow) → DupFits sh across k e → Agrees k r f e → Agrees next r f e
       still_agrees not' e m a = dite (ℕ_discrete e.place q)
           (λ same. record {
-            item = λ t. absurd (not' ((a.item t).0 ∙ ap (place_frame k) same ∙ sym leaves));
+            item = grind (arith, a.item);
             back = λ _ t. absurd (far (t ∙ frame_is _ same));
           })
           (λ ne. record {
             item = λ t. let y = a.item t in (
               y.0 ∙ sym (frame_off _ ne),
-              rw (frame_off _ ne ∙ sym y.0)
-                  (same_life f far ∙ ap (λ h. (frame_at k h).generation) y.0 ∙ y.1 ∙ sym (life_off _ ne)),
+              rw (frame_off _ ne ∙ sym y.0) (grind (arith, same_life f far, y.0, y.1, life_off)),
             );
             back = λ l t. a.back (off e m ne l).0 (t ∙ frame_off _ ne);
           })
@@ -202,7 +201,7 @@ module _ {sh : Shape} {across : ℕ} {k : Ledger} {rows : List Row} {frame : Fra
           place = m.place;
           named = ap is_some (named_off e.place ne) ∙ m.named;
           frame = rw fo m.frame;
-          life = subst (λ (x : ℕ × ℕ). x.0 ≤ x.1) (λ t. (sym (life_off e.place ne) t, ap (λ y. (frame_at next y).generation) (sym fo) t))
+          life = subst (λ (x : ℕ × ℕ). x.0 ≤ x.1) (λ t. (sym (life_off _ ne) t, ap (λ y. (frame_at next y).generation) (sym fo) t))
               (at (λ x. place_life k e.place ≤ x.generation) h
               (λ same. let old : place_life k e.place ≤ (frame_at k g).generation = rw (← same) m.life in omega arith)
               (λ same. rw (← same) m.life) (λ _ _. m.life));

@@ -1,5 +1,5 @@
 -- How a page gets another frame.
-use Rattle.ksm_book.proofs.Names.{ap, arith, change_row, FindsNone, GuestPage, Houses, IfSome, InPageOrder, is_some, IsKnown, IsLaid, KeeperView, leaving, lies_on, List, MakesSteps, MatchOption, May, None, on_its_own, Option, PagesView, Placed, Provides, refl, Resettled, Row, Some, Sub, subst, sym, HasNewFrame, true, TurnedAway, ℕ, ◌<◌, ◌∙◌, ◌≡◌}
+use Rattle.ksm_book.proofs.Names.{ap, arith, change_row, FindsNone, GuestPage, Houses, IfSome, InPageOrder, is_some, IsKnown, IsLaid, KeeperView, leaving, lies_on, List, MakesSteps, MatchOption, May, None, on_its_own, Option, PagesView, Placed, Provides, refl, Resettled, Row, Some, Sub, subst, HasNewFrame, true, TurnedAway, ℕ, ◌<◌, ◌≡◌}
 use Rattle.ksm_base.specs.declared.row.PageState.TheVariants.{Private}
 use Rattle.ksm_book.proofs.Shown.{provides_does}
 use Rattle.ksm_book.proofs.Keeping.{left_placed, left_spends, may_leave, searched_placed, searched_spends}
@@ -39,7 +39,7 @@ module _ {p : PagesView} {k w : KeeperView} (h : IsLaid p k) (rise : InPageOrder
         let leaves = subst (λ o. MakesSteps w u (leaving o)) was made in
         let lies = ap (λ (x : PagesView). x.frame) goes in
         record {
-          pages = goes ∙ (λ t. record p { rows = change_row page on_its_own p.rows; frame = sym lies t; restless = q.restless });
+          pages = grind (arith, goes, lies);
           resettles = record {
             got = g;
             between = w;
@@ -48,7 +48,7 @@ module _ {p : PagesView} {k w : KeeperView} (h : IsLaid p k) (rise : InPageOrder
             frame = lies;
           };
           placed = λ change by_this. rw lies (left_placed _ leaves (in_hand _ by_this));
-          spent = (let s = h.spent in let m = taken.spent in let more = left_spends _ leaves in omega arith);
+          spent = (omega (arith, h.spent, taken.spent, left_spends _ leaves));
         }
 
 -- where no frame of a node was found, pages that lie lawfully are turned away, and no page changed

@@ -1,6 +1,6 @@
 -- What becomes of the layout where rows change together, join a dup, or make or lose one.
 use Rattle.ksm_base.specs.declared.limits.TheConstants.{MOST_FRAMES, MOST_LIVES, MOST_REFERENCES}
-use Rattle.ksm_book.proofs.Names.{[], Add, All, All-filter, ap, arith, blank, Bool, both_ways, cases_Bool, change_row, Contains, count_by, count_none, did, DupRow, elsewhere, eq-eqb, eqb-true, false, filter, filter_passes, find, find_all, find_none, find_passes, FitsBase, frame_at, Frames, frames_at_most, frames_of, get_or, get_or-set_same, get_or_default, GuestPage, IfSome, if◌then◌else◌, inl, InPageOrder, inr, IsInLife, IsLaid, IsLoose, IsServed, IsVacant, item_count, KeeperView, Kind, kind_for, Knobs, leaving, Ledger, ledger_after, length, lies_on, Life, life_or, List, list_any, Listing, MakesSteps, May, Merged, merged_into, merged_state, named_at, nat_lt, nat_tests, None, none_found, not-true, Note, Option, PageState, PagesView, place_frame, Placed, Private, Publish, refl, Row, row_at, RowFits, set, set-get_or, settled, settled_state, Shape, shared_state, Some, spent, spent_on, Stable, Sub, subst, sum_by-le, sym, tree_of, true, with_dup, with_frame, Withdraw, withdrawing, ℕ, ◌*◌, ◌++◌, ◌+◌, ◌-◌, ◌<◌, ◌==◌, ◌∙◌, ◌∷◌, ◌≡◌, ◌≢◌, ◌≤◌, ◌⊎◌}
+use Rattle.ksm_book.proofs.Names.{[], Add, All, All-filter, ap, arith, blank, Bool, both_ways, cases_Bool, change_row, Contains, count_by, count_none, did, DupRow, elsewhere, eq-eqb, eqb-true, false, filter, filter_passes, find, find_all, find_none, find_passes, frame_at, Frames, frames_at_most, frames_of, get_or, get_or-set_same, get_or_default, GuestPage, IfSome, if◌then◌else◌, inl, InPageOrder, inr, IsInLife, IsLaid, IsLoose, IsServed, IsVacant, item_count, KeeperView, kind_for, Knobs, leaving, Ledger, ledger_after, length, lies_on, Life, life_or, List, list_any, Listing, MakesSteps, May, Merged, merged_into, merged_state, named_at, nat_lt, nat_tests, None, none_found, not-true, Note, Option, PageState, PagesView, place_frame, Placed, Private, Publish, refl, Row, row_at, RowFits, set, set-get_or, settled, settled_state, Shape, shared_state, Some, spent, spent_on, Stable, Sub, subst, sum_by-le, sym, tree_of, true, with_dup, with_frame, Withdraw, withdrawing, ℕ, ◌*◌, ◌++◌, ◌+◌, ◌-◌, ◌<◌, ◌==◌, ◌∙◌, ◌∷◌, ◌≡◌, ◌≢◌, ◌≤◌, ◌⊎◌}
 use Rattle.ksm_book.proofs.Moves.{Serves, joined, published, base_is_items, stale_is_loose}
 use Rattle.ksm_book.proofs.Laying.{LodgesAs, laid_rows, own_kind, served_at, shape_same}
 use Rattle.ksm_book.proofs.Keeping.{added_placed, added_spends, left_placed, left_spends, lives_most, may_leave, past_le, spent_set}
@@ -20,7 +20,7 @@ first_found t xs some = by _ refl
   where
     by : (o : Option _) → find t xs ≡ o → (x : _) × (find t xs ≡ Some x)
     by (Some x) found = (x, found)
-    by None none = absurd (let zero' = count_none t xs (find_none t xs none) in omega arith)
+    by None none = absurd (omega (arith, count_none t xs (find_none t xs none)))
 
 -- a page joins the dup of an item
 module _ {p : PagesView} {k : KeeperView} (h : IsLaid p k) (rise : InPageOrder p.rows) (page : GuestPage) (row item : Row)
@@ -44,7 +44,7 @@ module _ {p : PagesView} {k : KeeperView} (h : IsLaid p k) (rise : InPageOrder p
       let base = ap (λ x. (frame_at k.ledger x).base) a.0 ∙ base_is_items h.placed n d
       stands.1 a.1 ∙ ap (item_count p.rows) is in (
         rw h.same item_fits.0.frame,
-        subst (λ (x : Kind). FitsBase x (frame_at k.ledger g).base) item_stable (h.placed.kinds g),
+        grind (arith, item_stable, h.placed.kinds g),
         rw base few,
       )
 
@@ -117,11 +117,7 @@ module _ {p : PagesView} {k : KeeperView} (w : KeeperView) (h : IsLaid p k) (pla
     | inr none ↦
         let empty = h.placed.empty place (has_none _ _ none) in
         rw (none_made (subst (λ (b : Bool). MakesSteps k w (if b then Withdraw place ∷ [] else [])) none m))
-        (λ t. record {
-          frames = k.ledger.frames;
-          places = sym
-              (ap (set k.ledger.places place) (sym empty) ∙ set-get_or k.ledger.places place None) t;
-        })
+        (grind (arith, empty, set-get_or k.ledger.places place None))
   ]
 
 -- pages lie lawfully where a place names nothing any more and the dup that stood there is gone
@@ -132,7 +128,7 @@ laid_cleared {p} {k} w place h inside e is = record {
   small = h.small;
   same = shape_same _ k w h.same e;
   placed = rw is (withdrawn _ inside h.placed);
-  spent = (let same = ap spent is in let s = h.spent in omega arith);
+  spent = (omega (arith, ap spent is, h.spent));
 }
 
 -- what is above or below a place is elsewhere
@@ -204,8 +200,7 @@ module _ {p : PagesView} {k : KeeperView} (h : IsLaid p k) (rise : InPageOrder p
         rw (← same) inside,
         rw (← same) fits.frame,
         rw empty own,
-        subst (IsLoose w.ledger) (sym (ap (λ (z : Ledger). named_at z d.place) empty
-            ∙ get_or-set_same k.ledger.places d.place None None (omega arith))) tt,
+        grind (arith, empty, get_or-set_same k.ledger.places d.place None None (omega arith), tt),
       )
 
   -- rows and dups lie lawfully once the row's frame is published at the place of the new dup

@@ -62,6 +62,4 @@ module _ {sh : Shape} {across : ℕ} {k : Ledger} {rows : List Row} {frame : Fra
 -- from p on there are at most as many places taken as dups
 pub empty_from_most : (p : ℕ) (dups : List DupRow) → empty_from p dups ≤ p + length dups
 empty_from_most p [] = omega arith
-empty_from_most p (d ∷ ds) =
-    let rest = empty_from_most (p + 1) ds in
-    grind arith
+empty_from_most p (d ∷ ds) = grind (arith, empty_from_most (p + 1) ds)

@@ -1,5 +1,5 @@
 -- A page waits in the stead of one further on: what becomes of the book, and which pages are due then.
-use Rattle.ksm_book.proofs.Names.{All, and_from, ap, AreDue, arith, before_differs, BookState, BookValue, both_ways, cases_Bool, change_row, change_rows, Comes, comes_before, cond_both, Deed, doing, due_visited, each_at_page, false, find_all, find_passes, get_or, GuestPage, has_item, hidden_from, idle, inl, inr, is_restless, IsAlone, IsSound, List, map_alike, map_mapped, MatchOption, not, not_both, or_cases, page_visited, PageState, partner, Reached, refl, Row, row_at, same_page, same_page_eq, same_page_refl, same_page_sym, settled, shared_state, Some, StaysBefore, subst, sym, taken_over, takes_over, TakesOverFrom, true, view_of, waiting_state, waits_for, WaitsFor, waits_tells, ◌&&◌, ◌∙◌, ◌∷◌, ◌≡◌, ◌||◌, if◌then◌else◌, nat_tests}
+use Rattle.ksm_book.proofs.Names.{All, and_from, AreDue, arith, before_differs, BookState, BookValue, both_ways, cases_Bool, change_row, change_rows, Comes, comes_before, cond_both, Deed, doing, due_visited, each_at_page, false, find_all, find_passes, get_or, GuestPage, has_item, idle, inl, inr, is_restless, IsAlone, IsSound, List, map_alike, map_mapped, MatchOption, not, not_both, or_cases, page_visited, PageState, partner, Reached, refl, Row, row_at, same_page, same_page_eq, same_page_refl, same_page_sym, settled, shared_state, Some, StaysBefore, subst, sym, taken_over, takes_over, TakesOverFrom, true, view_of, waiting_state, waits_for, WaitsFor, waits_tells, ◌&&◌, ◌∙◌, ◌∷◌, ◌≡◌, ◌||◌, if◌then◌else◌, nat_tests}
 use Rattle.ksm_book.proofs.ByPage.{found_page, row_of_page}
 use Rattle.ksm_book.proofs.DueAlike.{freed_found, one_waits, settled_once, taken_is}
 use Rattle.ksm_book.proofs.DueKept.{more_due, taken_due}
@@ -45,7 +45,7 @@ module _ {b : BookState} {page other : GuestPage} (at : Takes b page other) wher
   page_is = found_page _ _ _ at.found
 
   there : row_at at.row.page b.rows ≡ Some at.row
-  there = ap (λ p. row_at p b.rows) page_is ∙ at.found
+  there = grind (arith, page_is, at.found)
 
   passes : waits_for b.knobs at.row at.waiter ≡ true
   passes = find_passes (waits_for b.knobs at.row) b.rows _ at.waits
@@ -96,15 +96,13 @@ module _ (v m w : BookValue) {page other : GuestPage} (at : Takes v.state page o
   pub taken_comes : Comes m w (λ s. page_visited doing s page) → Comes v w (λ s. due_visited doing s page)
   taken_comes visits = λ from s before.
       subst (Reached from w) (
-      (λ t. page_visited doing (once_freed other (sym before.0 t, s.1)) page) ∙ then_is at s.1 ∙ sym (due_is at s.1)
-      ∙ (λ t. due_visited doing (before.0 t, s.1) page))
-      (visits from (once_freed other s) (first from s before))
+      grind (arith, before.0, then_is at s.1, due_is at s.1)) (visits from (once_freed other s) (first from s before))
 
   -- where that visit was refused, nothing changed but which rows from the page on wait
   pub taken_refused : Comes m w (λ s. s) → StaysBefore page v w
   taken_refused none = λ from s before.
       let reached = none from (once_freed other s) (first from s before) in
-      (ap (hidden_from page) reached.0 ∙ (λ t. record s.0 { rows = still s.0.rows t }), reached.1)
+      (grind (arith, reached.0, still s.0.rows), reached.1)
     where
       hides : Row → Row
       hides r = if not (comes_before r.page page) then settled r else r

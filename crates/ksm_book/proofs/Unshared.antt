@@ -117,9 +117,7 @@ module _ {p m : PagesView} {k l : KeeperView} (cursor : Option GuestPage) (passe
   unshare_stops some {q} goes =
       let rows = stopped_rows u.at p.rows
       ∙ ap (λ o. change_rows (λ r. shared_state r.state && is_before o r) unshared p.rows) (sym (stop_is met _ _ u.stands)) in (
-        carried q _ (rw goes) (rw goes
-            ((λ t. record (state_of (u.pages t) cursor passes) { knobs = record (same t) { run = 0 } })
-            ∙ (λ t. record b { rows = rows t; knobs = record p.knobs { run = 0 } }) ∙ by _ some)),
+        carried q _ (rw goes) (rw goes (grind (arith, u.pages, same, rows, by))),
         rw goes (retuned _ (inl across) u.laid),
       )
     where

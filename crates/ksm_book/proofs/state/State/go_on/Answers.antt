@@ -85,13 +85,13 @@ made c from s before = (
 
 -- so one visit was made
 one_made : (c : After-end_passes) → 1 ≤ c.in-End.made
-one_made c = let v = c.args.self.now in let all = made c v _ (begins v) in omega arith
+one_made c = let v = c.args.self.now in omega (arith, made c v _ (begins v))
 
 pub nonzero_div-left : goal.nonzero_div-left
-nonzero_div-left c = let one = one_made ((goal.at.nonzero_div-left c).After-end_passes) in omega arith
+nonzero_div-left c = omega (arith, one_made ((goal.at.nonzero_div-left c).After-end_passes))
 
 pub nonzero_rem-result : goal.nonzero_rem-result
-nonzero_rem-result c = let one = one_made ((goal.at.nonzero_rem-result c).After-end_passes) in omega arith
+nonzero_rem-result c = omega (arith, one_made ((goal.at.nonzero_rem-result c).After-end_passes))
 
 pub returns-else-whole-clause-made : goal.returns-else-whole-clause-made
 returns-else-whole-clause-made c = record {
@@ -127,7 +127,7 @@ returns-then-quiet-clause-made c = record {
       ≡ c.args.most - (c.args.most - made) % made =
       rw (← all.0) (omega (arith, mul_comm made times, all.0, all.1, c.in-End.ensures.ahead.1)) in
       let none : (visit_begun s.0).cursor ≡ None =
-      begun_cursor s.0 ∙ ap (λ (b : BookState). b.cursor) (sym at.state) ∙ sym c.cursor.ensures ∙ none_of c.cursor.result c.if-whole.ensures in
+      begun_cursor s.0 ∙ ap (λ (b : BookState). b.cursor) (sym at.state) ∙ sym c.cursor.ensures ∙ none_of _ c.if-whole.ensures in
       let still = subst (λ o. IsStill (begun s) (pages_visited doing (begun s) (filter (up_to o) (pages_ahead (visit_begun s.0)))))
       (c.last.ensures ∙ ap last_visited c.in-End.is)
       (begun_still (pass_ended_at_last s.0) s.1 _
