@@ -12,23 +12,23 @@ abbrev pub one_at : ℕ → Option ℕ → ℕ
 one_at f o = cond (is_frame f o) 1 0
 
 -- a page on the frame counts once for it
-pub one_same : (f : ℕ) (o : Option ℕ) → o ≡ Some f → one_at f o ≡ 1
-one_same f o e = grind (arith, nat_tests, e)
+pub one_same : (f : ℕ) {o : Option ℕ} → o ≡ Some f → one_at f o ≡ 1
+one_same f e = grind (arith, nat_tests, e)
 
 -- a frame that passes the test for frame f is f
 pub is_that : (f : ℕ) (o : Option ℕ) → is_frame f o ≡ true → o ≡ Some f
 is_that f o here = grind arith
 
-is_it : (f : ℕ) (o : Option ℕ) → o ≡ Some f → is_frame f o ≡ true
-is_it f o e = ap (is_frame f) e ∙ eq-eqb f f refl
+is_it : (f : ℕ) {o : Option ℕ} → o ≡ Some f → is_frame f o ≡ true
+is_it f e = ap (is_frame f) e ∙ eq-eqb f f refl
 
 -- another frame, or none, fails the test for frame f
 pub not_on : (f : ℕ) (o : Option ℕ) → o ≢ Some f → is_frame f o ≡ false
 not_on f o ne = grind arith
 
 -- a page that is not on the frame counts for nothing
-pub one_other : (f : ℕ) (o : Option ℕ) → o ≢ Some f → one_at f o ≡ 0
-one_other f o ne = rw (not_on f o ne)
+pub one_other : (f : ℕ) {o : Option ℕ} → o ≢ Some f → one_at f o ≡ 0
+one_other f {o} ne = rw (not_on f o ne)
 
 -- a page is on the frame, or it is not
 pub frame_cases : (f : ℕ) (o : Option ℕ) → (o ≡ Some f) ⊎ (o ≢ Some f)
@@ -124,7 +124,7 @@ uses_come f o frame row rows absent =
 
 -- a frame on which a row lies is used
 pub uses_some : (f : ℕ) (frame : Frames) (rows : List Row) → All (λ r. frame r.page ≡ Some f → 1 ≤ uses f frame rows) rows
-uses_some f frame rows = λ i d lt e. counts_one _ _ i d lt (is_it f _ e)
+uses_some f frame rows = λ i d lt e. counts_one _ _ i d lt (is_it f e)
 
 -- a change of a page's row, and then another, are one change where the second makes the same of both
 pub change_twice : (page : GuestPage) (c d e : Row → Row) (rows : List Row) → ((r : Row) → (c r).page ≡ r.page) → All (λ r. same_page r.page page ≡ true → d (c r) ≡ e r) rows

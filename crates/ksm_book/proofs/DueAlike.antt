@@ -92,7 +92,7 @@ module _ (test : Row → Bool) where
     calmed_goes =
         change_goes _
         (λ r. cond_both _ _ r (λ x. (x.page ≡ r.page) × (x.mergeable ≡ r.mergeable))
-        (λ _. (refl, refl)) (λ _. (refl, refl))) _
+        (λ _. (refl, refl)) (λ _. (refl, refl)))
         (λ k d lt is. cond_both _ _ (get_or rows k d) (λ x. shared_state x.state ≡ true) (λ _. shared_still _ ∙ is) (λ _. is))
 
     count_kept : (d : DupRow) → item_count calm_rows d ≡ item_count rows d
@@ -283,8 +283,8 @@ module _ (later : List GuestPage) (b : BookState) (r : Row) (fresh : has_item r.
 -- ---------------------------------------------------------------- a row takes over
 
 -- an option that has nothing is None
-pub none_is : {X : Type 0} (o : Option X) → is_none o ≡ true → o ≡ None
-none_is o is = grind arith
+pub none_is : {X : Type 0} {o : Option X} → is_none o ≡ true → o ≡ None
+none_is is = grind arith
 
 -- a row takes over: it may join no dup, its bytes have stayed, they do not merge with the zero page, and a row further
 -- on waits for it
@@ -302,7 +302,7 @@ takes_tells b r takes =
     let bytes = and_parts _ _ rows.0 in
     let first = and_parts _ _ bytes.0 in
     record {
-      none = none_is _ first.0;
+      none = none_is first.0;
       unchanged = first.1;
       zeroes = not-true zeroes bytes.1;
       further = rows.1;
@@ -397,7 +397,7 @@ due_keeps s page sound = by _ refl
 
     by : (o : Option Row) → row_at page b.rows ≡ o
         → IsSound (due_row_visited doing s o).0 × Goes b.rows (due_row_visited doing s o).0.rows
-    by None found = (sound, goes_same _)
+    by None found = (sound, goes_same)
     by (Some r) found =
         let there = ap (λ p. row_at p b.rows) (found_page _ _ r found) ∙ found in
         cond_both {A = BookState × Deed} _ (taken_over b r, s.1) _ (λ z. IsSound z.0 × Goes b.rows z.0.rows)
@@ -407,7 +407,7 @@ due_keeps s page sound = by _ refl
         let found_free = freed_found b r there in
         let goes = visited_rows_go _ s.1 r free found_free in (
           subst (λ (z : BookState × Deed). IsSound z.0) taken (visited_sound _ s.1 r free found_free),
-          goes_on _ _ _ (calmed_goes (waits_for b.knobs r) _) (grind (arith, taken, goes)),
+          goes_on (calmed_goes (waits_for b.knobs r) _) (grind (arith, taken, goes)),
         ))
         (λ _. (visited_sound b s.1 r sound there, visited_rows_go b s.1 r sound there))
 
@@ -424,10 +424,10 @@ due_visits_sound (page ∷ pages) s sound = due_visits_sound pages (due_visited 
 -- they keep the rows in page order and which pages scans visit, and make no page restless
 pub due_goes : (pages : List GuestPage) (s : BookState × Deed) → IsSound s.0
     → Goes s.0.rows (due_visits doing s pages).0.rows
-due_goes [] s sound = goes_same _
+due_goes [] s sound = goes_same
 due_goes (page ∷ pages) s sound =
     let keeps = due_keeps s page sound in
-    goes_on _ _ _ keeps.1 (due_goes pages (due_visited doing s page) keeps.0)
+    goes_on keeps.1 (due_goes pages (due_visited doing s page) keeps.0)
 
 -- ---------------------------------------------------------------- one visit
 

@@ -34,14 +34,14 @@ module _ (b : BookState) (row : Row) where
   abbrev later : Bool
   later = comes_later row.page (partner b.knobs b.rows row)
 
-  joins_takes_none : (d : DupRow) → best_dup b.knobs b.rows b.dups row ≡ Some d → takes_over b row ≡ false
-  joins_takes_none d best = not_first _ _ _ _ (ap is_none best)
+  joins_takes_none : {d : DupRow} → best_dup b.knobs b.rows b.dups row ≡ Some d → takes_over b row ≡ false
+  joins_takes_none best = not_first _ _ _ _ (ap is_none best)
 
   zero_takes_none : is_for_zero b.knobs row ≡ true → takes_over b row ≡ false
   zero_takes_none is = not_third none row.unchanged _ later (ap not is)
 
-  waits_takes_none : (w : Row) → partner b.knobs b.rows row ≡ Some w → comes_before row.page w.page ≡ false → takes_over b row ≡ false
-  waits_takes_none w waits before = and_right _ _ (ap (comes_later row.page) waits ∙ before)
+  waits_takes_none : {w : Row} → partner b.knobs b.rows row ≡ Some w → comes_before row.page w.page ≡ false → takes_over b row ≡ false
+  waits_takes_none waits before = and_right _ _ (ap (comes_later row.page) waits ∙ before)
 
   takes : best_dup b.knobs b.rows b.dups row ≡ None → row.unchanged ≡ true → is_for_zero b.knobs row ≡ false
       → (w : Row) → partner b.knobs b.rows row ≡ Some w → comes_before row.page w.page ≡ true → takes_over b row ≡ true
@@ -125,11 +125,11 @@ module _ {P : BookState → Row → Type 0} {p : PagesView} {k : KeeperView} {cu
 module _ {p q : PagesView} {k : KeeperView} {cursor : Option GuestPage} {passes : ℕ} {v : BookView} {page : GuestPage} where
   module _ (best : Best) (at : Meets (λ _ r. FindsAt p q r (Dup best)) p k cursor passes v page) where
     joins : (d : DupRow) × (best_dup p.knobs p.rows p.dups at.row ≡ Some d) × ((best.number ≡ d.number) × (best.place ≡ d.place))
-    joins = filled_by _ _ at.so.1
+    joins = filled_by _ at.so.1
 
     -- a page that joins a dup takes over from none
     pub dup_none : takes_over (state_of p cursor passes) at.row ≡ false
-    dup_none = joins_takes_none (state_of p cursor passes) at.row _ joins.1
+    dup_none = joins_takes_none (state_of p cursor passes) at.row joins.1
 
     -- its row is none then that a visit may change
     pub dup_calm : restless_at page (row_visited (state_of p cursor passes) at.row).rows ≡ false
@@ -152,14 +152,14 @@ module _ {p q : PagesView} {k : KeeperView} {cursor : Option GuestPage} {passes 
 
   module _ (other : GuestPage) (at : Meets (λ _ r. FindsAt p q r (Partner other)) p k cursor passes v page) where
     met : (w : Row) × (partner p.knobs p.rows at.row ≡ Some w) × (other ≡ w.page)
-    met = filled_by _ _ at.so.4
+    met = filled_by _ at.so.4
 
     stays : HasStayed (state_of p cursor passes) false at.row
     stays = (let is = at.so in record { restless = is.0; none = is.1; unchanged = is.2; zeroes = is.3 })
 
     -- a page that meets an earlier one takes over from none
     pub partner_none : comes_before other page ≡ true → takes_over (state_of p cursor passes) at.row ≡ false
-    partner_none before = waits_takes_none (state_of p cursor passes) at.row _ met.1
+    partner_none before = waits_takes_none (state_of p cursor passes) at.row met.1
         (grind (arith, page_is at, met.2, not_both other page before))
 
     -- once it was visited, its row is none that a visit may change
@@ -207,8 +207,8 @@ module _ (v m w : BookValue) (same : view_of m ≡ view_of v) where
   reached_as from s before = grind (arith, same, before)
 
   -- what is reached from a book is reached from one that looks the same
-  pub comes_as : (change : BookState × Deed → BookState × Deed) → Comes m w change → Comes v w change
-  comes_as change comes = λ from s before. comes from s (reached_as from s before)
+  pub comes_as : {change : BookState × Deed → BookState × Deed} → Comes m w change → Comes v w change
+  comes_as comes = λ from s before. comes from s (reached_as from s before)
 
   -- and so is what a refused visit leaves
   pub stays_as : (page : GuestPage) → StaysBefore page m w → StaysBefore page v w

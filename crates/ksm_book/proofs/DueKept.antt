@@ -102,7 +102,7 @@ on_tells b row is =
       waiting = first.0;
       unchanged = first.1;
       zeroes = not-true (is_for_zero b.knobs row) third.1;
-      none = none_is _ last.1;
+      none = none_is last.1;
     }
 
 -- a row that waits on passes the test

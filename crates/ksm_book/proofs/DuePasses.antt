@@ -109,11 +109,11 @@ module _ (s : BookState × Deed) (sound : IsSound s.0) (pages : List GuestPage) 
     stay u none =
         undue_stay _ _ due (due_visits_sound (filter passed pages) s sound) are
         (λ k d lt. none (get_or (filter u left) k d)
-        (not-false _ (All-filter u (λ q. not (passed q) ≡ true) _ (filter_passes (λ p. not (passed p)) pages) k d lt))
+        (not-false (All-filter u (λ q. not (passed q) ≡ true) _ (filter_passes (λ p. not (passed p)) pages) k d lt))
         (filter_passes u _ k d lt))
       where
-        not-false : (b : Bool) → not (not b) ≡ true → b ≡ true
-        not-false b is = grind arith
+        not-false : {b : Bool} → not (not b) ≡ true → b ≡ true
+        not-false is = grind arith
 
     -- where no page behind the cursor is due, all pages were visited
     pub all_visited : All (λ p. after_cursor cursor p ≡ false) due → due_visits doing s pages ≡ reached

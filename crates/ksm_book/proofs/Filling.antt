@@ -79,7 +79,7 @@ module _ {v w : KeeperView} {node : ℕ} {bytes : List ℕ} {g : ℕ} (less : no
       record {
         keeps = λ across rows frame dups p.
             let q = searched_placed _ less h.finds.reaped _ _ _ _ None p in
-            let one = one_same g _ refl in
+            let one = one_same g refl in
             let none = subst (λ (x : Kind). FitsBase x (frame_at u.ledger g).base) free (q.kinds g) in
             let base = q.bases g in
             let left = subst (λ (x : Kind). GenerationFits v.table.shape.last_generation x (frame_at u.ledger g).generation) free (q.lives g) in
@@ -91,7 +91,7 @@ module _ {v w : KeeperView} {node : ℕ} {bytes : List ℕ} {g : ℕ} (less : no
               fits = refl;
               same = λ some. absurd (omega arith);
               life = inl (omega arith);
-            }) (λ f ne. one_other f _ (λ e. ne (sym (same_Some g f e)))));
+            }) (λ f ne. one_other f (λ e. ne (sym (same_Some g f e)))));
         spent = omega arith;
         frame = found_inside v u _ g less l h.finds;
         kind = rw now;

@@ -13,9 +13,9 @@ next_first cursor [] = refl
 next_first cursor (r ∷ rows) = grind (arith, next_first cursor rows)
 
 -- the next row, where a page is ahead
-some_next : (c : BookState) (page : GuestPage) (more : List GuestPage) → pages_ahead c ≡ page ∷ more
+some_next : (c : BookState) {page : GuestPage} {more : List GuestPage} → pages_ahead c ≡ page ∷ more
     → (row : Row) × (next_row c.cursor c.rows ≡ Some row) × (row.page ≡ page)
-some_next c page more is = mapped_some _ _ _ (next_first c.cursor c.rows ∙ ap (λ l. slice_get l 0) is)
+some_next c is = mapped_some _ _ _ (next_first c.cursor c.rows ∙ ap (λ l. slice_get l 0) is)
 
 -- where no page is ahead there is no next row
 pub none_next : (c : BookState) → pages_ahead c ≡ [] → next_row c.cursor c.rows ≡ None
@@ -23,7 +23,7 @@ none_next c is = none_mapped (λ (r : Row). r.page) _ (next_first c.cursor c.row
 
 -- a pass with a page ahead does not end
 pub pass_goes_on : (c : BookState) (page : GuestPage) (more : List GuestPage) → pages_ahead c ≡ page ∷ more → pass_ended_at_last c ≡ c
-pass_goes_on c page more is = rw (and_right _ _ (ap is_none (some_next c _ _ is).1))
+pass_goes_on c page more is = rw (and_right _ _ (ap is_none (some_next c is).1))
 
 -- where a pass is under way with a page ahead, the next visit begins with nothing done
 begun_goes_on : (c : BookState) (last page : GuestPage) (more : List GuestPage) → c.cursor ≡ Some last → pages_ahead c ≡ page ∷ more
@@ -118,19 +118,19 @@ module _ {X : Type 0} (step : BookState → X → Row → X) where
   page_goes s page rise = by _ refl
     where
       by : (o : Option Row) → row_at page s.0.rows ≡ o → Goes s.0.rows (visited step s o).0.rows
-      by None found = goes_same _
+      by None found = goes_same
       by (Some r) found =
           let of_page = same_page_eq _ _ (find_passes (λ q. same_page q.page page) _ r found) in
           cond_both _ (row_visited s.0 r, step s.0 s.1 r) s (λ z. Goes s.0.rows z.0.rows)
           (λ is. visited_goes s.0 r rise (ap (λ p. row_at p s.0.rows) of_page ∙ found)
-          (not-true (shared_state r.state) (and_parts _ _ is).1)) (λ calm. goes_same _)
+          (not-true (shared_state r.state) (and_parts _ _ is).1)) (λ calm. goes_same)
 
   -- visits of pages keep the rows in page order and which pages scans visit, and make no page restless
   pub pages_go : (pages : List GuestPage) (s : BookState × X) → InPageOrder s.0.rows → Goes s.0.rows (pages_visited step s pages).0.rows
-  pages_go [] s rise = goes_same _
+  pages_go [] s rise = goes_same
   pages_go (page ∷ pages) s rise =
       let first = page_goes s page rise in
-      goes_on _ _ _ first (pages_go pages (page_visited step s page) (first.order rise))
+      goes_on first (pages_go pages (page_visited step s page) (first.order rise))
 
   -- visits of some pages and of one page more are the visits of those pages and then the visit of that one
   pub visited_more : (pages : List GuestPage) (s : BookState × X) (page : GuestPage)
@@ -232,7 +232,7 @@ module _ {X : Type 0} (step : BookState → X → Row → X) where
     along [] [] s rise some is = absurd (omega arith)
     along [] (next ∷ left) s rise some is = refl
     along (page ∷ done) left s rise some is =
-        let next = some_next s.0 _ _ is in
+        let next = some_next s.0 is in
         let row = next.0 in
         let v : BookState × X = (row_visited s.0 row, step s.0 s.1 row) in
         let here : BookState × X = (record v.0 { cursor = Some page }, v.1) in

@@ -34,10 +34,9 @@ alone_settled page rows rise alone = by _ refl alone
 
 module _ {p q : PagesView} (page : GuestPage) (goes : q ≡ record p { rows = change_row page settled p.rows }) where
   -- the book stays sound where a page waits no more
-  pub sound_stopped : (cursor : Option GuestPage) (passes : ℕ) → IsSound (state_of p cursor passes)
+  pub sound_stopped : {cursor : Option GuestPage} {passes : ℕ} → IsSound (state_of p cursor passes)
       → IsSound (state_of q cursor passes)
-  sound_stopped cursor passes sound =
-      rw goes (sound_changed _ _ _ settled_calmer (λ r home. home) sound)
+  sound_stopped sound = rw goes (sound_changed _ _ _ settled_calmer (λ r home. home) sound)
 
   -- and the pages lie as lawfully as they did
   pub laid_stopped : {k : KeeperView} → IsLaid p k → IsLaid q k
@@ -115,9 +114,9 @@ module _ {page : GuestPage} {old now : BookValue} {last : Option GuestPage} (h :
     cut = along_cut _ (hides_kept _) h.along rise at told
 
     -- once the row of the page is changed, the cursor goes on to it
-    along_on : (rows : List Row) → rows ≡ change_row at (hides page) now.state.rows
+    along_on : {rows : List Row} → rows ≡ change_row at (hides page) now.state.rows
         → IsAlong every_row (hides page) old.state.rows rows (Some at) (cut.before ++ cut.row ∷ []) cut.rest
-    along_on rows same = rw same cut.next
+    along_on same = rw same cut.next
 
     now_rise : InPageOrder now.state.rows
     now_rise = grind (arith, cut.stop, ordered_change)
@@ -128,17 +127,17 @@ module _ {page : GuestPage} {old now : BookValue} {last : Option GuestPage} (h :
     hiding_over row found why = record {
       done = cut.before ++ cut.row ∷ [];
       left = cut.rest;
-      along = along_on _ (sym (change_still at _ _ (λ k d lt same. stays
-          _ (row_of_page at _ row now_rise found k d lt same) same why)));
+      along = along_on (sym (change_still at _ _ (λ k d lt same. stays
+          (row_of_page at _ row now_rise found k d lt same) same why)));
       comes = h.comes;
       own = h.own;
       restless = h.restless;
       fits = fits;
     }
       where
-        stays : (r : Row) → r ≡ row → same_page r.page at ≡ true
+        stays : {r : Row} → r ≡ row → same_page r.page at ≡ true
             → (shared_state row.state ≡ true) ⊎ (comes_before at page ≡ true) → hides page r ≡ r
-        stays r is same h3 = grind arith
+        stays is same h3 = grind arith
 
     -- any other page waits no more
     pub hiding_more : (next : BookValue) → comes_before at page ≡ false
@@ -147,7 +146,7 @@ module _ {page : GuestPage} {old now : BookValue} {last : Option GuestPage} (h :
     hiding_more next behind stops own restless = record {
       done = cut.before ++ cut.row ∷ [];
       left = cut.rest;
-      along = along_on _ (rows ∙ alike_at at _ _ _
+      along = along_on (rows ∙ alike_at at _ _ _
           (λ k d lt same. behind_settles _ _ (rw (same_page_eq _ at same) behind)));
       comes = λ from s before.
           let reached = stops from (record s.0 { rows = now.state.rows }, s.1) (h.comes from s before) in

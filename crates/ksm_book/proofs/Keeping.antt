@@ -10,13 +10,13 @@ use Rattle.ksm_book.proofs.Sweeps.{is_dying_kind}
 taken_private : (b : Bool) (kind : Kind) → cond b Dying kind ≡ Private → kind ≡ Private
 taken_private b kind e = grind arith
 
-fits_taken : (kind : Kind) (n : ℕ) → 1 ≤ n → FitsBase kind n → (b : Bool) → (b ≡ (n == 1)) → FitsBase (cond b Dying kind) (n - 1)
-fits_taken kind n some fits true e = let t : n ≡ 1 = grind arith in omega arith
-fits_taken Free n some fits false e = omega arith
-fits_taken Filling n some fits false e = absurd fits
-fits_taken Private n some fits false e = let z = fits in absurd (grind arith)
-fits_taken Stable n some fits false e = let z : ¬ (n ≡ 1) = λ is. grind arith in omega arith
-fits_taken _ n some fits false e = omega arith
+fits_taken : (kind : Kind) {n : ℕ} → 1 ≤ n → FitsBase kind n → (b : Bool) → (b ≡ (n == 1)) → FitsBase (cond b Dying kind) (n - 1)
+fits_taken kind {n} some fits true e = let t : n ≡ 1 = grind arith in omega arith
+fits_taken Free some fits false e = omega arith
+fits_taken Filling some fits false e = absurd fits
+fits_taken Private some fits false e = let z = fits in absurd (grind arith)
+fits_taken Stable {n} some fits false e = let z : ¬ (n ≡ 1) = λ is. grind arith in omega arith
+fits_taken _ some fits false e = omega arith
 
 lived_taken : (last n base : ℕ) (kind : Kind) (b : Bool) → 1 ≤ base → FitsBase kind base → GenerationFits last kind n → GenerationFits last (cond b Dying kind) n
 lived_taken last n base kind false some fits h = h
@@ -63,7 +63,7 @@ held_within k f some = grind (arith, nat_tests, cases_lt, get_or_past)
 pub held_inside : {sh : Shape} {across : ℕ} {k : Ledger} {rows : List Row} {frame : Frames} {dups : List DupRow} {g : ℕ} → Placed sh across k rows frame dups (Some g)
     → (g < frames_of sh) × (1 ≤ (frame_at k g).base)
 held_inside {k = k} {g = g} p =
-    let one = one_same g _ refl in
+    let one = one_same g refl in
     let base = p.bases g in
     let long = p.frames_long in
     let some : 1 ≤ (frame_at k g).base = omega arith in
@@ -83,17 +83,17 @@ pub left_placed : {v w : KeeperView} (o : Option ℕ) → MakesSteps v w (leavin
 left_placed {v} {w} None m {sh} {across} {rows} {frame} {dups} p = rw (none_made m) p
 left_placed {v} {w} (Some g) m {sh} {across} {rows} {frame} {dups} p =
     let in_hand = held_inside p in
-    let one = one_same g _ refl in
+    let one = one_same g refl in
     let base = p.bases g in
     rw (step_made m).1
     (noted p g in_hand.0 _ None (record {
       wide = p.widths g;
       lived = lived_taken _ _ _ _ _ in_hand.1 (p.kinds g) (p.lives g);
       base = omega arith;
-      fits = fits_taken _ _ in_hand.1 (p.kinds g) _ refl;
+      fits = fits_taken _ in_hand.1 (p.kinds g) _ refl;
       same = λ some. let more = ne_eqb (frame_at v.ledger g).base 1 (λ e. omega arith) in (rw more, refl, refl);
       life = inr (refl, inr (refl, taken_private _ _));
-    }) (λ f ne. sym (one_other f _ (λ e. ne (sym (same_Some g f e))))))
+    }) (λ f ne. sym (one_other f (λ e. ne (sym (same_Some g f e))))))
 
 -- a reference given back ends no life
 pub left_spends : {v w : KeeperView} (o : Option ℕ) → MakesSteps v w (leaving o) → spent v.ledger ≤ spent w.ledger
@@ -106,7 +106,7 @@ left_spends (Some g) m = grind (arith, nat_tests, step_made m, spent_kept, past_
 pub added_placed : {v w : KeeperView} {g : ℕ} → MakesSteps v w (Add g ∷ []) → (frame_at v.ledger g).kind ≡ Stable → {sh : Shape} {across : ℕ} {rows : List Row} {frame : Frames} {dups : List DupRow}
     → g < frames_of sh → Placed sh across v.ledger rows frame dups None → Placed sh across w.ledger rows frame dups (Some g)
 added_placed {v} {w} {g} m stable {sh} {across} {rows} {frame} {dups} inside p =
-    let one = one_same g _ refl in
+    let one = one_same g refl in
     let base = p.bases g in
     rw (step_made m).1
     (noted p g inside _ _ (record {
@@ -116,7 +116,7 @@ added_placed {v} {w} {g} m stable {sh} {across} {rows} {frame} {dups} inside p =
       fits = rw stable (omega arith);
       same = λ _. (refl, refl, refl);
       life = inr (refl, inr (refl, λ own. own));
-    }) (λ f ne. one_other f _ (λ e. ne (sym (same_Some g f e)))))
+    }) (λ f ne. one_other f (λ e. ne (sym (same_Some g f e)))))
 
 -- a reference that came ends no life
 pub added_spends : {v w : KeeperView} {g : ℕ} → MakesSteps v w (Add g ∷ []) → spent v.ledger ≤ spent w.ledger
@@ -216,7 +216,7 @@ searched_placed {v} {w} node less m across rows frame dups hand p =
     (λ i d lt.
     let f = get_or (dying_on sh v.ledger node) i d in (
       All-filter _ (λ f. f < frames_of sh) _ inside i d lt,
-      subst (λ (x : Kind). FitsBase x (frame_at v.ledger f).base) (is_dying_kind _ (filter_passes dies (range_with_len low size) i d lt)) (p.kinds f),
+      subst (λ (x : Kind). FitsBase x (frame_at v.ledger f).base) (is_dying_kind (filter_passes dies (range_with_len low size) i d lt)) (p.kinds f),
     ))
     p
 

@@ -50,9 +50,9 @@ module _ {sh : Shape} {across : ℕ} {k : Ledger} {rows : List Row} {frame : Fra
   }
 
   -- the row of a page takes what is in the hand, and its own frame, if it has one, comes into the hand
-  pub swapped : (o : Option ℕ) (page : GuestPage) (c : Row → Row) (row : Row) → InPageOrder rows → row_at page rows ≡ Some row → ((r : Row) → (c r).page ≡ r.page)
+  pub swapped : (o : Option ℕ) {page : GuestPage} (c : Row → Row) (row : Row) → InPageOrder rows → row_at page rows ≡ Some row → ((r : Row) → (c r).page ≡ r.page)
       → Placed sh across k rows frame dups o → IsServed sh k dups (c row) o → Placed sh across k (change_row page c rows) (lies_on page o frame) dups (frame page)
-  swapped o page c row rise found keeps p new =
+  swapped o {page} c row rise found keeps p new =
       let at = ap (λ q. same_page q page) (keeps row ∙ found_page _ rows row found) ∙ same_page_refl page in
       rehoused p (all_changed_row (At sh k dups frame) (At sh k dups (lies_on page o frame)) _ c _ row rise found p.each_row
       (λ r other h. grind (arith, off_page page o frame r.page other, h))
@@ -192,13 +192,13 @@ module _ {sh : Shape} {across : ℕ} {k : Ledger} {rows : List Row} {frame : Fra
 
   -- without the page its frame is in the hand
   lifted : Placed sh across k bare off dups (Some g)
-  lifted = subst (Placed sh across k bare off dups) lies (swapped None _ _ row rise found (λ r. refl) p refl)
+  lifted = subst (Placed sh across k bare off dups) lies (swapped None _ row rise found (λ r. refl) p refl)
 
   one : (frame_at k g).base ≡ 1
   one = grind (arith, nat_tests)
 
   unused : uses g off bare ≡ 0
-  unused = omega (arith, one, lifted.bases g, one_same g _ refl)
+  unused = omega (arith, one, lifted.bases g, one_same g refl)
 
   -- meanwhile its note changes
   module _ (fr : Note) (life : fr.generation ≡ (frame_at k g).generation) where
@@ -207,7 +207,7 @@ module _ {sh : Shape} {across : ℕ} {k : Ledger} {rows : List Row} {frame : Fra
     turned wide base lived counts = noted lifted g fits.0.frame fr _ (record {
       wide = wide;
       lived = lived;
-      base = (omega (arith, unused, one_same g _ refl));
+      base = (omega (arith, unused, one_same g refl));
       fits = counts;
       same = λ used. absurd (omega (arith, unused));
       life = inr (life, inl own);
@@ -229,7 +229,7 @@ module _ {sh : Shape} {across : ℕ} {k : Ledger} {rows : List Row} {frame : Fra
       let there = lies_again page None (Some g) frame ∙ lies_still _ _ _ lies in
       subst (λ (z : List Row × Frames × Option ℕ). Placed sh across k' z.0 z.1 dups' z.2)
       (λ t. (again t, there t, on_page page None frame page (same_page_refl page) t))
-      (swapped _ _ d _ (ordered_change _ _ _ (λ r. refl) rise)
+      (swapped _ d _ (ordered_change _ _ _ (λ r. refl) rise)
       (at_changed page bared rows row (λ r. refl) found) (λ r. refl) q (rw same served))
 
   -- rows and dups lie lawfully where a row that is not shared gets new bytes, and its frame holds them
@@ -330,4 +330,4 @@ pub joined : {sh : Shape} {across : ℕ} {k : Ledger} {rows : List Row} {frame :
     → Serves sh k dups item g → (c row).state ≡ item.state → (c row).bytes ≡ item.bytes → shared_state item.state ≡ true
     → Placed sh across k rows frame dups (Some g) → Placed sh across k (change_row page c rows) (lies_on page (Some g) frame) dups (frame page)
 joined {sh} {k = k} page row item g c rise found keeps on_it state bytes merged p =
-    swapped _ _ c row rise found keeps p (serves_like sh k _ _ _ g on_it state (on_it.0.content ∙ sym bytes) (ap shared_state state ∙ merged))
+    swapped _ c row rise found keeps p (serves_like sh k _ _ _ g on_it state (on_it.0.content ∙ sym bytes) (ap shared_state state ∙ merged))

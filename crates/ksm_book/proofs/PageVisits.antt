@@ -29,7 +29,7 @@ finds_it f some {p} {k} {cursor} {passes} {v} lawful same q page is told = by _ 
 visits_come : (v w : BookValue) (page : GuestPage) → restless_at page v.state.rows ≡ true → VisitsPage (view_of v) (view_of w) page → Comes
     v w (λ s. page_visited doing s page)
 visits_come v w page restless did =
-    let at = filled_by _ _ did in
+    let at = filled_by _ did in
     visit_comes v w _ _ at.1 (ap restless_row (sym at.1) ∙ restless) at.2.0 at.2.1
 
 -- where a search changed nothing and the page's row was visited then, the visit of the page was reached

@@ -40,7 +40,7 @@ module _ (other : GuestPage) {p : PagesView} {k : KeeperView} {cursor : Option G
 
   -- the partner of the visited page
   pub met : (w : Row) × (partner p.knobs p.rows row ≡ Some w) × (other ≡ w.page)
-  met = filled_by _ _ at.so.1
+  met = filled_by _ at.so.1
 
   abbrev w : Row
   w = met.0

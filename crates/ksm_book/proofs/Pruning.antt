@@ -143,7 +143,7 @@ module _ {p q : PagesView} {k l : KeeperView} {count : ℕ} (h : Drops p q k l c
         first = h.first;
         rise = subst InPlaceOrder (sym dups) (ordered_filter _ _ h.rise);
         before = h.before;
-        laid = rw goes (laid_cleared l' _ h.laid inside (rw is) (rw is));
+        laid = rw goes (laid_cleared l' h.laid inside (rw is) (rw is));
       }
 
 -- where none is stale any more, all are gone

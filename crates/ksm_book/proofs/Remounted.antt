@@ -82,8 +82,8 @@ module _ {sh : Shape} {across : ℕ} {k : Ledger} {rows : List Row} {frame : Fra
     named_off : (e : ℕ) → e ≢ q → named_at next e ≡ named_at k e
     named_off e ne = get_or-set_other k.places q e (Some life) None ne
 
-    frame_is : (e : ℕ) → e ≡ q → place_frame next e ≡ g
-    frame_is e same = grind (arith, nat_tests, same, named)
+    frame_is : {e : ℕ} → e ≡ q → place_frame next e ≡ g
+    frame_is same = grind (arith, nat_tests, same, named)
 
     frame_off : (e : ℕ) → e ≢ q → place_frame next e ≡ place_frame k e
     frame_off e ne = grind (arith, named_off e ne)
@@ -94,8 +94,8 @@ module _ {sh : Shape} {across : ℕ} {k : Ledger} {rows : List Row} {frame : Fra
     at_g : (P : Note → Type 0) → P mounted → P (frame_at next g)
     at_g P m = at P g (λ _. m) (λ e. absurd (apart e)) (λ ne _. absurd (ne refl))
 
-    is_in_life : (e : ℕ) → e ≡ q → IsInLife next e
-    is_in_life e same = rw same (subst (λ (x : Option Life). (frame_at next (life_or x).frame).generation ≡ (life_or x).generation) (sym named) (at_g (λ x. x.generation ≡ (frame_at k g).generation + 1) refl))
+    is_in_life : {e : ℕ} → e ≡ q → IsInLife next e
+    is_in_life same = rw same (subst (λ (x : Option Life). (frame_at next (life_or x).frame).generation ≡ (life_or x).generation) (sym named) (at_g (λ x. x.generation ≡ (frame_at k g).generation + 1) refl))
 
     -- no other place names the frame in its new life
     too_young : (e : DupRow) → DupFits sh across k e → e.place ≢ q → place_frame k e.place ≡ g → IsInLife next e.place → ⊥
@@ -135,7 +135,7 @@ module _ {sh : Shape} {across : ℕ} {k : Ledger} {rows : List Row} {frame : Fra
       moved_agrees : f ≡ left → (e : DupRow) → DupFits sh across k e → (e.place ≢ q → e.number ≢ moving.number) → Agrees k r f e → Agrees next r g e
       moved_agrees is e m others a = dite (ℕ_discrete e.place q)
           (λ same. record {
-            item = λ _. (sym (frame_is _ same), is_in_life _ same);
+            item = λ _. (sym (frame_is same), is_in_life same);
             back = λ _ _. a.back (rw same in_life) (grind (arith, is, leaves, same));
           })
           (λ ne. record {
@@ -159,7 +159,7 @@ module _ {sh : Shape} {across : ℕ} {k : Ledger} {rows : List Row} {frame : Fra
       still_agrees not' e m a = dite (ℕ_discrete e.place q)
           (λ same. record {
             item = grind (arith, a.item);
-            back = λ _ t. absurd (far (t ∙ frame_is _ same));
+            back = λ _ t. absurd (far (t ∙ frame_is same));
           })
           (λ ne. record {
             item = λ t. let y = a.item t in (
@@ -181,12 +181,12 @@ module _ {sh : Shape} {across : ℕ} {k : Ledger} {rows : List Row} {frame : Fra
 
     dup_here : (e : DupRow) → e.place ≡ q → DupFits sh across k e → DupFits sh across next e
     dup_here e same m =
-        let fr = frame_is _ same in
+        let fr = frame_is same in
         record {
           place = m.place;
           named = rw same (ap is_some named);
           frame = rw fr inside;
-          life = (let l = is_in_life _ same in omega arith);
+          life = (let l = is_in_life same in omega arith);
           content = λ _. rw fr
               (at_g (λ x. x.content ≡ e.bytes) (ap (λ x. (frame_at k x).content) (leaves ∙ ap (place_frame k) (sym same)) ∙ m.content (rw same in_life)));
           shown = λ _ own. at_g (λ x. x.kind ≡ Private → ⊥) (λ bad. cc) (ap (λ h. (frame_at next h).kind) (sym fr) ∙ own);

@@ -12,8 +12,8 @@ use Rattle.ksm_book.proofs.Singles.{book}
 use Rattle.ksm_book.proofs.Standing.{Lives, lives}
 
 -- where something is told of what an option holds, it holds something, of which that is so
-pub filled_by : {X : Type 0} (P : X → Type 0) (o : Option X) → MatchOption o (true ≡ false) P → (x : X) × (o ≡ Some x) × P x
-filled_by P o told = grind (arith, told)
+pub filled_by : {X : Type 0} (P : X → Type 0) {o : Option X} → MatchOption o (true ≡ false) P → (x : X) × (o ≡ Some x) × P x
+filled_by P told = grind (arith, told)
 
 -- a row that a visit may change has a frame of its own
 pub restless_own : (row : Row) → is_restless row ≡ true → shared_state row.state ≡ false
@@ -71,7 +71,7 @@ pub meets : (P : BookState → Row → Type 0) {p : PagesView} {k : KeeperView} 
     {page : GuestPage} → IsSound (state_of p cursor passes) × IsLaid p k → book p k cursor passes ≡ now
     → MatchOption (row_at page now.state.rows) (true ≡ false) (P now.state) → Meets P p k cursor passes now page
 meets P {p} {cursor = cursor} {passes} {page = page} lawful same told =
-    let at = filled_by _ _
+    let at = filled_by _
     (subst (λ (x : BookView). MatchOption (row_at page x.state.rows) (true ≡ false) (P x.state)) (sym same) told) in
     record { is = same; sound = lawful.0; laid = lawful.1; row = at.0; found = at.1; so = at.2 }
 
@@ -139,7 +139,7 @@ module _ (best : Best) {p : PagesView} {k : KeeperView} {cursor : Option GuestPa
   module _ (g : ℕ) (lies : All (λ d. d.place ≡ best.place → All (λ r. merged_into d.number r.state ≡ true → p.frame r.page ≡ Some g) p.rows)
       p.dups) where
     told : (d : DupRow) × (best_dup p.knobs p.rows p.dups row ≡ Some d) × ((best.number ≡ d.number) × (best.place ≡ d.place))
-    told = filled_by _ _ at.so.1
+    told = filled_by _ at.so.1
 
     abbrev dup : DupRow
     dup = told.0
@@ -248,7 +248,7 @@ module _ {p : PagesView} {k : KeeperView} {cursor : Option GuestPage} {passes : 
 
   zero_hand : Placed p.shape p.knobs.merge_across_nodes k.ledger (change_row page zeroed p.rows) (lies_on page None p.frame) p.dups
       (p.frame page)
-  zero_hand = swapped None _ _ _ at.sound.rows_rise at.found (λ r. refl) at.laid.placed refl
+  zero_hand = swapped None _ _ at.sound.rows_rise at.found (λ r. refl) at.laid.placed refl
 
   -- the frame of a page that is to become Zero may be left
   pub may_empty : {left : Option ℕ} → left ≡ p.frame page → IfSome left (λ f. May k (Sub f))
@@ -261,7 +261,7 @@ module _ {p : PagesView} {k : KeeperView} {cursor : Option GuestPage} {passes : 
       let b = state_of p cursor passes in
       let leaves = subst (λ o. MakesSteps k l (leaving o)) was made in
       leads at q l at.so.restless
-      (rw goes (laid_rows at.laid _ _ _ l (rw leaves.after) (left_spends _ leaves) (left_placed _ leaves zero_hand)))
+      (rw goes (laid_rows at.laid l (rw leaves.after) (left_spends _ leaves) (left_placed _ leaves zero_hand)))
       (rw goes (grind (arith, page_is at, (stayed_is b p.frame _ true at.so).0)))
       (subst (Performs (lying p k) (lying q l)) (sym ((stayed_is b _ _ true at.so).1 ∙ ap (emptying p.frame) (page_is at)))
       (record { made = leaves; frame = rw goes }))

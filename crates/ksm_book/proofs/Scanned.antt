@@ -228,8 +228,8 @@ module _ {X : Type 0} (step : BookState → X → Row → X) (beside : IsBeside 
     ]
 
     -- where so many visits would visit the page, fewer pages ahead come before it
-    pub stopped_fewer : (most : ℕ) (a : Ahead) → 1 ≤ most → EndsAt ahead most a → up_to (last_visited a) page ≡ true
+    pub stopped_fewer : {most : ℕ} (a : Ahead) → 1 ≤ most → EndsAt ahead most a → up_to (last_visited a) page ≡ true
         → length (before_it ahead) < most
-    stopped_fewer most (At last) some comes passes =
+    stopped_fewer {most} (At last) some comes passes =
         let one : suc (most - 1) ≡ most = omega arith in omega (arith, fewer (most - 1) last comes.1 passes)
-    stopped_fewer most (End made) some comes passes = omega (arith, within, stopped_many)
+    stopped_fewer (End made) some comes passes = omega (arith, within, stopped_many)

@@ -7,8 +7,8 @@ use Rattle.ksm_book.proofs.Keeping.{added_placed, added_spends, left_placed, lef
 use Rattle.ksm_book.proofs.Made.{none_made, parts_made, step_made}
 use Rattle.ksm_book.proofs.Withdrawn.{withdrawn}
 
-merged_as : (s : PageState) → merged_state s ≡ true → (n : ℕ) × (s ≡ Merged n)
-merged_as s e = grind arith
+merged_as : {s : PageState} → merged_state s ≡ true → (n : ℕ) × (s ≡ Merged n)
+merged_as e = grind arith
 
 -- the state of an item of a dup is Merged with the dup's number
 pub state_of_item : (n : ℕ) (s : PageState) → merged_into n s ≡ true → s ≡ Merged n
@@ -33,7 +33,7 @@ module _ {p : PagesView} {k : KeeperView} (h : IsLaid p k) (rise : InPageOrder p
   item_fits = subst (IsServed p.shape k.ledger p.dups item) there (served_at h.placed _ _ found_item)
 
   item_stable : (frame_at k.ledger g).kind ≡ Stable
-  item_stable = item_fits.0.kind ∙ ap kind_for (merged_as _ merged).1
+  item_stable = item_fits.0.kind ∙ ap kind_for (merged_as merged).1
 
   -- one reference more may come to an item's frame, where its dup has room for one item more
   pub may_join : (d : DupRow) → Contains p.dups d → merged_into d.number item.state ≡ true → item_count p.rows d ≤ MOST_REFERENCES - 1 → May k (Add g)
@@ -57,7 +57,7 @@ module _ {p : PagesView} {k : KeeperView} (h : IsLaid p k) (rise : InPageOrder p
         let q = added_placed comes item_stable item_fits.0.frame h.placed in
         joined _ row _ g c rise found keeps
         (subst (IsServed p.shape w.ledger p.dups item) there (served_at q _ _ found_item)) state bytes
-        (ap shared_state (merged_as _ merged).1) q
+        (ap shared_state (merged_as merged).1) q
 
     -- once a reference came to the item's frame, the frame of the page that joins, if it has one, may be left
     pub may_part : (w : KeeperView) → MakesSteps k w (Add g ∷ []) → IfSome (p.frame page) (λ f. May w (Sub f))
@@ -70,7 +70,7 @@ module _ {p : PagesView} {k : KeeperView} (h : IsLaid p k) (rise : InPageOrder p
         let parts = parts_made _ _ m in
         let more = added_spends parts.1 in
         let more' = left_spends _ parts.2 in
-        laid_rows h _ _ _ u (rw m.after) (omega arith) (left_placed _ parts.2 (joined_hand _ parts.1))
+        laid_rows h u (rw m.after) (omega arith) (left_placed _ parts.2 (joined_hand _ parts.1))
 
 -- a place where no dup with items stands may be named anew, or not at all
 module _ (k : Ledger) where
@@ -121,10 +121,10 @@ module _ {p : PagesView} {k : KeeperView} (w : KeeperView) (h : IsLaid p k) (pla
   ]
 
 -- pages lie lawfully where a place names nothing any more and the dup that stood there is gone
-pub laid_cleared : {p : PagesView} {k : KeeperView} (w : KeeperView) (place : ℕ) → IsLaid p k → place < frames_of p.shape → w.table ≡ k.table
+pub laid_cleared : {p : PagesView} {k : KeeperView} (w : KeeperView) {place : ℕ} → IsLaid p k → place < frames_of p.shape → w.table ≡ k.table
     → w.ledger ≡ record { frames = k.ledger.frames; places = set k.ledger.places place None }
     → IsLaid (record p { dups = filter (elsewhere place) p.dups }) w
-laid_cleared {p} {k} w place h inside e is = record {
+laid_cleared {p} {k} w h inside e is = record {
   small = h.small;
   same = shape_same _ k w h.same e;
   placed = rw is (withdrawn _ inside h.placed);

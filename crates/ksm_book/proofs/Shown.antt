@@ -45,8 +45,8 @@ quiet_leaving None = tt
 quiet_leaving (Some f) = (refl, tt)
 
 -- a part of the log whose steps give no frame gave none
-pub part_did : (v w : KeeperView) (part : Log) → w ≡ stepped v part → GivesNone (steps_of part) → Allocates v w [] part
-part_did v w part is quiet = record {
+pub part_did : (v w : KeeperView) {part : Log} → w ≡ stepped v part → GivesNone (steps_of part) → Allocates v w [] part
+part_did v w {part} is quiet = record {
   table = rw is;
   log = rw is;
   ledger = rw is;
@@ -59,7 +59,7 @@ part_did v w part is quiet = record {
 
 -- steps that give no frame gave none by the part of the log in which they were made
 pub quiet_did : {v w : KeeperView} {steps : List KeeperStep} (m : MakesSteps v w steps) → GivesNone steps → Allocates v w [] m.part
-quiet_did {v} {w} m quiet = part_did v w _ m.after (subst GivesNone (sym m.are) quiet)
+quiet_did {v} {w} m quiet = part_did v w m.after (subst GivesNone (sym m.are) quiet)
 
 -- a keeper that made steps that give no frame gave none
 pub quiet_does : {v w : KeeperView} {steps : List KeeperStep} → MakesSteps v w steps → GivesNone steps → AllocatesOn v w []
@@ -176,8 +176,8 @@ none_left {v} {w} {node} h =
 -- ---------------------------------------------------------------- a dup's frame is held, or moves
 
 -- a frame that is stable after an exchange was tried was found with another count
-pub lost : (v w : Mapped) (rows : List Row) (dup : DupRow) (node : ℕ) → FindsHeld v w rows dup node → HasLost v.keeper w.keeper
-lost v w rows dup node h =
+pub lost : {v w : Mapped} {rows : List Row} (dup : DupRow) {node : ℕ} → FindsHeld v w rows dup node → HasLost v.keeper w.keeper
+lost {v} {rows = rows} dup h =
     let f = dup_frame v.frame rows dup.number in
     let s = h.searched in
     let step = step_made h.freezes in

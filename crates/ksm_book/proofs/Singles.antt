@@ -71,7 +71,7 @@ pub may_read : {p : PagesView} {k : KeeperView} → IsLaid p k → (page : Guest
     → (g < frames_of k.table.shape) × IsReadable (frame_at k.ledger g).kind × (length (frame_at k.ledger g).content ≡ PAGE_WORDS) × ((frame_at k.ledger g).content ≡ row.bytes)
 may_read {p} {k} h page row found g lies =
     let served = subst (IsServed p.shape k.ledger p.dups row) lies (served_at h.placed _ row found) in
-    (rw h.same served.0.frame, readable _ _ served.0.mapped served.0.kind, h.placed.widths g, served.0.content)
+    (rw h.same served.0.frame, readable _ served.0.mapped served.0.kind, h.placed.widths g, served.0.content)
 
 -- what is true anyway is true of each error of a result
 pub if_err : {T E : Type 0} (r : Result T E) (P : Type 0) → P → IfErr r (λ _. P)
@@ -192,7 +192,7 @@ module _ {p : PagesView} {k : KeeperView} (h : IsLaid p k) (rise : InPageOrder p
           state = rw goes;
           steps = record { made = leaves; frame = rw goes };
         },
-        rw goes (laid_rows h _ _ _ l table (left_spends _ leaves) (left_placed _ leaves gone_hand)),
+        rw goes (laid_rows h l table (left_spends _ leaves) (left_placed _ leaves gone_hand)),
       )
 
 -- ---------------------------------------------------------------- a page that comes
@@ -207,9 +207,9 @@ without_come row rows rise absent =
     ∙ sym (absent_parts pages_ordered (λ (r : Row). r.page) row.page _ rise absent)
 
 -- `Register` of a page without a row is refused with nothing changed, where a search for a frame finds none by no step
-pub register_refused : (p : PagesView) (k : KeeperView) (cursor : Option GuestPage) (passes : ℕ) (page : GuestPage) (node : ℕ) (bytes : List ℕ) → node < p.shape.nodes → row_at page p.rows ≡ None
+pub register_refused : (p : PagesView) {k : KeeperView} {cursor : Option GuestPage} {passes : ℕ} {page : GuestPage} {node : ℕ} {bytes : List ℕ} → node < p.shape.nodes → row_at page p.rows ≡ None
     → FindsNone k k node → IsCarried (book p k cursor passes) (book p k cursor passes) (Register page node bytes) (Err (NoFrame node))
-register_refused p k cursor passes page node bytes less absent searched = record {
+register_refused p {node = node} less absent searched = record {
   own = refl;
   answer = rw (there_is p.shape.nodes node less, absent) refl;
   state = refl;
@@ -254,7 +254,7 @@ module _ {p m : PagesView} {page : GuestPage} {node : ℕ} {bytes : List ℕ} (n
           state = rw there;
           steps = record { got = g; provides = provides; frame = rw there };
         },
-        rw there (laid_rows h _ _ _ l table taken.spent (come_there h.same taken h.placed _ new.absent refl refl refl)),
+        rw there (laid_rows h l table taken.spent (come_there h.same taken h.placed _ new.absent refl refl refl)),
       )
 
   -- `Register` is refused, and all lies lawfully, where no frame of the node was left and the page went again
@@ -272,5 +272,5 @@ module _ {p m : PagesView} {page : GuestPage} {node : ℕ} {bytes : List ℕ} (n
           state = grind (arith, back);
           steps = record { searched = searched; frame = rw back };
         },
-        rw back (laid_rows h _ _ _ l table (searched_spends _ searched.reaped) turns.laid.placed),
+        rw back (laid_rows h l table (searched_spends _ searched.reaped) turns.laid.placed),
       )

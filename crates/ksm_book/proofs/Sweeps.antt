@@ -2,8 +2,8 @@
 use Rattle.ksm_book.proofs.Names.{[], ap, append-nil, arith, Bool, Dying, dying_from, dying_kind, false, filter-append, frame_at, Kind, Ledger, NoneOf, range_with_len, suc, true, zero, ℕ, ◌++◌, ◌+◌, ◌-◌, ◌<◌, ◌∙◌, ◌∷◌, ◌≡◌, ◌≤◌, if◌then◌else◌, nat_tests}
 
 -- a kind that tests as dying is Dying
-pub is_dying_kind : (x : Kind) → dying_kind x ≡ true → x ≡ Dying
-is_dying_kind x e = grind arith
+pub is_dying_kind : {x : Kind} → dying_kind x ≡ true → x ≡ Dying
+is_dying_kind e = grind arith
 
 -- one frame more is looked at
 range_more : (low n : ℕ) → range_with_len low (n + 1) ≡ range_with_len low n ++ (low + n) ∷ []

@@ -20,11 +20,11 @@ pub record Takes (b : BookState) (page other : GuestPage) : Type 0 where
   pub is : other ≡ waiter.page
 
 -- where that is told of the row of a page, it is so
-pub takes_from : (b : BookState) (page other : GuestPage) → IsSound b
+pub takes_from : {b : BookState} {page other : GuestPage} → IsSound b
     → MatchOption (row_at page b.rows) (true ≡ false) (TakesOverFrom b other) → Takes b page other
-takes_from b page other sound told =
-    let at = filled_by _ _ told in
-    let met = filled_by _ _ at.2.2 in
+takes_from sound told =
+    let at = filled_by _ told in
+    let met = filled_by _ at.2.2 in
     record {
       sound = sound;
       row = at.0;

@@ -21,7 +21,7 @@ stops c from s before =
     let middle = c.in-Err.ensures.stopped.comes from _ (c.close_pass-ahead.ensures.comes from s before) in
     let many = c.stop_at.ensures.many ∙ ap (λ b. length (filter (λ p. comes_before p page) (pages_ahead b))) middle.0
     ∙ ap (λ l. length (filter (λ p. comes_before p page) l)) (stopped_ahead doing doing_beside s at.order _ there) in
-    let less = stopped_fewer doing doing_beside s at.order _ there _ _ c.requires.most
+    let less = stopped_fewer doing doing_beside s at.order _ there _ c.requires.most
     (subst (λ l. EndsAt l c.args.most c.close_pass-ahead.result) at.ahead c.close_pass-ahead.ensures.ahead)
     (rw (← c.last.ensures) c.in-Err.ensures.stopped.within) in (
       omega arith,

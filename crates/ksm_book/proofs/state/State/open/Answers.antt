@@ -10,5 +10,5 @@ invariant_of-result c =
     let k = c.in_ok-keeper.keeper in (
       grind (arith, c.in-Ok.ensures.opened, sound_opening),
       rw c.in-Ok.ensures.opened
-          (rw c.in_ok-keeper.ensures.begun (first_laid _ _ c.requires.shape c.requires.same c.requires.new)),
+          (rw c.in_ok-keeper.ensures.begun (first_laid c.requires.shape c.requires.same c.requires.new)),
     )

@@ -17,4 +17,4 @@ pub returns-in-Some-clause-loads : goal.returns-in-Some-clause-loads
 returns-in-Some-clause-loads c =
     let s = c.self.inside in
     rw (← c.self.view_is)
-    (rw (sym c.in_ok-held.ensures.frame ∙ c.in-Some.is) (part_did _ _ _ c.load.ensures.loaded (quiet_loads _ 0 _)))
+    (rw (sym c.in_ok-held.ensures.frame ∙ c.in-Some.is) (part_did _ _ c.load.ensures.loaded (quiet_loads _ 0 _)))

@@ -14,5 +14,5 @@ invariant_of-self c =
     let there = c.drop_stale.ensures.pages in (
       subst IsSound (search rules) (sound_set_limit b c.args.limit Done accepted c.self.invariant.0),
       rw c.set_knobs.ensures
-          (retuned _ (inl (rw c.knobs-knobs.ensures (sym (grind (arith, there))))) c.drop_stale.ensures.laid),
+          (retuned (inl (rw c.knobs-knobs.ensures (sym (grind (arith, there))))) c.drop_stale.ensures.laid),
     )

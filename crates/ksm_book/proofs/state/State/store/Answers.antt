@@ -6,7 +6,7 @@ use Rattle.ksm_book.proofs.state.State.store.Goals as goal
 
 pub known_frame-frame-requires : goal.known_frame-frame-requires
 known_frame-frame-requires c =
-    let f = has_frame c.self.invariant.1 _ _ c.in-Some.ensures.found
+    let f = has_frame c.self.invariant.1 c.in-Some.ensures.found
     (own_framed _ (sym c.in-Some.ensures.shared ∙ c.if-held.false)) in
     ap is_some (c.in-Some.ensures.frame ∙ f.1)
 

@@ -131,4 +131,4 @@ returns-in_ok-take_over-in-Partner-2-clause-comes c =
     let at = (goal.at.returns-in_ok-take_over-in-Partner-2-clause-comes c).In_ok-visit in
     let met = met_by at _ (λ e. cc) c.in-Partner.is in
     comes_as c.args.self.now (the_view (record c.self.inside { pages = c.visit.new.self })) c.take_over.new.self (looks_still at met.so.5)
-    _ c.in_ok-take_over-in-Partner-2.ensures.comes
+    c.in_ok-take_over-in-Partner-2.ensures.comes
