@@ -1,5 +1,5 @@
 -- Rows that are changed one after another, in the order of their pages: those of a guest, or all, up to a cursor.
-use Rattle.ksm_book.proofs.Names.{[], after_cursor, after_differs, All, All-append, All-cons, All-head, All-map, All-tail, AllPairs, and-true, and_parts, and_right, ap, append-nil, arith, before_differs, before_irrefl, Bool, cases_Bool, change_none, change_row, change_rows, comes_before, false, filter, filter-append, filter_none, find, find_none, find_passes, get_or, GuestPage, inl, InPageOrder, inr, is_before, is_next, List, map, map-append, nat_tests, None, not_both, Option, option_map, pairs_cross, pairs_head, pairs_tail, Row, row_at, same_page, same_page_refl, Some, subst, sym, true, ℕ, ⊤, ◌&&◌, ◌*◌, ◌++◌, ◌+◌, ◌<◌, ◌∙◌, ◌∷◌, ◌≡◌, ◌≤◌, find-append, find_nothing, map_alike, if◌then◌else◌}
+use Rattle.ksm_book.proofs.Names.{[], after_cursor, after_differs, All, All-append, All-cons, All-head, All-map, All-tail, AllPairs, and-true, and_parts, and_right, ap, append-nil, arith, before_differs, before_irrefl, Bool, cases_Bool, change_none, change_row, change_rows, comes_before, false, filter, filter-append, filter_none, find, find_none, find_passes, get_or, GuestPage, inl, InPageOrder, inr, is_before, is_next, List, map, map-append, None, not_both, Option, option_map, pairs_cross, pairs_head, pairs_tail, Row, row_at, same_page, same_page_refl, Some, subst, sym, true, ℕ, ⊤, ◌&&◌, ◌*◌, ◌++◌, ◌+◌, ◌<◌, ◌∙◌, ◌∷◌, ◌≡◌, ◌≤◌, find-append, find_nothing, map_alike, if◌then◌else◌}
 use Rattle.std.proofs.lemmas.List.{append_assoc}
 use Rattle.ksm_pages.proofs.Options.{mapped_some}
 
@@ -69,7 +69,7 @@ module _ {asked : Row → Bool} (f : Row → Row) (keeps : (r : Row) → (f r).p
   changed r = if asked r then f r else r
 
   page_kept : (r : Row) → (changed r).page ≡ r.page
-  page_kept r = grind (arith, nat_tests)
+  page_kept r = grind arith
 
   -- the next is searched among those left
   among : find (next_of last) now ≡ find (next_of last) left
@@ -78,15 +78,14 @@ module _ {asked : Row → Bool} (f : Row → Row) (keeps : (r : Row) → (f r).p
       and_right (asked (changed r)) _ (ap (after_cursor last) (page_kept r) ∙ a.behind k d lt)))
 
   agree : All (λ r. next_of last r ≡ asked r) left
-  agree = λ k d lt. grind (arith, nat_tests, lt)
+  agree = λ k d lt. grind (arith, lt)
 
   -- where no row asked for comes after the cursor, each row asked for is changed, and those left are not asked for
   pub along_end : find (next_of last) now ≡ None → (now ≡ change_rows asked f rows) × All (λ r. asked r ≡ false) left
   along_end ended =
-      let all = find_none _ _ (sym among ∙ ended) in
-      let none : All (λ r. asked r ≡ false) left = λ k d lt. sym (agree k d lt) ∙ all k d lt in (
+      let all = find_none _ _ (sym among ∙ ended) in (
         grind (arith, a.are, change_none, map-append changed done left, a.whole),
-        none,
+        λ k d lt. sym (agree k d lt) ∙ all k d lt,
       )
 
   module _ (rise : InPageOrder rows) (r : Row) (found : find (next_of last) now ≡ Some r) where
@@ -154,8 +153,7 @@ module _ {asked : Row → Bool} (f : Row → Row) (keeps : (r : Row) → (f r).p
       };
       stop =
           let test = λ (x : Row). asked x && comes_before x.page r.page in
-          let few = map_alike _ _ _ (λ k d lt. let x = get_or before k d in
-          grind (arith, first k d lt, and-true (asked x))) in
+          let few = map_alike _ _ _ (λ k d lt. grind (arith, first k d lt, and-true (asked (get_or before k d)))) in
           let none = change_none test f _ (All-cons (λ x. test x ≡ false) r _
           (and_right (asked r) _ (before_irrefl r.page)) (λ k d lt. let x = get_or rest k d in
           and_right (asked x) _ (not_both r.page x.page (behind k d lt)))) in
@@ -166,9 +164,7 @@ module _ {asked : Row → Bool} (f : Row → Row) (keeps : (r : Row) → (f r).p
   -- where a search tells a page as the next one asked for after the cursor, the rows are cut at that page
   pub along_cut : InPageOrder rows → (page : GuestPage) → option_map (λ r. r.page) (find (next_of last) now) ≡ Some page
       → IsCut asked f rows now done page
-  along_cut rise page told =
-      let at = mapped_some _ _ _ told in
-      grind (arith, at.2, cut_there)
+  along_cut rise page told = grind (arith, (mapped_some _ _ _ told).2, cut_there)
 
 -- ---------------------------------------------------------------- how far the cursor is
 
@@ -185,7 +181,7 @@ FitsPage (Some p) = (p.guest < 65536) × (p.page < 4294967296)
 -- the next page of a guest, or of all, after a cursor that fits has a greater position than the cursor
 pub further : (guest : Option ℕ) (last : Option GuestPage) (rows : List Row) (page : GuestPage) → FitsPage last
     → option_map (λ r. r.page) (find (is_next guest last) rows) ≡ Some page → position last < position (Some page)
-further guest last rows page fits told = grind (arith, nat_tests, mapped_some, find_passes, and_parts)
+further guest last rows page fits told = grind (arith, mapped_some, find_passes, and_parts)
 
 -- the position of a cursor that fits is 2^48 at most
 pub not_far : (last : Option GuestPage) → FitsPage last → position last ≤ 281474976710656

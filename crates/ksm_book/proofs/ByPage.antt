@@ -1,5 +1,5 @@
 -- Rows that change at one page: what becomes of what holds of each row, and of how many lie on a frame.
-use Rattle.ksm_book.proofs.Names.{All, All-map, ap, arith, Bool, change_row, cond, cond_both, count_with_row, count_without_page, counts_one, eq-eqb, false, filter_passes, find_all, find_none, find_passes, Frames, get_or, GuestPage, InPageOrder, is_frame, lies_on, List, map, None, not, not-true, one_of_each_page, Option, refl, Row, row_at, same_page, same_page_eq, same_page_refl, Some, subst, sym, true, uses, with_row, without_page, ℕ, ◌+◌, ◌∙◌, ◌≡◌, ◌≢◌, ◌≤◌, ◌⊎◌, count_alike, count_mapped, map_mapped, find_changed, if◌then◌else◌, nat_tests}
+use Rattle.ksm_book.proofs.Names.{All, All-map, ap, arith, Bool, change_row, cond, cond_both, count_with_row, count_without_page, counts_one, eq-eqb, false, filter_passes, find_all, find_none, find_passes, Frames, get_or, GuestPage, InPageOrder, is_frame, lies_on, List, map, None, not, not-true, one_of_each_page, Option, refl, Row, row_at, same_page, same_page_eq, same_page_refl, Some, subst, sym, true, uses, with_row, without_page, ℕ, ◌+◌, ◌∙◌, ◌≡◌, ◌≢◌, ◌≤◌, ◌⊎◌, count_alike, count_mapped, map_mapped, find_changed, if◌then◌else◌}
 
 -- frames that are equal at each page are equal
 pub same_frames : (f g : Frames) → ((page : GuestPage) → f page ≡ g page) → f ≡ g
@@ -13,7 +13,7 @@ one_at f o = cond (is_frame f o) 1 0
 
 -- a page on the frame counts once for it
 pub one_same : (f : ℕ) {o : Option ℕ} → o ≡ Some f → one_at f o ≡ 1
-one_same f e = grind (arith, nat_tests, e)
+one_same f e = grind (arith, e)
 
 -- a frame that passes the test for frame f is f
 pub is_that : (f : ℕ) (o : Option ℕ) → is_frame f o ≡ true → o ≡ Some f
@@ -90,7 +90,7 @@ module _ (f : ℕ) (page : GuestPage) (o : Option ℕ) (frame : Frames) where
 
   -- where no row is of the page, as many lie on the frame as did
   apart_uses : (rows : List Row) → All (λ r. same_page r.page page ≡ false) rows → uses f (lies_on page o frame) rows ≡ uses f frame rows
-  apart_uses rows apart = grind (arith, nat_tests, apart, count_alike, off_page)
+  apart_uses rows apart = grind (arith, apart, count_alike, off_page)
 
   -- where the row of a page goes, one row less lies on the frame if the page lay there, else as many
   pub uses_gone : (rows : List Row) (row : Row) → InPageOrder rows → row_at page rows ≡ Some row → uses f (lies_on page o frame) (without_page page rows) + one_at f (frame page) ≡ uses f frame rows
@@ -116,7 +116,6 @@ pub uses_come : (f : ℕ) (o : Option ℕ) (frame : Frames) (row : Row) (rows : 
 uses_come f o frame row rows absent =
     grind (
       arith,
-      nat_tests,
       apart_uses f row.page o frame rows (find_none (λ r. same_page r.page row.page) rows absent),
       on_page row.page o frame row.page (same_page_refl row.page),
       count_with_row,
@@ -129,7 +128,7 @@ uses_some f frame rows = λ i d lt e. counts_one _ _ i d lt (is_it f e)
 -- a change of a page's row, and then another, are one change where the second makes the same of both
 pub change_twice : (page : GuestPage) (c d e : Row → Row) (rows : List Row) → ((r : Row) → (c r).page ≡ r.page) → All (λ r. same_page r.page page ≡ true → d (c r) ≡ e r) rows
     → change_row page d (change_row page c rows) ≡ change_row page e rows
-change_twice page c d e rows keeps same = grind (arith, nat_tests, keeps, same, map_mapped)
+change_twice page c d e rows keeps same = grind (arith, keeps, same, map_mapped)
 
 -- where the row of a page changes, the changed row is found at the page
 pub at_changed : (page : GuestPage) (c : Row → Row) (rows : List Row) (row : Row) → ((r : Row) → (c r).page ≡ r.page) → row_at page rows ≡ Some row → row_at page (change_row page c rows) ≡ Some (c row)

@@ -27,9 +27,8 @@ pub scanning_is : (n : ℕ) (b : BookState) (frame : Frames) → scanning n b fr
 scanning_is zero b frame = refl
 scanning_is (suc n) b frame =
     let s = visits_beside doing n (b, idle frame) in
-    let c = visit_begun s.0 in
     let so_far = scanning_is n b frame in
-    grind (arith, so_far, beside_state doing n (b, idle frame), by)
+    grind (arith, so_far, beside_state doing n (b, idle frame), by, visit_begun s.0)
   where
     by : (c : BookState) (deed : Deed) (o : Option Row) → then_doing deed (visiting_of c deed.frame o) ≡ (next_visited doing (c, deed) o).1
     by c deed None = then_idle _

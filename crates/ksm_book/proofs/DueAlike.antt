@@ -1,5 +1,5 @@
 -- Visits of pages do what those of the definitions do, where the rows further on that still wait are hidden from these.
-use Rattle.ksm_book.proofs.Names.{[], All, All-cons, All-head, All-map, and_parts, ap, append_assoc, AreAscending, arith, before_irrefl, best_dup, BookState, Bool, cases_Bool, change_row, change_rows, comes_before, comes_later, cond_both, count_mapped, Deed, doing, due_row_visited, due_visited, due_visits, dup_frame, DupRow, each_at_page, empty_from, emptying, false, filter, filter-append, filter_all, filter_none, find, find_all, find_mapped, find_none, find_nothing, find_passes, Frames, get_or, GuestPage, handled, handling, has_item, hidden, if◌then◌else◌, inl, inr, is_for_zero, is_no_rival, is_none, is_restless, IsSound, item_count, Knobs, List, list_all, map_alike, map_mapped, may_join, mergeable_pages, Merged, merged_into, nat_lt, new_place, None, not, not-true, not_both, Option, option_map, page, page_visited, pages_visited, PageState, paired, pairing, pairs_cross, pairs_head, pairs_tail, partner, place_count, place_or, private_state, refl, restless_at, restless_row, Row, row_at, row_visited, same_page, same_page_eq, same_page_refl, same_page_sym, seen, settled, settled_calmer, settled_state, shared_state, Some, sound_changed, sound_row_visited, stayed, staying, subst, sym, taken_over, takes_over, tells_waits, then_doing, tree_of, true, true≢false, visited, Waiting, waiting_not_private, waiting_state, waits_for, waits_tells, with_dup, with_none_waiting, Zero, ℕ, ◌&&◌, ◌++◌, ◌+◌, ◌==◌, ◌||◌, ◌∙◌, ◌∷◌, ◌≡◌, nat_tests}
+use Rattle.ksm_book.proofs.Names.{[], All, All-cons, All-head, All-map, and_parts, ap, append_assoc, AreAscending, arith, before_irrefl, best_dup, BookState, Bool, cases_Bool, change_row, change_rows, comes_before, comes_later, cond_both, count_mapped, Deed, doing, due_row_visited, due_visited, due_visits, dup_frame, DupRow, each_at_page, empty_from, emptying, false, filter, filter-append, filter_all, filter_none, find, find_all, find_mapped, find_none, find_nothing, find_passes, Frames, get_or, GuestPage, handled, handling, has_item, hidden, if◌then◌else◌, inl, inr, is_for_zero, is_no_rival, is_none, is_restless, IsSound, item_count, Knobs, List, list_all, map_alike, map_mapped, may_join, mergeable_pages, Merged, merged_into, nat_lt, new_place, None, not, not-true, not_both, Option, option_map, page, page_visited, pages_visited, PageState, paired, pairing, pairs_cross, pairs_head, pairs_tail, partner, place_count, place_or, private_state, refl, restless_at, restless_row, Row, row_at, row_visited, same_page, same_page_eq, same_page_refl, same_page_sym, seen, settled, settled_calmer, settled_state, shared_state, Some, sound_changed, sound_row_visited, stayed, staying, subst, sym, taken_over, takes_over, tells_waits, then_doing, tree_of, true, true≢false, visited, Waiting, waiting_not_private, waiting_state, waits_for, waits_tells, with_dup, with_none_waiting, Zero, ℕ, ◌&&◌, ◌++◌, ◌+◌, ◌==◌, ◌||◌, ◌∙◌, ◌∷◌, ◌≡◌}
 use Rattle.ksm_base.specs.declared.row.PageState.TheVariants.{Private}
 use Rattle.ksm_book.proofs.ByPage.{found_page, row_of_page}
 use Rattle.ksm_book.proofs.Doing.{then_idle}
@@ -61,7 +61,7 @@ hidden_all b s = λ t. record b { rows = map_alike (calmed (is_among pages)) set
     pages = mergeable_pages b.rows
 
     each : All (λ r. calmed (is_among pages) r ≡ settled r) b.rows
-    each k d lt = grind (arith, nat_tests, mergeable_has, waits_mergeable, stays_settled)
+    each k d lt = grind (arith, mergeable_has, waits_mergeable, stays_settled)
 
 -- with the rows of no page hidden the book is as it is
 pub hidden_none : (b : BookState) → hidden [] b ≡ b
@@ -71,13 +71,13 @@ hidden_none b = grind (arith, map-id b.rows)
 
 module _ (test : Row → Bool) where
   calmed_page : (r : Row) → (calmed test r).page ≡ r.page
-  calmed_page r = grind (arith, nat_tests)
+  calmed_page r = grind arith
 
   calmed_merged : (n : ℕ) (r : Row) → merged_into n (calmed test r).state ≡ merged_into n r.state
-  calmed_merged n r = grind (arith, nat_tests, merged_still)
+  calmed_merged n r = grind (arith, merged_still)
 
   calmed_restless : (r : Row) → is_restless (calmed test r) ≡ is_restless r
-  calmed_restless r = grind (arith, nat_tests, shared_still)
+  calmed_restless r = grind (arith, shared_still)
 
   module _ (rows : List Row) where
     abbrev calm_rows : List Row
@@ -228,7 +228,7 @@ module _ (later : List GuestPage) (b : BookState) (r : Row) (fresh : has_item r.
       near_w = found_open near w found
 
       apart : (q : GuestPage) → (same_page q w.page || same_page q r.page) ≡ true → has_item q later ≡ false
-      apart q one = grind (arith, nat_tests, one, same_page_eq q w.page, same_page_eq q r.page, near_w, fresh)
+      apart q one = grind (arith, one, same_page_eq q w.page, same_page_eq q r.page, near_w, fresh)
 
   pairing_alike : (frame : Frames) → NoneCovered
       → pairing (partner b.knobs covered.rows r) covered frame (settled r)
@@ -255,7 +255,7 @@ module _ (later : List GuestPage) (b : BookState) (r : Row) (fresh : has_item r.
       where
         by : (e : Option DupRow) → o ≡ e → handled e covered (settled r) ≡ hidden later (handled e b r)
         by (Some d) is = grind (arith, becomes_alike (Merged d.number))
-        by None is = grind (arith, nat_tests, is, stayed_alike is, chosen, own_change)
+        by None is = grind (arith, is, stayed_alike is, chosen, own_change)
 
     staying_alike : (frame : Frames) → o ≡ None → r.unchanged ≡ true
         → staying covered frame (settled r) ≡ staying b frame r
@@ -268,7 +268,7 @@ module _ (later : List GuestPage) (b : BookState) (r : Row) (fresh : has_item r.
     handling_alike frame = by o refl
       where
         by : (e : Option DupRow) → o ≡ e → handling e covered frame (settled r) ≡ handling e b frame r
-        by (Some d) is = grind (arith, nat_tests, is, dup_frame_kept)
+        by (Some d) is = grind (arith, is, dup_frame_kept)
         by None is = chosen (λ x. x) _ _ _ _ _ (staying_alike frame is) (λ _. refl)
 
   -- where a visit may change the row, and no row that waits for it is hidden if it is to wait, its visit does the same
@@ -278,7 +278,7 @@ module _ (later : List GuestPage) (b : BookState) (r : Row) (fresh : has_item r.
       → visited doing (covered, deed) (Some (settled r))
       ≡ (hidden later (visited doing (b, deed) (Some r)).0, (visited doing (b, deed) (Some r)).1)
   visit_alike deed is near =
-      grind (arith, nat_tests, best_kept (is_among pages) b.rows b.knobs r b.dups, shared_still, visited_by, handled_alike, handling_alike)
+      grind (arith, best_kept (is_among pages) b.rows b.knobs r b.dups, shared_still, visited_by, handled_alike, handling_alike)
 
 -- ---------------------------------------------------------------- a row takes over
 
@@ -465,7 +465,7 @@ module _ (b : BookState) (s : IsSound b) where
     scanned q = has_item q (mergeable_pages b.rows)
 
     fresh : has_item r.page later ≡ false
-    fresh = grind (arith, nat_tests, before_irrefl r.page)
+    fresh = grind (arith, before_irrefl r.page)
 
     -- a row further on that waits is of one of the pages further on
     further_on : (w : Row) → partner b.knobs b.rows r ≡ Some w → comes_before r.page w.page ≡ true

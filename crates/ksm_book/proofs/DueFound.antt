@@ -1,6 +1,6 @@
 -- The visit of a page that is due, by what was found of it: it takes over from none, but where a row further on waits
 -- for it; and which pages are due then.
-use Rattle.ksm_book.proofs.Names.{and_from, and_right, ap, AreDue, arith, Best, best_dup, BookState, BookValue, BookView, Bool, change_row, change_rows, Comes, comes_before, comes_later, cond_both, Deed, doing, Dup, due_visited, DupRow, false, find_mapped, find_passes, FindsAt, get_or, GuestPage, has_item, HasStayed, if◌then◌else◌, InPageOrder, is_for_zero, is_none, is_restless, IsDueNoMore, IsSound, KeeperView, List, MatchOption, Merged, None, not, not_both, one_before, Option, option_map, or_cases, page_visited, PagesView, paired, PageState, Partner, partner, Reached, refl, restless_at, restless_row, Row, row_at, row_visited, same_page, same_page_eq, same_page_refl, same_Some, shared_state, Some, state_of, StaysBefore, subst, sym, takes_over, TakesOverFrom, true, view_of, VisitsPage, waits_for, waits_tells, Zero, ℕ, ◌&&◌, ◌||◌, ◌∙◌, ◌∷◌, ◌≡◌, nat_tests}
+use Rattle.ksm_book.proofs.Names.{and_from, and_right, ap, AreDue, arith, Best, best_dup, BookState, BookValue, BookView, Bool, change_row, change_rows, Comes, comes_before, comes_later, cond_both, Deed, doing, Dup, due_visited, DupRow, false, find_mapped, find_passes, FindsAt, get_or, GuestPage, has_item, HasStayed, if◌then◌else◌, InPageOrder, is_for_zero, is_none, is_restless, IsDueNoMore, IsSound, KeeperView, List, MatchOption, Merged, None, not, not_both, one_before, Option, option_map, or_cases, page_visited, PagesView, paired, PageState, Partner, partner, Reached, refl, restless_at, restless_row, Row, row_at, row_visited, same_page, same_page_eq, same_page_refl, same_Some, shared_state, Some, state_of, StaysBefore, subst, sym, takes_over, TakesOverFrom, true, view_of, VisitsPage, waits_for, waits_tells, Zero, ℕ, ◌&&◌, ◌||◌, ◌∙◌, ◌∷◌, ◌≡◌}
 use Rattle.ksm_base.specs.declared.row.PageState.TheVariants.{Private}
 use Rattle.ksm_pages.specs.declared.pages.Find.TheVariants as finds
 use Rattle.ksm_pages.specs.Paged.{Finds}
@@ -45,7 +45,7 @@ module _ (b : BookState) (row : Row) where
 
   takes : best_dup b.knobs b.rows b.dups row ≡ None → row.unchanged ≡ true → is_for_zero b.knobs row ≡ false
       → (w : Row) → partner b.knobs b.rows row ≡ Some w → comes_before row.page w.page ≡ true → takes_over b row ≡ true
-  takes best is zeroes w waits before = grind (arith, nat_tests, and_from)
+  takes best is zeroes w waits before = grind (arith, and_from)
 
 -- where the row of a page takes over from none, its visit is that of the definitions
 is_visited : (s : BookState × Deed) (page : GuestPage) → TakesNone page s.0 → due_visited doing s page ≡ page_visited doing s page
@@ -167,7 +167,7 @@ module _ {p q : PagesView} {k : KeeperView} {cursor : Option GuestPage} {passes 
     partner_calm =
         rw ((stayed_is (state_of p cursor passes) p.frame at.row false stays).0 ∙ ap (λ o. paired o (state_of p cursor passes) at.row) met.1)
         (calm_then page p.rows at.row (λ r. same_page r.page met.0.page || same_page r.page at.row.page) (Merged p.next) refl at.found
-        (let same = same_page_refl at.row.page in grind arith))
+        (grind (arith, same_page_refl at.row.page)))
 
     -- a page that meets no earlier one is to wait in the stead of the other
     pub partner_takes : comes_before other page ≡ false → MatchOption (row_at page p.rows) (true ≡ false) (TakesOverFrom (state_of p cursor passes) other)
@@ -194,7 +194,7 @@ module _ {p q : PagesView} {k : KeeperView} {cursor : Option GuestPage} {passes 
       f r = record r { unchanged = true; state = Private }
 
       back : (g : GuestPage) → has_item g (at.row.page ∷ due) ≡ true → has_item g due ≡ true
-      back g is = grind (arith, nat_tests, is, page_is at, or_cases, same_page_eq)
+      back g is = grind (arith, is, page_is at, or_cases, same_page_eq)
 
 -- a search that found a page gone changed nothing
 pub gone_same : (p q : PagesView) (page : GuestPage) → Finds p q page finds.Gone → q ≡ p

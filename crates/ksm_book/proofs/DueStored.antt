@@ -25,9 +25,8 @@ module _ (b : BookState) (page : GuestPage) (bytes : List ℕ) (row : Row) (page
   calm out r at restless =
       let is = subst (λ x. is_restless x ≡ true)
       (sym (same_Some _ r (sym (at_changed page (stored bytes) b.rows row (λ x. refl) found) ∙ at))) restless in
-      let before = and_from _ _ (and_parts _ true is).0 (not_from_false _ own) in
       let on = find_all (λ x. same_page x.page page) (λ x. is_restless x ≡ true → has_item x.page pages ≡ false → waits_on b x ≡ true) b.rows row found
-      was before (grind (arith, found_page, out)) in
+      was (and_from _ _ (and_parts _ true is).0 (not_from_false _ own)) (grind (arith, found_page, out)) in
       absurd (both_ways (has_item page pages) out (waits (on_tells b row on).waiting))
 
   -- what is due stays so

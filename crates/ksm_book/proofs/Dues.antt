@@ -1,5 +1,5 @@
 -- The pages that are due, as they are kept: which there are once one came or went, and the first behind a cursor.
-use Rattle.ksm_book.proofs.Names.{[], after_cursor, All, All-cons, All-map, any-filter_same, append-nil, AreDue, arith, BookState, length, before_irrefl, Bool, cases_Bool, comes_before, Err, false, filter, find, get_or, GuestPage, has_item, inl, inr, is_some, List, list_any, map, MatchOption, nat_tests, None, not, not_both, Ok, Option, pages_ordered, pairs_head, pairs_tail, refl, Result, same_page, same_page_eq, same_page_refl, Some, subst, sym, true, true≢false, ◌&&◌, ◌++◌, ◌||◌, ◌==◌, ◌∙◌, ◌∷◌, ◌≡◌, if◌then◌else◌}
+use Rattle.ksm_book.proofs.Names.{[], after_cursor, All, All-cons, All-map, any-filter_same, append-nil, AreDue, arith, BookState, length, before_irrefl, Bool, cases_Bool, comes_before, Err, false, filter, find, get_or, GuestPage, has_item, inl, inr, is_some, List, list_any, map, MatchOption, None, not, not_both, Ok, Option, pages_ordered, pairs_head, pairs_tail, refl, Result, same_page, same_page_eq, same_page_refl, Some, subst, sym, true, true≢false, ◌&&◌, ◌++◌, ◌||◌, ◌==◌, ◌∙◌, ◌∷◌, ◌≡◌, if◌then◌else◌}
 use Rattle.std.proofs.lemmas.List.Folds.{list_any-append}
 use Rattle.std.specs.Prelude.{OnErr, OnOk}
 use Rattle.ksm_pages.specs.Held.{pages_of}
@@ -29,7 +29,7 @@ joined x (m ∷ some) more = grind (arith, joined x some more)
 
 picked : (u : GuestPage → Bool) (x : GuestPage) (order : List Named)
     → has_item x (pages_in (filter (λ m. u m.page) order)) ≡ (u x && has_item x (pages_in order))
-picked u x order = grind (arith, nat_tests, any_named, any-filter_same, same_page_eq)
+picked u x order = grind (arith, any_named, any-filter_same, same_page_eq)
 
 -- a page that is put in is there, and the others as before
 pub has_put : (n : Named) (order : List Named) (x : GuestPage)
@@ -76,7 +76,7 @@ pub inserted_has : {T E : Type 0} (r : Result T E) (n : Named) (old new : List N
     → pages_in old ++ more ≡ pages → OnOk r (new ≡ with_named n old)
     → OnOk r ((x : GuestPage) → has_item x (pages_in new ++ more) ≡ (same_page n.page x || has_item x pages))
 inserted_has (Err e) n old new more pages same added = tt
-inserted_has (Ok u) n old new more pages same added = λ x. grind (arith, nat_tests, has_either, has_put)
+inserted_has (Ok u) n old new more pages same added = λ x. grind (arith, has_either, has_put)
 
 -- where all is ready no page was added that does not stand in order
 pub none_added : (known : Bool) (order : List Named) (added : List Spot) → (known && length added == 0) ≡ true

@@ -1,5 +1,5 @@
 -- Frames written, read, found and filled, and a dup's place that comes to name another frame.
-use Rattle.ksm_book.proofs.Names.{Add, ap, arith, blank, did, div-mul-add, Dying, Finds, FitsBase, frame_at, frames_of, Free, GenerationFits, get_or-set_other, get_or-set_same, inl, IsLawful, KeeperView, Kind, Ledger, length, length-set, List, loads, MakesSteps, mounting, None, Note, Open, PAGE_WORDS, Placed, Private, Provides, Publish, puts, Raise, raised, refl, replicate, replicate-append-replicate, same_Some, set-get_or, Shape, spent, spent_on, stepped, subst, sym, HasNewFrame, with_frame, ℕ, ◌*◌, ◌+◌, ◌-◌, ◌/◌, ◌<◌, ◌∙◌, ◌≡◌, ◌≢◌, ◌≤◌, set-set, nat_tests}
+use Rattle.ksm_book.proofs.Names.{Add, ap, arith, blank, did, div-mul-add, Dying, Finds, FitsBase, frame_at, frames_of, Free, GenerationFits, get_or-set_other, get_or-set_same, inl, IsLawful, KeeperView, Kind, Ledger, length, length-set, List, loads, MakesSteps, mounting, None, Note, Open, PAGE_WORDS, Placed, Private, Provides, Publish, puts, Raise, raised, refl, replicate, replicate-append-replicate, same_Some, set-get_or, Shape, spent, spent_on, stepped, subst, sym, HasNewFrame, with_frame, ℕ, ◌*◌, ◌+◌, ◌-◌, ◌/◌, ◌<◌, ◌∙◌, ◌≡◌, ◌≢◌, ◌≤◌, set-set}
 use Rattle.ksm_book.proofs.ByPage.{one_same, one_other}
 use Rattle.ksm_book.proofs.Keeping.{node_end, searched_placed, searched_spends, spent_kept}
 use Rattle.ksm_book.proofs.Made.{made_one, made_part, made_then}
@@ -7,7 +7,7 @@ use Rattle.ksm_book.proofs.Noted.{noted}
 
 -- a frame between a node's first and its last is on that node
 pub on_node : (node size g : ℕ) → node * size ≤ g → g < node * size + size → g / size ≡ node
-on_node node size g low high = grind (arith, nat_tests, low, high, div-mul-add)
+on_node node size g low high = grind (arith, low, high, div-mul-add)
 
 -- ---------------------------------------------------------------- one frame's note
 
@@ -40,7 +40,7 @@ module _ (v w : KeeperView) (node g : ℕ) (less : node < v.table.shape.nodes) (
 
   -- the frame found is one of the table
   pub found_inside : g < frames_of sh
-  found_inside = grind (arith, nat_tests, node_end)
+  found_inside = grind (arith, node_end)
 
   -- the frame found is one that the keeper knows
   pub found_within : g < length w.ledger.frames

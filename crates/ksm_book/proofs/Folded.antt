@@ -1,5 +1,5 @@
 -- The visits of a pass are a fold over its pages, only restless pages count, and a quiet pass is repeated by those behind it.
-use Rattle.ksm_book.proofs.Names.{[], after_cursor, All, All-head, All-tail, AllPairs-filter, and_parts, ap, append-nil, AreAscending, arith, begun, BookState, Bool, cases_Bool, comes_before, cond_both, each_at_page, false, filter, filter_all, find_all, find_passes, GuestPage, has_item, inl, InPageOrder, inr, is_none, IsBeside, IsStill, last_of, length, List, map, mergeable_pages, min, next_row, next_visited, None, not-true, Option, option_map, page_visited, pages_ahead, pages_visited, pass_at, pass_ended, pass_ended_at_last, refl, restless_at, Row, row_at, row_visited, rowwise_visits, same_page, same_page_eq, settled, shared_state, slice_get, Some, subst, suc, suc-mul, sym, true, visit, visit_begun, visit_of, visited, visits, visits_beside, with_none_waiting, zero, ℕ, ◌&&◌, ◌*◌, ◌++◌, ◌+◌, ◌-◌, ◌^◌, ◌∙◌, ◌∷◌, ◌≡◌, ◌≤◌, map_mapped, and_right, pairs_mapped, ⊤, nat_tests}
+use Rattle.ksm_book.proofs.Names.{[], after_cursor, All, All-head, All-tail, AllPairs-filter, and_parts, ap, append-nil, AreAscending, arith, begun, BookState, Bool, cases_Bool, comes_before, cond_both, each_at_page, false, filter, filter_all, find_all, find_passes, GuestPage, has_item, inl, InPageOrder, inr, is_none, IsBeside, IsStill, last_of, length, List, map, mergeable_pages, min, next_row, next_visited, None, not-true, Option, option_map, page_visited, pages_ahead, pages_visited, pass_at, pass_ended, pass_ended_at_last, refl, restless_at, Row, row_at, row_visited, rowwise_visits, same_page, same_page_eq, settled, shared_state, slice_get, Some, subst, suc, suc-mul, sym, true, visit, visit_begun, visit_of, visited, visits, visits_beside, with_none_waiting, zero, ℕ, ◌&&◌, ◌*◌, ◌++◌, ◌+◌, ◌-◌, ◌^◌, ◌∙◌, ◌∷◌, ◌≡◌, ◌≤◌, map_mapped, and_right, pairs_mapped, ⊤}
 use Rattle.ksm_book.proofs.Going.{Goes, begun_goes, elsewhere, goes_on, mergeable_kept, goes_same, settled_goes, visited_goes}
 use Rattle.ksm_book.proofs.PagesAhead.{Before, behind_first, filter_in, filter_out, has_filter, same_pages}
 use Rattle.ksm_pages.proofs.Options.{mapped_some, none_mapped}
@@ -28,7 +28,7 @@ pass_goes_on c page more is = rw (and_right _ _ (ap is_none (some_next c is).1))
 -- where a pass is under way with a page ahead, the next visit begins with nothing done
 begun_goes_on : (c : BookState) (last page : GuestPage) (more : List GuestPage) → c.cursor ≡ Some last → pages_ahead c ≡ page ∷ more
     → visit_begun c ≡ c
-begun_goes_on c last page more at is = grind (arith, nat_tests, at, is, pass_goes_on)
+begun_goes_on c last page more at is = grind (arith, at, is, pass_goes_on)
 
 ascending_mergeable : (rows : List Row) → InPageOrder rows → AreAscending (mergeable_pages rows)
 ascending_mergeable rows rise =
@@ -89,9 +89,7 @@ module _ {X : Type 0} (step : BookState → X → Row → X) where
 
   -- visits keep which pages scans visit
   pub visits_mergeable : (n : ℕ) (s : BookState × X) → mergeable_pages (visits_beside step n s).0.rows ≡ mergeable_pages s.0.rows
-  visits_mergeable n s =
-      let h = rowwise_visits n s.0 in
-      rw (beside_state n s) (grind (arith, h.rows, mergeable_kept))
+  visits_mergeable n s = rw (beside_state n s) (grind (arith, (rowwise_visits n s.0).rows, mergeable_kept))
 
   -- n visits, of which the first has begun
   abbrev goes : ℕ → BookState × X → BookState × X
@@ -189,7 +187,7 @@ module _ {X : Type 0} (step : BookState → X → Row → X) where
         mergeable = (and_parts _ _ (find_passes (λ r. r.mergeable && after_cursor c.cursor r.page) c.rows row next)).0
 
         by : (z : Bool) → shared_state row.state ≡ z → visited step s (Some row) ≡ (row_visited c row, step c s.1 row)
-        by true is = grind (arith, nat_tests, mergeable)
+        by true is = grind (arith, mergeable)
         by false is = grind (arith, mergeable, is)
 
     -- visits of pages do the same wherever the cursor stands and however many passes have ended
@@ -214,16 +212,15 @@ module _ {X : Type 0} (step : BookState → X → Row → X) where
         ≡ pass_at done left (pages_visited step (record v.0 { cursor = Some page }, v.1) done))
         → visits_beside step (length done) (pass_ended_at_last (record v.0 { cursor = Some page }), v.1)
         ≡ pass_at (page ∷ done) left (pages_visited step v done)
-    first_done page [] [] v is rest = grind (arith, nat_tests, none_next)
+    first_done page [] [] v is rest = grind (arith, none_next)
     first_done page [] (next ∷ left) v is rest = λ t. (pass_goes_on (record v.0 { cursor = Some page }) _ _ is t, v.1)
     first_done page (next ∷ done) left v is rest =
         let here : BookState = record v.0 { cursor = Some page } in
-        let after = pages_visited step v (next ∷ done) in
         let passes = ap (λ (s : BookState × X). s.0.passes) (pages_alike v.0.cursor v.0.passes (next ∷ done) v) in
         rw (pass_goes_on here _ _ is)
         (visits_go_on (suc (length done)) (here, v.1) (begun_goes_on _ _ _ _ refl is) ∙ rest (omega arith)
         ∙ ap (pass_at (next ∷ done) left) (pages_alike (Some page) v.0.passes (next ∷ done) v) ∙ (grind (arith, passes))
-        ∙ pass_moved page (next ∷ done) left after)
+        ∙ pass_moved page (next ∷ done) left (pages_visited step v (next ∷ done)))
 
     -- visits from a state in which a visit has begun
     along : (done left : List GuestPage) (s : BookState × X) → InPageOrder s.0.rows → 1 ≤ length (done ++ left)
@@ -259,14 +256,7 @@ module _ {X : Type 0} (step : BookState → X → Row → X) where
         → begun (visits_beside step (length done) s) ≡ pass_at done (next ∷ left) (pages_visited step (begun s) done)
     begun_folded s [] next left rise is = refl
     begun_folded s (page ∷ done) next left rise is =
-        grind (
-          arith,
-          nat_tests,
-          last_stands page done,
-          visits_folded s (page ∷ done) (next ∷ left) rise (omega arith) is,
-          behind_done,
-          begun_goes_on,
-        )
+        grind (arith, last_stands page done, visits_folded s (page ∷ done) (next ∷ left) rise (omega arith) is, behind_done, begun_goes_on)
 
     -- ---------------------------------------------------------------- pass after pass
 
@@ -301,7 +291,7 @@ module _ {X : Type 0} (step : BookState → X → Row → X) where
 
         again_times : (times passes : ℕ) → passes ≤ 2 ^ 64 - 1
             → visits_beside step (times * length all) (ended passes) ≡ ended (min (passes + times) (2 ^ 64 - 1))
-        again_times zero passes small = grind (arith, nat_tests)
+        again_times zero passes small = grind arith
         again_times (suc times) passes small =
             let so_far = min (passes + times) (2 ^ 64 - 1) in
             beside_on (times * length all) (length all) (suc times * length all) (ended passes) (omega (arith, suc-mul times (length all)))

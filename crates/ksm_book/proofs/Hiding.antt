@@ -1,5 +1,5 @@
 -- Rows that wait no more: that of a page with a frame of its own, and those from a page on, one after another.
-use Rattle.ksm_book.proofs.Names.{[], All, ap, BookState, BookValue, Bool, change_row, change_rows, Comes, comes_before, cond_both, every_row, false, find, get_or, GuestPage, InPageOrder, inl, IsAlone, is_next, IsLaid, IsSound, KeeperView, List, MatchOption, None, not, on_its_own, Option, option_map, ordered_change, PageState, PagesValue, PagesView, refl, Row, row_at, same_page, same_page_eq, seen, settled, settled_calmer, settled_state, shared_state, Some, sound_changed, state_of, sym, true, true≢false, ℕ, ◌∙◌, ◌∷◌, ◌++◌, ◌≡◌, ◌⊎◌, if◌then◌else◌, map_alike, arith, nat_tests}
+use Rattle.ksm_book.proofs.Names.{[], All, ap, BookState, BookValue, Bool, change_row, change_rows, Comes, comes_before, cond_both, every_row, false, find, get_or, GuestPage, InPageOrder, inl, IsAlone, is_next, IsLaid, IsSound, KeeperView, List, MatchOption, None, not, on_its_own, Option, option_map, ordered_change, PageState, PagesValue, PagesView, refl, Row, row_at, same_page, same_page_eq, seen, settled, settled_calmer, settled_state, shared_state, Some, sound_changed, state_of, sym, true, true≢false, ℕ, ◌∙◌, ◌∷◌, ◌++◌, ◌≡◌, ◌⊎◌, if◌then◌else◌, map_alike, arith}
 use Rattle.ksm_pages.proofs.Resting.{rests}
 use Rattle.ksm_book.specs.Due.{hidden_from}
 use Rattle.ksm_book.proofs.Along.{along_cut, along_end, FitsPage, IsAlong, IsCut}
@@ -16,7 +16,7 @@ one_by b x y z same = grind arith
 -- two changes of the row of a page come to the same where they do at each row of that page
 alike_at : (page : GuestPage) (f g : Row → Row) (rows : List Row)
     → All (λ r. same_page r.page page ≡ true → f r ≡ g r) rows → change_row page f rows ≡ change_row page g rows
-alike_at page f g rows same = grind (arith, nat_tests, same, map_alike, one_by)
+alike_at page f g rows same = grind (arith, same, map_alike, one_by)
 
 -- ---------------------------------------------------------------- a page with a frame of its own
 
@@ -29,8 +29,7 @@ alone_settled page rows rise alone = by _ refl alone
         → change_row page on_its_own rows ≡ change_row page settled rows
     by None found none = absurd (true≢false none)
     by (Some row) found own =
-        let same : on_its_own row ≡ settled row = grind (arith, rests) in
-        alike_at _ _ _ _ (λ k d lt is. rw (row_of_page _ _ row rise found k d lt is) same)
+        alike_at _ _ _ _ (λ k d lt is. rw (row_of_page _ _ row rise found k d lt is) (grind (arith, rests)))
 
 module _ {p q : PagesView} (page : GuestPage) (goes : q ≡ record p { rows = change_row page settled p.rows }) where
   -- the book stays sound where a page waits no more
@@ -63,7 +62,7 @@ abbrev pub hides : GuestPage → Row → Row
 hides page r = if not (comes_before r.page page) then settled r else r
 
 hides_kept : (page : GuestPage) (r : Row) → (hides page r).page ≡ r.page
-hides_kept page r = grind (arith, nat_tests)
+hides_kept page r = grind arith
 
 -- a shared state is settled
 shared_settled : (state : PageState) → shared_state state ≡ true → settled_state state ≡ state
@@ -71,7 +70,7 @@ shared_settled state is = grind arith
 
 -- a shared row stays as it is
 shared_stays : (page : GuestPage) (r : Row) → shared_state r.state ≡ true → hides page r ≡ r
-shared_stays page r is = grind (arith, nat_tests, is, shared_settled)
+shared_stays page r is = grind (arith, is, shared_settled)
 
 -- so does one whose page comes before
 before_stays : (page : GuestPage) (r : Row) → comes_before r.page page ≡ true → hides page r ≡ r

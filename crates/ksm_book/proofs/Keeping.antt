@@ -1,5 +1,5 @@
 -- The keeper's steps as changes of a placement, and the lives that they spend.
-use Rattle.ksm_book.proofs.Names.{[], Add, added, All, All-filter, All-head, All-tail, arith, blank, Bool, cases_lt, cond, count_in, did, DupRow, Dying, dying_kind, dying_on, false, Filling, filter_passes, FitsBase, frame_at, Frames, frames_of, Free, GenerationFits, get_or, get_or-range_with_len, get_or_past, IfSome, inr, KeeperView, Kind, leaving, Ledger, ledger_after, length, length-range_with_len, List, MakesSteps, map, May, nat_tests, ne_eqb, None, Note, Option, past_lives, Placed, Private, range_with_len, Reap, reaped, refl, Retired, Row, same_Some, set, Shape, Some, spent, spent_on, Stable, Sub, subst, suc, sum_by, sum_by-cons, sum_by-set, sym, true, with_frame, zero, ℕ, ◌*◌, ◌+◌, ◌-◌, ◌<◌, ◌==◌, ◌∷◌, ◌≡◌, ◌≢◌, ◌≤◌, cond_both}
+use Rattle.ksm_book.proofs.Names.{[], Add, added, All, All-filter, All-head, All-tail, arith, blank, Bool, cases_lt, cond, count_in, did, DupRow, Dying, dying_kind, dying_on, false, Filling, filter_passes, FitsBase, frame_at, Frames, frames_of, Free, GenerationFits, get_or, get_or-range_with_len, get_or_past, IfSome, inr, KeeperView, Kind, leaving, Ledger, ledger_after, length, length-range_with_len, List, MakesSteps, map, May, ne_eqb, None, Note, Option, past_lives, Placed, Private, range_with_len, Reap, reaped, refl, Retired, Row, same_Some, set, Shape, Some, spent, spent_on, Stable, Sub, subst, suc, sum_by, sum_by-cons, sum_by-set, sym, true, with_frame, zero, ℕ, ◌*◌, ◌+◌, ◌-◌, ◌<◌, ◌==◌, ◌∷◌, ◌≡◌, ◌≢◌, ◌≤◌, cond_both}
 use Rattle.ksm_book.proofs.ByPage.{one_same, one_other}
 use Rattle.ksm_book.proofs.Made.{first_made, none_made, step_made}
 use Rattle.ksm_book.proofs.Noted.{noted}
@@ -33,7 +33,7 @@ last_given : (last n : ℕ) (kind : Kind) → n ≡ last → GenerationFits last
 last_given last n kind e h = grind arith
 
 lived_reaped : (last n : ℕ) (kind : Kind) (c : Bool) → c ≡ (n == last) → GenerationFits last kind n → GenerationFits last (cond c Retired Free) n
-lived_reaped last n kind true e h = (last_given _ n _ (grind (arith, nat_tests)) h, lives_most _ n _ h)
+lived_reaped last n kind true e h = (last_given _ n _ (grind arith) h, lives_most _ n _ h)
 lived_reaped last n kind false e h = let ne : n ≢ last = λ is. grind arith in omega (arith, lives_most _ n _ h)
 
 -- the lives in which a frame does not hold one page alone are among those that it had
@@ -57,7 +57,7 @@ spent_kept k g fr le = by _ g le
 
 -- a frame with a reference is one that the keeper knows
 pub held_within : (k : Ledger) (f : ℕ) → 1 ≤ (frame_at k f).base → f < length k.frames
-held_within k f some = grind (arith, nat_tests, cases_lt, get_or_past)
+held_within k f some = grind (arith, cases_lt, get_or_past)
 
 -- a frame in hand is one of the table, and has a reference
 pub held_inside : {sh : Shape} {across : ℕ} {k : Ledger} {rows : List Row} {frame : Frames} {dups : List DupRow} {g : ℕ} → Placed sh across k rows frame dups (Some g)
@@ -97,8 +97,8 @@ left_placed {v} {w} (Some g) m {sh} {across} {rows} {frame} {dups} p =
 
 -- a reference given back ends no life
 pub left_spends : {v w : KeeperView} (o : Option ℕ) → MakesSteps v w (leaving o) → spent v.ledger ≤ spent w.ledger
-left_spends None m = grind (arith, nat_tests, m, none_made m)
-left_spends (Some g) m = grind (arith, nat_tests, step_made m, spent_kept, past_le)
+left_spends None m = grind (arith, m, none_made m)
+left_spends (Some g) m = grind (arith, step_made m, spent_kept, past_le)
 
 -- ---------------------------------------------------------------- a reference comes
 
@@ -120,7 +120,7 @@ added_placed {v} {w} {g} m stable {sh} {across} {rows} {frame} {dups} inside p =
 
 -- a reference that came ends no life
 pub added_spends : {v w : KeeperView} {g : ℕ} → MakesSteps v w (Add g ∷ []) → spent v.ledger ≤ spent w.ledger
-added_spends {v} {w} {g} m = grind (arith, nat_tests, step_made m, spent_kept v.ledger g (added (frame_at v.ledger g)) (omega arith))
+added_spends {v} {w} {g} m = grind (arith, step_made m, spent_kept v.ledger g (added (frame_at v.ledger g)) (omega arith))
 
 -- ---------------------------------------------------------------- frames are reaped
 
@@ -189,7 +189,7 @@ reaps_placed (f ∷ fs) v w m across rows frame dups hand left p =
     (reap_placed sh _ f _ _ _ _ _ _ (All-head (IsLeft sh v.ledger) f fs left) p)
 
 reaps_spend : (fs : List ℕ) (v w : KeeperView) → MakesSteps v w (map Reap fs) → spent v.ledger ≤ spent w.ledger
-reaps_spend [] v w m = grind (arith, nat_tests, m, none_made m)
+reaps_spend [] v w m = grind (arith, m, none_made m)
 reaps_spend (f ∷ fs) v w m =
     let first = first_made m in
     omega (arith, reap_spends v.table.shape v.ledger f first.0, reaps_spend fs (did v (Reap f) first.0) w first.1)

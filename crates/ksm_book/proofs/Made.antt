@@ -1,5 +1,5 @@
 -- Parts of a log, and lists of steps that were made, one after the other.
-use Rattle.ksm_book.proofs.Names.{length-take-le, [], along, ap, append-nil, append_assoc, arith, Allocates, did, drop, get_or, given_by, Gives, IsNeeded, KeeperStep, KeeperView, Ledger, ledger_after, length, List, Log, MakesSteps, map-append, needed_after, Option, refl, replayed, set, Shape, stepped, steps_of, suc, sym, take, take_more, zero, ℕ, ◌++◌, ◌+◌, ◌<◌, ◌∙◌, ◌∷◌, ◌≡◌, nat_tests}
+use Rattle.ksm_book.proofs.Names.{length-take-le, [], along, ap, append-nil, append_assoc, arith, Allocates, did, drop, get_or, given_by, Gives, IsNeeded, KeeperStep, KeeperView, Ledger, ledger_after, length, List, Log, MakesSteps, map-append, needed_after, Option, refl, replayed, set, Shape, stepped, steps_of, suc, sym, take, take_more, zero, ℕ, ◌++◌, ◌+◌, ◌<◌, ◌∙◌, ◌∷◌, ◌≡◌}
 
 -- a log is replayed part by part
 pub replayed_append : (sh : Shape) (k : Ledger) (xs ys : Log) → replayed sh k (xs ++ ys) ≡ replayed sh (replayed sh k xs) ys
@@ -29,7 +29,7 @@ chained {u} {ms = ms} {ns} {xs} {ys} a b = record {
 }
 
 along_push : (step : ℕ → ℕ → KeeperStep × ℕ) (j w : ℕ) (ws : List ℕ) → along step j (ws ++ w ∷ []) ≡ along step j ws ++ step (j + length ws) w ∷ []
-along_push step j w [] = grind (arith, nat_tests)
+along_push step j w [] = grind arith
 along_push step j w (x ∷ xs) = rw (along_push step (j + 1) w xs ∙ (let e : j + 1 + length xs ≡ j + suc (length xs) = omega arith in ap (λ i. along step (j + 1) xs ++ step i w ∷ []) e))
 
 -- a step was made for each of the first words, and now for one more
@@ -48,7 +48,7 @@ pub word_written : (ws cs : List ℕ) (i : ℕ) → length cs ≡ length ws → 
 word_written [] cs i same lt = absurd (omega arith)
 word_written (w ∷ ws) [] i same lt = absurd (omega arith)
 word_written (w ∷ ws) (c ∷ cs) zero same lt = refl
-word_written (w ∷ ws) (c ∷ cs) (suc i) same lt = grind (arith, nat_tests, word_written ws cs i (omega arith) (omega arith))
+word_written (w ∷ ws) (c ∷ cs) (suc i) same lt = grind (arith, word_written ws cs i (omega arith) (omega arith))
 
 -- ---------------------------------------------------------------- steps, and no others
 

@@ -1,5 +1,5 @@
 -- What each step of a command does to a placement.
-use Rattle.ksm_book.proofs.Names.{Agrees, All, All-filter, All-map, All-weaker, all_with_row, ap, arith, both_ways, cases_lt, change_row, cond_both, DupFits, DupRow, eq-eqb, false, filter, filter_passes, find_all, find_none, FitsBase, frame_at, Frames, frames_of, GenerationFits, get_or, get_or-set_other, get_or-set_same, GuestPage, if◌then◌else◌, in_hand, inl, InPageOrder, inr, is_frame, is_some, IsInLife, IsServed, item_count, Kind, kind_for, Ledger, length, length-set, lies_on, Life, life_or, List, lt-ltb, map, Merged, merged_into, named_at, nat_lt, nat_tests, None, not, not-true, Note, Option, ordered_change, PAGE_WORDS, PageState, place_frame, place_life, Placed, Private, refl, Row, row_at, RowFits, same_page, same_page_refl, set, Shape, shared_state, Some, Stable, subst, sym, true, uses, with_dup, with_frame, with_row, without_page, Zero, zero_state, ℕ, ◌+◌, ◌/◌, ◌<◌, ◌∙◌, ◌∷◌, ◌≡◌, ◌≢◌, ◌≤◌, count_alike, Contains, Contains-append_left, Contains-append_right, suc, all_with_dup}
+use Rattle.ksm_book.proofs.Names.{Agrees, All, All-filter, All-map, All-weaker, all_with_row, ap, arith, both_ways, cases_lt, change_row, cond_both, DupFits, DupRow, eq-eqb, false, filter, filter_passes, find_all, find_none, FitsBase, frame_at, Frames, frames_of, GenerationFits, get_or, get_or-set_other, get_or-set_same, GuestPage, if◌then◌else◌, in_hand, inl, InPageOrder, inr, is_frame, is_some, IsInLife, IsServed, item_count, Kind, kind_for, Ledger, length, length-set, lies_on, Life, life_or, List, lt-ltb, map, Merged, merged_into, named_at, nat_lt, None, not, not-true, Note, Option, ordered_change, PAGE_WORDS, PageState, place_frame, place_life, Placed, Private, refl, Row, row_at, RowFits, same_page, same_page_refl, set, Shape, shared_state, Some, Stable, subst, sym, true, uses, with_dup, with_frame, with_row, without_page, Zero, zero_state, ℕ, ◌+◌, ◌/◌, ◌<◌, ◌∙◌, ◌∷◌, ◌≡◌, ◌≢◌, ◌≤◌, count_alike, Contains, Contains-append_left, Contains-append_right, suc, all_with_dup}
 use Rattle.ksm_book.proofs.Noted.{by_frame, noted}
 use Rattle.ksm_book.proofs.ByPage.{all_changed_row, at_changed, change_twice, lies_again, lies_still, one_same, row_of_page, uses_some, found_page, off_page, on_page, uses_changed, uses_come, uses_gone, uses_mapped}
 use Rattle.ksm_base.proofs.Changes.{contains_filter}
@@ -96,7 +96,7 @@ all_without P d dups apart h =
             at e (Contains-append_left _ _ e (contains_filter _ _ e has (lt-ltb _ _ below)))
         | inr above ↦
             let there = contains_filter (λ y. nat_lt d.place y.place) dups e has (lt-ltb _ _ (let ne = apart k x lt in omega arith)) in
-            at e (Contains-append_right lower (d ∷ higher) e (suc there.0, (let l = there.1 in omega arith), there.2))
+            at e (Contains-append_right lower (d ∷ higher) e (suc there.0, (omega (arith, there.1)), there.2))
       ],
     )
 
@@ -135,8 +135,8 @@ module _ {sh : Shape} {across : ℕ} {k : Ledger} {rows : List Row} {frame : Fra
       (let n = m.0 in record { mapped = n.mapped; frame = n.frame; kind = n.kind; content = n.content; given = n.given; node = n.node }),
       all_with_dup (Agrees named r f) d dups
           (record {
-            item = λ into. absurd (let none = fresh i x lt in grind arith);
-            back = λ _ e. absurd (let some = uses_some g frame rows i x lt (is ∙ ap Some (e ∙ names)) in omega (arith, unused));
+            item = λ into. absurd (grind (arith, fresh i x lt));
+            back = λ _ e. absurd (omega (arith, unused, uses_some g frame rows i x lt (is ∙ ap Some (e ∙ names))));
           })
           (λ n y l. let e : DupRow = get_or dups n y in let ne = apart n y l in let a = m.1 n y l in record {
             item = λ into. let y = a.item into in (
@@ -195,7 +195,7 @@ module _ {sh : Shape} {across : ℕ} {k : Ledger} {rows : List Row} {frame : Fra
   lifted = subst (Placed sh across k bare off dups) lies (swapped None _ row rise found (λ r. refl) p refl)
 
   one : (frame_at k g).base ≡ 1
-  one = grind (arith, nat_tests)
+  one = grind arith
 
   unused : uses g off bare ≡ 0
   unused = omega (arith, one, lifted.bases g, one_same g refl)
@@ -298,7 +298,7 @@ module _ {sh : Shape} {across : ℕ} {k : Ledger} {rows : List Row} {frame : Fra
       )
     where
       only : (n : ℕ) (s : PageState) (m : ℕ) → s ≡ Merged m → merged_into n s ≡ true → n ≡ m
-      only n s m is into = grind (arith, nat_tests, is, into)
+      only n s m is into = grind (arith, is, into)
 
 -- a row in the state of another that is served by a frame, with the frame's bytes, is served by it too
 pub serves_like : (sh : Shape) (k : Ledger) (dups : List DupRow) (s r : Row) (f : ℕ) → Serves sh k dups s f → r.state ≡ s.state → (frame_at k f).content ≡ r.bytes → shared_state r.state ≡ true → Serves sh k dups r f
@@ -313,17 +313,17 @@ serves_like sh k dups s r f h same content merged = (
 -- the rows on the frame of a dup in its life are its items
 pub lies_as_item : {sh : Shape} {across : ℕ} {k : Ledger} {rows : List Row} {frame : Frames} {dups : List DupRow} (p : Placed sh across k rows frame dups None) (n : ℕ) (d : DupRow) → n < length dups → IsInLife k (get_or dups n d).place
     → All (λ r. is_frame (place_frame k (get_or dups n d).place) (frame r.page) ≡ merged_into (get_or dups n d).number r.state) rows
-lies_as_item p n d lt life i r0 l = grind (arith, nat_tests)
+lies_as_item p n d lt life i r0 l = grind arith
 
 -- the references on the frame of a dup in its life are its items
 pub base_is_items : {sh : Shape} {across : ℕ} {k : Ledger} {rows : List Row} {frame : Frames} {dups : List DupRow} (p : Placed sh across k rows frame dups None) (n : ℕ) (d : DupRow) → n < length dups → IsInLife k (get_or dups n d).place
     → (frame_at k (place_frame k (get_or dups n d).place)).base ≡ item_count rows (get_or dups n d)
-base_is_items p n d lt life = grind (arith, nat_tests, lies_as_item p n d lt life, count_alike)
+base_is_items p n d lt life = grind (arith, lies_as_item p n d lt life, count_alike)
 
 -- a dup without items has no Stable frame in the life that its place names
 pub stale_is_loose : {sh : Shape} {across : ℕ} {k : Ledger} {rows : List Row} {frame : Frames} {dups : List DupRow} (p : Placed sh across k rows frame dups None) (n : ℕ) (d : DupRow) → n < length dups → item_count rows (get_or dups n d) ≡ 0 → IsInLife k (get_or dups n d).place
     → ¬ ((frame_at k (place_frame k (get_or dups n d).place)).kind ≡ Stable)
-stale_is_loose p n d lt none life stable = grind (arith, nat_tests, stable, base_is_items p n d lt life)
+stale_is_loose p n d lt none life stable = grind (arith, stable, base_is_items p n d lt life)
 
 -- where a page joins an item with a reference in hand on the item's frame, its own frame comes into the hand
 pub joined : {sh : Shape} {across : ℕ} {k : Ledger} {rows : List Row} {frame : Frames} {dups : List DupRow} (page : GuestPage) (row item : Row) (g : ℕ) (c : Row → Row) → InPageOrder rows → row_at page rows ≡ Some row → ((r : Row) → (c r).page ≡ r.page)

@@ -32,8 +32,7 @@ module _ {sh : Shape} {across : ℕ} {k : Ledger} {rows : List Row} {frame : Fra
   -- what holds of the new note at the frame that changes, and of each other frame's note, holds of each note
   pub by_frame : (P : Note → Type 0) (h : ℕ) → (h ≡ g → P new) → (h ≢ g → P (frame_at k h)) → P (frame_at next h)
   by_frame P h here there = dite (ℕ_discrete h g)
-      (λ e. let long = p.frames_long in
-      grind (arith, get_or-set_same k.frames g new blank (omega arith), e, here e))
+      (λ e. grind (arith, get_or-set_same k.frames g new blank (omega arith), e, here e, p.frames_long))
       (λ ne. subst P (sym (get_or-set_other k.frames g h new blank ne)) (there ne))
 
   module _ (hand' : Option ℕ) (n : Follows sh.last_generation (uses g frame rows) (in_hand g hand') old new) where

@@ -1,5 +1,5 @@
 -- The visit of a page: what was found of its row, and what becomes of the book where the row alone changes.
-use Rattle.ksm_book.proofs.Names.{All, ap, arith, BookState, BookValue, BookView, change_row, Comes, Deed, doing, false, Find, FindsAt, Frames, GuestPage, HasStayed, idle, InPageOrder, inr, is_restless, IsLaid, IsSound, IsStill, KeeperView, List, lying, map, MatchOption, None, Option, page_visited, PagesView, paired, partner, Performs, refl, restless_at, restless_row, Row, row_at, row_visited, row_visiting, same_page, settled, shared_state, Some, state_of, subst, sym, then_doing, true, view_of, visited, VisitsPage, Waiting, ℕ, ◌∙◌, ◌≡◌, if◌then◌else◌, map_mapped, nat_tests}
+use Rattle.ksm_book.proofs.Names.{All, ap, arith, BookState, BookValue, BookView, change_row, Comes, Deed, doing, false, Find, FindsAt, Frames, GuestPage, HasStayed, idle, InPageOrder, inr, is_restless, IsLaid, IsSound, IsStill, KeeperView, List, lying, map, MatchOption, None, Option, page_visited, PagesView, paired, partner, Performs, refl, restless_at, restless_row, Row, row_at, row_visited, row_visiting, same_page, settled, shared_state, Some, state_of, subst, sym, then_doing, true, view_of, visited, VisitsPage, Waiting, ℕ, ◌∙◌, ◌≡◌, if◌then◌else◌, map_mapped}
 use Rattle.ksm_pages.specs.declared.pages.Find.TheVariants as finds
 use Rattle.ksm_pages.specs.Paged.{Finds, visited as row_changed}
 use Rattle.ksm_book.proofs.ByPage.{found_page, row_of_page}
@@ -43,7 +43,7 @@ shared_comes {k = k} {cursor} {passes} v w {page} at restless q same did =
 
 waiting_settles : (page : GuestPage) (rows : List Row) → All (λ r. same_page r.page page ≡ true → shared_state r.state ≡ false) rows
     → map settled (change_row page (λ r. record r { state = Waiting }) rows) ≡ map settled rows
-waiting_settles page rows alone = grind (arith, nat_tests, map_mapped)
+waiting_settles page rows alone = grind (arith, map_mapped)
 
 -- a row whose bytes have stayed, and with which none waits, waits, and no step is made
 module _ (b : BookState) (row : Row) (stays : HasStayed b false row) (alone : partner b.knobs b.rows row ≡ None) where
@@ -53,7 +53,7 @@ module _ (b : BookState) (row : Row) (stays : HasStayed b false row) (alone : pa
 
   -- the visit of a row that has stayed and has no partner does nothing to the frames
   pub waiting_is : (frame : Frames) → row_visiting b frame row ≡ idle frame
-  waiting_is frame = grind (arith, nat_tests, stayed_is)
+  waiting_is frame = grind (arith, stayed_is)
 
   -- the visit of a row that has stayed and has no partner changes nothing but which rows wait
   pub waits_still : (deed : Deed) (page : GuestPage) → InPageOrder b.rows → row_at page b.rows ≡ Some row → IsStill (b, deed)

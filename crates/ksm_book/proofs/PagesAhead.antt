@@ -218,8 +218,7 @@ same_pages (p ∷ ps) (q ∷ qs) rise rise' same =
       | inl is ↦
           rw (← same_page_eq p x is) (not_behind p ps (pairs_head Before p ps rise) ∙ sym (not_behind p qs there))
       | inr differ ↦
-          let other = ap (λ y. same_page y x) (sym first) ∙ differ in
-          grind (arith, differ, same x, other)
+          grind (arith, differ, same x, ap (λ y. same_page y x) (sym first) ∙ differ)
     ]) in
     λ t. first t ∷ rest t
 

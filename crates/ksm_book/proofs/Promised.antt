@@ -195,7 +195,7 @@ module _ (b : BookState) (k : Ledger) (s : IsSound b) (frame : Frames) (p : Plac
       record {
         life = life_or (named_at k (get_or b.dups n d).place);
         named = named_life (p.each_dup n d lt).named;
-        over = λ life. stale_is_loose p n d lt (grind (arith, nat_tests)) life;
+        over = λ life. stale_is_loose p n d lt (grind arith) life;
       }
 
   -- a sound book lies on its frames as promised, where it is placed lawfully and pages without a row lie on none

@@ -1,5 +1,5 @@
 -- Stale dups go one by one.
-use Rattle.ksm_book.proofs.Names.{[], All, All-head, All-tail, ap, append-nil, append_assoc, arith, cases_Bool, count_by, count_by-le-length, did, DupRow, elsewhere, eqb-true, false, filter, filter_all, filter_none, find, find_all, find_none, find_passes, frames_at_most, frames_of, get_or, has_items, inl, InPlaceOrder, inr, is_stale, IsLaid, IsVacant, item_count, KeeperView, length, length-append, length-filter, List, lying, MakesSteps, map, map-append, May, nat_tests, None, not, one_of_each_place, option_map, ordered_filter, PagesView, pairs_tail, Performs, pruning, refl, Row, Some, subst, suc, sym, true, Withdraw, ℕ, ◌++◌, ◌+◌, ◌<◌, ◌==◌, ◌^◌, ◌∙◌, ◌∷◌, ◌≡◌, ◌≤◌}
+use Rattle.ksm_book.proofs.Names.{[], All, All-head, All-tail, ap, append-nil, append_assoc, arith, cases_Bool, count_by, count_by-le-length, did, DupRow, elsewhere, eqb-true, false, filter, filter_all, filter_none, find, find_all, find_none, find_passes, frames_at_most, frames_of, get_or, has_items, inl, InPlaceOrder, inr, is_stale, IsLaid, IsVacant, item_count, KeeperView, length, length-append, length-filter, List, lying, MakesSteps, map, map-append, May, None, not, one_of_each_place, option_map, ordered_filter, PagesView, pairs_tail, Performs, pruning, refl, Row, Some, subst, suc, sym, true, Withdraw, ℕ, ◌++◌, ◌+◌, ◌<◌, ◌==◌, ◌^◌, ◌∙◌, ◌∷◌, ◌≡◌, ◌≤◌}
 use Rattle.std.proofs.lemmas.Bool.{eq-eqb}
 use Rattle.ksm_book.proofs.Sharing.{laid_cleared, vacant_loose}
 use Rattle.ksm_book.proofs.Made.{made_one, made_then}
@@ -22,8 +22,7 @@ pub live_elsewhere : (rows : List Row) (place : ℕ) (dups : List DupRow) → Is
 live_elsewhere rows place [] vacant = refl
 live_elsewhere rows place (d ∷ ds) vacant =
     let P : DupRow → Type 0 = λ x. x.place ≡ place → item_count rows x ≡ 0 in
-    let none = All-head P d ds vacant in
-    grind (arith, none, live_elsewhere rows place ds (All-tail P d ds vacant))
+    grind (arith, All-head P d ds vacant, live_elsewhere rows place ds (All-tail P d ds vacant))
 
 -- the first stale dup is the first to go
 pub first_stale : (rows : List Row) (dups : List DupRow) (d : DupRow) → InPlaceOrder dups → find (is_stale rows) dups ≡ Some d
@@ -52,7 +51,7 @@ few_from m n (d ∷ ds) le rise all =
     let low = here.0 in
     let high = here.1 in
     let tail = few_from (d.place + 1) n ds (omega arith) (pairs_tail (λ (a b : DupRow). (a.place < b.place) × ((a.number == b.number) ≡ false)) d ds rise)
-    (λ i e lt. (let above = (rise 0 (suc i) e (omega arith) (omega arith)).0 in omega arith, (rest i e lt).1)) in
+    (λ i e lt. (omega (arith, (rise 0 (suc i) e (omega arith) (omega arith)).0), (rest i e lt).1)) in
     omega arith
 
 -- so far so many stale dups went, and rows and dups lie lawfully
@@ -88,7 +87,7 @@ module _ {p q : PagesView} {k l : KeeperView} {count : ℕ} (h : Drops p q k l c
   stale = mapped_some _ _ _ (sym told)
 
   found : find (is_stale p.rows) q.dups ≡ Some stale.0
-  found = grind (arith, nat_tests, rows_are)
+  found = grind (arith, rows_are)
 
   -- no dup with items stands at the place of the first stale dup
   pub drop_vacant : IsVacant place q.rows q.dups
@@ -103,7 +102,7 @@ module _ {p q : PagesView} {k l : KeeperView} {count : ℕ} (h : Drops p q k l c
 
   -- it is the first of those still stale
   next : filter (is_stale p.rows) q.dups ≡ stale.0 ∷ filter (is_stale p.rows) (filter (elsewhere place) q.dups)
-  next = grind (arith, nat_tests, first_stale)
+  next = grind (arith, first_stale)
 
   -- once the first stale dup goes, one dup less is stale
   pub drop_fewer : count_by (is_stale p.rows) (filter (elsewhere place) q.dups) + 1 ≡ count_by (is_stale p.rows) q.dups
@@ -150,7 +149,7 @@ module _ {p q : PagesView} {k l : KeeperView} {count : ℕ} (h : Drops p q k l c
 module _ {p q : PagesView} {k l : KeeperView} {count : ℕ} (h : Drops p q k l count)
     (told : None ≡ option_map (λ d. d.place) (find (is_stale q.rows) q.dups)) where
   none : find (is_stale p.rows) q.dups ≡ None
-  none = grind (arith, nat_tests, none_mapped)
+  none = grind (arith, none_mapped)
 
   -- where no stale dup is left, the dups are those with items, as many went as were stale, and just the steps of a pruning were made
   pub dropped : (q ≡ record p { dups = filter (has_items p.rows) p.dups }) × (count ≡ count_by (is_stale p.rows) p.dups)

@@ -1,5 +1,5 @@
 -- A dup moves to another frame, with all of its items.
-use Rattle.ksm_book.proofs.Names.{Agrees, All, ap, arith, blank, Bool, cond, count_none, DupFits, DupRow, Dying, eq-eqb, FitsBase, frame_at, Frames, frames_of, Free, GenerationFits, get_or, get_or-set_other, get_or-set_same, GuestPage, instead, is_frame, is_some, IsInLife, IsServed, Kind, kind_for, Ledger, length, length-set, Life, life_or, List, merged_into, named_at, ne_eqb, node_of, None, none_counted, Note, Option, PAGE_WORDS, PageState, place_frame, place_life, Placed, Private, refl, Row, RowFits, same_Some, set, Shape, shared_state, Some, Stable, subst, sym, true, uses, ℕ, ◌+◌, ◌<◌, ◌∙◌, ◌≡◌, ◌≢◌, ◌≤◌, count_alike, nat_tests}
+use Rattle.ksm_book.proofs.Names.{Agrees, All, ap, arith, blank, Bool, cond, count_none, DupFits, DupRow, Dying, eq-eqb, FitsBase, frame_at, Frames, frames_of, Free, GenerationFits, get_or, get_or-set_other, get_or-set_same, GuestPage, instead, is_frame, is_some, IsInLife, IsServed, Kind, kind_for, Ledger, length, length-set, Life, life_or, List, merged_into, named_at, ne_eqb, node_of, None, none_counted, Note, Option, PAGE_WORDS, PageState, place_frame, place_life, Placed, Private, refl, Row, RowFits, same_Some, set, Shape, shared_state, Some, Stable, subst, sym, true, uses, ℕ, ◌+◌, ◌<◌, ◌∙◌, ◌≡◌, ◌≢◌, ◌≤◌, count_alike}
 use mathlib.Core.Logic.{dite}
 use native.Mathlib.Decide.{ℕ_discrete}
 use Rattle.ksm_book.proofs.ByPage.{frame_cases, not_on, uses_some}
@@ -20,13 +20,13 @@ instead_there f g frame page ne = rw (not_on f _ ne)
 -- those that lay on f lie on g, and none lies on f any more
 module _ (f g : ℕ) (frame : Frames) (rows : List Row) where
   uses_new : uses g frame rows ≡ 0 → uses g (instead f g frame) rows ≡ uses f frame rows
-  uses_new none = grind (arith, nat_tests, count_alike, frame_cases, instead_here, instead_there, none_counted, not_on)
+  uses_new none = grind (arith, count_alike, frame_cases, instead_here, instead_there, none_counted, not_on)
 
   uses_old : g ≢ f → uses f (instead f g frame) rows ≡ 0
-  uses_old ne = grind (arith, nat_tests, count_none, frame_cases, instead_here, not_on, same_Some, instead_there)
+  uses_old ne = grind (arith, count_none, frame_cases, instead_here, not_on, same_Some, instead_there)
 
   uses_still : (x : ℕ) → x ≢ f → x ≢ g → uses x (instead f g frame) rows ≡ uses x frame rows
-  uses_still x nf ng = grind (arith, nat_tests, count_alike, frame_cases, instead_here, not_on, same_Some, instead_there)
+  uses_still x nf ng = grind (arith, count_alike, frame_cases, instead_here, not_on, same_Some, instead_there)
 
 -- one of the dups moves from the frame that its place names to another
 module _ {sh : Shape} {across : ℕ} {k : Ledger} {rows : List Row} {frame : Frames} {dups : List DupRow}
@@ -60,10 +60,10 @@ module _ {sh : Shape} {across : ℕ} {k : Ledger} {rows : List Row} {frame : Fra
     apart e = cc
 
     unused : uses g frame rows ≡ 0
-    unused = grind (arith, nat_tests)
+    unused = grind arith
 
     some : 1 ≤ (frame_at k left).base
-    some = grind (arith, nat_tests)
+    some = grind arith
 
     at : (P : Note → Type 0) (h : ℕ) → (h ≡ g → P mounted) → (h ≡ left → P dead) → (h ≢ g → h ≢ left → P (frame_at k h)) → P (frame_at next h)
     at P h here there else' =
@@ -83,7 +83,7 @@ module _ {sh : Shape} {across : ℕ} {k : Ledger} {rows : List Row} {frame : Fra
     named_off e ne = get_or-set_other k.places q e (Some life) None ne
 
     frame_is : {e : ℕ} → e ≡ q → place_frame next e ≡ g
-    frame_is same = grind (arith, nat_tests, same, named)
+    frame_is same = grind (arith, same, named)
 
     frame_off : (e : ℕ) → e ≢ q → place_frame next e ≡ place_frame k e
     frame_off e ne = grind (arith, named_off e ne)
@@ -223,7 +223,7 @@ module _ {sh : Shape} {across : ℕ} {k : Ledger} {rows : List Row} {frame : Fra
           (λ _. subst (λ (x : Kind). GenerationFits sh.last_generation x (frame_at k left).generation) stable (p.lives left))
           (λ _ _. p.lives h);
       each_row = λ i r0 low. let r = get_or rows i r0 in served r (frame r.page)
-          (λ e. (let used = uses_some g frame rows i r0 low e in omega (arith, unused))) (p.each_row i r0 low);
+          (λ e. (omega (arith, unused, uses_some g frame rows i r0 low e))) (p.each_row i r0 low);
       each_dup = λ m x l. dite (ℕ_discrete (get_or dups m x).place q) (λ same. dup_here (get_or dups m x) same (p.each_dup m x l)) (λ ne. dup_there (get_or dups m x) ne (p.each_dup m x l));
       bases = λ h. at (λ x. x.base ≡ uses h (instead left g frame) rows + 0) h
           (λ e. let new : uses h (instead left g frame) rows ≡ uses left frame rows = rw e (uses_new left g frame rows unused) in let old : (frame_at k left).base ≡ uses left frame rows + 0 = p.bases left in omega arith)

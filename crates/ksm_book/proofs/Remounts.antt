@@ -1,5 +1,5 @@
 -- A dup with items, and where its pages lie before and after it moves.
-use Rattle.ksm_book.proofs.Names.{list_any_at, [], All, and_parts, ap, arith, blank, Bool, count_in, did, dup_frame, dup_numbered, DupFits, DupRow, Dying, each_has_number, eq-eqb, find_all, find_passes, Err, Finds, FindsHeld, FindsNone, HasRemounted, InUse, MayMount, MayMove, NoFrame, Ok, frame_at, frames_of, Free, Freeze, get_or, get_or-set_other, GuestPage, has_items, instead, is_frame, is_item, IsInLife, IsLaid, IsLoose, IsLowestFree, item_count, items_on, KeeperView, Ledger, length, length-set, Life, life_or, List, list_any, lying, MakesSteps, merged_into, mounting, Moves, ne_eqb, None, Note, Option, PagesView, place_frame, Placed, Publish, refl, Row, row_at, same_Some, set, Shape, Some, spent, Stable, subst, sym, true, with_frame, ℕ, ◌&&◌, ◌+◌, ◌<◌, ◌==◌, ◌∙◌, ◌∷◌, ◌≡◌, ◌≢◌, ◌≤◌, if◌then◌else◌, once_mounted, All-contains_itself, Contains, nat_tests}
+use Rattle.ksm_book.proofs.Names.{list_any_at, [], All, and_parts, ap, arith, blank, Bool, count_in, did, dup_frame, dup_numbered, DupFits, DupRow, Dying, each_has_number, eq-eqb, find_all, find_passes, Err, Finds, FindsHeld, FindsNone, HasRemounted, InUse, MayMount, MayMove, NoFrame, Ok, frame_at, frames_of, Free, Freeze, get_or, get_or-set_other, GuestPage, has_items, instead, is_frame, is_item, IsInLife, IsLaid, IsLoose, IsLowestFree, item_count, items_on, KeeperView, Ledger, length, length-set, Life, life_or, List, list_any, lying, MakesSteps, merged_into, mounting, Moves, ne_eqb, None, Note, Option, PagesView, place_frame, Placed, Publish, refl, Row, row_at, same_Some, set, Shape, Some, spent, Stable, subst, sym, true, with_frame, ℕ, ◌&&◌, ◌+◌, ◌<◌, ◌==◌, ◌∙◌, ◌∷◌, ◌≡◌, ◌≢◌, ◌≤◌, if◌then◌else◌, once_mounted, All-contains_itself, Contains}
 use mathlib.Core.Logic.{dite}
 use native.Mathlib.Decide.{ℕ_discrete}
 use Rattle.ksm_book.proofs.ByPage.{found_page, same_frames}
@@ -43,7 +43,7 @@ module _ {v : PagesView} {k : KeeperView} {dup : DupRow} {node g : ℕ} (may : M
   among P all = find_all _ P _ dup may.live all
 
   item_some : 1 ≤ item_count v.rows dup
-  item_some = grind (arith, nat_tests, find_passes test dups dup may.live, and_parts)
+  item_some = grind (arith, find_passes test dups dup may.live, and_parts)
 
   stands : dup_numbered dup.number dups ≡ Some dup
   stands = among (λ d. dup_numbered d.number dups ≡ Some d) (each_has_number _ may.sound.2.dups_rise)
@@ -101,11 +101,7 @@ module _ {v : PagesView} {k : KeeperView} {dup : DupRow} {node g : ℕ} (may : M
       where
         by : (page : GuestPage) (o : Option Row) → row_at page v.rows ≡ o
             → items_on dup.number f' v.rows v.frame page ≡ instead g f' v.frame page
-        by page None none = grind (
-          arith,
-          nat_tests,
-          instead_there g f' v.frame page (λ on. (let e : None ≡ Some g = sym (absent page none) ∙ on in cc)),
-        )
+        by page None none = grind (arith, instead_there g f' v.frame page (λ on. (let e : None ≡ Some g = sym (absent page none) ∙ on in cc)))
         by page (Some r) found =
             let same = ap (λ q. is_frame g (v.frame q)) (sym (found_page _ _ r found))
             ∙ find_all _ (λ s. is_frame g (v.frame s.page) ≡ merged_into dup.number s.state) _ r found on_it in

@@ -1,5 +1,5 @@
 -- The visit of a row, by what is found: what becomes of the book, and what is done to the frames.
-use Rattle.ksm_book.proofs.Names.{[], Add, All, All-contains_itself, and_parts, ap, arith, Best, best_dup, best_dup_has_room, BookState, BookValue, BookView, Bool, change_row, Comes, Contains, doing, DupRow, each_at_page, emptying, false, find_all, find_passes, frame_found, frame_number, Frames, GuestPage, handled, handling, HasRoom, HasStayed, idle, IfSome, if◌then◌else◌, is_best, is_restless, IsDupOf, IsForZero, IsJoined, IsLaid, IsSound, item_count, joining, KeeperStep, KeeperView, leaving, lies_on, List, lying, MakesSteps, mapped, MatchOption, May, MayJoin, Merged, merged_into, merged_state, MOST_REFERENCES, nat_tests, None, not, Option, page_visited, PagesView, paired, pairing, partner, Performs, Placed, Reached, refl, Row, row_at, row_visited, row_visiting, same_Some, shared_state, Some, sound_row_visited, state_of, Sub, subst, sym, true, view_of, visited, VisitsPage, Zero, ℕ, ◌-◌, ◌∙◌, ◌∷◌, ◌≡◌, ◌≤◌}
+use Rattle.ksm_book.proofs.Names.{[], Add, All, All-contains_itself, and_parts, ap, arith, Best, best_dup, best_dup_has_room, BookState, BookValue, BookView, Bool, change_row, Comes, Contains, doing, DupRow, each_at_page, emptying, false, find_all, find_passes, frame_found, frame_number, Frames, GuestPage, handled, handling, HasRoom, HasStayed, idle, IfSome, if◌then◌else◌, is_best, is_restless, IsDupOf, IsForZero, IsJoined, IsLaid, IsSound, item_count, joining, KeeperStep, KeeperView, leaving, lies_on, List, lying, MakesSteps, mapped, MatchOption, May, MayJoin, Merged, merged_into, merged_state, MOST_REFERENCES, None, not, Option, page_visited, PagesView, paired, pairing, partner, Performs, Placed, Reached, refl, Row, row_at, row_visited, row_visiting, same_Some, shared_state, Some, sound_row_visited, state_of, Sub, subst, sym, true, view_of, visited, VisitsPage, Zero, ℕ, ◌-◌, ◌∙◌, ◌∷◌, ◌≡◌, ◌≤◌}
 use Rattle.ksm_base.specs.declared.row.PageState.TheVariants.{Private}
 use Rattle.frame_table.specs.Kept.{Did}
 use Rattle.ksm_book.proofs.ByPage.{found_page, row_of_page}
@@ -37,7 +37,7 @@ pub stayed_is : (b : BookState) (frame : Frames) (row : Row) (zeroes : Bool) →
     → (row_visited b row ≡ (if zeroes then record b { rows = change_row row.page (λ r. record r { state = Zero }) b.rows } else
     paired (partner b.knobs b.rows row) b row))
     × (row_visiting b frame row ≡ (if zeroes then emptying frame row.page else pairing (partner b.knobs b.rows row) b frame row))
-stayed_is b frame row zeroes stays = grind (arith, nat_tests, restless_own row stays.restless)
+stayed_is b frame row zeroes stays = grind (arith, restless_own row stays.restless)
 
 -- ---------------------------------------------------------------- what the visit of a page comes to
 
@@ -175,8 +175,7 @@ module _ (best : Best) {p : PagesView} {k : KeeperView} {cursor : Option GuestPa
     same_bytes =
         let its = of_item (λ r. (number : ℕ) → r.state ≡ Merged number → (d : DupRow) × IsDupOf p.knobs p.dups r number d) at.sound.items
         dup.number (state_of_item _ _ live.merged) in
-        let same = same_Some _ dup (sym its.1.stands ∙ joins.stands) in
-        grind (arith, joins.bytes, same, its.1.bytes)
+        grind (arith, joins.bytes, same_Some _ dup (sym its.1.stands ∙ joins.stands), its.1.bytes)
 
     few : item_count p.rows dup ≤ MOST_REFERENCES - 1
     few = (omega (arith, joins.room, at.sound.knobs.max_page_sharing.1))
@@ -216,7 +215,7 @@ module _ (best : Best) {p : PagesView} {k : KeeperView} {cursor : Option GuestPa
             (grind (arith, told.2.0, live.merged)))
 
         q_is : q ≡ record p { rows = change_row page change p.rows; frame = lies_on page (Some g) p.frame }
-        q_is = grind (arith, nat_tests, frame_is)
+        q_is = grind (arith, frame_is)
 
         steps : MakesSteps k l (Add g ∷ leaving (p.frame page))
         steps = rw left (made_then comes leaves)

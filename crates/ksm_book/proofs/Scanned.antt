@@ -1,5 +1,5 @@
 -- What the parts of a scan come to: the end of a pass, listed pages in the stead of those ahead, visits up to a page, and whole passes.
-use Rattle.ksm_book.proofs.Names.{[], after_cursor, Ahead, All, AllPairs-filter, and_parts, ap, append-nil, AreAscending, AreListed, arith, At, begun, BookState, Bool, cases_lt, comes_before, drop, drop_more, End, EndsAt, false, filter, filter_all, filter_passes, from_to, get_or, get_or_from_slice_get, GuestPage, has_item, inl, InPageOrder, inr, is_nowhere, is_some, IsBeside, IsStill, last_of, last_visited, length, length-take-le, List, mergeable_pages, min, next_row, None, not, Option, option_map, pages_ahead, pages_visited, pass_begun, pass_ended, pass_ended_at_last, refl, restless_at, Row, slice_get, slice_get_within, Some, subst, suc, sym, take, take-append-drop, true, true≢false, up_to, visit_begun, visits_beside, with_none_waiting, ℕ, ◌&&◌, ◌*◌, ◌++◌, ◌+◌, ◌-◌, ◌<◌, ◌^◌, ◌∙◌, ◌∷◌, ◌≡◌, ◌≤◌, ◌⊎◌, nat_tests}
+use Rattle.ksm_book.proofs.Names.{[], after_cursor, Ahead, All, AllPairs-filter, and_parts, ap, append-nil, AreAscending, AreListed, arith, At, begun, BookState, Bool, cases_lt, comes_before, drop, drop_more, End, EndsAt, false, filter, filter_all, filter_passes, from_to, get_or, get_or_from_slice_get, GuestPage, has_item, inl, InPageOrder, inr, is_nowhere, is_some, IsBeside, IsStill, last_of, last_visited, length, length-take-le, List, mergeable_pages, min, next_row, None, not, Option, option_map, pages_ahead, pages_visited, pass_begun, pass_ended, pass_ended_at_last, refl, restless_at, Row, slice_get, slice_get_within, Some, subst, suc, sym, take, take-append-drop, true, true≢false, up_to, visit_begun, visits_beside, with_none_waiting, ℕ, ◌&&◌, ◌*◌, ◌++◌, ◌+◌, ◌-◌, ◌<◌, ◌^◌, ◌∙◌, ◌∷◌, ◌≡◌, ◌≤◌, ◌⊎◌}
 use Rattle.ksm_book.proofs.PagesAhead.{Before, GoesDown, between_at, between_is, has_filter, last_of_take, place_of, place_splits}
 use Rattle.ksm_book.proofs.Going.{Goes, begun_goes, settled_goes}
 use Rattle.ksm_book.proofs.Folded.{ascending_ahead, begun_folded, beside_on, every_page, next_first, none_next, pages_alike, pages_go, pass_goes_on, repeats, same_restless, visits_folded}
@@ -11,12 +11,12 @@ none_nowhere : (pages : List GuestPage) (most : ℕ) (ahead : Ahead) → EndsAt 
 none_nowhere [] most (At page) comes = (λ is. refl, λ is. absurd (omega arith))
 none_nowhere [] most (End made) comes = (λ is. refl, λ is. rw comes.0)
 none_nowhere (page ∷ pages) most (At last) comes = (λ is. absurd (true≢false (sym is)), λ is. cc)
-none_nowhere (page ∷ pages) most (End made) comes = grind (arith, nat_tests, comes)
+none_nowhere (page ∷ pages) most (End made) comes = grind (arith, comes)
 
 -- a pass that has gone through all pages ends
 pub pass_over : (b : BookState) (most : ℕ) (ahead : Ahead) → EndsAt (pages_ahead b) most ahead → is_nowhere ahead ≡ true
     → is_some b.cursor ≡ true → pass_ended b ≡ pass_ended_at_last b
-pass_over b most ahead comes nowhere under_way = grind (arith, nat_tests, none_next, none_nowhere)
+pass_over b most ahead comes nowhere under_way = grind (arith, none_next, none_nowhere)
 
 -- a pass with a page ahead, or one that has not begun, does not end
 pub pass_stays : (b : BookState) (most : ℕ) (ahead : Ahead) → EndsAt (pages_ahead b) most ahead
@@ -26,14 +26,14 @@ pass_stays b most ahead comes (inl some) = by _ refl
   where
     by : (l : List GuestPage) → pages_ahead b ≡ l → b ≡ pass_ended_at_last b
     by (page ∷ more) is = sym (pass_goes_on b _ _ is)
-    by [] is = grind (arith, nat_tests, is, none_nowhere)
+    by [] is = grind (arith, is, none_nowhere)
 
 settled_ahead : (b : BookState) → pages_ahead (with_none_waiting b) ≡ pages_ahead b
 settled_ahead b = grind (arith, (settled_goes b.rows).mergeable)
 
 -- as a pass begins the pages ahead are the same
 pub begun_ahead : (b : BookState) → pages_ahead (pass_begun b) ≡ pages_ahead b
-begun_ahead b = grind (arith, nat_tests, settled_ahead b)
+begun_ahead b = grind (arith, settled_ahead b)
 
 -- a visit begins a pass, that of a state with no cursor; or it goes on with the pages ahead
 abbrev Begins : BookState → BookState → Type 0
@@ -59,7 +59,7 @@ begins_ahead b new (none, rows, is) = grind (arith, settled_ahead new, every_pag
 
 -- where there is a page to visit, one is ahead once a visit begins
 pub some_ahead : (b : BookState) → 1 ≤ length (mergeable_pages b.rows) → 1 ≤ length (pages_ahead (visit_begun b))
-some_ahead b some = grind (arith, nat_tests, some, begins b, begins_ahead)
+some_ahead b some = grind (arith, some, begins b, begins_ahead)
 
 -- ---------------------------------------------------------------- listed pages
 
@@ -78,7 +78,7 @@ module _ (t : GuestPage → Bool) (down : GoesDown t) (pages : List GuestPage) (
     (low : first ≡ length (filter (λ p. not (after_cursor told p)) pages)) (at : told ≡ b.cursor)
     (high : end ≡ length (filter t pages)) where
   part_is : from_to first end pages ≡ filter (λ p. after_cursor b.cursor p && t p) pages
-  part_is = grind (arith, nat_tests, between_is)
+  part_is = grind (arith, between_is)
 
   -- visits of the listed pages from first up to end come to the same as those of the pages ahead that pass the test
   pub part_visited : {X : Type 0} (step : BookState → X → Row → X) (s : BookState × X) → b ≡ s.0

@@ -1,5 +1,5 @@
 -- The commands on single pages, carried out.
-use Rattle.ksm_book.proofs.Names.{[], All, Answer, ap, arith, BookValue, BookView, Bool, IsCarried, change_row, comes_before, Command, cond_both, Done, Drop, Err, false, filter, FindsNone, frame_at, Frames, frames_of, fresh_row, GuestPage, Houses, IfErr, IfSome, InPageOrder, is_some, IsAlone, IsLaid, IsReadable, IsServed, IsSound, IsWritable, KeeperView, leaving, length, lies_on, List, lying, MakesSteps, MatchBool, May, moved, MovePage, nat_le, nat_tests, NoFrame, None, not, Ok, on_its_own, Option, ordered_with, PAGE_WORDS, PagesView, Performs, Placed, Provides, puts, refl, Register, Resettled, Resettles, Result, rewriting, Row, row_at, same_page, same_page_refl, shared_state, Some, sound_after, state_of, stepped, Store, stored, Sub, subst, sym, true, view_of, with_row, without_page, ℕ, ◌++◌, ◌<◌, ◌==◌, ◌∙◌, ◌∷◌, ◌≡◌, map_fixed, without_between, pages_ordered, absent_parts, find_put, filter_passes, cond, if◌then◌else◌, Held, IsHeld, HasNewFrame}
+use Rattle.ksm_book.proofs.Names.{[], All, Answer, ap, arith, BookValue, BookView, Bool, IsCarried, change_row, comes_before, Command, cond_both, Done, Drop, Err, false, filter, FindsNone, frame_at, Frames, frames_of, fresh_row, GuestPage, Houses, IfErr, IfSome, InPageOrder, is_some, IsAlone, IsLaid, IsReadable, IsServed, IsSound, IsWritable, KeeperView, leaving, length, lies_on, List, lying, MakesSteps, MatchBool, May, moved, MovePage, nat_le, NoFrame, None, not, Ok, on_its_own, Option, ordered_with, PAGE_WORDS, PagesView, Performs, Placed, Provides, puts, refl, Register, Resettled, Resettles, Result, rewriting, Row, row_at, same_page, same_page_refl, shared_state, Some, sound_after, state_of, stepped, Store, stored, Sub, subst, sym, true, view_of, with_row, without_page, ℕ, ◌++◌, ◌<◌, ◌==◌, ◌∙◌, ◌∷◌, ◌≡◌, map_fixed, without_between, pages_ordered, absent_parts, find_put, filter_passes, cond, if◌then◌else◌, Held, IsHeld, HasNewFrame}
 use Rattle.std.proofs.lemmas.Bool.{eq-eqb}
 use Rattle.ksm_base.specs.declared.row.PageState.TheVariants.{Private}
 use Rattle.ksm_book.proofs.ByPage.{at_changed, change_twice, found_page, lies_again, lies_still, row_of_page}
@@ -91,9 +91,8 @@ pub own_ready : {p : PagesView} {k : KeeperView} → IsLaid p k → (page : Gues
     → (g < frames_of k.table.shape) × (g < length k.ledger.frames) × IsWritable (frame_at k.ledger g).kind × (length (frame_at k.ledger g).content ≡ PAGE_WORDS)
 own_ready {p} {k} h page row found alone g lies =
     let served = subst (IsServed p.shape k.ledger p.dups row) lies (served_at h.placed _ row found) in
-    let inside = served.0.frame in
     let long = h.placed.frames_long in
-    (rw h.same inside, omega arith, grind (arith, served.0.kind, own_kind, tt), h.placed.widths g)
+    (rw h.same served.0.frame, omega arith, grind (arith, served.0.kind, own_kind, tt), h.placed.widths g)
 
 module _ (p : PagesView) (k l : KeeperView) (cursor : Option GuestPage) (passes : ℕ) (page : GuestPage) (bytes : List ℕ) (row : Row) (found : row_at page p.rows ≡ Some row) (table : l.table ≡ k.table) where
   module _ (q : PagesView) (state : state_of q cursor passes ≡ record (state_of p cursor passes) { rows = change_row page (stored bytes) p.rows }) where
@@ -128,7 +127,7 @@ module _ (p : PagesView) (k l : KeeperView) (cursor : Option GuestPage) (passes 
 
 -- a change that leaves the rows of a page as they are changes nothing
 pub change_still : (page : GuestPage) (f : Row → Row) (rows : List Row) → All (λ r. same_page r.page page ≡ true → f r ≡ r) rows → change_row page f rows ≡ rows
-change_still page f rows still = grind (arith, nat_tests, still, map_fixed)
+change_still page f rows still = grind (arith, still, map_fixed)
 
 -- a node that is there is not told as none
 pub there_is : (nodes node : ℕ) → node < nodes → nat_le nodes node ≡ false
@@ -261,7 +260,6 @@ module _ {p m : PagesView} {page : GuestPage} {node : ℕ} {bytes : List ℕ} (n
   pub register_turned : {k l : KeeperView} (h : IsLaid p k) (cursor : Option GuestPage) (passes : ℕ) (q : PagesView) → p.frame page ≡ None → q ≡ record m { rows = without_page page m.rows; frame = lies_on page None m.frame; restless = q.restless } → FindsNone k l node
       → Carries p k q l cursor passes (Register page node bytes) (Err (NoFrame node))
   register_turned {l = l} h cursor passes q nowhere_there goes searched =
-      let turns = turned h new.less searched in
       let table = ap (λ (z : KeeperView). z.table) searched.reaped.after in
       let rows = without_come _ _ new.rise new.absent in
       let frame = ap (lies_on page None) new.others ∙ lies_again _ _ None _ ∙ lies_still _ None _ nowhere_there in
@@ -272,5 +270,5 @@ module _ {p m : PagesView} {page : GuestPage} {node : ℕ} {bytes : List ℕ} (n
           state = grind (arith, back);
           steps = record { searched = searched; frame = rw back };
         },
-        rw back (laid_rows h l table (searched_spends _ searched.reaped) turns.laid.placed),
+        rw back (laid_rows h l table (searched_spends _ searched.reaped) (turned h new.less searched).laid.placed),
       )

@@ -1,5 +1,5 @@
 -- The dying frames of a range, one after another.
-use Rattle.ksm_book.proofs.Names.{[], ap, append-nil, arith, Bool, Dying, dying_from, dying_kind, false, filter-append, frame_at, Kind, Ledger, NoneOf, range_with_len, suc, true, zero, ℕ, ◌++◌, ◌+◌, ◌-◌, ◌<◌, ◌∙◌, ◌∷◌, ◌≡◌, ◌≤◌, if◌then◌else◌, nat_tests}
+use Rattle.ksm_book.proofs.Names.{[], ap, append-nil, arith, Bool, Dying, dying_from, dying_kind, false, filter-append, frame_at, Kind, Ledger, NoneOf, range_with_len, suc, true, zero, ℕ, ◌++◌, ◌+◌, ◌-◌, ◌<◌, ◌∙◌, ◌∷◌, ◌≡◌, ◌≤◌, if◌then◌else◌}
 
 -- a kind that tests as dying is Dying
 pub is_dying_kind : {x : Kind} → dying_kind x ≡ true → x ≡ Dying
@@ -7,7 +7,7 @@ is_dying_kind e = grind arith
 
 -- one frame more is looked at
 range_more : (low n : ℕ) → range_with_len low (n + 1) ≡ range_with_len low n ++ (low + n) ∷ []
-range_more low zero = grind (arith, nat_tests)
+range_more low zero = grind arith
 range_more low (suc n) = grind (arith, range_more (low + 1) n)
 
 module _ (k : Ledger) (low : ℕ) where
@@ -15,7 +15,7 @@ module _ (k : Ledger) (low : ℕ) where
   dies f = dying_kind (frame_at k f).kind
 
   dying_more : (n : ℕ) (b : Bool) → dies (low + n) ≡ b → dying_from k low (n + 1) ≡ dying_from k low n ++ (if b then (low + n) ∷ [] else [])
-  dying_more n b is = grind (arith, nat_tests, range_more low n, filter-append dies (range_with_len low n) ((low + n) ∷ []))
+  dying_more n b is = grind (arith, range_more low n, filter-append dies (range_with_len low n) ((low + n) ∷ []))
 
   dying_past : (n m : ℕ) → ((f : ℕ) → low + n ≤ f → f < low + n + m → dies f ≡ false) → dying_from k low (n + m) ≡ dying_from k low n
   dying_past n zero none = ap (dying_from k low) (omega arith)

@@ -1,5 +1,5 @@
 -- Pages that leave their dups, or the zero page, one after another.
-use Rattle.ksm_book.proofs.Names.{[], All, and-true, ap, append-nil, arith, Bool, change_row, change_rows, cond-false, cond-true, cond_both, false, Fault, filter, filter-append, filter_none, find, GuestPage, HasLeft, Held, inl, InPageOrder, inr, is_next, is_of, is_shared_of, is_some, IsAlone, IsHeld, IsKnown, IsLaid, KeeperView, left_by, length, length-append, let_go, List, lying, Mapped, MayNotLeave, NoFrame, None, not, not-false, not-true, of_guest, on_its_own, Option, option_map, PagesView, refl, Resettled, ResettlesEach, Row, row_at, same_page, same_Some, shared_of, shared_state, slice_get, Some, subst, suc, sym, take, take-append_seam, true, Unshares, ℕ, ◌&&◌, ◌++◌, ◌+◌, ◌<◌, ◌∙◌, ◌∷◌, ◌≡◌, ◌≤◌, if◌then◌else◌, Contains-append_right, nat_tests}
+use Rattle.ksm_book.proofs.Names.{[], All, and-true, ap, append-nil, arith, Bool, change_row, change_rows, cond-false, cond-true, cond_both, false, Fault, filter, filter-append, filter_none, find, GuestPage, HasLeft, Held, inl, InPageOrder, inr, is_next, is_of, is_shared_of, is_some, IsAlone, IsHeld, IsKnown, IsLaid, KeeperView, left_by, length, length-append, let_go, List, lying, Mapped, MayNotLeave, NoFrame, None, not, not-false, not-true, of_guest, on_its_own, Option, option_map, PagesView, refl, Resettled, ResettlesEach, Row, row_at, same_page, same_Some, shared_of, shared_state, slice_get, Some, subst, suc, sym, take, take-append_seam, true, Unshares, ℕ, ◌&&◌, ◌++◌, ◌+◌, ◌<◌, ◌∙◌, ◌∷◌, ◌≡◌, ◌≤◌, if◌then◌else◌, Contains-append_right}
 use Rattle.ksm_base.proofs.Edits.{count_more}
 use Rattle.ksm_base.specs.Counting.{mergeable_count}
 use Rattle.ksm_base.specs.declared.row.PageState.TheVariants.{Private}
@@ -24,7 +24,7 @@ stay_in_scan test (r ∷ rows) all = by _ refl (stay_in_scan test rows)
 
     by : (m : Bool) → r.mergeable ≡ m → (mergeable_count rows ≡ length rows → rows ≡ change_rows test (λ s. record s { mergeable = true }) rows)
         → r ∷ rows ≡ change_rows test (λ s. record s { mergeable = true }) (r ∷ rows)
-    by true is rest = grind (arith, nat_tests, sum)
+    by true is rest = grind (arith, sum)
     by false is rest = absurd (omega (arith, sum, ap one_if is, count_by-le-length (λ s. s.mergeable) rows))
 
 -- a row that is left keeps its page
@@ -306,5 +306,4 @@ module _ {p q : PagesView} {guest : ℕ} {last : Option GuestPage} (u : IsMarkin
 
   -- where no page of the guest is left, all its rows are mergeable
   pub marking_end : find (is_next (Some guest) last) q.rows ≡ None → q ≡ record p { rows = change_rows (is_of guest) in_scan p.rows; restless = q.restless }
-  marking_end ended =
-      let done = along_end _ (λ _. refl) u.along ended in grind (arith, u.pages, done.0)
+  marking_end ended = grind (arith, u.pages, (along_end _ (λ _. refl) u.along ended).0)

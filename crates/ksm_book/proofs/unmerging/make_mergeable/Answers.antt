@@ -17,6 +17,4 @@ pub returns : goal.returns
 returns c = marking_end c.pages.invariant c.in_default.ensures
 
 pub returns-then-all_mergeable : goal.returns-then-all_mergeable
-returns-then-all_mergeable c =
-    let rows = c.args.pages.now.rows in
-    grind (arith, stay_in_scan)
+returns-then-all_mergeable c = grind (arith, stay_in_scan, c.args.pages.now.rows)

@@ -115,7 +115,7 @@ returns-then-quiet-clause-due c = λ known.
 
 pub returns-then-quiet-clause-made : goal.returns-then-quiet-clause-made
 returns-then-quiet-clause-made c = record {
-  some = (let one = one_made ((goal.at.returns-then-quiet-clause-made c).After-end_passes) in omega arith);
+  some = (omega (arith, one_made ((goal.at.returns-then-quiet-clause-made c).After-end_passes)));
   fit = omega arith;
   comes = λ from s before.
       let at = closed c.args.self.now c.close_pass-ahead.new.self c.lies_in_order.ensures.rise c.close_pass-ahead.ensures.comes from s before in

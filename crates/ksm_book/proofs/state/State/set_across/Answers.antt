@@ -1,4 +1,4 @@
-use Rattle.ksm_book.proofs.Names.{[], All, ap, arith, changes_while_shared, Done, effect, false, get_or, inr, IsLaid, IsSound, nat_tests, ne_eqb, no_dup_lives, none_shared, PagesView, refl, rules, seen, SetAcross, sound_set_across, state_of, subst, sym, waiting_state, ◌∙◌, ◌≡◌, ◌≤◌, All-map}
+use Rattle.ksm_book.proofs.Names.{[], All, ap, arith, changes_while_shared, Done, effect, false, get_or, inr, IsLaid, IsSound, ne_eqb, no_dup_lives, none_shared, PagesView, refl, rules, seen, SetAcross, sound_set_across, state_of, subst, sym, waiting_state, ◌∙◌, ◌≡◌, ◌≤◌, All-map}
 use Rattle.ksm_book.proofs.Laying.{laid_mapped, retuned}
 use Rattle.ksm_book.proofs.Sharing.{settled_lodges}
 use Rattle.ksm_pages.proofs.Resting.{settled_still}
@@ -33,7 +33,7 @@ sound c =
     let b = state_of (seen c.self.inside.pages) c.self.inside.cursor c.self.inside.passes in
     let low : c.args.across ≤ 1 = search rules in
     let quiet = calm c in
-    sound_set_across b _ Done (grind (arith, nat_tests)) c.self.invariant.0
+    sound_set_across b _ Done (grind arith) c.self.invariant.0
 
 pub invariant_of-self : goal.invariant_of-self
 invariant_of-self c = (subst IsSound (search rules) (sound c), laid c)
