@@ -1,11 +1,11 @@
 -- Rows that are changed one after another, in the order of their pages: those of a guest, or all, up to a cursor.
-use Rattle.ksm_book.proofs.Names.{[], after_cursor, after_differs, All, All-append, All-cons, All-head, All-map, All-tail, AllPairs, and-true, and_parts, and_right, ap, append-nil, arith, before_differs, before_irrefl, Bool, cases_Bool, change_none, change_row, change_rows, comes_before, false, filter, filter-append, filter_none, find, find_none, find_passes, get_or, GuestPage, inl, InPageOrder, inr, is_before, is_next, List, map, map-append, nat_tests, None, not_both, Option, option_map, pairs_cross, pairs_head, pairs_tail, Row, row_at, same_page, same_page_refl, Some, subst, sym, true, ℕ, ⊤, ◌&&◌, ◌*◌, ◌++◌, ◌+◌, ◌<◌, ◌∙◌, ◌∷◌, ◌≡◌, ◌≤◌, find-append, option_or, find_nothing, map_alike, if◌then◌else◌}
+use Rattle.ksm_book.proofs.Names.{[], after_cursor, after_differs, All, All-append, All-cons, All-head, All-map, All-tail, AllPairs, and-true, and_parts, and_right, ap, append-nil, arith, before_differs, before_irrefl, Bool, cases_Bool, change_none, change_row, change_rows, comes_before, false, filter, filter-append, filter_none, find, find_none, find_passes, get_or, GuestPage, inl, InPageOrder, inr, is_before, is_next, List, map, map-append, None, not_both, Option, option_map, pairs_cross, pairs_head, pairs_tail, Row, row_at, same_page, same_page_refl, Some, subst, sym, true, ℕ, ⊤, ◌&&◌, ◌*◌, ◌++◌, ◌+◌, ◌<◌, ◌∙◌, ◌∷◌, ◌≡◌, ◌≤◌, find-append, find_nothing, map_alike, if◌then◌else◌}
 use Rattle.std.proofs.lemmas.List.{append_assoc}
 use Rattle.ksm_pages.proofs.Options.{mapped_some}
 
 -- what no element of the first list passes is searched in the second alone
 find_apart : {X : Type 0} (t : X → Bool) (xs ys : List X) → All (λ x. t x ≡ false) xs → find t (xs ++ ys) ≡ find t ys
-find_apart t xs ys none = find-append t xs ys ∙ ap (λ o. option_or o (find t ys)) (find_nothing t xs none)
+find_apart t xs ys none = grind (arith, find-append t xs ys, find_nothing t xs none)
 
 -- a list in which an element is found is cut there, by any test that agrees
 find_cut : {X : Type 0} (s t : X → Bool) (xs : List X) (r : X) → All (λ x. s x ≡ t x) xs → find s xs ≡ Some r
@@ -69,7 +69,7 @@ module _ {asked : Row → Bool} (f : Row → Row) (keeps : (r : Row) → (f r).p
   changed r = if asked r then f r else r
 
   page_kept : (r : Row) → (changed r).page ≡ r.page
-  page_kept r = grind (arith, nat_tests)
+  page_kept r = grind arith
 
   -- the next is searched among those left
   among : find (next_of last) now ≡ find (next_of last) left
@@ -78,16 +78,14 @@ module _ {asked : Row → Bool} (f : Row → Row) (keeps : (r : Row) → (f r).p
       and_right (asked (changed r)) _ (ap (after_cursor last) (page_kept r) ∙ a.behind k d lt)))
 
   agree : All (λ r. next_of last r ≡ asked r) left
-  agree = λ k d lt. grind (arith, nat_tests, lt)
+  agree = λ k d lt. grind (arith, lt)
 
   -- where no row asked for comes after the cursor, each row asked for is changed, and those left are not asked for
   pub along_end : find (next_of last) now ≡ None → (now ≡ change_rows asked f rows) × All (λ r. asked r ≡ false) left
   along_end ended =
-      let all = find_none _ _ (sym among ∙ ended) in
-      let none : All (λ r. asked r ≡ false) left = λ k d lt. sym (agree k d lt) ∙ all k d lt in (
-        a.are ∙ ap (λ l. map changed done ++ l) (sym (change_none _ f _ none)) ∙ sym (map-append changed done left)
-            ∙ ap (map changed) (sym a.whole),
-        none,
+      let all = find_none _ _ (sym among ∙ ended) in (
+        grind (arith, a.are, change_none, map-append changed done left, a.whole),
+        λ k d lt. sym (agree k d lt) ∙ all k d lt,
       )
 
   module _ (rise : InPageOrder rows) (r : Row) (found : find (next_of last) now ≡ Some r) where
@@ -101,13 +99,12 @@ module _ {asked : Row → Bool} (f : Row → Row) (keeps : (r : Row) → (f r).p
     rest = cut.1
 
     whole : rows ≡ before ++ r ∷ rest
-    whole = a.whole ∙ ap (λ l. done ++ l) cut.2 ∙ sym (append_assoc done cut.0 (r ∷ rest))
+    whole = grind (arith, a.whole, cut.2, append_assoc done cut.0 (r ∷ rest))
 
     now_is : now ≡ map changed before ++ r ∷ rest
     now_is =
         rw (map-append changed done cut.0)
-        (a.are ∙ ap (λ l. map changed done ++ l) (cut.2 ∙ ap (λ l. l ++ r ∷ rest) (sym (change_none _ f _ cut.4)))
-        ∙ sym (append_assoc (map changed done) (map changed cut.0) (r ∷ rest)))
+        (grind (arith, a.are, cut.2, change_none, append_assoc (map changed done) (map changed cut.0) (r ∷ rest)))
 
     pairs : AllPairs (λ (x y : Row). comes_before x.page y.page ≡ true) (before ++ r ∷ rest)
     pairs = subst InPageOrder whole rise
@@ -156,8 +153,7 @@ module _ {asked : Row → Bool} (f : Row → Row) (keeps : (r : Row) → (f r).p
       };
       stop =
           let test = λ (x : Row). asked x && comes_before x.page r.page in
-          let few = map_alike _ _ _ (λ k d lt. let x = get_or before k d in
-          λ i. if sym (ap (λ b. asked x && b) (first k d lt) ∙ and-true (asked x)) i then f x else x) in
+          let few = map_alike _ _ _ (λ k d lt. grind (arith, first k d lt, and-true (asked (get_or before k d)))) in
           let none = change_none test f _ (All-cons (λ x. test x ≡ false) r _
           (and_right (asked r) _ (before_irrefl r.page)) (λ k d lt. let x = get_or rest k d in
           and_right (asked x) _ (not_both r.page x.page (behind k d lt)))) in
@@ -168,9 +164,7 @@ module _ {asked : Row → Bool} (f : Row → Row) (keeps : (r : Row) → (f r).p
   -- where a search tells a page as the next one asked for after the cursor, the rows are cut at that page
   pub along_cut : InPageOrder rows → (page : GuestPage) → option_map (λ r. r.page) (find (next_of last) now) ≡ Some page
       → IsCut asked f rows now done page
-  along_cut rise page told =
-      let at = mapped_some _ _ _ told in
-      subst (IsCut asked f rows now done) at.2 (cut_there rise _ at.1)
+  along_cut rise page told = grind (arith, (mapped_some _ _ _ told).2, cut_there)
 
 -- ---------------------------------------------------------------- how far the cursor is
 
@@ -187,7 +181,7 @@ FitsPage (Some p) = (p.guest < 65536) × (p.page < 4294967296)
 -- the next page of a guest, or of all, after a cursor that fits has a greater position than the cursor
 pub further : (guest : Option ℕ) (last : Option GuestPage) (rows : List Row) (page : GuestPage) → FitsPage last
     → option_map (λ r. r.page) (find (is_next guest last) rows) ≡ Some page → position last < position (Some page)
-further guest last rows page fits told = grind (arith, nat_tests, mapped_some, find_passes, and_parts)
+further guest last rows page fits told = grind (arith, mapped_some, find_passes, and_parts)
 
 -- the position of a cursor that fits is 2^48 at most
 pub not_far : (last : Option GuestPage) → FitsPage last → position last ≤ 281474976710656

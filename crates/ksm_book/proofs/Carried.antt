@@ -77,15 +77,15 @@ move_does v w node None h = absurd h
 move_does v w node (Some row) h = moved_does v w _ row _ h
 
 -- a dup that moved, at the place where it was found
-dup_moved : (v w : BookView) (place node : ℕ) (found : Option DupRow) → live_dup_at v.state place ≡ found
+dup_moved : (v w : BookView) {place node : ℕ} (found : Option DupRow) → live_dup_at v.state place ≡ found
     → MatchOption found ⊥ (λ d. Moves (mapped v) (mapped w) v.state.rows d node) → HasMoved v.keeper w.keeper place node
-dup_moved v w place node None is h = absurd h
-dup_moved v w place node (Some d) is h = rw (← place_is v.state _ node d (sym is)) (moved _ _ _ d _ h)
+dup_moved v w None is h = absurd h
+dup_moved v w {node = node} (Some d) is h = rw (← place_is v.state _ node d (sym is)) (moved _ _ _ d _ h)
 
 dup_held : (v w : BookView) (node : ℕ) (found : Option DupRow) → MatchOption found ⊥ (λ d. FindsHeld (mapped v) (mapped w) v.state.rows d node)
     → HasLost v.keeper w.keeper
 dup_held v w node None h = absurd h
-dup_held v w node (Some d) h = lost _ _ _ d _ h
+dup_held v w node (Some d) h = lost d h
 
 prune_does : (v w : BookView) (same : Bool)
     → MatchBool same (IsIdle (mapped v) (mapped w)) (Performs (mapped v) (mapped w) (pruning v.state.rows v.state.dups v.frame)) → AllocatesOn v.keeper w.keeper []
@@ -100,7 +100,7 @@ frames_given v w (Scan n) (Ok (Scanned made stop)) h = quiet_does h.made (quiet_
 frames_given v w Prune (Ok (Pruned count)) h = prune_does v w false h
 frames_given v w (Unmerge guest) (Ok (Unmerged k stop)) h = unmerges_does _ _ _ _ h
 frames_given v w (MovePage page node) (Ok Done) h = move_does (mapped v) (mapped w) node (row_at page v.state.rows) h
-frames_given v w (MoveDup place node) (Ok Done) h = let m = dup_moved v w _ _ _ refl h in (m.part, m.did)
+frames_given v w (MoveDup place node) (Ok Done) h = let m = dup_moved v w _ refl h in (m.part, m.did)
 frames_given v w (MoveDup place node) (Err InUse) h = let l = dup_held v w _ _ h in (l.part, l.did)
 frames_given v w (SetRun run) (Ok (Unmerged k stop)) h = unmerges_does _ _ _ _ h
 frames_given v w (SetAcross across) (Ok Done) h = prune_does v w _ h
@@ -124,7 +124,7 @@ shown_so v w (Unmerge guest) (Ok (Unmerged k (Some (NoFrame node)))) is h =
     (h.0.keeper, each_does _ _ h.0 h.1, none_left h.2.searched)
 shown_so v w (SetRun run) (Ok (Unmerged k (Some (NoFrame node)))) is h =
     (h.0.keeper, each_does _ _ h.0 h.1, none_left h.2.searched)
-shown_so v w (MoveDup place node) (Ok Done) is h = dup_moved v w _ _ _ refl h
+shown_so v w (MoveDup place node) (Ok Done) is h = dup_moved v w _ refl h
 shown_so v w (MoveDup place node) (Err InUse) is h = dup_held v w _ _ h
 shown_so v w command (Ok (Unmerged k (Some (NoFrame node)))) is h =
     elim (reply_of v.state command (Unmerged k (Some (NoFrame node))) (has_reason v.state command (Ok (Unmerged k (Some (NoFrame node)))) is)) [ ]

@@ -1,11 +1,11 @@
 -- What visits do to the frames is done beside: nothing by the visit of a shared row, and the same wherever the cursor stands.
-use Rattle.ksm_book.proofs.Names.{ap, append-nil, best_dup, BookState, Deed, doing, DupRow, Frames, GuestPage, handling, idle, IsBeside, next_visited, None, Option, pairing, refl, Row, scanning, shared_state, Some, suc, sym, then_doing, visit_begun, visiting, visiting_of, visits_beside, zero, ℕ, ◌∙◌, ◌≡◌, if◌then◌else◌, arith}
+use Rattle.ksm_book.proofs.Names.{ap, append-nil, best_dup, BookState, Deed, doing, DupRow, Frames, GuestPage, handling, idle, IsBeside, next_visited, None, Option, pairing, refl, Row, scanning, shared_state, Some, suc, then_doing, visit_begun, visiting_of, visits_beside, zero, ℕ, ◌≡◌, if◌then◌else◌, arith}
 use Rattle.ksm_book.proofs.Going.{elsewhere}
 use Rattle.ksm_book.proofs.Folded.{beside_state}
 
 -- a deed and then no step is that deed alone
 pub then_idle : (deed : Deed) → then_doing deed (idle deed.frame) ≡ deed
-then_idle deed = λ t. record { steps = append-nil deed.steps t; frame = deed.frame }
+then_idle deed = grind (arith, append-nil deed.steps)
 
 module _ (b : BookState) (frame : Frames) (row : Row) (cursor : Option GuestPage) (passes : ℕ) where
   pairing_alike : (w : Option Row) → pairing w (elsewhere cursor passes b) frame row ≡ pairing w b frame row
@@ -27,9 +27,8 @@ pub scanning_is : (n : ℕ) (b : BookState) (frame : Frames) → scanning n b fr
 scanning_is zero b frame = refl
 scanning_is (suc n) b frame =
     let s = visits_beside doing n (b, idle frame) in
-    let c = visit_begun s.0 in
     let so_far = scanning_is n b frame in
-    (λ t. then_doing (so_far t) (visiting (sym (beside_state doing n (b, idle frame)) t) (so_far t).frame)) ∙ by c s.1 _
+    grind (arith, so_far, beside_state doing n (b, idle frame), by, visit_begun s.0)
   where
     by : (c : BookState) (deed : Deed) (o : Option Row) → then_doing deed (visiting_of c deed.frame o) ≡ (next_visited doing (c, deed) o).1
     by c deed None = then_idle _

@@ -1,5 +1,5 @@
 -- Visits of pages do what those of the definitions do, where the rows further on that still wait are hidden from these.
-use Rattle.ksm_book.proofs.Names.{[], All, All-cons, All-head, All-map, and_parts, ap, append_assoc, AreAscending, arith, before_irrefl, best_dup, BookState, Bool, bytes_eq, cases_Bool, change_row, change_rows, comes_before, comes_later, cond_both, count_mapped, Deed, doing, due_row_visited, due_visited, due_visits, dup_frame, DupRow, each_at_page, empty_from, emptying, false, filter, filter-append, filter_all, filter_none, find, find_all, find_mapped, find_none, find_nothing, find_passes, founding, Frames, get_or, GuestPage, handled, handling, has_item, hidden, if◌then◌else◌, inl, inr, is_for_zero, is_no_rival, is_none, is_restless, IsSound, item_count, Knobs, List, list_all, map_alike, map_mapped, may_join, mergeable_pages, Merged, merged_into, nat_le, nat_lt, new_place, None, not, not-true, not_both, Option, option_map, page, page_visited, pages_visited, PageState, paired, pairing, pairs_cross, pairs_head, pairs_tail, partner, place_count, place_or, private_state, refl, restless_at, restless_row, Row, row_at, row_visited, same_page, same_page_eq, same_page_refl, same_page_sym, seen, settled, settled_calmer, settled_state, shared_state, Some, sound_changed, sound_row_visited, stayed, staying, subst, sym, taken_over, takes_over, tells_waits, then_doing, tree_of, true, true≢false, visited, Waiting, waiting_not_private, waiting_state, waits_for, waits_tells, with_dup, with_none_waiting, Zero, ℕ, ◌&&◌, ◌++◌, ◌+◌, ◌==◌, ◌||◌, ◌∙◌, ◌∷◌, ◌≡◌, nat_tests}
+use Rattle.ksm_book.proofs.Names.{[], All, All-cons, All-head, All-map, and_parts, ap, append_assoc, AreAscending, arith, before_irrefl, best_dup, BookState, Bool, cases_Bool, change_row, change_rows, comes_before, comes_later, cond_both, count_mapped, Deed, doing, due_row_visited, due_visited, due_visits, dup_frame, DupRow, each_at_page, empty_from, emptying, false, filter, filter-append, filter_all, filter_none, find, find_all, find_mapped, find_none, find_nothing, find_passes, Frames, get_or, GuestPage, handled, handling, has_item, hidden, if◌then◌else◌, inl, inr, is_for_zero, is_no_rival, is_none, is_restless, IsSound, item_count, Knobs, List, list_all, map_alike, map_mapped, may_join, mergeable_pages, Merged, merged_into, nat_lt, new_place, None, not, not-true, not_both, Option, option_map, page, page_visited, pages_visited, PageState, paired, pairing, pairs_cross, pairs_head, pairs_tail, partner, place_count, place_or, private_state, refl, restless_at, restless_row, Row, row_at, row_visited, same_page, same_page_eq, same_page_refl, same_page_sym, seen, settled, settled_calmer, settled_state, shared_state, Some, sound_changed, sound_row_visited, stayed, staying, subst, sym, taken_over, takes_over, tells_waits, then_doing, tree_of, true, true≢false, visited, Waiting, waiting_not_private, waiting_state, waits_for, waits_tells, with_dup, with_none_waiting, Zero, ℕ, ◌&&◌, ◌++◌, ◌+◌, ◌==◌, ◌||◌, ◌∙◌, ◌∷◌, ◌≡◌}
 use Rattle.ksm_base.specs.declared.row.PageState.TheVariants.{Private}
 use Rattle.ksm_book.proofs.ByPage.{found_page, row_of_page}
 use Rattle.ksm_book.proofs.Doing.{then_idle}
@@ -23,11 +23,11 @@ settled_is s none = grind (arith, none)
 
 -- a row that does not wait stays as it is where it is to wait no more
 pub stays_settled : (r : Row) → waiting_state r.state ≡ false → settled r ≡ r
-stays_settled r none = λ t. record r { state = settled_is _ none t }
+stays_settled r none = grind (arith, settled_is)
 
 -- to settle a row twice is to settle it once
 pub settled_once : (r : Row) → settled (settled r) ≡ settled r
-settled_once r = λ t. record r { state = settled_again r.state t }
+settled_once r = grind (arith, settled_again r.state)
 
 -- a row that waits no more waits for no row
 waits_not : (knobs : Knobs) (r x : Row) → waits_for knobs r (settled x) ≡ false
@@ -43,7 +43,7 @@ mergeable_has [] = λ k d lt. absurd (omega arith)
 mergeable_has (r ∷ rows) =
     let same = same_page_refl r.page in
     All-cons (λ x. x.mergeable ≡ true → has_item x.page (mergeable_pages (r ∷ rows)) ≡ true) r rows (λ is. grind arith)
-    (λ k d lt is. let rest = mergeable_has rows k d lt is in grind arith)
+    (λ k d lt is. grind (arith, mergeable_has rows k d lt is))
 
 -- the row is of one of these pages
 abbrev is_among : List GuestPage → Row → Bool
@@ -61,23 +61,23 @@ hidden_all b s = λ t. record b { rows = map_alike (calmed (is_among pages)) set
     pages = mergeable_pages b.rows
 
     each : All (λ r. calmed (is_among pages) r ≡ settled r) b.rows
-    each k d lt = grind (arith, nat_tests, mergeable_has, waits_mergeable, stays_settled)
+    each k d lt = grind (arith, mergeable_has, waits_mergeable, stays_settled)
 
 -- with the rows of no page hidden the book is as it is
 pub hidden_none : (b : BookState) → hidden [] b ≡ b
-hidden_none b = λ t. record b { rows = map-id b.rows t }
+hidden_none b = grind (arith, map-id b.rows)
 
 -- ---------------------------------------------------------------- a book in which some rows wait no more
 
 module _ (test : Row → Bool) where
   calmed_page : (r : Row) → (calmed test r).page ≡ r.page
-  calmed_page r = grind (arith, nat_tests)
+  calmed_page r = grind arith
 
   calmed_merged : (n : ℕ) (r : Row) → merged_into n (calmed test r).state ≡ merged_into n r.state
-  calmed_merged n r = grind (arith, nat_tests, merged_still)
+  calmed_merged n r = grind (arith, merged_still)
 
   calmed_restless : (r : Row) → is_restless (calmed test r) ≡ is_restless r
-  calmed_restless r = grind (arith, nat_tests, shared_still)
+  calmed_restless r = grind (arith, shared_still)
 
   module _ (rows : List Row) where
     abbrev calm_rows : List Row
@@ -92,7 +92,7 @@ module _ (test : Row → Bool) where
     calmed_goes =
         change_goes _
         (λ r. cond_both _ _ r (λ x. (x.page ≡ r.page) × (x.mergeable ≡ r.mergeable))
-        (λ _. (refl, refl)) (λ _. (refl, refl))) _
+        (λ _. (refl, refl)) (λ _. (refl, refl)))
         (λ k d lt is. cond_both _ _ (get_or rows k d) (λ x. shared_state x.state ≡ true) (λ _. shared_still _ ∙ is) (λ _. is))
 
     count_kept : (d : DupRow) → item_count calm_rows d ≡ item_count rows d
@@ -102,15 +102,10 @@ module _ (test : Row → Bool) where
 
     module _ (knobs : Knobs) (row : Row) where
       may_kept : (d : DupRow) → may_join knobs calm_rows row d ≡ may_join knobs rows row d
-      may_kept d =
-          λ t. d.tree == tree_of knobs row && bytes_eq d.bytes row.bytes && nat_le 1 (count_kept d t)
-          && nat_lt (count_kept d t) knobs.max_page_sharing
+      may_kept d = grind (arith, count_kept d)
 
       rival_kept : (d e : DupRow) → is_no_rival knobs calm_rows row d e ≡ is_no_rival knobs rows row d e
-      rival_kept d e =
-          λ t. not (may_kept e t)
-          || (nat_lt (count_kept e t) (count_kept d t)
-          || (count_kept e t == count_kept d t && nat_le d.number e.number))
+      rival_kept d e = grind (arith, may_kept e, count_kept e, count_kept d)
 
       best_kept : (dups : List DupRow) → best_dup knobs calm_rows dups row ≡ best_dup knobs rows dups row
       best_kept dups = λ t. find (λ d. may_kept d t && list_all (λ e. rival_kept d e t) dups) dups
@@ -217,7 +212,7 @@ module _ (later : List GuestPage) (b : BookState) (r : Row) (fresh : has_item r.
   -- with what waits for it in the book it is paired alike
   paired_alike : (o : Option Row) → partner b.knobs b.rows r ≡ o → NoneCovered
       → paired o covered (settled r) ≡ hidden later (paired o b r)
-  paired_alike None found near = λ t. record b { rows = becomes_alike Waiting t }
+  paired_alike None found near = grind (arith, becomes_alike Waiting)
   paired_alike (Some w) found near =
       λ t. record b {
         rows = change_alike _ (becomes (Merged b.next)) (λ x. refl) (λ x. refl) own apart t;
@@ -227,13 +222,13 @@ module _ (later : List GuestPage) (b : BookState) (r : Row) (fresh : has_item r.
       }
     where
       own : (q : GuestPage) → (same_page q w.page || same_page q r.page) ≡ false → same_page r.page q ≡ false
-      own q neither = let back = same_page_sym r.page q in grind arith
+      own q neither = grind (arith, same_page_sym r.page q)
 
       near_w : has_item w.page pages ≡ false
       near_w = found_open near w found
 
       apart : (q : GuestPage) → (same_page q w.page || same_page q r.page) ≡ true → has_item q later ≡ false
-      apart q one = grind (arith, nat_tests, one, same_page_eq q w.page, same_page_eq q r.page, near_w, fresh)
+      apart q one = grind (arith, one, same_page_eq q w.page, same_page_eq q r.page, near_w, fresh)
 
   pairing_alike : (frame : Frames) → NoneCovered
       → pairing (partner b.knobs covered.rows r) covered frame (settled r)
@@ -242,7 +237,7 @@ module _ (later : List GuestPage) (b : BookState) (r : Row) (fresh : has_item r.
     where
       by : (o : Option Row) → pairing o covered frame (settled r) ≡ pairing o b frame r
       by None = refl
-      by (Some w) = λ t. founding b.dups frame (place_kept t) w.page r.page
+      by (Some w) = grind (arith, place_kept)
 
   -- what its visit does with the dup that it may join; no row that waits for it is hidden if it is to wait
   module _ (o : Option DupRow)
@@ -259,8 +254,8 @@ module _ (later : List GuestPage) (b : BookState) (r : Row) (fresh : has_item r.
     handled_alike = by o refl
       where
         by : (e : Option DupRow) → o ≡ e → handled e covered (settled r) ≡ hidden later (handled e b r)
-        by (Some d) is = λ t. record b { rows = becomes_alike (Merged d.number) t }
-        by None is = grind (arith, nat_tests, is, stayed_alike is, chosen, own_change)
+        by (Some d) is = grind (arith, becomes_alike (Merged d.number))
+        by None is = grind (arith, is, stayed_alike is, chosen, own_change)
 
     staying_alike : (frame : Frames) → o ≡ None → r.unchanged ≡ true
         → staying covered frame (settled r) ≡ staying b frame r
@@ -273,7 +268,7 @@ module _ (later : List GuestPage) (b : BookState) (r : Row) (fresh : has_item r.
     handling_alike frame = by o refl
       where
         by : (e : Option DupRow) → o ≡ e → handling e covered frame (settled r) ≡ handling e b frame r
-        by (Some d) is = grind (arith, nat_tests, is, dup_frame_kept)
+        by (Some d) is = grind (arith, is, dup_frame_kept)
         by None is = chosen (λ x. x) _ _ _ _ _ (staying_alike frame is) (λ _. refl)
 
   -- where a visit may change the row, and no row that waits for it is hidden if it is to wait, its visit does the same
@@ -283,13 +278,13 @@ module _ (later : List GuestPage) (b : BookState) (r : Row) (fresh : has_item r.
       → visited doing (covered, deed) (Some (settled r))
       ≡ (hidden later (visited doing (b, deed) (Some r)).0, (visited doing (b, deed) (Some r)).1)
   visit_alike deed is near =
-      grind (arith, nat_tests, best_kept (is_among pages) b.rows b.knobs r b.dups, shared_still, visited_by, handled_alike, handling_alike)
+      grind (arith, best_kept (is_among pages) b.rows b.knobs r b.dups, shared_still, visited_by, handled_alike, handling_alike)
 
 -- ---------------------------------------------------------------- a row takes over
 
 -- an option that has nothing is None
-pub none_is : {X : Type 0} (o : Option X) → is_none o ≡ true → o ≡ None
-none_is o is = grind arith
+pub none_is : {X : Type 0} {o : Option X} → is_none o ≡ true → o ≡ None
+none_is is = grind arith
 
 -- a row takes over: it may join no dup, its bytes have stayed, they do not merge with the zero page, and a row further
 -- on waits for it
@@ -307,7 +302,7 @@ takes_tells b r takes =
     let bytes = and_parts _ _ rows.0 in
     let first = and_parts _ _ bytes.0 in
     record {
-      none = none_is _ first.0;
+      none = none_is first.0;
       unchanged = first.1;
       zeroes = not-true zeroes bytes.1;
       further = rows.1;
@@ -390,9 +385,7 @@ visited_sound b deed r s found =
 
 visited_rows_go : (b : BookState) (deed : Deed) (r : Row) → IsSound b → row_at r.page b.rows ≡ Some r
     → Goes b.rows (visited doing (b, deed) (Some r)).0.rows
-visited_rows_go b deed r s found =
-    subst (λ o. Goes b.rows (visited doing (b, deed) o).0.rows) found
-    (pages_go doing (r.page ∷ []) (b, deed) s.rows_rise)
+visited_rows_go b deed r s found = grind (arith, found, pages_go doing (r.page ∷ []) (b, deed) s.rows_rise)
 
 -- our visit of a page keeps the book sound, and which pages scans visit
 due_keeps : (s : BookState × Deed) (page : GuestPage) → IsSound s.0
@@ -404,7 +397,7 @@ due_keeps s page sound = by _ refl
 
     by : (o : Option Row) → row_at page b.rows ≡ o
         → IsSound (due_row_visited doing s o).0 × Goes b.rows (due_row_visited doing s o).0.rows
-    by None found = (sound, goes_same _)
+    by None found = (sound, goes_same)
     by (Some r) found =
         let there = ap (λ p. row_at p b.rows) (found_page _ _ r found) ∙ found in
         cond_both {A = BookState × Deed} _ (taken_over b r, s.1) _ (λ z. IsSound z.0 × Goes b.rows z.0.rows)
@@ -414,8 +407,7 @@ due_keeps s page sound = by _ refl
         let found_free = freed_found b r there in
         let goes = visited_rows_go _ s.1 r free found_free in (
           subst (λ (z : BookState × Deed). IsSound z.0) taken (visited_sound _ s.1 r free found_free),
-          goes_on _ _ _ (calmed_goes (waits_for b.knobs r) _)
-              (subst (λ (z : BookState × Deed). Goes (freed b r).rows z.0.rows) taken goes),
+          goes_on (calmed_goes (waits_for b.knobs r) _) (grind (arith, taken, goes)),
         ))
         (λ _. (visited_sound b s.1 r sound there, visited_rows_go b s.1 r sound there))
 
@@ -432,10 +424,10 @@ due_visits_sound (page ∷ pages) s sound = due_visits_sound pages (due_visited 
 -- they keep the rows in page order and which pages scans visit, and make no page restless
 pub due_goes : (pages : List GuestPage) (s : BookState × Deed) → IsSound s.0
     → Goes s.0.rows (due_visits doing s pages).0.rows
-due_goes [] s sound = goes_same _
+due_goes [] s sound = goes_same
 due_goes (page ∷ pages) s sound =
     let keeps = due_keeps s page sound in
-    goes_on _ _ _ keeps.1 (due_goes pages (due_visited doing s page) keeps.0)
+    goes_on keeps.1 (due_goes pages (due_visited doing s page) keeps.0)
 
 -- ---------------------------------------------------------------- one visit
 
@@ -473,7 +465,7 @@ module _ (b : BookState) (s : IsSound b) where
     scanned q = has_item q (mergeable_pages b.rows)
 
     fresh : has_item r.page later ≡ false
-    fresh = grind (arith, nat_tests, before_irrefl r.page)
+    fresh = grind (arith, before_irrefl r.page)
 
     -- a row further on that waits is of one of the pages further on
     further_on : (w : Row) → partner b.knobs b.rows r ≡ Some w → comes_before r.page w.page ≡ true
@@ -496,8 +488,7 @@ module _ (b : BookState) (s : IsSound b) where
         let of_w = waits_tells b.knobs r w (find_passes (waits_for b.knobs r) b.rows w found_w) in
         let apart = same_page_sym r.page w.page ∙ of_w.other in
         let not_on = ahead w.page ∙ ap (λ z. z && scanned w.page) sooner in
-        λ k d lt is.
-        ap (λ q. has_item q (r.page ∷ later)) (one_waits b r w s found_w k d lt is) ∙ (λ t. apart t || not_on t)
+        λ k d lt is. grind (arith, one_waits b r w s found_w k d lt is, apart, not_on)
 
     -- where it is further on, the same book is hidden whether the rows that wait for it wait or not
     all_covered : (o : Option Row) → partner b.knobs b.rows r ≡ o → comes_later r.page o ≡ true
@@ -516,7 +507,7 @@ module _ (b : BookState) (s : IsSound b) where
               let on : has_item x.page (r.page ∷ later) ≡ true = grind arith in
               ap (λ z. hides (if z then settled x else x)) is
               ∙ ap (λ z. if z then settled (settled x) else settled x) on ∙ settled_once x ∙ sym (rw on)
-          | inr not_so ↦ ap (λ z. hides (if z then settled x else x)) not_so
+          | inr not_so ↦ grind (arith, not_so)
         ]
 
     -- where a visit may change a row, and its page is hidden with those further on, the visit of the definitions does what
@@ -535,7 +526,7 @@ module _ (b : BookState) (s : IsSound b) where
       | inr stays ↦
           let waiting = partner b.knobs b.rows r in
           let due : visited doing (b, deed) (Some r) ≡ due_row_visited doing (b, deed) (Some r) =
-          λ t. if sym is t && sym stays t then (taken_over b r, deed) else visited doing (b, deed) (Some r) in
+          grind (arith, is, stays) in
           rw (← due)
           (visit_alike _ b r fresh _ is
           (λ none unchanged zeroes.
@@ -559,13 +550,11 @@ module _ (b : BookState) (s : IsSound b) where
       due o = due_row_visited doing (b, deed) o
 
       calm_stays : (r : Row) → is_restless r ≡ false → (b, deed) ≡ due (Some r)
-      calm_stays r calm =
-          λ t. if sym calm t && takes_over b r then (taken_over b r, deed)
-          else (if sym calm t then (row_visited b r, doing b deed r) else (b, deed))
+      calm_stays r calm = grind (arith, calm)
 
       by : (o : Option Row) → row_at page b.rows ≡ o
           → visited doing (hides, deed) (option_map cover o) ≡ (hidden later (due o).0, (due o).1)
-      by None found = λ t. (calm_hidden _ later (ap restless_row found) t, deed)
+      by None found = grind (arith, calm_hidden)
       by (Some r) found = elim (cases_Bool (is_restless r)) [
         | inl is ↦
             let at = found_page _ _ r found in
@@ -606,8 +595,7 @@ those_ahead b gone page later s are q = ap (has_item q) (sym behind) ∙ has_fil
 
     behind : filter (comes_before page) (mergeable_pages b.rows) ≡ later
     behind =
-        ap (filter (comes_before page)) are ∙ filter-append _ gone _
-        ∙ (λ t. gone_by t ++ filter (comes_before page) (page ∷ later))
+        ap (filter (comes_before page)) are ∙ filter-append _ gone _ ∙ (grind (arith, gone_by))
         ∙ filter_out (comes_before page) _ _ (before_irrefl page) ∙ filter_all _ _
         (pairs_head Before _ _ (ascending_right _ (page ∷ later) rise))
 

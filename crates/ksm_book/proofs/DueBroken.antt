@@ -1,6 +1,6 @@
 -- A page that is stored to while it is merged or Zero, comes or goes: of the others only one that waits in its tree with its
 -- bytes may come to join its dup by that, so no other page becomes due.
-use Rattle.ksm_book.proofs.Names.{All, All-filter, all_changed, all_with_row, and_parts, Answer, ap, AreDue, arith, BookState, BookView, Bool, both_ways, bytes_eq, bytes_eq-Decides, cases_Bool, change_row, change_rows, count_with_row, count_without_page, Drop, dup_of_item, DupRow, eqb-true, Err, false, find_all, find_none, fresh_row, get_or, GuestPage, has_item, if◌then◌else◌, inl, inr, is_restless, IsAnswerUnless, IsCarried, IsDupOf, IsSound, item_count, List, may_join, merged_into, merged_state, None, not, Ok, Option, option_map, PageState, partner, refl, Register, Reply, Row, row_at, same_page, same_page_refl, same_page_sym, Some, stored, subst, sym, tells_waits, tree_of, true, waiting_state, waits_for, waits_on, with_row, without_page, ℕ, ◌&&◌, ◌+◌, ◌==◌, ◌||◌, ◌∙◌, ◌∷◌, ◌≡◌, nat_tests}
+use Rattle.ksm_book.proofs.Names.{All, All-filter, all_changed, all_with_row, and_parts, Answer, ap, AreDue, arith, BookState, BookView, Bool, both_ways, bytes_eq, bytes_eq-Decides, cases_Bool, change_row, change_rows, count_with_row, count_without_page, Drop, dup_of_item, DupRow, eqb-true, Err, false, find_all, find_none, fresh_row, get_or, GuestPage, has_item, if◌then◌else◌, inl, inr, is_restless, IsAnswerUnless, IsCarried, IsDupOf, IsSound, item_count, List, may_join, merged_into, merged_state, None, not, Ok, Option, option_map, PageState, partner, refl, Register, Reply, Row, row_at, same_page, same_page_refl, same_page_sym, Some, stored, subst, sym, tells_waits, tree_of, true, waiting_state, waits_for, waits_on, with_row, without_page, ℕ, ◌&&◌, ◌+◌, ◌==◌, ◌||◌, ◌∙◌, ◌∷◌, ◌≡◌}
 use Rattle.ksm_base.specs.Answers.{IsAnswerOrMemory}
 use Rattle.ksm_base.specs.Refusals.{refused_if}
 use Rattle.ksm_base.specs.declared.fault.Fault.TheVariants.{UnknownPage}
@@ -16,7 +16,7 @@ use Rattle.ksm_book.proofs.DueKept.{count_kept, itself, joins, more_due, none_is
 on_still : (b : BookState) (new : List Row) (r : Row)
     → (All (λ d. may_join b.knobs b.rows r d ≡ false) b.dups → All (λ d. may_join b.knobs new r d ≡ false) b.dups)
     → waits_on b r ≡ true → waits_on (record b { rows = new }) r ≡ true
-on_still b new r joins_none is = grind (arith, nat_tests, tells_on, none_is_best, none_to_join)
+on_still b new r joins_none is = grind (arith, tells_on, none_is_best, none_to_join)
 
 module _ (b : BookState) (sound : IsSound b) (page : GuestPage) (row : Row) (found : row_at page b.rows ≡ Some row) where
   -- the page that waits in the tree of the row with its bytes, if the row is merged
@@ -36,11 +36,11 @@ module _ (b : BookState) (sound : IsSound b) (page : GuestPage) (row : Row) (fou
       r = get_or b.rows k d
 
       named : (o : Option Row) → partner b.knobs b.rows row ≡ o → option_map (λ w. w.page) o ≡ beside
-      named o is = rw merged (ap (option_map (λ w. w.page)) (sym is))
+      named o is = rw merged (grind (arith, is))
 
       by : (o : Option Row) → partner b.knobs b.rows row ≡ o → names r.page beside ≡ true
-      by None none = grind (arith, nat_tests, none, find_none)
-      by (Some w) is = grind (arith, nat_tests, is, one_waits b row w sound is k d lt waits, same_page_refl w.page, named)
+      by None none = grind (arith, none, find_none)
+      by (Some w) is = grind (arith, is, one_waits b row w sound is k d lt waits, same_page_refl w.page, named)
 
   -- a row that waits, of the tree and content of a dup into which the row is merged, is of that page
   is_of_dup : All (λ r. waiting_state r.state ≡ true → All (λ e. merged_into e.number row.state ≡ true
@@ -54,8 +54,7 @@ module _ (b : BookState) (sound : IsSound b) (page : GuestPage) (row : Row) (fou
       let group = and_parts _ _ same in
       let other : same_page r.page row.page ≡ false = elim (cases_Bool (same_page r.page row.page)) [
         | inl is ↦
-            let it = row_of_page _ _ row sound.rows_rise found k d lt
-            (ap (same_page r.page) (sym (found_page _ _ row found)) ∙ is) in
+            let it = row_of_page _ _ row sound.rows_rise found k d lt (grind (arith, found_page, is)) in
             absurd (both_ways (waiting_state row.state) merged.1 (rw (← it) waiting))
         | inr apart ↦ apart
       ] in
@@ -71,7 +70,7 @@ module _ (b : BookState) (sound : IsSound b) (page : GuestPage) (row : Row) (fou
     -- a row that waits, and not on that page, can join none still where it could join no dup
     joins_none_then : All (λ r. waiting_state r.state ≡ true → names r.page beside ≡ false
         → All (λ e. may_join b.knobs b.rows r e ≡ false) b.dups → All (λ e. may_join b.knobs now r e ≡ false) b.dups) b.rows
-    joins_none_then k d lt waiting apart none j e lt_e = grind (arith, nat_tests, is_of_dup, counts)
+    joins_none_then k d lt waiting apart none j e lt_e = grind (arith, is_of_dup, counts)
 
     -- where that page is due, with what was, each other row waits on beside those rows
     left_still : (old new : List GuestPage) → AreDue b old → ((p : GuestPage) → has_item p old ≡ true → has_item p new ≡ true)
@@ -92,11 +91,11 @@ module _ (b : BookState) (sound : IsSound b) (page : GuestPage) (row : Row) (fou
 module _ (b : BookState) (page : GuestPage) (old new : List GuestPage) (was : AreDue b old)
     (told : (p : GuestPage) → has_item p new ≡ (names p (page_beside b.knobs b.rows (row_at page b.rows)) || has_item p old)) where
   more_than_was : (p : GuestPage) → has_item p old ≡ true → has_item p new ≡ true
-  more_than_was p is = let tells = told p in grind arith
+  more_than_was p is = grind (arith, told p)
 
   module _ (sound : IsSound b) (row : Row) (found : row_at page b.rows ≡ Some row) where
     covers : (p : GuestPage) → names p (page_beside b.knobs b.rows (Some row)) ≡ true → has_item p new ≡ true
-    covers p is = grind (arith, nat_tests, is)
+    covers p is = grind (arith, is)
 
     -- that is so of the book once bytes are stored to the other, which is due too
     pub left_broken : (later : List GuestPage) → ((p : GuestPage) → has_item p later ≡ (same_page page p || has_item p new))
@@ -112,10 +111,10 @@ module _ (b : BookState) (page : GuestPage) (old new : List GuestPage) (was : Ar
         of_page r = same_page r.page page
 
         on : (p : GuestPage) → has_item p new ≡ true → has_item p later ≡ true
-        on p is = let tells = added p in grind arith
+        on p is = grind (arith, added p)
 
         own : (p : GuestPage) → same_page p page ≡ true → has_item p later ≡ true
-        own p same = added p ∙ ap (λ z. z || has_item p new) (same_page_sym _ p ∙ same)
+        own p same = grind (arith, added p, same_page_sym, same)
 
         counts : (e : DupRow) → merged_into e.number row.state ≡ false
             → item_count (change_rows of_page (stored bytes) b.rows) e ≡ item_count b.rows e
@@ -154,7 +153,7 @@ come_due b page node bytes pages absent was =
 module _ (b : BookState) (page : GuestPage) (old new : List GuestPage) (added : (p : GuestPage) → has_item p new ≡ (same_page page p || has_item p old))
     (was : AreDue b old) where
   more : (p : GuestPage) → has_item p old ≡ true → has_item p new ≡ true
-  more p is = let tells = added p in grind arith
+  more p is = grind (arith, added p)
 
   -- that is so of the book as it is
   pub added_due : AreDue b new

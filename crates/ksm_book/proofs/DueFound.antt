@@ -1,6 +1,6 @@
 -- The visit of a page that is due, by what was found of it: it takes over from none, but where a row further on waits
 -- for it; and which pages are due then.
-use Rattle.ksm_book.proofs.Names.{and_from, and_right, ap, AreDue, arith, Best, best_dup, BookState, BookValue, BookView, Bool, change_row, change_rows, Comes, comes_before, comes_later, cond_both, Deed, doing, Dup, due_visited, DupRow, false, find_mapped, find_passes, FindsAt, get_or, GuestPage, has_item, HasStayed, if◌then◌else◌, InPageOrder, is_for_zero, is_none, is_restless, IsDueNoMore, IsSound, KeeperView, List, mapped, MatchOption, Merged, None, not, not_both, one_before, Option, option_map, or_cases, page_visited, PagesView, paired, PageState, Partner, partner, Performs, Reached, refl, restless_at, restless_row, Row, row_at, row_visited, same_page, same_page_eq, same_page_refl, same_Some, shared_state, Some, state_of, StaysBefore, subst, sym, takes_over, TakesOverFrom, true, view_of, VisitsPage, waits_for, waits_tells, Zero, ℕ, ◌&&◌, ◌||◌, ◌∙◌, ◌∷◌, ◌≡◌, nat_tests}
+use Rattle.ksm_book.proofs.Names.{and_from, and_right, ap, AreDue, arith, Best, best_dup, BookState, BookValue, BookView, Bool, change_row, change_rows, Comes, comes_before, comes_later, cond_both, Deed, doing, Dup, due_visited, DupRow, false, find_mapped, find_passes, FindsAt, get_or, GuestPage, has_item, HasStayed, if◌then◌else◌, InPageOrder, is_for_zero, is_none, is_restless, IsDueNoMore, IsSound, KeeperView, List, MatchOption, Merged, None, not, not_both, one_before, Option, option_map, or_cases, page_visited, PagesView, paired, PageState, Partner, partner, Reached, refl, restless_at, restless_row, Row, row_at, row_visited, same_page, same_page_eq, same_page_refl, same_Some, shared_state, Some, state_of, StaysBefore, subst, sym, takes_over, TakesOverFrom, true, view_of, VisitsPage, waits_for, waits_tells, Zero, ℕ, ◌&&◌, ◌||◌, ◌∙◌, ◌∷◌, ◌≡◌}
 use Rattle.ksm_base.specs.declared.row.PageState.TheVariants.{Private}
 use Rattle.ksm_pages.specs.declared.pages.Find.TheVariants as finds
 use Rattle.ksm_pages.specs.Paged.{Finds}
@@ -34,18 +34,18 @@ module _ (b : BookState) (row : Row) where
   abbrev later : Bool
   later = comes_later row.page (partner b.knobs b.rows row)
 
-  joins_takes_none : (d : DupRow) → best_dup b.knobs b.rows b.dups row ≡ Some d → takes_over b row ≡ false
-  joins_takes_none d best = not_first _ _ _ _ (ap is_none best)
+  joins_takes_none : {d : DupRow} → best_dup b.knobs b.rows b.dups row ≡ Some d → takes_over b row ≡ false
+  joins_takes_none best = not_first _ _ _ _ (ap is_none best)
 
   zero_takes_none : is_for_zero b.knobs row ≡ true → takes_over b row ≡ false
   zero_takes_none is = not_third none row.unchanged _ later (ap not is)
 
-  waits_takes_none : (w : Row) → partner b.knobs b.rows row ≡ Some w → comes_before row.page w.page ≡ false → takes_over b row ≡ false
-  waits_takes_none w waits before = and_right _ _ (ap (comes_later row.page) waits ∙ before)
+  waits_takes_none : {w : Row} → partner b.knobs b.rows row ≡ Some w → comes_before row.page w.page ≡ false → takes_over b row ≡ false
+  waits_takes_none waits before = and_right _ _ (ap (comes_later row.page) waits ∙ before)
 
   takes : best_dup b.knobs b.rows b.dups row ≡ None → row.unchanged ≡ true → is_for_zero b.knobs row ≡ false
       → (w : Row) → partner b.knobs b.rows row ≡ Some w → comes_before row.page w.page ≡ true → takes_over b row ≡ true
-  takes best is zeroes w waits before = grind (arith, nat_tests, and_from)
+  takes best is zeroes w waits before = grind (arith, and_from)
 
 -- where the row of a page takes over from none, its visit is that of the definitions
 is_visited : (s : BookState × Deed) (page : GuestPage) → TakesNone page s.0 → due_visited doing s page ≡ page_visited doing s page
@@ -53,8 +53,7 @@ is_visited s page none = grind (arith, none)
 
 comes_so : (v w : BookValue) (page : GuestPage) → TakesNone page v.state → Comes v w (λ s. page_visited doing s page)
     → Comes v w (λ s. due_visited doing s page)
-comes_so v w page none comes = λ from s before.
-    subst (Reached from w) (sym (is_visited s _ (subst (TakesNone page) before.0 none))) (comes from s before)
+comes_so v w page none comes = λ from s before. grind (arith, is_visited, comes from s before)
 
 module _ {P : BookState → Row → Type 0} {p : PagesView} {k : KeeperView} {cursor : Option GuestPage} {passes : ℕ} {v : BookView}
     {page : GuestPage} (at : Meets P p k cursor passes v page) where
@@ -72,7 +71,7 @@ Without page old new = (p : GuestPage) → has_item p new ≡ (has_item p old &&
 
 kept : (page : GuestPage) (old new : List GuestPage) → Without page old new
     → (p : GuestPage) → has_item p old ≡ true → has_item p (page ∷ new) ≡ true
-kept page old new gone p is = let one = gone p in grind arith
+kept page old new gone p is = grind (arith, gone p)
 
 -- a page that is due no more need not be among those that are
 pub less_due : (page : GuestPage) (b c : BookState) (old new : List GuestPage) → Without page old new → IsDueNoMore page b c
@@ -119,19 +118,18 @@ module _ {P : BookState → Row → Type 0} {p : PagesView} {k : KeeperView} {cu
       no_more : IsDueNoMore page v.state w.state
       no_more pages was =
           calm_undue w.state _ rise (ap (λ (c : BookState). restless_at page c.rows) state_is ∙ calm) pages
-          (subst (λ (c : BookState). AreDue c (page ∷ pages)) (sym becomes)
-          (visited_due _ _ _ (sound_seen at) was (takes_none at none)))
+          (grind (arith, becomes, visited_due))
 
 -- ---------------------------------------------------------------- by what was found
 
 module _ {p q : PagesView} {k : KeeperView} {cursor : Option GuestPage} {passes : ℕ} {v : BookView} {page : GuestPage} where
   module _ (best : Best) (at : Meets (λ _ r. FindsAt p q r (Dup best)) p k cursor passes v page) where
     joins : (d : DupRow) × (best_dup p.knobs p.rows p.dups at.row ≡ Some d) × ((best.number ≡ d.number) × (best.place ≡ d.place))
-    joins = filled_by _ _ at.so.1
+    joins = filled_by _ at.so.1
 
     -- a page that joins a dup takes over from none
     pub dup_none : takes_over (state_of p cursor passes) at.row ≡ false
-    dup_none = joins_takes_none (state_of p cursor passes) at.row _ joins.1
+    dup_none = joins_takes_none (state_of p cursor passes) at.row joins.1
 
     -- its row is none then that a visit may change
     pub dup_calm : restless_at page (row_visited (state_of p cursor passes) at.row).rows ≡ false
@@ -154,28 +152,28 @@ module _ {p q : PagesView} {k : KeeperView} {cursor : Option GuestPage} {passes 
 
   module _ (other : GuestPage) (at : Meets (λ _ r. FindsAt p q r (Partner other)) p k cursor passes v page) where
     met : (w : Row) × (partner p.knobs p.rows at.row ≡ Some w) × (other ≡ w.page)
-    met = filled_by _ _ at.so.4
+    met = filled_by _ at.so.4
 
     stays : HasStayed (state_of p cursor passes) false at.row
     stays = (let is = at.so in record { restless = is.0; none = is.1; unchanged = is.2; zeroes = is.3 })
 
     -- a page that meets an earlier one takes over from none
     pub partner_none : comes_before other page ≡ true → takes_over (state_of p cursor passes) at.row ≡ false
-    partner_none before = waits_takes_none (state_of p cursor passes) at.row _ met.1
-        ((λ t. comes_before (page_is at t) (sym met.2 t)) ∙ not_both other page before)
+    partner_none before = waits_takes_none (state_of p cursor passes) at.row met.1
+        (grind (arith, page_is at, met.2, not_both other page before))
 
     -- once it was visited, its row is none that a visit may change
     pub partner_calm : restless_at page (row_visited (state_of p cursor passes) at.row).rows ≡ false
     partner_calm =
         rw ((stayed_is (state_of p cursor passes) p.frame at.row false stays).0 ∙ ap (λ o. paired o (state_of p cursor passes) at.row) met.1)
         (calm_then page p.rows at.row (λ r. same_page r.page met.0.page || same_page r.page at.row.page) (Merged p.next) refl at.found
-        (let same = same_page_refl at.row.page in grind arith))
+        (grind (arith, same_page_refl at.row.page)))
 
     -- a page that meets no earlier one is to wait in the stead of the other
     pub partner_takes : comes_before other page ≡ false → MatchOption (row_at page p.rows) (true ≡ false) (TakesOverFrom (state_of p cursor passes) other)
     partner_takes none =
         let apart = (waits_tells p.knobs at.row met.0 (find_passes (waits_for p.knobs at.row) p.rows _ met.1)).other in
-        let before = one_before met.0.page at.row.page apart ((λ t. comes_before (sym met.2 t) (page_is at t)) ∙ none) in
+        let before = one_before met.0.page at.row.page apart (grind (arith, met.2, page_is at, none)) in
         rw at.found
         (at.so.0, takes (state_of p cursor passes) at.row stays.none stays.unchanged stays.zeroes _ met.1 before, at.so.4)
 
@@ -196,7 +194,7 @@ module _ {p q : PagesView} {k : KeeperView} {cursor : Option GuestPage} {passes 
       f r = record r { unchanged = true; state = Private }
 
       back : (g : GuestPage) → has_item g (at.row.page ∷ due) ≡ true → has_item g due ≡ true
-      back g is = grind (arith, nat_tests, is, page_is at, or_cases, same_page_eq)
+      back g is = grind (arith, is, page_is at, or_cases, same_page_eq)
 
 -- a search that found a page gone changed nothing
 pub gone_same : (p q : PagesView) (page : GuestPage) → Finds p q page finds.Gone → q ≡ p
@@ -206,12 +204,11 @@ gone_same p q page told = grind arith
 
 module _ (v m w : BookValue) (same : view_of m ≡ view_of v) where
   reached_as : (from : BookValue) (s : BookState × Deed) → Reached from v s → Reached from m s
-  reached_as from s before =
-      subst (λ (x : BookView). (x.state ≡ s.0) × Performs (mapped (view_of from)) (mapped x) s.1) (sym same) before
+  reached_as from s before = grind (arith, same, before)
 
   -- what is reached from a book is reached from one that looks the same
-  pub comes_as : (change : BookState × Deed → BookState × Deed) → Comes m w change → Comes v w change
-  comes_as change comes = λ from s before. comes from s (reached_as from s before)
+  pub comes_as : {change : BookState × Deed → BookState × Deed} → Comes m w change → Comes v w change
+  comes_as comes = λ from s before. comes from s (reached_as from s before)
 
   -- and so is what a refused visit leaves
   pub stays_as : (page : GuestPage) → StaysBefore page m w → StaysBefore page v w

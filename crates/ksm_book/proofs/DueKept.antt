@@ -1,5 +1,5 @@
 -- Passes that visit only the pages that are due: what waits on is left as it is, and what is due stays so.
-use Rattle.ksm_book.proofs.Names.{IsDueNoMore, restless_at, restless_row, All, All-cons, All-head, All-tail, AreDue, BookState, Bool, Contains, Deed, DupRow, Frames, GuestPage, HasStayed, InPageOrder, IsJoined, IsSound, Knobs, List, Merged, None, Option, PageState, Row, Some, Waiting, WaitsFor, Zero, [], all_changed, all_with_dup, and_from, and_parts, and_right, ap, arith, best_dup, best_dup_has_room, both_ways, bytes_eq, bytes_eq-Decides, cases_Bool, change_row, change_rows, comes_later, cond_both, count_by, count_mapped, doing, due_row_visited, due_visited, due_visits, dup_numbered, each_at_page, each_has_number, eq-eqb, eqb-true, false, find, find_all, find_none, find_nothing, find_passes, get_or, handled, has_item, idle, if◌then◌else◌, inl, inr, is_for_zero, is_restless, item_count, list_all, list_all-from_AllPass, made_dup, may_join, merged_into, merged_state, nat_le, nat_lt, nat_tests, ne_eqb, not, not-true, not_an_item, not_from_false, nowhere, one_of_each_page, or_cases, or_parts, ordered_change, paired, partner, refl, row_at, row_visited, row_visiting, same_Some, same_page, same_page_eq, same_page_refl, settled, settled_state, stayed, subst, suc, sym, taken_over, takes_over, tells_waits, tree_of, true, true≢false, visited, waiting_state, waits_for, waits_on, waits_tells, with_dup, ℕ, ◌&&◌, ◌+◌, ◌==◌, ◌||◌, ◌∙◌, ◌∷◌, ◌≡◌, ◌⊎◌}
+use Rattle.ksm_book.proofs.Names.{IsDueNoMore, restless_at, restless_row, All, All-cons, All-head, All-tail, AreDue, BookState, Bool, Contains, Deed, DupRow, Frames, GuestPage, HasStayed, InPageOrder, IsJoined, IsSound, Knobs, List, Merged, None, Option, PageState, Row, Some, Waiting, WaitsFor, Zero, [], all_changed, all_with_dup, and_from, and_parts, and_right, ap, arith, best_dup, best_dup_has_room, both_ways, bytes_eq, bytes_eq-Decides, cases_Bool, change_row, change_rows, comes_later, cond_both, count_by, count_mapped, doing, due_row_visited, due_visited, due_visits, dup_numbered, each_at_page, each_has_number, eq-eqb, eqb-true, false, find, find_all, find_none, find_nothing, find_passes, get_or, handled, has_item, idle, if◌then◌else◌, inl, inr, is_for_zero, is_restless, item_count, list_all, list_all-from_AllPass, made_dup, may_join, merged_into, merged_state, nat_le, nat_lt, ne_eqb, not, not-true, not_an_item, not_from_false, nowhere, one_of_each_page, or_cases, or_parts, ordered_change, paired, partner, refl, row_at, row_visited, row_visiting, same_Some, same_page, same_page_eq, same_page_refl, settled, settled_state, stayed, subst, suc, sym, taken_over, takes_over, tells_waits, tree_of, true, true≢false, visited, waiting_state, waits_for, waits_on, waits_tells, with_dup, ℕ, ◌&&◌, ◌+◌, ◌==◌, ◌||◌, ◌∙◌, ◌∷◌, ◌≡◌, ◌⊎◌}
 use Rattle.ksm_base.specs.declared.row.PageState.TheVariants.{Private}
 use Rattle.ksm_book.proofs.ByPage.{at_changed, found_page, row_of_page}
 use Rattle.ksm_book.proofs.Doing.{then_idle}
@@ -102,12 +102,12 @@ on_tells b row is =
       waiting = first.0;
       unchanged = first.1;
       zeroes = not-true (is_for_zero b.knobs row) third.1;
-      none = none_is _ last.1;
+      none = none_is last.1;
     }
 
 -- a row that waits on passes the test
 pub tells_on : (b : BookState) (row : Row) → WaitsOn b row → waits_on b row ≡ true
-tells_on b row h = grind (arith, nat_tests, h, and_from, not_from_false)
+tells_on b row h = grind (arith, h, and_from, not_from_false)
 
 -- ---------------------------------------------------------------- which pages are due
 
@@ -143,7 +143,7 @@ joins knobs row d items =
 pub count_kept : (number : ℕ) (test : Row → Bool) (f : Row → Row) (rows : List Row)
     → All (λ r. test r ≡ true → merged_into number (f r).state ≡ merged_into number r.state) rows
     → count_by (λ r. merged_into number r.state) (change_rows test f rows) ≡ count_by (λ r. merged_into number r.state) rows
-count_kept number test f rows same = grind (arith, nat_tests, count_mapped)
+count_kept number test f rows same = grind (arith, count_mapped)
 
 module _ (b : BookState) (test : Row → Bool) (f : Row → Row) (dups : List DupRow) (next : ℕ) where
   -- the book once the rows that pass a test were changed, and the dups
@@ -262,8 +262,7 @@ module _ (b : BookState) (sound : IsSound b) (new : List Row) (dup : DupRow) (st
       let e = get_or b.dups k d in
       elim (cases_Bool (e.number == dup.number)) [
         | inl same ↦
-            let is = same_Some e dup (sym (each_has_number _ sound.dups_rise k d lt)
-            ∙ ap (λ n. dup_numbered n b.dups) (eqb-true e.number dup.number same) ∙ stands) in
+            let is = same_Some e dup (grind (arith, each_has_number, eqb-true e.number dup.number same, stands)) in
             rw is (not_of_group _ _ _ _ _ some room (subst (λ x. may_join b.knobs b.rows r x ≡ false) is (none k d lt)))
         | inr other ↦ ap (joins b.knobs r e) (same_count e other) ∙ none k d lt
       ]
@@ -288,7 +287,7 @@ module _ (b : BookState) (sound : IsSound b) (row : Row) (found : row_at row.pag
       (unmerged, after))
       (row.page ∷ pages) (row.page ∷ pages) (λ p is. is)
       (λ k d lt same _. let r = get_or b.rows k d in
-      ap (λ p. has_item p (row.page ∷ pages)) (keeps r) ∙ itself row.page pages r.page same) was
+      grind (arith, keeps r, itself row.page pages r.page same)) was
 
   -- the row joins a dup: rows of other pages that wait on are of another tree or content
   joined_due : (dup : DupRow) (pages : List GuestPage) → best_dup b.knobs b.rows b.dups row ≡ Some dup → AreDue b (row.page ∷ pages)
@@ -308,7 +307,7 @@ module _ (b : BookState) (sound : IsSound b) (row : Row) (found : row_at row.pag
       joined = best_dup_has_room b row dup sound best
 
       joins_it : may_join b.knobs b.rows row dup ≡ true
-      joins_it = grind (arith, nat_tests, and_parts, find_passes)
+      joins_it = grind (arith, and_parts, find_passes)
 
       same_count : (e : DupRow) → (e.number == dup.number) ≡ false → item_count (change_rows of_page f b.rows) e ≡ item_count b.rows e
       same_count e other = count_kept _ _ f _ (λ k d lt same.
@@ -346,7 +345,7 @@ module _ (b : BookState) (sound : IsSound b) (row : Row) (found : row_at row.pag
 
       of_another : All (λ r. waiting_state r.state ≡ true → same_page r.page w.page ≡ false
           → (new.tree == tree_of b.knobs r && bytes_eq new.bytes r.bytes) ≡ false) b.rows
-      of_another k d lt waiting apart = grind (arith, nat_tests, waiting, and_parts, waiter_alone, bytes_eq-Decides)
+      of_another k d lt waiting apart = grind (arith, waiting, and_parts, waiter_alone, bytes_eq-Decides)
 
       others : All (λ r. test r ≡ false → WaitsOn b r → StillJoinsNone b test f (with_dup new b.dups) (b.next + 1) r) b.rows
       others k d lt fails h none =
@@ -410,20 +409,20 @@ module _ (b : BookState) (frame : Frames) (sound : IsSound b) (row : Row) (found
 
   -- its visit leaves the book as it is
   on_same : row_visited b row ≡ b
-  on_same = (stayed_is b frame row false on_stayed).0 ∙ ap (λ o. paired o b row) on_alone ∙ (λ t. record b { rows = still t })
+  on_same = grind (arith, (stayed_is b frame row false on_stayed).0, on_alone, still)
     where
       still : change_row row.page (λ r. record r { state = Waiting }) b.rows ≡ b.rows
       still = change_still _ _ _ (λ k d lt same. rw (row_of_page _ _ row sound.rows_rise found k d lt same)
-          (λ t. record row { state = waits_is _ on.waiting t }))
+          (grind (arith, waits_is)))
 
   -- and does nothing to the frames
   on_idle : row_visiting b frame row ≡ idle frame
-  on_idle = grind (arith, nat_tests, on_alone, stayed_is)
+  on_idle = grind (arith, on_alone, stayed_is)
 
 -- the visit of a page that waits on changes nothing
 pub on_stays : (s : BookState × Deed) (page : GuestPage) (r : Row) → IsSound s.0 → row_at page s.0.rows ≡ Some r
     → waits_on s.0 r ≡ true → is_restless r ≡ true → due_visited doing s page ≡ s
-on_stays s page r sound found is restless = grind (arith, nat_tests, found_page, on_takes_none, on_same, on_idle, then_idle)
+on_stays s page r sound found is restless = grind (arith, found_page, on_takes_none, on_same, on_idle, then_idle)
 
 -- visits of pages of which none is due change nothing
 pub undue_stay : (pages : List GuestPage) (s : BookState × Deed) (due : List GuestPage) → IsSound s.0 → AreDue s.0 due
@@ -438,7 +437,7 @@ undue_stay (page ∷ pages) s due sound are out =
       | inl restless ↦
           let on = find_all (λ x. same_page x.page page)
           (λ x. is_restless x ≡ true → has_item x.page due ≡ false → waits_on s.0 x ≡ true) s.0.rows r found are restless
-          (ap (λ p. has_item p due) (found_page _ _ r found) ∙ All-head (λ p. has_item p due ≡ false) _ _ out) in
+          (grind (arith, found_page, All-head)) in
           on_stays s _ r sound found on restless
       | inr calm ↦ calm_stays s _ (ap restless_row found ∙ calm)
     ]
@@ -499,12 +498,12 @@ waits_undue b row found restless none unchanged zeroes rise pages was =
     f r = record r { state = Waiting }
 
     on : (r : Row) → row_at row.page (waits_now b row).rows ≡ Some r → is_restless r ≡ true → waits_on (waits_now b row) r ≡ true
-    on r at _ = grind (arith, nat_tests, at, waits_then b row found restless none unchanged zeroes rise, same_Some)
+    on r at _ = grind (arith, at, waits_then b row found restless none unchanged zeroes rise, same_Some)
 
 -- a page whose row a visit may not change is not due
 pub calm_undue : (b : BookState) (page : GuestPage) → InPageOrder b.rows → restless_at page b.rows ≡ false → IsDueNoMore page b b
 calm_undue b page rise calm pages was =
-    undue b _ _ rise (λ r at restless. absurd (true≢false (sym restless ∙ ap restless_row (sym at) ∙ calm))) was
+    undue b _ _ rise (λ r at restless. absurd (true≢false (grind (arith, restless, at, calm)))) was
 
 -- ---------------------------------------------------------------- a row that waits in the stead of another
 

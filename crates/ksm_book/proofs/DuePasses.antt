@@ -1,5 +1,5 @@
 -- A pass over what is due comes to what the pass of the definitions comes to.
-use Rattle.ksm_book.proofs.Names.{[], after_cursor, All, All-filter, ap, append-nil, AreAscending, AreDue, arith, BookState, Bool, both_ways, cases_Bool, comes_before, Deed, doing, due_visited, due_visits, false, filter, filter_all, filter_passes, filter-append, get_or, get_or_from_slice_get, GuestPage, has_item, hidden, hidden_from, inl, inr, IsSound, List, list_any_at, map_alike, mergeable_pages, nat_lt, nat_tests, None, not, not-true, Option, pages_ahead, pages_visited, part_before, part_visited, pass_begun, refl, restless_at, Row, same_page, same_Some, settled, slice_get, slice_get_within, Some, subst, suc, sym, take, true, zero, with_none_waiting, ℕ, ◌++◌, ◌*◌, ◌+◌, ◌-◌, ◌<◌, ◌^◌, ◌∙◌, ◌∷◌, ◌≡◌, if◌then◌else◌}
+use Rattle.ksm_book.proofs.Names.{[], after_cursor, All, All-filter, ap, append-nil, AreAscending, AreDue, arith, BookState, Bool, both_ways, cases_Bool, comes_before, Deed, doing, due_visited, due_visits, false, filter, filter_all, filter_passes, filter-append, get_or, get_or_from_slice_get, GuestPage, has_item, hidden, hidden_from, inl, inr, IsSound, List, list_any_at, map_alike, mergeable_pages, nat_lt, None, not, not-true, Option, pages_ahead, pages_visited, part_before, part_visited, pass_begun, refl, restless_at, Row, same_page, same_Some, settled, slice_get, slice_get_within, Some, subst, suc, sym, take, true, zero, with_none_waiting, ℕ, ◌++◌, ◌*◌, ◌+◌, ◌-◌, ◌<◌, ◌^◌, ◌∙◌, ◌∷◌, ◌≡◌, if◌then◌else◌}
 use Rattle.ksm_book.specs.Scanned.{ahead_before}
 use Rattle.ksm_book.proofs.Along.{FitsPage}
 use Rattle.ksm_book.proofs.DueAlike.{due_alike, due_goes, due_visits_sound, hidden_all, hidden_none, mergeable_has, stays_settled, waits_mergeable}
@@ -34,7 +34,7 @@ hidden_rest b sound page pages are = λ t. record b { rows = map_alike f g _ eac
     g r = if not (comes_before r.page page) then settled r else r
 
     each : All (λ r. f r ≡ g r) b.rows
-    each k d lt = grind (arith, nat_tests, mergeable_has, waits_mergeable, has_filter, stays_settled)
+    each k d lt = grind (arith, mergeable_has, waits_mergeable, has_filter, stays_settled)
 
 -- a book as a pass begins, with what was done
 module _ (s : BookState × Deed) (sound : IsSound s.0) (start : s.0.cursor ≡ None) where
@@ -55,7 +55,7 @@ module _ (s : BookState × Deed) (sound : IsSound s.0) (start : s.0.cursor ≡ N
   -- the visits of the first pages, where the others are hidden
   alike : (done rest : List GuestPage) → all ≡ done ++ rest
       → pages_visited doing (pass_begun s.0, s.1) done ≡ (hidden rest (due_visits doing s done).0, (due_visits doing s done).1)
-  alike done rest is = grind (arith, nat_tests, begun_none, hidden_all s.0 sound, due_alike done rest s sound is)
+  alike done rest is = grind (arith, begun_none, hidden_all s.0 sound, due_alike done rest s sound is)
 
   -- the visits of all pages
   pub whole_part : due_visits doing s (pages_ahead s.0) ≡ part_visited None s
@@ -109,11 +109,11 @@ module _ (s : BookState × Deed) (sound : IsSound s.0) (pages : List GuestPage) 
     stay u none =
         undue_stay _ _ due (due_visits_sound (filter passed pages) s sound) are
         (λ k d lt. none (get_or (filter u left) k d)
-        (not-false _ (All-filter u (λ q. not (passed q) ≡ true) _ (filter_passes (λ p. not (passed p)) pages) k d lt))
+        (not-false (All-filter u (λ q. not (passed q) ≡ true) _ (filter_passes (λ p. not (passed p)) pages) k d lt))
         (filter_passes u _ k d lt))
       where
-        not-false : (b : Bool) → not (not b) ≡ true → b ≡ true
-        not-false b is = grind arith
+        not-false : {b : Bool} → not (not b) ≡ true → b ≡ true
+        not-false is = grind arith
 
     -- where no page behind the cursor is due, all pages were visited
     pub all_visited : All (λ p. after_cursor cursor p ≡ false) due → due_visits doing s pages ≡ reached
@@ -123,7 +123,7 @@ module _ (s : BookState × Deed) (sound : IsSound s.0) (pages : List GuestPage) 
         ∙ stay (λ _. true) (λ q behind _. undue_by (after_cursor cursor) q behind none)
       where
         undue_by : (t : GuestPage → Bool) (q : GuestPage) → t q ≡ true → All (λ p. t p ≡ false) due → has_item q due ≡ false
-        undue_by t q is fails = grind (arith, nat_tests, place_of, get_or_from_slice_get, slice_get_within)
+        undue_by t q is fails = grind (arith, place_of, get_or_from_slice_get, slice_get_within)
 
     module _ (page : GuestPage) (first : IsFirst cursor due page) where
       abbrev low : GuestPage → Bool
@@ -131,7 +131,7 @@ module _ (s : BookState × Deed) (sound : IsSound s.0) (pages : List GuestPage) 
 
       -- no page that is left and comes before it is due
       not_due : (q : GuestPage) → after_cursor cursor q ≡ true → low q ≡ true → has_item q due ≡ false
-      not_due q behind before = grind (arith, nat_tests, place_of, get_or_from_slice_get, slice_get_within)
+      not_due q behind before = grind (arith, place_of, get_or_from_slice_get, slice_get_within)
 
       -- what was passed comes before it
       passed_low : (q : GuestPage) → passed q ≡ true → low q ≡ true
@@ -155,8 +155,7 @@ module _ (s : BookState × Deed) (sound : IsSound s.0) (pages : List GuestPage) 
             let at = place_of _ _ there in
             let splits = place_splits _ _ _ rise at.1 in
             rw (← before_visited)
-            (ap (due_visits doing s) (splits.1 ∙ take_one _ _ _ at.1 ∙ ap (λ l. l ++ page ∷ []) (sym splits.0))
-            ∙ visits_on (filter low pages) (page ∷ []) s)
+            (grind (arith, splits.1, take_one, splits.0, visits_on (filter low pages) (page ∷ []) s))
         | inr out ↦
             ap (due_visits doing s) (filter_same _ low _ (λ k d lt. others _ (absent _ _ out k d lt))) ∙ before_visited
             ∙ sym (calm_stays _ _ (calm out))
@@ -169,7 +168,7 @@ module _ (s : BookState × Deed) (sound : IsSound s.0) (pages : List GuestPage) 
           others q differ = grind arith
 
           absent : (x : GuestPage) (ps : List GuestPage) → has_item x ps ≡ false → All (λ q. same_page q x ≡ false) ps
-          absent x ps out k d lt = grind (arith, nat_tests, list_any_at)
+          absent x ps out k d lt = grind (arith, list_any_at)
 
           take_one : (ps : List GuestPage) (n : ℕ) (p : GuestPage) → slice_get ps n ≡ Some p → take (suc n) ps ≡ take n ps ++ p ∷ []
           take_one [] n p is = cc

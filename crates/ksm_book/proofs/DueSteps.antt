@@ -124,8 +124,8 @@ module _ (old mid : BookValue) (begins_so : Comes old mid (λ s. (pass_begun s.0
   }
 
   -- so where they stopped
-  pub part_stopped : (new : BookValue) (last : Option GuestPage) (page : GuestPage) → StopsBefore mid new last page → StopsInPart old new last page
-  part_stopped new last page stops = record {
+  pub part_stopped : {new : BookValue} {last : Option GuestPage} {page : GuestPage} → StopsBefore mid new last page → StopsInPart old new last page
+  part_stopped stops = record {
     within = stops.within;
     ahead = rw (← (ap pages_ahead begins_as ∙ begun_ahead old.state)) stops.ahead;
     comes = λ from s before. stops.comes from _ (begins_so from s before);

@@ -1,5 +1,5 @@
 -- The pages that are due, as they are kept: which there are once one came or went, and the first behind a cursor.
-use Rattle.ksm_book.proofs.Names.{[], after_cursor, All, All-cons, All-map, any-filter_same, ap, append-nil, AreDue, arith, BookState, length, before_irrefl, Bool, cases_Bool, comes_before, Err, false, filter, find, get_or, GuestPage, has_item, inl, inr, is_some, List, list_any, map, MatchOption, nat_tests, None, not, not_both, Ok, Option, pages_ordered, pairs_head, pairs_tail, refl, Result, same_page, same_page_eq, same_page_refl, Some, subst, sym, true, true≢false, ◌&&◌, ◌++◌, ◌||◌, ◌==◌, ◌∙◌, ◌∷◌, ◌≡◌, if◌then◌else◌}
+use Rattle.ksm_book.proofs.Names.{[], after_cursor, All, All-cons, All-map, any-filter_same, append-nil, AreDue, arith, BookState, length, before_irrefl, Bool, cases_Bool, comes_before, Err, false, filter, find, get_or, GuestPage, has_item, inl, inr, is_some, List, list_any, map, MatchOption, None, not, not_both, Ok, Option, pages_ordered, pairs_head, pairs_tail, refl, Result, same_page, same_page_eq, same_page_refl, Some, subst, sym, true, true≢false, ◌&&◌, ◌++◌, ◌||◌, ◌==◌, ◌∙◌, ◌∷◌, ◌≡◌, if◌then◌else◌}
 use Rattle.std.proofs.lemmas.List.Folds.{list_any-append}
 use Rattle.std.specs.Prelude.{OnErr, OnOk}
 use Rattle.ksm_pages.specs.Held.{pages_of}
@@ -20,16 +20,16 @@ any_named x (m ∷ order) = rw (any_named x order)
 -- a page is there exactly where a search finds it
 pub has_found : (x : GuestPage) (order : List Named) → has_item x (pages_in order) ≡ is_some (find (is_of x) order)
 has_found x [] = refl
-has_found x (m ∷ order) = let rest = has_found x order in grind arith
+has_found x (m ∷ order) = grind (arith, has_found x order)
 
 joined : (x : GuestPage) (some more : List Named)
     → has_item x (pages_in (some ++ more)) ≡ (has_item x (pages_in some) || has_item x (pages_in more))
 joined x [] more = refl
-joined x (m ∷ some) more = let rest = joined x some more in grind arith
+joined x (m ∷ some) more = grind (arith, joined x some more)
 
 picked : (u : GuestPage → Bool) (x : GuestPage) (order : List Named)
     → has_item x (pages_in (filter (λ m. u m.page) order)) ≡ (u x && has_item x (pages_in order))
-picked u x order = grind (arith, nat_tests, any_named, any-filter_same, same_page_eq)
+picked u x order = grind (arith, any_named, any-filter_same, same_page_eq)
 
 -- a page that is put in is there, and the others as before
 pub has_put : (n : Named) (order : List Named) (x : GuestPage)
@@ -69,14 +69,14 @@ has_either x some more = list_any-append (λ q. same_page q x) some more
 
 -- a page among those in order is there
 pub has_first : (x : GuestPage) (some more : List GuestPage) → has_item x some ≡ true → has_item x (some ++ more) ≡ true
-has_first x some more is = has_either x _ _ ∙ ap (λ b. b || has_item x more) is
+has_first x some more is = grind (arith, has_either, is)
 
 -- where one was put in, it is there, and the others as before, with some more behind them
 pub inserted_has : {T E : Type 0} (r : Result T E) (n : Named) (old new : List Named) (more pages : List GuestPage)
     → pages_in old ++ more ≡ pages → OnOk r (new ≡ with_named n old)
     → OnOk r ((x : GuestPage) → has_item x (pages_in new ++ more) ≡ (same_page n.page x || has_item x pages))
 inserted_has (Err e) n old new more pages same added = tt
-inserted_has (Ok u) n old new more pages same added = λ x. grind (arith, nat_tests, has_either, has_put)
+inserted_has (Ok u) n old new more pages same added = λ x. grind (arith, has_either, has_put)
 
 -- where all is ready no page was added that does not stand in order
 pub none_added : (known : Bool) (order : List Named) (added : List Spot) → (known && length added == 0) ≡ true
@@ -144,7 +144,7 @@ module _ (cursor : Option GuestPage) where
   first_found [] rise = λ k d lt. absurd (omega arith)
   first_found (m ∷ order) rise = elim (cases_Bool (behind m)) [
     | inl is ↦
-        subst (TellsFirst cursor (pages_in (m ∷ order))) (sym (is_found m _ rise true is)) (here m _ rise is)
+        grind (arith, is_found, here)
     | inr not_yet ↦
         subst (TellsFirst cursor (pages_in (m ∷ order))) (sym (is_found m _ rise false not_yet))
         (over m _ rise not_yet _ (first_found order (pairs_tail (λ a b. comes_before a.page b.page ≡ true) m _ rise)))

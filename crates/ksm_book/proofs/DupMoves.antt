@@ -1,5 +1,5 @@
 -- What is answered where a dup is to move.
-use Rattle.ksm_book.proofs.Names.{and_parts, Answer, arith, BookState, IsCarried, crosses, Done, DupRow, eqb-true, Err, false, Fault, find, find_passes, GuestPage, has_items, HasRemounted, InUse, IsAnswerUnless, KeeperView, live_dup_at, MayMove, MoveDup, NoFrame, None, Ok, Option, PagesView, refusal, Some, state_of, sym, ℕ, ◌&&◌, ◌==◌, ◌≡◌, nat_tests}
+use Rattle.ksm_book.proofs.Names.{and_parts, Answer, arith, BookState, IsCarried, crosses, Done, DupRow, eqb-true, Err, false, Fault, find, find_passes, GuestPage, has_items, HasRemounted, InUse, IsAnswerUnless, KeeperView, live_dup_at, MayMove, MoveDup, NoFrame, None, Ok, Option, PagesView, refusal, Some, state_of, sym, ℕ, ◌&&◌, ◌==◌, ◌≡◌}
 use Rattle.ksm_book.proofs.Singles.{book, there_is}
 
 module _ (b : BookState) (place node : ℕ) (dup : DupRow) (found : Some dup ≡ live_dup_at b place) where
@@ -9,7 +9,7 @@ module _ (b : BookState) (place node : ℕ) (dup : DupRow) (found : Some dup ≡
 
   -- the dup with items at its place is the dup
   pub live_there : find (λ d. d.place == dup.place && has_items b.rows d) b.dups ≡ Some dup
-  live_there = grind (arith, nat_tests, place_is)
+  live_there = grind (arith, place_is)
 
   module _ (home : b.knobs.merge_across_nodes ≡ 0 → node ≡ dup.tree) where
     -- where it is to move is another node only where pages merge across nodes

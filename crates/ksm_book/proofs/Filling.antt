@@ -1,5 +1,5 @@
 -- Frames written, read, found and filled, and a dup's place that comes to name another frame.
-use Rattle.ksm_book.proofs.Names.{Add, ap, arith, blank, did, div-mul-add, Dying, Finds, FitsBase, frame_at, frames_of, Free, GenerationFits, get_or-set_other, get_or-set_same, inl, IsLawful, KeeperView, Kind, Ledger, length, length-set, List, loads, MakesSteps, mounting, None, Note, Open, PAGE_WORDS, Placed, Private, Provides, Publish, puts, Raise, raised, refl, replicate, replicate-append-replicate, same_Some, set-get_or, Shape, spent, spent_on, stepped, subst, sym, HasNewFrame, with_frame, ℕ, ◌*◌, ◌+◌, ◌-◌, ◌/◌, ◌<◌, ◌∙◌, ◌≡◌, ◌≢◌, ◌≤◌, set-set, nat_tests}
+use Rattle.ksm_book.proofs.Names.{Add, ap, arith, blank, did, div-mul-add, Dying, Finds, FitsBase, frame_at, frames_of, Free, GenerationFits, get_or-set_other, get_or-set_same, inl, IsLawful, KeeperView, Kind, Ledger, length, length-set, List, loads, MakesSteps, mounting, None, Note, Open, PAGE_WORDS, Placed, Private, Provides, Publish, puts, Raise, raised, refl, replicate, replicate-append-replicate, same_Some, set-get_or, Shape, spent, spent_on, stepped, subst, sym, HasNewFrame, with_frame, ℕ, ◌*◌, ◌+◌, ◌-◌, ◌/◌, ◌<◌, ◌∙◌, ◌≡◌, ◌≢◌, ◌≤◌, set-set}
 use Rattle.ksm_book.proofs.ByPage.{one_same, one_other}
 use Rattle.ksm_book.proofs.Keeping.{node_end, searched_placed, searched_spends, spent_kept}
 use Rattle.ksm_book.proofs.Made.{made_one, made_part, made_then}
@@ -7,13 +7,13 @@ use Rattle.ksm_book.proofs.Noted.{noted}
 
 -- a frame between a node's first and its last is on that node
 pub on_node : (node size g : ℕ) → node * size ≤ g → g < node * size + size → g / size ≡ node
-on_node node size g low high = grind (arith, nat_tests, low, high, div-mul-add)
+on_node node size g low high = grind (arith, low, high, div-mul-add)
 
 -- ---------------------------------------------------------------- one frame's note
 
 -- what the keeper knows with a frame written as it was
 pub as_it_was : (k : Ledger) (g : ℕ) → with_frame k g (frame_at k g) ≡ k
-as_it_was k g = λ i. record { frames = set-get_or k.frames g blank i; places = k.places }
+as_it_was k g = grind (arith, set-get_or k.frames g blank)
 
 module _ (k : Ledger) (g : ℕ) (lt : g < length k.frames) where
   -- the frame has the note that it got
@@ -22,11 +22,11 @@ module _ (k : Ledger) (g : ℕ) (lt : g < length k.frames) where
 
   -- two changes of a frame's note, one after the other, are one change by both
   pub again : (a : Note) (F : Note → Note) → with_frame (with_frame k g a) g (F (frame_at (with_frame k g a) g)) ≡ with_frame k g (F a)
-  again a F = rw (at_again a) (λ i. record { frames = set-set k.frames g a (F a) i; places = k.places })
+  again a F = rw (at_again a) (grind (arith, set-set k.frames g a (F a)))
 
   -- a change of the frame's note that follows another is one change by both
   pub follow : {l m : Ledger} (a : Note) (F : Note → Note) → m ≡ with_frame l g (F (frame_at l g)) → l ≡ with_frame k g a → m ≡ with_frame k g (F a)
-  follow a F is was = is ∙ ap (λ z. with_frame z g (F (frame_at z g))) was ∙ again a F
+  follow a F is was = grind (arith, is, was, again a F)
 
 -- ---------------------------------------------------------------- a frame is found
 
@@ -40,11 +40,11 @@ module _ (v w : KeeperView) (node g : ℕ) (less : node < v.table.shape.nodes) (
 
   -- the frame found is one of the table
   pub found_inside : g < frames_of sh
-  found_inside = grind (arith, nat_tests, node_end)
+  found_inside = grind (arith, node_end)
 
   -- the frame found is one that the keeper knows
   pub found_within : g < length w.ledger.frames
-  found_within = let long = found_placed.frames_long in let i = found_inside in omega arith
+  found_within = omega (arith, found_placed.frames_long, found_inside)
 
   -- once the frame found is raised it is ready to be filled
   pub raised_ready : (r : KeeperView) (n : ℕ) → r ≡ did w (Raise g) n
@@ -79,7 +79,7 @@ module _ {v w : KeeperView} {node : ℕ} {bytes : List ℕ} {g : ℕ} (less : no
       record {
         keeps = λ across rows frame dups p.
             let q = searched_placed _ less h.finds.reaped _ _ _ _ None p in
-            let one = one_same g _ refl in
+            let one = one_same g refl in
             let none = subst (λ (x : Kind). FitsBase x (frame_at u.ledger g).base) free (q.kinds g) in
             let base = q.bases g in
             let left = subst (λ (x : Kind). GenerationFits v.table.shape.last_generation x (frame_at u.ledger g).generation) free (q.lives g) in
@@ -91,7 +91,7 @@ module _ {v w : KeeperView} {node : ℕ} {bytes : List ℕ} {g : ℕ} (less : no
               fits = refl;
               same = λ some. absurd (omega arith);
               life = inl (omega arith);
-            }) (λ f ne. one_other f _ (λ e. ne (sym (same_Some g f e)))));
+            }) (λ f ne. one_other f (λ e. ne (sym (same_Some g f e)))));
         spent = omega arith;
         frame = found_inside v u _ g less l h.finds;
         kind = rw now;
@@ -104,14 +104,13 @@ module _ {v w : KeeperView} {node : ℕ} {bytes : List ℕ} {g : ℕ} (less : no
 
 -- n references that came to a frame, and one more, are n + 1 steps of the keeper
 pub add_more : (v w w' : KeeperView) (f n found : ℕ) → MakesSteps v w (replicate n (Add f)) → w' ≡ did w (Add f) found → MakesSteps v w' (replicate (n + 1) (Add f))
-add_more v w w' f n found so_far is =
-    subst (MakesSteps v w') (replicate-append-replicate n 1 (Add f)) (made_then so_far (made_one w w' _ _ is))
+add_more v w w' f n found so_far is = grind (arith, replicate-append-replicate n 1 (Add f), made_then)
 
 -- the words of a dying frame stay where a free one is raised
 pub words_kept : (v w : KeeperView) (f g found : ℕ) → (frame_at v.ledger g).kind ≡ Free → (frame_at v.ledger f).kind ≡ Dying → w ≡ did v (Raise g) found
     → (frame_at w.ledger f).content ≡ (frame_at v.ledger f).content
 words_kept v w f g found free dying is =
-    let apart : f ≢ g = λ same. (let e = sym free ∙ ap (λ x. (frame_at v.ledger x).kind) (sym same) ∙ dying in grind arith) in
+    let apart : f ≢ g = λ same. (grind (arith, sym free ∙ ap (λ x. (frame_at v.ledger x).kind) (sym same) ∙ dying)) in
     rw (is, get_or-set_other v.ledger.frames g f (raised (frame_at v.ledger g)) blank apart)
 
 -- a frame is raised, words of another are loaded and stored there, it is opened, references come, and the place names it

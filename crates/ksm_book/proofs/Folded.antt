@@ -1,5 +1,5 @@
 -- The visits of a pass are a fold over its pages, only restless pages count, and a quiet pass is repeated by those behind it.
-use Rattle.ksm_book.proofs.Names.{[], after_cursor, All, All-head, All-tail, AllPairs-filter, and_parts, ap, append-nil, AreAscending, arith, begun, BookState, Bool, cases_Bool, comes_before, cond_both, each_at_page, false, filter, filter_all, find_all, find_passes, GuestPage, has_item, inl, InPageOrder, inr, is_none, IsBeside, IsStill, last_of, length, List, map, mergeable_pages, min, next_row, next_visited, None, not, not-true, Option, option_map, page_visited, pages_ahead, pages_visited, pass_at, pass_ended, pass_ended_at_last, refl, restless_at, Row, row_at, row_visited, rowwise_visits, same_page, same_page_eq, settled, shared_state, slice_get, Some, subst, suc, suc-mul, sym, true, visit, visit_begun, visit_of, visited, visits, visits_beside, with_none_waiting, zero, ℕ, ◌&&◌, ◌*◌, ◌++◌, ◌+◌, ◌-◌, ◌^◌, ◌∙◌, ◌∷◌, ◌≡◌, ◌≤◌, map_mapped, if◌then◌else◌, and_right, pairs_mapped, ⊤, nat_tests}
+use Rattle.ksm_book.proofs.Names.{[], after_cursor, All, All-head, All-tail, AllPairs-filter, and_parts, ap, append-nil, AreAscending, arith, begun, BookState, Bool, cases_Bool, comes_before, cond_both, each_at_page, false, filter, filter_all, find_all, find_passes, GuestPage, has_item, inl, InPageOrder, inr, is_none, IsBeside, IsStill, last_of, length, List, map, mergeable_pages, min, next_row, next_visited, None, not-true, Option, option_map, page_visited, pages_ahead, pages_visited, pass_at, pass_ended, pass_ended_at_last, refl, restless_at, Row, row_at, row_visited, rowwise_visits, same_page, same_page_eq, settled, shared_state, slice_get, Some, subst, suc, suc-mul, sym, true, visit, visit_begun, visit_of, visited, visits, visits_beside, with_none_waiting, zero, ℕ, ◌&&◌, ◌*◌, ◌++◌, ◌+◌, ◌-◌, ◌^◌, ◌∙◌, ◌∷◌, ◌≡◌, ◌≤◌, map_mapped, and_right, pairs_mapped, ⊤}
 use Rattle.ksm_book.proofs.Going.{Goes, begun_goes, elsewhere, goes_on, mergeable_kept, goes_same, settled_goes, visited_goes}
 use Rattle.ksm_book.proofs.PagesAhead.{Before, behind_first, filter_in, filter_out, has_filter, same_pages}
 use Rattle.ksm_pages.proofs.Options.{mapped_some, none_mapped}
@@ -10,13 +10,12 @@ use Rattle.ksm_pages.proofs.Options.{mapped_some, none_mapped}
 pub next_first : (cursor : Option GuestPage) (rows : List Row)
     → option_map (λ r. r.page) (next_row cursor rows) ≡ slice_get (filter (after_cursor cursor) (mergeable_pages rows)) 0
 next_first cursor [] = refl
-next_first cursor (r ∷ rows) =
-    let rest = next_first cursor rows in grind arith
+next_first cursor (r ∷ rows) = grind (arith, next_first cursor rows)
 
 -- the next row, where a page is ahead
-some_next : (c : BookState) (page : GuestPage) (more : List GuestPage) → pages_ahead c ≡ page ∷ more
+some_next : (c : BookState) {page : GuestPage} {more : List GuestPage} → pages_ahead c ≡ page ∷ more
     → (row : Row) × (next_row c.cursor c.rows ≡ Some row) × (row.page ≡ page)
-some_next c page more is = mapped_some _ _ _ (next_first c.cursor c.rows ∙ ap (λ l. slice_get l 0) is)
+some_next c is = mapped_some _ _ _ (next_first c.cursor c.rows ∙ ap (λ l. slice_get l 0) is)
 
 -- where no page is ahead there is no next row
 pub none_next : (c : BookState) → pages_ahead c ≡ [] → next_row c.cursor c.rows ≡ None
@@ -24,12 +23,12 @@ none_next c is = none_mapped (λ (r : Row). r.page) _ (next_first c.cursor c.row
 
 -- a pass with a page ahead does not end
 pub pass_goes_on : (c : BookState) (page : GuestPage) (more : List GuestPage) → pages_ahead c ≡ page ∷ more → pass_ended_at_last c ≡ c
-pass_goes_on c page more is = rw (and_right _ _ (ap is_none (some_next c _ _ is).1))
+pass_goes_on c page more is = rw (and_right _ _ (ap is_none (some_next c is).1))
 
 -- where a pass is under way with a page ahead, the next visit begins with nothing done
 begun_goes_on : (c : BookState) (last page : GuestPage) (more : List GuestPage) → c.cursor ≡ Some last → pages_ahead c ≡ page ∷ more
     → visit_begun c ≡ c
-begun_goes_on c last page more at is = grind (arith, nat_tests, at, is, pass_goes_on)
+begun_goes_on c last page more at is = grind (arith, at, is, pass_goes_on)
 
 ascending_mergeable : (rows : List Row) → InPageOrder rows → AreAscending (mergeable_pages rows)
 ascending_mergeable rows rise =
@@ -65,7 +64,7 @@ every_page rows = filter_all (after_cursor None) _ (λ k d lt. refl)
 -- where nothing but which rows wait changed from a first book to a second and to a third, so it is from first to third
 pub still_on : {X : Type 0} (first second third : BookState × X) → IsStill first second → IsStill second third → IsStill first third
 still_on first second third f g = record {
-  rest = g.rest ∙ ap (λ (b : BookState). record b { rows = third.0.rows }) f.rest;
+  rest = grind (arith, g.rest, f.rest);
   rows = g.rows ∙ f.rows;
   beside = g.beside ∙ f.beside;
 }
@@ -90,10 +89,7 @@ module _ {X : Type 0} (step : BookState → X → Row → X) where
 
   -- visits keep which pages scans visit
   pub visits_mergeable : (n : ℕ) (s : BookState × X) → mergeable_pages (visits_beside step n s).0.rows ≡ mergeable_pages s.0.rows
-  visits_mergeable n s =
-      let h = rowwise_visits n s.0 in
-      rw (beside_state n s)
-      (ap mergeable_pages h.rows ∙ mergeable_kept _ (λ r. ((h.keeps r).page, (h.keeps r).mergeable)) _)
+  visits_mergeable n s = rw (beside_state n s) (grind (arith, (rowwise_visits n s.0).rows, mergeable_kept))
 
   -- n visits, of which the first has begun
   abbrev goes : ℕ → BookState × X → BookState × X
@@ -105,7 +101,7 @@ module _ {X : Type 0} (step : BookState → X → Row → X) where
 
   visits_go_on : (n : ℕ) (s : BookState × X) → visit_begun s.0 ≡ s.0 → visits_beside step n s ≡ goes n s
   visits_go_on zero s is = refl
-  visits_go_on (suc n) s is = visits_go n s ∙ ap (λ c. goes (suc n) (c, s.1)) is
+  visits_go_on (suc n) s is = grind (arith, visits_go n s, is)
 
   pass_moved : (page : GuestPage) (done left : List GuestPage) (s : BookState × X)
       → pass_at done left (record s.0 { cursor = Some page }, s.1) ≡ pass_at (page ∷ done) left s
@@ -120,19 +116,19 @@ module _ {X : Type 0} (step : BookState → X → Row → X) where
   page_goes s page rise = by _ refl
     where
       by : (o : Option Row) → row_at page s.0.rows ≡ o → Goes s.0.rows (visited step s o).0.rows
-      by None found = goes_same _
+      by None found = goes_same
       by (Some r) found =
           let of_page = same_page_eq _ _ (find_passes (λ q. same_page q.page page) _ r found) in
           cond_both _ (row_visited s.0 r, step s.0 s.1 r) s (λ z. Goes s.0.rows z.0.rows)
           (λ is. visited_goes s.0 r rise (ap (λ p. row_at p s.0.rows) of_page ∙ found)
-          (not-true (shared_state r.state) (and_parts _ _ is).1)) (λ calm. goes_same _)
+          (not-true (shared_state r.state) (and_parts _ _ is).1)) (λ calm. goes_same)
 
   -- visits of pages keep the rows in page order and which pages scans visit, and make no page restless
   pub pages_go : (pages : List GuestPage) (s : BookState × X) → InPageOrder s.0.rows → Goes s.0.rows (pages_visited step s pages).0.rows
-  pages_go [] s rise = goes_same _
+  pages_go [] s rise = goes_same
   pages_go (page ∷ pages) s rise =
       let first = page_goes s page rise in
-      goes_on _ _ _ first (pages_go pages (page_visited step s page) (first.order rise))
+      goes_on first (pages_go pages (page_visited step s page) (first.order rise))
 
   -- visits of some pages and of one page more are the visits of those pages and then the visit of that one
   pub visited_more : (pages : List GuestPage) (s : BookState × X) (page : GuestPage)
@@ -156,7 +152,7 @@ module _ {X : Type 0} (step : BookState → X → Row → X) where
             (λ k d lt off. first.calm _ (rest k d lt off))
         | inr goes_out ↦
             rw (calm_stays s _ (All-head P _ _ calm goes_out))
-            (ap (pages_visited step s) (filter_out t _ _ goes_out) ∙ settled_out t pages s rise rest)
+            (grind (arith, filter_out, settled_out t pages s rise rest))
       ]
 
   -- visits of two ascending lists of pages with the same restless pages come to the same
@@ -173,7 +169,7 @@ module _ {X : Type 0} (step : BookState → X → Row → X) where
       t page = restless_at page s.0.rows
 
       alike : (x : GuestPage) → has_item x (filter t ps) ≡ has_item x (filter t qs)
-      alike x = has_filter t x ps ∙ (let is = same x in grind arith) ∙ sym (has_filter t x qs)
+      alike x = has_filter t x ps ∙ (grind (arith, same x)) ∙ sym (has_filter t x qs)
 
   module _ (beside : IsBeside step) where
     -- the visit of the next row is that of its page
@@ -191,8 +187,8 @@ module _ {X : Type 0} (step : BookState → X → Row → X) where
         mergeable = (and_parts _ _ (find_passes (λ r. r.mergeable && after_cursor c.cursor r.page) c.rows row next)).0
 
         by : (z : Bool) → shared_state row.state ≡ z → visited step s (Some row) ≡ (row_visited c row, step c s.1 row)
-        by true is = grind (arith, nat_tests, mergeable)
-        by false is = λ t. if mergeable t && not (is t) then (row_visited c row, step c s.1 row) else s
+        by true is = grind (arith, mergeable)
+        by false is = grind (arith, mergeable, is)
 
     -- visits of pages do the same wherever the cursor stands and however many passes have ended
     module _ (cursor : Option GuestPage) (passes : ℕ) where
@@ -216,17 +212,15 @@ module _ {X : Type 0} (step : BookState → X → Row → X) where
         ≡ pass_at done left (pages_visited step (record v.0 { cursor = Some page }, v.1) done))
         → visits_beside step (length done) (pass_ended_at_last (record v.0 { cursor = Some page }), v.1)
         ≡ pass_at (page ∷ done) left (pages_visited step v done)
-    first_done page [] [] v is rest = grind (arith, nat_tests, none_next)
+    first_done page [] [] v is rest = grind (arith, none_next)
     first_done page [] (next ∷ left) v is rest = λ t. (pass_goes_on (record v.0 { cursor = Some page }) _ _ is t, v.1)
     first_done page (next ∷ done) left v is rest =
         let here : BookState = record v.0 { cursor = Some page } in
-        let after = pages_visited step v (next ∷ done) in
         let passes = ap (λ (s : BookState × X). s.0.passes) (pages_alike v.0.cursor v.0.passes (next ∷ done) v) in
         rw (pass_goes_on here _ _ is)
         (visits_go_on (suc (length done)) (here, v.1) (begun_goes_on _ _ _ _ refl is) ∙ rest (omega arith)
-        ∙ ap (pass_at (next ∷ done) left) (pages_alike (Some page) v.0.passes (next ∷ done) v)
-        ∙ (λ t. pass_at (next ∷ done) left (record after.0 { cursor = Some page; passes = sym passes t }, after.1))
-        ∙ pass_moved page (next ∷ done) left after)
+        ∙ ap (pass_at (next ∷ done) left) (pages_alike (Some page) v.0.passes (next ∷ done) v) ∙ (grind (arith, passes))
+        ∙ pass_moved page (next ∷ done) left (pages_visited step v (next ∷ done)))
 
     -- visits from a state in which a visit has begun
     along : (done left : List GuestPage) (s : BookState × X) → InPageOrder s.0.rows → 1 ≤ length (done ++ left)
@@ -235,7 +229,7 @@ module _ {X : Type 0} (step : BookState → X → Row → X) where
     along [] [] s rise some is = absurd (omega arith)
     along [] (next ∷ left) s rise some is = refl
     along (page ∷ done) left s rise some is =
-        let next = some_next s.0 _ _ is in
+        let next = some_next s.0 is in
         let row = next.0 in
         let v : BookState × X = (row_visited s.0 row, step s.0 s.1 row) in
         let here : BookState × X = (record v.0 { cursor = Some page }, v.1) in
@@ -262,14 +256,7 @@ module _ {X : Type 0} (step : BookState → X → Row → X) where
         → begun (visits_beside step (length done) s) ≡ pass_at done (next ∷ left) (pages_visited step (begun s) done)
     begun_folded s [] next left rise is = refl
     begun_folded s (page ∷ done) next left rise is =
-        grind (
-          arith,
-          nat_tests,
-          last_stands page done,
-          visits_folded s (page ∷ done) (next ∷ left) rise (omega arith) is,
-          behind_done,
-          begun_goes_on,
-        )
+        grind (arith, last_stands page done, visits_folded s (page ∷ done) (next ∷ left) rise (omega arith) is, behind_done, begun_goes_on)
 
     -- ---------------------------------------------------------------- pass after pass
 
@@ -304,7 +291,7 @@ module _ {X : Type 0} (step : BookState → X → Row → X) where
 
         again_times : (times passes : ℕ) → passes ≤ 2 ^ 64 - 1
             → visits_beside step (times * length all) (ended passes) ≡ ended (min (passes + times) (2 ^ 64 - 1))
-        again_times zero passes small = grind (arith, nat_tests)
+        again_times zero passes small = grind arith
         again_times (suc times) passes small =
             let so_far = min (passes + times) (2 ^ 64 - 1) in
             beside_on (times * length all) (length all) (suc times * length all) (ended passes) (omega (arith, suc-mul times (length all)))

@@ -1,5 +1,5 @@
 -- The sets of the free and of the dying frames follow the keeper's steps.
-use Rattle.ksm_book.proofs.Names.{ap, AreSets, arith, blank, Bool, cases_eq, cases_lt, cond, did, dying_kind, false, frame_at, frames_of, Free, free_kind, Freeze, get_or-set_other, get_or-set_same, get_or_past, has, inl, inr, IsSetOf, KeeperStep, KeeperView, Kind, Ledger, ledger_after, length, length-set, List, lowered, Marks, ne_eqb, Note, Raise, raised, Reap, refl, Shape, Sub, subst, sym, true, with_frame, ℕ, ◌*◌, ◌-◌, ◌<◌, ◌∙◌, ◌≡◌, ◌≢◌, ◌≤◌}
+use Rattle.ksm_book.proofs.Names.{ap, AreSets, arith, blank, Bool, cases_eq, cases_lt, cond, did, dying_kind, false, frame_at, frames_of, Free, free_kind, Freeze, get_or-set_other, get_or-set_same, get_or_past, has, inl, inr, IsSetOf, KeeperStep, KeeperView, Kind, Ledger, ledger_after, length, length-set, List, lowered, Marks, ne_eqb, Note, Raise, raised, Reap, refl, Shape, Sub, sym, true, with_frame, ℕ, ◌*◌, ◌-◌, ◌<◌, ◌∙◌, ◌≡◌, ◌≢◌, ◌≤◌}
 
 -- ---------------------------------------------------------------- one frame's note is changed
 
@@ -16,12 +16,12 @@ TurnsOn (Sub f) g = f ≡ g
 TurnsOn (Freeze f) g = f ≡ g
 TurnsOn _ g = ⊥
 
-other_after : (sh : Shape) (k : Ledger) (e : KeeperStep) (n f g : ℕ) → TurnsOn e g → f ≢ g → frame_at (ledger_after sh k e n) f ≡ frame_at k f
-other_after sh k (Reap h) n f g on ne = other_if _ k h f _ (λ e. ne (e ∙ on))
-other_after sh k (Raise h) n f g on ne = other_if true k h f _ (λ e. ne (e ∙ on))
-other_after sh k (Sub h) n f g on ne = other_if true k h f _ (λ e. ne (e ∙ on))
-other_after sh k (Freeze h) n f g on ne = other_if _ k h f _ (λ e. ne (e ∙ on))
-other_after sh k _ n f g on ne = absurd on
+other_after : (sh : Shape) (k : Ledger) (e : KeeperStep) (n f : ℕ) {g : ℕ} → TurnsOn e g → f ≢ g → frame_at (ledger_after sh k e n) f ≡ frame_at k f
+other_after sh k (Reap h) n f on ne = other_if _ k h f _ (λ e. ne (e ∙ on))
+other_after sh k (Raise h) n f on ne = other_if true k h f _ (λ e. ne (e ∙ on))
+other_after sh k (Sub h) n f on ne = other_if true k h f _ (λ e. ne (e ∙ on))
+other_after sh k (Freeze h) n f on ne = other_if _ k h f _ (λ e. ne (e ∙ on))
+other_after sh k _ n f on ne = absurd on
 
 module _ (asked : Kind → Bool) (v w : KeeperView) (words : List ℕ) (table : w.table ≡ v.table) (are : IsSetOf asked v words) where
   room_kept : frames_of w.table.shape ≤ 64 * length words
@@ -31,9 +31,9 @@ module _ (asked : Kind → Bool) (v w : KeeperView) (words : List ℕ) (table : 
   known f lt = rw (← table) lt
 
   -- the set is right again once the frame of the step is marked
-  set_marked : (words' : List ℕ) (frame : ℕ) → ((f : ℕ) → f ≢ frame → frame_at w.ledger f ≡ frame_at v.ledger f)
+  set_marked : {words' : List ℕ} {frame : ℕ} → ((f : ℕ) → f ≢ frame → frame_at w.ledger f ≡ frame_at v.ledger f)
       → Marks words words' frame (asked (frame_at w.ledger frame).kind) → IsSetOf asked w words'
-  set_marked words' frame others marks = record {
+  set_marked {words'} others marks = record {
     room = rw marks.room room_kept;
     marked = λ f lt. elim (cases_eq f _) [
       | inl same ↦ ap (has words') same ∙ marks.here ∙ ap (λ g. asked (frame_at w.ledger g).kind) (sym same)
@@ -51,17 +51,17 @@ pub sets_marked : (v w : KeeperView) (e : KeeperStep) (found frame : ℕ) (free 
 sets_marked v w e found frame free dying free' dying' is on are f d =
     let table = ap (λ (z : KeeperView). z.table) is in
     let others : (g : ℕ) → g ≢ frame → frame_at w.ledger g ≡ frame_at v.ledger g = λ g ne. rw is
-    (other_after v.table.shape _ e _ g _ on ne) in
+    (other_after v.table.shape _ e _ g on ne) in
     record {
-      free = set_marked _ v w _ table are.free _ _ others f;
-      dying = set_marked _ v w _ table are.dying _ _ others d;
+      free = set_marked _ v w _ table are.free others f;
+      dying = set_marked _ v w _ table are.dying others d;
     }
 
 -- a new note of a frame is among those asked for exactly if the old one was: then so is each frame
 same_kinds : (asked : Kind → Bool) (k : Ledger) (f : ℕ) (note : Note) → asked note.kind ≡ asked (frame_at k f).kind
     → (g : ℕ) → asked (frame_at (with_frame k f note) g).kind ≡ asked (frame_at k g).kind
 same_kinds asked k f note same g = elim (cases_eq g f) [
-  | inl here ↦ ap (λ i. asked (frame_at (with_frame k f note) i).kind) here ∙ at_frame ∙ ap (λ i. asked (frame_at k i).kind) (sym here)
+  | inl here ↦ grind (arith, here, at_frame)
   | inr differs ↦ rw (get_or-set_other k.frames f g note blank differs)
 ]
   where
@@ -87,9 +87,9 @@ pub sets_raised : (v w : KeeperView) (found frame : ℕ) (free dying free' : Lis
 sets_raised v w found frame free dying free' is may are marks =
     let table = ap (λ (z : KeeperView). z.table) is in
     let others : (g : ℕ) → g ≢ frame → frame_at w.ledger g ≡ frame_at v.ledger g = λ g ne. rw is
-    (other_after v.table.shape v.ledger (Raise frame) found g _ refl ne) in
+    (other_after v.table.shape v.ledger (Raise frame) found g refl ne) in
     record {
-      free = set_marked _ v w _ table are.free _ _ others marks;
+      free = set_marked _ v w _ table are.free others marks;
       dying = set_stays _ v w _ table are.dying (λ g. rw is
           (same_kinds dying_kind v.ledger frame (raised (frame_at v.ledger frame)) (ap dying_kind (sym may)) g));
     }
@@ -99,7 +99,7 @@ pub sets_lowered : (v w : KeeperView) (found frame : ℕ) (free dying : List ℕ
     → AreSets v free dying → AreSets w free dying
 sets_lowered v w found frame free dying is left are =
     let table = ap (λ (z : KeeperView). z.table) is in
-    let kept = kind_left v.ledger frame (subst (λ (z : KeeperView). (frame_at z.ledger frame).base ≢ 0) is left) in
+    let kept = kind_left v.ledger frame (grind (arith, is, left)) in
     let same : (asked : Kind → Bool) (g : ℕ) → asked (frame_at w.ledger g).kind ≡ asked (frame_at v.ledger g).kind = λ asked g.
     rw is (same_kinds asked v.ledger frame (lowered (frame_at v.ledger frame)) (ap asked kept) g) in
     record {

@@ -37,12 +37,12 @@ pub record Goes (old new : List Row) : Type 0 where
   pub calm : (page : GuestPage) → restless_at page old ≡ false → restless_at page new ≡ false
 
 -- rows that do not change keep their order and which pages scans visit, and no page becomes restless
-pub goes_same : (rows : List Row) → Goes rows rows
-goes_same rows = record { order = λ rise. rise; mergeable = refl; calm = λ page calm. calm }
+pub goes_same : {rows : List Row} → Goes rows rows
+goes_same = record { order = λ rise. rise; mergeable = refl; calm = λ page calm. calm }
 
 -- two changes that keep the order and which pages scans visit, and make no page restless, are one such change
-pub goes_on : (first second third : List Row) → Goes first second → Goes second third → Goes first third
-goes_on first second third f g = record {
+pub goes_on : {first second third : List Row} → Goes first second → Goes second third → Goes first third
+goes_on f g = record {
   order = λ rise. g.order (f.order rise);
   mergeable = g.mergeable ∙ f.mergeable;
   calm = λ page calm. g.calm page (f.calm page calm);
@@ -66,23 +66,23 @@ module _ (change : Row → Row) (keeps : KeepsPage change) where
       (λ i d lt. rw (keeps (get_or rows i d)).0)
 
   -- each row is changed, and a shared one stays shared
-  pub change_goes : (rows : List Row) → All (λ r. shared_state r.state ≡ true → shared_state (change r).state ≡ true) rows
+  pub change_goes : {rows : List Row} → All (λ r. shared_state r.state ≡ true → shared_state (change r).state ≡ true) rows
       → Goes rows (map change rows)
-  change_goes rows shared = record {
+  change_goes {rows} shared = record {
     order = λ rise. ordered_map _ _ (λ r. (keeps r).0) rise;
     mergeable = mergeable_kept _;
     calm = λ page calm. ap restless_row (row_changed _ _) ∙ by _ _ refl calm;
   }
     where
-      at : (m n s t : Bool) → n ≡ m → (s ≡ true → t ≡ true) → (m && not s) ≡ false → (n && not t) ≡ false
-      at m n s t same kept calm = grind (arith, calm)
+      at : {m n s t : Bool} → n ≡ m → (s ≡ true → t ≡ true) → (m && not s) ≡ false → (n && not t) ≡ false
+      at same kept calm = grind (arith, calm)
 
       by : (page : GuestPage) (o : Option Row) → row_at page rows ≡ o → restless_row o ≡ false → restless_row (option_map change o) ≡ false
       by page None found calm = refl
       by page (Some r) found calm =
           let kept = find_all _
           (λ s. shared_state s.state ≡ true → shared_state (change s).state ≡ true) _ r found shared in
-          at _ _ _ _ (keeps r).1 kept calm
+          at (keeps r).1 kept calm
 
 -- the rows that pass a test are changed
 some_go : (test : Row → Bool) (f : Row → Row) (rows : List Row) → KeepsPage f
@@ -90,7 +90,7 @@ some_go : (test : Row → Bool) (f : Row → Row) (rows : List Row) → KeepsPag
     → Goes rows (change_rows test f rows)
 some_go test f rows keeps shared =
     change_goes _
-    (λ r. cond_both _ (f r) r (λ x. (x.page ≡ r.page) × (x.mergeable ≡ r.mergeable)) (λ _. keeps r) (λ _. (refl, refl))) _
+    (λ r. cond_both _ (f r) r (λ x. (x.page ≡ r.page) × (x.mergeable ≡ r.mergeable)) (λ _. keeps r) (λ _. (refl, refl)))
     (λ k d lt is. let r = get_or rows k d in cond_both _ (f r) r (λ x. shared_state x.state ≡ true) (λ e. shared k d lt e is)
     (λ _. is))
 
@@ -108,8 +108,7 @@ module _ (b : BookState) (row : Row) (rise : InPageOrder b.rows) (found : row_at
   own_changes f keeps own =
       let only = find_all (λ r. same_page r.page row.page) (λ r. All (λ s. same_page s.page r.page ≡ true → s ≡ r) b.rows) b.rows row found
       (one_of_each_page b.rows rise) in
-      some_go _ f _ keeps
-      (λ k d lt here is. absurd (true≢false (sym is ∙ ap (λ (r : Row). shared_state r.state) (only k d lt here) ∙ own)))
+      some_go _ f _ keeps (λ k d lt here is. absurd (true≢false (grind (arith, is, only k d lt here, own))))
 
   paired_goes : (w : Option Row) → shared_state row.state ≡ false → Comes (paired w b row)
   paired_goes (Some w) own = shares _ _ _ refl
@@ -138,7 +137,7 @@ module _ (b : BookState) (row : Row) (rise : InPageOrder b.rows) (found : row_at
 
 -- once no row waits the rows keep their order and which pages scans visit, and no page becomes restless
 pub settled_goes : (rows : List Row) → Goes rows (map settled rows)
-settled_goes rows = change_goes _ (λ r. (refl, refl)) _ (λ k d lt is. by _ is)
+settled_goes rows = change_goes _ (λ r. (refl, refl)) (λ k d lt is. by _ is)
   where
     by : (s : PageState) → shared_state s ≡ true → shared_state (settled_state s) ≡ true
     by Private is = is
@@ -151,4 +150,4 @@ begun_goes b =
     (λ _. settled_goes _) (λ _. begins)
   where
     begins : Goes b.rows (pass_begun b).rows
-    begins = cond_both _ _ b (λ c. Goes b.rows c.rows) (λ _. settled_goes _) (λ _. goes_same _)
+    begins = cond_both _ _ b (λ c. Goes b.rows c.rows) (λ _. settled_goes _) (λ _. goes_same)

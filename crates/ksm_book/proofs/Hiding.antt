@@ -1,5 +1,5 @@
 -- Rows that wait no more: that of a page with a frame of its own, and those from a page on, one after another.
-use Rattle.ksm_book.proofs.Names.{[], All, ap, BookState, BookValue, Bool, change_row, change_rows, Comes, comes_before, cond_both, every_row, false, find, get_or, GuestPage, InPageOrder, inl, IsAlone, is_next, IsLaid, IsSound, KeeperView, List, mapped, MatchOption, None, not, on_its_own, Option, option_map, ordered_change, PageState, PagesValue, PagesView, Performs, refl, Row, row_at, same_page, same_page_eq, seen, settled, settled_calmer, settled_state, shared_state, Some, sound_changed, state_of, subst, sym, true, true≢false, view_of, ℕ, ◌∙◌, ◌∷◌, ◌++◌, ◌≡◌, ◌⊎◌, if◌then◌else◌, map_alike, arith, nat_tests}
+use Rattle.ksm_book.proofs.Names.{[], All, ap, BookState, BookValue, Bool, change_row, change_rows, Comes, comes_before, cond_both, every_row, false, find, get_or, GuestPage, InPageOrder, inl, IsAlone, is_next, IsLaid, IsSound, KeeperView, List, MatchOption, None, not, on_its_own, Option, option_map, ordered_change, PageState, PagesValue, PagesView, refl, Row, row_at, same_page, same_page_eq, seen, settled, settled_calmer, settled_state, shared_state, Some, sound_changed, state_of, sym, true, true≢false, ℕ, ◌∙◌, ◌∷◌, ◌++◌, ◌≡◌, ◌⊎◌, if◌then◌else◌, map_alike, arith}
 use Rattle.ksm_pages.proofs.Resting.{rests}
 use Rattle.ksm_book.specs.Due.{hidden_from}
 use Rattle.ksm_book.proofs.Along.{along_cut, along_end, FitsPage, IsAlong, IsCut}
@@ -16,7 +16,7 @@ one_by b x y z same = grind arith
 -- two changes of the row of a page come to the same where they do at each row of that page
 alike_at : (page : GuestPage) (f g : Row → Row) (rows : List Row)
     → All (λ r. same_page r.page page ≡ true → f r ≡ g r) rows → change_row page f rows ≡ change_row page g rows
-alike_at page f g rows same = grind (arith, nat_tests, same, map_alike, one_by)
+alike_at page f g rows same = grind (arith, same, map_alike, one_by)
 
 -- ---------------------------------------------------------------- a page with a frame of its own
 
@@ -29,15 +29,13 @@ alone_settled page rows rise alone = by _ refl alone
         → change_row page on_its_own rows ≡ change_row page settled rows
     by None found none = absurd (true≢false none)
     by (Some row) found own =
-        let same : on_its_own row ≡ settled row = λ i. record row { state = sym (rests _ own) i } in
-        alike_at _ _ _ _ (λ k d lt is. rw (row_of_page _ _ row rise found k d lt is) same)
+        alike_at _ _ _ _ (λ k d lt is. rw (row_of_page _ _ row rise found k d lt is) (grind (arith, rests)))
 
 module _ {p q : PagesView} (page : GuestPage) (goes : q ≡ record p { rows = change_row page settled p.rows }) where
   -- the book stays sound where a page waits no more
-  pub sound_stopped : (cursor : Option GuestPage) (passes : ℕ) → IsSound (state_of p cursor passes)
+  pub sound_stopped : {cursor : Option GuestPage} {passes : ℕ} → IsSound (state_of p cursor passes)
       → IsSound (state_of q cursor passes)
-  sound_stopped cursor passes sound =
-      rw goes (sound_changed _ _ _ settled_calmer (λ r home. home) sound)
+  sound_stopped sound = rw goes (sound_changed _ _ _ settled_calmer (λ r home. home) sound)
 
   -- and the pages lie as lawfully as they did
   pub laid_stopped : {k : KeeperView} → IsLaid p k → IsLaid q k
@@ -53,10 +51,8 @@ pub stop_comes : (p q : PagesValue) (k : KeeperView) (cursor : Option GuestPage)
     → Comes (value p k cursor passes) (value q k cursor passes)
     (λ s. (record s.0 { rows = change_row page settled s.0.rows }, s.1))
 stop_comes p q k cursor passes page goes from s before = (
-  ap (λ x. state_of x cursor passes) goes
-      ∙ ap (λ (b : BookState). record b { rows = change_row page settled b.rows }) before.0,
-  subst (λ (x : PagesView). Performs (mapped (view_of from)) (record { frame = x.frame; keeper = k }) s.1)
-      (sym goes) before.1,
+  grind (arith, goes, before.0),
+  grind (arith, goes, before.1),
 )
 
 -- ---------------------------------------------------------------- the pages from one on
@@ -66,7 +62,7 @@ abbrev pub hides : GuestPage → Row → Row
 hides page r = if not (comes_before r.page page) then settled r else r
 
 hides_kept : (page : GuestPage) (r : Row) → (hides page r).page ≡ r.page
-hides_kept page r = grind (arith, nat_tests)
+hides_kept page r = grind arith
 
 -- a shared state is settled
 shared_settled : (state : PageState) → shared_state state ≡ true → settled_state state ≡ state
@@ -74,7 +70,7 @@ shared_settled state is = grind arith
 
 -- a shared row stays as it is
 shared_stays : (page : GuestPage) (r : Row) → shared_state r.state ≡ true → hides page r ≡ r
-shared_stays page r is = grind (arith, nat_tests, is, shared_settled)
+shared_stays page r is = grind (arith, is, shared_settled)
 
 -- so does one whose page comes before
 before_stays : (page : GuestPage) (r : Row) → comes_before r.page page ≡ true → hides page r ≡ r
@@ -117,12 +113,12 @@ module _ {page : GuestPage} {old now : BookValue} {last : Option GuestPage} (h :
     cut = along_cut _ (hides_kept _) h.along rise at told
 
     -- once the row of the page is changed, the cursor goes on to it
-    along_on : (rows : List Row) → rows ≡ change_row at (hides page) now.state.rows
+    along_on : {rows : List Row} → rows ≡ change_row at (hides page) now.state.rows
         → IsAlong every_row (hides page) old.state.rows rows (Some at) (cut.before ++ cut.row ∷ []) cut.rest
-    along_on rows same = rw same cut.next
+    along_on same = rw same cut.next
 
     now_rise : InPageOrder now.state.rows
-    now_rise = subst InPageOrder (sym cut.stop) (ordered_change _ _ _ (hides_kept _) rise)
+    now_rise = grind (arith, cut.stop, ordered_change)
 
     -- a shared page, or one that comes before, is left as it is
     pub hiding_over : (row : Row) → row_at at now.state.rows ≡ Some row
@@ -130,17 +126,17 @@ module _ {page : GuestPage} {old now : BookValue} {last : Option GuestPage} (h :
     hiding_over row found why = record {
       done = cut.before ++ cut.row ∷ [];
       left = cut.rest;
-      along = along_on _ (sym (change_still at _ _ (λ k d lt same. stays
-          _ (row_of_page at _ row now_rise found k d lt same) same why)));
+      along = along_on (sym (change_still at _ _ (λ k d lt same. stays
+          (row_of_page at _ row now_rise found k d lt same) same why)));
       comes = h.comes;
       own = h.own;
       restless = h.restless;
       fits = fits;
     }
       where
-        stays : (r : Row) → r ≡ row → same_page r.page at ≡ true
+        stays : {r : Row} → r ≡ row → same_page r.page at ≡ true
             → (shared_state row.state ≡ true) ⊎ (comes_before at page ≡ true) → hides page r ≡ r
-        stays r is same h3 = grind arith
+        stays is same h3 = grind arith
 
     -- any other page waits no more
     pub hiding_more : (next : BookValue) → comes_before at page ≡ false
@@ -149,11 +145,11 @@ module _ {page : GuestPage} {old now : BookValue} {last : Option GuestPage} (h :
     hiding_more next behind stops own restless = record {
       done = cut.before ++ cut.row ∷ [];
       left = cut.rest;
-      along = along_on _ (rows ∙ alike_at at _ _ _
-          (λ k d lt same. behind_settles _ (get_or now.state.rows k d) (rw (same_page_eq _ at same) behind)));
+      along = along_on (rows ∙ alike_at at _ _ _
+          (λ k d lt same. behind_settles _ _ (rw (same_page_eq _ at same) behind)));
       comes = λ from s before.
           let reached = stops from (record s.0 { rows = now.state.rows }, s.1) (h.comes from s before) in
-          (reached.0 ∙ ap (λ l. record s.0 { rows = l }) (sym rows), reached.1);
+          (grind (arith, reached.0, rows), reached.1);
       own = own ∙ h.own;
       restless = restless ∙ h.restless;
       fits = fits;

@@ -1,5 +1,5 @@
 -- The keeper's steps as changes of a placement, and the lives that they spend.
-use Rattle.ksm_book.proofs.Names.{[], Add, added, All, All-filter, All-head, All-tail, arith, blank, Bool, cases_lt, cond, count_in, did, DupRow, Dying, dying_kind, dying_on, false, Filling, filter_passes, FitsBase, frame_at, Frames, frames_of, Free, GenerationFits, get_or, get_or-range_with_len, get_or_past, IfSome, inr, KeeperView, Kind, leaving, Ledger, ledger_after, length, length-range_with_len, List, MakesSteps, map, May, nat_tests, ne_eqb, None, Note, Option, past_lives, Placed, Private, range_with_len, Reap, reaped, refl, Retired, Row, same_Some, set, Shape, Some, spent, spent_on, Stable, Sub, subst, suc, sum_by, sum_by-cons, sum_by-set, sym, true, with_frame, zero, ℕ, ◌*◌, ◌+◌, ◌-◌, ◌<◌, ◌==◌, ◌∷◌, ◌≡◌, ◌≢◌, ◌≤◌, cond_both}
+use Rattle.ksm_book.proofs.Names.{[], Add, added, All, All-filter, All-head, All-tail, arith, blank, Bool, cases_lt, cond, count_in, did, DupRow, Dying, dying_kind, dying_on, false, Filling, filter_passes, FitsBase, frame_at, Frames, frames_of, Free, GenerationFits, get_or, get_or-range_with_len, get_or_past, IfSome, inr, KeeperView, Kind, leaving, Ledger, ledger_after, length, length-range_with_len, List, MakesSteps, map, May, ne_eqb, None, Note, Option, past_lives, Placed, Private, range_with_len, Reap, reaped, refl, Retired, Row, same_Some, set, Shape, Some, spent, spent_on, Stable, Sub, subst, suc, sum_by, sum_by-cons, sum_by-set, sym, true, with_frame, zero, ℕ, ◌*◌, ◌+◌, ◌-◌, ◌<◌, ◌==◌, ◌∷◌, ◌≡◌, ◌≢◌, ◌≤◌, cond_both}
 use Rattle.ksm_book.proofs.ByPage.{one_same, one_other}
 use Rattle.ksm_book.proofs.Made.{first_made, none_made, step_made}
 use Rattle.ksm_book.proofs.Noted.{noted}
@@ -10,13 +10,13 @@ use Rattle.ksm_book.proofs.Sweeps.{is_dying_kind}
 taken_private : (b : Bool) (kind : Kind) → cond b Dying kind ≡ Private → kind ≡ Private
 taken_private b kind e = grind arith
 
-fits_taken : (kind : Kind) (n : ℕ) → 1 ≤ n → FitsBase kind n → (b : Bool) → (b ≡ (n == 1)) → FitsBase (cond b Dying kind) (n - 1)
-fits_taken kind n some fits true e = let t : n ≡ 1 = grind arith in omega arith
-fits_taken Free n some fits false e = omega arith
-fits_taken Filling n some fits false e = absurd fits
-fits_taken Private n some fits false e = let z = fits in absurd (grind arith)
-fits_taken Stable n some fits false e = let z : ¬ (n ≡ 1) = λ is. grind arith in omega arith
-fits_taken _ n some fits false e = omega arith
+fits_taken : (kind : Kind) {n : ℕ} → 1 ≤ n → FitsBase kind n → (b : Bool) → (b ≡ (n == 1)) → FitsBase (cond b Dying kind) (n - 1)
+fits_taken kind {n} some fits true e = let t : n ≡ 1 = grind arith in omega arith
+fits_taken Free some fits false e = omega arith
+fits_taken Filling some fits false e = absurd fits
+fits_taken Private some fits false e = let z = fits in absurd (grind arith)
+fits_taken Stable {n} some fits false e = let z : ¬ (n ≡ 1) = λ is. grind arith in omega arith
+fits_taken _ some fits false e = omega arith
 
 lived_taken : (last n base : ℕ) (kind : Kind) (b : Bool) → 1 ≤ base → FitsBase kind base → GenerationFits last kind n → GenerationFits last (cond b Dying kind) n
 lived_taken last n base kind false some fits h = h
@@ -33,8 +33,8 @@ last_given : (last n : ℕ) (kind : Kind) → n ≡ last → GenerationFits last
 last_given last n kind e h = grind arith
 
 lived_reaped : (last n : ℕ) (kind : Kind) (c : Bool) → c ≡ (n == last) → GenerationFits last kind n → GenerationFits last (cond c Retired Free) n
-lived_reaped last n kind true e h = (last_given _ n _ (grind (arith, nat_tests)) h, lives_most _ n _ h)
-lived_reaped last n kind false e h = let ne : n ≢ last = λ is. grind arith in let most = lives_most _ n _ h in omega arith
+lived_reaped last n kind true e h = (last_given _ n _ (grind arith) h, lives_most _ n _ h)
+lived_reaped last n kind false e h = let ne : n ≢ last = λ is. grind arith in omega (arith, lives_most _ n _ h)
 
 -- the lives in which a frame does not hold one page alone are among those that it had
 pub past_le : (kind : Kind) (n : ℕ) → past_lives kind n ≤ n
@@ -50,20 +50,20 @@ spent_kept k g fr le = by _ g le
   where
     by : (xs : List Note) (i : ℕ) → spent_on (get_or xs i blank) ≤ spent_on fr → sum_by spent_on xs ≤ sum_by spent_on (set xs i fr)
     by [] i le = omega arith
-    by (x ∷ xs) zero le = let a = sum_by-cons spent_on x xs in let b = sum_by-cons spent_on fr xs in omega arith
+    by (x ∷ xs) zero le = omega (arith, sum_by-cons spent_on x xs, sum_by-cons spent_on fr xs)
     by (x ∷ xs) (suc i) le = let a = sum_by-cons spent_on x xs in let b = sum_by-cons spent_on x (set xs i fr) in let c = by xs i le in omega arith
 
 -- ---------------------------------------------------------------- a reference goes
 
 -- a frame with a reference is one that the keeper knows
 pub held_within : (k : Ledger) (f : ℕ) → 1 ≤ (frame_at k f).base → f < length k.frames
-held_within k f some = grind (arith, nat_tests, cases_lt, get_or_past)
+held_within k f some = grind (arith, cases_lt, get_or_past)
 
 -- a frame in hand is one of the table, and has a reference
 pub held_inside : {sh : Shape} {across : ℕ} {k : Ledger} {rows : List Row} {frame : Frames} {dups : List DupRow} {g : ℕ} → Placed sh across k rows frame dups (Some g)
     → (g < frames_of sh) × (1 ≤ (frame_at k g).base)
 held_inside {k = k} {g = g} p =
-    let one = one_same g _ refl in
+    let one = one_same g refl in
     let base = p.bases g in
     let long = p.frames_long in
     let some : 1 ≤ (frame_at k g).base = omega arith in
@@ -83,22 +83,22 @@ pub left_placed : {v w : KeeperView} (o : Option ℕ) → MakesSteps v w (leavin
 left_placed {v} {w} None m {sh} {across} {rows} {frame} {dups} p = rw (none_made m) p
 left_placed {v} {w} (Some g) m {sh} {across} {rows} {frame} {dups} p =
     let in_hand = held_inside p in
-    let one = one_same g _ refl in
+    let one = one_same g refl in
     let base = p.bases g in
     rw (step_made m).1
     (noted p g in_hand.0 _ None (record {
       wide = p.widths g;
       lived = lived_taken _ _ _ _ _ in_hand.1 (p.kinds g) (p.lives g);
       base = omega arith;
-      fits = fits_taken _ _ in_hand.1 (p.kinds g) _ refl;
+      fits = fits_taken _ in_hand.1 (p.kinds g) _ refl;
       same = λ some. let more = ne_eqb (frame_at v.ledger g).base 1 (λ e. omega arith) in (rw more, refl, refl);
       life = inr (refl, inr (refl, taken_private _ _));
-    }) (λ f ne. sym (one_other f _ (λ e. ne (sym (same_Some g f e))))))
+    }) (λ f ne. sym (one_other f (λ e. ne (sym (same_Some g f e))))))
 
 -- a reference given back ends no life
 pub left_spends : {v w : KeeperView} (o : Option ℕ) → MakesSteps v w (leaving o) → spent v.ledger ≤ spent w.ledger
-left_spends None m = grind (arith, nat_tests, m, none_made m)
-left_spends (Some g) m = grind (arith, nat_tests, step_made m, spent_kept, past_le)
+left_spends None m = grind (arith, m, none_made m)
+left_spends (Some g) m = grind (arith, step_made m, spent_kept, past_le)
 
 -- ---------------------------------------------------------------- a reference comes
 
@@ -106,7 +106,7 @@ left_spends (Some g) m = grind (arith, nat_tests, step_made m, spent_kept, past_
 pub added_placed : {v w : KeeperView} {g : ℕ} → MakesSteps v w (Add g ∷ []) → (frame_at v.ledger g).kind ≡ Stable → {sh : Shape} {across : ℕ} {rows : List Row} {frame : Frames} {dups : List DupRow}
     → g < frames_of sh → Placed sh across v.ledger rows frame dups None → Placed sh across w.ledger rows frame dups (Some g)
 added_placed {v} {w} {g} m stable {sh} {across} {rows} {frame} {dups} inside p =
-    let one = one_same g _ refl in
+    let one = one_same g refl in
     let base = p.bases g in
     rw (step_made m).1
     (noted p g inside _ _ (record {
@@ -116,11 +116,11 @@ added_placed {v} {w} {g} m stable {sh} {across} {rows} {frame} {dups} inside p =
       fits = rw stable (omega arith);
       same = λ _. (refl, refl, refl);
       life = inr (refl, inr (refl, λ own. own));
-    }) (λ f ne. one_other f _ (λ e. ne (sym (same_Some g f e)))))
+    }) (λ f ne. one_other f (λ e. ne (sym (same_Some g f e)))))
 
 -- a reference that came ends no life
 pub added_spends : {v w : KeeperView} {g : ℕ} → MakesSteps v w (Add g ∷ []) → spent v.ledger ≤ spent w.ledger
-added_spends {v} {w} {g} m = grind (arith, nat_tests, step_made m, spent_kept v.ledger g (added (frame_at v.ledger g)) (omega arith))
+added_spends {v} {w} {g} m = grind (arith, step_made m, spent_kept v.ledger g (added (frame_at v.ledger g)) (omega arith))
 
 -- ---------------------------------------------------------------- frames are reaped
 
@@ -189,12 +189,10 @@ reaps_placed (f ∷ fs) v w m across rows frame dups hand left p =
     (reap_placed sh _ f _ _ _ _ _ _ (All-head (IsLeft sh v.ledger) f fs left) p)
 
 reaps_spend : (fs : List ℕ) (v w : KeeperView) → MakesSteps v w (map Reap fs) → spent v.ledger ≤ spent w.ledger
-reaps_spend [] v w m = grind (arith, nat_tests, m, none_made m)
+reaps_spend [] v w m = grind (arith, m, none_made m)
 reaps_spend (f ∷ fs) v w m =
     let first = first_made m in
-    let here = reap_spends v.table.shape v.ledger f first.0 in
-    let rest = reaps_spend fs (did v (Reap f) first.0) w first.1 in
-    omega arith
+    omega (arith, reap_spends v.table.shape v.ledger f first.0, reaps_spend fs (did v (Reap f) first.0) w first.1)
 
 -- the frames of a node end at the end of the table or before it
 pub node_end : (node nodes size : ℕ) → node < nodes → node * size + size ≤ nodes * size
@@ -218,7 +216,7 @@ searched_placed {v} {w} node less m across rows frame dups hand p =
     (λ i d lt.
     let f = get_or (dying_on sh v.ledger node) i d in (
       All-filter _ (λ f. f < frames_of sh) _ inside i d lt,
-      subst (λ (x : Kind). FitsBase x (frame_at v.ledger f).base) (is_dying_kind _ (filter_passes dies (range_with_len low size) i d lt)) (p.kinds f),
+      subst (λ (x : Kind). FitsBase x (frame_at v.ledger f).base) (is_dying_kind (filter_passes dies (range_with_len low size) i d lt)) (p.kinds f),
     ))
     p
 

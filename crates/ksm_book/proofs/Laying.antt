@@ -1,5 +1,5 @@
 -- What becomes of pages that lie lawfully, where the keeper makes its steps.
-use Rattle.ksm_book.proofs.Names.{[], All, ap, arith, blank, change_row, default_knobs, DupFits, DupRow, false, find_all, first_ledger, frame_at, Frames, frames_of, get_or, GuestPage, holding, Houses, inl, InPageOrder, inr, IsLaid, IsLawful, IsReadable, IsServed, IsShape, KeeperView, Keeps, Kind, kind_for, Knobs, Ledger, length, length-replicate, lies_on, List, Listing, map, MatchOption, Merged, merged_into, None, nowhere, Option, PAGE_WORDS, PageState, PagesView, Placed, Private, refl, replicate, Row, row_at, Shape, shared_state, slice_index_or, Some, spent, subst, suc, sym, HasNewFrame, true, with_frame, with_row, Zero, zero, zero_state, ℕ, ◌/◌, ◌∙◌, ◌≡◌, ◌≤◌, ◌⊎◌, cond_both, Stable}
+use Rattle.ksm_book.proofs.Names.{[], All, ap, arith, blank, change_row, default_knobs, DupFits, DupRow, false, find_all, first_ledger, frame_at, Frames, frames_of, get_or, GuestPage, holding, Houses, inl, InPageOrder, inr, IsLaid, IsLawful, IsReadable, IsServed, IsShape, KeeperView, Keeps, Kind, kind_for, Knobs, Ledger, length, length-replicate, lies_on, List, Listing, map, MatchOption, Merged, merged_into, None, nowhere, Option, PAGE_WORDS, PageState, PagesView, Placed, Private, refl, replicate, Row, row_at, Shape, shared_state, slice_index_or, Some, spent, subst, suc, sym, HasNewFrame, true, with_frame, with_row, Zero, zero, zero_state, ℕ, ◌∙◌, ◌≡◌, ◌≤◌, ◌⊎◌, cond_both, Stable}
 use Rattle.ksm_base.specs.declared.row.PageState.TheVariants.{Private as OwnPage}
 use Rattle.ksm_book.proofs.ByPage.{found_page, row_of_page}
 use Rattle.ksm_book.proofs.Keeping.{spent_kept}
@@ -35,7 +35,7 @@ module _ {sh : Shape} {across : ℕ} {v w : KeeperView} {rows : List Row} {frame
       kind = took.kind ∙ ap kind_for (sym own);
       content = took.content ∙ sym content;
       given = took.given;
-      node = λ _. subst (λ (s : Shape). g / s.frames_per_node ≡ node) same took.node ∙ sym home;
+      node = λ _. grind (arith, same, took.node, home);
     },
     own_agrees in_new_hand r g (λ n. ap (merged_into n) own) took.kind,
   )
@@ -47,7 +47,7 @@ module _ {sh : Shape} {across : ℕ} {v w : KeeperView} {rows : List Row} {frame
       by : (o : Option Row) → row_at page rows ≡ o → MatchOption o ⊥ (λ r. ((c r).state ≡ OwnPage) × ((c r).home ≡ node) × ((c r).bytes ≡ bytes))
           → Placed sh across w.ledger (change_row page c rows) (lies_on page (Some g) frame) dups (frame page)
       by None found none = absurd none
-      by (Some row) found h = swapped _ _ c row rise found houses.pages in_new_hand (serves _ h.0 h.1 h.2)
+      by (Some row) found h = swapped _ c row rise found houses.pages in_new_hand (serves _ h.0 h.1 h.2)
 
   -- where a new row comes on the frame taken, rows and dups lie lawfully
   pub come_there : (r : Row) → row_at r.page rows ≡ None → r.state ≡ OwnPage → r.home ≡ node → r.bytes ≡ bytes → Placed sh across w.ledger (with_row r rows) (lies_on r.page (Some g) frame) dups None
@@ -96,7 +96,7 @@ module _ {sh : Shape} {across : ℕ} {k : Ledger} {rows : List Row} {frame : Fra
   lodged_as : (old r : Row) (o : Option ℕ) → LodgesAs r old → IsServed sh k dups old o → IsServed sh k dups r o
   lodged_as old r (Some f) lodges served = lodged old r f served lodges
   lodged_as old r None (home, bytes, inl s) served = ap zero_state s ∙ served
-  lodged_as old r None (home, bytes, inr own) served = absurd (let none = own_framed _ own.0 in grind arith)
+  lodged_as old r None (home, bytes, inr own) served = absurd (grind (arith, own_framed _ own.0))
 
   -- the row of a page is served by its frame
   pub served_at : (page : GuestPage) (row : Row) → row_at page rows ≡ Some row → IsServed sh k dups row (frame page)
@@ -115,22 +115,22 @@ module _ {p : PagesView} {k : KeeperView} (h : IsLaid p k) where
     small = h.small;
     same = shape_same sh k w h.same e;
     placed = kept k h.same w None keeps h.placed;
-    spent = (let s = h.spent in omega arith);
+    spent = (omega (arith, h.spent));
   }
 
   -- pages lie lawfully with other rows and frames that are placed lawfully beside the same dups
-  pub laid_rows : (rows : List Row) (frame : Frames) (restless : Listing) (w : KeeperView) → w.table ≡ k.table → spent k.ledger ≤ spent w.ledger → Placed sh across w.ledger rows frame p.dups None
+  pub laid_rows : {rows : List Row} {frame : Frames} {restless : Listing} (w : KeeperView) → w.table ≡ k.table → spent k.ledger ≤ spent w.ledger → Placed sh across w.ledger rows frame p.dups None
       → IsLaid (record p { rows = rows; frame = frame; restless = restless }) w
-  laid_rows rows frame restless w e more placed = record {
+  laid_rows w e more placed = record {
     small = h.small;
     same = shape_same sh k w h.same e;
     placed = placed;
-    spent = (let s = h.spent in omega arith);
+    spent = (omega (arith, h.spent));
   }
 
   -- pages lie lawfully where each row changes into one that may stand in its stead on its frame
   pub laid_mapped : (c : Row → Row) (restless : Listing) → ((r : Row) → (c r).page ≡ r.page) → All (λ r. LodgesAs (c r) r) p.rows → IsLaid (record p { rows = map c p.rows; restless = restless }) k
-  laid_mapped c restless keeps lodges = laid_rows _ _ _ k refl (omega arith)
+  laid_mapped c restless keeps lodges = laid_rows k refl (omega arith)
       (remapped None c keeps h.placed (λ i d lt. let r = get_or p.rows i d in lodged_as h.placed r (c r) _ (lodges i d lt)))
 
   -- pages lie lawfully where the row of a page changes into one that may stand in its stead on its frame
@@ -142,8 +142,8 @@ module _ {p : PagesView} {k : KeeperView} (h : IsLaid p k) where
       (λ is. rw (row_of_page _ _ row rise found i d lt is) lodges) (λ _. (refl, refl, inl refl)))
 
   -- a row that is not Zero lies on a frame that serves it
-  pub has_frame : (page : GuestPage) (row : Row) → row_at page p.rows ≡ Some row → zero_state row.state ≡ false → (f : ℕ) × (p.frame page ≡ Some f) × Serves sh k.ledger p.dups row f
-  has_frame page row found other = framed sh _ _ row _ other (served_at h.placed _ row found)
+  pub has_frame : {page : GuestPage} {row : Row} → row_at page p.rows ≡ Some row → zero_state row.state ≡ false → (f : ℕ) × (p.frame page ≡ Some f) × Serves sh k.ledger p.dups row f
+  has_frame {row = row} found other = framed sh _ _ row _ other (served_at h.placed _ row found)
 
   -- pages lie lawfully where the row of a page with a frame of its own gets new bytes, and the frame holds them
   pub laid_written : (page : GuestPage) (row : Row) (c : Row → Row) (restless : Listing) (w : KeeperView) (g : ℕ) → InPageOrder p.rows → row_at page p.rows ≡ Some row → ((r : Row) → (c r).page ≡ r.page) → p.frame page ≡ Some g
@@ -155,19 +155,19 @@ module _ {p : PagesView} {k : KeeperView} (h : IsLaid p k) where
       let fr = holding (frame_at k.ledger g) (c row).bytes in
       let more : spent k.ledger ≤ spent (with_frame k.ledger g fr) = spent_kept k.ledger g fr (omega arith) in
       let end = ap spent ledger in
-      laid_rows _ _ _ w e (omega arith)
+      laid_rows w e (omega arith)
       (rw ledger
       (written_in h.placed _ row rise found g lies kind c keeps fr kind refl refl wide
       (ap zero_state is) (ap kind_for is) (λ n. ap (merged_into n) is) home refl alone))
 
 -- a frame of the kind that a row has which is not Zero may be read
-pub readable : (x : Kind) (s : PageState) → zero_state s ≡ false → x ≡ kind_for s → IsReadable x
-readable x Zero framed e = absurd (grind (arith, framed))
-readable x _ framed e = subst IsReadable (sym e) tt
+pub readable : {x : Kind} (s : PageState) → zero_state s ≡ false → x ≡ kind_for s → IsReadable x
+readable Zero framed e = absurd (grind (arith, framed))
+readable _ framed e = subst IsReadable (sym e) tt
 
 -- pages lie lawfully with other knobs, where merge_across_nodes stays as it is or there are no dups
-pub retuned : {p : PagesView} (tuned : Knobs) {k : KeeperView} → (tuned.merge_across_nodes ≡ p.knobs.merge_across_nodes) ⊎ (p.dups ≡ []) → IsLaid p k → IsLaid (record p { knobs = tuned }) k
-retuned {p} tuned {k} either h =
+pub retuned : {p : PagesView} {tuned : Knobs} {k : KeeperView} → (tuned.merge_across_nodes ≡ p.knobs.merge_across_nodes) ⊎ (p.dups ≡ []) → IsLaid p k → IsLaid (record p { knobs = tuned }) k
+retuned {p} {tuned} {k} either h =
     let q = h.placed in record {
       small = h.small;
       same = h.same;
@@ -200,16 +200,16 @@ pub first_note : (sh : Shape) (f : ℕ) → frame_at (first_ledger sh) f ≡ bla
 first_note _ f = same_in _ f _
 
 -- pages lie lawfully as they are opened, with no rows and no dups, where the keeper has its first ledger
-pub first_laid : (sh : Shape) (k : KeeperView) → IsShape sh → k.table.shape ≡ sh → k.ledger ≡ first_ledger sh
+pub first_laid : {sh : Shape} {k : KeeperView} → IsShape sh → k.table.shape ≡ sh → k.ledger ≡ first_ledger sh
     → IsLaid (record { shape = sh; rows = []; frame = nowhere; dups = []; knobs = default_knobs; next = 0; restless = record { pages = []; known = true } }) k
-first_laid sh k is same first = record {
+first_laid {sh} is same first = record {
   small = is;
   same = same;
   placed = rw first (record {
     frames_long = length-replicate (frames_of sh) blank;
     places_long = length-replicate (frames_of sh) None;
     widths = λ f. rw (first_note sh f) (length-replicate {A = ℕ} PAGE_WORDS 0);
-    lives = λ f. rw (first_note sh f) (let low = is.generation_low in omega arith);
+    lives = λ f. rw (first_note sh f) (omega (arith, is.generation_low));
     each_row = λ i d lt. absurd (omega arith);
     each_dup = λ i d lt. absurd (omega arith);
     bases = λ f. rw (first_note sh f);

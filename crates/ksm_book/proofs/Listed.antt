@@ -7,8 +7,7 @@ use Rattle.ksm_book.proofs.ByPage.{found_page}
 pages_are : (cursor : Option GuestPage) (rows : List Row)
     → map (λ r. r.page) (rows_ahead cursor rows) ≡ filter (after_cursor cursor) (mergeable_pages rows)
 pages_are cursor [] = refl
-pages_are cursor (r ∷ rows) =
-    let rest = pages_are cursor rows in grind arith
+pages_are cursor (r ∷ rows) = grind (arith, pages_are cursor rows)
 
 -- where so many visits of the rows ahead end, so many visits of the pages ahead end
 pub ahead_ends : (cursor : Option GuestPage) (rows : List Row) (visits : ℕ) (ahead : Ahead) → ComesTo (rows_ahead cursor rows) visits ahead
@@ -19,7 +18,7 @@ ahead_ends cursor rows visits ahead comes = rw (← pages_are cursor rows) (by _
     same = length-map (rows_ahead cursor rows) (λ (r : Row). r.page)
 
     by : (ahead : Ahead) → ComesTo (rows_ahead cursor rows) visits ahead → EndsAt (map (λ r. r.page) (rows_ahead cursor rows)) visits ahead
-    by (At page) told = (let less = told.0 in omega (arith, same), slice_get-map _ (rows_ahead cursor rows) _ ∙ told.1)
+    by (At page) told = (omega (arith, same, told.0), slice_get-map _ (rows_ahead cursor rows) _ ∙ told.1)
     by (End made) told = (told.0 ∙ sym same, told.1)
 
 between_are : (cursor : Option GuestPage) (page : GuestPage) (rows : List Row)

@@ -1,5 +1,5 @@
 -- Parts of a log, and lists of steps that were made, one after the other.
-use Rattle.ksm_book.proofs.Names.{length-take-le, [], along, ap, append-nil, append_assoc, arith, Allocates, did, drop, get_or, given_by, Gives, IsNeeded, KeeperStep, KeeperView, Ledger, ledger_after, length, List, Log, MakesSteps, map-append, needed_after, Option, refl, replayed, set, Shape, stepped, steps_of, subst, suc, sym, take, take_more, zero, ℕ, ◌++◌, ◌+◌, ◌<◌, ◌∙◌, ◌∷◌, ◌≡◌, nat_tests}
+use Rattle.ksm_book.proofs.Names.{length-take-le, [], along, ap, append-nil, append_assoc, arith, Allocates, did, drop, get_or, given_by, Gives, IsNeeded, KeeperStep, KeeperView, Ledger, ledger_after, length, List, Log, MakesSteps, map-append, needed_after, Option, refl, replayed, set, Shape, stepped, steps_of, suc, sym, take, take_more, zero, ℕ, ◌++◌, ◌+◌, ◌<◌, ◌∙◌, ◌∷◌, ◌≡◌}
 
 -- a log is replayed part by part
 pub replayed_append : (sh : Shape) (k : Ledger) (xs ys : Log) → replayed sh k (xs ++ ys) ≡ replayed sh (replayed sh k xs) ys
@@ -8,11 +8,7 @@ replayed_append sh k (x ∷ xs) ys = replayed_append sh (ledger_after sh k x.0 x
 
 -- two parts, one after the other, are made as one
 pub stepped_then : (v : KeeperView) (xs ys : Log) → stepped (stepped v xs) ys ≡ stepped v (xs ++ ys)
-stepped_then v xs ys = λ i. record {
-  table = v.table;
-  ledger = sym (replayed_append v.table.shape v.ledger xs ys) i;
-  log = append_assoc v.log xs ys i;
-}
+stepped_then v xs ys = grind (arith, replayed_append v.table.shape v.ledger xs ys, append_assoc v.log xs ys)
 
 needed_more : (ms ns : List ℕ) (o : Option ℕ) (sh : Shape) (k : Ledger) → IsNeeded sh k ms o → IsNeeded sh k (ms ++ ns) o × (needed_after (ms ++ ns) o ≡ needed_after ms o ++ ns)
 needed_more ms ns o sh k h = grind arith
@@ -28,12 +24,12 @@ pub chained : {u v w : KeeperView} {ms ns : List ℕ} {xs ys : Log} → Allocate
 chained {u} {ms = ms} {ns} {xs} {ys} a b = record {
   table = b.table ∙ a.table;
   log = b.log ∙ ap (λ l. l ++ ys) a.log ∙ append_assoc u.log xs ys;
-  ledger = b.ledger ∙ (λ i. replayed (a.table i).shape (a.ledger i) ys) ∙ sym (replayed_append u.table.shape _ xs ys);
-  gives = gives_append _ _ ms ns xs ys a.gives (subst (λ (z : Shape × Ledger). Gives z.0 z.1 ns ys) (λ i. ((a.table i).shape, a.ledger i)) b.gives);
+  ledger = grind (arith, b.ledger, a.table, a.ledger, replayed_append);
+  gives = gives_append _ _ ms ns xs ys a.gives (grind (arith, a.table, a.ledger, b.gives));
 }
 
 along_push : (step : ℕ → ℕ → KeeperStep × ℕ) (j w : ℕ) (ws : List ℕ) → along step j (ws ++ w ∷ []) ≡ along step j ws ++ step (j + length ws) w ∷ []
-along_push step j w [] = grind (arith, nat_tests)
+along_push step j w [] = grind arith
 along_push step j w (x ∷ xs) = rw (along_push step (j + 1) w xs ∙ (let e : j + 1 + length xs ≡ j + suc (length xs) = omega arith in ap (λ i. along step (j + 1) xs ++ step i w ∷ []) e))
 
 -- a step was made for each of the first words, and now for one more
@@ -41,7 +37,7 @@ pub along_one : (step : ℕ → ℕ → KeeperStep × ℕ) (v w w' : KeeperView)
     → w' ≡ stepped w (step i (get_or ws i 0) ∷ []) → w' ≡ stepped v (along step 0 (take (i + 1) ws))
 along_one step v w w' i ws lt so_far is =
     let word = get_or ws i 0 in
-    let place : 0 + length (take i ws) ≡ i = (let t = length-take-le i ws (omega arith) in omega arith) in
+    let place : 0 + length (take i ws) ≡ i = (omega (arith, length-take-le i ws (omega arith))) in
     rw (take_more ws i 0 lt)
     (is ∙ ap (λ z. stepped z (step i word ∷ [])) so_far ∙ stepped_then v _ _
     ∙ ap (λ n. stepped v (along step 0 (take i ws) ++ step n word ∷ [])) (sym place)
@@ -52,13 +48,13 @@ pub word_written : (ws cs : List ℕ) (i : ℕ) → length cs ≡ length ws → 
 word_written [] cs i same lt = absurd (omega arith)
 word_written (w ∷ ws) [] i same lt = absurd (omega arith)
 word_written (w ∷ ws) (c ∷ cs) zero same lt = refl
-word_written (w ∷ ws) (c ∷ cs) (suc i) same lt = grind (arith, nat_tests, word_written ws cs i (omega arith) (omega arith))
+word_written (w ∷ ws) (c ∷ cs) (suc i) same lt = grind (arith, word_written ws cs i (omega arith) (omega arith))
 
 -- ---------------------------------------------------------------- steps, and no others
 
 -- where the keeper stays as it is, no step was made
 pub made_none : {v w : KeeperView} → w ≡ v → MakesSteps v w []
-made_none {v} e = record { part = []; after = e ∙ (λ i. record { table = v.table; ledger = v.ledger; log = sym (append-nil v.log) i }); are = refl }
+made_none {v} e = record { part = []; after = grind (arith, e, append-nil v.log); are = refl }
 
 -- a keeper that went on by one step has made that step and no other
 pub made_one : (v w : KeeperView) (e : KeeperStep) (found : ℕ) → w ≡ did v e found → MakesSteps v w (e ∷ [])
@@ -72,7 +68,7 @@ made_part v w part is = record { part = part; after = is; are = refl }
 pub made_then : {u v w : KeeperView} {xs ys : List KeeperStep} → MakesSteps u v xs → MakesSteps v w ys → MakesSteps u w (xs ++ ys)
 made_then {u} a b = record {
   part = a.part ++ b.part;
-  after = b.after ∙ ap (λ (z : KeeperView). stepped z b.part) a.after ∙ stepped_then u _ _;
+  after = grind (arith, b.after, a.after, stepped_then);
   are = map-append (λ (e : KeeperStep × ℕ). e.0) a.part b.part ∙ (λ i. a.are i ++ b.are i);
 }
 
@@ -81,7 +77,7 @@ pub none_made : {v w : KeeperView} → MakesSteps v w [] → w ≡ v
 none_made {v} {w} m = by _ m.after m.are
   where
     by : (part : Log) → w ≡ stepped v part → steps_of part ≡ [] → w ≡ v
-    by [] after are = after ∙ (λ i. record { table = v.table; ledger = v.ledger; log = append-nil v.log i })
+    by [] after are = grind (arith, after, append-nil v.log)
     by (e ∷ es) after are = absurd (grind arith)
 
 -- a keeper that made some steps made the first of them and then the others

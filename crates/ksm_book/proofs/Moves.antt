@@ -1,5 +1,5 @@
 -- What each step of a command does to a placement.
-use Rattle.ksm_book.proofs.Names.{Agrees, All, All-filter, All-map, All-weaker, all_with_row, ap, arith, both_ways, cases_lt, change_row, cond_both, DupFits, DupRow, eq-eqb, false, filter, filter_passes, find_all, find_none, FitsBase, frame_at, Frames, frames_of, GenerationFits, get_or, get_or-set_other, get_or-set_same, GuestPage, if◌then◌else◌, in_hand, inl, InPageOrder, inr, is_frame, is_some, IsInLife, IsServed, item_count, Kind, kind_for, Ledger, length, length-set, lies_on, Life, life_or, List, lt-ltb, map, Merged, merged_into, named_at, nat_lt, nat_tests, None, not, not-true, Note, Option, ordered_change, PAGE_WORDS, PageState, place_frame, place_life, Placed, Private, refl, Row, row_at, RowFits, same_page, same_page_refl, set, Shape, shared_state, Some, Stable, subst, sym, true, uses, with_dup, with_frame, with_row, without_page, Zero, zero_state, ℕ, ◌+◌, ◌/◌, ◌<◌, ◌∙◌, ◌∷◌, ◌≡◌, ◌≢◌, ◌≤◌, count_alike, Contains, Contains-append_left, Contains-append_right, suc, all_with_dup}
+use Rattle.ksm_book.proofs.Names.{Agrees, All, All-filter, All-map, All-weaker, all_with_row, ap, arith, both_ways, cases_lt, change_row, cond_both, DupFits, DupRow, eq-eqb, false, filter, filter_passes, find_all, find_none, FitsBase, frame_at, Frames, frames_of, GenerationFits, get_or, get_or-set_other, get_or-set_same, GuestPage, if◌then◌else◌, in_hand, inl, InPageOrder, inr, is_frame, is_some, IsInLife, IsServed, item_count, Kind, kind_for, Ledger, length, length-set, lies_on, Life, life_or, List, lt-ltb, map, Merged, merged_into, named_at, nat_lt, None, not, not-true, Note, Option, ordered_change, PAGE_WORDS, PageState, place_frame, place_life, Placed, Private, refl, Row, row_at, RowFits, same_page, same_page_refl, set, Shape, shared_state, Some, Stable, subst, sym, true, uses, with_dup, with_frame, with_row, without_page, Zero, zero_state, ℕ, ◌+◌, ◌/◌, ◌<◌, ◌∙◌, ◌∷◌, ◌≡◌, ◌≢◌, ◌≤◌, count_alike, Contains, Contains-append_left, Contains-append_right, suc, all_with_dup}
 use Rattle.ksm_book.proofs.Noted.{by_frame, noted}
 use Rattle.ksm_book.proofs.ByPage.{all_changed_row, at_changed, change_twice, lies_again, lies_still, one_same, row_of_page, uses_some, found_page, off_page, on_page, uses_changed, uses_come, uses_gone, uses_mapped}
 use Rattle.ksm_base.proofs.Changes.{contains_filter}
@@ -50,13 +50,13 @@ module _ {sh : Shape} {across : ℕ} {k : Ledger} {rows : List Row} {frame : Fra
   }
 
   -- the row of a page takes what is in the hand, and its own frame, if it has one, comes into the hand
-  pub swapped : (o : Option ℕ) (page : GuestPage) (c : Row → Row) (row : Row) → InPageOrder rows → row_at page rows ≡ Some row → ((r : Row) → (c r).page ≡ r.page)
+  pub swapped : (o : Option ℕ) {page : GuestPage} (c : Row → Row) (row : Row) → InPageOrder rows → row_at page rows ≡ Some row → ((r : Row) → (c r).page ≡ r.page)
       → Placed sh across k rows frame dups o → IsServed sh k dups (c row) o → Placed sh across k (change_row page c rows) (lies_on page o frame) dups (frame page)
-  swapped o page c row rise found keeps p new =
+  swapped o {page} c row rise found keeps p new =
       let at = ap (λ q. same_page q page) (keeps row ∙ found_page _ rows row found) ∙ same_page_refl page in
       rehoused p (all_changed_row (At sh k dups frame) (At sh k dups (lies_on page o frame)) _ c _ row rise found p.each_row
-      (λ r other h. subst (IsServed sh k dups r) (sym (off_page page o frame r.page other)) h)
-      (λ _. subst (IsServed sh k dups (c row)) (sym (on_page page o frame (c row).page at)) new))
+      (λ r other h. grind (arith, off_page page o frame r.page other, h))
+      (λ _. grind (arith, on_page page o frame (c row).page at, new)))
       (λ f. p.bases f ∙ sym (uses_changed f _ o _ c _ row rise found keeps))
 
   -- rows and dups lie lawfully where each row changes, keeps its page, and is served by its frame still
@@ -73,7 +73,7 @@ module _ {sh : Shape} {across : ℕ} {k : Ledger} {rows : List Row} {frame : Fra
       let apart = find_none _ _ absent in
       rehoused p (all_with_row (At sh k dups (lies_on row.page o frame)) row _ (subst (IsServed sh k dups row) (sym (on_page row.page o frame row.page (same_page_refl row.page))) new)
       (λ i d lt. let r = get_or rows i d in subst (IsServed sh k dups r) (sym (off_page row.page o frame r.page (apart i d lt))) (p.each_row i d lt)))
-      (λ f. let come = uses_come f o frame row _ absent in let b = p.bases f in omega arith)
+      (λ f. omega (arith, uses_come f o frame row _ absent, p.bases f))
 
   -- where the row of a page goes, rows and dups lie lawfully with its frame, if it had one, in hand
   pub removed : (page : GuestPage) (row : Row) → InPageOrder rows → row_at page rows ≡ Some row → Placed sh across k rows frame dups None
@@ -82,7 +82,7 @@ module _ {sh : Shape} {across : ℕ} {k : Ledger} {rows : List Row} {frame : Fra
       let kept = All-filter (λ r. not (same_page r.page page)) (At sh k dups frame) _ p.each_row in
       rehoused p (λ i d lt. let r = get_or (without_page page rows) i d in
       subst (IsServed sh k dups r) (sym (off_page page None frame r.page (not-true _ (filter_passes (λ s. not (same_page s.page page)) rows i d lt)))) (kept i d lt))
-      (λ f. let gone = uses_gone f _ None frame _ row rise found in let b = p.bases f in omega arith)
+      (λ f. omega (arith, uses_gone f _ None frame _ row rise found, p.bases f))
 
 -- where no other dup stands at the place of a new one, what all dups pass with it, it passes and so do all others
 all_without : (P : DupRow → Type 0) (d : DupRow) (dups : List DupRow) → All (λ e. e.place ≢ d.place) dups → All P (with_dup d dups) → P d × All P dups
@@ -91,12 +91,12 @@ all_without P d dups apart h =
     let higher = filter (λ e. nat_lt d.place e.place) dups in
     let at : (e : DupRow) → Contains (with_dup d dups) e → P e = λ e has. subst P has.2 (h has.0 e has.1) in (
       at d (Contains-append_right lower (d ∷ higher) d (0, omega arith, refl)),
-      λ k x lt. let e : DupRow = get_or dups k x in let has = Contains-get_or dups k x lt in elim (cases_lt e.place d.place) [
+      λ k x lt. let e : DupRow = get_or dups k x in let has = Contains-get_or _ k x lt in elim (cases_lt _ _) [
         | inl below ↦
-            at e (Contains-append_left lower (d ∷ higher) e (contains_filter (λ y. nat_lt y.place d.place) dups e has (lt-ltb _ _ below)))
+            at e (Contains-append_left _ _ e (contains_filter _ _ e has (lt-ltb _ _ below)))
         | inr above ↦
             let there = contains_filter (λ y. nat_lt d.place y.place) dups e has (lt-ltb _ _ (let ne = apart k x lt in omega arith)) in
-            at e (Contains-append_right lower (d ∷ higher) e (suc there.0, (let l = there.1 in omega arith), there.2))
+            at e (Contains-append_right lower (d ∷ higher) e (suc there.0, (omega (arith, there.1)), there.2))
       ],
     )
 
@@ -113,16 +113,16 @@ module _ {sh : Shape} {across : ℕ} {k : Ledger} {rows : List Row} {frame : Fra
   named_off q ne = get_or-set_other k.places d.place q (Some (record { frame = g; generation = life })) None ne
 
   names : place_frame named d.place ≡ g
-  names = ap (λ x. (life_or x).frame) named_is
+  names = grind (arith, named_is)
 
   in_life : IsInLife named d.place
-  in_life = rw names (lived ∙ sym (ap (λ x. (life_or x).generation) named_is))
+  in_life = rw names (lived ∙ sym (grind (arith, named_is)))
 
   names_off : (e : DupRow) → e.place ≢ d.place → place_frame named e.place ≡ place_frame k e.place
-  names_off e ne = ap (λ x. (life_or x).frame) (named_off _ ne)
+  names_off e ne = grind (arith, named_off)
 
   life_off : (e : DupRow) → e.place ≢ d.place → IsInLife named e.place → IsInLife k e.place
-  life_off e ne l = ap (λ h. (frame_at k h).generation) (sym (names_off e ne)) ∙ l ∙ ap (λ x. (life_or x).generation) (named_off _ ne)
+  life_off e ne l = grind (arith, names_off e ne, l, named_off)
 
   named_anew : All (λ e. e.place ≢ d.place) dups → uses g frame rows ≡ 0 → (frame_at k g).content ≡ d.bytes → (across ≡ 0 → g / sh.frames_per_node ≡ d.tree) → All (λ r. merged_into d.number r.state ≡ false) rows
       → Placed sh across named rows frame (with_dup d dups) (Some g)
@@ -135,14 +135,13 @@ module _ {sh : Shape} {across : ℕ} {k : Ledger} {rows : List Row} {frame : Fra
       (let n = m.0 in record { mapped = n.mapped; frame = n.frame; kind = n.kind; content = n.content; given = n.given; node = n.node }),
       all_with_dup (Agrees named r f) d dups
           (record {
-            item = λ into. absurd (let none = fresh i x lt in grind arith);
-            back = λ _ e. absurd (let some = uses_some g frame rows i x lt (is ∙ ap Some (e ∙ names)) in omega (arith, unused));
+            item = λ into. absurd (grind (arith, fresh i x lt));
+            back = λ _ e. absurd (omega (arith, unused, uses_some g frame rows i x lt (is ∙ ap Some (e ∙ names))));
           })
           (λ n y l. let e : DupRow = get_or dups n y in let ne = apart n y l in let a = m.1 n y l in record {
             item = λ into. let y = a.item into in (
               y.0 ∙ sym (names_off e ne),
-              rw (names_off e ne)
-                  (y.1 ∙ sym (ap (λ x. (life_or x).generation) (named_off e.place ne))),
+              rw (names_off e ne) (y.1 ∙ sym (ap (λ x. (life_or x).generation) (named_off _ ne))),
             );
             back = λ l e2. a.back (life_off e ne l) (e2 ∙ names_off e ne);
           }),
@@ -161,7 +160,7 @@ module _ {sh : Shape} {across : ℕ} {k : Ledger} {rows : List Row} {frame : Fra
           place = m.place;
           named = ap is_some (named_off e.place ne) ∙ m.named;
           frame = rw (names_off e ne) m.frame;
-          life = subst (λ (y : Option Life). (life_or y).generation ≤ (frame_at k (life_or y).frame).generation) (sym (named_off e.place ne)) m.life;
+          life = subst (λ (y : Option Life). (life_or y).generation ≤ (frame_at k (life_or y).frame).generation) (sym (named_off _ ne)) m.life;
           content = λ l. rw (names_off e ne) (m.content (life_off e ne l));
           shown = λ l e2. m.shown (life_off e ne l) (rw (← names_off e ne) e2);
           node = λ z. rw (names_off e ne) (m.node z);
@@ -193,13 +192,13 @@ module _ {sh : Shape} {across : ℕ} {k : Ledger} {rows : List Row} {frame : Fra
 
   -- without the page its frame is in the hand
   lifted : Placed sh across k bare off dups (Some g)
-  lifted = subst (Placed sh across k bare off dups) lies (swapped None _ _ row rise found (λ r. refl) p refl)
+  lifted = subst (Placed sh across k bare off dups) lies (swapped None _ row rise found (λ r. refl) p refl)
 
   one : (frame_at k g).base ≡ 1
-  one = grind (arith, nat_tests)
+  one = grind arith
 
   unused : uses g off bare ≡ 0
-  unused = let b = lifted.bases g in let held = one_same g _ refl in omega (arith, one)
+  unused = omega (arith, one, lifted.bases g, one_same g refl)
 
   -- meanwhile its note changes
   module _ (fr : Note) (life : fr.generation ≡ (frame_at k g).generation) where
@@ -208,7 +207,7 @@ module _ {sh : Shape} {across : ℕ} {k : Ledger} {rows : List Row} {frame : Fra
     turned wide base lived counts = noted lifted g fits.0.frame fr _ (record {
       wide = wide;
       lived = lived;
-      base = (let held = one_same g _ refl in omega (arith, unused));
+      base = (omega (arith, unused, one_same g refl));
       fits = counts;
       same = λ used. absurd (omega (arith, unused));
       life = inr (life, inl own);
@@ -225,12 +224,12 @@ module _ {sh : Shape} {across : ℕ} {k : Ledger} {rows : List Row} {frame : Fra
       → IsServed sh k' dups' (c row) (Some g) → Placed sh across k' (change_row page c rows) frame dups' None
   back {k'} {dups'} c keeps q served =
       let d : Row → Row = λ r. record (c row) { page = r.page } in
-      let same : d row ≡ c row = λ t. record (c row) { page = sym (keeps row) t } in
+      let same : d row ≡ c row = grind (arith, keeps row) in
       let again = change_twice _ _ d c _ (λ r. refl) (λ i x lt at. rw (row_of_page _ _ row rise found i x lt at) same) in
       let there = lies_again page None (Some g) frame ∙ lies_still _ _ _ lies in
       subst (λ (z : List Row × Frames × Option ℕ). Placed sh across k' z.0 z.1 dups' z.2)
       (λ t. (again t, there t, on_page page None frame page (same_page_refl page) t))
-      (swapped _ _ d _ (ordered_change _ _ _ (λ r. refl) rise)
+      (swapped _ d _ (ordered_change _ _ _ (λ r. refl) rise)
       (at_changed page bared rows row (λ r. refl) found) (λ r. refl) q (rw same served))
 
   -- rows and dups lie lawfully where a row that is not shared gets new bytes, and its frame holds them
@@ -299,7 +298,7 @@ module _ {sh : Shape} {across : ℕ} {k : Ledger} {rows : List Row} {frame : Fra
       )
     where
       only : (n : ℕ) (s : PageState) (m : ℕ) → s ≡ Merged m → merged_into n s ≡ true → n ≡ m
-      only n s m is into = grind (arith, nat_tests, is, into)
+      only n s m is into = grind (arith, is, into)
 
 -- a row in the state of another that is served by a frame, with the frame's bytes, is served by it too
 pub serves_like : (sh : Shape) (k : Ledger) (dups : List DupRow) (s r : Row) (f : ℕ) → Serves sh k dups s f → r.state ≡ s.state → (frame_at k f).content ≡ r.bytes → shared_state r.state ≡ true → Serves sh k dups r f
@@ -307,28 +306,28 @@ serves_like sh k dups s r f h same content merged = (
   record { mapped = ap zero_state same ∙ h.0.mapped; frame = h.0.frame; kind = h.0.kind ∙ ap kind_for (sym same); content = content; given = h.0.given; node = λ m. absurd (grind arith) },
   All-weaker (Agrees k s f) (Agrees k r f) (λ d a. record {
     item = λ m. a.item (sym (ap (merged_into d.number) same) ∙ m);
-    back = λ life e. ap (merged_into d.number) same ∙ a.back life e;
+    back = λ life e. grind (arith, same, a.back life e);
   }) _ h.1,
 )
 
 -- the rows on the frame of a dup in its life are its items
 pub lies_as_item : {sh : Shape} {across : ℕ} {k : Ledger} {rows : List Row} {frame : Frames} {dups : List DupRow} (p : Placed sh across k rows frame dups None) (n : ℕ) (d : DupRow) → n < length dups → IsInLife k (get_or dups n d).place
     → All (λ r. is_frame (place_frame k (get_or dups n d).place) (frame r.page) ≡ merged_into (get_or dups n d).number r.state) rows
-lies_as_item p n d lt life i r0 l = grind (arith, nat_tests)
+lies_as_item p n d lt life i r0 l = grind arith
 
 -- the references on the frame of a dup in its life are its items
 pub base_is_items : {sh : Shape} {across : ℕ} {k : Ledger} {rows : List Row} {frame : Frames} {dups : List DupRow} (p : Placed sh across k rows frame dups None) (n : ℕ) (d : DupRow) → n < length dups → IsInLife k (get_or dups n d).place
     → (frame_at k (place_frame k (get_or dups n d).place)).base ≡ item_count rows (get_or dups n d)
-base_is_items p n d lt life = grind (arith, nat_tests, lies_as_item p n d lt life, count_alike)
+base_is_items p n d lt life = grind (arith, lies_as_item p n d lt life, count_alike)
 
 -- a dup without items has no Stable frame in the life that its place names
 pub stale_is_loose : {sh : Shape} {across : ℕ} {k : Ledger} {rows : List Row} {frame : Frames} {dups : List DupRow} (p : Placed sh across k rows frame dups None) (n : ℕ) (d : DupRow) → n < length dups → item_count rows (get_or dups n d) ≡ 0 → IsInLife k (get_or dups n d).place
     → ¬ ((frame_at k (place_frame k (get_or dups n d).place)).kind ≡ Stable)
-stale_is_loose p n d lt none life stable = grind (arith, nat_tests, stable, base_is_items p n d lt life)
+stale_is_loose p n d lt none life stable = grind (arith, stable, base_is_items p n d lt life)
 
 -- where a page joins an item with a reference in hand on the item's frame, its own frame comes into the hand
 pub joined : {sh : Shape} {across : ℕ} {k : Ledger} {rows : List Row} {frame : Frames} {dups : List DupRow} (page : GuestPage) (row item : Row) (g : ℕ) (c : Row → Row) → InPageOrder rows → row_at page rows ≡ Some row → ((r : Row) → (c r).page ≡ r.page)
     → Serves sh k dups item g → (c row).state ≡ item.state → (c row).bytes ≡ item.bytes → shared_state item.state ≡ true
     → Placed sh across k rows frame dups (Some g) → Placed sh across k (change_row page c rows) (lies_on page (Some g) frame) dups (frame page)
 joined {sh} {k = k} page row item g c rise found keeps on_it state bytes merged p =
-    swapped _ _ c row rise found keeps p (serves_like sh k _ _ _ g on_it state (on_it.0.content ∙ sym bytes) (ap shared_state state ∙ merged))
+    swapped _ c row rise found keeps p (serves_like sh k _ _ _ g on_it state (on_it.0.content ∙ sym bytes) (ap shared_state state ∙ merged))

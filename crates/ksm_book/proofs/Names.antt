@@ -4,7 +4,7 @@ pub use Rattle.frame_core.specs.Ledger.{added, blank, filled, first_ledger, fram
 pub use Rattle.frame_core.specs.Rule.{GenerationFits}
 pub use Rattle.frame_core.specs.State.{count_in}
 pub use Rattle.frame_core.specs.declared.event.KeeperStep.{KeeperStep}
-pub use Rattle.frame_core.specs.declared.event.KeeperStep.TheVariants.{Add, Freeze, Open, Publish, Raise, Reap, Sub, Withdraw, Word}
+pub use Rattle.frame_core.specs.declared.event.KeeperStep.TheVariants.{Add, Freeze, Open, Publish, Raise, Reap, Sub, Withdraw}
 pub use Rattle.frame_core.specs.declared.frame.Kind.{Kind}
 pub use Rattle.frame_core.specs.declared.frame.Kind.TheVariants.{Dying, Filling, Free, Private, Retired, Stable}
 pub use Rattle.frame_core.specs.declared.ledger.Ledger.{Ledger}
@@ -51,7 +51,7 @@ pub use Rattle.ksm_base.specs.declared.row.PageState.TheVariants.{Merged, Waitin
 pub use Rattle.ksm_base.specs.declared.row.Row.{Row}
 pub use Rattle.ksm_base.specs.declared.shape.Shape.{Shape}
 pub use Rattle.ksm_book.specs.Carried.{CarriedOut, IsCarried, UnmergesTo}
-pub use Rattle.ksm_book.specs.Commands.{Deed, dup_frame, emptying, Finds, FindsHeld, FindsNone, founding, frame_found, frame_number, frame_on, handling, idle, instead, joining, leaving, Mapped, mounting, Moves, pairing, Performs, Provides, pruning, Resettles, ResettlesEach, rewriting, row_visiting, scanning, staying, then_doing, visiting, visiting_of, withdrawing}
+pub use Rattle.ksm_book.specs.Commands.{Deed, dup_frame, emptying, Finds, FindsHeld, FindsNone, frame_found, frame_number, handling, idle, instead, joining, leaving, Mapped, mounting, Moves, pairing, Performs, Provides, pruning, Resettles, ResettlesEach, rewriting, row_visiting, scanning, staying, then_doing, visiting_of, withdrawing}
 pub use Rattle.ksm_book.specs.Due.{AreDue, comes_later, due_row_visited, DueView, due_visited, due_visits, hidden, hidden_from, IsDueNoMore, taken_over, takes_over, waits_on}
 pub use Rattle.ksm_book.specs.DuePass.{part_before, part_visited, ReachedBefore, StaysBefore, StopsDue, StopsInPart, TakesOverFrom}
 pub use Rattle.ksm_book.specs.Folded.{begun, IsBeside, IsStill, last_of, mergeable_pages, next_visited, page_visited, pages_ahead, pages_visited, pass_at, restless_at, restless_row, visited, visits_beside}
@@ -101,5 +101,4 @@ pub use Rattle.std.proofs.lemmas.Nat.{div-mul-add}
 pub use Rattle.std.proofs.lemmas.Option.{get_or_from_slice_get, same_Some, slice_get-get_or, slice_get-map, slice_get_past, slice_get_within}
 pub use Rattle.std.proofs.lemmas.Slice.Eq.{bytes_eq-Decides}
 pub use Rattle.std.specs.List.{list_all, list_any, range_with_len, sum_by}
-pub use Rattle.std.specs.Option.{option_or}
 pub use Rattle.std.specs.Prelude.{All, AllPairs, bytes_eq, Contains, count_by, filter, find, IfErr, IfSome, if◌then◌else◌, is_none, is_some, MatchBool, MatchOption, max, min, nat_le, nat_lt, not, option_map, Result, slice_get, slice_index, ⊤, ◌&&◌, ◌==◌, ◌||◌}

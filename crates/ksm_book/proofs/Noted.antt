@@ -32,8 +32,7 @@ module _ {sh : Shape} {across : ℕ} {k : Ledger} {rows : List Row} {frame : Fra
   -- what holds of the new note at the frame that changes, and of each other frame's note, holds of each note
   pub by_frame : (P : Note → Type 0) (h : ℕ) → (h ≡ g → P new) → (h ≢ g → P (frame_at k h)) → P (frame_at next h)
   by_frame P h here there = dite (ℕ_discrete h g)
-      (λ e. let long = p.frames_long in
-      subst P (sym (get_or-set_same k.frames g new blank (omega arith)) ∙ ap (frame_at next) (sym e)) (here e))
+      (λ e. grind (arith, get_or-set_same k.frames g new blank (omega arith), e, here e, p.frames_long))
       (λ ne. subst P (sym (get_or-set_other k.frames g h new blank ne)) (there ne))
 
   module _ (hand' : Option ℕ) (n : Follows sh.last_generation (uses g frame rows) (in_hand g hand') old new) where
@@ -69,7 +68,7 @@ module _ {sh : Shape} {across : ℕ} {k : Ledger} {rows : List Row} {frame : Fra
         let same = on f (used f refl) in (
           record { mapped = h.0.mapped; frame = h.0.frame; kind = same.0 ∙ h.0.kind; content = same.1 ∙ h.0.content; given = rw same.2 h.0.given; node = h.0.node },
           λ i d lt. let a = h.1 i d lt in record {
-            item = λ m. let y = a.item m in (y.0, rw (← y.0) (same.2 ∙ ap (λ h. (frame_at k h).generation) y.0 ∙ y.1));
+            item = λ m. let y = a.item m in (y.0, rw (← y.0) (grind (arith, same.2, y.0, y.1)));
             back = λ life e. a.back (in_life _ (p.each_dup i d lt) life).0 e;
           },
         )

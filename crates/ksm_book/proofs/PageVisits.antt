@@ -1,5 +1,5 @@
 -- The visit of a page: what was found of its row, and what becomes of the book where the row alone changes.
-use Rattle.ksm_book.proofs.Names.{All, ap, arith, BookState, BookValue, BookView, change_row, Comes, Deed, doing, false, Find, FindsAt, Frames, GuestPage, HasStayed, idle, InPageOrder, inr, is_restless, IsLaid, IsSound, IsStill, KeeperView, List, lying, map, MatchOption, None, Option, page_visited, PagesView, paired, partner, Performs, refl, restless_at, restless_row, Row, row_at, row_visited, row_visiting, same_page, settled, shared_state, Some, state_of, subst, sym, then_doing, true, view_of, visited, VisitsPage, Waiting, ℕ, ◌∙◌, ◌≡◌, if◌then◌else◌, map_mapped, nat_tests}
+use Rattle.ksm_book.proofs.Names.{All, ap, arith, BookState, BookValue, BookView, change_row, Comes, Deed, doing, false, Find, FindsAt, Frames, GuestPage, HasStayed, idle, InPageOrder, inr, is_restless, IsLaid, IsSound, IsStill, KeeperView, List, lying, map, MatchOption, None, Option, page_visited, PagesView, paired, partner, Performs, refl, restless_at, restless_row, Row, row_at, row_visited, row_visiting, same_page, settled, shared_state, Some, state_of, subst, sym, then_doing, true, view_of, visited, VisitsPage, Waiting, ℕ, ◌∙◌, ◌≡◌, if◌then◌else◌, map_mapped}
 use Rattle.ksm_pages.specs.declared.pages.Find.TheVariants as finds
 use Rattle.ksm_pages.specs.Paged.{Finds, visited as row_changed}
 use Rattle.ksm_book.proofs.ByPage.{found_page, row_of_page}
@@ -29,7 +29,7 @@ finds_it f some {p} {k} {cursor} {passes} {v} lawful same q page is told = by _ 
 visits_come : (v w : BookValue) (page : GuestPage) → restless_at page v.state.rows ≡ true → VisitsPage (view_of v) (view_of w) page → Comes
     v w (λ s. page_visited doing s page)
 visits_come v w page restless did =
-    let at = filled_by _ _ did in
+    let at = filled_by _ did in
     visit_comes v w _ _ at.1 (ap restless_row (sym at.1) ∙ restless) at.2.0 at.2.1
 
 -- where a search changed nothing and the page's row was visited then, the visit of the page was reached
@@ -38,12 +38,12 @@ pub shared_comes : {P : BookState → Row → Type 0} {p : PagesView} {k : Keepe
     {page : GuestPage} (at : Meets P p k cursor passes (view_of v) page) → is_restless at.row ≡ true → (q : PagesView) → q ≡ p
     → VisitsPage (book q k cursor passes) (view_of w) page → Comes v w (λ s. page_visited doing s page)
 shared_comes {k = k} {cursor} {passes} v w {page} at restless q same did =
-    visits_come v w _ (subst (λ (x : BookView). restless_at page x.state.rows ≡ true) at.is (ap restless_row at.found ∙ restless))
+    visits_come v w _ (grind (arith, at.is, at.found, restless))
     (subst (λ (x : BookView). VisitsPage x (view_of w) page) (rw same at.is) did)
 
 waiting_settles : (page : GuestPage) (rows : List Row) → All (λ r. same_page r.page page ≡ true → shared_state r.state ≡ false) rows
     → map settled (change_row page (λ r. record r { state = Waiting }) rows) ≡ map settled rows
-waiting_settles page rows alone = grind (arith, nat_tests, map_mapped)
+waiting_settles page rows alone = grind (arith, map_mapped)
 
 -- a row whose bytes have stayed, and with which none waits, waits, and no step is made
 module _ (b : BookState) (row : Row) (stays : HasStayed b false row) (alone : partner b.knobs b.rows row ≡ None) where
@@ -53,7 +53,7 @@ module _ (b : BookState) (row : Row) (stays : HasStayed b false row) (alone : pa
 
   -- the visit of a row that has stayed and has no partner does nothing to the frames
   pub waiting_is : (frame : Frames) → row_visiting b frame row ≡ idle frame
-  waiting_is frame = grind (arith, nat_tests, stayed_is)
+  waiting_is frame = grind (arith, stayed_is)
 
   -- the visit of a row that has stayed and has no partner changes nothing but which rows wait
   pub waits_still : (deed : Deed) (page : GuestPage) → InPageOrder b.rows → row_at page b.rows ≡ Some row → IsStill (b, deed)

@@ -1,5 +1,5 @@
 -- Ascending lists of pages: their parts before and behind a page, by test and by index; and each is known by what it has.
-use Rattle.ksm_book.proofs.Names.{[], after_cursor, All, All-cons, All-filter, All-head, and_right, any-filter_same, ap, AreAscending, arith, before_differs, before_irrefl, before_trans, Bool, cases_Bool, cases_lt, comes_before, Contains-from_any, drop, drop-append-le, drop_of_length-le, false, filter, filter_all, filter_none, from_to, get_or, get_or-drop, get_or-take, get_or_from_slice_get, GuestPage, has_item, inl, inr, last_of, length, length-drop, length-take, length-take-le, List, list_any_none, max, None, not, not_both, one_before, Option, pairs_head, pairs_tail, refl, same_page, same_page_eq, same_page_refl, same_Some, slice_get, slice_get-get_or, slice_get_within, Some, subst, suc, sym, take, take_more, true, true≢false, up_to, zero, ℕ, ◌&&◌, ◌++◌, ◌+◌, ◌-◌, ◌<◌, ◌||◌, ◌∙◌, ◌∷◌, ◌≡◌, ◌≤◌, filter_mapped}
+use Rattle.ksm_book.proofs.Names.{[], after_cursor, All, All-cons, All-filter, All-head, and_right, any-filter_same, ap, AreAscending, arith, before_differs, before_irrefl, before_trans, Bool, cases_Bool, cases_lt, comes_before, Contains-from_any, drop, drop-append-le, drop_of_length-le, false, filter, filter_all, filter_none, from_to, get_or, get_or-drop, get_or-take, get_or_from_slice_get, GuestPage, has_item, inl, inr, last_of, length, length-drop, length-take, length-take-le, List, list_any_none, max, None, not, not_both, one_before, Option, pairs_head, pairs_tail, refl, same_page, same_page_eq, same_page_refl, same_Some, slice_get, slice_get-get_or, slice_get_within, Some, subst, suc, sym, take, take_more, true, true≢false, up_to, zero, ℕ, ◌&&◌, ◌++◌, ◌+◌, ◌-◌, ◌<◌, ◌∙◌, ◌∷◌, ◌≡◌, ◌≤◌, filter_mapped}
 use Rattle.std.proofs.Common.{ap₂}
 use Rattle.std.proofs.lemmas.List.{map-id}
 
@@ -47,7 +47,7 @@ GoesDown t = (p q : GuestPage) → comes_before p q ≡ true → t q ≡ true �
 -- where a page is not behind a last one, no page before that page is
 pub up_to_down : (last : Option GuestPage) → GoesDown (up_to last)
 up_to_down None p q before is = refl
-up_to_down (Some last) p q before is = let after = before_trans last p q in grind arith
+up_to_down (Some last) p q before is = grind (arith, before_trans last p q)
 
 -- where a page comes before another, each page before that page does
 pub before_down : (page : GuestPage) → GoesDown (λ p. comes_before p page)
@@ -55,7 +55,7 @@ before_down page p q before is = before_trans p q _ before is
 
 -- tests that agree on each of a list pick the same
 pub filter_same : {X : Type 0} (t u : X → Bool) (xs : List X) → All (λ x. t x ≡ u x) xs → filter t xs ≡ filter u xs
-filter_same t u xs same = ap (filter t) (sym (map-id xs)) ∙ filter_mapped _ t u xs same ∙ map-id (filter u xs)
+filter_same t u xs same = grind (arith, map-id xs, filter_mapped, map-id (filter u xs))
 
 module _ (t : GuestPage → Bool) (down : GoesDown t) where
   -- where the first page fails such a test, all do
@@ -64,14 +64,14 @@ module _ (t : GuestPage → Bool) (down : GoesDown t) where
       All-cons (λ q. t q ≡ false) p _ fails (λ k d lt. too (get_or pages k d) (pairs_head Before p _ rise k d lt))
     where
       too : (q : GuestPage) → comes_before p q ≡ true → t q ≡ false
-      too q later = let passes = down p q later in grind arith
+      too q later = grind (arith, down p q later)
 
   -- the first pages, as many as pass, are those that pass
   pub take_down : (pages : List GuestPage) → AreAscending pages → take (length (filter t pages)) pages ≡ filter t pages
   take_down [] rise = refl
   take_down (p ∷ pages) rise =
       elim (cases_Bool (t p)) [
-        | inl passes ↦ let rest = take_down pages (pairs_tail Before p _ rise) in grind arith
+        | inl passes ↦ grind (arith, take_down pages (pairs_tail Before p _ rise))
         | inr fails ↦
             let none = filter_none t (p ∷ pages) (none_pass p _ rise fails) in ap (λ l. take (length l) (p ∷ pages)) none ∙ sym none
       ]
@@ -84,7 +84,7 @@ module _ (t : GuestPage → Bool) (down : GoesDown t) where
       elim (cases_Bool (t p)) [
         | inl passes ↦
             ap (λ l. p ∷ l) (parted pages (pairs_tail Before p _ rise))
-            ∙ sym (ap₂ (λ some more. some ++ more) (filter_in t p _ passes) (filter_out fail p pages (ap not passes)))
+            ∙ sym (grind (arith, filter_in, filter_out fail p pages (ap not passes)))
         | inr fails ↦
             let all = none_pass p _ rise fails in
             sym (ap₂ (λ some more. some ++ more) (filter_none t (p ∷ pages) all) (filter_all fail _ (λ k d lt. ap not (all k d lt))))
@@ -110,8 +110,7 @@ module _ (t : GuestPage → Bool) (down : GoesDown t) where
         | inr below ↦
             elim (cases_Bool (t p)) [
               | inl passes ↦
-                  let rest = between_is cursor pages (pairs_tail Before p _ rise) in
-                  grind arith
+                  grind (arith, between_is cursor pages (pairs_tail Before p _ rise))
               | inr fails ↦
                   let all = none_pass p _ rise fails in
                   let neither = filter_none both (p ∷ pages)
@@ -219,8 +218,7 @@ same_pages (p ∷ ps) (q ∷ qs) rise rise' same =
       | inl is ↦
           rw (← same_page_eq p x is) (not_behind p ps (pairs_head Before p ps rise) ∙ sym (not_behind p qs there))
       | inr differ ↦
-          let other = ap (λ y. same_page y x) (sym first) ∙ differ in
-          ap (λ b. b || has_item x ps) (sym differ) ∙ same x ∙ ap (λ b. b || has_item x qs) other
+          grind (arith, differ, same x, ap (λ y. same_page y x) (sym first) ∙ differ)
     ]) in
     λ t. first t ∷ rest t
 

@@ -1,5 +1,5 @@
 -- A visited page makes a dup with the page that waits for it: what the keeper may do, and what becomes of the book.
-use Rattle.ksm_book.proofs.Names.{[], Add, All, All-contains_itself, ap, arith, BookState, BookView, Bool, change_row, change_rows, Contains, Contains-append_right, count_none, did, dup_of_row, DupRow, each_at_page, eq-eqb, false, filter, find_all, find_changed_other, find_passes, frame_number, frames_of, GuestPage, IfSome, if◌then◌else◌, InPageOrder, IsFree, IsLaid, IsSound, IsVacant, item_count, joined_count, KeeperView, leaving, lies_on, List, list_any, lying, MakesSteps, MatchOption, May, MayPair, MeetsPage, Merged, merged_into, merged_state, MOST_REFERENCES, nat_lt, nat_tests, new_place, new_place_free, next_is_new, Option, ordered_change, PageState, PagesView, paired, pairing, partner, Performs, place_count, Publish, refl, Row, row_at, row_visiting, same_page, shared_state, Some, state_of, Sub, subst, sym, true, waiting_state, waits_for, waits_tells, WaitsFor, with_dup, Withdraw, withdrawing, ℕ, ◌++◌, ◌+◌, ◌-◌, ◌<◌, ◌==◌, ◌||◌, ◌∙◌, ◌∷◌, ◌≡◌, ◌≤◌}
+use Rattle.ksm_book.proofs.Names.{[], Add, All, All-contains_itself, ap, arith, BookState, BookView, Bool, change_row, change_rows, Contains, Contains-append_right, count_none, did, dup_of_row, DupRow, each_at_page, eq-eqb, false, filter, find_all, find_changed_other, find_passes, frames_of, GuestPage, IfSome, if◌then◌else◌, InPageOrder, IsFree, IsLaid, IsSound, IsVacant, item_count, joined_count, KeeperView, leaving, lies_on, List, list_any, lying, MakesSteps, MatchOption, May, MayPair, MeetsPage, Merged, merged_into, merged_state, MOST_REFERENCES, nat_lt, new_place, new_place_free, next_is_new, Option, ordered_change, PageState, PagesView, pairing, partner, Performs, place_count, Publish, refl, Row, row_at, row_visiting, same_page, shared_state, Some, state_of, Sub, subst, sym, true, waiting_state, waits_for, waits_tells, WaitsFor, with_dup, Withdraw, withdrawing, ℕ, ◌++◌, ◌+◌, ◌-◌, ◌<◌, ◌==◌, ◌||◌, ◌∙◌, ◌∷◌, ◌≡◌, ◌≤◌}
 use Rattle.ksm_pages.specs.Paged.{paired as are_paired}
 use Rattle.ksm_book.proofs.Made.{made_one, made_then}
 use Rattle.ksm_book.proofs.Sharing.{laid_found, laid_joined, may_clear, may_found, may_join, may_part, spent_most, tree_is_home}
@@ -18,7 +18,7 @@ in_state s r = record r { state = s }
 two_changes : (p q : GuestPage) (s : PageState) (rows : List Row) → change_row q (in_state s) (change_row p (in_state s) rows) ≡ change_rows
     (λ r. same_page r.page p || same_page r.page q) (in_state s) rows
 two_changes p q s [] = refl
-two_changes p q s (r ∷ rs) = let rest = two_changes p q s rs in grind arith
+two_changes p q s (r ∷ rs) = grind (arith, two_changes p q s rs)
 
 contains_dup : (d : DupRow) (dups : List DupRow) → Contains (with_dup d dups) d
 contains_dup d dups =
@@ -40,7 +40,7 @@ module _ (other : GuestPage) {p : PagesView} {k : KeeperView} {cursor : Option G
 
   -- the partner of the visited page
   pub met : (w : Row) × (partner p.knobs p.rows row ≡ Some w) × (other ≡ w.page)
-  met = filled_by _ _ at.so.1
+  met = filled_by _ at.so.1
 
   abbrev w : Row
   w = met.0
@@ -65,7 +65,7 @@ module _ (other : GuestPage) {p : PagesView} {k : KeeperView} {cursor : Option G
   alone = (waiting_is_alone _ tells.state).0
 
   apart : same_page w.page page ≡ false
-  apart = ap (same_page w.page) (sym at_page) ∙ tells.other
+  apart = grind (arith, at_page, tells.other)
 
   -- the place for a new dup is one of the places
   pub room : new_place (place_count p.shape) p.rows p.dups < place_count p.shape
@@ -78,8 +78,7 @@ module _ (other : GuestPage) {p : PagesView} {k : KeeperView} {cursor : Option G
   vacant : IsVacant place p.rows p.dups
   vacant = λ n d lt same.
       let free = subst (IsFree b) (sym chosen) (new_place_free b s) in
-      let other = free.apart n d lt in
-      grind arith
+      grind (arith, free.apart n d lt)
 
   fresh : All (λ r. merged_into p.next r.state ≡ false) p.rows
   fresh = next_is_new b s
@@ -93,7 +92,7 @@ module _ (other : GuestPage) {p : PagesView} {k : KeeperView} {cursor : Option G
     apart = tells.other;
     inside = inside;
     vacant = vacant;
-    number = (let most = spent_most h in omega arith);
+    number = (omega (arith, spent_most h));
     fresh = fresh;
   }
 
@@ -103,7 +102,7 @@ module _ (other : GuestPage) {p : PagesView} {k : KeeperView} {cursor : Option G
 
   -- and at the page that was told
   pub waits_one : row_at one p.rows ≡ Some w
-  waits_one = ap (λ q. row_at q p.rows) (is ∙ met.2) ∙ waits_at
+  waits_one = grind (arith, is, met.2, waits_at)
 
   -- the two pages may become the items of a new dup at the place
   pub pair_may : MatchOption (row_at one p.rows) (true ≡ false) (λ r. MatchOption (row_at page p.rows) (true ≡ false) (MayPair p place r))
@@ -147,8 +146,7 @@ module _ (other : GuestPage) {p : PagesView} {k : KeeperView} {cursor : Option G
       one_item : item_count first.rows dup ≤ MOST_REFERENCES - 1
       one_item =
           let none : item_count p.rows dup ≡ 0 = count_none (λ r. merged_into p.next r.state) p.rows fresh in
-          let one = joined_count _ w dup s.rows_rise waits_at (waiting_is_alone _ tells.state).1 in
-          omega arith
+          omega (arith, joined_count _ w dup s.rows_rise waits_at (waiting_is_alone _ tells.state).1)
 
       -- once the place names the frame of the page that waits, a reference may come to that frame
       pub may_add_to : May k2 (Add f)
@@ -172,10 +170,10 @@ module _ (other : GuestPage) {p : PagesView} {k : KeeperView} {cursor : Option G
           steps = rw left (made_then comes leaves)
 
           both : change_row page change first.rows ≡ change_rows (λ r. same_page r.page w.page || same_page r.page row.page) change p.rows
-          both = grind (arith, nat_tests, at_page, two_changes)
+          both = grind (arith, at_page, two_changes)
 
           q_is : q ≡ record first { rows = change_row page change first.rows; frame = lies_on page (Some f) p.frame }
-          q_is = grind (arith, nat_tests, goes, both, at_page, lies)
+          q_is = grind (arith, goes, both, at_page, lies)
 
           all_steps : MakesSteps k l (withdrawing p.dups place ++ (Publish place f ∷ Add f ∷ leaving (p.frame page)))
           all_steps = made_then clears (made_then (made_one k1 k2 _ 0 shown) steps)
@@ -186,20 +184,13 @@ module _ (other : GuestPage) {p : PagesView} {k : KeeperView} {cursor : Option G
             frame = lies_on page (Some f) p.frame;
           }
           deed_is = (stayed_is b _ row false at.so.0).1 ∙ ap (λ o. pairing o b p.frame row) met.1
-              ∙ (λ t. record {
-                steps = withdrawing p.dups (sym chosen t) ++ (Publish (sym chosen t) (frame_number (lies t)) ∷ Add
-                    (frame_number (lies t)) ∷ leaving (p.frame (at_page t)));
-                frame = lies_on (at_page t) (lies t) p.frame;
-              })
+              ∙ (grind (arith, chosen, lies, at_page))
 
           -- once the two pages are the items of a new dup, on one frame, the book is what the visit leads to
           pub pair_leads : Leads v q l cursor passes page
           pair_leads = leads at q l at.so.0.restless
               (rw q_is
               (laid_joined first_laid first_rise _ row _ row_still item_at f lies refl change (λ r. refl) refl (sym tells.bytes)
-              l p.restless steps))
-              (rw goes
-              ((λ t. state_of (are_paired (chosen t) w row p) cursor passes)
-              ∙ sym ((stayed_is b p.frame row false at.so.0).0 ∙ ap (λ o. paired o b row) met.1)))
+              l p.restless steps)) (rw goes (grind (arith, chosen, (stayed_is b p.frame row false at.so.0).0, met.1)))
               (subst (Performs (lying p k) (lying q l)) (sym deed_is) (record
               { made = all_steps; frame = rw q_is }))

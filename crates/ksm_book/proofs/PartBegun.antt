@@ -36,7 +36,7 @@ pub record Closes (w : BookValue) (b : BookState) : Type 0 where
 pub closed : (v w : BookValue) → InPageOrder v.state.rows → Comes v w (λ s. (pass_ended_at_last s.0, s.1))
     → (from : BookValue) (s : BookState × Deed) → Reached from v s → Closes w s.0
 closed v w rise comes from s before =
-    let at = in_order v w _ rise comes from s before in
+    let at = in_order v w rise comes from s before in
     record { order = at.0; state = at.1; ahead = ap pages_ahead at.1 ∙ sym (begun_ahead (pass_ended_at_last s.0)) }
 
 -- ---------------------------------------------------------------- what is due

@@ -54,8 +54,8 @@ all_own P rows frame all =
     let kept = All-filter test (λ r. shared_state r.state ≡ false → P (frame_number (frame r.page))) rows all in
     All-map P (λ r. frame_number (frame r.page)) (filter test rows) (λ k d lt. kept k d lt (not-true _ (passes k d lt)))
 
-named_life : (o : Option Life) → is_some o ≡ true → o ≡ Some (life_or o)
-named_life o some = grind arith
+named_life : {o : Option Life} → is_some o ≡ true → o ≡ Some (life_or o)
+named_life some = grind arith
 
 alone_of_kind : (s : PageState) → kind_for s ≡ Private → shared_state s ≡ false
 alone_of_kind s is = grind arith
@@ -73,7 +73,7 @@ module _ (b : BookState) (k : Ledger) (s : IsSound b) (frame : Frames) (p : Plac
   -- a row that is not shared has its own frame
   owns : All (λ r. shared_state r.state ≡ false → (f : ℕ) × (frame r.page ≡ Some f) × HasItsOwn b.shape k r f) b.rows
   owns i r0 lt alone =
-      let has = framed _ k _ (get_or b.rows i r0) _ (own_framed _ alone) (p.each_row i r0 lt) in
+      let has = framed _ k _ _ _ (own_framed _ alone) (p.each_row i r0 lt) in
       let fits = has.2.0 in
       let kind = fits.kind ∙ own_kind _ alone in (
         has.0,
@@ -81,7 +81,7 @@ module _ (b : BookState) (k : Ledger) (s : IsSound b) (frame : Frames) (p : Plac
         record {
           exists = fits.frame;
           kind = kind;
-          base = subst (λ (x : Kind). FitsBase x (frame_at k has.0).base) kind (p.kinds has.0);
+          base = grind (arith, kind, p.kinds has.0);
           node = fits.node alone;
           content = fits.content;
         },
@@ -100,7 +100,7 @@ module _ (b : BookState) (k : Ledger) (s : IsSound b) (frame : Frames) (p : Plac
       let fit = p.each_dup n d lt in
       let a = dup_lives n d lt some in
       record {
-        named = rw a.life (named_life _ fit.named);
+        named = rw a.life (named_life fit.named);
         exists = fit.frame;
         kind = a.kind;
         base = base_is_items p n d lt a.life;
@@ -181,22 +181,21 @@ module _ (b : BookState) (k : Ledger) (s : IsSound b) (frame : Frames) (p : Plac
       at_row : 1 ≤ (frame_at k f).base → (i : ℕ) × (r : Row) × (i < length b.rows) × (frame (get_or b.rows i r).page ≡ Some f)
       at_row some = let used = p.bases f in row_on f _ (omega arith)
 
-      fits_as : (kind : Kind) → (frame_at k f).kind ≡ kind → FitsBase kind (frame_at k f).base
-      fits_as kind is = rw (← is) (p.kinds f)
+      fits_as : {kind : Kind} → (frame_at k f).kind ≡ kind → FitsBase kind (frame_at k f).base
+      fits_as is = rw (← is) (p.kinds f)
 
       go : (kind : Kind) → (frame_at k f).kind ≡ kind → is_in_use kind ≡ true → Contains (own ++ shown) f
-      go Filling is some = absurd (fits_as _ is)
-      go Private is some = let one = fits_as _ is in let at = at_row (omega arith) in own_listed f _ _ at.2 at.3 is
-      go Stable is some = let at = at_row (fits_as _ is) in shown_listed f _ _ at.2 at.3 is
+      go Filling is some = absurd (fits_as is)
+      go Private is some = let one = fits_as is in let at = at_row (omega arith) in own_listed f _ _ at.2 at.3 is
+      go Stable is some = let at = at_row (fits_as is) in shown_listed f _ _ at.2 at.3 is
       go _ is some = absurd (grind arith)
 
   outlived : All (λ d. has_items b.rows d ≡ false → IsOutlived k d.place) b.dups
   outlived n d lt none =
-      let e = get_or b.dups n d in
       record {
-        life = life_or (named_at k e.place);
-        named = named_life _ (p.each_dup n d lt).named;
-        over = λ life. stale_is_loose p n d lt (grind (arith, nat_tests)) life;
+        life = life_or (named_at k (get_or b.dups n d).place);
+        named = named_life (p.each_dup n d lt).named;
+        over = λ life. stale_is_loose p n d lt (grind arith) life;
       }
 
   -- a sound book lies on its frames as promised, where it is placed lawfully and pages without a row lie on none
@@ -205,9 +204,9 @@ module _ (b : BookState) (k : Ledger) (s : IsSound b) (frame : Frames) (p : Plac
     own = λ i r lt alone. let o = owns i r lt alone in
         rw o.1 o.2;
     merged = λ i r lt n d l into.
-        let has = framed _ k _ (get_or b.rows i r) _ (ap zero_state (state_of_item _ _ into)) (p.each_row i r lt) in
+        let has = framed _ k _ _ _ (ap zero_state (state_of_item _ _ into)) (p.each_row i r lt) in
         has.1 ∙ ap Some ((has.2.1 n d l).item into).0;
-    zero = λ i r lt zero_is. (zero_none (get_or b.rows i r) _ (p.each_row i r lt) zero_is, s.zero i r lt zero_is);
+    zero = λ i r lt zero_is. (zero_none _ _ (p.each_row i r lt) zero_is, s.zero i r lt zero_is);
     absent = absent;
     dups = stands;
     distinct = all_distinct;

@@ -1,5 +1,5 @@
 -- Stale dups go one by one.
-use Rattle.ksm_book.proofs.Names.{[], All, All-head, All-tail, ap, append-nil, append_assoc, arith, cases_Bool, count_by, count_by-le-length, did, DupRow, elsewhere, eqb-true, false, filter, filter_all, filter_none, find, find_all, find_none, find_passes, frames_at_most, frames_of, get_or, has_items, inl, InPlaceOrder, inr, is_stale, IsLaid, IsVacant, item_count, KeeperView, length, length-append, length-filter, List, lying, MakesSteps, map, map-append, May, nat_tests, None, not, one_of_each_place, option_map, ordered_filter, PagesView, pairs_tail, Performs, pruning, refl, Row, Some, subst, suc, sym, true, Withdraw, ℕ, ◌++◌, ◌+◌, ◌<◌, ◌==◌, ◌^◌, ◌∙◌, ◌∷◌, ◌≡◌, ◌≤◌}
+use Rattle.ksm_book.proofs.Names.{[], All, All-head, All-tail, ap, append-nil, append_assoc, arith, cases_Bool, count_by, count_by-le-length, did, DupRow, elsewhere, eqb-true, false, filter, filter_all, filter_none, find, find_all, find_none, find_passes, frames_at_most, frames_of, get_or, has_items, inl, InPlaceOrder, inr, is_stale, IsLaid, IsVacant, item_count, KeeperView, length, length-append, length-filter, List, lying, MakesSteps, map, map-append, May, None, not, one_of_each_place, option_map, ordered_filter, PagesView, pairs_tail, Performs, pruning, refl, Row, Some, subst, suc, sym, true, Withdraw, ℕ, ◌++◌, ◌+◌, ◌<◌, ◌==◌, ◌^◌, ◌∙◌, ◌∷◌, ◌≡◌, ◌≤◌}
 use Rattle.std.proofs.lemmas.Bool.{eq-eqb}
 use Rattle.ksm_book.proofs.Sharing.{laid_cleared, vacant_loose}
 use Rattle.ksm_book.proofs.Made.{made_one, made_then}
@@ -15,16 +15,14 @@ stale_vacant rows dups d rise found k x lt same =
 
 -- where no stale dup is found, all dups have items
 pub none_stale : (rows : List Row) (dups : List DupRow) → find (is_stale rows) dups ≡ None → filter (has_items rows) dups ≡ dups
-none_stale rows dups none = filter_all _ _ (λ k x lt. let lives = find_none _ _ none k x lt in grind arith)
+none_stale rows dups none = filter_all _ _ (λ k x lt. grind (arith, find_none _ _ none k x lt))
 
 -- a stale dup less is no dup with items less
 pub live_elsewhere : (rows : List Row) (place : ℕ) (dups : List DupRow) → IsVacant place rows dups → filter (has_items rows) (filter (elsewhere place) dups) ≡ filter (has_items rows) dups
 live_elsewhere rows place [] vacant = refl
 live_elsewhere rows place (d ∷ ds) vacant =
     let P : DupRow → Type 0 = λ x. x.place ≡ place → item_count rows x ≡ 0 in
-    let rest = live_elsewhere rows place ds (All-tail P d ds vacant) in
-    let none = All-head P d ds vacant in
-    grind (arith, none)
+    grind (arith, All-head P d ds vacant, live_elsewhere rows place ds (All-tail P d ds vacant))
 
 -- the first stale dup is the first to go
 pub first_stale : (rows : List Row) (dups : List DupRow) (d : DupRow) → InPlaceOrder dups → find (is_stale rows) dups ≡ Some d
@@ -35,9 +33,8 @@ first_stale rows (x ∷ xs) d rise found = elim (cases_Bool (is_stale rows x)) [
       let is : x ≡ d = grind (arith, found, stale) in
       let gone = ap (λ (y : DupRow). not (y.place == d.place)) is ∙ ap not (eq-eqb d.place d.place refl) in
       let off : All (λ e. elsewhere d.place e ≡ true) xs = λ i e lt. elsewhere_so _ (get_or xs i e)
-      (λ same. (let later = (rise 0 (suc i) e (omega arith) (omega arith)).0 in let here = ap (λ (y : DupRow). y.place) is in
-      omega arith)) in
-      let all : filter (elsewhere d.place) xs ≡ xs = filter_all (elsewhere d.place) xs off in
+      (λ same. (omega (arith, (rise 0 (suc i) e (omega arith) (omega arith)).0, ap (λ (y : DupRow). y.place) is))) in
+      let all : filter (elsewhere d.place) xs ≡ xs = filter_all _ xs off in
       grind (arith, stale, gone, all)
   | inr lives ↦
       let rest = first_stale rows xs d (pairs_tail (λ (a b : DupRow). (a.place < b.place) × ((a.number == b.number) ≡ false)) x xs rise)
@@ -54,7 +51,7 @@ few_from m n (d ∷ ds) le rise all =
     let low = here.0 in
     let high = here.1 in
     let tail = few_from (d.place + 1) n ds (omega arith) (pairs_tail (λ (a b : DupRow). (a.place < b.place) × ((a.number == b.number) ≡ false)) d ds rise)
-    (λ i e lt. (let above = (rise 0 (suc i) e (omega arith) (omega arith)).0 in omega arith, (rest i e lt).1)) in
+    (λ i e lt. (omega (arith, (rise 0 (suc i) e (omega arith) (omega arith)).0), (rest i e lt).1)) in
     omega arith
 
 -- so far so many stale dups went, and rows and dups lie lawfully
@@ -90,7 +87,7 @@ module _ {p q : PagesView} {k l : KeeperView} {count : ℕ} (h : Drops p q k l c
   stale = mapped_some _ _ _ (sym told)
 
   found : find (is_stale p.rows) q.dups ≡ Some stale.0
-  found = grind (arith, nat_tests, rows_are)
+  found = grind (arith, rows_are)
 
   -- no dup with items stands at the place of the first stale dup
   pub drop_vacant : IsVacant place q.rows q.dups
@@ -105,7 +102,7 @@ module _ {p q : PagesView} {k l : KeeperView} {count : ℕ} (h : Drops p q k l c
 
   -- it is the first of those still stale
   next : filter (is_stale p.rows) q.dups ≡ stale.0 ∷ filter (is_stale p.rows) (filter (elsewhere place) q.dups)
-  next = grind (arith, nat_tests, first_stale)
+  next = grind (arith, first_stale)
 
   -- once the first stale dup goes, one dup less is stale
   pub drop_fewer : count_by (is_stale p.rows) (filter (elsewhere place) q.dups) + 1 ≡ count_by (is_stale p.rows) q.dups
@@ -136,23 +133,23 @@ module _ {p q : PagesView} {k l : KeeperView} {count : ℕ} (h : Drops p q k l c
       let vacant = subst (λ rows. IsVacant place rows q.dups) rows_are drop_vacant in
       let one = subst (λ x. MakesSteps l l' (Withdraw x ∷ [])) (sym stale.2) (made_one l l' _ 0 is) in
       record {
-        pages = goes ∙ (λ t. record (h.pages t) { dups = filter (elsewhere place) q.dups }) ∙ (λ t. record p { dups = sym dups t });
-        live = ap (filter (has_items p.rows)) dups ∙ live_elsewhere p.rows _ _ vacant ∙ h.live;
+        pages = grind (arith, goes, h.pages, dups);
+        live = grind (arith, dups, live_elsewhere, h.live);
         gone = h.gone ++ stale.0 ∷ [];
-        all = rw dups (h.all ∙ ap (λ ds. h.gone ++ ds) next ∙ sym (append_assoc h.gone (stale.0 ∷ []) _));
+        all = rw dups (grind (arith, h.all, next, append_assoc));
         many = omega (arith, length-append h.gone (stale.0 ∷ []));
-        made = subst (MakesSteps k l') (sym (map-append (λ (d : DupRow). Withdraw d.place) h.gone (stale.0 ∷ []))) (made_then h.made one);
+        made = grind (arith, map-append (λ (d : DupRow). Withdraw d.place) h.gone (stale.0 ∷ []), made_then h.made one);
         first = h.first;
         rise = subst InPlaceOrder (sym dups) (ordered_filter _ _ h.rise);
         before = h.before;
-        laid = rw goes (laid_cleared l' _ h.laid inside (rw is) (rw is));
+        laid = rw goes (laid_cleared l' h.laid inside (rw is) (rw is));
       }
 
 -- where none is stale any more, all are gone
 module _ {p q : PagesView} {k l : KeeperView} {count : ℕ} (h : Drops p q k l count)
     (told : None ≡ option_map (λ d. d.place) (find (is_stale q.rows) q.dups)) where
   none : find (is_stale p.rows) q.dups ≡ None
-  none = grind (arith, nat_tests, none_mapped)
+  none = grind (arith, none_mapped)
 
   -- where no stale dup is left, the dups are those with items, as many went as were stale, and just the steps of a pruning were made
   pub dropped : (q ≡ record p { dups = filter (has_items p.rows) p.dups }) × (count ≡ count_by (is_stale p.rows) p.dups)

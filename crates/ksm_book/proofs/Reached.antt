@@ -15,10 +15,10 @@ pub comes_to : (v w : BookValue) (change : BookState × Deed → BookState × De
 comes_to v w change comes = (comes v (first v) (begins v)).0
 
 -- of what was reached the rows are in order, where the book's are, and the state is that of the book
-pub in_order : (v w : BookValue) (change : BookState × Deed → BookState × Deed) → InPageOrder v.state.rows → Comes v w change
+pub in_order : (v w : BookValue) {change : BookState × Deed → BookState × Deed} → InPageOrder v.state.rows → Comes v w change
     → (from : BookValue) (s : BookState × Deed) → Reached from v s
     → InPageOrder s.0.rows × (w.state ≡ (change s).0)
-in_order v w change rise comes from s before = (rw (← before.0) rise, (comes from s before).0)
+in_order v w rise comes from s before = (rw (← before.0) rise, (comes from s before).0)
 
 -- what proofs tell the book by, of its pages, the keeper, the cursor and the passes
 abbrev pub value : PagesValue → KeeperView → Option GuestPage → ℕ → BookValue

@@ -1,5 +1,5 @@
 -- A dup moves to another frame, with all of its items.
-use Rattle.ksm_book.proofs.Names.{Agrees, All, ap, arith, blank, Bool, cond, count_none, DupFits, DupRow, Dying, eq-eqb, FitsBase, frame_at, Frames, frames_of, Free, GenerationFits, get_or, get_or-set_other, get_or-set_same, GuestPage, instead, is_frame, is_some, IsInLife, IsServed, Kind, kind_for, Ledger, length, length-set, Life, life_or, List, merged_into, named_at, ne_eqb, node_of, None, none_counted, Note, Option, PAGE_WORDS, PageState, place_frame, place_life, Placed, Private, refl, Row, RowFits, same_Some, set, Shape, shared_state, Some, Stable, subst, sym, true, uses, ℕ, ◌+◌, ◌<◌, ◌∙◌, ◌≡◌, ◌≢◌, ◌≤◌, count_alike, nat_tests}
+use Rattle.ksm_book.proofs.Names.{Agrees, All, ap, arith, blank, Bool, cond, count_none, DupFits, DupRow, Dying, eq-eqb, FitsBase, frame_at, Frames, frames_of, Free, GenerationFits, get_or, get_or-set_other, get_or-set_same, GuestPage, instead, is_frame, is_some, IsInLife, IsServed, Kind, kind_for, Ledger, length, length-set, Life, life_or, List, merged_into, named_at, ne_eqb, node_of, None, none_counted, Note, Option, PAGE_WORDS, PageState, place_frame, place_life, Placed, Private, refl, Row, RowFits, same_Some, set, Shape, shared_state, Some, Stable, subst, sym, true, uses, ℕ, ◌+◌, ◌<◌, ◌∙◌, ◌≡◌, ◌≢◌, ◌≤◌, count_alike}
 use mathlib.Core.Logic.{dite}
 use native.Mathlib.Decide.{ℕ_discrete}
 use Rattle.ksm_book.proofs.ByPage.{frame_cases, not_on, uses_some}
@@ -20,13 +20,13 @@ instead_there f g frame page ne = rw (not_on f _ ne)
 -- those that lay on f lie on g, and none lies on f any more
 module _ (f g : ℕ) (frame : Frames) (rows : List Row) where
   uses_new : uses g frame rows ≡ 0 → uses g (instead f g frame) rows ≡ uses f frame rows
-  uses_new none = grind (arith, nat_tests, count_alike, frame_cases, instead_here, instead_there, none_counted, not_on)
+  uses_new none = grind (arith, count_alike, frame_cases, instead_here, instead_there, none_counted, not_on)
 
   uses_old : g ≢ f → uses f (instead f g frame) rows ≡ 0
-  uses_old ne = grind (arith, nat_tests, count_none, frame_cases, instead_here, not_on, same_Some, instead_there)
+  uses_old ne = grind (arith, count_none, frame_cases, instead_here, not_on, same_Some, instead_there)
 
   uses_still : (x : ℕ) → x ≢ f → x ≢ g → uses x (instead f g frame) rows ≡ uses x frame rows
-  uses_still x nf ng = grind (arith, nat_tests, count_alike, frame_cases, instead_here, not_on, same_Some, instead_there)
+  uses_still x nf ng = grind (arith, count_alike, frame_cases, instead_here, not_on, same_Some, instead_there)
 
 -- one of the dups moves from the frame that its place names to another
 module _ {sh : Shape} {across : ℕ} {k : Ledger} {rows : List Row} {frame : Frames} {dups : List DupRow}
@@ -60,10 +60,10 @@ module _ {sh : Shape} {across : ℕ} {k : Ledger} {rows : List Row} {frame : Fra
     apart e = cc
 
     unused : uses g frame rows ≡ 0
-    unused = grind (arith, nat_tests)
+    unused = grind arith
 
     some : 1 ≤ (frame_at k left).base
-    some = grind (arith, nat_tests)
+    some = grind arith
 
     at : (P : Note → Type 0) (h : ℕ) → (h ≡ g → P mounted) → (h ≡ left → P dead) → (h ≢ g → h ≢ left → P (frame_at k h)) → P (frame_at next h)
     at P h here there else' =
@@ -71,7 +71,7 @@ module _ {sh : Shape} {across : ℕ} {k : Ledger} {rows : List Row} {frame : Fra
         let long' = length-set k.frames left dead in
         let low = subst (λ x. x < frames_of sh) (sym leaves) fits.frame in
         dite (ℕ_discrete h g)
-        (λ e. subst P (sym (ap (frame_at next) e ∙ get_or-set_same (set k.frames left dead) g mounted blank (omega arith))) (here e))
+        (λ e. grind (arith, e, get_or-set_same (set k.frames left dead) g mounted blank (omega arith), here e))
         (λ ne. subst P (sym (get_or-set_other (set k.frames left dead) g h mounted blank ne)) (dite (ℕ_discrete h left)
         (λ e. subst P (sym (rw e (get_or-set_same k.frames left dead blank (omega arith)))) (there e))
         (λ off. subst P (sym (get_or-set_other k.frames left h dead blank off)) (else' ne off))))
@@ -82,20 +82,20 @@ module _ {sh : Shape} {across : ℕ} {k : Ledger} {rows : List Row} {frame : Fra
     named_off : (e : ℕ) → e ≢ q → named_at next e ≡ named_at k e
     named_off e ne = get_or-set_other k.places q e (Some life) None ne
 
-    frame_is : (e : ℕ) → e ≡ q → place_frame next e ≡ g
-    frame_is e same = grind (arith, nat_tests, same, named)
+    frame_is : {e : ℕ} → e ≡ q → place_frame next e ≡ g
+    frame_is same = grind (arith, same, named)
 
     frame_off : (e : ℕ) → e ≢ q → place_frame next e ≡ place_frame k e
-    frame_off e ne = ap (λ x. (life_or x).frame) (named_off e ne)
+    frame_off e ne = grind (arith, named_off e ne)
 
     life_off : (e : ℕ) → e ≢ q → place_life next e ≡ place_life k e
-    life_off e ne = ap (λ x. (life_or x).generation) (named_off e ne)
+    life_off e ne = grind (arith, named_off e ne)
 
     at_g : (P : Note → Type 0) → P mounted → P (frame_at next g)
     at_g P m = at P g (λ _. m) (λ e. absurd (apart e)) (λ ne _. absurd (ne refl))
 
-    is_in_life : (e : ℕ) → e ≡ q → IsInLife next e
-    is_in_life e same = rw same (subst (λ (x : Option Life). (frame_at next (life_or x).frame).generation ≡ (life_or x).generation) (sym named) (at_g (λ x. x.generation ≡ (frame_at k g).generation + 1) refl))
+    is_in_life : {e : ℕ} → e ≡ q → IsInLife next e
+    is_in_life same = rw same (subst (λ (x : Option Life). (frame_at next (life_or x).frame).generation ≡ (life_or x).generation) (sym named) (at_g (λ x. x.generation ≡ (frame_at k g).generation + 1) refl))
 
     -- no other place names the frame in its new life
     too_young : (e : DupRow) → DupFits sh across k e → e.place ≢ q → place_frame k e.place ≡ g → IsInLife next e.place → ⊥
@@ -112,7 +112,7 @@ module _ {sh : Shape} {across : ℕ} {k : Ledger} {rows : List Row} {frame : Fra
     off : (e : DupRow) → DupFits sh across k e → e.place ≢ q → IsInLife next e.place → IsInLife k e.place × (place_frame k e.place ≢ g)
     off e m ne l =
         let far : place_frame k e.place ≢ g = λ same. too_young e m ne same l in
-        (sym (same_life _ far) ∙ ap (λ h. (frame_at next h).generation) (sym (frame_off _ ne)) ∙ l ∙ life_off _ ne, far)
+        (grind (arith, same_life, frame_off, l, life_off), far)
 
     -- a row on the frame that it has now
     module _ (r : Row) (f : ℕ) (far : f ≢ g) (had : Serves sh k dups r f) where
@@ -135,11 +135,11 @@ module _ {sh : Shape} {across : ℕ} {k : Ledger} {rows : List Row} {frame : Fra
       moved_agrees : f ≡ left → (e : DupRow) → DupFits sh across k e → (e.place ≢ q → e.number ≢ moving.number) → Agrees k r f e → Agrees next r g e
       moved_agrees is e m others a = dite (ℕ_discrete e.place q)
           (λ same. record {
-            item = λ _. (sym (frame_is _ same), is_in_life _ same);
-            back = λ _ _. a.back (rw same in_life) (is ∙ leaves ∙ ap (place_frame k) (sym same));
+            item = λ _. (sym (frame_is same), is_in_life same);
+            back = λ _ _. a.back (rw same in_life) (grind (arith, is, leaves, same));
           })
           (λ ne. record {
-            item = λ t. absurd (others ne (one_number _ _ _ ((among (Agrees k r f) had.1).back in_life (is ∙ leaves)) t));
+            item = grind (arith, one_number);
             back = λ l t. absurd ((off e m ne l).1 (sym (frame_off _ ne) ∙ sym t));
           })
 
@@ -158,14 +158,13 @@ module _ {sh : Shape} {across : ℕ} {k : Ledger} {rows : List Row} {frame : Fra
       still_agrees : f ≢ left → (e : DupRow) → DupFits sh across k e → Agrees k r f e → Agrees next r f e
       still_agrees not' e m a = dite (ℕ_discrete e.place q)
           (λ same. record {
-            item = λ t. absurd (not' ((a.item t).0 ∙ ap (place_frame k) same ∙ sym leaves));
-            back = λ _ t. absurd (far (t ∙ frame_is _ same));
+            item = grind (arith, a.item);
+            back = λ _ t. absurd (far (t ∙ frame_is same));
           })
           (λ ne. record {
             item = λ t. let y = a.item t in (
               y.0 ∙ sym (frame_off _ ne),
-              rw (frame_off _ ne ∙ sym y.0)
-                  (same_life f far ∙ ap (λ h. (frame_at k h).generation) y.0 ∙ y.1 ∙ sym (life_off _ ne)),
+              rw (frame_off _ ne ∙ sym y.0) (grind (arith, same_life f far, y.0, y.1, life_off)),
             );
             back = λ l t. a.back (off e m ne l).0 (t ∙ frame_off _ ne);
           })
@@ -182,12 +181,12 @@ module _ {sh : Shape} {across : ℕ} {k : Ledger} {rows : List Row} {frame : Fra
 
     dup_here : (e : DupRow) → e.place ≡ q → DupFits sh across k e → DupFits sh across next e
     dup_here e same m =
-        let fr = frame_is _ same in
+        let fr = frame_is same in
         record {
           place = m.place;
           named = rw same (ap is_some named);
           frame = rw fr inside;
-          life = (let l = is_in_life _ same in omega arith);
+          life = (let l = is_in_life same in omega arith);
           content = λ _. rw fr
               (at_g (λ x. x.content ≡ e.bytes) (ap (λ x. (frame_at k x).content) (leaves ∙ ap (place_frame k) (sym same)) ∙ m.content (rw same in_life)));
           shown = λ _ own. at_g (λ x. x.kind ≡ Private → ⊥) (λ bad. cc) (ap (λ h. (frame_at next h).kind) (sym fr) ∙ own);
@@ -202,7 +201,7 @@ module _ {sh : Shape} {across : ℕ} {k : Ledger} {rows : List Row} {frame : Fra
           place = m.place;
           named = ap is_some (named_off e.place ne) ∙ m.named;
           frame = rw fo m.frame;
-          life = subst (λ (x : ℕ × ℕ). x.0 ≤ x.1) (λ t. (sym (life_off e.place ne) t, ap (λ y. (frame_at next y).generation) (sym fo) t))
+          life = subst (λ (x : ℕ × ℕ). x.0 ≤ x.1) (λ t. (sym (life_off _ ne) t, ap (λ y. (frame_at next y).generation) (sym fo) t))
               (at (λ x. place_life k e.place ≤ x.generation) h
               (λ same. let old : place_life k e.place ≤ (frame_at k g).generation = rw (← same) m.life in omega arith)
               (λ same. rw (← same) m.life) (λ _ _. m.life));
@@ -224,7 +223,7 @@ module _ {sh : Shape} {across : ℕ} {k : Ledger} {rows : List Row} {frame : Fra
           (λ _. subst (λ (x : Kind). GenerationFits sh.last_generation x (frame_at k left).generation) stable (p.lives left))
           (λ _ _. p.lives h);
       each_row = λ i r0 low. let r = get_or rows i r0 in served r (frame r.page)
-          (λ e. (let used = uses_some g frame rows i r0 low e in omega (arith, unused))) (p.each_row i r0 low);
+          (λ e. (omega (arith, unused, uses_some g frame rows i r0 low e))) (p.each_row i r0 low);
       each_dup = λ m x l. dite (ℕ_discrete (get_or dups m x).place q) (λ same. dup_here (get_or dups m x) same (p.each_dup m x l)) (λ ne. dup_there (get_or dups m x) ne (p.each_dup m x l));
       bases = λ h. at (λ x. x.base ≡ uses h (instead left g frame) rows + 0) h
           (λ e. let new : uses h (instead left g frame) rows ≡ uses left frame rows = rw e (uses_new left g frame rows unused) in let old : (frame_at k left).base ≡ uses left frame rows + 0 = p.bases left in omega arith)

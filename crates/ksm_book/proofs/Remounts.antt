@@ -1,5 +1,5 @@
 -- A dup with items, and where its pages lie before and after it moves.
-use Rattle.ksm_book.proofs.Names.{list_any_at, [], All, and_parts, ap, arith, blank, Bool, count_in, did, dup_frame, dup_numbered, DupFits, DupRow, Dying, each_has_number, eq-eqb, find_all, find_passes, Err, Finds, FindsHeld, FindsNone, HasRemounted, InUse, MayMount, MayMove, NoFrame, Ok, frame_at, frame_found, frame_number, frames_of, Free, Freeze, get_or, get_or-set_other, GuestPage, has_items, instead, is_frame, is_item, IsInLife, IsLaid, IsLoose, IsLowestFree, item_count, items_on, KeeperView, Ledger, length, length-set, Life, life_or, List, list_any, lying, MakesSteps, merged_into, mounting, Moves, ne_eqb, node_of, None, Note, Option, PagesView, place_frame, Placed, Publish, refl, Row, row_at, same_Some, set, Shape, Some, spent, Stable, subst, sym, true, with_frame, ℕ, ◌&&◌, ◌+◌, ◌<◌, ◌==◌, ◌∙◌, ◌∷◌, ◌≡◌, ◌≢◌, ◌≤◌, if◌then◌else◌, once_mounted, All-contains_itself, Contains, nat_tests}
+use Rattle.ksm_book.proofs.Names.{list_any_at, [], All, and_parts, ap, arith, blank, Bool, count_in, did, dup_frame, dup_numbered, DupFits, DupRow, Dying, each_has_number, eq-eqb, find_all, find_passes, Err, Finds, FindsHeld, FindsNone, HasRemounted, InUse, MayMount, MayMove, NoFrame, Ok, frame_at, frames_of, Free, Freeze, get_or, get_or-set_other, GuestPage, has_items, instead, is_frame, is_item, IsInLife, IsLaid, IsLoose, IsLowestFree, item_count, items_on, KeeperView, Ledger, length, length-set, Life, life_or, List, list_any, lying, MakesSteps, merged_into, mounting, Moves, ne_eqb, None, Note, Option, PagesView, place_frame, Placed, Publish, refl, Row, row_at, same_Some, set, Shape, Some, spent, Stable, subst, sym, true, with_frame, ℕ, ◌&&◌, ◌+◌, ◌<◌, ◌==◌, ◌∙◌, ◌∷◌, ◌≡◌, ◌≢◌, ◌≤◌, if◌then◌else◌, once_mounted, All-contains_itself, Contains}
 use mathlib.Core.Logic.{dite}
 use native.Mathlib.Decide.{ℕ_discrete}
 use Rattle.ksm_book.proofs.ByPage.{found_page, same_frames}
@@ -43,7 +43,7 @@ module _ {v : PagesView} {k : KeeperView} {dup : DupRow} {node g : ℕ} (may : M
   among P all = find_all _ P _ dup may.live all
 
   item_some : 1 ≤ item_count v.rows dup
-  item_some = grind (arith, nat_tests, find_passes test dups dup may.live, and_parts)
+  item_some = grind (arith, find_passes test dups dup may.live, and_parts)
 
   stands : dup_numbered dup.number dups ≡ Some dup
   stands = among (λ d. dup_numbered d.number dups ≡ Some d) (each_has_number _ may.sound.2.dups_rise)
@@ -78,7 +78,7 @@ module _ {v : PagesView} {k : KeeperView} {dup : DupRow} {node g : ℕ} (may : M
 
     -- the frame of the dup is its first item's
     dup_frame_is : dup_frame v.frame v.rows dup.number ≡ g
-    dup_frame_is = ap (frame_found v.frame) live.first ∙ ap frame_number item_lies
+    dup_frame_is = grind (arith, live.first, item_lies)
 
     on_frame : g ≡ place_frame w.ledger dup.place
     on_frame = same_Some _ _ (sym item_lies ∙ live.lies)
@@ -101,11 +101,7 @@ module _ {v : PagesView} {k : KeeperView} {dup : DupRow} {node g : ℕ} (may : M
       where
         by : (page : GuestPage) (o : Option Row) → row_at page v.rows ≡ o
             → items_on dup.number f' v.rows v.frame page ≡ instead g f' v.frame page
-        by page None none = grind (
-          arith,
-          nat_tests,
-          instead_there g f' v.frame page (λ on. (let e : None ≡ Some g = sym (absent page none) ∙ on in cc)),
-        )
+        by page None none = grind (arith, instead_there g f' v.frame page (λ on. (let e : None ≡ Some g = sym (absent page none) ∙ on in cc)))
         by page (Some r) found =
             let same = ap (λ q. is_frame g (v.frame q)) (sym (found_page _ _ r found))
             ∙ find_all _ (λ s. is_frame g (v.frame s.page) ≡ merged_into dup.number s.state) _ r found on_it in
@@ -133,13 +129,13 @@ module _ {v : PagesView} {k : KeeperView} {dup : DupRow} {node g : ℕ} (may : M
     inside = grind (arith, node_end node sh.nodes sh.frames_per_node may.exists)
 
     within : f < length w.ledger.frames
-    within = let long = p.frames_long in let lt = inside in omega arith
+    within = omega (arith, p.frames_long, inside)
 
     within_g : g < length w.ledger.frames
-    within_g = let long = p.frames_long in let lt = inside_g in omega arith
+    within_g = omega (arith, p.frames_long, inside_g)
 
     apart : f ≢ g
-    apart e = let both : Free ≡ Stable = sym lowest.free ∙ ap (λ x. (frame_at w.ledger x).kind) e ∙ stable in cc
+    apart e = let both : Free ≡ Stable = grind (arith, lowest.free, e, stable) in cc
 
     -- the exchange of the old frame's count
     module _ {u : KeeperView} (found : ℕ) (freezes : u ≡ did w (Freeze g) found) where
@@ -169,7 +165,7 @@ module _ {v : PagesView} {k : KeeperView} {dup : DupRow} {node g : ℕ} (may : M
           small = may.laid.small;
           same = shape_same sh w u shape_is frozen_table;
           placed = rw still p;
-          spent = (let before = may.laid.spent in let more = more_spent in let e = ap spent still in omega arith);
+          spent = (omega (arith, may.laid.spent, more_spent, ap spent still));
         }
 
         -- where the exchange found another count than the keeper's references, the dup stays
@@ -253,21 +249,12 @@ module _ {v : PagesView} {k : KeeperView} {dup : DupRow} {node g : ℕ} (may : M
               frames = set (set w.ledger.frames g dead) f full;
               places = set w.ledger.places dup.place (Some life);
             }
-            ledger_is = knows ∙ ap (once_mounted u.ledger g f dup.place) items_are ∙ (λ t. record {
-              frames = set (frozen t).frames f (record {
-                kind = Stable;
-                base = n.base;
-                generation = (at_other f apart t).generation + 1;
-                content = (at_g t).content;
-              });
-              places = set (frozen t).places dup.place (Some (record { frame = f; generation = (at_other f apart t).generation + 1 }));
-            })
+            ledger_is = grind (arith, knows, items_are, frozen, at_other f apart, at_g)
 
             laid_moved_dup : IsLaid q x
             laid_moved_dup =
                 let there = remounted p dup among g f on_frame inside lowest.free live.life stable
-                (λ z. on_node _ _ f lowest.low lowest.high ∙ may.home z ∙ sym (dup_fits.node z)
-                ∙ ap (node_of sh) (sym on_frame)) numbers in
+                (λ z. grind (arith, on_node, may.home z, dup_fits.node z, on_frame)) numbers in
                 rw (goes ∙ ap (λ fr. record v { frame = fr }) (items_go f)) (record {
                   small = may.laid.small;
                   same = shape_same sh u x (shape_same sh w u shape_is frozen_table) (rw mounts.after);
@@ -293,7 +280,7 @@ module _ {v : PagesView} {k : KeeperView} {dup : DupRow} {node g : ℕ} (may : M
                 → HasRemounted {X = X} v q k x dup node (Ok done)
             unfolding moves
             has_remounted shows = record {
-              rest = goes ∙ (λ t. record v { frame = sym (ap (λ (p : PagesView). p.frame) goes) t });
+              rest = grind (arith, goes);
               laid = laid_moved_dup;
               moves = moves shows;
             }

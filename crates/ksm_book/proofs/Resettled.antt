@@ -1,5 +1,5 @@
 -- How a page gets another frame.
-use Rattle.ksm_book.proofs.Names.{ap, arith, change_row, FindsNone, GuestPage, Houses, IfSome, InPageOrder, is_some, IsKnown, IsLaid, KeeperView, leaving, lies_on, List, MakesSteps, MatchOption, May, None, on_its_own, Option, PagesView, Placed, Provides, refl, Resettled, Row, Some, Sub, subst, sym, HasNewFrame, true, TurnedAway, ℕ, ◌<◌, ◌∙◌, ◌≡◌}
+use Rattle.ksm_book.proofs.Names.{ap, arith, change_row, FindsNone, GuestPage, Houses, IfSome, InPageOrder, is_some, IsKnown, IsLaid, KeeperView, leaving, lies_on, List, MakesSteps, MatchOption, May, None, on_its_own, Option, PagesView, Placed, Provides, refl, Resettled, Row, Some, Sub, subst, HasNewFrame, true, TurnedAway, ℕ, ◌<◌, ◌≡◌}
 use Rattle.ksm_base.specs.declared.row.PageState.TheVariants.{Private}
 use Rattle.ksm_book.proofs.Shown.{provides_does}
 use Rattle.ksm_book.proofs.Keeping.{left_placed, left_spends, may_leave, searched_placed, searched_spends}
@@ -24,13 +24,13 @@ module _ {p : PagesView} {k w : KeeperView} (h : IsLaid p k) (rise : InPageOrder
   same = shape_same _ k w h.same ((provides_does provides).1.table)
 
   -- once the page lies on the frame taken, the one that it had is in the hand
-  in_hand : (change : Row → Row) → Houses change page node bytes p.rows → Placed p.shape across w.ledger (change_row page change p.rows) (lies_on page (Some g) p.frame) p.dups (p.frame page)
-  in_hand change by_this = moved_there h.same taken h.placed _ _ rise by_this
+  in_hand : {change : Row → Row} → Houses change page node bytes p.rows → Placed p.shape across w.ledger (change_row page change p.rows) (lies_on page (Some g) p.frame) p.dups (p.frame page)
+  in_hand by_this = moved_there h.same taken h.placed _ _ rise by_this
 
   module _ (left : Option ℕ) (was : left ≡ p.frame page) where
     -- once a page has a new frame in hand, the frame that it had, if it had one, may be left
     pub may_left : IfSome left (λ f. May w (Sub f))
-    may_left = rw was (may_leave w same _ (in_hand _ houses))
+    may_left = rw was (may_leave w same _ (in_hand houses))
 
     -- a page that took a frame with its bytes on a node, and left the one that it had, is resettled there
     pub resettled : (q : PagesView) (u : KeeperView) → q ≡ record p { rows = change_row page on_its_own p.rows; frame = lies_on page (Some g) p.frame; restless = q.restless }
@@ -39,7 +39,7 @@ module _ {p : PagesView} {k w : KeeperView} (h : IsLaid p k) (rise : InPageOrder
         let leaves = subst (λ o. MakesSteps w u (leaving o)) was made in
         let lies = ap (λ (x : PagesView). x.frame) goes in
         record {
-          pages = goes ∙ (λ t. record p { rows = change_row page on_its_own p.rows; frame = sym lies t; restless = q.restless });
+          pages = grind (arith, goes, lies);
           resettles = record {
             got = g;
             between = w;
@@ -47,8 +47,8 @@ module _ {p : PagesView} {k w : KeeperView} (h : IsLaid p k) (rise : InPageOrder
             leaves = leaves;
             frame = lies;
           };
-          placed = λ change by_this. rw lies (left_placed _ leaves (in_hand _ by_this));
-          spent = (let s = h.spent in let m = taken.spent in let more = left_spends _ leaves in omega arith);
+          placed = λ change by_this. rw lies (left_placed _ leaves (in_hand by_this));
+          spent = (omega (arith, h.spent, taken.spent, left_spends _ leaves));
         }
 
 -- where no frame of a node was found, pages that lie lawfully are turned away, and no page changed

@@ -1,5 +1,5 @@
 -- The visit of a row, by what is found: what becomes of the book, and what is done to the frames.
-use Rattle.ksm_book.proofs.Names.{[], Add, All, All-contains_itself, and_parts, ap, arith, Best, best_dup, best_dup_has_room, BookState, BookValue, BookView, Bool, change_row, Comes, Contains, doing, DupRow, each_at_page, emptying, false, find_all, find_passes, frame_found, frame_number, Frames, GuestPage, handled, handling, HasRoom, HasStayed, idle, IfSome, if◌then◌else◌, is_best, is_restless, IsDupOf, IsForZero, IsJoined, IsLaid, IsSound, item_count, joining, KeeperStep, KeeperView, leaving, lies_on, List, lying, MakesSteps, mapped, MatchOption, May, MayJoin, Merged, merged_into, merged_state, MOST_REFERENCES, nat_tests, None, not, Option, page_visited, PagesView, paired, pairing, partner, Performs, Placed, Reached, refl, Row, row_at, row_visited, row_visiting, same_Some, shared_state, Some, sound_row_visited, state_of, Sub, subst, sym, true, view_of, visited, VisitsPage, Zero, ℕ, ◌-◌, ◌∙◌, ◌∷◌, ◌≡◌, ◌≤◌}
+use Rattle.ksm_book.proofs.Names.{[], Add, All, All-contains_itself, and_parts, ap, arith, Best, best_dup, best_dup_has_room, BookState, BookValue, BookView, Bool, change_row, Comes, Contains, doing, DupRow, each_at_page, emptying, false, find_all, find_passes, frame_found, frame_number, Frames, GuestPage, handled, handling, HasRoom, HasStayed, idle, IfSome, if◌then◌else◌, is_best, is_restless, IsDupOf, IsForZero, IsJoined, IsLaid, IsSound, item_count, joining, KeeperStep, KeeperView, leaving, lies_on, List, lying, MakesSteps, mapped, MatchOption, May, MayJoin, Merged, merged_into, merged_state, MOST_REFERENCES, None, not, Option, page_visited, PagesView, paired, pairing, partner, Performs, Placed, Reached, refl, Row, row_at, row_visited, row_visiting, same_Some, shared_state, Some, sound_row_visited, state_of, Sub, subst, sym, true, view_of, visited, VisitsPage, Zero, ℕ, ◌-◌, ◌∙◌, ◌∷◌, ◌≡◌, ◌≤◌}
 use Rattle.ksm_base.specs.declared.row.PageState.TheVariants.{Private}
 use Rattle.frame_table.specs.Kept.{Did}
 use Rattle.ksm_book.proofs.ByPage.{found_page, row_of_page}
@@ -12,12 +12,12 @@ use Rattle.ksm_book.proofs.Singles.{book}
 use Rattle.ksm_book.proofs.Standing.{Lives, lives}
 
 -- where something is told of what an option holds, it holds something, of which that is so
-pub filled_by : {X : Type 0} (P : X → Type 0) (o : Option X) → MatchOption o (true ≡ false) P → (x : X) × (o ≡ Some x) × P x
-filled_by P o told = grind (arith, told)
+pub filled_by : {X : Type 0} (P : X → Type 0) {o : Option X} → MatchOption o (true ≡ false) P → (x : X) × (o ≡ Some x) × P x
+filled_by P told = grind (arith, told)
 
 -- a row that a visit may change has a frame of its own
 pub restless_own : (row : Row) → is_restless row ≡ true → shared_state row.state ≡ false
-restless_own row is = let both = and_parts row.mergeable (not (shared_state row.state)) is in grind arith
+restless_own row is = grind (arith, and_parts row.mergeable (not (shared_state row.state)) is)
 
 -- to the book and to the frames the visit of a row that a visit may change does what its handling does, by the dup that it may join
 pub visited_by : (b : BookState) (frame : Frames) (row : Row) (o : Option DupRow) → is_restless row ≡ true
@@ -37,14 +37,14 @@ pub stayed_is : (b : BookState) (frame : Frames) (row : Row) (zeroes : Bool) →
     → (row_visited b row ≡ (if zeroes then record b { rows = change_row row.page (λ r. record r { state = Zero }) b.rows } else
     paired (partner b.knobs b.rows row) b row))
     × (row_visiting b frame row ≡ (if zeroes then emptying frame row.page else pairing (partner b.knobs b.rows row) b frame row))
-stayed_is b frame row zeroes stays = grind (arith, nat_tests, restless_own row stays.restless)
+stayed_is b frame row zeroes stays = grind (arith, restless_own row stays.restless)
 
 -- ---------------------------------------------------------------- what the visit of a page comes to
 
 -- what is so of the row of a page is so of the row that was found
 pub at_row : (P : Row → Type 0) (page : GuestPage) (rows : List Row) (row : Row) → row_at page rows ≡ Some row → MatchOption
     (row_at page rows) (true ≡ false) P → P row
-at_row P page rows row found is = subst (λ o. MatchOption o (true ≡ false) P) found is
+at_row P page rows row found is = grind (arith, found, is)
 
 -- a step of the keeper was made, as its call says
 pub made_by : {v w : KeeperView} {e : KeeperStep} → Did v e w → MakesSteps v w (e ∷ [])
@@ -71,7 +71,7 @@ pub meets : (P : BookState → Row → Type 0) {p : PagesView} {k : KeeperView} 
     {page : GuestPage} → IsSound (state_of p cursor passes) × IsLaid p k → book p k cursor passes ≡ now
     → MatchOption (row_at page now.state.rows) (true ≡ false) (P now.state) → Meets P p k cursor passes now page
 meets P {p} {cursor = cursor} {passes} {page = page} lawful same told =
-    let at = filled_by _ _
+    let at = filled_by _
     (subst (λ (x : BookView). MatchOption (row_at page x.state.rows) (true ≡ false) (P x.state)) (sym same) told) in
     record { is = same; sound = lawful.0; laid = lawful.1; row = at.0; found = at.1; so = at.2 }
 
@@ -90,7 +90,7 @@ module _ {P : BookState → Row → Type 0} {p : PagesView} {k : KeeperView} {cu
 
   -- the row that is met is found at its own page
   pub there_is : row_at at.row.page p.rows ≡ Some at.row
-  there_is = ap (λ q. row_at q p.rows) page_is ∙ at.found
+  there_is = grind (arith, page_is, at.found)
 
   -- where the row met was visited and rows and dups lie lawfully then, the visit leads to the book as it is then
   pub leads : (q : PagesView) (l : KeeperView) → is_restless at.row ≡ true → IsLaid q l
@@ -129,9 +129,7 @@ visit_comes v w page row found restless state does = λ from s before.
 
 -- it has an item
 best_has_item : (b : BookState) (row : Row) (dup : DupRow) → best_dup b.knobs b.rows b.dups row ≡ Some dup → 1 ≤ item_count b.rows dup
-best_has_item b row dup found =
-    let best = find_passes (is_best b.knobs b.rows b.dups row) b.dups dup found in
-    grind arith
+best_has_item b row dup found = grind (arith, find_passes (is_best b.knobs b.rows b.dups row) b.dups dup found)
 
 module _ (best : Best) {p : PagesView} {k : KeeperView} {cursor : Option GuestPage} {passes : ℕ} {v : BookView} {page : GuestPage}
     (at : Meets (λ b. MayJoin b best) p k cursor passes v page) where
@@ -141,7 +139,7 @@ module _ (best : Best) {p : PagesView} {k : KeeperView} {cursor : Option GuestPa
   module _ (g : ℕ) (lies : All (λ d. d.place ≡ best.place → All (λ r. merged_into d.number r.state ≡ true → p.frame r.page ≡ Some g) p.rows)
       p.dups) where
     told : (d : DupRow) × (best_dup p.knobs p.rows p.dups row ≡ Some d) × ((best.number ≡ d.number) × (best.place ≡ d.place))
-    told = filled_by _ _ at.so.1
+    told = filled_by _ at.so.1
 
     abbrev dup : DupRow
     dup = told.0
@@ -152,7 +150,7 @@ module _ (best : Best) {p : PagesView} {k : KeeperView} {cursor : Option GuestPa
 
     live : Lives k.ledger p.dups p.shape p.rows p.frame dup
     live = among (λ d. (item_count p.rows d ≡ 0 → ⊥) → Lives k.ledger p.dups p.shape p.rows p.frame d) (lives at.laid.placed)
-        (λ none. let some = best_has_item (state_of p cursor passes) row dup told.1 in omega arith)
+        (λ none. omega (arith, best_has_item (state_of p cursor passes) row dup told.1))
 
     abbrev item : Row
     item = live.item
@@ -161,7 +159,7 @@ module _ (best : Best) {p : PagesView} {k : KeeperView} {cursor : Option GuestPa
     of_item P all = find_all _ P _ _ live.first all
 
     item_merged : merged_state item.state ≡ true
-    item_merged = ap merged_state (state_of_item _ _ live.merged)
+    item_merged = grind (arith, state_of_item)
 
     found_item : row_at item.page p.rows ≡ Some item
     found_item = of_item (λ r. row_at r.page p.rows ≡ Some r) (each_at_page _ at.sound.rows_rise)
@@ -177,11 +175,10 @@ module _ (best : Best) {p : PagesView} {k : KeeperView} {cursor : Option GuestPa
     same_bytes =
         let its = of_item (λ r. (number : ℕ) → r.state ≡ Merged number → (d : DupRow) × IsDupOf p.knobs p.dups r number d) at.sound.items
         dup.number (state_of_item _ _ live.merged) in
-        let same = same_Some _ dup (sym its.1.stands ∙ joins.stands) in
-        sym joins.bytes ∙ ap (λ (d : DupRow). d.bytes) (sym same) ∙ its.1.bytes
+        grind (arith, joins.bytes, same_Some _ dup (sym its.1.stands ∙ joins.stands), its.1.bytes)
 
     few : item_count p.rows dup ≤ MOST_REFERENCES - 1
-    few = (let r = joins.room in let m = at.sound.knobs.max_page_sharing.1 in omega arith)
+    few = (omega (arith, joins.room, at.sound.knobs.max_page_sharing.1))
 
     stands : Contains p.dups dup
     stands = among (Contains p.dups) (All-contains_itself _)
@@ -199,7 +196,7 @@ module _ (best : Best) {p : PagesView} {k : KeeperView} {cursor : Option GuestPa
     change r = record r { state = Merged best.number }
 
     state_is : Merged best.number ≡ item.state
-    state_is = ap Merged told.2.0 ∙ sym (state_of_item _ _ live.merged)
+    state_is = grind (arith, told.2.0, state_of_item)
 
     module _ (lone : ℕ) (left : p.frame page ≡ Some lone) where
       -- once a reference came to the dup's frame, the joining page's own frame may be left
@@ -215,10 +212,10 @@ module _ (best : Best) {p : PagesView} {k : KeeperView} {cursor : Option GuestPa
         frame_is =
             rw (← there)
             (of_item (λ r. merged_into best.number r.state ≡ true → q.frame ≡ lies_on page (p.frame r.page) p.frame) frame
-            (ap (λ n. merged_into n item.state) told.2.0 ∙ live.merged))
+            (grind (arith, told.2.0, live.merged)))
 
         q_is : q ≡ record p { rows = change_row page change p.rows; frame = lies_on page (Some g) p.frame }
-        q_is = grind (arith, nat_tests, frame_is)
+        q_is = grind (arith, frame_is)
 
         steps : MakesSteps k l (Add g ∷ leaving (p.frame page))
         steps = rw left (made_then comes leaves)
@@ -250,7 +247,7 @@ module _ {p : PagesView} {k : KeeperView} {cursor : Option GuestPage} {passes : 
 
   zero_hand : Placed p.shape p.knobs.merge_across_nodes k.ledger (change_row page zeroed p.rows) (lies_on page None p.frame) p.dups
       (p.frame page)
-  zero_hand = swapped None _ _ _ at.sound.rows_rise at.found (λ r. refl) at.laid.placed refl
+  zero_hand = swapped None _ _ at.sound.rows_rise at.found (λ r. refl) at.laid.placed refl
 
   -- the frame of a page that is to become Zero may be left
   pub may_empty : {left : Option ℕ} → left ≡ p.frame page → IfSome left (λ f. May k (Sub f))
@@ -263,9 +260,7 @@ module _ {p : PagesView} {k : KeeperView} {cursor : Option GuestPage} {passes : 
       let b = state_of p cursor passes in
       let leaves = subst (λ o. MakesSteps k l (leaving o)) was made in
       leads at q l at.so.restless
-      (rw goes (laid_rows at.laid _ _ _ l (rw leaves.after) (left_spends _ leaves) (left_placed _ leaves zero_hand)))
-      (rw goes
-      ((λ t. record b { rows = change_row (sym (page_is at) t) zeroed p.rows }) ∙
-      sym (stayed_is b p.frame _ true at.so).0))
+      (rw goes (laid_rows at.laid l (rw leaves.after) (left_spends _ leaves) (left_placed _ leaves zero_hand)))
+      (rw goes (grind (arith, page_is at, (stayed_is b p.frame _ true at.so).0)))
       (subst (Performs (lying p k) (lying q l)) (sym ((stayed_is b _ _ true at.so).1 ∙ ap (emptying p.frame) (page_is at)))
       (record { made = leaves; frame = rw goes }))

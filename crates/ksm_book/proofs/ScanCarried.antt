@@ -10,7 +10,7 @@ use Rattle.ksm_book.proofs.Reached.{begins, first}
 -- where there are pages to visit, some row is mergeable
 any_some : (rows : List Row) → 1 ≤ length (mergeable_pages rows) → list_any (λ r. r.mergeable) rows ≡ true
 any_some [] some = absurd (omega arith)
-any_some (r ∷ rows) some = let rest = any_some rows in grind arith
+any_some (r ∷ rows) some = grind (arith, any_some rows)
 
 -- where no page is mergeable, no row is
 pub any_none : (rows : List Row) → length (mergeable_pages rows) ≡ 0 → list_any (λ r. r.mergeable) rows ≡ false

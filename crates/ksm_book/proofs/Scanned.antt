@@ -1,5 +1,5 @@
 -- What the parts of a scan come to: the end of a pass, listed pages in the stead of those ahead, visits up to a page, and whole passes.
-use Rattle.ksm_book.proofs.Names.{[], after_cursor, Ahead, All, AllPairs-filter, and_parts, ap, append-nil, AreAscending, AreListed, arith, At, begun, BookState, Bool, cases_lt, comes_before, drop, drop_more, End, EndsAt, false, filter, filter_all, filter_passes, from_to, get_or, get_or_from_slice_get, GuestPage, has_item, inl, InPageOrder, inr, is_none, is_nowhere, is_some, IsBeside, IsStill, last_of, last_visited, length, length-take-le, List, mergeable_pages, min, next_row, None, not, Option, option_map, pages_ahead, pages_visited, pass_begun, pass_ended, pass_ended_at_last, refl, restless_at, Row, slice_get, slice_get_within, Some, subst, suc, sym, take, take-append-drop, true, true≢false, up_to, visit_begun, visits_beside, with_none_waiting, ℕ, ◌&&◌, ◌*◌, ◌++◌, ◌+◌, ◌-◌, ◌<◌, ◌^◌, ◌∙◌, ◌∷◌, ◌≡◌, ◌≤◌, ◌⊎◌, if◌then◌else◌, nat_tests}
+use Rattle.ksm_book.proofs.Names.{[], after_cursor, Ahead, All, AllPairs-filter, and_parts, ap, append-nil, AreAscending, AreListed, arith, At, begun, BookState, Bool, cases_lt, comes_before, drop, drop_more, End, EndsAt, false, filter, filter_all, filter_passes, from_to, get_or, get_or_from_slice_get, GuestPage, has_item, inl, InPageOrder, inr, is_nowhere, is_some, IsBeside, IsStill, last_of, last_visited, length, length-take-le, List, mergeable_pages, min, next_row, None, not, Option, option_map, pages_ahead, pages_visited, pass_begun, pass_ended, pass_ended_at_last, refl, restless_at, Row, slice_get, slice_get_within, Some, subst, suc, sym, take, take-append-drop, true, true≢false, up_to, visit_begun, visits_beside, with_none_waiting, ℕ, ◌&&◌, ◌*◌, ◌++◌, ◌+◌, ◌-◌, ◌<◌, ◌^◌, ◌∙◌, ◌∷◌, ◌≡◌, ◌≤◌, ◌⊎◌}
 use Rattle.ksm_book.proofs.PagesAhead.{Before, GoesDown, between_at, between_is, has_filter, last_of_take, place_of, place_splits}
 use Rattle.ksm_book.proofs.Going.{Goes, begun_goes, settled_goes}
 use Rattle.ksm_book.proofs.Folded.{ascending_ahead, begun_folded, beside_on, every_page, next_first, none_next, pages_alike, pages_go, pass_goes_on, repeats, same_restless, visits_folded}
@@ -11,29 +11,29 @@ none_nowhere : (pages : List GuestPage) (most : ℕ) (ahead : Ahead) → EndsAt 
 none_nowhere [] most (At page) comes = (λ is. refl, λ is. absurd (omega arith))
 none_nowhere [] most (End made) comes = (λ is. refl, λ is. rw comes.0)
 none_nowhere (page ∷ pages) most (At last) comes = (λ is. absurd (true≢false (sym is)), λ is. cc)
-none_nowhere (page ∷ pages) most (End made) comes = grind (arith, nat_tests, comes)
+none_nowhere (page ∷ pages) most (End made) comes = grind (arith, comes)
 
 -- a pass that has gone through all pages ends
 pub pass_over : (b : BookState) (most : ℕ) (ahead : Ahead) → EndsAt (pages_ahead b) most ahead → is_nowhere ahead ≡ true
     → is_some b.cursor ≡ true → pass_ended b ≡ pass_ended_at_last b
-pass_over b most ahead comes nowhere under_way = grind (arith, nat_tests, none_next, none_nowhere)
+pass_over b most ahead comes nowhere under_way = grind (arith, none_next, none_nowhere)
 
 -- a pass with a page ahead, or one that has not begun, does not end
 pub pass_stays : (b : BookState) (most : ℕ) (ahead : Ahead) → EndsAt (pages_ahead b) most ahead
     → (is_nowhere ahead ≡ false) ⊎ (is_some b.cursor ≡ false) → b ≡ pass_ended_at_last b
-pass_stays b most ahead comes (inr none) = λ t. if sym none t && is_none (next_row b.cursor b.rows) then pass_ended b else b
+pass_stays b most ahead comes (inr none) = grind (arith, none)
 pass_stays b most ahead comes (inl some) = by _ refl
   where
     by : (l : List GuestPage) → pages_ahead b ≡ l → b ≡ pass_ended_at_last b
     by (page ∷ more) is = sym (pass_goes_on b _ _ is)
-    by [] is = grind (arith, nat_tests, is, none_nowhere)
+    by [] is = grind (arith, is, none_nowhere)
 
 settled_ahead : (b : BookState) → pages_ahead (with_none_waiting b) ≡ pages_ahead b
-settled_ahead b = ap (filter (after_cursor b.cursor)) (settled_goes b.rows).mergeable
+settled_ahead b = grind (arith, (settled_goes b.rows).mergeable)
 
 -- as a pass begins the pages ahead are the same
 pub begun_ahead : (b : BookState) → pages_ahead (pass_begun b) ≡ pages_ahead b
-begun_ahead b = grind (arith, nat_tests, settled_ahead b)
+begun_ahead b = grind (arith, settled_ahead b)
 
 -- a visit begins a pass, that of a state with no cursor; or it goes on with the pages ahead
 abbrev Begins : BookState → BookState → Type 0
@@ -59,18 +59,18 @@ begins_ahead b new (none, rows, is) = grind (arith, settled_ahead new, every_pag
 
 -- where there is a page to visit, one is ahead once a visit begins
 pub some_ahead : (b : BookState) → 1 ≤ length (mergeable_pages b.rows) → 1 ≤ length (pages_ahead (visit_begun b))
-some_ahead b some = grind (arith, nat_tests, some, begins b, begins_ahead)
+some_ahead b some = grind (arith, some, begins b, begins_ahead)
 
 -- ---------------------------------------------------------------- listed pages
 
 -- a page that is restless after a change that makes no page restless was so before
 pub was_restless : (old new : List Row) → Goes old new → (page : GuestPage) → restless_at page new ≡ true → restless_at page old ≡ true
-was_restless old new goes page restless = let calm = goes.calm page in grind arith
+was_restless old new goes page restless = grind (arith, goes.calm page)
 
 -- scans visit a restless page
 pub restless_mergeable : (page : GuestPage) (rows : List Row) → restless_at page rows ≡ true → has_item page (mergeable_pages rows) ≡ true
 restless_mergeable page [] is = absurd (true≢false (sym is))
-restless_mergeable page (r ∷ rows) is = let rest = restless_mergeable page rows in grind arith
+restless_mergeable page (r ∷ rows) is = grind (arith, restless_mergeable page rows)
 
 -- the listed pages from one index up to another, where these are the counts of those up to the cursor, and of those that pass a test
 module _ (t : GuestPage → Bool) (down : GoesDown t) (pages : List GuestPage) (first end : ℕ) (told : Option GuestPage) (b : BookState)
@@ -78,7 +78,7 @@ module _ (t : GuestPage → Bool) (down : GoesDown t) (pages : List GuestPage) (
     (low : first ≡ length (filter (λ p. not (after_cursor told p)) pages)) (at : told ≡ b.cursor)
     (high : end ≡ length (filter t pages)) where
   part_is : from_to first end pages ≡ filter (λ p. after_cursor b.cursor p && t p) pages
-  part_is = grind (arith, nat_tests, between_is)
+  part_is = grind (arith, between_is)
 
   -- visits of the listed pages from first up to end come to the same as those of the pages ahead that pass the test
   pub part_visited : {X : Type 0} (step : BookState → X → Row → X) (s : BookState × X) → b ≡ s.0
@@ -163,16 +163,14 @@ module _ {X : Type 0} (step : BookState → X → Row → X) (beside : IsBeside 
       )
       ≡ visits_beside step (times * length ahead + length ahead) s
   passes_made times some none still = elim (begins s.0) [
-    | inr (at, stays, more) ↦ absurd (true≢false (sym at ∙ ap (λ (c : BookState). is_some c.cursor) (sym stays) ∙ ap is_some none))
+    | inr (at, stays, more) ↦ absurd (true≢false (grind (arith, at, stays, none)))
     | inl (new, fresh) ↦
         let all = begins_ahead s.0 new fresh ∙ ap mergeable_pages (sym fresh.1) in
         let whole : after (filter (up_to None) ahead) ≡ pages_visited step (with_none_waiting new, s.1) (mergeable_pages new.rows) =
-        ap after (filter_all (up_to None) ahead (λ k d lt. refl)) ∙ (λ t. pages_visited step (fresh.2 t, s.1) (all t)) in
+        grind (arith, filter_all (up_to None) ahead (λ k d lt. refl), fresh.2, all) in
         let again = repeats _ beside (new, s.1) (subst InPageOrder (sym fresh.1) rise) (rw fresh.1 some)
-        (subst (λ (z : (BookState × X) × (BookState × X)). IsStill z.0 z.1) (λ t. ((fresh.2 t, s.1), whole t)) still) times in
-        (λ t. (record (pass_ended (whole t).0) { passes = min ((pass_ended (whole t).0).passes + times) (2 ^ 64 - 1) }, (whole t).1))
-        ∙ sym again
-        ∙ (λ t. visits_beside step (times * length (sym all t)) (pass_ended (sym whole t).0, (sym whole t).1))
+        (grind (arith, fresh.2, whole, still)) times in
+        (grind (arith, whole)) ∙ sym again ∙ (grind (arith, all, whole))
         ∙ ap (visits_beside step (times * length ahead)) (pass_made (some_ahead s.0 some))
         ∙ sym (beside_on step (length ahead) (times * length ahead) (times * length ahead + length ahead) s (omega arith))
   ]
@@ -217,23 +215,21 @@ module _ {X : Type 0} (step : BookState → X → Row → X) (beside : IsBeside 
           record (after (before_it ahead)).0 { cursor = last_of (after (before_it ahead)).0.cursor (before_it (stopped_ahead t)) },
           (after (before_it ahead)).1,
         ))
-        ∙ (λ t. (record (after (done t)).0 { cursor = last_of (after (done t)).0.cursor (done t) }, (after (done t)).1))
-        ∙ sym (begun_folded _ beside s _ _ _ rise (parts _ page within))
+        ∙ (grind (arith, done)) ∙ sym (begun_folded _ beside s _ _ _ rise (parts _ page within))
         ∙ ap (λ l. begun (visits_beside step (length l) s)) (sym done)
 
     -- fewer visits than were to be made
     fewer : (n : ℕ) (last : GuestPage) → slice_get ahead n ≡ Some last → up_to (Some last) page ≡ true → length (before_it ahead) < suc n
     fewer n last at passes = elim (cases_lt n _) [
       | inl later ↦
-          let order = (λ t. comes_before (sym (get_or_from_slice_get _ n _ page at) t)
-          (sym (get_or_from_slice_get ahead place _ page stands) t)) ∙ ascending n place page later within in
+          let order = (grind (arith, get_or_from_slice_get)) ∙ ascending n place page later within in
           absurd (true≢false (sym passes ∙ ap not order))
       | inr no_later ↦ omega (arith, stopped_many)
     ]
 
     -- where so many visits would visit the page, fewer pages ahead come before it
-    pub stopped_fewer : (most : ℕ) (a : Ahead) → 1 ≤ most → EndsAt ahead most a → up_to (last_visited a) page ≡ true
+    pub stopped_fewer : {most : ℕ} (a : Ahead) → 1 ≤ most → EndsAt ahead most a → up_to (last_visited a) page ≡ true
         → length (before_it ahead) < most
-    stopped_fewer most (At last) some comes passes =
+    stopped_fewer {most} (At last) some comes passes =
         let one : suc (most - 1) ≡ most = omega arith in omega (arith, fewer (most - 1) last comes.1 passes)
-    stopped_fewer most (End made) some comes passes = omega (arith, within, stopped_many)
+    stopped_fewer (End made) some comes passes = omega (arith, within, stopped_many)

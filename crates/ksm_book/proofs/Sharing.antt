@@ -1,14 +1,14 @@
 -- What becomes of the layout where rows change together, join a dup, or make or lose one.
 use Rattle.ksm_base.specs.declared.limits.TheConstants.{MOST_FRAMES, MOST_LIVES, MOST_REFERENCES}
-use Rattle.ksm_book.proofs.Names.{[], Add, All, All-filter, ap, arith, blank, Bool, both_ways, cases_Bool, change_row, Contains, count_by, count_none, did, DupRow, elsewhere, eq-eqb, eqb-true, false, filter, filter_passes, find, find_all, find_none, find_passes, FitsBase, frame_at, Frames, frames_at_most, frames_of, get_or, get_or-set_same, get_or_default, GuestPage, IfSome, if◌then◌else◌, inl, InPageOrder, inr, IsInLife, IsLaid, IsLoose, IsServed, IsVacant, item_count, KeeperView, Kind, kind_for, Knobs, leaving, Ledger, ledger_after, length, lies_on, Life, life_or, List, list_any, Listing, MakesSteps, May, Merged, merged_into, merged_state, named_at, nat_lt, nat_tests, None, none_found, not-true, Note, Option, PageState, PagesView, place_frame, Placed, Private, Publish, refl, Row, row_at, RowFits, set, set-get_or, settled, settled_state, Shape, shared_state, Some, spent, spent_on, Stable, Sub, subst, sum_by-le, sym, tree_of, true, with_dup, with_frame, Withdraw, withdrawing, ℕ, ◌*◌, ◌++◌, ◌+◌, ◌-◌, ◌<◌, ◌==◌, ◌∙◌, ◌∷◌, ◌≡◌, ◌≢◌, ◌≤◌, ◌⊎◌}
+use Rattle.ksm_book.proofs.Names.{[], Add, All, All-filter, ap, arith, blank, Bool, both_ways, cases_Bool, change_row, Contains, count_by, count_none, did, DupRow, elsewhere, eq-eqb, eqb-true, false, filter, filter_passes, find, find_all, find_none, find_passes, frame_at, Frames, frames_at_most, frames_of, get_or, get_or-set_same, get_or_default, GuestPage, IfSome, if◌then◌else◌, inl, InPageOrder, inr, IsInLife, IsLaid, IsLoose, IsServed, IsVacant, item_count, KeeperView, kind_for, Knobs, leaving, Ledger, ledger_after, length, lies_on, Life, life_or, List, list_any, Listing, MakesSteps, May, Merged, merged_into, merged_state, named_at, nat_lt, None, none_found, not-true, Note, Option, PageState, PagesView, place_frame, Placed, Private, Publish, refl, Row, row_at, RowFits, set, set-get_or, settled, settled_state, Shape, shared_state, Some, spent, spent_on, Stable, Sub, subst, sum_by-le, sym, tree_of, true, with_dup, with_frame, Withdraw, withdrawing, ℕ, ◌*◌, ◌++◌, ◌+◌, ◌-◌, ◌<◌, ◌==◌, ◌∙◌, ◌∷◌, ◌≡◌, ◌≢◌, ◌≤◌, ◌⊎◌}
 use Rattle.ksm_book.proofs.Moves.{Serves, joined, published, base_is_items, stale_is_loose}
 use Rattle.ksm_book.proofs.Laying.{LodgesAs, laid_rows, own_kind, served_at, shape_same}
 use Rattle.ksm_book.proofs.Keeping.{added_placed, added_spends, left_placed, left_spends, lives_most, may_leave, past_le, spent_set}
 use Rattle.ksm_book.proofs.Made.{none_made, parts_made, step_made}
 use Rattle.ksm_book.proofs.Withdrawn.{withdrawn}
 
-merged_as : (s : PageState) → merged_state s ≡ true → (n : ℕ) × (s ≡ Merged n)
-merged_as s e = grind arith
+merged_as : {s : PageState} → merged_state s ≡ true → (n : ℕ) × (s ≡ Merged n)
+merged_as e = grind arith
 
 -- the state of an item of a dup is Merged with the dup's number
 pub state_of_item : (n : ℕ) (s : PageState) → merged_into n s ≡ true → s ≡ Merged n
@@ -20,7 +20,7 @@ first_found t xs some = by _ refl
   where
     by : (o : Option _) → find t xs ≡ o → (x : _) × (find t xs ≡ Some x)
     by (Some x) found = (x, found)
-    by None none = absurd (let zero' = count_none t xs (find_none t xs none) in omega arith)
+    by None none = absurd (omega (arith, count_none t xs (find_none t xs none)))
 
 -- a page joins the dup of an item
 module _ {p : PagesView} {k : KeeperView} (h : IsLaid p k) (rise : InPageOrder p.rows) (page : GuestPage) (row item : Row)
@@ -33,7 +33,7 @@ module _ {p : PagesView} {k : KeeperView} (h : IsLaid p k) (rise : InPageOrder p
   item_fits = subst (IsServed p.shape k.ledger p.dups item) there (served_at h.placed _ _ found_item)
 
   item_stable : (frame_at k.ledger g).kind ≡ Stable
-  item_stable = item_fits.0.kind ∙ ap kind_for (merged_as _ merged).1
+  item_stable = item_fits.0.kind ∙ ap kind_for (merged_as merged).1
 
   -- one reference more may come to an item's frame, where its dup has room for one item more
   pub may_join : (d : DupRow) → Contains p.dups d → merged_into d.number item.state ≡ true → item_count p.rows d ≤ MOST_REFERENCES - 1 → May k (Add g)
@@ -44,7 +44,7 @@ module _ {p : PagesView} {k : KeeperView} (h : IsLaid p k) (rise : InPageOrder p
       let base = ap (λ x. (frame_at k.ledger x).base) a.0 ∙ base_is_items h.placed n d
       stands.1 a.1 ∙ ap (item_count p.rows) is in (
         rw h.same item_fits.0.frame,
-        subst (λ (x : Kind). FitsBase x (frame_at k.ledger g).base) item_stable (h.placed.kinds g),
+        grind (arith, item_stable, h.placed.kinds g),
         rw base few,
       )
 
@@ -57,7 +57,7 @@ module _ {p : PagesView} {k : KeeperView} (h : IsLaid p k) (rise : InPageOrder p
         let q = added_placed comes item_stable item_fits.0.frame h.placed in
         joined _ row _ g c rise found keeps
         (subst (IsServed p.shape w.ledger p.dups item) there (served_at q _ _ found_item)) state bytes
-        (ap shared_state (merged_as _ merged).1) q
+        (ap shared_state (merged_as merged).1) q
 
     -- once a reference came to the item's frame, the frame of the page that joins, if it has one, may be left
     pub may_part : (w : KeeperView) → MakesSteps k w (Add g ∷ []) → IfSome (p.frame page) (λ f. May w (Sub f))
@@ -70,7 +70,7 @@ module _ {p : PagesView} {k : KeeperView} (h : IsLaid p k) (rise : InPageOrder p
         let parts = parts_made _ _ m in
         let more = added_spends parts.1 in
         let more' = left_spends _ parts.2 in
-        laid_rows h _ _ _ u (rw m.after) (omega arith) (left_placed _ parts.2 (joined_hand _ parts.1))
+        laid_rows h u (rw m.after) (omega arith) (left_placed _ parts.2 (joined_hand _ parts.1))
 
 -- a place where no dup with items stands may be named anew, or not at all
 module _ (k : Ledger) where
@@ -115,24 +115,19 @@ module _ {p : PagesView} {k : KeeperView} (w : KeeperView) (h : IsLaid p k) (pla
     | inl taken ↦ rw (step_made
         (subst (λ (b : Bool). MakesSteps k w (if b then Withdraw place ∷ [] else [])) taken m)).1
     | inr none ↦
-        let empty = h.placed.empty place (has_none _ _ none) in
         rw (none_made (subst (λ (b : Bool). MakesSteps k w (if b then Withdraw place ∷ [] else [])) none m))
-        (λ t. record {
-          frames = k.ledger.frames;
-          places = sym
-              (ap (set k.ledger.places place) (sym empty) ∙ set-get_or k.ledger.places place None) t;
-        })
+        (grind (arith, h.placed.empty place (has_none _ _ none), set-get_or k.ledger.places place None))
   ]
 
 -- pages lie lawfully where a place names nothing any more and the dup that stood there is gone
-pub laid_cleared : {p : PagesView} {k : KeeperView} (w : KeeperView) (place : ℕ) → IsLaid p k → place < frames_of p.shape → w.table ≡ k.table
+pub laid_cleared : {p : PagesView} {k : KeeperView} (w : KeeperView) {place : ℕ} → IsLaid p k → place < frames_of p.shape → w.table ≡ k.table
     → w.ledger ≡ record { frames = k.ledger.frames; places = set k.ledger.places place None }
     → IsLaid (record p { dups = filter (elsewhere place) p.dups }) w
-laid_cleared {p} {k} w place h inside e is = record {
+laid_cleared {p} {k} w h inside e is = record {
   small = h.small;
   same = shape_same _ k w h.same e;
   placed = rw is (withdrawn _ inside h.placed);
-  spent = (let same = ap spent is in let s = h.spent in omega arith);
+  spent = (omega (arith, ap spent is, h.spent));
 }
 
 -- what is above or below a place is elsewhere
@@ -204,8 +199,7 @@ module _ {p : PagesView} {k : KeeperView} (h : IsLaid p k) (rise : InPageOrder p
         rw (← same) inside,
         rw (← same) fits.frame,
         rw empty own,
-        subst (IsLoose w.ledger) (sym (ap (λ (z : Ledger). named_at z d.place) empty
-            ∙ get_or-set_same k.ledger.places d.place None None (omega arith))) tt,
+        grind (arith, empty, get_or-set_same k.ledger.places d.place None None (omega arith), tt),
       )
 
   -- rows and dups lie lawfully once the row's frame is published at the place of the new dup
@@ -223,7 +217,7 @@ module _ {p : PagesView} {k : KeeperView} (h : IsLaid p k) (rise : InPageOrder p
       let shown = published q page row rise found f lies own d inside c keeps (state ∙ ap Merged (sym number)) same bytes tree alone
       (λ i r lt. rw number (fresh i r lt))
       (All-filter (elsewhere d.place) (λ e. ¬ (e.number ≡ d.number)) p.dups
-      (λ n x lt same. (let below = numbers n x lt in omega arith)))
+      (λ n x lt same. (omega (arith, numbers n x lt))))
       (λ n x lt at. let e = get_or (filter (elsewhere d.place) p.dups) n x in
       both_ways (e.place == d.place) (not-true (e.place == d.place) (filter_passes (elsewhere d.place) p.dups n x lt)) (eq-eqb e.place d.place at)) in
       let ledger : w.ledger ≡ ledger_after w1.table.shape cleared (Publish d.place f) 0 = rw is
@@ -238,9 +232,9 @@ module _ {p : PagesView} {k : KeeperView} (h : IsLaid p k) (rise : InPageOrder p
         same = rw (is, ap (λ (z : KeeperView). z.table) clears.after) h.same;
         placed = subst (λ (z : Ledger × List DupRow). Placed sh p.knobs.merge_across_nodes z.0 (change_row page c p.rows) p.frame z.1 None)
             (λ t. (sym ledger t, below_elsewhere d.place p.dups t ++ d ∷ above_elsewhere d.place p.dups t)) shown;
-        spent = (let s = h.spent in let given = fits.given in omega arith);
+        spent = (omega (arith, h.spent, fits.given));
       }
 
 -- where pages merge on their nodes alone, a row's tree is its home
 pub tree_is_home : (knobs : Knobs) (r : Row) → knobs.merge_across_nodes ≡ 0 → r.home ≡ tree_of knobs r
-tree_is_home knobs r none = grind (arith, nat_tests, none)
+tree_is_home knobs r none = grind (arith, none)

@@ -45,8 +45,8 @@ quiet_leaving None = tt
 quiet_leaving (Some f) = (refl, tt)
 
 -- a part of the log whose steps give no frame gave none
-pub part_did : (v w : KeeperView) (part : Log) → w ≡ stepped v part → GivesNone (steps_of part) → Allocates v w [] part
-part_did v w part is quiet = record {
+pub part_did : (v w : KeeperView) {part : Log} → w ≡ stepped v part → GivesNone (steps_of part) → Allocates v w [] part
+part_did v w {part} is quiet = record {
   table = rw is;
   log = rw is;
   ledger = rw is;
@@ -59,7 +59,7 @@ part_did v w part is quiet = record {
 
 -- steps that give no frame gave none by the part of the log in which they were made
 pub quiet_did : {v w : KeeperView} {steps : List KeeperStep} (m : MakesSteps v w steps) → GivesNone steps → Allocates v w [] m.part
-quiet_did {v} {w} m quiet = part_did v w _ m.after (subst GivesNone (sym m.are) quiet)
+quiet_did {v} {w} m quiet = part_did v w m.after (subst GivesNone (sym m.are) quiet)
 
 -- a keeper that made steps that give no frame gave none
 pub quiet_does : {v w : KeeperView} {steps : List KeeperStep} → MakesSteps v w steps → GivesNone steps → AllocatesOn v w []
@@ -132,12 +132,12 @@ lives_on (g ∷ fs) v w f m alive =
 -- a frame that was reaped and is dying still was found with a count above zero
 waits : (fs : List ℕ) (v w : KeeperView) (f : ℕ) (part : Log) → w ≡ stepped v part → steps_of part ≡ map Reap fs → Contains fs f → (frame_at w.ledger f).kind ≡ Dying
     → (n : ℕ) × (1 ≤ count_in n) × Contains part (Reap f, n)
-waits [] v w f part after are has still = absurd (let lt = has.1 in omega arith)
+waits [] v w f part after are has still = absurd (omega (arith, has.1))
 waits (g ∷ fs) v w f [] after are has still = absurd (grind arith)
 waits (g ∷ fs) v w f (s ∷ part) after are (suc i, lt, is) still =
     let rest : steps_of part ≡ map Reap fs = grind arith in
     let later = waits fs (did v s.0 s.1) w f part (after ∙ sym (stepped_then v _ _)) rest (i, omega arith, is) still in
-    (later.0, later.1, (suc later.2.0, (let low = later.2.1 in omega arith), later.2.2))
+    (later.0, later.1, (suc later.2.0, (omega (arith, later.2.1)), later.2.2))
 waits (g ∷ fs) v w f (s ∷ part) after are (zero, lt, is) still =
     let first : s.0 ≡ Reap f = grind arith in
     let rest : steps_of part ≡ map Reap fs = grind arith in
@@ -168,7 +168,7 @@ none_left {v} {w} {node} h =
             let at = get_or-range_with_len (node * size) _ _ f lt in
             let long = length-range_with_len (node * size) size in
             waits fs v w f _ m.after m.are (contains_filter _ _ f (f - node * size, omega arith, at ∙ omega arith) dies) still
-        | inr alive ↦ absurd (lives_on fs v w f m (λ is. (let e = ap dying_kind is in grind arith)) still)
+        | inr alive ↦ absurd (lives_on fs v w f m (λ is. (grind (arith, ap dying_kind is))) still)
       ];
       none = h.none;
     }
@@ -176,8 +176,8 @@ none_left {v} {w} {node} h =
 -- ---------------------------------------------------------------- a dup's frame is held, or moves
 
 -- a frame that is stable after an exchange was tried was found with another count
-pub lost : (v w : Mapped) (rows : List Row) (dup : DupRow) (node : ℕ) → FindsHeld v w rows dup node → HasLost v.keeper w.keeper
-lost v w rows dup node h =
+pub lost : {v w : Mapped} {rows : List Row} (dup : DupRow) {node : ℕ} → FindsHeld v w rows dup node → HasLost v.keeper w.keeper
+lost {v} {rows = rows} dup h =
     let f = dup_frame v.frame rows dup.number in
     let s = h.searched in
     let step = step_made h.freezes in
@@ -190,7 +190,7 @@ lost v w rows dup node h =
       found = step.0;
       tried = Contains-push _ (Freeze f, step.0);
       other = subst (λ (z : KeeperView). count_in step.0 ≢ (frame_at z.ledger f).base) (sym step.1)
-          (by _ f (count_in step.0) (count_in step.0 == (frame_at s.ledger f).base) refl (ap (λ (z : KeeperView). (frame_at z.ledger f).kind) (sym step.1) ∙ h.kept));
+          (by _ f (count_in step.0) (count_in step.0 == (frame_at s.ledger f).base) refl (grind (arith, step.1, h.kept)));
     }
   where
     by : (k : Ledger) (f n : ℕ) (b : Bool) → b ≡ (n == (frame_at k f).base) → (frame_at (cond b (with_frame k f (frozen (frame_at k f))) k) f).kind ≡ Stable

@@ -1,5 +1,5 @@
 -- The commands on single pages, carried out.
-use Rattle.ksm_book.proofs.Names.{[], All, Answer, ap, arith, BookValue, BookView, Bool, IsCarried, change_row, comes_before, Command, cond_both, Done, Drop, Err, false, filter, FindsNone, frame_at, frame_number, frame_on, Frames, frames_of, fresh_row, GuestPage, Houses, IfErr, IfSome, InPageOrder, is_some, IsAlone, IsLaid, IsReadable, IsServed, IsSound, IsWritable, KeeperView, leaving, length, lies_on, List, lying, MakesSteps, MatchBool, May, moved, MovePage, nat_le, nat_tests, NoFrame, None, not, Ok, on_its_own, Option, ordered_with, PAGE_WORDS, PagesView, Performs, Placed, Provides, puts, refl, Register, Resettled, Resettles, Result, rewriting, Row, row_at, same_page, same_page_refl, shared_state, Some, sound_after, state_of, stepped, steps_of, Store, stored, Sub, subst, sym, true, view_of, with_row, without_page, ℕ, ◌++◌, ◌<◌, ◌==◌, ◌∙◌, ◌∷◌, ◌≡◌, map_fixed, without_between, pages_ordered, absent_parts, find_put, filter_passes, cond, if◌then◌else◌, Held, IsHeld, HasNewFrame}
+use Rattle.ksm_book.proofs.Names.{[], All, Answer, ap, arith, BookValue, BookView, Bool, IsCarried, change_row, comes_before, Command, cond_both, Done, Drop, Err, false, filter, FindsNone, frame_at, Frames, frames_of, fresh_row, GuestPage, Houses, IfErr, IfSome, InPageOrder, is_some, IsAlone, IsLaid, IsReadable, IsServed, IsSound, IsWritable, KeeperView, leaving, length, lies_on, List, lying, MakesSteps, MatchBool, May, moved, MovePage, nat_le, NoFrame, None, not, Ok, on_its_own, Option, ordered_with, PAGE_WORDS, PagesView, Performs, Placed, Provides, puts, refl, Register, Resettled, Resettles, Result, rewriting, Row, row_at, same_page, same_page_refl, shared_state, Some, sound_after, state_of, stepped, Store, stored, Sub, subst, sym, true, view_of, with_row, without_page, ℕ, ◌++◌, ◌<◌, ◌==◌, ◌∙◌, ◌∷◌, ◌≡◌, map_fixed, without_between, pages_ordered, absent_parts, find_put, filter_passes, cond, if◌then◌else◌, Held, IsHeld, HasNewFrame}
 use Rattle.std.proofs.lemmas.Bool.{eq-eqb}
 use Rattle.ksm_base.specs.declared.row.PageState.TheVariants.{Private}
 use Rattle.ksm_book.proofs.ByPage.{at_changed, change_twice, found_page, lies_again, lies_still, row_of_page}
@@ -20,11 +20,11 @@ Carries p k q l cursor passes command answer = IsCarried (book p k cursor passes
 
 -- a command that was carried out leaves a sound state
 pub sound_carried : {v w : BookView} {command : Command} {answer : Answer} → IsSound v.state → IsCarried v w command answer → IsSound w.state
-sound_carried {v} {w} {command} {answer} s h = subst IsSound (sym h.state) (sound_after _ command answer s h.answer)
+sound_carried {v} {w} {command} {answer} s h = grind (arith, h.state, sound_after)
 
 -- a command carried out from one book value was carried out from an equal one, and so was an equal command
 pub carried_so : {old now : BookValue} {w : BookView} {by given : Command} {answer : Answer} → old ≡ now → by ≡ given → IsCarried (view_of old) w by answer → IsCarried (view_of now) w given answer
-carried_so {w = w} {answer = answer} same told h = subst (λ (z : BookValue × Command). IsCarried (view_of z.0) w z.1 answer) (λ t. (same t, told t)) h
+carried_so {w = w} {answer = answer} same told h = grind (arith, same, told, h)
 
 -- the row of a page is found by the page that was told of it
 pub row_held : {p : PagesView} {page : GuestPage} {held : Held} (h : IsHeld p page held) → row_at held.spot.page p.rows ≡ Some h.row
@@ -53,7 +53,7 @@ settled_then {p} {m} {q} {k} {l} {page} {node} {bytes} {row} h rise found r d ch
     } in (
       pages,
       subst (λ (z : Frames × GuestPage). Resettles (lying p k) (record { frame = z.0; keeper = l }) z.1 node bytes)
-          (λ t. (sym frame t, sym (found_page _ p.rows row found) t)) r.resettles,
+          (grind (arith, frame, found_page)) r.resettles,
       rw pages (record {
         small = h.small;
         same = shape_same _ k l h.same (resettles_own r.resettles);
@@ -71,7 +71,7 @@ pub may_read : {p : PagesView} {k : KeeperView} → IsLaid p k → (page : Guest
     → (g < frames_of k.table.shape) × IsReadable (frame_at k.ledger g).kind × (length (frame_at k.ledger g).content ≡ PAGE_WORDS) × ((frame_at k.ledger g).content ≡ row.bytes)
 may_read {p} {k} h page row found g lies =
     let served = subst (IsServed p.shape k.ledger p.dups row) lies (served_at h.placed _ row found) in
-    (rw h.same served.0.frame, readable _ _ served.0.mapped served.0.kind, h.placed.widths g, served.0.content)
+    (rw h.same served.0.frame, readable _ served.0.mapped served.0.kind, h.placed.widths g, served.0.content)
 
 -- what is true anyway is true of each error of a result
 pub if_err : {T E : Type 0} (r : Result T E) (P : Type 0) → P → IfErr r (λ _. P)
@@ -91,9 +91,8 @@ pub own_ready : {p : PagesView} {k : KeeperView} → IsLaid p k → (page : Gues
     → (g < frames_of k.table.shape) × (g < length k.ledger.frames) × IsWritable (frame_at k.ledger g).kind × (length (frame_at k.ledger g).content ≡ PAGE_WORDS)
 own_ready {p} {k} h page row found alone g lies =
     let served = subst (IsServed p.shape k.ledger p.dups row) lies (served_at h.placed _ row found) in
-    let inside = served.0.frame in
     let long = h.placed.frames_long in
-    (rw h.same inside, omega arith, subst IsWritable (sym (served.0.kind ∙ own_kind _ alone)) tt, h.placed.widths g)
+    (rw h.same served.0.frame, omega arith, grind (arith, served.0.kind, own_kind, tt), h.placed.widths g)
 
 module _ (p : PagesView) (k l : KeeperView) (cursor : Option GuestPage) (passes : ℕ) (page : GuestPage) (bytes : List ℕ) (row : Row) (found : row_at page p.rows ≡ Some row) (table : l.table ≡ k.table) where
   module _ (q : PagesView) (state : state_of q cursor passes ≡ record (state_of p cursor passes) { rows = change_row page (stored bytes) p.rows }) where
@@ -112,7 +111,7 @@ module _ (p : PagesView) (k l : KeeperView) (cursor : Option GuestPage) (passes 
       → IsCarried (book p k cursor passes) (book q l cursor passes) (Store page bytes) (Ok Done)
   store_written q g goes alone lies wrote =
       stores q (rw goes) false alone (record {
-        made = subst (λ f. MakesSteps k l (steps_of (puts f 0 bytes))) (sym (ap (frame_on p.frame) (found_page _ _ row found) ∙ ap frame_number lies)) (made_part k l _ wrote);
+        made = grind (arith, found_page, lies, made_part);
         frame = rw goes;
       })
 
@@ -128,7 +127,7 @@ module _ (p : PagesView) (k l : KeeperView) (cursor : Option GuestPage) (passes 
 
 -- a change that leaves the rows of a page as they are changes nothing
 pub change_still : (page : GuestPage) (f : Row → Row) (rows : List Row) → All (λ r. same_page r.page page ≡ true → f r ≡ r) rows → change_row page f rows ≡ rows
-change_still page f rows still = grind (arith, nat_tests, still, map_fixed)
+change_still page f rows still = grind (arith, still, map_fixed)
 
 -- a node that is there is not told as none
 pub there_is : (nodes node : ℕ) → node < nodes → nat_le nodes node ≡ false
@@ -192,7 +191,7 @@ module _ {p : PagesView} {k : KeeperView} (h : IsLaid p k) (rise : InPageOrder p
           state = rw goes;
           steps = record { made = leaves; frame = rw goes };
         },
-        rw goes (laid_rows h _ _ _ l table (left_spends _ leaves) (left_placed _ leaves gone_hand)),
+        rw goes (laid_rows h l table (left_spends _ leaves) (left_placed _ leaves gone_hand)),
       )
 
 -- ---------------------------------------------------------------- a page that comes
@@ -207,9 +206,9 @@ without_come row rows rise absent =
     ∙ sym (absent_parts pages_ordered (λ (r : Row). r.page) row.page _ rise absent)
 
 -- `Register` of a page without a row is refused with nothing changed, where a search for a frame finds none by no step
-pub register_refused : (p : PagesView) (k : KeeperView) (cursor : Option GuestPage) (passes : ℕ) (page : GuestPage) (node : ℕ) (bytes : List ℕ) → node < p.shape.nodes → row_at page p.rows ≡ None
+pub register_refused : (p : PagesView) {k : KeeperView} {cursor : Option GuestPage} {passes : ℕ} {page : GuestPage} {node : ℕ} {bytes : List ℕ} → node < p.shape.nodes → row_at page p.rows ≡ None
     → FindsNone k k node → IsCarried (book p k cursor passes) (book p k cursor passes) (Register page node bytes) (Err (NoFrame node))
-register_refused p k cursor passes page node bytes less absent searched = record {
+register_refused p {node = node} less absent searched = record {
   own = refl;
   answer = rw (there_is p.shape.nodes node less, absent) refl;
   state = refl;
@@ -254,14 +253,13 @@ module _ {p m : PagesView} {page : GuestPage} {node : ℕ} {bytes : List ℕ} (n
           state = rw there;
           steps = record { got = g; provides = provides; frame = rw there };
         },
-        rw there (laid_rows h _ _ _ l table taken.spent (come_there h.same taken h.placed _ new.absent refl refl refl)),
+        rw there (laid_rows h l table taken.spent (come_there h.same taken h.placed _ new.absent refl refl refl)),
       )
 
   -- `Register` is refused, and all lies lawfully, where no frame of the node was left and the page went again
   pub register_turned : {k l : KeeperView} (h : IsLaid p k) (cursor : Option GuestPage) (passes : ℕ) (q : PagesView) → p.frame page ≡ None → q ≡ record m { rows = without_page page m.rows; frame = lies_on page None m.frame } → FindsNone k l node
       → Carries p k q l cursor passes (Register page node bytes) (Err (NoFrame node))
   register_turned {l = l} h cursor passes q nowhere_there goes searched =
-      let turns = turned h new.less searched in
       let table = ap (λ (z : KeeperView). z.table) searched.reaped.after in
       let rows = without_come _ _ new.rise new.absent in
       let frame = ap (lies_on page None) new.others ∙ lies_again _ _ None _ ∙ lies_still _ None _ nowhere_there in
@@ -269,8 +267,8 @@ module _ {p m : PagesView} {page : GuestPage} {node : ℕ} {bytes : List ℕ} (n
         record {
           own = table;
           answer = rw (there_is p.shape.nodes node new.less, new.absent) refl;
-          state = ap (λ x. state_of x cursor passes) back;
+          state = grind (arith, back);
           steps = record { searched = searched; frame = rw back };
         },
-        rw back (laid_rows h _ _ _ l table (searched_spends _ searched.reaped) turns.laid.placed),
+        rw back (laid_rows h l table (searched_spends _ searched.reaped) (turned h new.less searched).laid.placed),
       )

@@ -1,5 +1,5 @@
 -- The frames of dups with items in a lawful placement.
-use Rattle.ksm_book.proofs.Names.{find_passes, [], ap, arith, Bool, DupRow, empty_from, find, find_all, frame_at, Frames, get_or, InPlaceOrder, IsInLife, IsServed, item_count, kind_for, Ledger, length, List, merged_into, nat_tests, None, place_frame, Placed, Row, Shape, Some, Stable, true, zero_state, ℕ, ◌+◌, ◌<◌, ◌∙◌, ◌∷◌, ◌≡◌, ◌≢◌, ◌≤◌}
+use Rattle.ksm_book.proofs.Names.{find_passes, [], ap, arith, Bool, DupRow, empty_from, find, find_all, frame_at, Frames, get_or, InPlaceOrder, IsInLife, IsServed, item_count, kind_for, Ledger, length, List, merged_into, None, place_frame, Placed, Row, Shape, Some, Stable, true, zero_state, ℕ, ◌+◌, ◌<◌, ◌∙◌, ◌∷◌, ◌≡◌, ◌≢◌, ◌≤◌}
 use Rattle.ksm_book.proofs.Moves.{framed}
 use Rattle.ksm_book.proofs.Sharing.{first_found, state_of_item}
 
@@ -47,7 +47,7 @@ module _ {sh : Shape} {across : ℕ} {k : Ledger} {rows : List Row} {frame : Fra
   -- two dups with items on one frame have one number
   one_number : (n m : ℕ) (d : DupRow) → n < length dups → m < length dups → Lives k dups sh rows frame (get_or dups n d) → Lives k dups sh rows frame (get_or dups m d)
       → place_frame k (get_or dups n d).place ≡ place_frame k (get_or dups m d).place → (get_or dups m d).number ≡ (get_or dups n d).number
-  one_number n m d lt lt' a b same = grind (arith, nat_tests, state_of_item)
+  one_number n m d lt lt' a b same = grind (arith, state_of_item)
 
   -- the frames of dups with items differ, and none of them is a page's own
   module _ (rise : InPlaceOrder dups) where
@@ -62,6 +62,4 @@ module _ {sh : Shape} {across : ℕ} {k : Ledger} {rows : List Row} {frame : Fra
 -- from p on there are at most as many places taken as dups
 pub empty_from_most : (p : ℕ) (dups : List DupRow) → empty_from p dups ≤ p + length dups
 empty_from_most p [] = omega arith
-empty_from_most p (d ∷ ds) =
-    let rest = empty_from_most (p + 1) ds in
-    grind arith
+empty_from_most p (d ∷ ds) = grind (arith, empty_from_most (p + 1) ds)

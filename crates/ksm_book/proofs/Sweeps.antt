@@ -1,13 +1,13 @@
 -- The dying frames of a range, one after another.
-use Rattle.ksm_book.proofs.Names.{[], ap, append-nil, arith, Bool, Dying, dying_from, dying_kind, false, filter-append, frame_at, Kind, Ledger, NoneOf, Note, range_with_len, suc, sym, true, zero, ℕ, ◌++◌, ◌+◌, ◌-◌, ◌<◌, ◌∙◌, ◌∷◌, ◌≡◌, ◌≤◌, if◌then◌else◌, nat_tests}
+use Rattle.ksm_book.proofs.Names.{[], ap, append-nil, arith, Bool, Dying, dying_from, dying_kind, false, filter-append, frame_at, Kind, Ledger, NoneOf, range_with_len, suc, true, zero, ℕ, ◌++◌, ◌+◌, ◌-◌, ◌<◌, ◌∙◌, ◌∷◌, ◌≡◌, ◌≤◌, if◌then◌else◌}
 
 -- a kind that tests as dying is Dying
-pub is_dying_kind : (x : Kind) → dying_kind x ≡ true → x ≡ Dying
-is_dying_kind x e = grind arith
+pub is_dying_kind : {x : Kind} → dying_kind x ≡ true → x ≡ Dying
+is_dying_kind e = grind arith
 
 -- one frame more is looked at
 range_more : (low n : ℕ) → range_with_len low (n + 1) ≡ range_with_len low n ++ (low + n) ∷ []
-range_more low zero = grind (arith, nat_tests)
+range_more low zero = grind arith
 range_more low (suc n) = grind (arith, range_more (low + 1) n)
 
 module _ (k : Ledger) (low : ℕ) where
@@ -15,7 +15,7 @@ module _ (k : Ledger) (low : ℕ) where
   dies f = dying_kind (frame_at k f).kind
 
   dying_more : (n : ℕ) (b : Bool) → dies (low + n) ≡ b → dying_from k low (n + 1) ≡ dying_from k low n ++ (if b then (low + n) ∷ [] else [])
-  dying_more n b is = grind (arith, nat_tests, range_more low n, filter-append dies (range_with_len low n) ((low + n) ∷ []))
+  dying_more n b is = grind (arith, range_more low n, filter-append dies (range_with_len low n) ((low + n) ∷ []))
 
   dying_past : (n m : ℕ) → ((f : ℕ) → low + n ≤ f → f < low + n + m → dies f ≡ false) → dying_from k low (n + m) ≡ dying_from k low n
   dying_past n zero none = ap (dying_from k low) (omega arith)
@@ -30,15 +30,12 @@ module _ (k : Ledger) (low : ℕ) where
     pub passed : (to : ℕ) → from ≤ to → NoneOf dying_kind k' from to → dying_from k low (to - low) ≡ dying_from k low (from - low)
     passed to further none =
         let e : to - low ≡ from - low + (to - from) = omega arith in
-        ap (dying_from k low) e ∙ dying_past _ _ (λ f ge lt.
-        let there : from ≤ f = omega arith in
-        rw (← later f there) (none f there (omega arith)))
+        grind (arith, e, dying_past)
 
     -- where the next dying frame is `to`, the dying frames up to it are those up to `from`, and then it
     pub next_reaped : (to : ℕ) → from ≤ to → NoneOf dying_kind k' from to → dying_kind (frame_at k' to).kind ≡ true
         → dying_from k low (to + 1 - low) ≡ dying_from k low (from - low) ++ to ∷ []
     next_reaped to further none there =
         let at : low + (to - low) ≡ to = omega arith in
-        ap (dying_from k low) (omega arith)
-        ∙ dying_more _ true (ap dies at ∙ ap (λ (x : Note). dying_kind x.kind) (sym (later to further)) ∙ there)
+        ap (dying_from k low) (omega arith) ∙ dying_more _ true (grind (arith, at, later to further, there))
         ∙ (λ i. passed to further none i ++ at i ∷ [])

@@ -1,5 +1,5 @@
 -- Pages that leave their dups, or the zero page, one after another.
-use Rattle.ksm_book.proofs.Names.{[], All, and-true, ap, append-nil, arith, Bool, change_row, change_rows, cond-false, cond-true, cond_both, false, Fault, filter, filter-append, filter_none, find, GuestPage, HasLeft, Held, inl, InPageOrder, inr, is_next, is_of, is_shared_of, is_some, IsAlone, IsHeld, IsKnown, IsLaid, KeeperView, left_by, length, length-append, let_go, List, lying, Mapped, MayNotLeave, NoFrame, None, not, not-false, not-true, of_guest, on_its_own, Option, option_map, PagesView, refl, Resettled, ResettlesEach, Row, row_at, same_page, same_Some, shared_of, shared_state, slice_get, Some, subst, suc, sym, take, take-append_seam, true, Unshares, ℕ, ◌&&◌, ◌++◌, ◌+◌, ◌<◌, ◌∙◌, ◌∷◌, ◌≡◌, ◌≤◌, if◌then◌else◌, Contains-append_right, nat_tests}
+use Rattle.ksm_book.proofs.Names.{[], All, and-true, ap, append-nil, arith, Bool, change_row, change_rows, cond-false, cond-true, cond_both, false, Fault, filter, filter-append, filter_none, find, GuestPage, HasLeft, Held, inl, InPageOrder, inr, is_next, is_of, is_shared_of, is_some, IsAlone, IsHeld, IsKnown, IsLaid, KeeperView, left_by, length, length-append, let_go, List, lying, Mapped, MayNotLeave, NoFrame, None, not, not-false, not-true, of_guest, on_its_own, Option, option_map, PagesView, refl, Resettled, ResettlesEach, Row, row_at, same_page, same_Some, shared_of, shared_state, slice_get, Some, subst, suc, sym, take, take-append_seam, true, Unshares, ℕ, ◌&&◌, ◌++◌, ◌+◌, ◌<◌, ◌∙◌, ◌∷◌, ◌≡◌, ◌≤◌, if◌then◌else◌, Contains-append_right}
 use Rattle.ksm_base.proofs.Edits.{count_more}
 use Rattle.ksm_base.specs.Counting.{mergeable_count}
 use Rattle.ksm_base.specs.declared.row.PageState.TheVariants.{Private}
@@ -24,7 +24,7 @@ stay_in_scan test (r ∷ rows) all = by _ refl (stay_in_scan test rows)
 
     by : (m : Bool) → r.mergeable ≡ m → (mergeable_count rows ≡ length rows → rows ≡ change_rows test (λ s. record s { mergeable = true }) rows)
         → r ∷ rows ≡ change_rows test (λ s. record s { mergeable = true }) (r ∷ rows)
-    by true is rest = grind (arith, nat_tests, sum)
+    by true is rest = grind (arith, sum)
     by false is rest = absurd (omega (arith, sum, ap one_if is, count_by-le-length (λ s. s.mergeable) rows))
 
 -- a row that is left keeps its page
@@ -71,14 +71,14 @@ module _ {p : PagesView} {k : KeeperView} (guest : Option ℕ) {page : GuestPage
           row = row;
           found = told.found;
           given = ap length (sym none);
-          pages = goes ∙ (λ t. record p { rows = change_row page (left_by guest) p.rows; frame = sym frame t; restless = q.restless });
+          pages = grind (arith, goes, frame);
           steps = rw none (record { keeper = refl; frame = frame });
           laid = rw goes (laid_changed h _ row _ _ rise told.found (page_left _) (lodges _));
         }
 
     -- a row with a frame of its own is left as it is where all pages are asked for
     pub left_still : is_some guest ≡ false → HasLeft p p k k guest page 0
-    left_still none = left_own p (λ t. record p { rows = sym same t })
+    left_still none = left_own p (grind (arith, same))
       where
         same : change_row page (left_by guest) p.rows ≡ p.rows
         same = rw (any_left _ none) (change_still _ _ _ (λ i d lt is. rw (one i d lt is) still))
@@ -109,7 +109,7 @@ module _ {p : PagesView} {k : KeeperView} (guest : Option ℕ) {page : GuestPage
         → ((x : Row) → shared_state x.state ≡ true → d (on_its_own x) ≡ left_by guest x) → (d (on_its_own row)).state ≡ Private
         → (d (on_its_own row)).home ≡ row.home → (d (on_its_own row)).bytes ≡ row.bytes → HasLeft p q k l guest page 1
     left_shared q d goes same state home content =
-        let wrote = same_Some _ _ (sym are ∙ ap (option_map (λ (x : Row). x.bytes)) told.found) in
+        let wrote = same_Some _ _ (grind (arith, are, told.found)) in
         let got = subst (λ (z : ℕ × List ℕ). Resettled p m k l page z.0 z.1) (λ t. (told.home t, wrote t)) r in
         let all = cond-true _ _ [] shared in
         let to = same row shared in
@@ -139,8 +139,7 @@ module _ {p : PagesView} {k : KeeperView} (guest : Option ℕ) {page : GuestPage
 
 -- rows that are resettled after others
 each_then : (xs ys : List Row) (u v w : Mapped) → ResettlesEach xs u v → ResettlesEach ys v w → ResettlesEach (xs ++ ys) u w
-each_then [] ys u v w idle more =
-    subst (λ (x : Mapped). ResettlesEach ys x w) (λ t. record { frame = idle.frame t; keeper = idle.keeper t }) more
+each_then [] ys u v w idle more = grind (arith, idle.frame, idle.keeper, more)
 each_then (x ∷ xs) ys u v w (between, first, others) more = (between, first, each_then xs ys between v w others more)
 
 -- so many pages of the guest, or of all, got frames of their own; the cursor is behind the last page that was looked at
@@ -195,7 +194,7 @@ module _ {p q : PagesView} {k l : KeeperView} {guest : Option ℕ} {count : ℕ}
         let here = Contains-append_right cut.before _ r (0, omega arith, refl) in
         let at = subst fits here.2 (subst (All fits) cut.whole homes here.0 r here.1) in
         let home = h.home ∙ ap (λ (x : Row). x.home) (same_Some _ r (sym h.found ∙ cut.there)) in
-        subst (λ (z : ℕ × ℕ). z.0 < z.1) (λ t. (sym home t, (sym u.pages t).shape.nodes)) at
+        subst (λ (z : ℕ × ℕ). z.0 < z.1) (grind (arith, home, u.pages)) at
 
     -- once the next page was left too, so many pages more got frames of their own, up to that page
     pub unsharing_next : {v : PagesView} {w : KeeperView} {given : ℕ} → HasLeft q v l w guest page given → FitsPage (Some page)
@@ -204,14 +203,14 @@ module _ {p q : PagesView} {k l : KeeperView} {guest : Option ℕ} {count : ℕ}
         let e = same_Some _ r (sym h.found ∙ cut.there) in
         let rows = ap (λ (x : PagesView). x.rows) h.pages in
         let more = filter-append (is_shared_of guest) cut.before (r ∷ [])
-        ∙ (λ t. met_before t ++ (if cut.of t && shared_state r.state then r ∷ [] else [])) ∙ ap (λ x. met ++ shared_of x) (sym e) in
+        ∙ (grind (arith, met_before, cut.of)) ∙ ap (λ x. met ++ shared_of x) (sym e) in
         record {
           done = cut.before ++ r ∷ [];
           left = cut.rest;
           along = rw rows
               cut.next;
-          pages = h.pages ∙ (λ t. record (u.pages t) { rows = sym rows t; frame = v.frame; restless = v.restless });
-          counted = (λ t. u.counted t + h.given t) ∙ sym (length-append met (shared_of h.row)) ∙ ap length (sym more);
+          pages = grind (arith, h.pages, u.pages, rows);
+          counted = grind (arith, u.counted, h.given, length-append met (shared_of h.row), more);
           each = rw more (each_then met _ _ _ _ u.each h.steps);
           laid = h.laid;
           few =
@@ -238,12 +237,8 @@ module _ {p q : PagesView} {k l : KeeperView} {guest : Option ℕ} {count : ℕ}
         record {
           at = Some r;
           fault = ap Some (h.says ∙ ap NoFrame home);
-          stands = rw all (ap (slice_get (met ++ r ∷ later)) u.counted ∙ get_seam met r _);
-          pages = h.turned.pages ∙ u.pages ∙ (λ t. record p {
-            rows = cut.stop t;
-            frame = ap (λ (x : PagesView). x.frame) (sym h.turned.pages) t;
-            restless = ap (λ (x : PagesView). x.restless) (sym h.turned.pages) t;
-          });
+          stands = rw all (grind (arith, u.counted, get_seam));
+          pages = grind (arith, h.turned.pages, u.pages, cut.stop);
           unmerges = rw h.says (lying q l, rw (← taken) u.each, h.turned.turns);
           laid = h.turned.laid;
         }
@@ -265,7 +260,7 @@ module _ {p q : PagesView} {k l : KeeperView} {guest : Option ℕ} {count : ℕ}
         stands = u.counted ∙ ap length (sym all);
         pages =
             let rows = done.0 ∙ (λ i. change_rows (λ r. sym (and-true (of_guest guest r)) i) (left_by guest) p.rows) in
-            u.pages ∙ (λ t. record p { rows = rows t; frame = q.frame; restless = q.restless });
+            grind (arith, u.pages, rows);
         unmerges = rw (← taken) u.each;
         laid = u.laid;
       }
@@ -305,11 +300,10 @@ module _ {p q : PagesView} {guest : ℕ} {last : Option GuestPage} (u : IsMarkin
           done = at.before ++ at.row ∷ [];
           left = at.rest;
           along = rw rows at.next;
-          pages = goes ∙ (λ t. record (u.pages t) { rows = sym rows t; restless = v.restless });
+          pages = grind (arith, goes, u.pages, rows);
           fits = fits;
         }
 
   -- where no page of the guest is left, all its rows are mergeable
   pub marking_end : find (is_next (Some guest) last) q.rows ≡ None → q ≡ record p { rows = change_rows (is_of guest) in_scan p.rows; restless = q.restless }
-  marking_end ended =
-      let done = along_end _ (λ _. refl) u.along ended in u.pages ∙ (λ t. record p { rows = done.0 t; restless = q.restless })
+  marking_end ended = grind (arith, u.pages, (along_end _ (λ _. refl) u.along ended).0)

@@ -29,10 +29,10 @@ has_told p guest o told = any_found (is_of guest) p.rows ∙ (λ i. is_some (fin
     by o none = grind arith
 
 -- `Unmerge` of a guest without a row is refused, and nothing changes
-pub unmerge_refused : (p : PagesView) (k : KeeperView) (cursor : Option GuestPage) (passes guest : ℕ)
+pub unmerge_refused : (p : PagesView) {k : KeeperView} {cursor : Option GuestPage} {passes guest : ℕ}
     → has_guest (state_of p cursor passes) guest ≡ false
     → IsCarried (book p k cursor passes) (book p k cursor passes) (Unmerge guest) (Err UnknownPage)
-unmerge_refused p k cursor passes guest has = record {
+unmerge_refused p has = record {
   own = refl;
   answer = rw has refl;
   state = refl;
@@ -40,10 +40,10 @@ unmerge_refused p k cursor passes guest has = record {
 }
 
 -- `Mergeable` of a guest without a row is refused, and nothing changes
-pub mergeable_refused : (p : PagesView) (k : KeeperView) (cursor : Option GuestPage) (passes guest : ℕ)
+pub mergeable_refused : (p : PagesView) {k : KeeperView} {cursor : Option GuestPage} {passes guest : ℕ}
     → has_guest (state_of p cursor passes) guest ≡ false
     → IsCarried (book p k cursor passes) (book p k cursor passes) (Mergeable guest) (Err UnknownPage)
-mergeable_refused p k cursor passes guest has = record {
+mergeable_refused p has = record {
   own = refl;
   answer = rw has refl;
   state = refl;
@@ -51,10 +51,10 @@ mergeable_refused p k cursor passes guest has = record {
 }
 
 -- `Unmerge` of a guest that has a row is carried out where its shared rows are unshared up to a stop or the end
-pub unmerge_carried : {p q : PagesView} {k l : KeeperView} (cursor : Option GuestPage) (passes : ℕ) {guest count : ℕ} {stop : Option Fault}
+pub unmerge_carried : {p q : PagesView} {k l : KeeperView} {cursor : Option GuestPage} {passes : ℕ} {guest count : ℕ} {stop : Option Fault}
     → Unshares p q k l (Some guest) count stop → has_guest (state_of p cursor passes) guest ≡ true
     → IsCarried (book p k cursor passes) (book q l cursor passes) (Unmerge guest) (Ok (Unmerged count stop))
-unmerge_carried {p} {q} {k} {l} cursor passes {guest} {count} {stop} u has =
+unmerge_carried {p} {q} {k} {l} {cursor} {passes} {guest} {count} {stop} u has =
     let rows = shared_rows (is_of guest) (state_of p cursor passes) in
     record {
       own = unshares_own u;
@@ -117,10 +117,8 @@ module _ {p m : PagesView} {k l : KeeperView} (cursor : Option GuestPage) (passe
   unshare_stops some {q} goes =
       let rows = stopped_rows u.at p.rows
       ∙ ap (λ o. change_rows (λ r. shared_state r.state && is_before o r) unshared p.rows) (sym (stop_is met _ _ u.stands)) in (
-        carried q _ (rw goes) (rw goes
-            ((λ t. record (state_of (u.pages t) cursor passes) { knobs = record (same t) { run = 0 } })
-            ∙ (λ t. record b { rows = rows t; knobs = record p.knobs { run = 0 } }) ∙ by _ some)),
-        rw goes (retuned _ (inl across) u.laid),
+        carried q _ (rw goes) (rw goes (grind (arith, u.pages, same, rows, by))),
+        rw goes (retuned (inl across) u.laid),
       )
     where
       by : (s : Option Fault) → is_some s ≡ true → record b {
@@ -152,7 +150,7 @@ module _ {p m : PagesView} {k l : KeeperView} (cursor : Option GuestPage) (passe
               (rw goes
               ((λ t. record (state_of (wide t) None passes) { knobs = record knobs { run = 2 } })
               ∙ (λ t. record (state_of (u.pages t) None passes) { rows = rows t; knobs = record (same t) { run = 2 } }) ∙ by _ none)),
-          rw goes (retuned _ (inl (across ∙ sym (ap (λ (x : PagesView). x.knobs.merge_across_nodes) wide)))
+          rw goes (retuned (inl (across ∙ sym (ap (λ (x : PagesView). x.knobs.merge_across_nodes) wide)))
               (subst (λ (x : PagesView). IsLaid x l) (sym wide)
               (laid_mapped u.laid _ _ (λ r. refl) (λ i d lt. (refl, refl, inr (unshare_none i d lt, refl)))))),
         )

@@ -1,5 +1,5 @@
 -- A place is emptied, and the dup that stood there goes.
-use Rattle.ksm_book.proofs.Names.{not-true, both_ways, Agrees, All, All-filter, ap, arith, DupFits, DupRow, elsewhere, eq-eqb, filter, filter_passes, frame_at, Frames, frames_of, get_or, get_or-set_other, get_or-set_same, is_some, IsInLife, Ledger, length-set, life_or, List, named_at, ne_eqb, None, not, Option, place_frame, Placed, refl, Row, set, Shape, subst, sym, true, ℕ, ◌<◌, ◌==◌, ◌∙◌, ◌≡◌, ◌≢◌, ◌≤◌}
+use Rattle.ksm_book.proofs.Names.{not-true, both_ways, Agrees, All, All-filter, ap, arith, DupFits, DupRow, elsewhere, eq-eqb, filter, filter_passes, Frames, frames_of, get_or, get_or-set_other, get_or-set_same, is_some, IsInLife, Ledger, length-set, List, named_at, ne_eqb, None, not, Option, place_frame, Placed, refl, Row, set, Shape, subst, sym, true, ℕ, ◌<◌, ◌==◌, ◌∙◌, ◌≡◌, ◌≢◌}
 use mathlib.Core.Logic.{dite}
 use native.Mathlib.Decide.{ℕ_discrete}
 use Rattle.ksm_base.proofs.Changes.{contains_filter}
@@ -20,13 +20,13 @@ module _ {sh : Shape} {across : ℕ} {k : Ledger} {rows : List Row} {frame : Fra
   named_off r ne = get_or-set_other k.places q r None None ne
 
   frame_off : (e : DupRow) → e.place ≢ q → place_frame emptied e.place ≡ place_frame k e.place
-  frame_off e ne = ap (λ x. (life_or x).frame) (named_off _ ne)
+  frame_off e ne = grind (arith, named_off)
 
   off : (e : DupRow) → e.place ≢ q → IsInLife emptied e.place → IsInLife k e.place
-  off e ne l = ap (λ h. (frame_at k h).generation) (sym (frame_off e ne)) ∙ l ∙ ap (λ x. (life_or x).generation) (named_off _ ne)
+  off e ne l = grind (arith, frame_off e ne, l, named_off)
 
   on : (e : DupRow) → e.place ≢ q → IsInLife k e.place → IsInLife emptied e.place
-  on e ne l = ap (λ h. (frame_at k h).generation) (frame_off e ne) ∙ l ∙ ap (λ x. (life_or x).generation) (sym (named_off _ ne))
+  on e ne l = grind (arith, frame_off e ne, l, named_off)
 
   -- what holds of each dup is said of those that stay
   staying : (P Q : DupRow → Type 0) → ((d : DupRow) → d.place ≢ q → P d → Q d) → All P dups → All Q (filter (elsewhere q) dups)
@@ -55,7 +55,7 @@ module _ {sh : Shape} {across : ℕ} {k : Ledger} {rows : List Row} {frame : Fra
       place = m.place;
       named = ap is_some (named_off _ ne) ∙ m.named;
       frame = rw (frame_off e ne) m.frame;
-      life = subst (λ (y : Option _). (life_or y).generation ≤ (frame_at k (life_or y).frame).generation) (sym (named_off _ ne)) m.life;
+      life = grind (arith, named_off, m.life);
       content = λ life. rw (frame_off e ne) (m.content (off e ne life));
       shown = λ life own. m.shown (off e ne life) (rw (← frame_off e ne) own);
       node = λ z. rw (frame_off e ne) (m.node z);
@@ -63,7 +63,7 @@ module _ {sh : Shape} {across : ℕ} {k : Ledger} {rows : List Row} {frame : Fra
     bases = p.bases;
     kinds = p.kinds;
     empty = λ r h. dite (ℕ_discrete r q)
-        (λ e. ap (named_at emptied) e ∙ get_or-set_same k.places q None None (let pl = p.places_long in omega arith))
+        (λ e. ap (named_at emptied) e ∙ get_or-set_same k.places q None None (omega (arith, p.places_long)))
         (λ ne. named_off r ne ∙ p.empty r (λ n x lt same.
         let at = contains_filter _ _ _ (Contains-get_or _ n x lt) (elsewhere_so q (get_or dups n x) (λ at. ne (sym same ∙ at))) in
         subst (λ (e : DupRow). e.place ≢ r) at.2 (h at.0 (get_or dups n x) at.1) same));

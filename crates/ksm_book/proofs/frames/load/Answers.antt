@@ -1,4 +1,4 @@
-use Rattle.ksm_book.proofs.Names.{ap, arith, did, frame_at, length, set, slice_index, sym, Word, ◌<◌, ◌∙◌}
+use Rattle.ksm_book.proofs.Names.{ap, arith, frame_at, length, slice_index, ◌<◌, ◌∙◌}
 use Rattle.ksm_book.proofs.Made.{along_one, word_written}
 use Rattle.ksm_book.proofs.frames.load.Goals as goal
 
@@ -10,7 +10,7 @@ loop-i-preserved c =
     let lt : i < length (frame_at v.ledger c.args.frame).content = omega arith in
     let found = c.word.ensures.content ∙ ap (λ k. slice_index (frame_at k c.args.frame).content i) c.loop-i.invariant.ledger in
     record {
-      loaded = along_one _ v w _ i _ lt c.loop-i.invariant.loaded (c.word.ensures.step ∙ ap (did w (Word c.args.frame i)) found);
+      loaded = along_one _ v w _ i _ lt c.loop-i.invariant.loaded (grind (arith, c.word.ensures.step, found));
       ledger = rw c.word.ensures.step c.loop-i.invariant.ledger;
-      bytes = (λ t. set (c.loop-i.invariant.bytes t) i (found t)) ∙ word_written _ _ i (sym c.requires.wide) lt;
+      bytes = grind (arith, c.loop-i.invariant.bytes, found, word_written);
     }

@@ -19,7 +19,7 @@ returns-clause-ledger c =
     let opens = follow k g may.known _ opened (rw c.open.ensures) writes in
     let adds = follow k g may.known _ (λ x. with_more x (c.args.count - 1)) c.add_times.ensures.ledger opens in
     let full = with_more (opened (holding (raised (frame_at k g)) c.load-bytes.result)) (c.args.count - 1) in
-    let sum : 1 + (c.args.count - 1) ≡ c.args.count = (let some = may.some in omega arith) in
+    let sum : 1 + (c.args.count - 1) ≡ c.args.count = (omega (arith, may.some)) in
     let words = c.load-bytes.ensures.bytes ∙ words_kept _ _ _ g _ may.free may.dying c.raise.ensures.1 in
     rw (c.publish.ensures, adds)
     ((λ t. record {

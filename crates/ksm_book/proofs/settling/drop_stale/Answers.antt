@@ -13,7 +13,7 @@ stale-preserved c =
     drops_more c.stale.invariant (sym c.in-Some.is ∙ c.stale_place.ensures) _ _ c.withdraw.ensures c.drop_stale.ensures
 
 pub overflow_add-count : goal.overflow_add-count
-overflow_add-count c = let few = drop_few c.stale.invariant (sym c.in-Some.is ∙ c.stale_place.ensures) in omega arith
+overflow_add-count c = omega (arith, drop_few c.stale.invariant (sym c.in-Some.is ∙ c.stale_place.ensures))
 
 pub stale-smaller : goal.stale-smaller
 stale-smaller c =

@@ -1,5 +1,4 @@
-use Rattle.ksm_book.proofs.Names.{arith, is_of, rules, seen, Some, sym, ◌∙◌}
-use Rattle.std.proofs.lemmas.Bool.Decides.{Decides-eqb}
+use Rattle.ksm_book.proofs.Names.{arith, rules, Some}
 use Rattle.ksm_book.proofs.Along.{further, not_far}
 use Rattle.ksm_book.proofs.Unmerged.{marking_end, marking_next, stay_in_scan}
 use Rattle.ksm_book.proofs.unmerging.make_mergeable.Goals as goal
@@ -18,8 +17,4 @@ pub returns : goal.returns
 returns c = marking_end c.pages.invariant c.in_default.ensures
 
 pub returns-then-all_mergeable : goal.returns-then-all_mergeable
-returns-then-all_mergeable c =
-    let rows = c.args.pages.now.rows in
-    λ i. record (seen c.args.pages.now) {
-      rows = stay_in_scan (is_of c.args.guest) _ ((Decides-eqb _ _).0 (sym c.all_mergeable.ensures ∙ c.if-all_mergeable.true)) i;
-    }
+returns-then-all_mergeable c = grind (arith, stay_in_scan, c.args.pages.now.rows)

@@ -1,4 +1,4 @@
-use Rattle.ksm_book.proofs.Names.{after_cursor, All, ap, DueView, false, subst, sym, ◌∙◌, ◌≡◌}
+use Rattle.ksm_book.proofs.Names.{ap, DueView, subst, sym, ◌∙◌, ◌≡◌, arith}
 use Rattle.ksm_book.proofs.Dues.{first_found, none_added, pages_in, TellsFirst}
 use Rattle.ksm_book.proofs.due.Due.after.Goals as goal
 use Rattle.ksm_book.proofs.due.Due.after.Goals.{After-after}
@@ -14,13 +14,8 @@ first c =
     subst (TellsFirst c.args.cursor (pages_in order)) (sym c.after.ensures) (first_found _ _ c.self.invariant)
 
 pub returns-in-Some : goal.returns-in-Some
-returns-in-Some c =
-    rw (← whole _)
-    (subst (TellsFirst c.args.cursor (pages_in c.self.inside.order)) c.in-Some.is
-    (first (goal.at.returns-in-Some c).After-after))
+returns-in-Some c = rw (← whole _) (grind (arith, c.in-Some.is, first (goal.at.returns-in-Some c).After-after))
 
 pub returns-in-None : goal.returns-in-None
 returns-in-None c =
-    subst (All (λ p. after_cursor c.args.cursor p ≡ false)) (whole (goal.at.returns-in-None c).After-after)
-    (subst (TellsFirst c.args.cursor (pages_in c.self.inside.order)) c.in-None.is
-    (first (goal.at.returns-in-None c).After-after))
+    grind (arith, whole (goal.at.returns-in-None c).After-after, c.in-None.is, first (goal.at.returns-in-None c).After-after)

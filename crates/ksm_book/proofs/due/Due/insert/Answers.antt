@@ -1,4 +1,4 @@
-use Rattle.ksm_book.proofs.Names.{ap, DueView, is_some, sym, true, ◌∙◌}
+use Rattle.ksm_book.proofs.Names.{ap, is_some, sym, true, ◌∙◌, arith}
 use Rattle.ksm_pages.specs.Held.{pages_of}
 use Rattle.ksm_pages.specs.declared.named.Named.{Named}
 use Rattle.ksm_book.proofs.Dues.{has_already, has_first, has_found, inserted_has, inserted_rises, pages_in}
@@ -22,5 +22,4 @@ returns-in-Some-clause-added c =
     (has_found page order ∙ ap is_some (sym c.find.ensures ∙ c.in-Some.is))))
 
 pub returns-in-None-clause-added : goal.returns-in-None-clause-added
-returns-in-None-clause-added c =
-    inserted_has _ _ _ _ _ _ (ap (λ (d : DueView). d.pages) c.self.view_is) c.insert.ensures.added
+returns-in-None-clause-added c = inserted_has _ _ _ _ _ _ (grind (arith, c.self.view_is)) c.insert.ensures.added

@@ -21,7 +21,7 @@ stops c from s before =
     let middle = c.in-Err.ensures.stopped.comes from _ (c.close_pass-ahead.ensures.comes from s before) in
     let many = c.stop_at.ensures.many ∙ ap (λ b. length (filter (λ p. comes_before p page) (pages_ahead b))) middle.0
     ∙ ap (λ l. length (filter (λ p. comes_before p page) l)) (stopped_ahead doing doing_beside s at.order _ there) in
-    let less = stopped_fewer doing doing_beside s at.order _ there _ _ c.requires.most
+    let less = stopped_fewer doing doing_beside s at.order _ there _ c.requires.most
     (subst (λ l. EndsAt l c.args.most c.close_pass-ahead.result) at.ahead c.close_pass-ahead.ensures.ahead)
     (rw (← c.last.ensures) c.in-Err.ensures.stopped.within) in (
       omega arith,
@@ -85,13 +85,13 @@ made c from s before = (
 
 -- so one visit was made
 one_made : (c : After-end_passes) → 1 ≤ c.in-End.made
-one_made c = let v = c.args.self.now in let all = made c v _ (begins v) in omega arith
+one_made c = let v = c.args.self.now in omega (arith, made c v _ (begins v))
 
 pub nonzero_div-left : goal.nonzero_div-left
-nonzero_div-left c = let one = one_made ((goal.at.nonzero_div-left c).After-end_passes) in omega arith
+nonzero_div-left c = omega (arith, one_made ((goal.at.nonzero_div-left c).After-end_passes))
 
 pub nonzero_rem-result : goal.nonzero_rem-result
-nonzero_rem-result c = let one = one_made ((goal.at.nonzero_rem-result c).After-end_passes) in omega arith
+nonzero_rem-result c = omega (arith, one_made ((goal.at.nonzero_rem-result c).After-end_passes))
 
 pub returns-else-whole-clause-made : goal.returns-else-whole-clause-made
 returns-else-whole-clause-made c = record {
@@ -115,7 +115,7 @@ returns-then-quiet-clause-due c = λ known.
 
 pub returns-then-quiet-clause-made : goal.returns-then-quiet-clause-made
 returns-then-quiet-clause-made c = record {
-  some = (let one = one_made ((goal.at.returns-then-quiet-clause-made c).After-end_passes) in omega arith);
+  some = (omega (arith, one_made ((goal.at.returns-then-quiet-clause-made c).After-end_passes)));
   fit = omega arith;
   comes = λ from s before.
       let at = closed c.args.self.now c.close_pass-ahead.new.self c.lies_in_order.ensures.rise c.close_pass-ahead.ensures.comes from s before in
@@ -127,7 +127,7 @@ returns-then-quiet-clause-made c = record {
       ≡ c.args.most - (c.args.most - made) % made =
       rw (← all.0) (omega (arith, mul_comm made times, all.0, all.1, c.in-End.ensures.ahead.1)) in
       let none : (visit_begun s.0).cursor ≡ None =
-      begun_cursor s.0 ∙ ap (λ (b : BookState). b.cursor) (sym at.state) ∙ sym c.cursor.ensures ∙ none_of c.cursor.result c.if-whole.ensures in
+      begun_cursor s.0 ∙ ap (λ (b : BookState). b.cursor) (sym at.state) ∙ sym c.cursor.ensures ∙ none_of _ c.if-whole.ensures in
       let still = subst (λ o. IsStill (begun s) (pages_visited doing (begun s) (filter (up_to o) (pages_ahead (visit_begun s.0)))))
       (c.last.ensures ∙ ap last_visited c.in-End.is)
       (begun_still (pass_ended_at_last s.0) s.1 _

@@ -14,5 +14,5 @@ returns c =
       placed = rw (← c.self.view_is) (lie_on b _ sound _ laid.placed c.lie_in_order.ensures.absent);
       place = rw (← c.self.view_is) (finds_place b _ sound _ laid.placed);
       lives = rw (← c.self.view_is) laid.spent;
-      numbers = rw (← c.self.view_is) (λ k d lt. let below = sound.numbers k d lt in let few = spent_most laid in omega arith);
+      numbers = rw (← c.self.view_is) (λ k d lt. omega (arith, sound.numbers k d lt, spent_most laid));
     }

@@ -1,4 +1,4 @@
-use Rattle.ksm_book.proofs.Names.{after_cursor, ap, arith, count_by-le-length, filter_all, GuestPage, length, length-filter, not, refl, sym, ◌∙◌}
+use Rattle.ksm_book.proofs.Names.{after_cursor, arith, count_by-le-length, filter_all, GuestPage, length-filter, not}
 use Rattle.ksm_book.proofs.state.State.listed_to.Goals as goal
 
 pub returns-in-Some-clause-within : goal.returns-in-Some-clause-within
@@ -8,4 +8,4 @@ returns-in-Some-clause-within c =
     omega (arith, length-filter low pages, count_by-le-length low pages)
 
 pub returns-in-None-clause-many : goal.returns-in-None-clause-many
-returns-in-None-clause-many c = c.listed_len.ensures ∙ ap length (sym (filter_all _ _ (λ k d lt. rw c.in-None.is refl)))
+returns-in-None-clause-many c = grind (arith, c.listed_len.ensures, filter_all)

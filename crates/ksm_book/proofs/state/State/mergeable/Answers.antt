@@ -7,7 +7,7 @@ pub returns-then-is_none : goal.returns-then-is_none
 returns-then-is_none c =
     let s = c.self.inside in
     let has = has_told (seen s.pages) c.args.guest _ c.next.ensures ∙ c.if-is_none.ensures in
-    rw (← c.self.view_is) (mergeable_refused (seen s.pages) _ _ _ _ has)
+    rw (← c.self.view_is) (mergeable_refused (seen s.pages) has)
 
 pub invariant_of-self : goal.invariant_of-self
 invariant_of-self c =

@@ -1,4 +1,4 @@
-use Rattle.ksm_book.proofs.Names.{ap, IsCarried, Ok, PagesView, Prune, Pruned, seen, state_of}
+use Rattle.ksm_book.proofs.Names.{IsCarried, Ok, Prune, Pruned, seen, arith}
 use Rattle.ksm_book.proofs.Singles.{book, sound_carried}
 use Rattle.ksm_book.proofs.state.State.prune.Goals as goal
 
@@ -6,7 +6,7 @@ pruned : (c : goal.After-drop_stale-count) → IsCarried (book (seen c.self.insi
 pruned c = record {
   own = rw c.drop_stale-count.ensures.performs.made.after;
   answer = rw c.drop_stale-count.ensures.count;
-  state = ap (λ (p : PagesView). state_of p c.self.inside.cursor c.self.inside.passes) c.drop_stale-count.ensures.pages;
+  state = grind (arith, c.drop_stale-count.ensures.pages);
   steps = c.drop_stale-count.ensures.performs;
 }
 

@@ -1,4 +1,4 @@
-use Rattle.ksm_book.proofs.Names.{rules, ap, option_map, Some, sym, ◌∙◌}
+use Rattle.ksm_book.proofs.Names.{rules, sym, ◌∙◌, arith}
 use Rattle.ksm_book.proofs.Shown.{part_did, quiet_loads}
 use Rattle.ksm_book.proofs.Singles.{may_read}
 use Rattle.ksm_book.proofs.state.State.read.Goals as goal
@@ -11,11 +11,10 @@ load-requires c =
 pub returns-in-Some-clause-bytes : goal.returns-in-Some-clause-bytes
 returns-in-Some-clause-bytes c =
     let there = may_read c.self.invariant.1 _ _ c.in_ok-held.ensures.found _ (sym c.in_ok-held.ensures.frame ∙ c.in-Some.is) in
-    rw (← c.self.view_is)
-    (ap Some (c.load.ensures.bytes ∙ there.3) ∙ sym (ap (option_map (λ r. r.bytes)) c.in_ok-held.ensures.found))
+    rw (← c.self.view_is) (grind (arith, c.load.ensures.bytes, there.3, c.in_ok-held.ensures.found))
 
 pub returns-in-Some-clause-loads : goal.returns-in-Some-clause-loads
 returns-in-Some-clause-loads c =
     let s = c.self.inside in
     rw (← c.self.view_is)
-    (rw (sym c.in_ok-held.ensures.frame ∙ c.in-Some.is) (part_did _ _ _ c.load.ensures.loaded (quiet_loads _ 0 _)))
+    (rw (sym c.in_ok-held.ensures.frame ∙ c.in-Some.is) (part_did _ _ c.load.ensures.loaded (quiet_loads _ 0 _)))

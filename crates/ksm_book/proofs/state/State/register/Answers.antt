@@ -7,7 +7,7 @@ pub returns-then-is_used_up : goal.returns-then-is_used_up
 returns-then-is_used_up c =
     carried_so c.self.view_is refl
     (rw (← ap view_of c.self.view_is)
-    (register_refused (seen c.self.inside.pages) _ _ _ _ _ _ (rw (← c.shape-shape.ensures) c.if-node-shape.false)
+    (register_refused (seen c.self.inside.pages) (rw (← c.shape-shape.ensures) c.if-node-shape.false)
     (none_of _ (sym c.has.ensures ∙ c.if-has.false)) (c.is_used_up.ensures c.if-is_used_up.true)))
 
 -- the page came

@@ -1,4 +1,4 @@
-use Rattle.ksm_book.proofs.Names.{ap, AreDue, arith, BookView, length, mergeable_pages, None, refl, subst, sym, ◌∙◌, ◌≡◌, ◌≤◌, if◌then◌else◌}
+use Rattle.ksm_book.proofs.Names.{arith, BookView, length, mergeable_pages, None, refl, subst, sym, ◌∙◌, ◌≡◌, ◌≤◌}
 use Rattle.ksm_book.proofs.ScanCarried.{any_none, scanned, visits_carried}
 use Rattle.ksm_book.proofs.state.State.scan.Goals as goal
 use Rattle.ksm_book.proofs.state.State.scan.Goals.{After-count_mergeable}
@@ -11,7 +11,7 @@ returns-then-count_mergeable-eq0-clause-carried c =
     let v = c.args.self.now in
     let none = any_none v.state.rows (sym c.count_mergeable.ensures ∙ c.if-count_mergeable-eq0.true) in
     scanned v v _ (running ((goal.at.returns-then-count_mergeable-eq0-clause-carried c).After-count_mergeable)) refl 0 None
-    (ap (λ b. if b then c.args.count else 0) (sym none)) (λ from s before. before)
+    (grind (arith, none)) (λ from s before. before)
 
 pub returns-clause-carried : goal.returns-clause-carried
 returns-clause-carried c =
@@ -19,9 +19,8 @@ returns-clause-carried c =
     let some = subst (λ (v : BookView). 1 ≤ length (mergeable_pages v.state.rows)) (sym view) (omega arith) in
     rw (← view)
     (visits_carried _ _ _
-    (ap (λ (v : BookView). v.state.knobs.run) view ∙ running ((goal.at.returns-clause-carried c).After-count_mergeable)) c.visits.ensures.own
+    (grind (arith, view, running ((goal.at.returns-clause-carried c).After-count_mergeable))) c.visits.ensures.own
     _ some c.visits.ensures.scanned)
 
 pub visits-requires-clause-due : goal.visits-requires-clause-due
-visits-requires-clause-due c = λ known.
-    subst (λ (v : BookView). AreDue v.state c.args.due.now.pages) (sym c.list_restless.ensures.view) (c.requires.due known)
+visits-requires-clause-due c = λ known. grind (arith, c.list_restless.ensures.view, c.requires.due known)

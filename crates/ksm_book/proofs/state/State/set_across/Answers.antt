@@ -1,4 +1,4 @@
-use Rattle.ksm_book.proofs.Names.{[], All, ap, arith, BookValue, changes_while_shared, Done, effect, false, get_or, inr, IsLaid, IsSound, Knobs, nat_tests, ne_eqb, no_dup_lives, none_shared, PagesView, refl, rules, seen, SetAcross, sound_set_across, state_of, subst, sym, waiting_state, ◌∙◌, ◌≡◌, ◌≤◌, All-map}
+use Rattle.ksm_book.proofs.Names.{[], All, ap, arith, changes_while_shared, Done, effect, false, get_or, inr, IsLaid, IsSound, ne_eqb, no_dup_lives, none_shared, PagesView, refl, rules, seen, SetAcross, sound_set_across, state_of, subst, sym, waiting_state, ◌∙◌, ◌≡◌, ◌≤◌, All-map}
 use Rattle.ksm_book.proofs.Laying.{laid_mapped, retuned}
 use Rattle.ksm_book.proofs.Sharing.{settled_lodges}
 use Rattle.ksm_pages.proofs.Resting.{settled_still}
@@ -7,8 +7,7 @@ use Rattle.ksm_book.proofs.state.State.set_across.Goals as goal
 calm : (c : goal.After-set_knobs) → changes_while_shared (state_of (seen c.self.inside.pages) c.self.inside.cursor c.self.inside.passes) c.self.inside.pages.knobs.merge_across_nodes c.args.across ≡ false
 calm c =
     let b = state_of (seen c.self.inside.pages) c.self.inside.cursor c.self.inside.passes in
-    ap (λ (k : Knobs). changes_while_shared b k.merge_across_nodes c.args.across) (sym c.knobs-knobs.ensures)
-    ∙ ap (λ (x : BookValue). changes_while_shared x.state c.knobs-knobs.result.merge_across_nodes c.args.across) c.self.view_is ∙ sym c.if-would_change_shared.ensures
+    grind (arith, c.knobs-knobs.ensures, c.self.view_is, c.if-would_change_shared.ensures)
 
 -- no dup had items, so none is left
 none_left : (c : goal.After-set_knobs) → c.settle_all.new.self.dups ≡ []
@@ -27,14 +26,14 @@ laid : (c : goal.After-set_knobs) → IsLaid (seen c.set_knobs.new.self) c.drop_
 laid c =
     let there = subst (λ (p : PagesView). IsLaid p c.drop_stale.new.keeper) (sym c.settle_all.ensures)
     (laid_mapped c.drop_stale.ensures.laid _ _ (λ r. refl) (λ i d lt. settled_lodges (get_or c.drop_stale.new.pages.rows i d))) in
-    rw c.set_knobs.ensures (retuned _ (inr (none_left c)) there)
+    rw c.set_knobs.ensures (retuned (inr (none_left c)) there)
 
 sound : (c : goal.After-set_knobs) → IsSound (effect (state_of (seen c.self.inside.pages) c.self.inside.cursor c.self.inside.passes) (SetAcross c.args.across) Done)
 sound c =
     let b = state_of (seen c.self.inside.pages) c.self.inside.cursor c.self.inside.passes in
     let low : c.args.across ≤ 1 = search rules in
     let quiet = calm c in
-    sound_set_across b _ Done (grind (arith, nat_tests)) c.self.invariant.0
+    sound_set_across b _ Done (grind arith) c.self.invariant.0
 
 pub invariant_of-self : goal.invariant_of-self
 invariant_of-self c = (subst IsSound (search rules) (sound c), laid c)

@@ -1,4 +1,4 @@
-use Rattle.ksm_book.proofs.Names.{ap, arith, BookValue, changes_while_shared, Done, inl, IsSound, Knobs, None, PagesView, refusal, rules, seen, SetLimit, sound_set_limit, state_of, subst, sym, ◌∙◌, ◌≡◌, ◌≤◌}
+use Rattle.ksm_book.proofs.Names.{ap, arith, BookValue, changes_while_shared, Done, inl, IsSound, Knobs, None, refusal, rules, seen, SetLimit, sound_set_limit, state_of, subst, sym, ◌∙◌, ◌≡◌, ◌≤◌}
 use Rattle.ksm_base.specs.declared.limits.TheConstants.{MOST_REFERENCES}
 use Rattle.ksm_book.proofs.Laying.{retuned}
 use Rattle.ksm_book.proofs.state.State.set_limit.Goals as goal
@@ -14,5 +14,5 @@ invariant_of-self c =
     let there = c.drop_stale.ensures.pages in (
       subst IsSound (search rules) (sound_set_limit b c.args.limit Done accepted c.self.invariant.0),
       rw c.set_knobs.ensures
-          (retuned _ (inl (rw c.knobs-knobs.ensures (sym (ap (λ (p : PagesView). p.knobs.merge_across_nodes) there)))) c.drop_stale.ensures.laid),
+          (retuned (inl (rw c.knobs-knobs.ensures (sym (grind (arith, there))))) c.drop_stale.ensures.laid),
     )

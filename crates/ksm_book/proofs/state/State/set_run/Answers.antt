@@ -6,5 +6,5 @@ pub invariant_of-self : goal.invariant_of-self
 invariant_of-self c =
     let s = c.self.inside in (
       subst IsSound (search rules) (sound_after (state_of (seen s.pages) s.cursor s.passes) (SetRun c.args.run) (Ok Done) c.self.invariant.0 (search rules)),
-      rw c.set_knobs.ensures (retuned _ (inl (rw c.knobs-knobs.ensures)) c.self.invariant.1),
+      rw c.set_knobs.ensures (retuned (inl (rw c.knobs-knobs.ensures)) c.self.invariant.1),
     )

@@ -1,4 +1,4 @@
-use Rattle.ksm_book.proofs.Names.{ap, get_or, IsSound, PagesView, refl, sound_none_waiting, state_of, subst, sym}
+use Rattle.ksm_book.proofs.Names.{get_or, IsSound, refl, sound_none_waiting, subst, sym, arith}
 use Rattle.ksm_book.proofs.Laying.{laid_mapped}
 use Rattle.ksm_book.proofs.Sharing.{settled_lodges}
 use Rattle.ksm_book.proofs.state.State.settle_all.Goals as goal
@@ -6,8 +6,7 @@ use Rattle.ksm_book.proofs.state.State.settle_all.Goals as goal
 pub invariant_of-self : goal.invariant_of-self
 invariant_of-self c =
     let s = c.self.inside in (
-      subst IsSound (sym (ap (λ (p : PagesView). state_of p s.cursor s.passes) c.settle_all.ensures))
-          (sound_none_waiting _ c.self.invariant.0),
+      subst IsSound (sym (grind (arith, c.settle_all.ensures))) (sound_none_waiting _ c.self.invariant.0),
       rw c.settle_all.ensures
           (laid_mapped c.self.invariant.1 _ _ (λ r. refl) (λ i d lt. settled_lodges (get_or s.pages.rows i d))),
     )

@@ -12,7 +12,7 @@ goes c =
 
 pub invariant_of-self : goal.invariant_of-self
 invariant_of-self c = (
-  sound_stopped _ (goes c) _ _ c.self.invariant.0,
+  sound_stopped _ (goes c) c.self.invariant.0,
   laid_stopped _ (goes c) c.self.invariant.1,
 )
 

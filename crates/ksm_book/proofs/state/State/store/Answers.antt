@@ -1,4 +1,4 @@
-use Rattle.ksm_book.proofs.Names.{ap, AreDue, BookState, BookValue, change_row, IsCarried, Done, find_all, is_some, length, Ok, PAGE_WORDS, PagesView, refl, Resettled, rules, seen, Store, stored, subst, state_of, sym, ◌<◌, ◌∙◌, ◌≡◌}
+use Rattle.ksm_book.proofs.Names.{ap, IsCarried, Done, find_all, is_some, length, Ok, PAGE_WORDS, refl, Resettled, rules, seen, Store, subst, sym, ◌<◌, ◌∙◌, ◌≡◌, arith}
 use Rattle.ksm_book.proofs.Laying.{has_frame, laid_written, own_framed}
 use Rattle.ksm_book.proofs.Shown.{resettles_own}
 use Rattle.ksm_book.proofs.Singles.{alone_now, book, carried_so, own_ready, sound_carried, store_copied, store_written, row_held, Carries, found_resettled}
@@ -6,7 +6,7 @@ use Rattle.ksm_book.proofs.state.State.store.Goals as goal
 
 pub known_frame-frame-requires : goal.known_frame-frame-requires
 known_frame-frame-requires c =
-    let f = has_frame c.self.invariant.1 _ _ c.in-Some.ensures.found
+    let f = has_frame c.self.invariant.1 c.in-Some.ensures.found
     (own_framed _ (sym c.in-Some.ensures.shared ∙ c.if-held.false)) in
     ap is_some (c.in-Some.ensures.frame ∙ f.1)
 
@@ -26,7 +26,7 @@ module _ (c : goal.After-store-2) where
       store_written (seen c.self.inside.pages) _ _ _ _ _ _ c.in-Some.ensures.row
       (row_held c.in-Some.ensures) (rw c.write.ensures.wrote)
       _ _ c.store-2.ensures (sym c.in-Some.ensures.shared ∙ c.if-held.false)
-      (ap (seen c.self.inside.pages).frame c.in-Some.ensures.spot ∙ sym c.in-Some.ensures.frame ∙ c.known_frame-frame.ensures) c.write.ensures.wrote
+      (grind (arith, c.in-Some.ensures.spot, c.in-Some.ensures.frame, c.known_frame-frame.ensures)) c.write.ensures.wrote
 
 pub returns-clause-carried : goal.returns-clause-carried
 returns-clause-carried c = carried_so c.self.view_is (rw c.in-Some.ensures.spot) (written c)
@@ -75,14 +75,10 @@ note_store-requires-clause-own c =
 pub returns-clause-due : goal.returns-clause-due
 returns-clause-due c = λ known.
     let pages = c.note_store.new.due.pages in
-    subst (λ (x : PagesView). AreDue (state_of x c.self.inside.cursor c.self.inside.passes) pages) (sym c.store-2.ensures)
-    (subst (λ (v : BookValue). AreDue (record v.state { rows = change_row c.in-Some.held.spot.page (stored c.args.bytes.now) v.state.rows }) pages)
-    (sym c.self.view_is) (c.note_store.ensures known c.args.bytes.now))
+    grind (arith, c.store-2.ensures, c.self.view_is, c.note_store.ensures known c.args.bytes.now)
 
 -- the page that was merged or Zero is due beside what was
 pub returns-then-held-clause-due : goal.returns-then-held-clause-due
 returns-then-held-clause-due c = λ known.
     let pages = c.note_break.new.due.pages in
-    subst (λ (b : BookState). AreDue b pages) (sym (copied c).0.state)
-    (subst (λ (v : BookValue). AreDue (record v.state { rows = change_row c.in-Some.held.spot.page (stored c.args.bytes.now) v.state.rows }) pages)
-    (sym c.self.view_is) (c.note_break.ensures.broken known c.args.bytes.now))
+    grind (arith, (copied c).0.state, c.self.view_is, c.note_break.ensures.broken known c.args.bytes.now)

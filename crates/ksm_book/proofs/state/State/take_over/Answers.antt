@@ -7,7 +7,7 @@ use Rattle.ksm_book.proofs.state.State.take_over.Goals.{After-held, After-stop_w
 
 -- the page is to wait in the stead of the other one
 takes : (c : After-held) → Takes c.args.self.now.state c.args.spot.page c.args.other
-takes c = takes_from _ _ _ (rw (← c.self.view_is) c.self.invariant.0) c.requires.takes
+takes c = takes_from (rw (← c.self.view_is) c.self.invariant.0) c.requires.takes
 
 -- that one waits no more
 freed : (c : After-stop_waiting) → Comes c.args.self.now c.stop_waiting.new.self (once_freed c.args.other)

@@ -1,4 +1,4 @@
-use Rattle.ksm_book.proofs.Names.{ap, BookValue, Find, FindsAt, IsDueNoMore, IsLaid, IsSound, PagesView, seen, state_of, subst, sym, view_of, ◌≡◌}
+use Rattle.ksm_book.proofs.Names.{ap, BookValue, Find, FindsAt, IsDueNoMore, seen, state_of, subst, view_of, ◌≡◌, arith}
 use Rattle.ksm_pages.specs.declared.pages.Find.TheVariants as finds
 use Rattle.ksm_pages.specs.Paged.{Finds}
 use Rattle.ksm_book.proofs.DueVisits.{gone_due, waits_due}
@@ -21,15 +21,13 @@ invariant_of-self-in-Changed c = (changed_leads (met_by ((goal.at.invariant_of-s
 
 pub invariant_of-self-in-Dup : goal.invariant_of-self-in-Dup
 invariant_of-self-in-Dup c =
-    let s = c.self.inside in
     let met = met_by ((goal.at.invariant_of-self-in-Dup c).In_ok-found) _ (λ e. cc) c.in-Dup.is in
-    subst (λ (x : PagesView). IsSound (state_of x s.cursor s.passes) × IsLaid x s.keeper) (sym met.so.2) c.self.invariant
+    grind (arith, met.so.2, c.self.invariant, c.self.inside)
 
 pub invariant_of-self-in-Partner : goal.invariant_of-self-in-Partner
 invariant_of-self-in-Partner c =
-    let s = c.self.inside in
     let met = met_by ((goal.at.invariant_of-self-in-Partner c).In_ok-found) _ (λ e. cc) c.in-Partner.is in
-    subst (λ (x : PagesView). IsSound (state_of x s.cursor s.passes) × IsLaid x s.keeper) (sym met.so.5) c.self.invariant
+    grind (arith, met.so.5, c.self.invariant, c.self.inside)
 
 pub returns-in-Waits-clause-quiet : goal.returns-in-Waits-clause-quiet
 returns-in-Waits-clause-quiet c = λ _ from s before.

@@ -1,4 +1,4 @@
-use Rattle.ksm_book.proofs.Names.{ap, BookValue, false, Find, FindsAt, IsDueNoMore, IsLaid, IsSound, MatchOption, PagesView, row_at, seen, state_of, subst, sym, TakesOverFrom, true, view_of, inl, inr, ◌∙◌, ◌≡◌}
+use Rattle.ksm_book.proofs.Names.{ap, BookValue, false, Find, FindsAt, IsDueNoMore, IsLaid, IsSound, seen, state_of, subst, sym, true, view_of, inl, inr, ◌∙◌, ◌≡◌, arith}
 use Rattle.ksm_pages.specs.declared.pages.Find.TheVariants as finds
 use Rattle.ksm_pages.specs.Paged.{Finds}
 use Rattle.ksm_tree.proofs.Numbers.{on_err}
@@ -7,7 +7,6 @@ use Rattle.ksm_book.proofs.DueFound.{changed_keeps, comes_as, dup_calm, dup_none
 use Rattle.ksm_book.proofs.DueVisits.{gone_due, waits_due}
 use Rattle.ksm_book.proofs.PageVisits.{changed_leads, finds_it, waits_leads}
 use Rattle.ksm_book.proofs.RowVisits.{Meets}
-use Rattle.ksm_book.proofs.Singles.{book}
 use Rattle.ksm_book.proofs.state.State.visit_due.Goals as goal
 use Rattle.ksm_book.proofs.state.State.visit_due.Goals.{In_ok-visit}
 
@@ -20,20 +19,17 @@ met_by c f some is = finds_it f some c.self.invariant (ap view_of c.self.view_is
 -- a page found gone was so
 gone_by : (c : In_ok-visit) → c.in_ok-visit.field-0 ≡ finds.Gone
     → Finds (seen c.self.inside.pages) (seen c.visit.new.self) c.args.spot.page finds.Gone
-gone_by c is = subst (Finds (seen c.self.inside.pages) (seen c.visit.new.self) c.args.spot.page) is c.in_ok-visit.ensures.found
+gone_by c is = grind (arith, is, c.in_ok-visit.ensures.found)
 
 -- where a search changed nothing, the book lies as it lay
 lies_still : (c : In_ok-visit) → seen c.visit.new.self ≡ seen c.self.inside.pages
     → IsSound (state_of (seen c.visit.new.self) c.self.inside.cursor c.self.inside.passes) × IsLaid (seen c.visit.new.self) c.self.inside.keeper
-lies_still c same =
-    subst (λ (x : PagesView). IsSound (state_of x c.self.inside.cursor c.self.inside.passes) × IsLaid x c.self.inside.keeper) (sym same)
-    c.self.invariant
+lies_still c same = grind (arith, same, c.self.invariant)
 
 -- and looks as it did
 looks_still : (c : In_ok-visit) → seen c.visit.new.self ≡ seen c.self.inside.pages
     → view_of (the_view (record c.self.inside { pages = c.visit.new.self })) ≡ view_of c.args.self.now
-looks_still c same =
-    ap (λ (x : PagesView). book x c.self.inside.keeper c.self.inside.cursor c.self.inside.passes) same ∙ ap view_of c.self.view_is
+looks_still c same = grind (arith, same, c.self.view_is)
 
 pub invariant_of-self-in-Gone : goal.invariant_of-self-in-Gone
 invariant_of-self-in-Gone c =
@@ -66,9 +62,7 @@ pub take_over-requires-clause-takes : goal.take_over-requires-clause-takes
 take_over-requires-clause-takes c =
     let s = c.self.inside in
     let met = met_by ((goal.at.take_over-requires-clause-takes c).In_ok-visit) _ (λ e. cc) c.in-Partner.is in
-    subst (λ (x : PagesView). MatchOption (row_at c.args.spot.page x.rows) (true ≡ false)
-    (TakesOverFrom (state_of x s.cursor s.passes) c.in-Partner.other)) (sym met.so.5)
-    (partner_takes c.in-Partner.other met (sym c.comes_before.ensures ∙ c.if-comes_before.false))
+    grind (arith, met.so.5, partner_takes c.in-Partner.other met (sym c.comes_before.ensures ∙ c.if-comes_before.false))
 
 pub returns-in_err-take_over-in-Partner-2-clause-refused : goal.returns-in_err-take_over-in-Partner-2-clause-refused
 returns-in_err-take_over-in-Partner-2-clause-refused c =
@@ -137,4 +131,4 @@ returns-in_ok-take_over-in-Partner-2-clause-comes c =
     let at = (goal.at.returns-in_ok-take_over-in-Partner-2-clause-comes c).In_ok-visit in
     let met = met_by at _ (λ e. cc) c.in-Partner.is in
     comes_as c.args.self.now (the_view (record c.self.inside { pages = c.visit.new.self })) c.take_over.new.self (looks_still at met.so.5)
-    _ c.in_ok-take_over-in-Partner-2.ensures.comes
+    c.in_ok-take_over-in-Partner-2.ensures.comes

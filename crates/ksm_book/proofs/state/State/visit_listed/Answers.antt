@@ -1,4 +1,4 @@
-use Rattle.ksm_book.proofs.Names.{and_parts, ap, AreDue, arith, rules, BookState, Deed, doing, drop, drop_more, from_to, get_or_from_slice_get, GuestPage, IsStill, Listing, pages_visited, Reached, slice_get, slice_get_within, subst, sym, ◌+◌, ◌∙◌, ◌∷◌, ◌≡◌}
+use Rattle.ksm_book.proofs.Names.{and_parts, ap, arith, rules, BookState, Deed, doing, drop, drop_more, from_to, get_or_from_slice_get, GuestPage, IsStill, Listing, pages_visited, Reached, slice_get, slice_get_within, subst, sym, ◌+◌, ◌∙◌, ◌∷◌, ◌≡◌}
 use Rattle.ksm_book.proofs.Folded.{still_on, visited_more}
 use Rattle.ksm_book.proofs.PagesAhead.{from_to_end, from_to_more}
 use Rattle.ksm_book.proofs.state.State.visit_listed.Goals as goal
@@ -25,7 +25,7 @@ loop-at-preserved c =
           let both = and_parts _ _ (sym c.and-made.ensures ∙ quiet) in
           let cut = drop_more all _ page (slice_get_within all _ _ stands)
           ∙ ap (λ (p : GuestPage). p ∷ drop (c.loop-at.at + 1) all) (get_or_from_slice_get all _ _ _ stands) in
-          c.in-Ok.ensures.due both.1 _ (subst (AreDue c.loop-at.self.state) cut (c.loop-at.invariant.5 both.0 was)),
+          c.in-Ok.ensures.due both.1 _ (grind (arith, cut, c.loop-at.invariant.5 both.0 was)),
     )
 
 -- the pages between, once the loop is over

@@ -22,7 +22,7 @@ returns-then-quiet-clause-due c = λ _.
     (begun_cursor c.args.self.now c.begin_pass.new.self c.begin_pass.ensures.comes ∙ whole.0) whole.1)
 
 pub returns-in-Err-clause-stopped : goal.returns-in-Err-clause-stopped
-returns-in-Err-clause-stopped c = part_stopped _ _ c.begin_pass.ensures.comes _ _ _ c.in-Err.ensures.stopped
+returns-in-Err-clause-stopped c = part_stopped _ _ c.begin_pass.ensures.comes c.in-Err.ensures.stopped
 
 pub pass_over_due-requires-clause-due : goal.pass_over_due-requires-clause-due
 pass_over_due-requires-clause-due c =

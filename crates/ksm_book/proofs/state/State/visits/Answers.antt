@@ -10,15 +10,14 @@ go_on-requires-clause-some c =
     ∙ visits_mergeable doing c.loop-done.done (first start)) c.requires.some
 
 pub loop-done-preserved : goal.loop-done-preserved
-loop-done-preserved c =
-    let n = c.loop-done.done in (
-      omega (arith, c.in-Ok.ensures.made.fit, c.loop-done.invariant.0),
-      c.go_on.ensures.known,
-      λ from s before. subst (Reached from c.go_on.new.self) (sym (beside_on doing n c.in-Ok.visits _ s refl))
-          (c.in-Ok.ensures.made.comes from _ (c.loop-done.invariant.2 from s before)),
-      c.go_on.ensures.own ∙ c.loop-done.invariant.3,
-      c.go_on.ensures.due,
-    )
+loop-done-preserved c = (
+  omega (arith, c.in-Ok.ensures.made.fit, c.loop-done.invariant.0),
+  c.go_on.ensures.known,
+  λ from s before. subst (Reached from c.go_on.new.self) (sym (beside_on doing c.loop-done.done _ _ s refl))
+      (c.in-Ok.ensures.made.comes from _ (c.loop-done.invariant.2 from s before)),
+  c.go_on.ensures.own ∙ c.loop-done.invariant.3,
+  c.go_on.ensures.due,
+)
 
 pub returns-in-Err-clause-scanned : goal.returns-in-Err-clause-scanned
 returns-in-Err-clause-scanned c =
