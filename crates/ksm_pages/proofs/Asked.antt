@@ -1,5 +1,5 @@
 -- What is asked of the pages: the place of a page's dup, and the first page after a cursor.
-use Rattle.ksm_pages.proofs.Names.{[], after_cursor, All-cons, ap, arith, Bool, cases_Bool, comes_before, DupRow, each_at_page, Entry, false, find, find_all, find_none, find_nothing, find_passes, get_or, GuestPage, held_at, held_of, inl, InPageOrder, inr, Inside, is_next, IsHeld, Kind, List, nat_tests, None, none-some, of_guest, Option, option_map, PagesValue, pairs_head, pairs_tail, place_of, Row, row_at, rows_of, same_page, same_page_eq, seen, Some, state_of, subst, sym, true, true≢false, ℕ, ◌&&◌, ◌==◌, ◌∙◌, ◌∷◌, ◌≡◌, ◌≤◌}
+use Rattle.ksm_pages.proofs.Names.{[], after_cursor, All-cons, ap, arith, Bool, cases_Bool, comes_before, DupRow, each_at_page, Entry, false, find, find_all, find_none, find_nothing, find_passes, get_or, GuestPage, held_at, held_of, inl, InPageOrder, inr, Inside, is_next, IsHeld, Kind, List, nat_tests, None, none-some, of_guest, Option, option_map, PagesValue, pairs_head, pairs_tail, place_of, Row, row_at, rows_of, same_page, same_page_eq, seen, Some, state_of, subst, sym, true, true≢false, ℕ, ◌&&◌, ◌∙◌, ◌∷◌, ◌≡◌, ◌≤◌}
 use Rattle.ksm_pages.proofs.Options.{mapped_some, none_mapped}
 use Rattle.std.specs.Prelude.{IfSome, MatchOption, option_and_then}
 use Rattle.ksm_tree.specs.Dups.{rows_of as dup_rows}
@@ -17,10 +17,7 @@ placed_own number pass dups = grind (arith, nat_tests)
 pub ticket_told : (s : Inside) {p : PagesValue} → view_of s ≡ p → {page known : GuestPage} → known ≡ page → (e : Entry)
     → held_at known s.rows.held ≡ Some (held_of s.rows.pass e) → {kind : Kind} → e.kind ≡ kind
     → place_of (state_of kind e.number s.rows.pass) (dup_rows s.dups.dups) ≡ option_and_then (λ r. place_of r.state p.dups) (row_at page p.rows)
-ticket_told s {p} seen_as {page} at e found is =
-    ap (λ k. place_of (state_of k e.number s.rows.pass) (dup_rows s.dups.dups)) (sym is)
-    ∙ ap (option_and_then (λ (r : Row). place_of r.state (dup_rows s.dups.dups))) (sym (row_seen s seen_as _ found) ∙ ap (λ q. row_at q p.rows) at)
-    ∙ ap (λ (v : PagesValue). option_and_then (λ (r : Row). place_of r.state v.dups) (row_at page p.rows)) seen_as
+ticket_told s {p} seen_as {page} at e found is = grind (arith, nat_tests, row_seen)
 
 -- ---------------------------------------------------------------- the first page after a cursor
 
@@ -63,7 +60,7 @@ guests_rise p q before = grind (arith, nat_tests)
 -- a row at a page of the guest is a row of that guest
 pub of_some : {guest : Option ℕ} {g : ℕ} {page : GuestPage} → guest ≡ Some g → page.guest ≡ g → (x : Row) → x.page ≡ page
     → of_guest guest x ≡ true
-of_some is at x of_page = grind (arith, nat_tests, is, at, of_page)
+of_some is at x of_page = grind (arith, nat_tests)
 
 module _ (p : PagesValue) (guest : Option ℕ) (cursor : Option GuestPage) where
   abbrev next : Row → Bool
@@ -123,12 +120,10 @@ module _ (p : PagesValue) (guest : Option ℕ) (cursor : Option GuestPage) where
       next_past {g} is differs begun = past _ rise there.1
         where
           later : g ≤ page.guest
-          later = subst (λ o. IfSome o (λ h. h ≤ page.guest)) is (begun (ap (after_cursor start) there.2 ∙ find_passes behind _ r there.1))
+          later = grind (arith, nat_tests, find_passes)
 
           other : (x : Row) → page.guest ≤ x.page.guest → next x ≡ false
-          other x le =
-              let not_of : (x.page.guest == g) ≡ false = grind (arith, nat_tests, le, differs, later) in
-              ap (λ o. of_guest o x && after_cursor cursor x.page) is ∙ ap (λ b. b && after_cursor cursor x.page) not_of
+          other x le = grind (arith, nat_tests, later)
 
           past : (xs : List Row) → InPageOrder xs → find behind xs ≡ Some r → find next xs ≡ None
           past [] up found = absurd (none-some r found)

@@ -22,15 +22,7 @@ AreListedUpTo slab last l = l.known ≡ true → (key : ℕ) (e : Entry) → get
 -- a filter that lets less through leaves no more
 filter_least : {X : Type 0} (p q : X → Bool) (ys : List X) → ((y : X) → q y ≡ true → p y ≡ true) → length (filter q ys) ≤ length (filter p ys)
 filter_least p q [] less = omega arith
-filter_least p q (z ∷ zs) less =
-    let rest = filter_least p q zs less in
-    elim (cases_Bool _) [
-      | inl passes ↦ let also = less z passes in grind (arith, passes, also, rest)
-      | inr fails ↦ elim (cases_Bool (p z)) [
-        | inl passes ↦ grind arith
-        | inr out_too ↦ grind arith
-      ]
-    ]
+filter_least p q (z ∷ zs) less = grind (arith, nat_tests, filter_least p q zs less)
 
 -- and fewer, where it stops what the other finds first
 filter_fewer : {X : Type 0} (p q : X → Bool) (xs : List X) (x : X) → find p xs ≡ Some x → q x ≡ false → ((y : X) → q y ≡ true → p y ≡ true) → length (filter q xs) < length (filter p xs)
@@ -43,10 +35,7 @@ filter_fewer p q (y ∷ ys) x found out less =
           let few = filter_least p q ys less in
           grind arith
       | inr fails ↦
-          let none : q y ≡ false = elim (cases_Bool (q y)) [
-            | inl also ↦ absurd (true≢false (sym (less y also) ∙ fails))
-            | inr out_too ↦ out_too
-          ] in
+          let none : q y ≡ false = grind (arith, nat_tests) in
           let few = filter_fewer p q ys x (grind arith) out less in
           grind arith
     ]
@@ -73,11 +62,7 @@ module _ (slab : Slab Entry) (order : List Named) (rise : AreAscending order) (f
 
     -- behind the next page there are fewer pages than behind the cursor
     pub fewer_behind : length (filter (λ m. comes_before n.page m.page) order) < length (filter (λ m. after_cursor last m.page) order)
-    fewer_behind =
-        filter_fewer _ _ order n found (before_irrefl n.page) (λ m behind. further last n.page m.page (find_passes _ order n found) behind)
-      where
-        further : (last : Option GuestPage) (p q : GuestPage) → after_cursor last p ≡ true → comes_before p q ≡ true → after_cursor last q ≡ true
-        further last p q after less = grind (arith, nat_tests, after, less)
+    fewer_behind = grind (arith, nat_tests, filter_fewer, before_irrefl, find_passes)
 
     -- an entry that is not behind it is its own, or was not behind the last
     passed : (key : ℕ) {e : Entry} → get slab key ≡ Some e → comes_before n.page e.page ≡ false → (e.page ≡ n.page) ⊎ (after_cursor last e.page ≡ false)
@@ -85,10 +70,7 @@ module _ (slab : Slab Entry) (order : List Named) (rise : AreAscending order) (f
       | inl after ↦
           let first = find_all (is_of e.page) (λ m. after_cursor last m.page ≡ true → (m.page ≡ n.page) ⊎ (comes_before n.page m.page ≡ true)) order (named_of key e) (named_under slab order filed key e stands)
           (first_found (λ m. after_cursor last m.page) order n rise found) in
-          elim (first after) [
-            | inl same ↦ inl same
-            | inr behind ↦ absurd (true≢false (sym behind ∙ not_behind))
-          ]
+          grind (arith, nat_tests)
       | inr before ↦ inr before
     ]
 
@@ -130,7 +112,7 @@ module _ (slab : Slab Entry) (order : List Named) (rise : AreAscending order) (f
       (λ k d lt. at _ (all_stand slab _ rise filed k d lt)))
     where
       at : (n : Named) → option_map (named_of n.key) (get slab n.key) ≡ Some n → may_change (held_under pass (get slab n.key)).row ≡ true → has_item (held_under pass (get slab n.key)).row.page pages ≡ true
-      at n stands may = grind (arith, nat_tests, stands, may)
+      at n stands may = grind (arith, nat_tests)
 
   -- a row has a frame of its own exactly where it is not shared
   pub rows_framed : (pass : ℕ) → All (λ h. is_some h.frame ≡ not (shared_state h.row.state)) (held_in pass slab order)
@@ -138,4 +120,4 @@ module _ (slab : Slab Entry) (order : List Named) (rise : AreAscending order) (f
       All-map (λ (h : Held). is_some h.frame ≡ not (shared_state h.row.state)) _ _ (λ k d lt. at _ (all_stand slab _ rise filed k d lt))
     where
       at : (n : Named) → option_map (named_of n.key) (get slab n.key) ≡ Some n → is_some (held_under pass (get slab n.key)).frame ≡ not (shared_state (held_under pass (get slab n.key)).row.state)
-      at n stands = grind (arith, nat_tests, stands)
+      at n stands = grind (arith, nat_tests)

@@ -8,11 +8,11 @@ use Rattle.ksm_pages.proofs.Lodgings.{frame_by, seat}
 
 -- a page with a frame of its own is not merged
 pub own_not_merged : (s : PageState) → shared_state s ≡ false → merged_state s ≡ false
-own_not_merged s e = grind (arith, nat_tests, e)
+own_not_merged s e = grind (arith, nat_tests)
 
 -- a page with a frame of its own leaves no dup, so letting it out changes none
 pub let_out_alone : (state : PageState) (page : GuestPage) {dups : List Dup} → shared_state state ≡ false → let_out state page dups ≡ dups
-let_out_alone state page alone = grind (arith, nat_tests, alone)
+let_out_alone state page alone = grind (arith, nat_tests)
 
 known_at : {number : ℕ} (ds : List DupRow) (o : Option DupRow) → dup_numbered number ds ≡ o → (k : ℕ) (d : DupRow) → k < length ds
     → (get_or ds k d).number ≡ number → is_some o ≡ true
@@ -45,7 +45,7 @@ fewer_room rows dups tied room = (found_room rows _ _ tied refl room).1
 
 item_seat : (of : ℕ → Option ℕ) (number : ℕ) {r : Row} → merged_into number r.state ≡ true → (o : Option Held)
     → option_map (λ (h : Held). h.row) o ≡ Some r → seat of o ≡ of number
-item_seat of number merged o is = grind (arith, nat_tests, merged, is)
+item_seat of number merged o is = grind (arith, nat_tests)
 
 -- an item of a dup lies where all its items do
 pub item_lies : (of : ℕ → Option ℕ) (held : List Held) → InPageOrder (rows_of held) → (number : ℕ)
@@ -57,7 +57,7 @@ item_lies of held rise number k d lt merged =
 -- a page with a frame of its own lies on that frame
 pub own_seat : (of : ℕ → Option ℕ) (pass : ℕ) (e : Entry) → shared_state (held_of pass e).row.state ≡ false
     → seat of (Some (held_of pass e)) ≡ Some e.at
-own_seat of pass e alone = grind (arith, nat_tests, alone)
+own_seat of pass e alone = grind (arith, nat_tests)
 
 module _ (s : Inside) (are : AreLawful s) (page : GuestPage) {h : Held} (found : held_at page s.rows.held ≡ Some h)
     (alone : shared_state h.row.state ≡ false) (number : ℕ)

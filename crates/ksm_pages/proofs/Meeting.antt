@@ -27,7 +27,7 @@ module _ (knobs : Knobs) (rows : List Row) (w : List WaitingPage) (row : Row) (r
 
   -- where the page that waits with the row's bytes is another page, that page waited before
   pub met_other : same_page met row.page ≡ false → waits ≡ Some met
-  met_other other = grind (arith, nat_tests, other)
+  met_other other = grind (arith, nat_tests)
 
   -- where the page that waits with the row's bytes is another page, its row is the partner
   pub met_partner : same_page met row.page ≡ false → MatchOption (partner knobs rows row) (true ≡ false) (λ r. met ≡ r.page)

@@ -1,5 +1,5 @@
 -- The pages once two of them became the items of a new dup.
-use Rattle.ksm_pages.proofs.Names.{[], All, ap, ap₂, AreDups, AreKept, AreTied, AreWaiting, arith, at_others, cases_Bool, change_held, change_row, change_rows, cond, dup_numbered, DupRow, DupsState, Entry, false, find, find_all, frame_of, Frames, GuestPage, Held, held_at, held_of, inl, InPageOrder, InPlaceOrder, inr, Inside, is_live, IsStopped, length, length-set, let_out, lies_on, List, lodging, lodgings_of, mapped, MatchOption, MayPair, Merged, merged_into, None, not, Option, option_and_then, option_map, ordered_change, PagesValue, paired, place_kept, place_new, refl, Row, row_at, row_stopped, rows_new, rows_of, RowsView, same_page, same_page_eq, seen, set, slice_get, Some, stands_at, subst, suc, sym, tied_made, tree_of, true, with_dup, with_item, with_new, zero, ℕ, ◌&&◌, ◌+◌, ◌<◌, ◌==◌, ◌||◌, ◌∙◌, ◌∷◌, ◌≡◌, ◌≢◌, get_or-set_same, slice_get-get_or}
+use Rattle.ksm_pages.proofs.Names.{[], All, ap, ap₂, AreDups, AreKept, AreTied, AreWaiting, arith, at_others, cases_Bool, change_held, change_row, change_rows, dup_numbered, DupRow, DupsState, Entry, false, find, find_all, frame_of, Frames, GuestPage, Held, held_at, held_of, InPageOrder, InPlaceOrder, Inside, is_live, IsStopped, length, length-set, let_out, lies_on, List, lodging, lodgings_of, mapped, MatchOption, MayPair, Merged, merged_into, nat_tests, None, not, Option, option_and_then, option_map, ordered_change, PagesValue, paired, place_kept, place_new, refl, Row, row_at, row_stopped, rows_new, rows_of, RowsView, same_page, same_page_eq, seen, set, slice_get, Some, stands_at, subst, suc, sym, tied_made, tree_of, true, with_dup, with_item, with_new, zero, ℕ, ◌&&◌, ◌+◌, ◌<◌, ◌==◌, ◌||◌, ◌∙◌, ◌∷◌, ◌≡◌, ◌≢◌, get_or-set_same, slice_get-get_or}
 use Rattle.std.specs.Vec.{with_item as with_frame}
 use Rattle.ksm_tree.specs.Dups.{rows_of as dup_rows}
 use Rattle.ksm_tree.proofs.Alike.{map_mapped}
@@ -33,10 +33,7 @@ module _ (dups : List DupRow) (dup : DupRow) (frames : List ℕ) (frame : ℕ) w
 
   -- a new dup has the frame that is written at its place
   pub lodged_new : All (λ d. d.number < dup.number) dups → dup.place < length frames → of_now dup.number ≡ Some frame
-  lodged_new fresh inside =
-      sym (kept_at_place (set frames dup.place frame) (dup_numbered dup.number (with_dup dup dups)))
-      ∙ ap (option_and_then (slice_get (set frames dup.place frame))) (place_new dup _ fresh)
-      ∙ set_there _ _ inside
+  lodged_new fresh inside = grind (arith, nat_tests, kept_at_place, place_new, set_there)
 
   -- a dup that stands elsewhere keeps its frame where one is written for a new dup
   pub lodged_kept : InPlaceOrder dups → (n : ℕ) → (n == dup.number) ≡ false
@@ -58,19 +55,7 @@ module _ (dups : List DupRow) (dup : DupRow) (frames : List ℕ) (frame : ℕ) w
 -- two changes of rows of two pages are one of both
 pub both_changed : (q p : GuestPage) (f : Row → Row) → ((r : Row) → (f r).page ≡ r.page) → same_page q p ≡ false → (rows : List Row)
     → change_row p f (change_row q f rows) ≡ change_rows (λ r. same_page r.page q || same_page r.page p) f rows
-both_changed q p f same apart rows =
-    map_mapped _ _ _ _ (λ k d lt. at _)
-  where
-    at : (r : Row) → (λ (x : Row). cond (same_page x.page p) (f x) x) (cond (same_page r.page q) (f r) r)
-        ≡ cond (same_page r.page q || same_page r.page p) (f r) r
-    at r = elim (cases_Bool _) [
-      | inl here ↦
-          let away = ap (λ x. same_page x p) (same r ∙ same_page_eq _ q here) ∙ apart in
-          ap (λ b. (λ (x : Row). cond (same_page x.page p) (f x) x) (cond b (f r) r)) here ∙ ap (λ b. cond b (f (f r)) (f r)) away
-          ∙ ap (λ b. cond (b || same_page r.page p) (f r) r) (sym here)
-      | inr other ↦ ap (λ b. (λ (x : Row). cond (same_page x.page p) (f x) x) (cond b (f r) r)) other
-          ∙ ap (λ b. cond (b || same_page r.page p) (f r) r) (sym other)
-    ]
+both_changed q p f same apart rows = grind (arith, nat_tests, map_mapped, cases_Bool, same_page_eq)
 
 -- two pages have rows, of which something is so
 abbrev IsOfBoth : (Row → Row → Type 0) → Option Row → Option Row → Type 0
@@ -88,11 +73,7 @@ module _ (s : Inside) {p : PagesValue} (seen_as : view_of s ≡ p) (place : ℕ)
 
   -- the second of two pages that may pair is held
   pub second_there : held_at second s.rows.held ≡ None → true ≡ false
-  second_there gone = go (held_at first s.rows.held) refl
-    where
-      go : (o : Option Held) → held_at first s.rows.held ≡ o → true ≡ false
-      go None is = first_there is
-      go (Some a) is = subst (IsOfBoth (MayPair (seen p) place) (Some a.row)) (row_seen s seen_as _ gone) (may_first is)
+  second_there gone = grind (arith, nat_tests, first_there, row_seen, may_first)
 
   -- and the rows may become items
   may_both : {a b : Held} → held_at first s.rows.held ≡ Some a → held_at second s.rows.held ≡ Some b
@@ -176,7 +157,7 @@ module _ {s : Inside} {p : PagesValue} {place : ℕ} {first second : GuestPage} 
 
   -- the second of two pages that can pair lies on the frame of its own
   pub lay_second : frame_of p.lodgings second ≡ Some other.at
-  lay_second = sym (lies s are _ it.also it.seen_as) ∙ own_seat _ pass other may.second_alone
+  lay_second = grind (arith, nat_tests, lies, own_seat)
 
   module _ {tree : ℕ} (in_tree : (r : Row) → r.home ≡ other.home → tree ≡ tree_of s.knobs r) {made between later : DupsState}
       (is_made : made ≡ with_pair (record { number = s.dups.next; place = place; tree = tree; bytes = b.row.bytes }) first second s.dups)
@@ -204,22 +185,15 @@ module _ {s : Inside} {p : PagesValue} {place : ℕ} {first second : GuestPage} 
     -- ---------------------------------------------------------------- the dups
 
     now_dups : later.dups ≡ with_new (record { row = dup; items = with_item b.row.page (a.row.page ∷ []) }) s.dups.dups
-    now_dups =
-        (λ i. (out_too i).dups) ∙ let_out_alone _ _ may.second_alone
-        ∙ (λ i. (out i).dups) ∙ let_out_alone _ _ may.first_alone
-        ∙ (λ i. (is_made i).dups)
-        ∙ ap₂ (λ q r. with_new (record { row = dup; items = with_item r (q ∷ []) }) s.dups.dups) at_first at_second
+    now_dups = grind (arith, nat_tests, let_out_alone, at_first, at_second)
 
     now_rows : dup_rows later.dups ≡ with_dup dup (dup_rows s.dups.dups)
-    now_rows = ap dup_rows now_dups ∙ rows_new (record { row = dup; items = with_item b.row.page (a.row.page ∷ []) }) s.dups.dups
+    now_rows = grind (arith, nat_tests, now_dups, rows_new)
 
     -- ---------------------------------------------------------------- the rows
 
     now_held : rows.held ≡ change_held b.row.page into half
-    now_held =
-        (λ i. (turned i).held)
-        ∙ ap (λ n. both_merged n first second s.rows.held) is_number
-        ∙ ap₂ (λ q r. both_merged s.dups.next q r s.rows.held) at_first at_second
+    now_held = grind (arith, nat_tests, at_first, at_second)
 
     found_first : held_at a.row.page s.rows.held ≡ Some a
     found_first = ap (λ q. held_at q s.rows.held) (sym at_first) ∙ it.found

@@ -37,14 +37,11 @@ Less x y = x.key < y.key
 -- a search for a page finds what a search for its key finds
 pub found_by : (page : GuestPage) → page.page < 2 ^ 32 → (items : List Item)
     → find (is_of page) (map named_by items) ≡ option_map named_by (find (is_at (key_of page)) items)
-found_by page few items = find_mapped named_by (is_of page) _ _ (λ k d lt. is_its _ few (get_or items k d))
+found_by page few items = grind (arith, nat_tests, find_mapped, is_its)
 
 pub absent_by : (page : GuestPage) → page.page < 2 ^ 32 → (items : List Item) → find (is_of page) (map named_by items) ≡ None
     → find (is_at (key_of page)) items ≡ None
-absent_by page few items absent = go _ (sym (found_by _ few _) ∙ absent)
-  where
-    go : (o : Option Item) → option_map named_by o ≡ None → o ≡ None
-    go o is = grind (arith, nat_tests, is)
+absent_by page few items absent = grind (arith, nat_tests, found_by)
 
 pub with_by : {page : GuestPage} → page.page < 2 ^ 32 → (x : Item) → x.key ≡ key_of page → {n : Named} → named_by x ≡ n → n.page ≡ page → (items : List Item)
     → with_named n (map named_by items) ≡ map named_by (with_item x items)
@@ -58,8 +55,7 @@ with_by few x at is of items =
 
 pub without_by : (page : GuestPage) → page.page < 2 ^ 32 → (items : List Item)
     → without_named page (map named_by items) ≡ map named_by (without (key_of page) items)
-without_by page few items =
-    filter_mapped named_by (λ m. not (is_of page m)) (λ x. not (is_at (key_of page) x)) _ (λ k d lt. ap not (is_its _ few (get_or items k d)))
+without_by page few items = grind (arith, nat_tests, filter_mapped, is_its)
 
 pub marked_by : (page : GuestPage) → page.page < 2 ^ 32 → (mark : Bool) → (items : List Item)
     → marked page mark (map named_by items) ≡ map named_by (with_mark (key_of page) mark items)
@@ -76,7 +72,7 @@ marked_by page few mark items =
 -- ---------------------------------------------------------------- those that a scan visits
 
 pub visited_by : (items : List Item) → visited (map named_by items) ≡ map named_by (kept_marked items)
-visited_by items = filter_mapped _ (λ n. n.mergeable) (λ x. x.marked) items (λ k d lt. refl)
+visited_by items = grind (arith, nat_tests, filter_mapped)
 
 -- where items are in order, those that are marked and do not come before a key are the marked ones but for as many as come before
 module _ (key : ℕ) where
@@ -89,9 +85,8 @@ module _ (key : ℕ) where
         | inl is ↦ elim (cases_lt x.key key) [
           | inl less ↦
               let n : up_to key (x ∷ xs) ≡ suc (up_to key xs) = grind (arith, nat_tests) in
-              let fails : (x.marked && is_from key x) ≡ false = grind (arith, nat_tests) in
               let all : kept_marked (x ∷ xs) ≡ x ∷ kept_marked xs = grind arith in
-              let kept : filter (λ y. y.marked && is_from key y) (x ∷ xs) ≡ filter (λ y. y.marked && is_from key y) xs = grind (arith, fails) in
+              let kept : filter (λ y. y.marked && is_from key y) (x ∷ xs) ≡ filter (λ y. y.marked && is_from key y) xs = grind arith in
               kept ∙ rest ∙ sym (ap₂ (λ m ys. drop m ys) n all)
           | inr more ↦
               let later : All (λ y. key ≤ y.key) xs = λ k d lt. let up = pairs_head Less x xs rise k d lt in omega (arith, up) in
@@ -197,9 +192,7 @@ some_at (x ∷ xs) (suc n) lt none = some_at xs n (omega arith) none
 pub get_dropped : {X : Type 0} (n k : ℕ) (xs : List X) → slice_get (drop n xs) k ≡ slice_get xs (n + k)
 get_dropped zero k xs = ap (slice_get xs) (omega arith)
 get_dropped (suc n) k [] = slice_get_past [] k (omega arith) ∙ sym (slice_get_past [] (suc n + k) (omega arith))
-get_dropped (suc n) k (x ∷ xs) =
-    let place : suc n + k ≡ suc (n + k) = omega arith in
-    get_dropped n k xs ∙ sym (ap (slice_get (x ∷ xs)) place)
+get_dropped (suc n) k (x ∷ xs) = grind (arith, nat_tests, get_dropped n k xs)
 
 pub get_taken : {X : Type 0} (m k : ℕ) (xs : List X) → k < m → slice_get (take m xs) k ≡ slice_get xs k
 get_taken zero k xs lt = absurd (omega arith)
@@ -242,11 +235,7 @@ module _ (items : List Item) {now : List Named} (seen_as : map named_by items �
   visited_many = ap length visited_is ∙ length-map (kept_marked items) named_by ∙ length-filter (λ (x : Item). x.marked) items
 
   pub visited_at : (place key : ℕ) → key_at (kept_marked items) place ≡ Some key → page_at (visited now) place ≡ Some (page_of key)
-  visited_at place key is =
-      ap (λ ns. page_at ns place) visited_is
-      ∙ ap (option_map (λ n. n.page)) (slice_get-map named_by _ place)
-      ∙ page_by _
-      ∙ ap (option_map page_of) is
+  visited_at place key is = grind (arith, nat_tests, visited_is, slice_get-map, page_by)
 
   -- those behind a cursor and before a page, where it is known how many visited ones come before each
   module _ (cursor : Option GuestPage) (page : GuestPage) (few : page.page < 2 ^ 32) (rise : AreAscending items)
@@ -271,7 +260,4 @@ module _ (items : List Item) {now : List Named} (seen_as : map named_by items �
 
     pub passed_last : passed < before → (key : ℕ) → key_at (kept_marked items) (before - 1) ≡ Some key
         → page_at (passed_to cursor page now) (length (passed_to cursor page now) - 1) ≡ Some (page_of key)
-    passed_last some key is =
-        ap₂ (λ ns n. page_at ns (n - 1)) passed_is passed_many
-        ∙ ap (option_map (λ n. n.page)) (get_taken (before - passed) (before - passed - 1) _ (omega arith) ∙ get_dropped _ _ (visited now))
-        ∙ ap (page_at (visited now)) (omega arith) ∙ visited_at (before - 1) key is
+    passed_last some key is = grind (arith, nat_tests, passed_is, passed_many, get_taken, get_dropped, visited_at)

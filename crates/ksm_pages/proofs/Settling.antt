@@ -79,7 +79,7 @@ module _ {slab : Slab Entry} {order : List Named} {restless : Listing} {tally : 
   all_seen f is = sym (map_mapped _ _ _ _ (λ k d lt. at _ (all_stand slab _ are.ascending are.filed k d lt)))
     where
       at : (n : Named) → option_map (named_of n.key) (get slab n.key) ≡ Some n → f (held_under pass (get slab n.key)) ≡ held_under after (get later n.key)
-      at n stands = grind (arith, nat_tests, stands)
+      at n stands = grind (arith, nat_tests)
 
   -- once each entry is changed so that its row is settled, the rows are lawful, and none waits
   pub all_settled : ((k : ℕ) (e : Entry) → get slab k ≡ Some e → held_of after (g e) ≡ on_row settled (held_of pass e)) → ((k : ℕ) (e : Entry) → get slab k ≡ Some e → (g e).kind ≡ kinds.Own → (g e).number ≤ after) → 1 ≤ after
@@ -100,7 +100,7 @@ module _ {slab : Slab Entry} {order : List Named} {restless : Listing} {tally : 
   itself k = grind (arith, nat_tests)
 
   settled_next : (k : ℕ) (e : Entry) → get slab k ≡ Some e → held_of (pass + 1) e ≡ on_row settled (held_of pass e)
-  settled_next k e stands = grind (arith, nat_tests, stands)
+  settled_next k e stands = grind (arith, nat_tests)
 
   -- in the next pass each row is seen settled
   pub next_seen : held_in (pass + 1) slab order ≡ map (on_row settled) (held_in pass slab order)
@@ -119,7 +119,7 @@ module _ {slab : Slab Entry} {order : List Named} {restless : Listing} {tally : 
     forgot k = ap (λ xs. get_or xs k None) slots ∙ get_or-map (option_map forgotten) slab.slots k None
 
     settled_anew : (k : ℕ) (e : Entry) → get slab k ≡ Some e → held_of 1 (forgotten e) ≡ on_row settled (held_of pass e)
-    settled_anew k e stands = grind (arith, nat_tests, stands)
+    settled_anew k e stands = grind (arith, nat_tests)
 
     -- once each entry forgot its pass, each row is seen settled in pass 1
     pub anew_seen : held_in 1 later order ≡ map (on_row settled) (held_in pass slab order)

@@ -1,10 +1,9 @@
 -- The pages once a call changed the row of one page: they are lawful, and what is seen of them changed so.
-use Rattle.ksm_pages.proofs.Names.{[], All-map, ap, ap₂, AreKept, AreTied, AreWaiting, arith, at_mapped, cases_Bool, change_held, change_row, cond, cond_both, DupsState, false, find_passes, frame_of, frame_seen, get_or, GuestPage, Held, held_at, holds, if◌then◌else◌, inl, InPageOrder, inr, Inside, IsAlone, IsKnown, IsLeft, lies_on, List, Listing, lodging, lodgings_of, map, mapped, MatchOption, merged_state, nat_tests, None, none_waiting, on_row, Option, option_map, ordered_map, PageState, PagesValue, PagesView, Private, refl, Row, row_at, rows_of, RowsView, same_page, same_page_eq, seen, settled_state, shared_state, Some, subst, sym, tied_mapped, true≢false, waiting_state, waits_there, without_held, without_page, ℕ, ⊤, ◌∙◌, ◌≡◌}
+use Rattle.ksm_pages.proofs.Names.{[], All-map, ap, AreKept, AreTied, AreWaiting, arith, at_mapped, cases_Bool, change_held, change_row, cond, cond_both, DupsState, false, find_passes, frame_of, frame_seen, get_or, GuestPage, Held, held_at, holds, if◌then◌else◌, inl, InPageOrder, inr, Inside, IsAlone, IsKnown, IsLeft, lies_on, List, Listing, lodging, lodgings_of, map, mapped, MatchOption, merged_state, nat_tests, None, none_waiting, on_row, Option, option_map, ordered_map, PageState, PagesValue, PagesView, Private, refl, Row, row_at, rows_of, RowsView, same_page, same_page_eq, seen, settled_state, shared_state, Some, subst, sym, tied_mapped, true≢false, waiting_state, waits_there, without_held, without_page, ℕ, ⊤, ◌∙◌, ◌≡◌}
 use Rattle.std.proofs.lemmas.Bool.{some_since}
 use Rattle.ksm_tree.specs.Dups.{rows_of as dup_rows}
 use Rattle.ksm_tree.proofs.Alike.{map_alike, map_mapped}
 use Rattle.ksm_pages.proofs.Leaving.{AreLawful, alone_found, held_twice, lawful_gone, lawful_left, lies, of_dup, same_dups, told, told_gone, told_still, view_of}
-use Rattle.ksm_pages.proofs.Lodgings.{seat}
 use Rattle.ksm_pages.proofs.Resting.{item_alike, known_row, lies_alike, lies_settled, rests, settled_again, settled_still}
 
 -- the pages with other rows and dups are lawful, and are seen as the new view says
@@ -20,7 +19,7 @@ held_as same = λ i. (same i).held
 pub and_then : (page : GuestPage) (f g : Row → Row) → ((r : Row) → (f r).page ≡ r.page) → (old : List Held) {first second : List Held}
     → first ≡ change_held page (on_row f) old → second ≡ change_held page (on_row g) first
     → second ≡ change_held page (on_row (λ r. g (f r))) old
-and_then page f g same old first second = second ∙ ap (change_held page (on_row g)) first ∙ held_twice _ _ _ (λ h. same h.row) _
+and_then page f g same old first second = grind (arith, nat_tests, held_twice)
 
 -- ---------------------------------------------------------------- a page that leaves what it is in
 
@@ -53,10 +52,7 @@ module _ {s : Inside} {p : PagesValue} {page : GuestPage} {later : DupsState} {f
   module _ (it : HasLeft s p page later frames lone) where
     -- a page that has left lay on the frame that is told
     pub lay : frames ≡ s.frames.items → lone ≡ frame_of p.lodgings page
-    lay same =
-        it.left.frame
-        ∙ ap (λ (fs : List ℕ). seat (lodging (dup_rows s.dups.dups) fs) (Some it.held)) same
-        ∙ lies s it.lawful _ it.found it.seen_as
+    lay same = grind (arith, nat_tests, lies)
 
     dups_same : dup_rows later.dups ≡ dup_rows s.dups.dups
     dups_same = same_dups s it.lawful _ it.found it.left.dups it.left.waiting
@@ -161,11 +157,7 @@ module _ (s : Inside) (are : AreLawful s) {p : PagesValue} (seen_as : view_of s 
       dups = λ i. dup_rows (rest i).dups
 
       lain : frame_of (lodgings_of (lodging (dup_rows later.dups) s.frames.items) rows.held) ≡ frame_of (lodgings_of (of_dup s) s.rows.held)
-      lain =
-          ap₂ (λ ds held. frame_of (lodgings_of (lodging ds s.frames.items) held)) dups turned
-          ∙ ap frame_of (map_mapped _ _ _ _ (λ k d lt.
-          let h = get_or s.rows.held k d in
-          ap₂ (λ page frame. record { page = page; frame = frame }) (pages h.row) (lies_alike _ _ _ _ (like h.row))))
+      lain = grind (arith, nat_tests, dups, map_mapped, lies_alike)
 
   -- where every row is settled by a change and no page waits any more, all rows are seen changed so
   pub rest_all : (f : Row → Row) → ((r : Row) → (f r).page ≡ r.page) → ((r : Row) → (f r).state ≡ settled_state r.state) → (rows : RowsView)

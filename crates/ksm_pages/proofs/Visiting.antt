@@ -59,9 +59,7 @@ is_alone s are page e found restless =
 -- an entry that a visit may change is seen as a row that a visit may change
 pub is_seen_restless : (s : Inside) {p : PagesValue} → view_of s ≡ p → (page : GuestPage) (e : Entry) → held_at page s.rows.held ≡ Some (held_of s.rows.pass e)
     → is_restless_entry e ≡ true → MatchOption (row_at page p.rows) (true ≡ false) (λ r. is_restless r ≡ true)
-is_seen_restless s {p} seen_as page e found restless =
-    subst (λ o. MatchOption o (true ≡ false) (λ (r : Row). is_restless r ≡ true))
-    (sym (row_seen s seen_as _ found)) (restless_as _ e ∙ restless)
+is_seen_restless s {p} seen_as page e found restless = grind (arith, nat_tests, row_seen, restless_as)
 
 -- ---------------------------------------------------------------- a row whose group has a number
 
@@ -135,11 +133,11 @@ module _ {s : Inside} {p : PagesValue} {page : GuestPage} {e : Entry} {group : �
     where
       go : (o : Option Dup) → Some b ≡ option_map found_at o
           → MatchOption (option_map (λ d. d.row) o) (true ≡ false) (λ (d : DupRow). (b.number ≡ d.number) × (b.place ≡ d.place))
-      go o no_it = grind (arith, nat_tests, no_it)
+      go o no_it = grind (arith, nat_tests)
 
   module _ (none : IsOfGroup (λ tree bytes. None ≡ option_map found_at (best tree bytes))) where
     no_best : best_dup p.knobs p.rows p.dups row ≡ None
-    no_best = best_is ∙ ap (option_map (λ d. d.row)) (none_mapped _ _ (sym (none (tree_of s.knobs row) row.bytes it.numbered)))
+    no_best = grind (arith, nat_tests, best_is, none_mapped)
 
     -- without a best dup, a row that was not unchanged is found changed, and is unchanged from then on
     pub finds_changed : e.unchanged ≡ false → {new : PagesView}
@@ -165,7 +163,7 @@ module _ {s : Inside} {p : PagesValue} {page : GuestPage} {e : Entry} {group : �
         waits = waiting_page (tree_of s.knobs row) row.bytes s.dups.waiting
 
         met_is : met ≡ unwrap_or waits row.page
-        met_is = is (tree_of s.knobs row) row.bytes it.numbered ∙ ap (unwrap_or waits) (sym at_row)
+        met_is = grind (arith, nat_tests, at_row)
 
         same_again : is_some waits ≡ true → later ≡ s.dups
         same_again = again (tree_of s.knobs row) row.bytes it.numbered

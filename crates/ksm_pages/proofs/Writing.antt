@@ -25,11 +25,11 @@ never false both = absurd (true≢false (sym both))
 
 -- a row that is not shared has a frame of its own
 pub own_kind : (kind : Kind) (number pass : ℕ) → shared_state (state_of kind number pass) ≡ false → kind ≡ kinds.Own
-own_kind kind number pass alone = grind (arith, nat_tests, alone)
+own_kind kind number pass alone = grind (arith, nat_tests)
 
 -- a row with a frame of its own waits where its number is that of the pass
 pub waits_now : {kind : Kind} (pass : ℕ) → kind ≡ kinds.Own → state_of kind pass pass ≡ Waiting
-waits_now pass own = grind (arith, nat_tests, own)
+waits_now pass own = grind (arith, nat_tests)
 
 -- a row with a frame of its own is Private where its number is not that of the pass
 pub rests_apart : {number : ℕ} (pass : ℕ) → number ≢ pass → state_of kinds.Own number pass ≡ Private
@@ -42,11 +42,11 @@ rests_now pass counting = rests_apart _ (λ same. absurd (omega arith))
 -- an entry that has forgotten its pass is settled in any pass from 1 on
 pub rest_of : (kind : Kind) (number pass after : ℕ) → 1 ≤ after
     → state_of kind (number_left kind number) after ≡ settled_state (state_of kind number pass)
-rest_of kind number pass after counting = grind (arith, nat_tests, counting)
+rest_of kind number pass after counting = grind (arith, nat_tests)
 
 -- an entry with a frame of its own that has forgotten its pass has a number not beyond any pass
 pub left_fits : (kind : Kind) (number pass : ℕ) → kind ≡ kinds.Own → number_left kind number ≤ pass
-left_fits kind number pass own = grind (arith, nat_tests, own)
+left_fits kind number pass own = grind (arith, nat_tests)
 
 -- a change of a page without a row leaves what is seen of the rows as it is
 pub nothing : (s : Inside) → AreRows s → (page : GuestPage) → None ≡ key_in s.order page → (f : Held → Held) {v : RowsView} → view_of s ≡ v → v ≡ record v { held = change_held page f v.held }
@@ -82,9 +82,7 @@ module _ (s : Inside) (are : AreRows s) where
     -- the entry of a page whose row is not shared is of the kind with frames of their own
     pub own_there : {v : RowsView} → view_of s ≡ v → IfSome (held_at page v.held) (λ h. shared_state h.row.state ≡ false)
         → e.kind ≡ kinds.Own
-    own_there seen_as alone =
-        own_kind _ _ _
-        (subst (λ o. IfSome o (λ (h : Held). shared_state h.row.state ≡ false)) ((λ i. held_at page (sym seen_as i).held) ∙ row_there) alone)
+    own_there seen_as alone = grind (arith, nat_tests, own_kind, row_there)
 
     -- the tally can take the row of an entry from its state to any other
     pub can_be : {from : PageState} → from ≡ state_of e.kind e.number s.pass → {state : PageState} → length s.order < 2 ^ 64
@@ -108,9 +106,7 @@ module _ (s : Inside) (are : AreRows s) where
       fills = Updates-with_value _ _ _ (ap is_some stood)
 
       held_later : (f : Held → Held) → held_of s.pass e' ≡ f (held_of s.pass e) → held_in s.pass later s.order ≡ change_held page f held
-      held_later f is =
-          written _ _ are.ascending are.filed stood fills same _ f is
-          ∙ ap (λ p. change_held p f held) of_page
+      held_later f is = grind (arith, nat_tests, written, fills, of_page)
 
       module _ {from to : PageState} {tally : Tally} (was : from ≡ state_of e.kind e.number s.pass) (is : to ≡ state_of e'.kind e'.number s.pass) (moved : IsMoved from to s.tally tally) where
         tallied : IsTally (rows_of (held_in s.pass later s.order)) tally
@@ -170,7 +166,7 @@ module _ (s : Inside) (are : AreRows s) where
 
       module _ (kind : e'.kind ≡ e.kind) (number : e'.number ≡ e.number) where
         fits_still : e'.kind ≡ kinds.Own → e'.number ≤ s.pass
-        fits_still own = grind (arith, nat_tests, own)
+        fits_still own = grind (arith, nat_tests)
 
         same_state : state_of e.kind e.number s.pass ≡ state_of e'.kind e'.number s.pass
         same_state = grind (arith, nat_tests)
@@ -198,9 +194,7 @@ module _ (s : Inside) (are : AreRows s) where
       -- with an entry written anew whose row is changed by f, the rows are seen with f at that page, and the new list
       pub viewed : (f : Held → Held) → held_of s.pass e' ≡ f (held_of s.pass e) → (now : Listing) {v : RowsView} → view_of s ≡ v
           → record { held = held_in s.pass later s.order; restless = now; pass = s.pass } ≡ record v { held = change_held page f v.held; restless = now }
-      viewed f is now seen_as =
-          ap (λ held. record { held = held; restless = now; pass = s.pass }) (held_later f is)
-          ∙ (λ i. record (seen_as i) { held = change_held page f (seen_as i).held; restless = now })
+      viewed f is now seen_as = grind (arith, nat_tests, held_later)
 
       -- with an entry written anew whose row is changed by f, the rows are seen with f at that page
       pub viewed_same : (f : Held → Held) → held_of s.pass e' ≡ f (held_of s.pass e) → {now : Listing} → now ≡ s.restless → {v : RowsView}
@@ -232,22 +226,17 @@ module _ (s : Inside) (are : AreRows s) where
     pub viewed_forgotten : (e' : Entry) {now : Entry} → now ≡ forgotten e' → e'.page ≡ e.page → (f : Row → Row)
         → on_row settled (held_of s.pass e') ≡ on_row f (held_of s.pass e) → {v : RowsView} → view_of s ≡ v
         → record { held = held_in s.pass (with_value s.entries key now) s.order; restless = s.restless; pass = s.pass } ≡ record v { held = change_held page (on_row f) v.held }
-    viewed_forgotten e' is same f told seen_as =
-        ap (λ x. record { held = held_in s.pass (with_value s.entries key x) s.order; restless = s.restless; pass = s.pass }) is
-        ∙ viewed_same _ same _
-        (ap (λ (st : PageState). on_row (λ r. record r { state = st }) (held_of s.pass e')) (rest_of _ _ _ _ are.counting) ∙ told)
-        refl seen_as
+    viewed_forgotten e' is same f told seen_as = grind (arith, nat_tests, viewed_same, rest_of)
 
     -- ---------------------------------------------------------------- the entry went
 
     module _ {later : Slab Entry} (fills : Fills s.entries later key None) where
       -- what stands later stood before, under another key
       stood_before : {k : ℕ} {f : Entry} → get later k ≡ Some f → (get s.entries k ≡ Some f) × (k ≢ key)
-      stood_before stands = grind (arith, nat_tests, stands)
+      stood_before stands = grind (arith, nat_tests)
 
       held_gone : held_in s.pass later (without_named page s.order) ≡ without_held page held
-      held_gone =
-          subst (λ p. held_in s.pass later (without_named p s.order) ≡ without_held p held) of_page (taken _ _ are.ascending are.filed stood fills _)
+      held_gone = grind (arith, nat_tests, of_page, taken, fills)
 
       -- rows are lawful once a page's entry is gone, with its name, its place in the list and its count
       pub still_gone : {now : Listing} → IsTakenFrom page s.restless now → {from : PageState} {tally : Tally} → from ≡ state_of e.kind e.number s.pass
@@ -270,12 +259,11 @@ module _ (s : Inside) (are : AreRows s) where
       -- once the entry of a page is gone with the page's name, the rows are seen without that page
       pub viewed_gone : (now : Listing) {v : RowsView} → view_of s ≡ v
           → record { held = held_in s.pass later (without_named page s.order); restless = now; pass = s.pass } ≡ record v { held = without_held page v.held; restless = now }
-      viewed_gone now seen_as =
-          ap (λ held. record { held = held; restless = now; pass = s.pass }) held_gone ∙ (λ i. record (seen_as i) { held = without_held page (seen_as i).held; restless = now })
+      viewed_gone now seen_as = grind (arith, nat_tests, held_gone)
 
 -- where a page has no row, none is seen
 pub nowhere_seen : (s : Inside) → AreRows s → (page : GuestPage) → None ≡ key_in s.order page → {v : RowsView} → view_of s ≡ v → held_at page v.held ≡ None
-nowhere_seen s are page told is = (λ i. held_at page (sym is i).held) ∙ held_nowhere s.entries _ are.ascending are.filed _ _ (sym told)
+nowhere_seen s are page told is = grind (arith, nat_tests, held_nowhere)
 
 -- where a page has no row, the rows without that page are seen as before
 pub nothing_gone : (s : Inside) → AreRows s → (page : GuestPage) → None ≡ key_in s.order page → {v : RowsView} → view_of s ≡ v → v ≡ record v { held = without_held page v.held }
@@ -299,7 +287,7 @@ seen_with_room s seen_as is = ap (λ slab. view_of (record s { entries = slab })
 
 -- a page that is seen without a row has no name in the order
 pub no_name : (s : Inside) → AreRows s → (page : GuestPage) {v : RowsView} → view_of s ≡ v → held_at page v.held ≡ None → find (is_of page) s.order ≡ None
-no_name s are page seen_as absent = key_nowhere s.entries _ are.ascending are.filed _ _ ((λ i. held_at page (seen_as i).held) ∙ absent)
+no_name s are page seen_as absent = grind (arith, nat_tests, key_nowhere)
 
 -- the row of a page came, with a frame of its own, under a key where nothing stood
 module _ (s : Inside) (are : AreRows s) {v : RowsView} (seen_as : view_of s ≡ v) {key : ℕ} {e : Entry} {later : Slab Entry} (vacant : get s.entries key ≡ None)
@@ -336,9 +324,7 @@ module _ (s : Inside) (are : AreRows s) {v : RowsView} (seen_as : view_of s ≡ 
 
   -- once an entry came under a vacant key with a name, the rows are seen with its row, and the new list
   pub viewed_put : (now : Listing) → record { held = held_in s.pass later (with_named (named_of key e) s.order); restless = now; pass = s.pass } ≡ record v { held = with_held (held_of s.pass e) v.held; restless = now }
-  viewed_put now =
-      ap (λ held. record { held = held; restless = now; pass = s.pass }) held_put
-      ∙ (λ i. record (seen_as i) { held = with_held (held_of s.pass e) (seen_as i).held; restless = now })
+  viewed_put now = grind (arith, nat_tests, held_put)
 
 -- rows are lawful under another list that has all pages that a visit may change
 pub relisted : (s : Inside) → AreRows s → {now : Listing} → (now.known ≡ true → AreListed s.entries now.pages) → IsRows s.entries s.order now s.tally s.pass
