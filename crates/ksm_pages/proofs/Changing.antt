@@ -1,20 +1,20 @@
 -- The rows of what is held, once that of one page came, went or changed.
-use Rattle.ksm_pages.proofs.Names.{[], ap, ap₂, arith, Bool, change_held, change_row, comes_before, Entry, filter, GuestPage, Held, held_at, held_in, List, map-append, marked, Named, nat_tests, None, option_map, refl, Row, row_at, rows_of, Slab, sym, with_held, with_row, without_held, without_page, ℕ, ◌++◌, ◌∙◌, ◌∷◌, ◌≡◌, Option}
+use Rattle.ksm_pages.proofs.Names.{[], ap₂, arith, Bool, change_held, change_row, comes_before, Entry, filter, GuestPage, Held, held_at, held_in, List, map-append, marked, Named, None, option_map, refl, Row, row_at, rows_of, rules, Slab, sym, with_held, with_row, without_held, without_page, ℕ, ◌++◌, ◌∙◌, ◌∷◌, ◌≡◌, Option}
 use Rattle.ksm_pages.proofs.Options.{none_mapped}
 use Rattle.ksm_tree.proofs.Alike.{filter_mapped, find_mapped, map_mapped}
 
 -- where a change of what is held changes its row by g, the rows have g at the row of the page
 pub rows_changed : (page : GuestPage) (f : Held → Held) (g : Row → Row) (held : List Held) → ((h : Held) → (f h).row ≡ g h.row) → rows_of (change_held page f held) ≡ change_row page g (rows_of held)
 rows_changed page f g [] is = refl
-rows_changed page f g (h ∷ hs) is = grind (arith, nat_tests, rows_changed page f g hs is)
+rows_changed page f g (h ∷ hs) is = grind (arith, rows_changed page f g hs is)
 
 -- the row of a page among the rows is the row of what is held of that page
 pub row_found : (page : GuestPage) (held : List Held) → row_at page (rows_of held) ≡ option_map (λ h. h.row) (held_at page held)
-row_found page held = grind (arith, nat_tests, find_mapped)
+row_found page held = grind (arith, find_mapped)
 
 -- what is held of a page tells its row
 pub row_told : (page : GuestPage) (held : List Held) {o : Option Held} → held_at page held ≡ o → row_at page (rows_of held) ≡ option_map (λ h. h.row) o
-row_told page held is = row_found _ held ∙ ap (option_map (λ (h : Held). h.row)) is
+row_told page held is = search (rules, row_found)
 
 -- nothing is held of a page without a row
 pub nothing_held : (page : GuestPage) (held : List Held) → row_at page (rows_of held) ≡ None → held_at page held ≡ None
@@ -22,7 +22,7 @@ nothing_held page held absent = none_mapped _ _ (sym (row_found page held) ∙ a
 
 -- what is held without a page has the rows without the row of that page
 pub rows_without : (page : GuestPage) (held : List Held) → rows_of (without_held page held) ≡ without_page page (rows_of held)
-rows_without page held = grind (arith, nat_tests, filter_mapped)
+rows_without page held = grind (arith, filter_mapped)
 
 -- what is held with one row more has the rows with that row
 pub rows_with : (h : Held) (held : List Held) → rows_of (with_held h held) ≡ with_row h.row (rows_of held)
@@ -34,4 +34,4 @@ rows_with h held =
 
 -- whether the order says that a scan visits a page makes no difference to what is held
 pub marked_same : (pass : ℕ) (slab : Slab Entry) (page : GuestPage) (m : Bool) (order : List Named) → held_in pass slab (marked page m order) ≡ held_in pass slab order
-marked_same pass slab page m order = grind (arith, nat_tests, map_mapped)
+marked_same pass slab page m order = grind (arith, map_mapped)

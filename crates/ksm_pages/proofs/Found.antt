@@ -1,5 +1,5 @@
 -- Lists in the order of their pages: what a search finds once one came, went or changed.
-use Rattle.ksm_pages.proofs.Names.{[], All, All-cons, AllPairs, ap, arith, Bool, cases_Bool, comes_before, cond, false, filter, filter_passes, find, find-append, find_nothing, find_over, get_or, GuestPage, if◌then◌else◌, inl, inr, List, map, nat_tests, None, not, pages_ordered, pairs_head, pairs_tail, refl, same_page, same_page_eq, same_page_refl, Some, sym, true, ◌++◌, ◌∙◌, ◌∷◌, ◌≡◌, Option, find_passes, option_map, same_page_sym}
+use Rattle.ksm_pages.proofs.Names.{[], All, All-cons, AllPairs, ap, arith, Bool, cases_Bool, comes_before, cond, false, filter, filter_passes, find, find-append, find_nothing, find_over, get_or, GuestPage, if◌then◌else◌, inl, inr, List, map, None, not, pages_ordered, pairs_head, pairs_tail, refl, same_page, same_page_eq, same_page_refl, Some, sym, true, ◌++◌, ◌∙◌, ◌∷◌, ◌≡◌, Option, find_passes, option_map, same_page_sym}
 use Rattle.ksm_rmap.proofs.Ordered.{absent_parts}
 use Rattle.ksm_tree.proofs.Alike.{find_mapped}
 
@@ -15,7 +15,7 @@ find_kept test keep (x ∷ xs) o is kept =
           grind arith
       | inr fails ↦
           let rest = find_kept test keep xs o (grind arith) kept in
-          grind (arith, nat_tests)
+          grind arith
     ]
 
 module _ {X : Type 0} (key : X → GuestPage) where
@@ -48,7 +48,7 @@ module _ {X : Type 0} (key : X → GuestPage) where
 
     -- in a list with one more element of the page, a search for the page finds that element
     pub find_put : (x : X) (xs : List X) → key x ≡ page → find is_it (filter low xs ++ x ∷ filter high xs) ≡ Some x
-    find_put x xs at = grind (arith, nat_tests, find_nothing, filter_passes, find-append, same_page_refl)
+    find_put x xs at = grind (arith, find_nothing, filter_passes, find-append, same_page_refl)
 
     -- with one more element of a page, a search for another page finds what it found before
     pub find_put_other : (other : GuestPage) (x : X) (xs : List X) → key x ≡ page → AllPairs Before xs → find is_it xs ≡ None → same_page page other ≡ false → find (is_of_page other) (filter low xs ++ x ∷ filter high xs) ≡ find (is_of_page other) xs
@@ -58,11 +58,11 @@ module _ {X : Type 0} (key : X → GuestPage) where
 
     -- without the elements of the page, a search for the page finds nothing
     pub find_gone : (xs : List X) → find is_it (filter (λ y. not (is_it y)) xs) ≡ None
-    find_gone xs = grind (arith, nat_tests, find_nothing, filter_passes)
+    find_gone xs = grind (arith, find_nothing, filter_passes)
 
     -- an element that a search for another page finds is not of the page
     not_it : (other : GuestPage) (xs : List X) → same_page page other ≡ false → {y : X} → find (is_of_page other) xs ≡ Some y → is_it y ≡ false
-    not_it other xs differ {y} is = grind (arith, nat_tests, same_page_eq, find_passes, same_page_sym)
+    not_it other xs differ {y} is = grind (arith, same_page_eq, find_passes, same_page_sym)
 
     -- without the elements of a page, a search for another page finds what it found before
     pub find_gone_other : (other : GuestPage) (xs : List X) → same_page page other ≡ false → find (is_of_page other) (filter (λ y. not (is_it y)) xs) ≡ find (is_of_page other) xs
@@ -75,12 +75,12 @@ module _ {X : Type 0} (key : X → GuestPage) where
 
       -- a search finds what it found, changed
       pub find_change : (other : GuestPage) (xs : List X) → find (is_of_page other) (map change xs) ≡ option_map change (find (is_of_page other) xs)
-      find_change other xs = grind (arith, nat_tests, find_mapped)
+      find_change other xs = grind (arith, find_mapped)
 
       -- a search for the page finds the changed element
       pub find_changed : (xs : List X) (x : X) → find is_it xs ≡ Some x → find is_it (map change xs) ≡ Some (f x)
-      find_changed xs x found = grind (arith, nat_tests, find_change, find_passes)
+      find_changed xs x found = grind (arith, find_change, find_passes)
 
       -- a search for another page finds what it found before
       pub find_changed_other : (other : GuestPage) (xs : List X) → same_page page other ≡ false → find (is_of_page other) (map change xs) ≡ find (is_of_page other) xs
-      find_changed_other other xs differ = grind (arith, nat_tests, find_change, not_it)
+      find_changed_other other xs differ = grind (arith, find_change, not_it)

@@ -1,15 +1,10 @@
 -- A walk along the order that lists the pages that a visit may change.
-use Rattle.ksm_pages.proofs.Names.{[], after_cursor, All, All-cons, All-map, ap, AreAllListed, AreAscending, AreFiled, AreListed, arith, before_irrefl, Bool, cases_Bool, comes_before, Entry, false, filter, find, find_all, find_none, find_passes, get, get_or, GuestPage, has_item, Held, held_in, held_under, inl, inr, is_of, is_own, is_restless, is_some, IsAddedTo, IsUnder, Kind, length, List, Listing, may_change, Named, named_of, nat_tests, None, not, Option, option_map, own_state, PageState, pairs_head, pairs_tail, Private, rows_of, same_page, same_page_refl, same_Some, shared_state, Slab, Some, state_of, sym, true, true≢false, Waiting, ℕ, ◌&&◌, ◌<◌, ◌∙◌, ◌∷◌, ◌≡◌, ◌≤◌, ◌⊎◌, held_of}
+use Rattle.ksm_pages.proofs.Names.{[], after_cursor, All, All-cons, All-map, ap, AreAllListed, AreAscending, AreFiled, AreListed, arith, before_irrefl, Bool, cases_Bool, comes_before, Entry, false, filter, find, find_all, find_none, find_passes, get, get_or, GuestPage, has_item, Held, held_in, held_under, inl, inr, is_of, is_own, is_restless, is_some, IsAddedTo, IsUnder, Kind, length, List, Listing, may_change, Named, named_of, None, not, Option, option_map, pairs_head, pairs_tail, rows_of, same_page, same_page_refl, same_Some, shared_state, Slab, Some, state_of, sym, true, true≢false, ℕ, ◌&&◌, ◌<◌, ◌∙◌, ◌∷◌, ◌≡◌, ◌≤◌, ◌⊎◌, held_of}
 use Rattle.ksm_pages.proofs.Filing.{all_stand, named_under, one_key, under_named}
 use Rattle.ksm_pages.proofs.Listings.{with_has}
 
--- what holds of Private and of Waiting holds of the state of any page with a frame of its own
-pub own_either : (P : PageState → Type 0) → P Private → P Waiting → (b : Bool) → P (own_state b)
-own_either P rests waits false = rests
-own_either P rests waits true = waits
-
 own_by : (kind : Kind) (number pass : ℕ) → not (shared_state (state_of kind number pass)) ≡ is_own kind
-own_by kind number pass = grind (arith, nat_tests)
+own_by kind number pass = grind arith
 
 -- a visit may change a row exactly where it may change its entry
 pub restless_as : (pass : ℕ) (e : Entry) → may_change (held_of pass e).row ≡ is_restless e
@@ -22,7 +17,7 @@ AreListedUpTo slab last l = l.known ≡ true → (key : ℕ) (e : Entry) → get
 -- a filter that lets less through leaves no more
 filter_least : {X : Type 0} (p q : X → Bool) (ys : List X) → ((y : X) → q y ≡ true → p y ≡ true) → length (filter q ys) ≤ length (filter p ys)
 filter_least p q [] less = omega arith
-filter_least p q (z ∷ zs) less = grind (arith, nat_tests, filter_least p q zs less)
+filter_least p q (z ∷ zs) less = grind (arith, filter_least p q zs less)
 
 -- and fewer, where it stops what the other finds first
 filter_fewer : {X : Type 0} (p q : X → Bool) (xs : List X) (x : X) → find p xs ≡ Some x → q x ≡ false → ((y : X) → q y ≡ true → p y ≡ true) → length (filter q xs) < length (filter p xs)
@@ -35,7 +30,7 @@ filter_fewer p q (y ∷ ys) x found out less =
           let few = filter_least p q ys less in
           grind arith
       | inr fails ↦
-          let none : q y ≡ false = grind (arith, nat_tests) in
+          let none : q y ≡ false = grind arith in
           let few = filter_fewer p q ys x (grind arith) out less in
           grind arith
     ]
@@ -62,7 +57,7 @@ module _ (slab : Slab Entry) (order : List Named) (rise : AreAscending order) (f
 
     -- behind the next page there are fewer pages than behind the cursor
     pub fewer_behind : length (filter (λ m. comes_before n.page m.page) order) < length (filter (λ m. after_cursor last m.page) order)
-    fewer_behind = grind (arith, nat_tests, filter_fewer, before_irrefl, find_passes)
+    fewer_behind = grind (arith, filter_fewer, before_irrefl, find_passes)
 
     -- an entry that is not behind it is its own, or was not behind the last
     passed : (key : ℕ) {e : Entry} → get slab key ≡ Some e → comes_before n.page e.page ≡ false → (e.page ≡ n.page) ⊎ (after_cursor last e.page ≡ false)
@@ -70,7 +65,7 @@ module _ (slab : Slab Entry) (order : List Named) (rise : AreAscending order) (f
       | inl after ↦
           let first = find_all (is_of e.page) (λ m. after_cursor last m.page ≡ true → (m.page ≡ n.page) ⊎ (comes_before n.page m.page ≡ true)) order (named_of key e) (named_under slab order filed key e stands)
           (first_found (λ m. after_cursor last m.page) order n rise found) in
-          grind (arith, nat_tests)
+          grind arith
       | inr before ↦ inr before
     ]
 
@@ -112,7 +107,7 @@ module _ (slab : Slab Entry) (order : List Named) (rise : AreAscending order) (f
       (λ k d lt. at _ (all_stand slab _ rise filed k d lt)))
     where
       at : (n : Named) → option_map (named_of n.key) (get slab n.key) ≡ Some n → may_change (held_under pass (get slab n.key)).row ≡ true → has_item (held_under pass (get slab n.key)).row.page pages ≡ true
-      at n stands may = grind (arith, nat_tests)
+      at n stands may = grind arith
 
   -- a row has a frame of its own exactly where it is not shared
   pub rows_framed : (pass : ℕ) → All (λ h. is_some h.frame ≡ not (shared_state h.row.state)) (held_in pass slab order)
@@ -120,4 +115,4 @@ module _ (slab : Slab Entry) (order : List Named) (rise : AreAscending order) (f
       All-map (λ (h : Held). is_some h.frame ≡ not (shared_state h.row.state)) _ _ (λ k d lt. at _ (all_stand slab _ rise filed k d lt))
     where
       at : (n : Named) → option_map (named_of n.key) (get slab n.key) ≡ Some n → is_some (held_under pass (get slab n.key)).frame ≡ not (shared_state (held_under pass (get slab n.key)).row.state)
-      at n stands = grind (arith, nat_tests)
+      at n stands = grind arith

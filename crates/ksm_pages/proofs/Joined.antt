@@ -1,5 +1,5 @@
 -- The pages once a page with a frame of its own joined a dup.
-use Rattle.ksm_pages.proofs.Names.{All, ap, AreKept, AreTied, AreWaiting, arith, both_ways, change_held, change_items, change_row, count_by, Dup, dup_numbered, dup_of, DupRow, DupsState, each_at_page, Entry, eq-eqb, false, find_none, frame_of, get_or, GuestPage, HasRoom, Held, held_at, held_of, InPageOrder, Inside, is_some, IsStopped, items_in, length, let_out, lies_on, List, Listing, lodging, lodgings_of, mapped, Merged, merged_into, merged_state, MOST_REFERENCES, nat_tests, None, number_found, Option, option_map, PageState, PagesValue, PagesView, refl, Row, row_at, row_found, row_stopped, rows_items, rows_of, RowsView, seen, shared_state, Some, subst, sym, tied_count, tied_joined, true, true≢false, with_item, ℕ, ◌<◌, ◌==◌, ◌∙◌, ◌≡◌}
+use Rattle.ksm_pages.proofs.Names.{All, ap, AreKept, AreTied, AreWaiting, arith, both_ways, change_held, change_items, change_row, count_by, Dup, dup_numbered, dup_of, DupRow, DupsState, each_at_page, Entry, eq-eqb, false, find_none, frame_of, get_or, GuestPage, HasRoom, Held, held_at, held_of, InPageOrder, Inside, is_some, IsStopped, items_in, length, let_out, lies_on, List, Listing, lodging, lodgings_of, mapped, Merged, merged_into, merged_state, MOST_REFERENCES, None, number_found, Option, option_map, PageState, PagesValue, PagesView, refl, Row, row_at, row_found, row_stopped, rows_items, rows_of, RowsView, seen, shared_state, Some, subst, sym, tied_count, tied_joined, true, true≢false, with_item, ℕ, ◌<◌, ◌==◌, ◌∙◌, ◌≡◌}
 use Rattle.ksm_tree.specs.Dups.{items_of as items_numbered, rows_of as dup_rows}
 use Rattle.ksm_pages.proofs.Changing.{row_found as found_rows}
 use Rattle.ksm_pages.proofs.Options.{some_mapped}
@@ -8,11 +8,11 @@ use Rattle.ksm_pages.proofs.Lodgings.{frame_by, seat}
 
 -- a page with a frame of its own is not merged
 pub own_not_merged : (s : PageState) → shared_state s ≡ false → merged_state s ≡ false
-own_not_merged s e = grind (arith, nat_tests)
+own_not_merged s e = grind arith
 
 -- a page with a frame of its own leaves no dup, so letting it out changes none
 pub let_out_alone : (state : PageState) (page : GuestPage) {dups : List Dup} → shared_state state ≡ false → let_out state page dups ≡ dups
-let_out_alone state page alone = grind (arith, nat_tests)
+let_out_alone state page alone = grind arith
 
 known_at : {number : ℕ} (ds : List DupRow) (o : Option DupRow) → dup_numbered number ds ≡ o → (k : ℕ) (d : DupRow) → k < length ds
     → (get_or ds k d).number ≡ number → is_some o ≡ true
@@ -45,7 +45,7 @@ fewer_room rows dups tied room = (found_room rows _ _ tied refl room).1
 
 item_seat : (of : ℕ → Option ℕ) (number : ℕ) {r : Row} → merged_into number r.state ≡ true → (o : Option Held)
     → option_map (λ (h : Held). h.row) o ≡ Some r → seat of o ≡ of number
-item_seat of number merged o is = grind (arith, nat_tests)
+item_seat of number merged o is = grind arith
 
 -- an item of a dup lies where all its items do
 pub item_lies : (of : ℕ → Option ℕ) (held : List Held) → InPageOrder (rows_of held) → (number : ℕ)
@@ -57,7 +57,7 @@ item_lies of held rise number k d lt merged =
 -- a page with a frame of its own lies on that frame
 pub own_seat : (of : ℕ → Option ℕ) (pass : ℕ) (e : Entry) → shared_state (held_of pass e).row.state ≡ false
     → seat of (Some (held_of pass e)) ≡ Some e.at
-own_seat of pass e alone = grind (arith, nat_tests)
+own_seat of pass e alone = grind arith
 
 module _ (s : Inside) (are : AreLawful s) (page : GuestPage) {h : Held} (found : held_at page s.rows.held ≡ Some h)
     (alone : shared_state h.row.state ≡ false) (number : ℕ)
@@ -65,13 +65,13 @@ module _ (s : Inside) (are : AreLawful s) (page : GuestPage) {h : Held} (found :
     (out : later ≡ record joined { dups = let_out h.row.state h.row.page joined.dups; waiting = later.waiting })
     (stopped : IsStopped s.knobs h.row joined.waiting later.waiting) where
   now_in : later.dups ≡ change_items number (with_item page) s.dups.dups
-  now_in = grind (arith, nat_tests)
+  now_in = grind arith
 
   joined_dups : dup_rows later.dups ≡ dup_rows s.dups.dups
   joined_dups = ap dup_rows now_in ∙ rows_items _ _ _
 
   joined_next : later.next ≡ s.dups.next
-  joined_next = grind (arith, nat_tests)
+  joined_next = grind arith
 
   -- the pages are lawful once a page with a frame of its own joined a dup
   pub lawful_joined : (rows : RowsView) → rows.held ≡ change_held page (mapped (Merged number) None) s.rows.held

@@ -1,5 +1,5 @@
 -- The pages once the row of one page changed, or went: they are lawful still, and what is seen of them is changed so.
-use Rattle.ksm_pages.proofs.Names.{ap, ap₂, AreKept, AreTied, AreWaiting, arith, change_held, change_row, DupsState, false, find_passes, frame_of, Frames, GuestPage, Held, held_at, if◌then◌else◌, InPageOrder, Inside, is_some, IsAlone, IsKnown, IsStopped, let_out, lies_on, List, lodging, lodgings_of, MatchOption, merged_state, nat_tests, None, Option, option_map, ordered_map, ordered_without, PagesValue, Row, row_at, row_dropped, row_stopped, rows_of, rows_out, RowsView, same_page, same_page_eq, seen, shared_state, Some, subst, sym, tied_dropped, tied_left, true, waiting_state, without_held, without_page, ℕ, ◌∙◌, ◌≡◌}
+use Rattle.ksm_pages.proofs.Names.{ap, ap₂, AreKept, AreTied, AreWaiting, arith, change_held, change_row, DupsState, false, find_passes, frame_of, Frames, GuestPage, Held, held_at, if◌then◌else◌, InPageOrder, Inside, is_some, IsAlone, IsKnown, IsStopped, let_out, lies_on, List, lodging, lodgings_of, MatchOption, merged_state, None, Option, option_map, ordered_map, ordered_without, PagesValue, Row, row_at, row_dropped, row_stopped, rows_of, rows_out, RowsView, same_page, same_page_eq, seen, shared_state, Some, subst, sym, tied_dropped, tied_left, true, waiting_state, without_held, without_page, ℕ, ◌∙◌, ◌≡◌}
 use Rattle.ksm_tree.specs.Dups.{rows_of as dup_rows}
 use Rattle.ksm_tree.proofs.Alike.{map_mapped}
 use Rattle.ksm_pages.proofs.Changing.{row_told, rows_changed, rows_without}
@@ -27,11 +27,11 @@ AreLawful s = AreKept s.shape s.knobs (rows_of s.rows.held) s.dups s.frames.item
 
 -- two changes of what is held of a page, one after the other, are one change
 pub held_twice : (page : GuestPage) (f g : Held → Held) → ((h : Held) → (f h).row.page ≡ h.row.page) → (held : List Held) → change_held page g (change_held page f held) ≡ change_held page (λ h. g (f h)) held
-held_twice page f g same held = grind (arith, nat_tests, map_mapped)
+held_twice page f g same held = grind (arith, map_mapped)
 
 -- a page that comes to lie where it lay does not move
 pub lies_same : (page : GuestPage) {frames : Frames} → lies_on page (frames page) frames ≡ frames
-lies_same page = grind (arith, nat_tests)
+lies_same page = grind arith
 
 module _ (s : Inside) {p : PagesValue} (seen_as : view_of s ≡ p) (page : GuestPage) where
   rows_seen : rows_of s.rows.held ≡ p.rows
@@ -63,12 +63,12 @@ module _ (s : Inside) (are : AreLawful s) (page : GuestPage) {h : Held} (found :
 
   -- the row that is held of a page is of that page
   pub of_page : old.page ≡ page
-  of_page = grind (arith, nat_tests, same_page_eq, find_passes, row_there)
+  of_page = grind (arith, same_page_eq, find_passes, row_there)
 
   module _ {p : PagesValue} (seen_as : view_of s ≡ p) where
     -- the page lies where its row says
     pub lies : seat (of_dup s) (Some h) ≡ frame_of p.lodgings page
-    lies = grind (arith, nat_tests, frame_by)
+    lies = grind (arith, frame_by)
 
   module _ (f : Held → Held) (g : Row → Row) (is : (x : Held) → (f x).row ≡ g x.row) (same : (r : Row) → (g r).page ≡ r.page) (rows : RowsView) (turned : rows.held ≡ change_held page f s.rows.held) where
     -- once a page's row changed, the rows are those with the new row in place of the old one
@@ -77,7 +77,7 @@ module _ (s : Inside) (are : AreLawful s) (page : GuestPage) {h : Held} (found :
 
     -- a change of the row of one page alone leaves the page of every row
     pub keeps : (r : Row) → (if same_page r.page page then g r else r).page ≡ r.page
-    keeps r = grind (arith, nat_tests)
+    keeps r = grind arith
 
     -- once a page's row changed, the pages are lawful if the dups and waiting pages are those of the new rows
     pub lawful_turned : {later : DupsState} → later.places ≡ s.dups.places → AreTied (change_row page (λ _. g old) (rows_of s.rows.held)) later.dups
@@ -127,7 +127,7 @@ module _ (s : Inside) (are : AreLawful s) (page : GuestPage) {h : Held} (found :
     same_next = λ i. (out i).next
 
     dups_out : later.dups ≡ let_out old.state page s.dups.dups
-    dups_out = grind (arith, nat_tests, of_page)
+    dups_out = grind (arith, of_page)
 
     -- once a page was let out and its new row is neither merged nor waiting, the pages are lawful
     pub lawful_left : (f : Held → Held) (g : Row → Row) → ((x : Held) → (f x).row ≡ g x.row) → ((r : Row) → (g r).page ≡ r.page) → (rows : RowsView) → rows.held ≡ change_held page f s.rows.held

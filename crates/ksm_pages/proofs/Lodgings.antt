@@ -55,4 +55,4 @@ changed_to page g rows {old} rise found = map_alike _ _ _ (λ k d lt. at _ (only
     only = find_all _ (λ r. All (λ s. same_page s.page r.page ≡ true → s ≡ r) rows) _ _ found (one_of_each_page _ rise)
 
     at : (r : Row) → (same_page r.page old.page ≡ true → r ≡ old) → (if same_page r.page page then g r else r) ≡ (if same_page r.page page then g old else r)
-    at r is = grind (arith, nat_tests, cond_if, same_page_eq, at_page)
+    at r is = grind (arith, cond_if, same_page_eq, at_page)

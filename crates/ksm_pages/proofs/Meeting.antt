@@ -1,5 +1,5 @@
 -- The page that waits in the tree of a row with its bytes once the row was visited, and the row that is its partner.
-use Rattle.ksm_pages.proofs.Names.{ap, AreWaiting, arith, change_row, cond, false, find_passes, GuestPage, if◌then◌else◌, InPageOrder, IsAdded, Knobs, List, look_up_found, MatchOption, names, nat_tests, None, Option, option_and_then, own_found, partner, partner_found, refl, Row, row_at, row_begun, row_kept, same_page, same_page_eq, Some, subst, sym, tree_of, true, unwrap_or, Waiting, waiting_page, WaitingPage, waits_there, ◌∙◌, ◌≡◌}
+use Rattle.ksm_pages.proofs.Names.{ap, AreWaiting, arith, change_row, cond, false, find_passes, GuestPage, if◌then◌else◌, InPageOrder, IsAdded, Knobs, List, look_up_found, MatchOption, names, None, Option, option_and_then, own_found, partner, partner_found, refl, Row, row_at, row_begun, row_kept, same_page, same_page_eq, Some, subst, sym, tree_of, true, unwrap_or, Waiting, waiting_page, WaitingPage, waits_there, ◌∙◌, ◌≡◌}
 use Rattle.std.specs.Option.{is_some}
 
 module _ (knobs : Knobs) (rows : List Row) (w : List WaitingPage) (row : Row) (rise : InPageOrder rows) (are : AreWaiting knobs rows w)
@@ -27,7 +27,7 @@ module _ (knobs : Knobs) (rows : List Row) (w : List WaitingPage) (row : Row) (r
 
   -- where the page that waits with the row's bytes is another page, that page waited before
   pub met_other : same_page met row.page ≡ false → waits ≡ Some met
-  met_other other = grind (arith, nat_tests)
+  met_other other = grind arith
 
   -- where the page that waits with the row's bytes is another page, its row is the partner
   pub met_partner : same_page met row.page ≡ false → MatchOption (partner knobs rows row) (true ≡ false) (λ r. met ≡ r.page)

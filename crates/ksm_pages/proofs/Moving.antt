@@ -1,5 +1,5 @@
 -- The pages once the items of a dup went to another frame.
-use Rattle.ksm_pages.proofs.Names.{[], All, All-head, All-tail, ap, arith, cases_Bool, dup_numbered, DupRow, each_has_number, eq-eqb, eqb-true, false, find_all, find_passes, frame_of, frame_seen, Held, held_at, if◌then◌else◌, inl, InPlaceOrder, inr, is_item, items_on, length, List, list_any, lodging, lodgings_of, Merged, merged_into, nat_tests, None, one_of_each_place, Option, option_and_then, option_map, PageState, Private, refl, rows_of, set, slice_get, Some, subst, sym, true, Waiting, Zero, ℕ, ◌<◌, ◌==◌, ◌∙◌, ◌∷◌, ◌≡◌}
+use Rattle.ksm_pages.proofs.Names.{[], All, All-head, All-tail, ap, arith, cases_Bool, dup_numbered, DupRow, each_has_number, eq-eqb, eqb-true, false, find_all, find_passes, frame_of, frame_seen, Held, held_at, if◌then◌else◌, inl, InPlaceOrder, inr, is_item, items_on, length, List, list_any, lodging, lodgings_of, Merged, merged_into, None, one_of_each_place, Option, option_and_then, option_map, PageState, Private, refl, rows_of, set, slice_get, Some, subst, sym, true, Waiting, Zero, ℕ, ◌<◌, ◌==◌, ◌∙◌, ◌∷◌, ◌≡◌}
 use Rattle.ksm_tree.proofs.Indexed.{cond_if}
 use Rattle.ksm_pages.proofs.Changing.{row_found}
 use Rattle.ksm_pages.proofs.Filing.{differ_by}
@@ -24,7 +24,7 @@ module _ (dups : List DupRow) (rise : InPlaceOrder dups) (frames : List ℕ) (pl
   module _ {d : DupRow} (at : d.place ≡ place) (found : dup_numbered d.number dups ≡ Some d)
       (one : All (λ e. (e.place == d.place) ≡ true → e ≡ d) dups) where
     moved : of_now d.number ≡ Some frame
-    moved = grind (arith, nat_tests, set_there)
+    moved = grind (arith, set_there)
 
     stayed : (n : ℕ) → (n == d.number) ≡ false → of_now n ≡ of n
     stayed n other = go _ refl

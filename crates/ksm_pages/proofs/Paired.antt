@@ -1,5 +1,5 @@
 -- The pages once two of them became the items of a new dup.
-use Rattle.ksm_pages.proofs.Names.{[], All, ap, ap₂, AreDups, AreKept, AreTied, AreWaiting, arith, at_others, cases_Bool, change_held, change_row, change_rows, dup_numbered, DupRow, DupsState, Entry, false, find, find_all, frame_of, Frames, GuestPage, Held, held_at, held_of, InPageOrder, InPlaceOrder, Inside, is_live, IsStopped, length, length-set, let_out, lies_on, List, lodging, lodgings_of, mapped, MatchOption, MayPair, Merged, merged_into, nat_tests, None, not, Option, option_and_then, option_map, ordered_change, PagesValue, paired, place_kept, place_new, refl, Row, row_at, row_stopped, rows_new, rows_of, RowsView, same_page, same_page_eq, seen, set, slice_get, Some, stands_at, subst, suc, sym, tied_made, tree_of, true, with_dup, with_item, with_new, zero, ℕ, ◌&&◌, ◌+◌, ◌<◌, ◌==◌, ◌||◌, ◌∙◌, ◌∷◌, ◌≡◌, ◌≢◌, get_or-set_same, slice_get-get_or}
+use Rattle.ksm_pages.proofs.Names.{[], All, ap, ap₂, AreDups, AreKept, AreTied, AreWaiting, arith, at_others, cases_Bool, change_held, change_row, change_rows, dup_numbered, DupRow, DupsState, Entry, false, find, find_all, frame_of, Frames, GuestPage, Held, held_at, held_of, InPageOrder, InPlaceOrder, Inside, is_live, IsStopped, length, length-set, let_out, lies_on, List, lodging, lodgings_of, mapped, MatchOption, MayPair, Merged, merged_into, None, not, Option, option_and_then, option_map, ordered_change, PagesValue, paired, place_kept, place_new, refl, Row, row_at, row_stopped, rows_new, rows_of, RowsView, rules, same_page, same_page_eq, seen, set, slice_get, Some, stands_at, subst, suc, sym, tied_made, tree_of, true, with_dup, with_item, with_new, zero, ℕ, ◌&&◌, ◌+◌, ◌<◌, ◌==◌, ◌||◌, ◌∙◌, ◌∷◌, ◌≡◌, ◌≢◌, get_or-set_same, slice_get-get_or}
 use Rattle.std.specs.Vec.{with_item as with_frame}
 use Rattle.ksm_tree.specs.Dups.{rows_of as dup_rows}
 use Rattle.ksm_tree.proofs.Alike.{map_mapped}
@@ -33,7 +33,7 @@ module _ (dups : List DupRow) (dup : DupRow) (frames : List ℕ) (frame : ℕ) w
 
   -- a new dup has the frame that is written at its place
   pub lodged_new : All (λ d. d.number < dup.number) dups → dup.place < length frames → of_now dup.number ≡ Some frame
-  lodged_new fresh inside = grind (arith, nat_tests, kept_at_place, place_new, set_there)
+  lodged_new fresh inside = grind (arith, kept_at_place, place_new, set_there)
 
   -- a dup that stands elsewhere keeps its frame where one is written for a new dup
   pub lodged_kept : InPlaceOrder dups → (n : ℕ) → (n == dup.number) ≡ false
@@ -55,7 +55,7 @@ module _ (dups : List DupRow) (dup : DupRow) (frames : List ℕ) (frame : ℕ) w
 -- two changes of rows of two pages are one of both
 pub both_changed : (q p : GuestPage) (f : Row → Row) → ((r : Row) → (f r).page ≡ r.page) → same_page q p ≡ false → (rows : List Row)
     → change_row p f (change_row q f rows) ≡ change_rows (λ r. same_page r.page q || same_page r.page p) f rows
-both_changed q p f same apart rows = grind (arith, nat_tests, map_mapped, cases_Bool, same_page_eq)
+both_changed q p f same apart rows = grind (arith, map_mapped, cases_Bool, same_page_eq)
 
 -- two pages have rows, of which something is so
 abbrev IsOfBoth : (Row → Row → Type 0) → Option Row → Option Row → Type 0
@@ -65,7 +65,7 @@ module _ (s : Inside) {p : PagesValue} (seen_as : view_of s ≡ p) (place : ℕ)
     (may : IsOfBoth (MayPair (seen p) place) (row_at first p.rows) (row_at second p.rows)) where
   may_first : {o : Option Held} → held_at first s.rows.held ≡ o
       → IsOfBoth (MayPair (seen p) place) (option_map (λ h. h.row) o) (row_at second p.rows)
-  may_first is = subst (λ r. IsOfBoth (MayPair (seen p) place) r (row_at second p.rows)) (row_seen s seen_as _ is) may
+  may_first is = search (rules, row_seen)
 
   -- the first of two pages that may pair is held
   pub first_there : held_at first s.rows.held ≡ None → true ≡ false
@@ -73,7 +73,7 @@ module _ (s : Inside) {p : PagesValue} (seen_as : view_of s ≡ p) (place : ℕ)
 
   -- the second of two pages that may pair is held
   pub second_there : held_at second s.rows.held ≡ None → true ≡ false
-  second_there gone = grind (arith, nat_tests, first_there, row_seen, may_first)
+  second_there gone = grind (arith, first_there, row_seen, may_first)
 
   -- and the rows may become items
   may_both : {a b : Held} → held_at first s.rows.held ≡ Some a → held_at second s.rows.held ≡ Some b
@@ -157,7 +157,7 @@ module _ {s : Inside} {p : PagesValue} {place : ℕ} {first second : GuestPage} 
 
   -- the second of two pages that can pair lies on the frame of its own
   pub lay_second : frame_of p.lodgings second ≡ Some other.at
-  lay_second = grind (arith, nat_tests, lies, own_seat)
+  lay_second = grind (arith, lies, own_seat)
 
   module _ {tree : ℕ} (in_tree : (r : Row) → r.home ≡ other.home → tree ≡ tree_of s.knobs r) {made between later : DupsState}
       (is_made : made ≡ with_pair (record { number = s.dups.next; place = place; tree = tree; bytes = b.row.bytes }) first second s.dups)
@@ -185,18 +185,18 @@ module _ {s : Inside} {p : PagesValue} {place : ℕ} {first second : GuestPage} 
     -- ---------------------------------------------------------------- the dups
 
     now_dups : later.dups ≡ with_new (record { row = dup; items = with_item b.row.page (a.row.page ∷ []) }) s.dups.dups
-    now_dups = grind (arith, nat_tests, let_out_alone, at_first, at_second)
+    now_dups = grind (arith, let_out_alone, at_first, at_second)
 
     now_rows : dup_rows later.dups ≡ with_dup dup (dup_rows s.dups.dups)
-    now_rows = grind (arith, nat_tests, now_dups, rows_new)
+    now_rows = grind (arith, now_dups, rows_new)
 
     -- ---------------------------------------------------------------- the rows
 
     now_held : rows.held ≡ change_held b.row.page into half
-    now_held = grind (arith, nat_tests, at_first, at_second)
+    now_held = grind (arith, at_first, at_second)
 
     found_first : held_at a.row.page s.rows.held ≡ Some a
-    found_first = ap (λ q. held_at q s.rows.held) (sym at_first) ∙ it.found
+    found_first = search (rules, at_first)
 
     found_second : held_at b.row.page half ≡ Some b
     found_second =
@@ -245,7 +245,7 @@ module _ {s : Inside} {p : PagesValue} {place : ℕ} {first second : GuestPage} 
     of_new = lodging (dup_rows later.dups) (set s.frames.items place frame)
 
     of_with : of_new ≡ lodging (with_dup dup (dup_rows s.dups.dups)) (set s.frames.items place frame)
-    of_with = ap (λ ds. lodging ds (set s.frames.items place frame)) now_rows
+    of_with = search (rules, now_rows)
 
     abbrev lay : Frames
     lay = frame_of (lodgings_of (of_dup s) s.rows.held)

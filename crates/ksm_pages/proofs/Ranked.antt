@@ -1,5 +1,5 @@
 -- The pages in order as the items that are kept for them: what stands before a key, what comes behind it, and in between.
-use Rattle.ksm_pages.proofs.Names.{[], ahead_of, All, All-cons, All-head, All-tail, ap, ap₂, arith, Bool, cases_Bool, cases_lt, comes_before, count_by, drop, eqb-true, false, filter, filter_all, filter_none, find, get_or, GuestPage, if◌then◌else◌, inl, inr, is_of, is_some, key_of, length, length-filter, length-map, List, map, map-append, marked, Named, named_by, nat_lt, nat_tests, None, none-some, not, Option, option_map, page_at, page_of, pairs_head, pairs_tail, passed_to, refl, same_Some, slice_get, slice_get-map, slice_get_past, Some, subst, suc, sym, take, true, true≢false, visited, with_named, without_named, zero, ℕ, ◌&&◌, ◌++◌, ◌+◌, ◌-◌, ◌<◌, ◌^◌, ◌∙◌, ◌∷◌, ◌≡◌, ◌≤◌}
+use Rattle.ksm_pages.proofs.Names.{[], ahead_of, All, All-cons, All-head, All-tail, ap, ap₂, arith, Bool, cases_Bool, cases_lt, comes_before, count_by, drop, eqb-true, false, filter, filter_all, filter_none, find, get_or, GuestPage, if◌then◌else◌, inl, inr, is_of, is_some, key_of, length, length-filter, length-map, List, map, map-append, marked, Named, named_by, nat_lt, None, none-some, not, Option, option_map, page_at, page_of, pairs_head, pairs_tail, passed_to, refl, same_Some, slice_get, slice_get-map, slice_get_past, Some, subst, suc, sym, take, true, true≢false, visited, with_named, without_named, zero, ℕ, ◌&&◌, ◌++◌, ◌+◌, ◌-◌, ◌<◌, ◌^◌, ◌∙◌, ◌∷◌, ◌≡◌, ◌≤◌}
 use Rattle.std.proofs.lemmas.List.{drop-map, length-drop, length-take-le, nil_from_length, take-map}
 use Rattle.std.proofs.lemmas.List.Kept.{AllPairs-filter}
 use Rattle.ksm_base.proofs.Edits.{count_more}
@@ -15,16 +15,13 @@ use Rattle.ksm_order.proofs.Parts.{up_to_few}
 
 module _ (page : GuestPage) (few : page.page < 2 ^ 32) where
   pub is_its : (x : Item) → is_of page (named_by x) ≡ is_at (key_of page) x
-  is_its x = grind (arith, nat_tests)
+  is_its x = grind arith
 
   pub before_its : (x : Item) → comes_before (named_by x).page page ≡ nat_lt x.key (key_of page)
-  before_its x = grind (arith, nat_tests)
+  before_its x = grind arith
 
   pub behind_its : (x : Item) → comes_before page (named_by x).page ≡ nat_lt (key_of page) x.key
-  behind_its x = grind (arith, nat_tests)
-
-  pub from_its : (x : Item) → comes_before page (named_by x).page ≡ is_from (key_of page + 1) x
-  from_its x = grind (arith, nat_tests)
+  behind_its x = grind arith
 
   pub page_is : page_of (key_of page) ≡ page
   page_is = grind arith
@@ -37,11 +34,11 @@ Less x y = x.key < y.key
 -- a search for a page finds what a search for its key finds
 pub found_by : (page : GuestPage) → page.page < 2 ^ 32 → (items : List Item)
     → find (is_of page) (map named_by items) ≡ option_map named_by (find (is_at (key_of page)) items)
-found_by page few items = grind (arith, nat_tests, find_mapped, is_its)
+found_by page few items = grind (arith, find_mapped, is_its)
 
 pub absent_by : (page : GuestPage) → page.page < 2 ^ 32 → (items : List Item) → find (is_of page) (map named_by items) ≡ None
     → find (is_at (key_of page)) items ≡ None
-absent_by page few items absent = grind (arith, nat_tests, found_by)
+absent_by page few items absent = grind (arith, found_by)
 
 pub with_by : {page : GuestPage} → page.page < 2 ^ 32 → (x : Item) → x.key ≡ key_of page → {n : Named} → named_by x ≡ n → n.page ≡ page → (items : List Item)
     → with_named n (map named_by items) ≡ map named_by (with_item x items)
@@ -55,7 +52,7 @@ with_by few x at is of items =
 
 pub without_by : (page : GuestPage) → page.page < 2 ^ 32 → (items : List Item)
     → without_named page (map named_by items) ≡ map named_by (without (key_of page) items)
-without_by page few items = grind (arith, nat_tests, filter_mapped, is_its)
+without_by page few items = grind (arith, filter_mapped, is_its)
 
 pub marked_by : (page : GuestPage) → page.page < 2 ^ 32 → (mark : Bool) → (items : List Item)
     → marked page mark (map named_by items) ≡ map named_by (with_mark (key_of page) mark items)
@@ -72,7 +69,7 @@ marked_by page few mark items =
 -- ---------------------------------------------------------------- those that a scan visits
 
 pub visited_by : (items : List Item) → visited (map named_by items) ≡ map named_by (kept_marked items)
-visited_by items = grind (arith, nat_tests, filter_mapped)
+visited_by items = grind (arith, filter_mapped)
 
 -- where items are in order, those that are marked and do not come before a key are the marked ones but for as many as come before
 module _ (key : ℕ) where
@@ -84,15 +81,15 @@ module _ (key : ℕ) where
       elim (cases_Bool x.marked) [
         | inl is ↦ elim (cases_lt x.key key) [
           | inl less ↦
-              let n : up_to key (x ∷ xs) ≡ suc (up_to key xs) = grind (arith, nat_tests) in
+              let n : up_to key (x ∷ xs) ≡ suc (up_to key xs) = grind arith in
               let all : kept_marked (x ∷ xs) ≡ x ∷ kept_marked xs = grind arith in
               let kept : filter (λ y. y.marked && is_from key y) (x ∷ xs) ≡ filter (λ y. y.marked && is_from key y) xs = grind arith in
               kept ∙ rest ∙ sym (ap₂ (λ m ys. drop m ys) n all)
           | inr more ↦
               let later : All (λ y. key ≤ y.key) xs = λ k d lt. let up = pairs_head Less x xs rise k d lt in omega (arith, up) in
               let none = up_to_behind key xs later in
-              let n : up_to key (x ∷ xs) ≡ 0 = grind (arith, nat_tests) in
-              let passes : (x.marked && is_from key x) ≡ true = grind (arith, nat_tests) in
+              let n : up_to key (x ∷ xs) ≡ 0 = grind arith in
+              let passes : (x.marked && is_from key x) ≡ true = grind arith in
               let all : kept_marked (x ∷ xs) ≡ x ∷ kept_marked xs = grind arith in
               let kept : filter (λ y. y.marked && is_from key y) (x ∷ xs) ≡ x ∷ filter (λ y. y.marked && is_from key y) xs = grind (arith, passes) in
               kept ∙ ap (λ ys. x ∷ ys) (rest ∙ ap (λ m. drop m (kept_marked xs)) none) ∙ sym (ap₂ (λ m ys. drop m ys) n all)
@@ -126,7 +123,7 @@ module _ (key : ℕ) where
       ]
 
   nothing_below : (x : Item) (xs : List Item) → AreAscending (x ∷ xs) → key ≤ x.key → All (λ y. below y ≡ false) xs
-  nothing_below x xs rise more k d lt = let up = pairs_head Less x _ rise k d lt in grind (arith, nat_tests, up)
+  nothing_below x xs rise more k d lt = let up = pairs_head Less x _ rise k d lt in grind (arith, up)
 
   -- where items are in order, those before a key stand first
   kept_first : (xs : List Item) → AreAscending xs → filter below xs ≡ take (count_by below xs) xs
@@ -136,11 +133,11 @@ module _ (key : ℕ) where
       let counts = count_more below x xs in
       elim (cases_lt x.key key) [
         | inl less ↦
-            let n : count_by below (x ∷ xs) ≡ suc (count_by below xs) = grind (arith, nat_tests, less, counts) in
-            let kept : filter below (x ∷ xs) ≡ x ∷ filter below xs = grind (arith, nat_tests) in
+            let n : count_by below (x ∷ xs) ≡ suc (count_by below xs) = grind (arith, less, counts) in
+            let kept : filter below (x ∷ xs) ≡ x ∷ filter below xs = grind arith in
             kept ∙ ap (λ ys. x ∷ ys) rest ∙ sym (ap (λ m. take m (x ∷ xs)) n)
         | inr more ↦
-            let all = All-cons (λ y. below y ≡ false) x xs (grind (arith, nat_tests)) (nothing_below x _ rise more) in
+            let all = All-cons (λ y. below y ≡ false) x xs (grind arith) (nothing_below x _ rise more) in
             let none = filter_none below (x ∷ xs) all in
             let n = sym (length-filter below (x ∷ xs)) ∙ ap length none in
             none ∙ sym (ap (λ m. take m (x ∷ xs)) n)
@@ -161,9 +158,9 @@ module _ (key : ℕ) where
       let rest = kept_between n xs (pairs_tail Less x _ rise) in
       let counts = count_more below x xs in
       let same : count_by below (x ∷ xs) - suc n ≡ count_by below xs - n = elim (cases_lt x.key key) [
-        | inl less ↦ let m : count_by below (x ∷ xs) ≡ 1 + count_by below xs = grind (arith, nat_tests) in omega arith
+        | inl less ↦ let m : count_by below (x ∷ xs) ≡ 1 + count_by below xs = grind arith in omega arith
         | inr more ↦
-            let m : count_by below (x ∷ xs) ≡ count_by below xs = grind (arith, nat_tests) in
+            let m : count_by below (x ∷ xs) ≡ count_by below xs = grind arith in
             let none = sym (length-filter below xs) ∙ ap length (filter_none below _ (nothing_below x _ rise more)) in
             omega (arith, none)
       ] in
@@ -173,7 +170,7 @@ module _ (key : ℕ) where
 pub rises_by : (items : List Item) → AreAscending items → AreInOrder (map named_by items)
 rises_by items rise =
     pairs_mapped Less (λ (m n : Named). comes_before m.page n.page ≡ true) (λ (x : Item). x.key ≡ x.key) _
-    (λ a b _ _ less. grind (arith, nat_tests)) items (λ k d lt. refl) rise
+    (λ a b _ _ less. grind arith) items (λ k d lt. refl) rise
 
 -- one item more
 pub longer_by : (n : Named) (x : Item) (items : List Item) → AreAscending items → find (is_of n.page) (map named_by items) ≡ None
@@ -192,7 +189,7 @@ some_at (x ∷ xs) (suc n) lt none = some_at xs n (omega arith) none
 pub get_dropped : {X : Type 0} (n k : ℕ) (xs : List X) → slice_get (drop n xs) k ≡ slice_get xs (n + k)
 get_dropped zero k xs = ap (slice_get xs) (omega arith)
 get_dropped (suc n) k [] = slice_get_past [] k (omega arith) ∙ sym (slice_get_past [] (suc n + k) (omega arith))
-get_dropped (suc n) k (x ∷ xs) = grind (arith, nat_tests, get_dropped n k xs)
+get_dropped (suc n) k (x ∷ xs) = grind (arith, get_dropped n k xs)
 
 pub get_taken : {X : Type 0} (m k : ℕ) (xs : List X) → k < m → slice_get (take m xs) k ≡ slice_get xs k
 get_taken zero k xs lt = absurd (omega arith)
@@ -217,7 +214,7 @@ gone_one key [] rise there = absurd (true≢false (sym there))
 gone_one key (x ∷ xs) rise there = elim (cases_Bool _) [
   | inl is ↦
       let at = eqb-true x.key key is in
-      let others = filter_all (λ y. not (is_at key y)) xs (λ k d lt. let up = pairs_head Less x xs rise k d lt in grind (arith, nat_tests, up, at)) in
+      let others = filter_all (λ y. not (is_at key y)) xs (λ k d lt. let up = pairs_head Less x xs rise k d lt in grind (arith, up, at)) in
       let kept : without key (x ∷ xs) ≡ without key xs = grind arith in
       omega (arith, ap length kept, ap length others)
   | inr other ↦
@@ -235,7 +232,7 @@ module _ (items : List Item) {now : List Named} (seen_as : map named_by items �
   visited_many = ap length visited_is ∙ length-map (kept_marked items) named_by ∙ length-filter (λ (x : Item). x.marked) items
 
   pub visited_at : (place key : ℕ) → key_at (kept_marked items) place ≡ Some key → page_at (visited now) place ≡ Some (page_of key)
-  visited_at place key is = grind (arith, nat_tests, visited_is, slice_get-map, page_by)
+  visited_at place key is = grind (arith, visited_is, slice_get-map, page_by)
 
   -- those behind a cursor and before a page, where it is known how many visited ones come before each
   module _ (cursor : Option GuestPage) (page : GuestPage) (few : page.page < 2 ^ 32) (rise : AreAscending items)
@@ -260,4 +257,4 @@ module _ (items : List Item) {now : List Named} (seen_as : map named_by items �
 
     pub passed_last : passed < before → (key : ℕ) → key_at (kept_marked items) (before - 1) ≡ Some key
         → page_at (passed_to cursor page now) (length (passed_to cursor page now) - 1) ≡ Some (page_of key)
-    passed_last some key is = grind (arith, nat_tests, passed_is, passed_many, get_taken, get_dropped, visited_at)
+    passed_last some key is = grind (arith, passed_is, passed_many, get_taken, get_dropped, visited_at)

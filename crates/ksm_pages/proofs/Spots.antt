@@ -1,5 +1,5 @@
 -- Spots in the order of their pages: the pages of them, once one was put in, written or taken away.
-use Rattle.ksm_pages.proofs.Names.{[], add-one, and_parts, ap, append-nil, append_assoc, ap₂, AreInOrder, arith, Bool, cases_Bool, comes_before, drop, drop_all, Entry, false, filter, find, find_filter, find_passes, get, get_or, get_or_default, GuestPage, has_item, if◌then◌else◌, insert, is_restless, is_some, is_useless, IsCalm, length, length-append, length-map, length-take-le, List, map, map-append, nat_tests, None, not, not-true, Option, pages_of, pages_ordered, point_is_count, refl, same_page, same_page_eq, set, Slab, Some, Spot, sym, take, true, true≢false, with_found, with_item, ℕ, ◌++◌, ◌+◌, ◌-◌, ◌<◌, ◌∙◌, ◌∷◌, ◌≡◌, ◌≤◌, ◌⊎◌}
+use Rattle.ksm_pages.proofs.Names.{[], add-one, and_parts, ap, append-nil, append_assoc, ap₂, AreInOrder, arith, Bool, cases_Bool, comes_before, drop, drop_all, Entry, false, filter, find, find_filter, find_passes, get, get_or, get_or_default, GuestPage, has_item, if◌then◌else◌, insert, is_some, is_useless, IsCalm, length, length-append, length-map, length-take-le, List, map, map-append, not, pages_of, pages_ordered, point_is_count, refl, rules, same_page, same_page_eq, set, Slab, Spot, sym, take, true, true≢false, with_found, with_item, ℕ, ◌++◌, ◌+◌, ◌-◌, ◌<◌, ◌∙◌, ◌∷◌, ◌≡◌, ◌≤◌, ◌⊎◌}
 use Rattle.std.specs.List.{copy_within}
 use Rattle.std.proofs.Math.Seq.{take-append_seam, take-suc}
 use Rattle.std.proofs.lemmas.Bool.{false_from_ne_true}
@@ -53,7 +53,7 @@ module _ (spot : Spot) (spots : List Spot) (rise : AreInOrder spots) where
   written = map (λ s. if same_page s.page spot.page then spot else s) spots
 
   same_pages : pages_of written ≡ pages_of spots
-  same_pages = grind (arith, nat_tests, map_mapped)
+  same_pages = grind (arith, map_mapped)
 
   -- with a spot written over the one of its page, the pages are those with the page of that spot
   pub written_pages : has_item spot.page (pages_of spots) ≡ true → pages_of written ≡ with_item spot.page (pages_of spots)
@@ -61,18 +61,12 @@ module _ (spot : Spot) (spots : List Spot) (rise : AreInOrder spots) where
 
 -- a page that is swept out of the list has a row that no visit changes
 calm_of : {entries : Slab Entry} (s : Spot) → is_useless s (get entries s.key) ≡ true → IsCalm entries s.page
-calm_of {entries} s useless = go _ refl useless
-  where
-    go : (o : Option Entry) → get entries s.key ≡ o → is_useless s o ≡ true → IsCalm entries s.page
-    go None is none = absurd (true≢false (sym none))
-    go (Some e) is both =
-        let parts = and_parts _ _ both in
-        record { key = s.key; entry = e; stands = is; of_page = same_page_eq _ _ parts.0; calm = not-true (is_restless e) parts.1 }
+calm_of {entries} s useless = search (rules, and_parts, same_page_eq)
 
 -- a page of the spots stays once useless spots are swept out, or no visit changes its row
 pub swept : {entries : Slab Entry} (spots : List Spot) {page : GuestPage} → has_item page (pages_of spots) ≡ true
     → (has_item page (pages_of (filter (λ s. not (is_useless s (get entries s.key))) spots)) ≡ true) ⊎ IsCalm entries page
-swept {entries} spots {page} has = grind (arith, nat_tests, listed_found, cases_Bool, same_page_eq, find_passes, calm_of, find_filter)
+swept {entries} spots {page} has = grind (arith, listed_found, cases_Bool, same_page_eq, find_passes, calm_of, find_filter)
 
 -- one more behind a list, the elements from an index on moved up by one, and that one written there: it is put in
 pub moved_up : {X : Type 0} (xs : List X) (at : ℕ) (x : X) → at ≤ length xs → set (copy_within (xs ++ x ∷ []) at (length xs) (at + 1)) at x ≡ insert xs at x

@@ -1,5 +1,5 @@
 -- The tally of rows once one came, went or changed.
-use Rattle.ksm_pages.proofs.Names.{ap, arith, Bool, CanMove, change_row, count_by, count_by-le-length, GuestPage, if◌then◌else◌, InPageOrder, IsMoved, IsTally, length, length-map, List, merged_state, nat_tests, None, one_if, Private, Row, row_at, same_page, Some, Tally, waiting_state, with_row, without_page, zero_state, ℕ, ◌+◌, ◌<◌, ◌^◌, ◌≡◌, ◌≤◌}
+use Rattle.ksm_pages.proofs.Names.{arith, Bool, CanMove, change_row, count_by, count_by-le-length, GuestPage, if◌then◌else◌, InPageOrder, IsMoved, IsTally, length, length-map, List, None, one_if, Private, Row, row_at, rules, same_page, Some, Tally, with_row, without_page, ℕ, ◌+◌, ◌<◌, ◌^◌, ◌≡◌, ◌≤◌}
 use Rattle.ksm_base.proofs.RowCounts.{count_change_row, count_with_row, count_without_page}
 
 module _ {rows : List Row} (rise : InPageOrder rows) (page : GuestPage) {old : Row} (found : row_at page rows ≡ Some old) {tally : Tally} (later : Tally) (are : IsTally rows tally) where
@@ -47,7 +47,7 @@ module _ {rows : List Row} (rise : InPageOrder rows) (page : GuestPage) {old : R
 
   -- the row of a page went
   left : (p : Row → Bool) {n m : ℕ} → n ≡ count_by p rows → m + one_if (p old) ≡ n + 0 → m ≡ count_by p (without_page page rows)
-  left p is moved = grind (arith, nat_tests, count_without_page)
+  left p is moved = grind (arith, count_without_page)
 
   -- a tally moved from a row's state to Private counts the rows without that row
   pub tally_gone : IsMoved old.state Private tally later → IsTally (without_page page rows) later
@@ -59,10 +59,4 @@ module _ {rows : List Row} (rise : InPageOrder rows) (page : GuestPage) {old : R
 
 -- a Private row that comes leaves the tally as it is
 pub tally_put : {rows : List Row} (row : Row) {tally : Tally} → row_at row.page rows ≡ None → row.state ≡ Private → IsTally rows tally → IsTally (with_row row rows) tally
-tally_put {rows} row absent alone are =
-    let more : (p : Row → Bool) → count_by p (with_row row rows) ≡ count_by p rows + one_if (p row) = λ p. count_with_row p row _ absent in
-    record {
-      merged = let m = more (λ r. merged_state r.state) in let n = ap (λ s. one_if (merged_state s)) alone in omega arith;
-      waiting = let m = more (λ r. waiting_state r.state) in let n = ap (λ s. one_if (waiting_state s)) alone in omega arith;
-      zero = let m = more (λ r. zero_state r.state) in let n = ap (λ s. one_if (zero_state s)) alone in omega arith;
-    }
+tally_put {rows} row absent alone are = search (rules, count_with_row)

@@ -1,5 +1,5 @@
 -- The pages once a call changed the row of one page: they are lawful, and what is seen of them changed so.
-use Rattle.ksm_pages.proofs.Names.{[], All-map, ap, AreKept, AreTied, AreWaiting, arith, at_mapped, cases_Bool, change_held, change_row, cond, cond_both, DupsState, false, find_passes, frame_of, frame_seen, get_or, GuestPage, Held, held_at, holds, if◌then◌else◌, inl, InPageOrder, inr, Inside, IsAlone, IsKnown, IsLeft, lies_on, List, Listing, lodging, lodgings_of, map, mapped, MatchOption, merged_state, nat_tests, None, none_waiting, on_row, Option, option_map, ordered_map, PageState, PagesValue, PagesView, Private, refl, Row, row_at, rows_of, RowsView, same_page, same_page_eq, seen, settled_state, shared_state, Some, subst, sym, tied_mapped, true≢false, waiting_state, waits_there, without_held, without_page, ℕ, ⊤, ◌∙◌, ◌≡◌}
+use Rattle.ksm_pages.proofs.Names.{[], All-map, ap, AreKept, AreTied, AreWaiting, arith, at_mapped, cases_Bool, change_held, change_row, cond, cond_both, DupsState, false, find_passes, frame_of, frame_seen, get_or, GuestPage, Held, held_at, holds, if◌then◌else◌, inl, InPageOrder, inr, Inside, IsAlone, IsKnown, IsLeft, lies_on, List, Listing, lodging, lodgings_of, map, mapped, MatchOption, merged_state, None, none_waiting, on_row, Option, option_map, ordered_map, PageState, PagesValue, PagesView, Private, refl, Row, row_at, rows_of, RowsView, rules, same_page, same_page_eq, seen, settled_state, shared_state, Some, subst, sym, tied_mapped, true≢false, waiting_state, waits_there, without_held, without_page, ℕ, ⊤, ◌∙◌, ◌≡◌}
 use Rattle.std.proofs.lemmas.Bool.{some_since}
 use Rattle.ksm_tree.specs.Dups.{rows_of as dup_rows}
 use Rattle.ksm_tree.proofs.Alike.{map_alike, map_mapped}
@@ -19,7 +19,7 @@ held_as same = λ i. (same i).held
 pub and_then : (page : GuestPage) (f g : Row → Row) → ((r : Row) → (f r).page ≡ r.page) → (old : List Held) {first second : List Held}
     → first ≡ change_held page (on_row f) old → second ≡ change_held page (on_row g) first
     → second ≡ change_held page (on_row (λ r. g (f r))) old
-and_then page f g same old first second = grind (arith, nat_tests, held_twice)
+and_then page f g same old first second = grind (arith, held_twice)
 
 -- ---------------------------------------------------------------- a page that leaves what it is in
 
@@ -40,9 +40,7 @@ module _ {s : Inside} {p : PagesValue} {page : GuestPage} {later : DupsState} {f
   -- a page that is known, and which was let out, has left
   pub known_left : AreLawful s → view_of s ≡ p → IsKnown page p.rows
       → MatchOption (held_at page s.rows.held) ⊤ (IsLeft s.knobs frames s.dups later lone) → HasLeft s p page later frames lone
-  known_left are seen_as known left =
-      let there = known_row s seen_as _ known in
-      found_left are seen_as there.1 (subst (λ o. MatchOption o ⊤ (IsLeft s.knobs frames s.dups later lone)) there.1 left)
+  known_left are seen_as known left = search (rules, known_row)
 
   -- a page with a frame of its own, which was let out, has left
   pub alone_left : AreLawful s → view_of s ≡ p → IsAlone page p.rows
@@ -52,13 +50,13 @@ module _ {s : Inside} {p : PagesValue} {page : GuestPage} {later : DupsState} {f
   module _ (it : HasLeft s p page later frames lone) where
     -- a page that has left lay on the frame that is told
     pub lay : frames ≡ s.frames.items → lone ≡ frame_of p.lodgings page
-    lay same = grind (arith, nat_tests, lies)
+    lay same = grind (arith, lies)
 
     dups_same : dup_rows later.dups ≡ dup_rows s.dups.dups
-    dups_same = same_dups s it.lawful _ it.found it.left.dups it.left.waiting
+    dups_same = search (rules, same_dups)
 
     next_same : later.next ≡ s.dups.next
-    next_same = grind (arith, nat_tests)
+    next_same = grind arith
 
     module _ (rows : RowsView) {restless : Listing} (listed : rows.restless ≡ restless) where
       -- a page that has left comes to another state and lies where that state and its frame say
@@ -157,7 +155,7 @@ module _ (s : Inside) (are : AreLawful s) {p : PagesValue} (seen_as : view_of s 
       dups = λ i. dup_rows (rest i).dups
 
       lain : frame_of (lodgings_of (lodging (dup_rows later.dups) s.frames.items) rows.held) ≡ frame_of (lodgings_of (of_dup s) s.rows.held)
-      lain = grind (arith, nat_tests, dups, map_mapped, lies_alike)
+      lain = grind (arith, dups, map_mapped, lies_alike)
 
   -- where every row is settled by a change and no page waits any more, all rows are seen changed so
   pub rest_all : (f : Row → Row) → ((r : Row) → (f r).page ≡ r.page) → ((r : Row) → (f r).state ≡ settled_state r.state) → (rows : RowsView)

@@ -1,5 +1,5 @@
 -- What each change of one row, found under its key, leaves: rows still, and what is seen of them.
-use Rattle.ksm_pages.proofs.Names.{ap, ap₂, AreBegun, AreFiled, AreListed, arith, Bool, CanMove, change_held, Entry, false, find, forgotten, get, GuestPage, has_item, Held, held_at, held_in, held_of, held_under, IfSome, inl, InPageOrder, inr, is_of, is_own, is_restless, is_some, IsAddedTo, IsCalm, IsMoved, IsRows, IsTakenFrom, IsTally, IsUnder, key_in, Kind, length, length-map, List, Listing, marked, Named, named_of, nat_tests, ne_eqb, None, number_left, on_row, own_state, pages_ordered, PageState, Private, refl, Row, row_at, rows_of, RowsView, same_page, same_page_refl, same_Some, settled, settled_state, shared_state, Slab, Some, state_of, subst, sym, Tally, true, true≢false, Updates-with_value, Waiting, with_held, with_named, with_value, without_held, without_named, ℕ, ◌&&◌, ◌<◌, ◌^◌, ◌∙◌, ◌≡◌, ◌≢◌, ◌≤◌, ◌⊎◌}
+use Rattle.ksm_pages.proofs.Names.{ap, ap₂, AreBegun, AreFiled, AreListed, arith, Bool, CanMove, change_held, Entry, false, find, forgotten, get, GuestPage, has_item, Held, held_at, held_in, held_of, held_under, IfSome, inl, InPageOrder, inr, is_of, is_own, is_restless, is_some, IsAddedTo, IsCalm, IsMoved, IsRows, IsTakenFrom, IsTally, IsUnder, key_in, Kind, length, length-map, List, Listing, marked, Named, named_of, ne_eqb, None, number_left, on_row, own_state, pages_ordered, PageState, Private, refl, Row, row_at, rows_of, RowsView, rules, same_page, same_page_refl, same_Some, settled, settled_state, shared_state, Slab, Some, state_of, subst, sym, Tally, true, true≢false, Updates-with_value, Waiting, with_held, with_named, with_value, without_held, without_named, ℕ, ◌&&◌, ◌<◌, ◌^◌, ◌∙◌, ◌≡◌, ◌≢◌, ◌≤◌, ◌⊎◌}
 use Rattle.slab.specs.Slab.{Updates as Fills}
 use Rattle.ksm_pages.specs.declared.row.Kind.TheVariants as kinds
 use Rattle.ksm_pages.specs.declared.rows.Rows.TheInside.{Inside}
@@ -25,11 +25,11 @@ never false both = absurd (true≢false (sym both))
 
 -- a row that is not shared has a frame of its own
 pub own_kind : (kind : Kind) (number pass : ℕ) → shared_state (state_of kind number pass) ≡ false → kind ≡ kinds.Own
-own_kind kind number pass alone = grind (arith, nat_tests)
+own_kind kind number pass alone = grind arith
 
 -- a row with a frame of its own waits where its number is that of the pass
 pub waits_now : {kind : Kind} (pass : ℕ) → kind ≡ kinds.Own → state_of kind pass pass ≡ Waiting
-waits_now pass own = grind (arith, nat_tests)
+waits_now pass own = grind arith
 
 -- a row with a frame of its own is Private where its number is not that of the pass
 pub rests_apart : {number : ℕ} (pass : ℕ) → number ≢ pass → state_of kinds.Own number pass ≡ Private
@@ -42,11 +42,11 @@ rests_now pass counting = rests_apart _ (λ same. absurd (omega arith))
 -- an entry that has forgotten its pass is settled in any pass from 1 on
 pub rest_of : (kind : Kind) (number pass after : ℕ) → 1 ≤ after
     → state_of kind (number_left kind number) after ≡ settled_state (state_of kind number pass)
-rest_of kind number pass after counting = grind (arith, nat_tests)
+rest_of kind number pass after counting = grind arith
 
 -- an entry with a frame of its own that has forgotten its pass has a number not beyond any pass
 pub left_fits : (kind : Kind) (number pass : ℕ) → kind ≡ kinds.Own → number_left kind number ≤ pass
-left_fits kind number pass own = grind (arith, nat_tests)
+left_fits kind number pass own = grind arith
 
 -- a change of a page without a row leaves what is seen of the rows as it is
 pub nothing : (s : Inside) → AreRows s → (page : GuestPage) → None ≡ key_in s.order page → (f : Held → Held) {v : RowsView} → view_of s ≡ v → v ≡ record v { held = change_held page f v.held }
@@ -70,7 +70,7 @@ module _ (s : Inside) (are : AreRows s) where
   module _ {page : GuestPage} {key : ℕ} (there : IsUnder s.entries page key) {e : Entry} (stood : get s.entries key ≡ Some e) where
     -- the entry is that of the page
     of_page : e.page ≡ page
-    of_page = grind (arith, nat_tests)
+    of_page = grind arith
 
     -- a page with an entry under its key has the row that the entry says
     pub row_there : held_at page held ≡ Some (held_of s.pass e)
@@ -82,7 +82,7 @@ module _ (s : Inside) (are : AreRows s) where
     -- the entry of a page whose row is not shared is of the kind with frames of their own
     pub own_there : {v : RowsView} → view_of s ≡ v → IfSome (held_at page v.held) (λ h. shared_state h.row.state ≡ false)
         → e.kind ≡ kinds.Own
-    own_there seen_as alone = grind (arith, nat_tests, own_kind, row_there)
+    own_there seen_as alone = grind (arith, own_kind, row_there)
 
     -- the tally can take the row of an entry from its state to any other
     pub can_be : {from : PageState} → from ≡ state_of e.kind e.number s.pass → {state : PageState} → length s.order < 2 ^ 64
@@ -106,7 +106,7 @@ module _ (s : Inside) (are : AreRows s) where
       fills = Updates-with_value _ _ _ (ap is_some stood)
 
       held_later : (f : Held → Held) → held_of s.pass e' ≡ f (held_of s.pass e) → held_in s.pass later s.order ≡ change_held page f held
-      held_later f is = grind (arith, nat_tests, written, fills, of_page)
+      held_later f is = grind (arith, written, fills, of_page)
 
       module _ {from to : PageState} {tally : Tally} (was : from ≡ state_of e.kind e.number s.pass) (is : to ≡ state_of e'.kind e'.number s.pass) (moved : IsMoved from to s.tally tally) where
         tallied : IsTally (rows_of (held_in s.pass later s.order)) tally
@@ -116,12 +116,12 @@ module _ (s : Inside) (are : AreRows s) where
             (tally_changed rise _ found_row _ are.counted _ (subst (λ st. IsMoved st new.state s.tally tally) was (subst (λ st. IsMoved from st s.tally tally) is moved)))
 
       begun_still : (e'.kind ≡ kinds.Own → e'.number ≤ s.pass) → AreBegun later s.pass
-      begun_still fits = all_filled fills fits (λ k f stands apart. are.begun k f stands)
+      begun_still fits = search (rules, fills)
 
       listed_still : (pages : List GuestPage)
           → ((k : ℕ) (f : Entry) → get s.entries k ≡ Some f → k ≢ key → is_restless f ≡ true → has_item f.page pages ≡ true)
           → (is_restless e' ≡ true → has_item page pages ≡ true) → AreListed later pages
-      listed_still pages others own = all_filled fills (λ may. ap (λ p. has_item p pages) (same ∙ of_page) ∙ own may) others
+      listed_still pages others own = search (rules, fills, of_page)
 
       -- where a page is added to the list, the list is right for any new entry of that page
       pub listed_now : {now : Listing} → IsAddedTo page s.restless now → now.known ≡ true → AreListed later now.pages
@@ -135,10 +135,7 @@ module _ (s : Inside) (are : AreRows s) where
 
       -- the list as it was is right for a new entry that no visit changes
       pub listed_calm : is_restless e' ≡ false → {now : Listing} → now ≡ s.restless → now.known ≡ true → AreListed later now.pages
-      listed_calm calm is known =
-          subst (λ (l : Listing). AreListed later l.pages) (sym is) (listed_still _
-          (λ k f stands apart may. are.listed (sym (λ i. (is i).known) ∙ known) k f stands may)
-          (λ may. absurd (true≢false (sym may ∙ calm))))
+      listed_calm calm is known = search (rules, listed_still)
 
       -- rows with an entry written anew are lawful where its flag stays, the list is right and the tally moved
       pub still : e'.mergeable ≡ e.mergeable → (e'.kind ≡ kinds.Own → e'.number ≤ s.pass) → {now : Listing}
@@ -166,10 +163,10 @@ module _ (s : Inside) (are : AreRows s) where
 
       module _ (kind : e'.kind ≡ e.kind) (number : e'.number ≡ e.number) where
         fits_still : e'.kind ≡ kinds.Own → e'.number ≤ s.pass
-        fits_still own = grind (arith, nat_tests)
+        fits_still own = grind arith
 
         same_state : state_of e.kind e.number s.pass ≡ state_of e'.kind e'.number s.pass
-        same_state = grind (arith, nat_tests)
+        same_state = grind arith
 
         unmoved : {state : PageState} → IsMoved state state s.tally s.tally
         unmoved = record { merged = refl; waiting = refl; zero = refl }
@@ -194,7 +191,7 @@ module _ (s : Inside) (are : AreRows s) where
       -- with an entry written anew whose row is changed by f, the rows are seen with f at that page, and the new list
       pub viewed : (f : Held → Held) → held_of s.pass e' ≡ f (held_of s.pass e) → (now : Listing) {v : RowsView} → view_of s ≡ v
           → record { held = held_in s.pass later s.order; restless = now; pass = s.pass } ≡ record v { held = change_held page f v.held; restless = now }
-      viewed f is now seen_as = grind (arith, nat_tests, held_later)
+      viewed f is now seen_as = grind (arith, held_later)
 
       -- with an entry written anew whose row is changed by f, the rows are seen with f at that page
       pub viewed_same : (f : Held → Held) → held_of s.pass e' ≡ f (held_of s.pass e) → {now : Listing} → now ≡ s.restless → {v : RowsView}
@@ -208,8 +205,7 @@ module _ (s : Inside) (are : AreRows s) where
       pub viewed_marked : (f : Held → Held) → held_of s.pass e' ≡ f (held_of s.pass e) → (m : Bool) (now : Listing) {v : RowsView}
           → view_of s ≡ v
           → record { held = held_in s.pass later (marked page m s.order); restless = now; pass = s.pass } ≡ record v { held = change_held page f v.held; restless = now }
-      viewed_marked f is m now seen_as =
-          ap (λ held. record { held = held; restless = now; pass = s.pass }) (marked_same _ later _ m _) ∙ viewed f is _ seen_as
+      viewed_marked f is m now seen_as = search (rules, marked_same, viewed)
 
     -- ---------------------------------------------------------------- the entry changed, and then forgot its pass
 
@@ -226,17 +222,17 @@ module _ (s : Inside) (are : AreRows s) where
     pub viewed_forgotten : (e' : Entry) {now : Entry} → now ≡ forgotten e' → e'.page ≡ e.page → (f : Row → Row)
         → on_row settled (held_of s.pass e') ≡ on_row f (held_of s.pass e) → {v : RowsView} → view_of s ≡ v
         → record { held = held_in s.pass (with_value s.entries key now) s.order; restless = s.restless; pass = s.pass } ≡ record v { held = change_held page (on_row f) v.held }
-    viewed_forgotten e' is same f told seen_as = grind (arith, nat_tests, viewed_same, rest_of)
+    viewed_forgotten e' is same f told seen_as = grind (arith, viewed_same, rest_of)
 
     -- ---------------------------------------------------------------- the entry went
 
     module _ {later : Slab Entry} (fills : Fills s.entries later key None) where
       -- what stands later stood before, under another key
       stood_before : {k : ℕ} {f : Entry} → get later k ≡ Some f → (get s.entries k ≡ Some f) × (k ≢ key)
-      stood_before stands = grind (arith, nat_tests)
+      stood_before stands = grind arith
 
       held_gone : held_in s.pass later (without_named page s.order) ≡ without_held page held
-      held_gone = grind (arith, nat_tests, of_page, taken, fills)
+      held_gone = grind (arith, of_page, taken, fills)
 
       -- rows are lawful once a page's entry is gone, with its name, its place in the list and its count
       pub still_gone : {now : Listing} → IsTakenFrom page s.restless now → {from : PageState} {tally : Tally} → from ≡ state_of e.kind e.number s.pass
@@ -259,11 +255,11 @@ module _ (s : Inside) (are : AreRows s) where
       -- once the entry of a page is gone with the page's name, the rows are seen without that page
       pub viewed_gone : (now : Listing) {v : RowsView} → view_of s ≡ v
           → record { held = held_in s.pass later (without_named page s.order); restless = now; pass = s.pass } ≡ record v { held = without_held page v.held; restless = now }
-      viewed_gone now seen_as = grind (arith, nat_tests, held_gone)
+      viewed_gone now seen_as = grind (arith, held_gone)
 
 -- where a page has no row, none is seen
 pub nowhere_seen : (s : Inside) → AreRows s → (page : GuestPage) → None ≡ key_in s.order page → {v : RowsView} → view_of s ≡ v → held_at page v.held ≡ None
-nowhere_seen s are page told is = grind (arith, nat_tests, held_nowhere)
+nowhere_seen s are page told is = grind (arith, held_nowhere)
 
 -- where a page has no row, the rows without that page are seen as before
 pub nothing_gone : (s : Inside) → AreRows s → (page : GuestPage) → None ≡ key_in s.order page → {v : RowsView} → view_of s ≡ v → v ≡ record v { held = without_held page v.held }
@@ -287,7 +283,7 @@ seen_with_room s seen_as is = ap (λ slab. view_of (record s { entries = slab })
 
 -- a page that is seen without a row has no name in the order
 pub no_name : (s : Inside) → AreRows s → (page : GuestPage) {v : RowsView} → view_of s ≡ v → held_at page v.held ≡ None → find (is_of page) s.order ≡ None
-no_name s are page seen_as absent = grind (arith, nat_tests, key_nowhere)
+no_name s are page seen_as absent = grind (arith, key_nowhere)
 
 -- the row of a page came, with a frame of its own, under a key where nothing stood
 module _ (s : Inside) (are : AreRows s) {v : RowsView} (seen_as : view_of s ≡ v) {key : ℕ} {e : Entry} {later : Slab Entry} (vacant : get s.entries key ≡ None)
@@ -296,7 +292,7 @@ module _ (s : Inside) (are : AreRows s) {v : RowsView} (seen_as : view_of s ≡ 
   before = held_in s.pass s.entries s.order
 
   held_absent : held_at e.page before ≡ None
-  held_absent = grind (arith, nat_tests)
+  held_absent = grind arith
 
   not_named : find (is_of e.page) s.order ≡ None
   not_named = no_name s are _ seen_as absent
@@ -324,11 +320,11 @@ module _ (s : Inside) (are : AreRows s) {v : RowsView} (seen_as : view_of s ≡ 
 
   -- once an entry came under a vacant key with a name, the rows are seen with its row, and the new list
   pub viewed_put : (now : Listing) → record { held = held_in s.pass later (with_named (named_of key e) s.order); restless = now; pass = s.pass } ≡ record v { held = with_held (held_of s.pass e) v.held; restless = now }
-  viewed_put now = grind (arith, nat_tests, held_put)
+  viewed_put now = grind (arith, held_put)
 
 -- rows are lawful under another list that has all pages that a visit may change
 pub relisted : (s : Inside) → AreRows s → {now : Listing} → (now.known ≡ true → AreListed s.entries now.pages) → IsRows s.entries s.order now s.tally s.pass
-relisted s are listed = record { ascending = are.ascending; filed = are.filed; listed = listed; counted = are.counted; begun = are.begun; counting = are.counting }
+relisted s are listed = search (rules, listed)
 
 -- rows are lawful under a list that lost only pages whose rows no visit changes
 pub swept_rows : (s : Inside) → AreRows s → {now : Listing} → now.known ≡ s.restless.known
