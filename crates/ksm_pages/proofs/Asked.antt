@@ -84,7 +84,7 @@ module _ (p : PagesValue) (guest : Option ℕ) (cursor : Option GuestPage) where
     behind r = after_cursor start r.page
 
     rise : InPageOrder p.rows
-    rise = subst (λ (v : PagesValue). InPageOrder v.rows) seen_as are.order
+    rise = rw (← seen_as) are.order
 
     first_page : option_map (λ (r : Row). r.page) (find behind (rows_of s.rows.held)) ≡ option_map (λ (r : Row). r.page) (find behind p.rows)
     first_page = grind arith

@@ -1,5 +1,5 @@
 -- The pages once one came with a row and a frame of its own.
-use Rattle.ksm_pages.proofs.Names.{AllPairs, ap, AreTied, AreWaiting, arith, comes_before, Err, false, frame_of, GuestPage, Held, held_at, InPageOrder, Inside, length-map, lies_on, List, lodgings_of, merged_state, None, Ok, OnErr, OnOk, Option, ordered_with, PagesValue, PagesView, Result, Row, row_at, row_inserted, rows_of, RowsView, rules, same_page_refl, seen, Some, subst, sym, tied_inserted, true, waiting_state, with_held, with_row, ℕ, ◌∙◌, ◌≡◌, ap₂, holds}
+use Rattle.ksm_pages.proofs.Names.{AllPairs, ap, arith, comes_before, Err, false, frame_of, GuestPage, Held, held_at, InPageOrder, Inside, length-map, lies_on, List, lodgings_of, merged_state, None, Ok, OnErr, OnOk, Option, ordered_with, PagesValue, PagesView, Result, Row, row_at, row_inserted, rows_of, RowsView, rules, same_page_refl, seen, Some, sym, tied_inserted, true, waiting_state, with_held, with_row, ℕ, ◌∙◌, ◌≡◌, ap₂, holds}
 use Rattle.std.proofs.Math.ListN.{get_or-map}
 use Rattle.ksm_pages.proofs.Changing.{nothing_held, rows_with}
 use Rattle.ksm_pages.proofs.Found.{find_put, find_put_other}
@@ -45,10 +45,10 @@ module _ (s : Inside) (are : AreLawful s) {p : PagesValue} (seen_as : view_of s 
       record {
         lawful = record {
           small = are.small;
-          order = subst InPageOrder (sym now) (ordered_with _ _ are.order);
-          tied = subst (λ rs. AreTied rs s.dups.dups) (sym now) (tied_inserted _ _ _ are.order away apart are.tied);
+          order = rw now (ordered_with _ _ are.order);
+          tied = rw now (tied_inserted _ _ _ are.order away apart are.tied);
           places = are.places;
-          waits = subst (λ rs. AreWaiting s.knobs rs s.dups.waiting) (sym now) (row_inserted s.knobs _ _ are.waits _ away still);
+          waits = rw now (row_inserted s.knobs _ _ are.waits _ away still);
           room = are.room;
         };
         told_as =

@@ -1,5 +1,5 @@
 -- Entries under keys and the order of their pages: what is found, and what one entry that came, went or changed leaves.
-use Rattle.ksm_pages.proofs.Names.{All, All-append, All-cons, All-filter, All-map, ap, ap₂, AreAscending, AreFiled, arith, Bool, cases_Bool, change_held, comes_before, Decides-eqb, Entry, false, filter, filter_passes, find, find_all, find_passes, get, get_or, GuestPage, Held, held_at, held_in, held_of, held_under, if◌then◌else◌, inl, InPageOrder, inr, is_of, IsUnder, key_in, List, map, map-append, marked, Named, named_of, None, not, option_map, refl, rows_of, rules, same_page, same_page_eq, same_page_refl, same_page_sym, same_Some, Slab, Some, subst, sym, true, true≢false, with_held, with_named, without_held, without_named, ℕ, ◌++◌, ◌==◌, ◌∙◌, ◌∷◌, ◌≡◌, ◌≢◌}
+use Rattle.ksm_pages.proofs.Names.{All, All-append, All-cons, All-filter, All-map, ap, ap₂, AreAscending, AreFiled, arith, Bool, cases_Bool, change_held, comes_before, Decides-eqb, Entry, false, filter, filter_passes, find, find_all, find_passes, get, get_or, GuestPage, Held, held_at, held_in, held_of, held_under, if◌then◌else◌, inl, InPageOrder, inr, is_of, IsUnder, key_in, List, map, map-append, marked, Named, named_of, None, not, option_map, refl, rows_of, rules, same_page, same_page_eq, same_page_refl, same_page_sym, same_Some, Slab, Some, sym, true, true≢false, with_held, with_named, without_held, without_named, ℕ, ◌++◌, ◌==◌, ◌∙◌, ◌∷◌, ◌≡◌, ◌≢◌}
 use Rattle.ksm_pages.proofs.Options.{mapped_some, none_mapped}
 use Rattle.slab.specs.Slab.{Updates as Fills}
 use Rattle.ksm_tree.proofs.Numbering.{full}
@@ -40,7 +40,7 @@ filed_by slab order stand named n = (
   λ found. find_all _ (Stands slab) _ n found stand,
   λ told.
       let at = mapped_some _ _ told in
-      subst (λ (m : Named). find (is_of m.page) order ≡ Some m) at.2 (named n.key at.0 at.1),
+      rw (← at.2) (named n.key at.0 at.1),
 )
 
 -- what holds of the entry that a slab was given, and of all others that stood, holds of all that stand now
@@ -49,7 +49,7 @@ pub all_filled : {slab later : Slab Entry} {key : ℕ} {e : Entry} → Fills sla
 all_filled {slab} {later} {key} {e} fills {P} new others k f stands = elim (cases_Bool _) [
   | inl here ↦
       let at = (Decides-eqb k _).0 here in
-      subst (P k) (same_Some e f (sym (ap (get later) at ∙ fills.changed) ∙ stands)) (subst (λ n. P n e) (sym at) new)
+      rw (← same_Some e f (sym (ap (get later) at ∙ fills.changed) ∙ stands)) (rw at new)
   | inr other ↦ let apart = differ_by other in others k f (sym (fills.others k apart) ∙ stands) apart
 ]
 

@@ -88,9 +88,9 @@ module _ (s : Inside) (are : AreLawful s) (page : GuestPage) {h : Held} (found :
         record {
           small = are.small;
           order = subst InPageOrder (as_map ∙ changed) (ordered_map _ _ keeps are.order);
-          tied = subst (λ rs. AreTied rs later.dups) changed tied;
+          tied = rw (← changed) tied;
           places = places ∙ are.places;
-          waits = subst (λ rs. AreWaiting s.knobs rs later.waiting) changed waits;
+          waits = rw (← changed) waits;
           room = are.room;
         }
 
@@ -135,10 +135,8 @@ module _ (s : Inside) (are : AreLawful s) (page : GuestPage) {h : Held} (found :
     lawful_left f g is same rows turned alone still =
         let before = rows_of s.rows.held in
         let at = same old ∙ of_page in
-        lawful_turned f g is same rows turned (λ i. (out i).places)
-        (subst (AreTied (change_row page (λ _. g old) before)) (sym dups_out) (tied_left _ _ _ are.order row_there _ _ alone are.tied))
-        (subst (λ q. AreWaiting s.knobs (change_row q (λ _. g old) before) later.waiting) at
-        (row_stopped s.knobs _ _ are.waits _ _ _ (ap (λ q. row_at q before) at ∙ row_there) still stopped))
+        lawful_turned f g is same rows turned (λ i. (out i).places) (rw dups_out (tied_left _ _ _ are.order row_there _ _ alone are.tied))
+        (rw (← at) (row_stopped s.knobs _ _ are.waits _ _ _ (ap (λ q. row_at q before) at ∙ row_there) still stopped))
 
     module _ (rows : RowsView) (gone : rows.held ≡ without_held page s.rows.held) where
       rows_gone : rows_of rows.held ≡ without_page page (rows_of s.rows.held)
@@ -151,10 +149,10 @@ module _ (s : Inside) (are : AreLawful s) (page : GuestPage) {h : Held} (found :
           let to = sym rows_gone in
           record {
             small = are.small;
-            order = subst InPageOrder to (ordered_without _ _ are.order);
-            tied = subst (λ rs. AreTied rs later.dups) to (subst (AreTied (without_page page before)) (sym dups_out) (tied_dropped _ _ _ are.order row_there _ are.tied));
+            order = rw (← to) (ordered_without _ _ are.order);
+            tied = rw (← to) (rw dups_out (tied_dropped _ _ _ are.order row_there _ are.tied));
             places = (λ i. (out i).places) ∙ are.places;
-            waits = subst (λ rs. AreWaiting s.knobs rs later.waiting) to (row_dropped s.knobs _ _ are.waits _ _ _ row_there stopped);
+            waits = rw (← to) (row_dropped s.knobs _ _ are.waits _ _ _ row_there stopped);
             room = are.room;
           }
 

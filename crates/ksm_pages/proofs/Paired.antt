@@ -1,5 +1,5 @@
 -- The pages once two of them became the items of a new dup.
-use Rattle.ksm_pages.proofs.Names.{[], All, ap, ap₂, AreDups, AreKept, AreTied, AreWaiting, arith, at_others, cases_Bool, change_held, change_row, change_rows, dup_numbered, DupRow, DupsState, Entry, false, find, find_all, frame_of, Frames, GuestPage, Held, held_at, held_of, InPageOrder, InPlaceOrder, Inside, is_live, IsStopped, length, length-set, let_out, lies_on, List, lodging, lodgings_of, mapped, MatchOption, MayPair, Merged, merged_into, None, not, Option, option_and_then, option_map, ordered_change, PagesValue, paired, place_kept, place_new, refl, Row, row_at, row_stopped, rows_new, rows_of, RowsView, rules, same_page, same_page_eq, seen, set, slice_get, Some, stands_at, subst, suc, sym, tied_made, tree_of, true, with_dup, with_item, with_new, zero, ℕ, ◌&&◌, ◌+◌, ◌<◌, ◌==◌, ◌||◌, ◌∙◌, ◌∷◌, ◌≡◌, ◌≢◌, get_or-set_same, slice_get-get_or}
+use Rattle.ksm_pages.proofs.Names.{[], All, ap, ap₂, AreDups, AreKept, arith, at_others, cases_Bool, change_held, change_row, change_rows, dup_numbered, DupRow, DupsState, Entry, false, find, find_all, frame_of, Frames, GuestPage, Held, held_at, held_of, InPageOrder, InPlaceOrder, Inside, is_live, IsStopped, length, length-set, let_out, lies_on, List, lodging, lodgings_of, mapped, MatchOption, MayPair, Merged, merged_into, None, not, Option, option_and_then, option_map, ordered_change, PagesValue, paired, place_kept, place_new, refl, Row, row_at, row_stopped, rows_new, rows_of, RowsView, rules, same_page, same_page_eq, seen, set, slice_get, Some, stands_at, subst, suc, sym, tied_made, tree_of, true, with_dup, with_item, with_new, zero, ℕ, ◌&&◌, ◌+◌, ◌<◌, ◌==◌, ◌||◌, ◌∙◌, ◌∷◌, ◌≡◌, ◌≢◌, get_or-set_same, slice_get-get_or}
 use Rattle.std.specs.Vec.{with_item as with_frame}
 use Rattle.ksm_tree.specs.Dups.{rows_of as dup_rows}
 use Rattle.ksm_tree.proofs.Alike.{map_mapped}
@@ -210,7 +210,7 @@ module _ {s : Inside} {p : PagesValue} {place : ℕ} {first second : GuestPage} 
     both_rows = ap rows_of now_held ∙ rows_changed _ _ _ _ (λ h. refl)
 
     half_order : InPageOrder (rows_of half)
-    half_order = subst InPageOrder (sym half_rows) (ordered_change _ _ _ (λ r. refl) are.order)
+    half_order = rw half_rows (ordered_change _ _ _ (λ r. refl) are.order)
 
     abbrev one_row : List Row
     one_row = change_row a.row.page (λ _. item a.row) before
@@ -225,15 +225,12 @@ module _ {s : Inside} {p : PagesValue} {place : ℕ} {first second : GuestPage} 
     pub lawful_paired : AreKept s.shape s.knobs (rows_of rows.held) later (set s.frames.items place frame)
     lawful_paired = record {
       small = are.small;
-      order = subst InPageOrder (sym both_rows) (ordered_change _ _ _ (λ r. refl) half_order);
-      tied = subst (λ rs. AreTied rs later.dups) (sym whole)
-          (subst (AreTied (change_row b.row.page (λ _. item b.row) one_row)) (sym now_dups)
-          (tied_made _ _ _ _ are.order may.first_is may.second_is (own_not_merged _ may.first_alone)
+      order = rw both_rows (ordered_change _ _ _ (λ r. refl) half_order);
+      tied = rw whole (rw now_dups (tied_made _ _ _ _ are.order may.first_is may.second_is (own_not_merged _ may.first_alone)
           (own_not_merged _ may.second_alone) may.fresh _ lawful.numbers_below are.tied));
       places = (λ i. (out_too i).places) ∙ (λ i. (out i).places) ∙ (λ i. (is_made i).places)
           ∙ are.places;
-      waits = subst (λ rs. AreWaiting s.knobs rs later.waiting) (sym whole) (row_stopped s.knobs _ _
-          (row_stopped s.knobs _ _ are.waits _ _ _ may.first_is refl
+      waits = rw whole (row_stopped s.knobs _ _ (row_stopped s.knobs _ _ are.waits _ _ _ may.first_is refl
           (subst (λ w. IsStopped s.knobs a.row w between.waiting) (λ i. (is_made i).waiting) stopped))
           _ _ _ (at_others _ b.row.page before may.apart ∙ may.second_is) refl stopped_too);
       room = length-set s.frames.items place frame ∙ are.room;
@@ -256,7 +253,7 @@ module _ {s : Inside} {p : PagesValue} {place : ℕ} {first second : GuestPage} 
     new_frame : of_new s.dups.next ≡ Some frame
     new_frame =
         ap (λ of. of s.dups.next) of_with
-        ∙ lodged_new _ _ _ _ lawful.numbers_below (subst (λ n. place < n) (sym are.room) may.inside)
+        ∙ lodged_new _ _ _ _ lawful.numbers_below (rw are.room may.inside)
 
     others : frame_of (lodgings_of of_new s.rows.held) ≡ lay
     others =
@@ -293,5 +290,4 @@ module _ {s : Inside} {p : PagesValue} {place : ℕ} {first second : GuestPage} 
     told_paired =
         let now = seen (view_of (record s { rows = rows; dups = later; frames = with_frame s.frames place frame })) in
         let is = told ∙ ap (λ v. paired place a.row b.row (seen v)) it.seen_as in
-        subst (λ o. IsOfBoth (λ r t. now ≡ paired place r t (seen p)) o (row_at second p.rows)) (sym (row_seen s it.seen_as _ it.found))
-        (subst (IsOfBoth (λ r t. now ≡ paired place r t (seen p)) (Some a.row)) (sym (row_seen s it.seen_as _ it.also)) is)
+        rw (row_seen s it.seen_as _ it.found) (rw (row_seen s it.seen_as _ it.also) is)

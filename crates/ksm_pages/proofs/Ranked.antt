@@ -1,5 +1,5 @@
 -- The pages in order as the items that are kept for them: what stands before a key, what comes behind it, and in between.
-use Rattle.ksm_pages.proofs.Names.{[], ahead_of, All, All-cons, All-head, All-tail, ap, ap₂, arith, Bool, cases_Bool, cases_lt, comes_before, count_by, drop, eqb-true, false, filter, filter_all, filter_none, find, get_or, GuestPage, if◌then◌else◌, inl, inr, is_of, is_some, key_of, length, length-filter, length-map, List, map, map-append, marked, Named, named_by, nat_lt, None, none-some, not, Option, option_map, page_at, page_of, pairs_head, pairs_tail, passed_to, refl, same_Some, slice_get, slice_get-map, slice_get_past, Some, subst, suc, sym, take, true, true≢false, visited, with_named, without_named, zero, ℕ, ◌&&◌, ◌++◌, ◌+◌, ◌-◌, ◌<◌, ◌^◌, ◌∙◌, ◌∷◌, ◌≡◌, ◌≤◌}
+use Rattle.ksm_pages.proofs.Names.{[], ahead_of, All, All-cons, All-head, All-tail, ap, ap₂, arith, Bool, cases_Bool, cases_lt, comes_before, count_by, drop, eqb-true, false, filter, filter_all, filter_none, find, get_or, GuestPage, if◌then◌else◌, inl, inr, is_of, is_some, key_of, length, length-filter, length-map, List, map, map-append, marked, Named, named_by, nat_lt, None, none-some, not, Option, option_map, page_at, page_of, pairs_head, pairs_tail, passed_to, refl, same_Some, slice_get, slice_get-map, slice_get_past, Some, suc, sym, take, true, true≢false, visited, with_named, without_named, zero, ℕ, ◌&&◌, ◌++◌, ◌+◌, ◌-◌, ◌<◌, ◌^◌, ◌∙◌, ◌∷◌, ◌≡◌, ◌≤◌}
 use Rattle.std.proofs.lemmas.List.{drop-map, length-drop, length-take-le, nil_from_length, take-map}
 use Rattle.std.proofs.lemmas.List.Kept.{AllPairs-filter}
 use Rattle.ksm_base.proofs.Edits.{count_more}
@@ -205,7 +205,7 @@ page_by (Some x) = refl
 -- a key at a place is that of one of the items
 pub small_at : (P : ℕ → Type 0) (xs : List Item) (place : ℕ) {key : ℕ} → All (λ x. P x.key) xs → key_at xs place ≡ Some key → P key
 small_at P [] place all is = absurd (none-some _ (sym (ap (option_map (λ (x : Item). x.key)) (slice_get_past [] place (omega arith))) ∙ is))
-small_at P (x ∷ xs) zero all is = subst P (same_Some _ _ is) (All-head (λ y. P y.key) x _ all)
+small_at P (x ∷ xs) zero all is = rw (← same_Some _ _ is) (All-head (λ y. P y.key) x _ all)
 small_at P (x ∷ xs) (suc n) all is = small_at P xs n (All-tail (λ y. P y.key) x _ all) is
 
 -- without an item that is there, the list has one fewer

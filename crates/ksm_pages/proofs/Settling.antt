@@ -63,7 +63,7 @@ module _ {slab : Slab Entry} {order : List Named} {restless : Listing} {tally : 
   pub all_from : (P : Entry → Type 0) → ((k : ℕ) (e : Entry) → get slab k ≡ Some e → P (g e)) → (k : ℕ) (e : Entry) → get later k ≡ Some e → P e
   all_from P holds k e stands =
       let at = mapped_some _ _ (sym (all k) ∙ stands) in
-      subst P at.2 (holds k at.0 at.1)
+      rw (← at.2) (holds k at.0 at.1)
 
   -- once each entry is changed, the pages that a visit may change are listed still
   pub all_listed : restless.known ≡ true → AreListed later restless.pages
@@ -149,7 +149,7 @@ module _ {slab : Slab Entry} {order : List Named} {restless : Listing} {tally : 
       ascending = are.ascending;
       filed = all_filed are later pass _ made_plain (λ e. refl) (λ e. refl) (λ e. refl);
       listed = all_listed are later pass _ made_plain (λ e. refl) (λ e. refl) (λ e. refl);
-      counted = subst (λ held. IsTally (rows_of held) tally) (sym plain_seen) (tally_kept _ (λ h. refl) _ are.counted);
+      counted = rw plain_seen (tally_kept _ (λ h. refl) _ are.counted);
       begun = all_from are later pass _ made_plain (λ e. refl) (λ e. refl) (λ e. refl) _ (λ k e stands. are.begun k e stands);
       counting = are.counting;
     }

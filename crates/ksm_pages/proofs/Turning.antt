@@ -1,5 +1,5 @@
 -- The pages once a call changed the row of one page: they are lawful, and what is seen of them changed so.
-use Rattle.ksm_pages.proofs.Names.{[], All-map, ap, AreKept, AreTied, AreWaiting, arith, at_mapped, cases_Bool, change_held, change_row, cond, cond_both, DupsState, false, find_passes, frame_of, frame_seen, get_or, GuestPage, Held, held_at, holds, if◌then◌else◌, inl, InPageOrder, inr, Inside, IsAlone, IsKnown, IsLeft, lies_on, List, Listing, lodging, lodgings_of, map, mapped, MatchOption, merged_state, None, none_waiting, on_row, Option, option_map, ordered_map, PageState, PagesValue, PagesView, Private, refl, Row, row_at, rows_of, RowsView, rules, same_page, same_page_eq, seen, settled_state, shared_state, Some, subst, sym, tied_mapped, true≢false, waiting_state, waits_there, without_held, without_page, ℕ, ⊤, ◌∙◌, ◌≡◌}
+use Rattle.ksm_pages.proofs.Names.{[], All-map, ap, AreKept, AreTied, AreWaiting, arith, at_mapped, cases_Bool, change_held, change_row, cond, cond_both, DupsState, false, find_passes, frame_of, frame_seen, get_or, GuestPage, Held, held_at, holds, if◌then◌else◌, inl, inr, Inside, IsAlone, IsKnown, IsLeft, lies_on, List, Listing, lodging, lodgings_of, map, mapped, MatchOption, merged_state, None, none_waiting, on_row, Option, option_map, ordered_map, PageState, PagesValue, PagesView, Private, refl, Row, row_at, rows_of, RowsView, rules, same_page, same_page_eq, seen, settled_state, shared_state, Some, subst, sym, tied_mapped, true≢false, waiting_state, waits_there, without_held, without_page, ℕ, ⊤, ◌∙◌, ◌≡◌}
 use Rattle.std.proofs.lemmas.Bool.{some_since}
 use Rattle.ksm_tree.specs.Dups.{rows_of as dup_rows}
 use Rattle.ksm_tree.proofs.Alike.{map_alike, map_mapped}
@@ -127,11 +127,11 @@ module _ (s : Inside) (are : AreLawful s) {p : PagesValue} (seen_as : view_of s 
   still f pages like rows turned {restless = restless} listed later rest waits = record {
     lawful = record {
       small = are.small;
-      order = subst InPageOrder (sym changed) (ordered_map f _ pages are.order);
+      order = rw changed (ordered_map f _ pages are.order);
       tied = subst (λ rs. AreTied rs later.dups) (sym changed) (subst (AreTied (map f before)) (λ i. (sym rest i).dups)
           (tied_mapped f _ _ (λ k d lt. let r = get_or before k d in (pages r, λ number. item_alike _ _ _ (like r))) are.tied));
       places = (λ i. (rest i).places) ∙ are.places;
-      waits = subst (λ rs. AreWaiting s.knobs rs later.waiting) (sym changed) waits;
+      waits = rw changed waits;
       room = are.room;
     };
     told_as =

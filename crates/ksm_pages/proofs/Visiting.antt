@@ -18,8 +18,7 @@ module _ (s : Inside) {later : DupsState} (kept : later ≡ record s.dups { numb
   -- groups that got other numbers leave the pages lawful
   pub lawful_numbered : AreLawful s → AreLawful (record s { dups = later })
   lawful_numbered are =
-      subst (λ (d : DupsState). AreKept s.shape s.knobs (rows_of s.rows.held) d s.frames.items) (sym kept)
-      (record { small = are.small; order = are.order; tied = are.tied; places = are.places; waits = are.waits; room = are.room })
+      rw kept (record { small = are.small; order = are.order; tied = are.tied; places = are.places; waits = are.waits; room = are.room })
 
   -- groups that got other numbers leave what is seen of the pages as it was
   pub seen_numbered : view_of (record s { dups = later }) ≡ view_of s
@@ -37,9 +36,7 @@ finds_none s {p} seen_as page gone = search (rules, row_seen)
 
 finds_row : (s : Inside) {p : PagesValue} → view_of s ≡ p → (page : GuestPage) {h : Held} → held_at page s.rows.held ≡ Some h
     → (new : PagesView) (what : Find) → FindsAt (seen p) new h.row what → Finds (seen p) new page what
-finds_row s {p} seen_as page found new what is =
-    subst (λ o. MatchOption o ((what ≡ finds.Gone) × (new ≡ seen p)) (λ r. FindsAt (seen p) new r what))
-    (sym (row_seen s seen_as _ found)) is
+finds_row s {p} seen_as page found new what is = rw (row_seen s seen_as _ found) is
 
 -- a row that no visit may change is found gone
 pub finds_gone : (s : Inside) {p : PagesValue} → view_of s ≡ p → (page : GuestPage) (e : Entry)
@@ -78,7 +75,7 @@ asked {s} are seen_as {e} found restless {later = later} kept {group = group} in
   seen_as = seen_numbered s kept ∙ seen_as;
   found = found;
   restless = restless;
-  numbered = subst (λ t. number_of t e.bytes later.numbers ≡ Some group) (in_tree (held_of s.rows.pass e).row refl) numbered;
+  numbered = rw (← in_tree (held_of s.rows.pass e).row refl) numbered;
 }
 
 module _ {s : Inside} {p : PagesValue} {page : GuestPage} {e : Entry} {group : ℕ} (it : IsAsked s p page e group) where
@@ -187,7 +184,7 @@ module _ {s : Inside} {p : PagesValue} {page : GuestPage} {e : Entry} {group : �
 
           now_waits : AreWaiting s.knobs (change_row page (λ _. to row) before) later.waiting
           now_waits =
-              subst (λ q. AreWaiting s.knobs (change_row q (λ _. to row) before) later.waiting) at_row
+              rw (← at_row)
               (met_waits s.knobs _ _ _ it.lawful.order it.lawful.waits met_is (ap (λ q. row_at q before) at_row ∙ there) same_own
               (added (tree_of s.knobs row) row.bytes it.numbered) (λ that. (λ i. (same_again that i).waiting)))
 

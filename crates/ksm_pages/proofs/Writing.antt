@@ -1,5 +1,5 @@
 -- What each change of one row, found under its key, leaves: rows still, and what is seen of them.
-use Rattle.ksm_pages.proofs.Names.{ap, ap₂, AreBegun, AreFiled, AreListed, arith, Bool, CanMove, change_held, Entry, false, find, forgotten, get, GuestPage, has_item, Held, held_at, held_in, held_of, held_under, IfSome, inl, InPageOrder, inr, is_of, is_own, is_restless, is_some, IsAddedTo, IsCalm, IsMoved, IsRows, IsTakenFrom, IsTally, IsUnder, key_in, Kind, length, length-map, List, Listing, marked, Named, named_of, ne_eqb, None, number_left, on_row, own_state, pages_ordered, PageState, Private, refl, Row, row_at, rows_of, RowsView, rules, same_page, same_page_refl, same_Some, settled, settled_state, shared_state, Slab, Some, state_of, subst, sym, Tally, true, true≢false, Updates-with_value, Waiting, with_held, with_named, with_value, without_held, without_named, ℕ, ◌&&◌, ◌<◌, ◌^◌, ◌∙◌, ◌≡◌, ◌≢◌, ◌≤◌, ◌⊎◌}
+use Rattle.ksm_pages.proofs.Names.{ap, ap₂, AreBegun, AreListed, arith, Bool, CanMove, change_held, Entry, false, find, forgotten, get, GuestPage, has_item, Held, held_at, held_in, held_of, held_under, IfSome, inl, InPageOrder, inr, is_of, is_own, is_restless, is_some, IsAddedTo, IsCalm, IsMoved, IsRows, IsTakenFrom, IsTally, IsUnder, key_in, Kind, length, length-map, List, Listing, marked, Named, named_of, ne_eqb, None, number_left, on_row, own_state, pages_ordered, PageState, Private, refl, Row, row_at, rows_of, RowsView, rules, same_page, same_page_refl, same_Some, settled, settled_state, shared_state, Slab, Some, state_of, sym, Tally, true, true≢false, Updates-with_value, Waiting, with_held, with_named, with_value, without_held, without_named, ℕ, ◌&&◌, ◌<◌, ◌^◌, ◌∙◌, ◌≡◌, ◌≢◌, ◌≤◌, ◌⊎◌}
 use Rattle.slab.specs.Slab.{Updates as Fills}
 use Rattle.ksm_pages.specs.declared.row.Kind.TheVariants as kinds
 use Rattle.ksm_pages.specs.declared.rows.Rows.TheInside.{Inside}
@@ -91,7 +91,7 @@ module _ (s : Inside) (are : AreRows s) where
         let old = (held_of s.pass e).row in
         let many : length (rows_of held) < 2 ^ 64 =
         omega (arith, length-map held (λ (h : Held). h.row), length-map s.order (λ (n : Named). held_under s.pass (get s.entries n.key)), few) in
-        subst (λ st. CanMove st state s.tally) (sym is) (can_move rise _ found_row s.tally are.counted (record old { state = state }) many)
+        rw is (can_move rise _ found_row s.tally are.counted (record old { state = state }) many)
 
     other_page : {k : ℕ} {f : Entry} → get s.entries k ≡ Some f → k ≢ key → same_page f.page page ≡ false
     other_page {f} stands apart = ap (same_page f.page) (sym of_page) ∙ elsewhere s.entries _ are.ascending are.filed stood stands apart
@@ -112,8 +112,8 @@ module _ (s : Inside) (are : AreRows s) where
         tallied : IsTally (rows_of (held_in s.pass later s.order)) tally
         tallied =
             let new = (held_of s.pass e').row in
-            subst (λ rs. IsTally rs tally) (sym (ap rows_of (held_later _ refl) ∙ rows_changed _ (λ _. held_of s.pass e') _ _ (λ h. refl)))
-            (tally_changed rise _ found_row _ are.counted _ (subst (λ st. IsMoved st new.state s.tally tally) was (subst (λ st. IsMoved from st s.tally tally) is moved)))
+            rw (ap rows_of (held_later _ refl) ∙ rows_changed _ (λ _. held_of s.pass e') _ _ (λ h. refl))
+            (tally_changed rise _ found_row _ are.counted _ (rw (← was) (rw (← is) moved)))
 
       begun_still : (e'.kind ≡ kinds.Own → e'.number ≤ s.pass) → AreBegun later s.pass
       begun_still fits = search (rules, fills)
@@ -127,7 +127,7 @@ module _ (s : Inside) (are : AreRows s) where
       pub listed_now : {now : Listing} → IsAddedTo page s.restless now → now.known ≡ true → AreListed later now.pages
       listed_now added known = elim added [
         | inl is ↦
-            subst (λ (l : Listing). AreListed later l.pages) (sym is) (listed_still _
+            rw is (listed_still _
             (λ k f stands apart may. with_has _ page _ (inr (are.listed (listed_known s.restless _ is known) k f stands may)))
             (λ may. with_has page page _ (inl (same_page_refl page))))
         | inr is ↦ absurd (true≢false (sym known ∙ (λ i. (is i).known)))
@@ -157,8 +157,7 @@ module _ (s : Inside) (are : AreRows s) where
           → {from to : PageState} {tally : Tally} → from ≡ state_of e.kind e.number s.pass → to ≡ state_of e'.kind e'.number s.pass
           → IsMoved from to s.tally tally → IsRows later s.order now tally s.pass
       kept flag fits less now is =
-          still flag fits (subst (λ (l : Listing). l.known ≡ true → AreListed later l.pages) (sym is)
-          (λ known. listed_still _ (λ k f stands apart. are.listed known k f stands)
+          still flag fits (rw is (λ known. listed_still _ (λ k f stands apart. are.listed known k f stands)
           (λ may. ap (λ p. has_item p s.restless.pages) (sym of_page) ∙ are.listed known key e stood (less may))))
 
       module _ (kind : e'.kind ≡ e.kind) (number : e'.number ≡ e.number) where
@@ -180,10 +179,9 @@ module _ (s : Inside) (are : AreRows s) where
             → IsRows later (marked page e'.mergeable s.order) now s.tally s.pass
         still_marked listed = record {
           ascending = write_rises _ page _ (λ n. refl) _ are.ascending;
-          filed =
-              subst (λ p. AreFiled later (marked p e'.mergeable s.order)) of_page (filed_marked _ _ are.ascending are.filed stood fills same);
+          filed = rw (← of_page) (filed_marked _ _ are.ascending are.filed stood fills same);
           listed = listed;
-          counted = subst (λ g. IsTally (rows_of g) s.tally) (sym (marked_same _ later _ _ _)) (tallied refl same_state (unmoved));
+          counted = rw (marked_same _ later _ _ _) (tallied refl same_state (unmoved));
           begun = begun_still fits_still;
           counting = are.counting;
         }
@@ -214,8 +212,7 @@ module _ (s : Inside) (are : AreRows s) where
         → {from to : PageState} {tally : Tally} → from ≡ state_of e.kind e.number s.pass → to ≡ state_of now.kind now.number s.pass
         → IsMoved from to s.tally tally → IsRows (with_value s.entries key now) s.order s.restless tally s.pass
     kept_forgotten e' is same flag kind {from} {to} {tally} was told moved =
-        subst (λ x. IsRows (with_value s.entries key x) s.order s.restless tally s.pass) (sym is)
-        (kept _ same flag (left_fits _ _ _) (λ may. sym (ap₂ (λ m k. m && is_own k) flag kind) ∙ may)
+        rw is (kept _ same flag (left_fits _ _ _) (λ may. sym (ap₂ (λ m k. m && is_own k) flag kind) ∙ may)
         _ refl was (told ∙ (λ i. state_of (is i).kind (is i).number s.pass)) moved)
 
     -- the row of an entry that is changed, and then forgets its pass, is seen changed and settled
@@ -239,15 +236,14 @@ module _ (s : Inside) (are : AreRows s) where
           → IsMoved from Private s.tally tally → IsRows later (without_named page s.order) now tally s.pass
       still_gone taken_from {from} {tally} was moved = record {
         ascending = without_rises pages_ordered (λ (n : Named). n.page) page _ are.ascending;
-        filed = subst (λ p. AreFiled later (without_named p s.order)) of_page (filed_taken _ _ are.ascending are.filed stood fills);
+        filed = rw (← of_page) (filed_taken _ _ are.ascending are.filed stood fills);
         listed = λ known. elim taken_from [
           | inl is ↦
-              subst (λ (l : Listing). AreListed later l.pages) (sym is)
+              rw is
               (λ k f stands may. let was = stood_before stands in without_has f.page page _ (other_page was.0 was.1) (are.listed (listed_known s.restless _ is known) k f was.0 may))
           | inr is ↦ absurd (true≢false (sym known ∙ (λ i. (is i).known)))
         ];
-        counted = subst (λ rs. IsTally rs tally) (sym (ap rows_of held_gone ∙ rows_without page held))
-            (tally_gone rise _ found_row _ are.counted (subst (λ st. IsMoved st Private s.tally tally) was moved));
+        counted = rw (ap rows_of held_gone ∙ rows_without page held) (tally_gone rise _ found_row _ are.counted (rw (← was) moved));
         begun = λ k f stands. are.begun k f (stood_before stands).0;
         counting = are.counting;
       }
@@ -273,7 +269,7 @@ nothing_gone s are page told is =
 -- a slab with more room has the same rows
 pub with_room : (s : Inside) → AreRows s → {room : Slab Entry} → room ≡ record s.entries { capacity = room.capacity } → IsRows room s.order s.restless s.tally s.pass
 with_room s are is =
-    subst (λ slab. IsRows slab s.order s.restless s.tally s.pass) (sym is)
+    rw is
     (record { ascending = are.ascending; filed = are.filed; listed = are.listed; counted = are.counted; begun = are.begun; counting = are.counting })
 
 -- a slab with more room is seen to have the same rows
@@ -307,12 +303,11 @@ module _ (s : Inside) (are : AreRows s) {v : RowsView} (seen_as : view_of s ≡ 
     filed = filed_put _ _ are.ascending are.filed vacant not_named fills;
     listed = λ known. elim added [
       | inl is ↦
-          subst (λ (l : Listing). AreListed later l.pages) (sym is)
-          (all_filled fills (λ may. with_has e.page e.page s.restless.pages (inl (same_page_refl e.page)))
+          rw is (all_filled fills (λ may. with_has e.page e.page s.restless.pages (inl (same_page_refl e.page)))
           (λ k f stands apart may. with_has f.page e.page s.restless.pages (inr (are.listed (listed_known s.restless _ is known) k f stands may))))
       | inr is ↦ absurd (true≢false (sym known ∙ (λ i. (is i).known)))
     ];
-    counted = subst (λ rs. IsTally rs s.tally) (sym (ap rows_of held_put ∙ rows_with (held_of s.pass e) before))
+    counted = rw (ap rows_of held_put ∙ rows_with (held_of s.pass e) before)
         (tally_put _ (row_told e.page before held_absent) alone are.counted);
     begun = all_filled fills (λ own. fits) (λ k f stands apart. are.begun k f stands);
     counting = are.counting;

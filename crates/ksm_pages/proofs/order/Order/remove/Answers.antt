@@ -1,7 +1,7 @@
-use Rattle.ksm_pages.proofs.Names.{All, All-filter, ap, arith, find, is_of, is_some, key_of, length, rules, subst, sym, ◌<◌, ◌^◌, ◌∙◌}
+use Rattle.ksm_pages.proofs.Names.{All-filter, ap, arith, find, is_of, is_some, key_of, length, rules, sym, ◌<◌, ◌^◌, ◌∙◌}
 use Rattle.std.proofs.lemmas.List.Kept.{AllPairs-filter}
 use Rattle.ksm_order.specs.declared.item.Item.{Item}
-use Rattle.ksm_order.specs.Listed.{AreAscending, is_at}
+use Rattle.ksm_order.specs.Listed.{is_at}
 use Rattle.ksm_pages.proofs.Options.{some_mapped}
 use Rattle.ksm_pages.proofs.Ranked.{found_by, gone_one, without_by}
 use Rattle.ksm_pages.proofs.order.Order.remove.Goals as goal
@@ -16,9 +16,9 @@ invariant_of-self c =
     ∙ ap is_some (sym (found_by _ c.key_of.ensures.few _) ∙ ap (find (is_of c.args.page)) c.self.view_is)
     ∙ c.requires.there in
     record {
-      ascending = subst AreAscending (sym c.remove.ensures) (AllPairs-filter (λ (x y : Item). x.key < y.key) _ _ c.self.invariant.ascending);
+      ascending = rw c.remove.ensures (AllPairs-filter (λ (x y : Item). x.key < y.key) _ _ c.self.invariant.ascending);
       long = omega (arith, c.self.invariant.long, ap length c.remove.ensures, gone_one _ _ c.self.invariant.ascending there);
-      small = subst (All (λ (y : Item). y.key < 2 ^ 48)) (sym c.remove.ensures) (All-filter _ (λ (y : Item). y.key < 2 ^ 48) _ c.self.invariant.small);
+      small = rw c.remove.ensures (All-filter _ (λ (y : Item). y.key < 2 ^ 48) _ c.self.invariant.small);
     }
 
 pub returns : goal.returns

@@ -1,4 +1,4 @@
-use Rattle.ksm_pages.proofs.Names.{ap, has_item, held_in, inl, inr, is_some, IsRows, rules, subst, sym, ◌∙◌}
+use Rattle.ksm_pages.proofs.Names.{ap, has_item, held_in, inl, inr, is_some, rules, sym, ◌∙◌}
 use Rattle.ksm_pages.proofs.Listings.{without_lacks}
 use Rattle.ksm_pages.proofs.Writing.{can_be, nothing_gone, nowhere_seen, still_gone, viewed_gone}
 use Rattle.ksm_pages.proofs.Options.{some_mapped}
@@ -19,8 +19,7 @@ remove-requires c = record {
 pub invariant_of-self : goal.invariant_of-self
 invariant_of-self c =
     let s = c.self.inside in
-    subst (λ order. IsRows c.remove-gone.new.self order c.remove-2.new.self c.change.new.self s.pass) (sym c.remove.ensures)
-    (still_gone s c.self.invariant c.in-Some.ensures.there c.remove-gone.ensures.value
+    rw c.remove.ensures (still_gone s c.self.invariant c.in-Some.ensures.there c.remove-gone.ensures.value
     c.remove-gone.ensures.updates c.remove-2.ensures c.state.ensures c.change.ensures)
 
 pub returns-clause-gone : goal.returns-clause-gone
