@@ -29,9 +29,7 @@ find_narrower p q less (y ∷ ys) x is passes = elim (cases_Bool (p y)) [
   | inl first ↦
       let same : y ≡ x = grind arith in
       grind arith
-  | inr out ↦
-      let rest = find_narrower p q less ys x (grind arith) passes in
-      grind (arith, rest)
+  | inr out ↦ grind (arith, (find_narrower p q less ys x (grind arith) passes))
 ]
 
 -- where no row in front of a page passes, and that of the page does, that is the first that passes, if it is there
@@ -47,20 +45,13 @@ first_at next page here ahead (x ∷ xs) up r found = elim (cases_Bool _) [
       let there : row_at page xs ≡ Some r = grind arith in
       let before =
       find_all _ (λ s. comes_before x.page s.page ≡ true) _ r there (pairs_head (λ (a b : Row). comes_before a.page b.page ≡ true) x _ up) in
-      let at = same_page_eq _ _ (find_passes (λ s. same_page s.page page) xs r there) in
-      let out = ahead x (ap (comes_before x.page) (sym at) ∙ before) in
-      let rest = first_at _ page here ahead xs (pairs_tail (λ (a b : Row). comes_before a.page b.page ≡ true) x xs up) r there in
-      grind (arith, out, rest)
+      let out = ahead x (ap (comes_before x.page) (sym (same_page_eq _ _ (find_passes (λ s. same_page s.page page) xs r there))) ∙ before) in
+      grind (arith, out, (first_at _ page here ahead xs (pairs_tail (λ (a b : Row). comes_before a.page b.page ≡ true) x xs up) r there))
 ]
 
 -- of two pages in order the first is of no later guest
 guests_rise : (p q : GuestPage) → comes_before p q ≡ true → p.guest ≤ q.guest
 guests_rise p q before = grind arith
-
--- a row at a page of the guest is a row of that guest
-pub of_some : {guest : Option ℕ} {g : ℕ} {page : GuestPage} → guest ≡ Some g → page.guest ≡ g → (x : Row) → x.page ≡ page
-    → of_guest guest x ≡ true
-of_some is at x of_page = grind arith
 
 module _ (p : PagesValue) (guest : Option ℕ) (cursor : Option GuestPage) where
   abbrev next : Row → Bool
@@ -132,9 +123,7 @@ module _ (p : PagesValue) (guest : Option ℕ) (cursor : Option GuestPage) where
                 let at = (λ i. (there.2 i).guest) ∙ (λ i. (sym is_first i).page.guest) in
                 find_nothing next (x ∷ xs) (All-cons (λ y. next y ≡ false) x xs (other x (omega arith))
                 (λ k d lt. let le = guests_rise x.page (get_or xs k d).page (pairs_head (λ (a b : Row). comes_before a.page b.page ≡ true) x xs up k d lt) in other (get_or xs k d) (omega (arith, at, le))))
-            | inr not_it ↦
-                let rest = past xs (pairs_tail (λ (a b : Row). comes_before a.page b.page ≡ true) x xs up) (grind arith) in
-                grind (arith, rest)
+            | inr not_it ↦ grind (arith, (past xs (pairs_tail (λ (a b : Row). comes_before a.page b.page ≡ true) x xs up) (grind arith)))
           ]
 
       -- where the first row behind the start is of the guest, what is told of that row is what comes next

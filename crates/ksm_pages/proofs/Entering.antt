@@ -1,5 +1,5 @@
 -- The pages once one came with a row and a frame of its own.
-use Rattle.ksm_pages.proofs.Names.{AllPairs, ap, arith, comes_before, Err, false, frame_of, GuestPage, Held, held_at, InPageOrder, Inside, length-map, lies_on, List, lodgings_of, merged_state, None, Ok, OnErr, OnOk, Option, ordered_with, PagesValue, PagesView, Result, Row, row_at, row_inserted, rows_of, RowsView, rules, same_page_refl, seen, Some, sym, tied_inserted, true, waiting_state, with_held, with_row, ℕ, ◌∙◌, ◌≡◌, ap₂, holds}
+use Rattle.ksm_pages.proofs.Names.{AllPairs, ap, arith, comes_before, Err, false, frame_of, GuestPage, Held, held_at, InPageOrder, Inside, length-map, lies_on, List, lodgings_of, merged_state, None, Ok, OnErr, OnOk, Option, ordered_with, PagesValue, PagesView, Result, Row, row_at, row_inserted, rows_of, RowsView, rules, seen, Some, sym, tied_inserted, true, waiting_state, with_held, with_row, ℕ, ◌∙◌, ◌≡◌, ap₂, holds}
 use Rattle.std.proofs.Math.ListN.{get_or-map}
 use Rattle.ksm_pages.proofs.Changing.{nothing_held, rows_with}
 use Rattle.ksm_pages.proofs.Found.{find_put, find_put_other}
@@ -64,7 +64,7 @@ module _ (s : Inside) (are : AreLawful s) {p : PagesValue} (seen_as : view_of s 
 pub but_there : {new : PagesView} (old : PagesView) (rows : List Row) (page : GuestPage) (o : Option ℕ)
     → new ≡ record old { rows = rows; frame = lies_on page o old.frame; restless = new.restless }
     → (new ≡ record old { rows = rows; frame = new.frame; restless = new.restless }) × (new.frame ≡ lies_on page (new.frame page) old.frame)
-but_there {new} old rows page o is = grind (arith, same_page_refl)
+but_there {new} old rows page o is = grind arith
 
 -- ---------------------------------------------------------------- results
 

@@ -23,7 +23,7 @@ Stands slab n = option_map (named_of n.key) (get slab n.key) ≡ Some n
 
 -- where a name says what stands under its key, an entry of the name's page stands under that key
 pub under_named : (slab : Slab Entry) (n : Named) → Stands slab n → IsUnder slab n.page n.key
-under_named slab n told = search (rules, mapped_some)
+under_named slab n told = search rules
 
 -- the row under a key is of the page that the order names
 pub page_under : (pass : ℕ) (slab : Slab Entry) {n : Named} → Stands slab n → (held_under pass (get slab n.key)).row.page ≡ n.page
@@ -126,23 +126,9 @@ module _ (slab : Slab Entry) (order : List Named) (rise : AreAscending order) (f
       pub written : (pass : ℕ) (f : Held → Held) → held_of pass e' ≡ f (held_of pass e) → held_in pass later order ≡ change_held e.page f (held_in pass slab order)
       written pass f is = grind (arith, map_mapped, all_stand, cases_Bool, Decides-eqb, same_page_refl, differ_by, page_under, named_elsewhere)
 
-      -- how the order names what stands under a key
-      named_later : e'.mergeable ≡ e.mergeable → (k : ℕ) → option_map (named_of k) (get later k) ≡ option_map (named_of k) (get slab k)
-      named_later flag k = elim (cases_Bool _) [
-        | inl here ↦
-            let is_key = (Decides-eqb k _).0 here in
-            let named = ap₂ (λ p b. record { page = p; key = key; mergeable = b }) same flag in
-            ap (λ j. option_map (named_of j) (get later j)) is_key
-            ∙ ap (option_map (named_of key)) fills.changed
-            ∙ ap Some named
-            ∙ ap (option_map (named_of key)) (sym stood)
-            ∙ ap (λ j. option_map (named_of j) (get slab j)) (sym is_key)
-        | inr other ↦ ap (option_map (named_of k)) (fills.others k (differ_by other))
-      ]
-
       -- where one entry is written anew and its mergeable flag stays, pages are named as their entries say
       pub filed_kept : e'.mergeable ≡ e.mergeable → AreFiled later order
-      filed_kept flag n = search (rules, named_later)
+      filed_kept flag n = search rules
 
       abbrev mark : Named → Named
       mark n = if is_of e.page n then record n { mergeable = e'.mergeable } else n
@@ -161,7 +147,7 @@ module _ (slab : Slab Entry) (order : List Named) (rise : AreAscending order) (f
           here_named = ap (λ p. record { page = p; key = key; mergeable = e'.mergeable }) same
 
           marked_here : mark (named_of key e) ≡ record (named_of key e) { mergeable = e'.mergeable }
-          marked_here = grind (arith, same_page_refl)
+          marked_here = grind arith
 
           marked_other : {m : Named} → same_page m.page e.page ≡ false → mark m ≡ m
           marked_other differ = grind arith
@@ -217,7 +203,7 @@ module _ (slab : Slab Entry) (order : List Named) (rise : AreAscending order) (f
   module _ {key : ℕ} {e : Entry} {later : Slab Entry} (vacant : get slab key ≡ None) (absent : find (is_of e.page) order ≡ None) (fills : Fills slab later key (Some e)) where
     -- no page that the order names stands under the new key
     taken_key : {n : Named} → Stands slab n → n.key ≢ key
-    taken_key stands at = grind (arith, under_named, at)
+    taken_key stands at = grind arith
 
     -- where an entry came under a vacant key with a name, the rows have its row at the place of its page
     pub put : (pass : ℕ) → held_in pass later (with_named (named_of key e) order) ≡ with_held (held_of pass e) (held_in pass slab order)
@@ -228,9 +214,7 @@ module _ (slab : Slab Entry) (order : List Named) (rise : AreAscending order) (f
         part : (test : GuestPage → Bool) → map (held_by pass later) (filter (λ n. test n.page) order) ≡ filter (λ h. test h.row.page) (held_in pass slab order)
         part test =
             map_alike _ _ _ (λ k d lt.
-            let n = get_or (filter (λ (m : Named). test m.page) order) k d in
-            let stands = All-filter _ (Stands slab) _ all_stand k d lt in
-            ap (held_under pass) (fills.others n.key (taken_key stands)))
+            ap (held_under pass) (fills.others (get_or (filter (λ (m : Named). test m.page) order) k d).key (taken_key (All-filter _ (Stands slab) _ all_stand k d lt))))
             ∙ sym (filter_mapped _ _ _ _ (λ k d lt. ap test (page_under _ slab (all_stand k d lt))))
 
     -- where an entry came under a vacant key with a name, all pages are named as their entries say

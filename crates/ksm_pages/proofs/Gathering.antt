@@ -1,5 +1,5 @@
 -- A walk along the order that lists the pages that a visit may change.
-use Rattle.ksm_pages.proofs.Names.{[], after_cursor, All, All-cons, All-map, ap, AreAllListed, AreAscending, AreFiled, AreListed, arith, before_irrefl, Bool, cases_Bool, comes_before, Entry, false, filter, find, find_all, find_none, find_passes, get, get_or, GuestPage, has_item, Held, held_in, held_under, inl, inr, is_of, is_own, is_restless, is_some, IsAddedTo, IsUnder, Kind, length, List, Listing, may_change, Named, named_of, None, not, Option, option_map, pairs_head, pairs_tail, rows_of, same_page, same_page_refl, same_Some, shared_state, Slab, Some, state_of, sym, true, true≢false, ℕ, ◌&&◌, ◌<◌, ◌∙◌, ◌∷◌, ◌≡◌, ◌≤◌, ◌⊎◌, held_of}
+use Rattle.ksm_pages.proofs.Names.{[], after_cursor, All, All-cons, All-map, ap, AreAllListed, AreAscending, AreFiled, AreListed, arith, before_irrefl, Bool, cases_Bool, comes_before, Entry, false, filter, find, find_all, find_none, find_passes, get, get_or, GuestPage, has_item, Held, held_in, held_under, inl, inr, is_of, is_own, is_restless, is_some, IsAddedTo, IsUnder, Kind, length, List, Listing, may_change, Named, named_of, None, not, Option, option_map, pairs_head, pairs_tail, rows_of, same_page, same_page_refl, same_Some, shared_state, Slab, Some, state_of, sym, true, ℕ, ◌&&◌, ◌<◌, ◌∙◌, ◌∷◌, ◌≡◌, ◌≤◌, ◌⊎◌, held_of}
 use Rattle.ksm_pages.proofs.Filing.{all_stand, named_under, one_key, under_named}
 use Rattle.ksm_pages.proofs.Listings.{with_has}
 
@@ -45,7 +45,7 @@ first_found p (y ∷ ys) n rise found =
           All-cons (λ m. p m ≡ true → (m.page ≡ n.page) ⊎ (comes_before n.page m.page ≡ true)) y ys (λ also. inl (λ i. (same i).page))
           (λ k d lt also. inr ((λ i. comes_before (sym same i).page (get_or ys k d).page) ∙ pairs_head (λ a b. comes_before a.page b.page ≡ true) y ys rise k d lt))
       | inr fails ↦
-          All-cons (λ m. p m ≡ true → (m.page ≡ n.page) ⊎ (comes_before n.page m.page ≡ true)) y ys (λ also. absurd (true≢false (sym also ∙ fails)))
+          All-cons (λ m. p m ≡ true → (m.page ≡ n.page) ⊎ (comes_before n.page m.page ≡ true)) y ys (λ also. absurd (grind arith))
           (first_found p ys n (pairs_tail (λ a b. comes_before a.page b.page ≡ true) y ys rise) (grind arith))
     ]
 
@@ -79,7 +79,7 @@ module _ (slab : Slab Entry) (order : List Named) (rise : AreAscending order) (f
               | inl same ↦ inl (ap (same_page n.page) same ∙ same_page_refl n.page)
               | inr before ↦ inr (listed ((λ i. (sym is i).known) ∙ known) key e stands may before)
             ])
-        | inr is ↦ absurd (true≢false (sym known ∙ (λ i. (is i).known)))
+        | inr is ↦ absurd (grind arith)
       ]
 
       -- where no visit changes the next page, the list has all up to that page that a visit may change
@@ -87,9 +87,8 @@ module _ (slab : Slab Entry) (order : List Named) (rise : AreAscending order) (f
       one_passed {e} here calm is known key f stands may not_behind = elim (passed _ stands not_behind) [
         | inl same ↦
             let u = next_stands in
-            let at = one_key slab _ filed stands u.stands (same ∙ sym u.of_page) in
-            let is_it = same_Some f e (sym stands ∙ ap (get slab) at ∙ here) in
-            absurd (true≢false (sym may ∙ ap is_restless is_it ∙ calm))
+            let is_it = same_Some f e (sym stands ∙ ap (get slab) (one_key slab _ filed stands u.stands (same ∙ sym u.of_page)) ∙ here) in
+            absurd (grind arith)
         | inr before ↦ (λ i. has_item f.page (is i).pages) ∙ listed ((λ i. (sym is i).known) ∙ known) key f stands may before
       ]
 

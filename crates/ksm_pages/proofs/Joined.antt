@@ -29,9 +29,7 @@ found_room : (rows : List Row) (dups : List Dup) {number : ℕ} (o : Option Dup)
     → HasRoom rows (dup_rows dups) number → (is_some o ≡ true) × (length (items_in o) < MOST_REFERENCES)
 found_room rows dups None tied is room = absurd (true≢false (sym (has_known rows dups room) ∙ ap is_some is))
 found_room rows dups {number} (Some d) tied is room =
-    let counted = ap (λ o. length (items_in o)) (sym is) ∙ tied_count rows dups number d tied is in
-    let same = ap (λ n. count_by (λ r. merged_into n r.state) rows) (number_found number dups d is ∙ sym room.2) in
-    (refl, omega (arith, counted, same, room.3))
+    (refl, omega (arith, (ap (λ o. length (items_in o)) (sym is) ∙ tied_count rows dups number d tied is), (ap (λ n. count_by (λ r. merged_into n r.state) rows) (number_found number dups d is ∙ sym room.2)), room.3))
 
 -- a dup with room for an item is found by its number
 pub known_room : (rows : List Row) (dups : List Dup) {number : ℕ} → AreTied rows dups → HasRoom rows (dup_rows dups) number
@@ -77,13 +75,12 @@ module _ (s : Inside) (are : AreLawful s) (page : GuestPage) {h : Held} (found :
   pub lawful_joined : (rows : RowsView) → rows.held ≡ change_held page (mapped (Merged number) None) s.rows.held
       → AreKept s.shape s.knobs (rows_of rows.held) later s.frames.items
   lawful_joined rows turned =
-      let before = rows_of s.rows.held in
       let item = record h.row { state = Merged number } in
       let at = of_page s are _ found in
       lawful_turned s are _ found (mapped (Merged number) None) (λ r. record r { state = Merged number }) (λ x. refl)
       (λ r. refl) rows turned ((λ i. (out i).places) ∙ (λ i. (into i).places))
       (rw now_in (tied_joined _ _ _ are.order (row_there s are _ found) _ _ _ (own_not_merged _ alone) at refl are.tied)) (rw (← at)
-      (row_stopped s.knobs _ _ are.waits _ _ _ (ap (λ q. row_at q before) at ∙ row_there s are _ found) refl
+      (row_stopped s.knobs _ _ are.waits _ _ _ (ap (λ q. row_at q (rows_of s.rows.held)) at ∙ row_there s are _ found) refl
       (subst (λ w. IsStopped s.knobs h.row w later.waiting) (λ i. (into i).waiting) stopped)))
 
   -- once a page joined a dup, it lies where the dup's items do, and else all is seen as it was

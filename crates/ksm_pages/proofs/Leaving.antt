@@ -84,10 +84,9 @@ module _ (s : Inside) (are : AreLawful s) (page : GuestPage) {h : Held} (found :
         → AreWaiting s.knobs (change_row page (λ _. g old) (rows_of s.rows.held)) later.waiting → AreKept s.shape s.knobs (rows_of rows.held) later s.frames.items
     lawful_turned {later} places tied waits =
         let changed = sym rows_turned in
-        let as_map = changed_to _ _ _ are.order row_there in
         record {
           small = are.small;
-          order = subst InPageOrder (as_map ∙ changed) (ordered_map _ _ keeps are.order);
+          order = subst InPageOrder ((changed_to _ _ _ are.order row_there) ∙ changed) (ordered_map _ _ keeps are.order);
           tied = rw (← changed) tied;
           places = places ∙ are.places;
           waits = rw (← changed) waits;
@@ -100,8 +99,7 @@ module _ (s : Inside) (are : AreLawful s) (page : GuestPage) {h : Held} (found :
       pub told : {frame : Option ℕ} → seat (of_dup s) (Some (f h)) ≡ frame
           → seen (view_of (record s { rows = rows; dups = later })) ≡ record (seen p) { rows = change_row page to p.rows; frame = lies_on page frame (frame_of p.lodgings); restless = rows.restless }
       told {frame} lodged =
-          let before = rows_of s.rows.held in
-          let new = rows_turned ∙ ap (λ r. change_row page (λ _. r) before) agree ∙ sym (changed_to _ _ _ are.order row_there) in
+          let new = rows_turned ∙ ap (λ r. change_row page (λ _. r) (rows_of s.rows.held)) agree ∙ sym (changed_to _ _ _ are.order row_there) in
           let lain =
           ap₂ (λ ds held. frame_of (lodgings_of (lodging ds s.frames.items) held)) dups turned
           ∙ lodged_changed _ f (λ x. (λ i. (is x i).page) ∙ same x.row) _ _ found
@@ -133,10 +131,9 @@ module _ (s : Inside) (are : AreLawful s) (page : GuestPage) {h : Held} (found :
     pub lawful_left : (f : Held → Held) (g : Row → Row) → ((x : Held) → (f x).row ≡ g x.row) → ((r : Row) → (g r).page ≡ r.page) → (rows : RowsView) → rows.held ≡ change_held page f s.rows.held
         → merged_state (g old).state ≡ false → waiting_state (g old).state ≡ false → AreKept s.shape s.knobs (rows_of rows.held) later s.frames.items
     lawful_left f g is same rows turned alone still =
-        let before = rows_of s.rows.held in
         let at = same old ∙ of_page in
         lawful_turned f g is same rows turned (λ i. (out i).places) (rw dups_out (tied_left _ _ _ are.order row_there _ _ alone are.tied))
-        (rw (← at) (row_stopped s.knobs _ _ are.waits _ _ _ (ap (λ q. row_at q before) at ∙ row_there) still stopped))
+        (rw (← at) (row_stopped s.knobs _ _ are.waits _ _ _ (ap (λ q. row_at q (rows_of s.rows.held)) at ∙ row_there) still stopped))
 
     module _ (rows : RowsView) (gone : rows.held ≡ without_held page s.rows.held) where
       rows_gone : rows_of rows.held ≡ without_page page (rows_of s.rows.held)

@@ -30,9 +30,7 @@ knobs_free knobs tuned rows w are still t b q = are t b q ∙ go _ refl
   where
     go : (o : Option Row) → row_at q rows ≡ o → waits_there knobs t b o ≡ waits_there tuned t b o
     go None found = refl
-    go (Some r) found =
-        let alone = find_all _ (λ s. waiting_state s.state ≡ false) rows r found still in
-        grind (arith, alone)
+    go (Some r) found = grind (arith, (find_all _ (λ s. waiting_state s.state ≡ false) rows r found still))
 
 -- ---------------------------------------------------------------- dups
 

@@ -1,5 +1,5 @@
 -- The pages in order as the items that are kept for them: what stands before a key, what comes behind it, and in between.
-use Rattle.ksm_pages.proofs.Names.{[], ahead_of, All, All-cons, All-head, All-tail, ap, ap₂, arith, Bool, cases_Bool, cases_lt, comes_before, count_by, drop, eqb-true, false, filter, filter_all, filter_none, find, get_or, GuestPage, if◌then◌else◌, inl, inr, is_of, is_some, key_of, length, length-filter, length-map, List, map, map-append, marked, Named, named_by, nat_lt, None, none-some, not, Option, option_map, page_at, page_of, pairs_head, pairs_tail, passed_to, refl, same_Some, slice_get, slice_get-map, slice_get_past, Some, suc, sym, take, true, true≢false, visited, with_named, without_named, zero, ℕ, ◌&&◌, ◌++◌, ◌+◌, ◌-◌, ◌<◌, ◌^◌, ◌∙◌, ◌∷◌, ◌≡◌, ◌≤◌}
+use Rattle.ksm_pages.proofs.Names.{[], ahead_of, All, All-cons, All-head, All-tail, ap, ap₂, arith, Bool, cases_Bool, cases_lt, comes_before, count_by, drop, eqb-true, false, filter, filter_all, filter_none, find, get_or, GuestPage, if◌then◌else◌, inl, inr, is_of, is_some, key_of, length, length-filter, length-map, List, map, map-append, marked, Named, named_by, nat_lt, None, none-some, not, Option, option_map, page_at, page_of, pairs_head, pairs_tail, passed_to, refl, same_Some, slice_get, slice_get-map, slice_get_past, Some, suc, sym, take, true, visited, with_named, without_named, zero, ℕ, ◌&&◌, ◌++◌, ◌+◌, ◌-◌, ◌<◌, ◌^◌, ◌∙◌, ◌∷◌, ◌≡◌, ◌≤◌}
 use Rattle.std.proofs.lemmas.List.{drop-map, length-drop, length-take-le, nil_from_length, take-map}
 use Rattle.std.proofs.lemmas.List.Kept.{AllPairs-filter}
 use Rattle.ksm_base.proofs.Edits.{count_more}
@@ -113,9 +113,8 @@ module _ (key : ℕ) where
       elim (cases_Bool x.marked) [
         | inl is ↦
             let all : kept_marked (x ∷ xs) ≡ x ∷ kept_marked xs = grind arith in
-            let more = count_more below x (kept_marked xs) in
             let same : (x.marked && nat_lt x.key key) ≡ below x = grind arith in
-            counts ∙ ap₂ (λ b m. (if b then 1 else 0) + m) same rest ∙ sym (ap (count_by below) all ∙ more)
+            counts ∙ ap₂ (λ b m. (if b then 1 else 0) + m) same rest ∙ sym (ap (count_by below) all ∙ count_more below x (kept_marked xs))
         | inr other ↦
             let all : kept_marked (x ∷ xs) ≡ kept_marked xs = grind arith in
             let n : up_to key (x ∷ xs) ≡ up_to key xs = grind arith in
@@ -123,24 +122,20 @@ module _ (key : ℕ) where
       ]
 
   nothing_below : (x : Item) (xs : List Item) → AreAscending (x ∷ xs) → key ≤ x.key → All (λ y. below y ≡ false) xs
-  nothing_below x xs rise more k d lt = let up = pairs_head Less x _ rise k d lt in grind (arith, up)
+  nothing_below x xs rise more k d lt = grind (arith, pairs_head Less x _ rise k d lt)
 
   -- where items are in order, those before a key stand first
   kept_first : (xs : List Item) → AreAscending xs → filter below xs ≡ take (count_by below xs) xs
   kept_first [] rise = refl
   kept_first (x ∷ xs) rise =
-      let rest = kept_first xs (pairs_tail Less x xs rise) in
-      let counts = count_more below x xs in
       elim (cases_lt x.key key) [
         | inl less ↦
-            let n : count_by below (x ∷ xs) ≡ suc (count_by below xs) = grind (arith, less, counts) in
+            let n : count_by below (x ∷ xs) ≡ suc (count_by below xs) = grind (arith, less, count_more below x xs) in
             let kept : filter below (x ∷ xs) ≡ x ∷ filter below xs = grind arith in
-            kept ∙ ap (λ ys. x ∷ ys) rest ∙ sym (ap (λ m. take m (x ∷ xs)) n)
+            kept ∙ ap (λ ys. x ∷ ys) (kept_first xs (pairs_tail Less x xs rise)) ∙ sym (ap (λ m. take m (x ∷ xs)) n)
         | inr more ↦
-            let all = All-cons (λ y. below y ≡ false) x xs (grind arith) (nothing_below x _ rise more) in
-            let none = filter_none below (x ∷ xs) all in
-            let n = sym (length-filter below (x ∷ xs)) ∙ ap length none in
-            none ∙ sym (ap (λ m. take m (x ∷ xs)) n)
+            let none = filter_none below (x ∷ xs) (All-cons (λ y. below y ≡ false) x xs (grind arith) (nothing_below x _ rise more)) in
+            none ∙ sym (ap (λ m. take m (x ∷ xs)) (sym (length-filter below (x ∷ xs)) ∙ ap length none))
       ]
 
   abbrev nothing : List Item
@@ -155,16 +150,14 @@ module _ (key : ℕ) where
   kept_between zero xs rise = kept_first _ rise ∙ ap (λ m. take m xs) (omega arith)
   kept_between (suc n) [] rise = take_none _
   kept_between (suc n) (x ∷ xs) rise =
-      let rest = kept_between n xs (pairs_tail Less x _ rise) in
       let counts = count_more below x xs in
       let same : count_by below (x ∷ xs) - suc n ≡ count_by below xs - n = elim (cases_lt x.key key) [
         | inl less ↦ let m : count_by below (x ∷ xs) ≡ 1 + count_by below xs = grind arith in omega arith
         | inr more ↦
             let m : count_by below (x ∷ xs) ≡ count_by below xs = grind arith in
-            let none = sym (length-filter below xs) ∙ ap length (filter_none below _ (nothing_below x _ rise more)) in
-            omega (arith, none)
+            omega (arith, sym (length-filter below xs) ∙ ap length (filter_none below _ (nothing_below x _ rise more)))
       ] in
-      rest ∙ ap (λ m. take m (drop n xs)) (sym same)
+      kept_between n xs (pairs_tail Less x _ rise) ∙ ap (λ m. take m (drop n xs)) (sym same)
 
 -- the pages of items in order are in order
 pub rises_by : (items : List Item) → AreAscending items → AreInOrder (map named_by items)
@@ -204,13 +197,13 @@ page_by (Some x) = refl
 
 -- a key at a place is that of one of the items
 pub small_at : (P : ℕ → Type 0) (xs : List Item) (place : ℕ) {key : ℕ} → All (λ x. P x.key) xs → key_at xs place ≡ Some key → P key
-small_at P [] place all is = absurd (none-some _ (sym (ap (option_map (λ (x : Item). x.key)) (slice_get_past [] place (omega arith))) ∙ is))
+small_at P [] place all is = absurd (grind arith)
 small_at P (x ∷ xs) zero all is = rw (← same_Some _ _ is) (All-head (λ y. P y.key) x _ all)
 small_at P (x ∷ xs) (suc n) all is = small_at P xs n (All-tail (λ y. P y.key) x _ all) is
 
 -- without an item that is there, the list has one fewer
 pub gone_one : (key : ℕ) (xs : List Item) → AreAscending xs → is_some (find (is_at key) xs) ≡ true → length (without key xs) + 1 ≡ length xs
-gone_one key [] rise there = absurd (true≢false (sym there))
+gone_one key [] rise there = absurd (grind arith)
 gone_one key (x ∷ xs) rise there = elim (cases_Bool _) [
   | inl is ↦
       let at = eqb-true x.key key is in

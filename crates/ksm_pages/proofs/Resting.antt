@@ -23,7 +23,7 @@ stored_settled bytes r alone = grind arith
 
 -- a row with a frame of its own is let go where it is settled, and neither unchanged nor mergeable
 pub went : (r : Row) → shared_state r.state ≡ false → record (settled r) { unchanged = false; mergeable = false } ≡ let_go r
-went r alone = grind (arith, rests)
+went r alone = grind arith
 
 -- where a page lies does not hang on whether it waits
 pub lies_settled : (of_dup : ℕ → Option ℕ) (state : PageState) (own : Option ℕ)

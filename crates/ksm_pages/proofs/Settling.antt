@@ -52,12 +52,9 @@ tally_kept f same held are = record { merged = are.merged ∙ counts _; waiting 
 module _ {slab : Slab Entry} {order : List Named} {restless : Listing} {tally : Tally} {pass : ℕ} (are : IsRows slab order restless tally pass)
     (later : Slab Entry) (after : ℕ) (g : Entry → Entry) (all : (k : ℕ) → get later k ≡ option_map g (get slab k))
     (same : (e : Entry) → (g e).page ≡ e.page) (flag : (e : Entry) → (g e).mergeable ≡ e.mergeable) (kind : (e : Entry) → (g e).kind ≡ e.kind) where
-  named_all : (k : ℕ) → option_map (named_of k) (get later k) ≡ option_map (named_of k) (get slab k)
-  named_all k = grind arith
-
   -- once each entry is changed, but for its page, flag and kind, pages are named as their entries say
   pub all_filed : AreFiled later order
-  all_filed n = search (rules, named_all)
+  all_filed n = search rules
 
   -- what holds for each changed entry holds for all that stand once each entry is changed
   pub all_from : (P : Entry → Type 0) → ((k : ℕ) (e : Entry) → get slab k ≡ Some e → P (g e)) → (k : ℕ) (e : Entry) → get later k ≡ Some e → P e
@@ -110,7 +107,7 @@ module _ {slab : Slab Entry} {order : List Named} {restless : Listing} {tally : 
   pub next_rows : IsRows slab order restless (record tally { waiting = 0 }) (pass + 1)
   next_rows =
       all_settled are _ _ _ itself (λ e. refl) (λ e. refl) (λ e. refl) settled_next
-      (λ k e stands own. let fits = are.begun k e stands own in omega (arith, fits)) (omega arith)
+      (λ k e stands own. omega (arith, are.begun k e stands own)) (omega arith)
 
   -- ---------------------------------------------------------------- passes are counted anew
 

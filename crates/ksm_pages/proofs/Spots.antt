@@ -1,5 +1,5 @@
 -- Spots in the order of their pages: the pages of them, once one was put in, written or taken away.
-use Rattle.ksm_pages.proofs.Names.{[], add-one, and_parts, ap, append-nil, append_assoc, ap₂, AreInOrder, arith, Bool, cases_Bool, comes_before, drop, drop_all, Entry, false, filter, find, find_filter, find_passes, get, get_or, get_or_default, GuestPage, has_item, if◌then◌else◌, insert, is_some, is_useless, IsCalm, length, length-append, length-map, length-take-le, List, map, map-append, not, pages_of, pages_ordered, point_is_count, refl, rules, same_page, same_page_eq, set, Slab, Spot, sym, take, true, true≢false, with_found, with_item, ℕ, ◌++◌, ◌+◌, ◌-◌, ◌<◌, ◌∙◌, ◌∷◌, ◌≡◌, ◌≤◌, ◌⊎◌}
+use Rattle.ksm_pages.proofs.Names.{[], add-one, ap, append-nil, append_assoc, ap₂, AreInOrder, arith, Bool, cases_Bool, comes_before, drop, drop_all, Entry, false, filter, find, find_filter, find_passes, get, get_or, get_or_default, GuestPage, has_item, if◌then◌else◌, insert, is_some, is_useless, IsCalm, length, length-append, length-map, length-take-le, List, map, map-append, not, pages_of, pages_ordered, point_is_count, refl, rules, same_page, same_page_eq, set, Slab, Spot, sym, take, true, true≢false, with_found, with_item, ℕ, ◌++◌, ◌+◌, ◌-◌, ◌<◌, ◌∙◌, ◌∷◌, ◌≡◌, ◌≤◌, ◌⊎◌}
 use Rattle.std.specs.List.{copy_within}
 use Rattle.std.proofs.Math.Seq.{take-append_seam, take-suc}
 use Rattle.std.proofs.lemmas.Bool.{false_from_ne_true}
@@ -61,7 +61,7 @@ module _ (spot : Spot) (spots : List Spot) (rise : AreInOrder spots) where
 
 -- a page that is swept out of the list has a row that no visit changes
 calm_of : {entries : Slab Entry} (s : Spot) → is_useless s (get entries s.key) ≡ true → IsCalm entries s.page
-calm_of {entries} s useless = search (rules, and_parts, same_page_eq)
+calm_of {entries} s useless = search rules
 
 -- a page of the spots stays once useless spots are swept out, or no visit changes its row
 pub swept : {entries : Slab Entry} (spots : List Spot) {page : GuestPage} → has_item page (pages_of spots) ≡ true
@@ -77,8 +77,7 @@ moved_up xs at x within =
     ap (λ n. take n l) (add-one at) ∙ take-suc l at x (omega arith) ∙ ap (λ ys. ys ++ get_or l at x ∷ []) (take-append-le at xs (x ∷ []) within) in
     let back =
     sym (drop-take at _ l) ∙ ap (λ n. drop at (take n l)) (omega arith) ∙ ap (drop at) (take-append_seam xs (x ∷ [])) in
-    let none = drop_all _ l (omega arith) in
-    ap (λ ys. set ys at x) (ap₂ (λ a b. a ++ b) (ap₂ (λ a b. a ++ b) front back) none
+    ap (λ ys. set ys at x) (ap₂ (λ a b. a ++ b) (ap₂ (λ a b. a ++ b) front back) (drop_all _ l (omega arith))
     ∙ append-nil ((take at xs ++ get_or l at x ∷ []) ++ drop at xs)
     ∙ append_assoc (take at xs) (get_or l at x ∷ []) (drop at xs))
     ∙ set_at (take at xs) (get_or l at x) (drop at xs) x at (length-take-le at xs within)

@@ -12,16 +12,13 @@ module _ {rows : List Row} (rise : InPageOrder rows) (page : GuestPage) {old : R
     counts p = count_change_row _ _ _ _ _ rise found
 
     most : (p : Row → Bool) → count_by p changed ≤ length rows
-    most p =
-        let le = count_by-le-length p changed in
-        let same = length-map rows (λ r. if same_page r.page page then new else r) in
-        omega (arith, le, same)
+    most p = omega (arith, count_by-le-length p changed, length-map rows (λ r. if same_page r.page page then new else r))
 
     room : length rows < 2 ^ 64 → (p : Row → Bool) {n : ℕ} → n ≡ count_by p rows → n + one_if (p new) < 2 ^ 64 + one_if (p old)
-    room few p is = let c = counts p in let m = most p in omega (arith, c, m, is, few)
+    room few p is = omega (arith, counts p, most p, is, few)
 
     has : (p : Row → Bool) {n : ℕ} → n ≡ count_by p rows → one_if (p old) ≤ n
-    has p is = let c = count_without_page p page rows old rise found in omega (arith, c, is)
+    has p is = omega (arith, count_without_page p page rows old rise found, is)
 
     -- a tally of the rows can take one row from its state to another
     pub can_move : length rows < 2 ^ 64 → CanMove old.state new.state tally
@@ -35,7 +32,7 @@ module _ {rows : List Row} (rise : InPageOrder rows) (page : GuestPage) {old : R
     }
 
     meets : (p : Row → Bool) {n m : ℕ} → n ≡ count_by p rows → m + one_if (p old) ≡ n + one_if (p new) → m ≡ count_by p changed
-    meets p is moved = let c = counts p in omega (arith, c, is, moved)
+    meets p is moved = omega (arith, counts p, is, moved)
 
     -- a tally moved from a row's old state to its new one counts the rows with that row changed
     pub tally_changed : IsMoved old.state new.state tally later → IsTally changed later

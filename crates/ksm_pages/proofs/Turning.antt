@@ -69,14 +69,13 @@ module _ {s : Inside} {p : PagesValue} {page : GuestPage} {later : DupsState} {f
           })
       moved state own apart still turned =
           let to = λ (r : Row). record r { state = state } in
-          let lain = frame_seen (of_dup s) state own in
           record {
             lawful = lawful_left s it.lawful _ it.found it.left.dups it.left.waiting _ to (λ x. refl) (λ r. refl) rows turned apart still;
             told_as =
                 told s it.lawful _ it.found _ to (λ x. refl) (λ r. refl) rows turned it.seen_as later dups_same next_same _ refl refl
                 ∙ ap (λ (l : Listing). record (seen p) {
                   rows = change_row page to p.rows;
-                  frame = lies_on page lain (frame_of p.lodgings);
+                  frame = lies_on page (frame_seen (of_dup s) state own) (frame_of p.lodgings);
                   restless = l;
                 }) listed;
           }

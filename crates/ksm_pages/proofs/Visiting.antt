@@ -119,9 +119,8 @@ module _ {s : Inside} {p : PagesValue} {page : GuestPage} {e : Entry} {group : �
   pub finds_dup : (b : Best) → IsOfGroup (λ tree bytes. Some b ≡ option_map found_at (best tree bytes))
       → Finds (seen p) (seen (view_of s)) page (finds.Dup b)
   finds_dup b is =
-      let so = go _ (is (tree_of s.knobs row) row.bytes it.numbered) in
       let joins = subst (λ o. MatchOption o (true ≡ false) (λ (d : DupRow). (b.number ≡ d.number) × (b.place ≡ d.place)))
-      (sym best_is) so in
+      (sym best_is) (go _ (is (tree_of s.knobs row) row.bytes it.numbered)) in
       finds_at _ _ (may, joins, ap seen it.seen_as)
     where
       go : (o : Option Dup) → Some b ≡ option_map found_at o
@@ -164,9 +163,8 @@ module _ {s : Inside} {p : PagesValue} {page : GuestPage} {e : Entry} {group : �
         finds_partner apart =
             let from = ap (same_page met) at_row ∙ apart in
             let that = met_other s.knobs _ _ row it.lawful.order it.lawful.waits met_is from in
-            let other_row = met_partner s.knobs _ _ row it.lawful.order it.lawful.waits met_is from in
             let partner_is = subst (λ (v : PagesValue). MatchOption (partner v.knobs v.rows row) (true ≡ false)
-            (λ w. met ≡ w.page)) it.seen_as other_row in
+            (λ w. met ≡ w.page)) it.seen_as (met_partner s.knobs _ _ row it.lawful.order it.lawful.waits met_is from) in
             let same = (λ i. seen (view_of (record s { dups = (same_again (ap is_some that) i) }))) ∙ ap seen it.seen_as in
             finds_at _ _ (may, no_best, stayed, zero_as ∙ other, partner_is, same)
 

@@ -1,5 +1,5 @@
 -- What each change of one row, found under its key, leaves: rows still, and what is seen of them.
-use Rattle.ksm_pages.proofs.Names.{ap, ap₂, AreBegun, AreListed, arith, Bool, CanMove, change_held, Entry, false, find, forgotten, get, GuestPage, has_item, Held, held_at, held_in, held_of, held_under, IfSome, inl, InPageOrder, inr, is_of, is_own, is_restless, is_some, IsAddedTo, IsCalm, IsMoved, IsRows, IsTakenFrom, IsTally, IsUnder, key_in, Kind, length, length-map, List, Listing, marked, Named, named_of, ne_eqb, None, number_left, on_row, own_state, pages_ordered, PageState, Private, refl, Row, row_at, rows_of, RowsView, rules, same_page, same_page_refl, same_Some, settled, settled_state, shared_state, Slab, Some, state_of, sym, Tally, true, true≢false, Updates-with_value, Waiting, with_held, with_named, with_value, without_held, without_named, ℕ, ◌&&◌, ◌<◌, ◌^◌, ◌∙◌, ◌≡◌, ◌≢◌, ◌≤◌, ◌⊎◌}
+use Rattle.ksm_pages.proofs.Names.{ap, ap₂, AreBegun, AreListed, arith, Bool, CanMove, change_held, Entry, false, find, forgotten, get, GuestPage, has_item, Held, held_at, held_in, held_of, held_under, IfSome, inl, InPageOrder, inr, is_of, is_own, is_restless, is_some, IsAddedTo, IsCalm, IsMoved, IsRows, IsTakenFrom, IsTally, IsUnder, key_in, Kind, length, length-map, List, Listing, marked, Named, named_of, ne_eqb, None, number_left, on_row, own_state, pages_ordered, PageState, Private, refl, Row, row_at, rows_of, RowsView, rules, same_page, same_page_refl, same_Some, settled, settled_state, shared_state, Slab, Some, state_of, sym, Tally, true, Updates-with_value, Waiting, with_held, with_named, with_value, without_held, without_named, ℕ, ◌&&◌, ◌<◌, ◌^◌, ◌∙◌, ◌≡◌, ◌≢◌, ◌≤◌, ◌⊎◌}
 use Rattle.slab.specs.Slab.{Updates as Fills}
 use Rattle.ksm_pages.specs.declared.row.Kind.TheVariants as kinds
 use Rattle.ksm_pages.specs.declared.rows.Rows.TheInside.{Inside}
@@ -20,8 +20,8 @@ AreRows s = IsRows s.entries s.order s.restless s.tally s.pass
 
 -- a test and false never hold together, so anything follows
 pub never : {P : Type 0} (b : Bool) → (b && false) ≡ true → P
-never true both = absurd (true≢false (sym both))
-never false both = absurd (true≢false (sym both))
+never true both = absurd (grind arith)
+never false both = absurd (grind arith)
 
 -- a row that is not shared has a frame of its own
 pub own_kind : (kind : Kind) (number pass : ℕ) → shared_state (state_of kind number pass) ≡ false → kind ≡ kinds.Own
@@ -88,10 +88,9 @@ module _ (s : Inside) (are : AreRows s) where
     pub can_be : {from : PageState} → from ≡ state_of e.kind e.number s.pass → {state : PageState} → length s.order < 2 ^ 64
         → CanMove from state s.tally
     can_be is {state} few =
-        let old = (held_of s.pass e).row in
         let many : length (rows_of held) < 2 ^ 64 =
         omega (arith, length-map held (λ (h : Held). h.row), length-map s.order (λ (n : Named). held_under s.pass (get s.entries n.key)), few) in
-        rw is (can_move rise _ found_row s.tally are.counted (record old { state = state }) many)
+        rw is (can_move rise _ found_row s.tally are.counted (record (held_of s.pass e).row { state = state }) many)
 
     other_page : {k : ℕ} {f : Entry} → get s.entries k ≡ Some f → k ≢ key → same_page f.page page ≡ false
     other_page {f} stands apart = ap (same_page f.page) (sym of_page) ∙ elsewhere s.entries _ are.ascending are.filed stood stands apart
@@ -130,7 +129,7 @@ module _ (s : Inside) (are : AreRows s) where
             rw is (listed_still _
             (λ k f stands apart may. with_has _ page _ (inr (are.listed (listed_known s.restless _ is known) k f stands may)))
             (λ may. with_has page page _ (inl (same_page_refl page))))
-        | inr is ↦ absurd (true≢false (sym known ∙ (λ i. (is i).known)))
+        | inr is ↦ absurd (grind arith)
       ]
 
       -- the list as it was is right for a new entry that no visit changes
@@ -241,7 +240,7 @@ module _ (s : Inside) (are : AreRows s) where
           | inl is ↦
               rw is
               (λ k f stands may. let was = stood_before stands in without_has f.page page _ (other_page was.0 was.1) (are.listed (listed_known s.restless _ is known) k f was.0 may))
-          | inr is ↦ absurd (true≢false (sym known ∙ (λ i. (is i).known)))
+          | inr is ↦ absurd (grind arith)
         ];
         counted = rw (ap rows_of held_gone ∙ rows_without page held) (tally_gone rise _ found_row _ are.counted (rw (← was) moved));
         begun = λ k f stands. are.begun k f (stood_before stands).0;
@@ -260,10 +259,9 @@ nowhere_seen s are page told is = grind (arith, held_nowhere)
 -- where a page has no row, the rows without that page are seen as before
 pub nothing_gone : (s : Inside) → AreRows s → (page : GuestPage) → None ≡ key_in s.order page → {v : RowsView} → view_of s ≡ v → v ≡ record v { held = without_held page v.held }
 nothing_gone s are page told is =
-    let absent = held_nowhere s.entries _ are.ascending are.filed _ _ (sym told) in
     sym is
     ∙ ap (λ held. record { held = held; restless = s.restless; pass = s.pass })
-    (absent_kept pages_ordered (λ (h : Held). h.row.page) page _ absent)
+    (absent_kept pages_ordered (λ (h : Held). h.row.page) page _ (held_nowhere s.entries _ are.ascending are.filed _ _ (sym told)))
     ∙ (λ i. record (is i) { held = without_held page (is i).held })
 
 -- a slab with more room has the same rows
@@ -305,7 +303,7 @@ module _ (s : Inside) (are : AreRows s) {v : RowsView} (seen_as : view_of s ≡ 
       | inl is ↦
           rw is (all_filled fills (λ may. with_has e.page e.page s.restless.pages (inl (same_page_refl e.page)))
           (λ k f stands apart may. with_has f.page e.page s.restless.pages (inr (are.listed (listed_known s.restless _ is known) k f stands may))))
-      | inr is ↦ absurd (true≢false (sym known ∙ (λ i. (is i).known)))
+      | inr is ↦ absurd (grind arith)
     ];
     counted = rw (ap rows_of held_put ∙ rows_with (held_of s.pass e) before)
         (tally_put _ (row_told e.page before held_absent) alone are.counted);
@@ -319,7 +317,7 @@ module _ (s : Inside) (are : AreRows s) {v : RowsView} (seen_as : view_of s ≡ 
 
 -- rows are lawful under another list that has all pages that a visit may change
 pub relisted : (s : Inside) → AreRows s → {now : Listing} → (now.known ≡ true → AreListed s.entries now.pages) → IsRows s.entries s.order now s.tally s.pass
-relisted s are listed = search (rules, listed)
+relisted s are listed = search rules
 
 -- rows are lawful under a list that lost only pages whose rows no visit changes
 pub swept_rows : (s : Inside) → AreRows s → {now : Listing} → now.known ≡ s.restless.known
@@ -330,7 +328,6 @@ swept_rows s are {now} known kept = relisted s are listed
     listed is k e stands may = elim (kept _ (are.listed (sym known ∙ is) k e stands may)) [
       | inl there ↦ there
       | inr calm ↦
-          let at = one_key s.entries _ are.filed calm.stands stands calm.of_page in
-          let same = same_Some _ e (sym calm.stands ∙ ap (get s.entries) at ∙ stands) in
-          absurd (true≢false (sym may ∙ ap is_restless (sym same) ∙ calm.calm))
+          let same = same_Some _ e (sym calm.stands ∙ ap (get s.entries) (one_key s.entries _ are.filed calm.stands stands calm.of_page) ∙ stands) in
+          absurd (grind arith)
     ]

@@ -8,5 +8,4 @@ returns-in-Merged c =
 
 pub returns-in_default : goal.returns-in_default
 returns-in_default c =
-    let found = c.in_ok-entry.ensures ∙ ap (λ n. Some (held_of n c.in_ok-entry.entry.now)) (sym c.pass-pass.ensures) in
-    rw found c.left_by_any.ensures
+    rw (c.in_ok-entry.ensures ∙ ap (λ n. Some (held_of n c.in_ok-entry.entry.now)) (sym c.pass-pass.ensures)) c.left_by_any.ensures

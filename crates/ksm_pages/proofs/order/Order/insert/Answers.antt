@@ -30,7 +30,6 @@ insert-requires c = record {
 pub invariant_of-self-2 : goal.invariant_of-self-2
 invariant_of-self-2 c =
     let k = (goal.at.invariant_of-self-2 c).After-key_of in
-    let items = c.self.inside.pages in
     let x = item k in
     let come = c.in_ok-insert.ensures.added in
     let rise = c.self.invariant.ascending in
@@ -38,7 +37,7 @@ invariant_of-self-2 c =
     let Small : Item → Type 0 = λ y. y.key < 2 ^ 48 in
     record {
       ascending = rw come (with_rises x _ rise);
-      long = omega (arith, one_more, c.self.invariant.long, ap length come, longer_by _ x items rise (absent k) (put k));
+      long = omega (arith, one_more, c.self.invariant.long, ap length come, longer_by _ x c.self.inside.pages rise (absent k) (put k));
       small = rw come (All-append Small _ _ (All-filter _ Small _ c.self.invariant.small)
           (All-cons Small x _ c.key_of.ensures.small (All-filter _ Small _ c.self.invariant.small)));
     }

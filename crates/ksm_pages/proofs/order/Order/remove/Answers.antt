@@ -8,10 +8,9 @@ use Rattle.ksm_pages.proofs.order.Order.remove.Goals as goal
 
 pub invariant_of-self : goal.invariant_of-self
 invariant_of-self c =
-    let items = c.self.inside.pages in
     let key = c.key_of.result in
     let there =
-    ap (λ n. is_some (find (is_at n) items)) c.key_of.ensures.key
+    ap (λ n. is_some (find (is_at n) c.self.inside.pages)) c.key_of.ensures.key
     ∙ sym (some_mapped _ _)
     ∙ ap is_some (sym (found_by _ c.key_of.ensures.few _) ∙ ap (find (is_of c.args.page)) c.self.view_is)
     ∙ c.requires.there in

@@ -12,8 +12,7 @@ inside s p seen_as are lawful place there =
 
 pub index_mut-requires : goal.index_mut-requires
 index_mut-requires c =
-    let fits = inside c.self.inside _ c.self.view_is c.self.invariant c.at.ensures.lawful _ c.requires in
-    omega (arith, fits, c.self.inside.frames.ok.0)
+    omega (arith, inside c.self.inside _ c.self.view_is c.self.invariant c.at.ensures.lawful _ c.requires, c.self.inside.frames.ok.0)
 
 pub returns : goal.returns
 returns c =

@@ -13,11 +13,10 @@ returns c =
     let s = c.self.inside in
     let page = c.args.spot.page in
     let e = c.in_ok-spot.entry.now in
-    let h = held_of s.rows.pass e in
     let of_dup = lodging (dup_rows s.dups.dups) s.frames.items in
     rw (← c.self.view_is)
     (record {
-      row = h.row;
+      row = (held_of s.rows.pass e).row;
       found = row_told page _ c.in_ok-spot.ensures.1;
       spot = c.in_ok-spot.ensures.0;
       home = refl;

@@ -18,8 +18,7 @@ remove-requires c = record {
 
 pub invariant_of-self : goal.invariant_of-self
 invariant_of-self c =
-    let s = c.self.inside in
-    rw c.remove.ensures (still_gone s c.self.invariant c.in-Some.ensures.there c.remove-gone.ensures.value
+    rw c.remove.ensures (still_gone c.self.inside c.self.invariant c.in-Some.ensures.there c.remove-gone.ensures.value
     c.remove-gone.ensures.updates c.remove-2.ensures c.state.ensures c.change.ensures)
 
 pub returns-clause-gone : goal.returns-clause-gone

@@ -13,9 +13,8 @@ invariant_of-self c =
 
 pub returns-then-was-mergeable : goal.returns-then-was-mergeable
 returns-then-was-mergeable c =
-    let s = c.self.inside in
     let e' = record c.index_mut-entry.result.now { mergeable = c.args.mergeable } in
-    viewed s c.self.invariant c.in-Some.ensures.there c.index_mut-entry.ensures.value _ refl _ refl _ c.self.view_is
+    viewed c.self.inside c.self.invariant c.in-Some.ensures.there c.index_mut-entry.ensures.value _ refl _ refl _ c.self.view_is
 
 pub invariant_of-self-then-restless : goal.invariant_of-self-then-restless
 invariant_of-self-then-restless c =

@@ -21,7 +21,6 @@ returns-in-Some c =
 
 pub returns-in-None : goal.returns-in-None
 returns-in-None c =
-    let s = c.self.inside in
-    ap (λ held. record { held = held; restless = s.restless; pass = 1 }) (anew_seen c.self.invariant c.retain.new.self
+    ap (λ held. record { held = held; restless = c.self.inside.restless; pass = 1 }) (anew_seen c.self.invariant c.retain.new.self
     (retained_all _ _ (λ f k old keep new next t. search rules) _ _ _ _ c.retain.ensures.retained))
     ∙ ap (λ (v : RowsView). record v { held = map (on_row settled) v.held; pass = 1 }) c.self.view_is

@@ -11,8 +11,7 @@ returns-in_default c = search (rules, nothing)
 
 pub invariant_of-self : goal.invariant_of-self
 invariant_of-self c =
-    let s = c.self.inside in
-    rw c.take_bytes.ensures (untouched s c.self.invariant c.in-Some.ensures.there c.index_mut.ensures.value _ refl refl refl refl)
+    rw c.take_bytes.ensures (untouched c.self.inside c.self.invariant c.in-Some.ensures.there c.index_mut.ensures.value _ refl refl refl refl)
 
 pub returns : goal.returns
 returns c =
