@@ -1,5 +1,5 @@
 -- What is asked of the pages: the place of a page's dup, and the first page after a cursor.
-use Rattle.ksm_pages.proofs.Names.{[], after_cursor, All-cons, ap, arith, Bool, cases_Bool, comes_before, DupRow, each_at_page, Entry, false, find, find_all, find_none, find_nothing, find_passes, get_or, GuestPage, held_at, held_of, inl, InPageOrder, inr, Inside, is_next, IsHeld, Kind, List, nat_tests, None, none-some, of_guest, Option, option_map, PagesValue, pairs_head, pairs_tail, place_of, Row, row_at, rows_of, same_page, same_page_eq, seen, Some, state_of, subst, sym, true, true≢false, ℕ, ◌&&◌, ◌==◌, ◌∙◌, ◌∷◌, ◌≡◌, ◌≤◌}
+use Rattle.ksm_pages.proofs.Names.{[], after_cursor, All-cons, ap, arith, Bool, cases_Bool, comes_before, DupRow, each_at_page, Entry, false, find, find_all, find_none, find_nothing, find_passes, get_or, GuestPage, held_at, held_of, inl, InPageOrder, inr, Inside, is_next, IsHeld, Kind, List, None, none-some, of_guest, Option, option_map, PagesValue, pairs_head, pairs_tail, place_of, Row, row_at, rows_of, rules, same_page, same_page_eq, seen, Some, state_of, subst, sym, true, true≢false, ℕ, ◌&&◌, ◌∙◌, ◌∷◌, ◌≡◌, ◌≤◌}
 use Rattle.ksm_pages.proofs.Options.{mapped_some, none_mapped}
 use Rattle.std.specs.Prelude.{IfSome, MatchOption, option_and_then}
 use Rattle.ksm_tree.specs.Dups.{rows_of as dup_rows}
@@ -11,16 +11,13 @@ use Rattle.ksm_pages.proofs.Leaving.{AreLawful, row_seen, view_of}
 
 -- a row with a frame of its own is in no dup
 pub placed_own : (number pass : ℕ) (dups : List DupRow) → None ≡ place_of (state_of kinds.Own number pass) dups
-placed_own number pass dups = grind (arith, nat_tests)
+placed_own number pass dups = grind arith
 
 -- the place of the dup of a page is what the state of its entry says
 pub ticket_told : (s : Inside) {p : PagesValue} → view_of s ≡ p → {page known : GuestPage} → known ≡ page → (e : Entry)
     → held_at known s.rows.held ≡ Some (held_of s.rows.pass e) → {kind : Kind} → e.kind ≡ kind
     → place_of (state_of kind e.number s.rows.pass) (dup_rows s.dups.dups) ≡ option_and_then (λ r. place_of r.state p.dups) (row_at page p.rows)
-ticket_told s {p} seen_as {page} at e found is =
-    ap (λ k. place_of (state_of k e.number s.rows.pass) (dup_rows s.dups.dups)) (sym is)
-    ∙ ap (option_and_then (λ (r : Row). place_of r.state (dup_rows s.dups.dups))) (sym (row_seen s seen_as _ found) ∙ ap (λ q. row_at q p.rows) at)
-    ∙ ap (λ (v : PagesValue). option_and_then (λ (r : Row). place_of r.state v.dups) (row_at page p.rows)) seen_as
+ticket_told s {p} seen_as {page} at e found is = grind (arith, row_seen)
 
 -- ---------------------------------------------------------------- the first page after a cursor
 
@@ -32,9 +29,7 @@ find_narrower p q less (y ∷ ys) x is passes = elim (cases_Bool (p y)) [
   | inl first ↦
       let same : y ≡ x = grind arith in
       grind arith
-  | inr out ↦
-      let rest = find_narrower p q less ys x (grind arith) passes in
-      grind (arith, rest)
+  | inr out ↦ grind (arith, (find_narrower p q less ys x (grind arith) passes))
 ]
 
 -- where no row in front of a page passes, and that of the page does, that is the first that passes, if it is there
@@ -50,20 +45,13 @@ first_at next page here ahead (x ∷ xs) up r found = elim (cases_Bool _) [
       let there : row_at page xs ≡ Some r = grind arith in
       let before =
       find_all _ (λ s. comes_before x.page s.page ≡ true) _ r there (pairs_head (λ (a b : Row). comes_before a.page b.page ≡ true) x _ up) in
-      let at = same_page_eq _ _ (find_passes (λ s. same_page s.page page) xs r there) in
-      let out = ahead x (ap (comes_before x.page) (sym at) ∙ before) in
-      let rest = first_at _ page here ahead xs (pairs_tail (λ (a b : Row). comes_before a.page b.page ≡ true) x xs up) r there in
-      grind (arith, out, rest)
+      let out = ahead x (ap (comes_before x.page) (sym (same_page_eq _ _ (find_passes (λ s. same_page s.page page) xs r there))) ∙ before) in
+      grind (arith, out, (first_at _ page here ahead xs (pairs_tail (λ (a b : Row). comes_before a.page b.page ≡ true) x xs up) r there))
 ]
 
 -- of two pages in order the first is of no later guest
 guests_rise : (p q : GuestPage) → comes_before p q ≡ true → p.guest ≤ q.guest
-guests_rise p q before = grind (arith, nat_tests)
-
--- a row at a page of the guest is a row of that guest
-pub of_some : {guest : Option ℕ} {g : ℕ} {page : GuestPage} → guest ≡ Some g → page.guest ≡ g → (x : Row) → x.page ≡ page
-    → of_guest guest x ≡ true
-of_some is at x of_page = grind (arith, nat_tests, is, at, of_page)
+guests_rise p q before = grind arith
 
 module _ (p : PagesValue) (guest : Option ℕ) (cursor : Option GuestPage) where
   abbrev next : Row → Bool
@@ -87,10 +75,10 @@ module _ (p : PagesValue) (guest : Option ℕ) (cursor : Option GuestPage) where
     behind r = after_cursor start r.page
 
     rise : InPageOrder p.rows
-    rise = subst (λ (v : PagesValue). InPageOrder v.rows) seen_as are.order
+    rise = rw (← seen_as) are.order
 
     first_page : option_map (λ (r : Row). r.page) (find behind (rows_of s.rows.held)) ≡ option_map (λ (r : Row). r.page) (find behind p.rows)
-    first_page = grind (arith, nat_tests)
+    first_page = grind arith
 
     less : (r : Row) → next r ≡ true → behind r ≡ true
     less r is = elim (cases_Bool _) [
@@ -107,12 +95,11 @@ module _ (p : PagesValue) (guest : Option ℕ) (cursor : Option GuestPage) where
     -- where no row is behind the start, none comes next
     pub next_none : None ≡ option_map (λ (r : Row). r.page) (find behind (rows_of s.rows.held)) → {told : Option Told} → told ≡ None
         → IsNext told
-    next_none none is =
-        subst IsNext (sym is) (find_nothing next _ (λ k d lt. not_next _ (find_none _ p.rows (none_mapped _ _ (sym (none ∙ first_page))) k d lt)))
+    next_none none is = search (rules, find_nothing, not_next, find_none, none_mapped, first_page)
 
     module _ (page : GuestPage) (first : Some page ≡ option_map (λ (r : Row). r.page) (find behind (rows_of s.rows.held))) where
       there : (r : Row) × (find behind p.rows ≡ Some r) × (page ≡ r.page)
-      there = grind (arith, nat_tests)
+      there = grind arith
 
       abbrev r : Row
       r = there.0
@@ -123,12 +110,10 @@ module _ (p : PagesValue) (guest : Option ℕ) (cursor : Option GuestPage) where
       next_past {g} is differs begun = past _ rise there.1
         where
           later : g ≤ page.guest
-          later = subst (λ o. IfSome o (λ h. h ≤ page.guest)) is (begun (ap (after_cursor start) there.2 ∙ find_passes behind _ r there.1))
+          later = grind (arith, find_passes)
 
           other : (x : Row) → page.guest ≤ x.page.guest → next x ≡ false
-          other x le =
-              let not_of : (x.page.guest == g) ≡ false = grind (arith, nat_tests, le, differs, later) in
-              ap (λ o. of_guest o x && after_cursor cursor x.page) is ∙ ap (λ b. b && after_cursor cursor x.page) not_of
+          other x le = grind (arith, later)
 
           past : (xs : List Row) → InPageOrder xs → find behind xs ≡ Some r → find next xs ≡ None
           past [] up found = absurd (none-some r found)
@@ -138,9 +123,7 @@ module _ (p : PagesValue) (guest : Option ℕ) (cursor : Option GuestPage) where
                 let at = (λ i. (there.2 i).guest) ∙ (λ i. (sym is_first i).page.guest) in
                 find_nothing next (x ∷ xs) (All-cons (λ y. next y ≡ false) x xs (other x (omega arith))
                 (λ k d lt. let le = guests_rise x.page (get_or xs k d).page (pairs_head (λ (a b : Row). comes_before a.page b.page ≡ true) x xs up k d lt) in other (get_or xs k d) (omega (arith, at, le))))
-            | inr not_it ↦
-                let rest = past xs (pairs_tail (λ (a b : Row). comes_before a.page b.page ≡ true) x xs up) (grind arith) in
-                grind (arith, rest)
+            | inr not_it ↦ grind (arith, (past xs (pairs_tail (λ (a b : Row). comes_before a.page b.page ≡ true) x xs up) (grind arith)))
           ]
 
       -- where the first row behind the start is of the guest, what is told of that row is what comes next

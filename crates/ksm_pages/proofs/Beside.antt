@@ -1,7 +1,6 @@
 -- The page that waits in the tree of a merged row with its bytes: it is the row's partner.
-use Rattle.ksm_pages.proofs.Names.{ap, AreWaiting, Bool, cond, Entry, false, find_passes, GuestPage, held_at, held_of, if◌then◌else◌, InPageOrder, Inside, Knobs, List, look_up_found, Merged, merged_state, names, None, Option, option_and_then, option_map, own_found, page_beside, PagesValue, partner, partner_found, refl, Row, row_at, rows_of, same_page, same_page_eq, Some, state_of, sym, tree_of, true≢false, waiting_page, waiting_state, WaitingPage, waits_there, ℕ, ◌∙◌, ◌≡◌}
+use Rattle.ksm_pages.proofs.Names.{ap, AreWaiting, arith, Bool, cond, Entry, false, find_passes, GuestPage, held_at, held_of, if◌then◌else◌, InPageOrder, Inside, Knobs, List, look_up_found, Merged, merged_state, names, None, Option, option_and_then, option_map, own_found, page_beside, PagesValue, partner, partner_found, refl, Row, row_at, rows_of, same_page, same_page_eq, Some, state_of, sym, tree_of, true≢false, waiting_page, waiting_state, WaitingPage, waits_there, ℕ, ◌∙◌, ◌≡◌}
 use Rattle.ksm_pages.specs.declared.row.Kind.TheVariants as kinds
-use Rattle.ksm_pages.proofs.Gathering.{own_either}
 use Rattle.ksm_pages.proofs.Leaving.{AreLawful, of_page, row_seen, row_there, view_of}
 
 module _ (knobs : Knobs) (rows : List Row) (w : List WaitingPage) {row : Row} (rise : InPageOrder rows) (are : AreWaiting knobs rows w)
@@ -17,7 +16,7 @@ module _ (knobs : Knobs) (rows : List Row) (w : List WaitingPage) {row : Row} (r
   partner_page = by _ refl
     where
       looked_up : {o : Option GuestPage} → waits ≡ o → option_map (λ r. r.page) (partner_at o) ≡ option_map (λ r. r.page) (partner knobs rows row)
-      looked_up at = sym (ap (option_map (λ r. r.page)) (partner_found knobs _ w row rise are ∙ ap partner_at at))
+      looked_up at = grind (arith, partner_found)
 
       it : {page : GuestPage} → waits ≡ Some page → (o : Option Row) → row_at page rows ≡ o → Some page ≡ option_map (λ r. r.page) o
       it at None gone = absurd (true≢false (sym (ap (waits_there knobs (tree_of knobs row) row.bytes) (sym gone)
@@ -42,20 +41,17 @@ module _ (s : Inside) (are : AreLawful s) (p : PagesValue) (seen_as : view_of s 
 
   -- what waits beside the page is what does beside its row
   seen_beside : page_beside p.knobs p.rows (row_at page p.rows) ≡ waits_if (merged_state row.state)
-  seen_beside =
-      ap (page_beside p.knobs p.rows) (row_seen s seen_as _ found)
-      ∙ (λ i. page_beside (sym seen_as i).knobs (sym seen_as i).rows (Some row))
+  seen_beside = grind (arith, row_seen)
 
   none_beside : merged_state row.state ≡ false → None ≡ page_beside p.knobs p.rows (row_at page p.rows)
   none_beside alone = sym (seen_beside ∙ ap waits_if alone)
 
   -- no page waits beside one that has a frame of its own, or is Zero
   pub own_beside : e.kind ≡ kinds.Own → None ≡ page_beside p.knobs p.rows (row_at page p.rows)
-  own_beside is = none_beside (ap (λ k. merged_state (state_of k e.number s.rows.pass)) is
-      ∙ own_either (λ state. merged_state state ≡ false) refl refl _)
+  own_beside is = grind (arith, none_beside)
 
   pub zero_beside : e.kind ≡ kinds.Zero → None ≡ page_beside p.knobs p.rows (row_at page p.rows)
-  zero_beside is = none_beside (ap (λ k. merged_state (state_of k e.number s.rows.pass)) is)
+  zero_beside is = grind (arith, none_beside)
 
   -- beside one that is merged that page waits which does in its tree with its bytes
   pub merged_beside : e.kind ≡ kinds.Merged → {tree : ℕ} → ((r : Row) → r.home ≡ e.home → tree ≡ tree_of s.knobs r)

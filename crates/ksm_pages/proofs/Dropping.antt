@@ -1,5 +1,5 @@
 -- The pages once the stale dup at a place went.
-use Rattle.ksm_pages.proofs.Names.{[], All, All-head, All-tail, all_rows, ap, AreTied, arith, Bool, cases_Bool, Dup, dup_at, dup_numbered, DupRow, elsewhere, eq-eqb, eqb-true, false, filter, find, find_all, find_nothing, find_passes, frame_of, frame_seen, get_or, GuestPage, Held, inl, inr, is_live, is_some, is_stale, IsVacant, item_count, length, List, list_any, lodging, lodgings_of, Merged, merged_into, nat_lt, nat_tests, None, none_counted, not, Option, option_and_then, option_map, PageState, refl, Row, row_at, rows_of, slice_get, Some, stands_at, sym, tied_counted, true, true≢false, ℕ, ◌&&◌, ◌==◌, ◌∙◌, ◌∷◌, ◌≡◌, filter_all, find_none}
+use Rattle.ksm_pages.proofs.Names.{[], All, All-head, All-tail, all_rows, ap, AreTied, arith, Bool, cases_Bool, Dup, dup_at, dup_numbered, DupRow, elsewhere, eq-eqb, eqb-true, false, filter, find, find_all, find_nothing, find_passes, frame_of, frame_seen, get_or, GuestPage, Held, inl, inr, is_live, is_some, is_stale, IsVacant, item_count, length, List, list_any, lodging, lodgings_of, Merged, merged_into, nat_lt, None, none_counted, not, Option, option_and_then, option_map, PageState, refl, Row, row_at, rows_of, slice_get, Some, stands_at, sym, tied_counted, true, true≢false, ℕ, ◌&&◌, ◌==◌, ◌∙◌, ◌∷◌, ◌≡◌, filter_all, find_none}
 use Rattle.ksm_tree.specs.Dups.{rows_of as dup_rows}
 use Rattle.ksm_pages.proofs.Changing.{row_found}
 use Rattle.ksm_pages.proofs.Found.{find_kept}
@@ -20,10 +20,7 @@ found_stale place [] stale = refl
 found_stale place (d ∷ dups) stale =
     let here = All-head (λ e. stands_at place e ≡ true → is_stale e ≡ true) d dups stale in
     let rest = found_stale place dups (All-tail (λ e. stands_at place e ≡ true → is_stale e ≡ true) d dups stale) in
-    elim (cases_Bool _) [
-      | inl at ↦ let empty = here at in grind (arith, at, empty)
-      | inr away ↦ grind (arith, away, rest)
-    ]
+    grind arith
 
 -- the dup at a vacant place is stale
 pub stale_there : {place : ℕ} (rows : List Row) (dups : List Dup) → AreTied rows dups → IsVacant place rows (dup_rows dups)
@@ -45,7 +42,7 @@ none_live rows dups tied vacant =
     find_nothing _ _ (λ k e lt. live_or_stale _ _ (vacant_stale rows _ tied vacant k e lt))
   where
     live_or_stale : (at : Bool) (n : ℕ) → (at ≡ true → (n == 0) ≡ true) → (at && nat_lt 0 n) ≡ false
-    live_or_stale at n stale = grind (arith, nat_tests, stale)
+    live_or_stale at n stale = grind arith
 
 -- the dup into which a row is merged stands at no vacant place
 pub not_vacant : (rows : List Row) (dups : List DupRow) {place n : ℕ} (page : GuestPage) {r : Row} → IsVacant place rows dups
@@ -71,10 +68,10 @@ lodged_alike {of} {to} held same = λ i page. (frame_by of held page ∙ go page
   where
     at : (state : PageState) (own : Option ℕ) → ((n : ℕ) → state ≡ Merged n → of n ≡ to n)
         → frame_seen of state own ≡ frame_seen to state own
-    at state own alike = grind (arith, nat_tests, alike)
+    at state own alike = grind arith
 
     go : (page : GuestPage) (o : Option Held) → row_at page (rows_of held) ≡ option_map (λ h. h.row) o → seat of o ≡ seat to o
-    go page o is = grind (arith, nat_tests, is)
+    go page o is = grind arith
 
 -- without the dup at a vacant place every page lies where it lay
 pub lodged_dropped : {place : ℕ} (frames : List ℕ) (dups : List DupRow) (held : List Held) → IsVacant place (rows_of held) dups

@@ -1,5 +1,5 @@
 -- The pages once one came with a row and a frame of its own.
-use Rattle.ksm_pages.proofs.Names.{AllPairs, ap, AreTied, AreWaiting, arith, comes_before, cond, Err, false, frame_of, GuestPage, Held, held_at, InPageOrder, Inside, length-map, lies_on, List, lodgings_of, merged_state, nat_tests, None, Ok, OnErr, OnOk, Option, ordered_with, PagesValue, PagesView, refl, Result, Row, row_at, row_inserted, rows_of, RowsView, same_page_refl, seen, Some, subst, sym, tied_inserted, true, waiting_state, with_held, with_row, ℕ, ◌∙◌, ◌≡◌, ap₂, holds}
+use Rattle.ksm_pages.proofs.Names.{AllPairs, ap, arith, comes_before, Err, false, frame_of, GuestPage, Held, held_at, InPageOrder, Inside, length-map, lies_on, List, lodgings_of, merged_state, None, Ok, OnErr, OnOk, Option, ordered_with, PagesValue, PagesView, Result, Row, row_at, row_inserted, rows_of, RowsView, rules, seen, Some, sym, tied_inserted, true, waiting_state, with_held, with_row, ℕ, ◌∙◌, ◌≡◌, ap₂, holds}
 use Rattle.std.proofs.Math.ListN.{get_or-map}
 use Rattle.ksm_pages.proofs.Changing.{nothing_held, rows_with}
 use Rattle.ksm_pages.proofs.Found.{find_put, find_put_other}
@@ -17,21 +17,16 @@ held_rise held rise i j d less lt =
 -- the page comes to lie where its row says, and no other page moves
 lodged_put : (of_dup : ℕ → Option ℕ) (held : List Held) (h : Held) → InPageOrder (rows_of held) → held_at h.row.page held ≡ None
     → frame_of (lodgings_of of_dup (with_held h held)) ≡ lies_on h.row.page (seat of_dup (Some h)) (frame_of (lodgings_of of_dup held))
-lodged_put of_dup held h rise absent =
-    let page_of : Held → GuestPage = λ g. g.row.page in
-    lodged_one _ _ _ _ (find_put page_of _ h held refl) (λ p apart. find_put_other _ _ p h _ refl (held_rise _ rise) absent apart)
+lodged_put of_dup held h rise absent = search (rules, lodged_one, find_put, find_put_other, held_rise)
 
 module _ (s : Inside) (are : AreLawful s) {p : PagesValue} (seen_as : view_of s ≡ p) (h : Held)
     (absent : row_at h.row.page p.rows ≡ None) where
   away : row_at h.row.page (rows_of s.rows.held) ≡ None
-  away = grind (arith, nat_tests)
+  away = grind arith
 
   -- the page lay on no frame
   pub lay_nowhere : frame_of p.lodgings h.row.page ≡ None
-  lay_nowhere =
-      (λ i. frame_of (sym seen_as i).lodgings h.row.page)
-      ∙ frame_by _ _ h.row.page
-      ∙ ap (seat (of_dup s)) (nothing_held h.row.page _ away)
+  lay_nowhere = grind (arith, frame_by, nothing_held, away)
 
   -- a page that comes with a row neither merged nor waiting leaves the pages lawful, and is seen with that row
   pub entered : merged_state h.row.state ≡ false → waiting_state h.row.state ≡ false → (rows : RowsView)
@@ -50,10 +45,10 @@ module _ (s : Inside) (are : AreLawful s) {p : PagesValue} (seen_as : view_of s 
       record {
         lawful = record {
           small = are.small;
-          order = subst InPageOrder (sym now) (ordered_with _ _ are.order);
-          tied = subst (λ rs. AreTied rs s.dups.dups) (sym now) (tied_inserted _ _ _ are.order away apart are.tied);
+          order = rw now (ordered_with _ _ are.order);
+          tied = rw now (tied_inserted _ _ _ are.order away apart are.tied);
           places = are.places;
-          waits = subst (λ rs. AreWaiting s.knobs rs s.dups.waiting) (sym now) (row_inserted s.knobs _ _ are.waits _ away still);
+          waits = rw now (row_inserted s.knobs _ _ are.waits _ away still);
           room = are.room;
         };
         told_as =
@@ -69,13 +64,7 @@ module _ (s : Inside) (are : AreLawful s) {p : PagesValue} (seen_as : view_of s 
 pub but_there : {new : PagesView} (old : PagesView) (rows : List Row) (page : GuestPage) (o : Option ℕ)
     → new ≡ record old { rows = rows; frame = lies_on page o old.frame; restless = new.restless }
     → (new ≡ record old { rows = rows; frame = new.frame; restless = new.restless }) × (new.frame ≡ lies_on page (new.frame page) old.frame)
-but_there {new} old rows page o is =
-    let frames : new.frame ≡ lies_on page o old.frame = ap (λ (v : PagesView). v.frame) is in
-    let there = (λ i. (frames i) page) ∙ ap (λ b. cond b o (old.frame page)) (same_page_refl page) in (
-      is ∙ (λ i. record old { rows = rows; frame = sym frames i; restless = new.restless }),
-      frames ∙ ap (λ l. lies_on page l old.frame)
-          (sym there),
-    )
+but_there {new} old rows page o is = grind arith
 
 -- ---------------------------------------------------------------- results
 

@@ -1,5 +1,5 @@
 -- Entries under keys and the order of their pages: what is found, and what one entry that came, went or changed leaves.
-use Rattle.ksm_pages.proofs.Names.{All, All-append, All-cons, All-filter, All-map, ap, ap₂, AreAscending, AreFiled, arith, Bool, cases_Bool, change_held, comes_before, cond, Decides-eqb, Entry, false, filter, filter_passes, find, find_all, find_passes, get, get_or, GuestPage, Held, held_at, held_in, held_of, held_under, holds, if◌then◌else◌, inl, InPageOrder, inr, is_of, IsUnder, key_in, List, map, map-append, marked, Named, named_of, nat_tests, None, not, option_map, refl, rows_of, same_page, same_page_eq, same_page_refl, same_page_sym, same_Some, Slab, Some, subst, sym, true, true≢false, with_held, with_named, without_held, without_named, ℕ, ◌++◌, ◌==◌, ◌∙◌, ◌∷◌, ◌≡◌, ◌≢◌}
+use Rattle.ksm_pages.proofs.Names.{All, All-append, All-cons, All-filter, All-map, ap, ap₂, AreAscending, AreFiled, arith, Bool, cases_Bool, change_held, comes_before, Decides-eqb, Entry, false, filter, filter_passes, find, find_all, find_passes, get, get_or, GuestPage, Held, held_at, held_in, held_of, held_under, if◌then◌else◌, inl, InPageOrder, inr, is_of, IsUnder, key_in, List, map, map-append, marked, Named, named_of, None, not, option_map, refl, rows_of, rules, same_page, same_page_eq, same_page_refl, same_page_sym, same_Some, Slab, Some, sym, true, true≢false, with_held, with_named, without_held, without_named, ℕ, ◌++◌, ◌==◌, ◌∙◌, ◌∷◌, ◌≡◌, ◌≢◌}
 use Rattle.ksm_pages.proofs.Options.{mapped_some, none_mapped}
 use Rattle.slab.specs.Slab.{Updates as Fills}
 use Rattle.ksm_tree.proofs.Numbering.{full}
@@ -23,17 +23,15 @@ Stands slab n = option_map (named_of n.key) (get slab n.key) ≡ Some n
 
 -- where a name says what stands under its key, an entry of the name's page stands under that key
 pub under_named : (slab : Slab Entry) (n : Named) → Stands slab n → IsUnder slab n.page n.key
-under_named slab n told =
-    let at = mapped_some _ _ told in
-    record { entry = at.0; stands = at.1; of_page = (λ i. (at.2 i).page) }
+under_named slab n told = search rules
 
 -- the row under a key is of the page that the order names
 pub page_under : (pass : ℕ) (slab : Slab Entry) {n : Named} → Stands slab n → (held_under pass (get slab n.key)).row.page ≡ n.page
-page_under pass slab told = grind (arith, nat_tests, told)
+page_under pass slab told = grind arith
 
 -- a scan visits the row under a key exactly where the order says so of its page
 pub flag_under : (pass : ℕ) (slab : Slab Entry) {n : Named} → Stands slab n → (held_under pass (get slab n.key)).row.mergeable ≡ n.mergeable
-flag_under pass slab told = grind (arith, nat_tests, told)
+flag_under pass slab told = grind arith
 
 -- pages are named as their entries say, where those that are named stand so, and those that stand are named so
 pub filed_by : (slab : Slab Entry) (order : List Named) → All (Stands slab) order
@@ -42,7 +40,7 @@ filed_by slab order stand named n = (
   λ found. find_all _ (Stands slab) _ n found stand,
   λ told.
       let at = mapped_some _ _ told in
-      subst (λ (m : Named). find (is_of m.page) order ≡ Some m) at.2 (named n.key at.0 at.1),
+      rw (← at.2) (named n.key at.0 at.1),
 )
 
 -- what holds of the entry that a slab was given, and of all others that stood, holds of all that stand now
@@ -51,7 +49,7 @@ pub all_filled : {slab later : Slab Entry} {key : ℕ} {e : Entry} → Fills sla
 all_filled {slab} {later} {key} {e} fills {P} new others k f stands = elim (cases_Bool _) [
   | inl here ↦
       let at = (Decides-eqb k _).0 here in
-      subst (P k) (same_Some e f (sym (ap (get later) at ∙ fills.changed) ∙ stands)) (subst (λ n. P n e) (sym at) new)
+      rw (← same_Some e f (sym (ap (get later) at ∙ fills.changed) ∙ stands)) (rw at new)
   | inr other ↦ let apart = differ_by other in others k f (sym (fills.others k apart) ∙ stands) apart
 ]
 
@@ -75,9 +73,7 @@ module _ (slab : Slab Entry) (order : List Named) (filed : AreFiled slab order) 
 
   -- a page whose entry stands under a key has that key in the order
   pub key_under : {page : GuestPage} {key : ℕ} → IsUnder slab page key → key_in order page ≡ Some key
-  key_under u =
-      ap (λ p. option_map (λ (n : Named). n.key) (find (is_of p) order)) (sym u.of_page)
-      ∙ ap (option_map (λ (n : Named). n.key)) (named_under _ _ u.stands)
+  key_under u = grind (arith, named_under)
 
 module _ (slab : Slab Entry) (order : List Named) (rise : AreAscending order) (filed : AreFiled slab order) where
   -- each page that the order names stands under its key
@@ -87,19 +83,15 @@ module _ (slab : Slab Entry) (order : List Named) (rise : AreAscending order) (f
   module _ (pass : ℕ) where
     -- what is held of a page is what stands under the key that the order names for the page
     pub held_found : (page : GuestPage) → held_at page (held_in pass slab order) ≡ option_map (held_by pass slab) (find (is_of page) order)
-    held_found page = find_mapped _ _ _ _ (λ k d lt. ap (λ p. same_page p page) (page_under _ slab (all_stand k d lt)))
+    held_found page = grind (arith, find_mapped, page_under, all_stand)
 
     -- what is held of a page is what its entry says
     pub held_there : {page : GuestPage} (key : ℕ) {e : Entry} → get slab key ≡ Some e → e.page ≡ page → held_at page (held_in pass slab order) ≡ Some (held_of pass e)
-    held_there key stands of_page =
-        held_found _
-        ∙ ap (λ p. option_map (held_by pass slab) (find (is_of p) order)) (sym of_page)
-        ∙ ap (option_map (held_by pass slab)) (named_under slab _ filed _ _ stands)
-        ∙ ap (λ o. Some (held_under pass o)) stands
+    held_there key stands of_page = grind (arith, held_found, named_under)
 
     -- a page that has no key in the order has no row
     pub held_nowhere : (page : GuestPage) → key_in order page ≡ None → held_at page (held_in pass slab order) ≡ None
-    held_nowhere page told = held_found _ ∙ ap (option_map (held_by pass slab)) (none_mapped _ _ told)
+    held_nowhere page told = search (rules, held_found, none_mapped)
 
     -- a page that has no row has no name in the order
     pub key_nowhere : (page : GuestPage) → held_at page (held_in pass slab order) ≡ None → find (is_of page) order ≡ None
@@ -123,50 +115,20 @@ module _ (slab : Slab Entry) (order : List Named) (rise : AreAscending order) (f
     ]
 
     named_elsewhere : {n : Named} → Stands slab n → n.key ≢ key → same_page n.page e.page ≡ false
-    named_elsewhere stands apart = let u = under_named slab _ stands in ap (λ p. same_page p e.page) (sym u.of_page) ∙ elsewhere u.stands apart
+    named_elsewhere stands apart = grind (arith, under_named, elsewhere)
 
     -- under the key stands the entry of its page
     same_entry : (n : Named) → Stands slab n → n.key ≡ key → n.page ≡ e.page
-    same_entry n stands at = grind (arith, nat_tests, stands, at)
+    same_entry n stands at = grind arith
 
     module _ {later : Slab Entry} {e' : Entry} (fills : Fills slab later key (Some e')) (same : e'.page ≡ e.page) where
       -- where one entry is written anew, the row of its page is changed, and no other
       pub written : (pass : ℕ) (f : Held → Held) → held_of pass e' ≡ f (held_of pass e) → held_in pass later order ≡ change_held e.page f (held_in pass slab order)
-      written pass f is = sym (map_mapped _ _ _ _ (λ k d lt. at _ (all_stand k d lt)))
-        where
-          at : (n : Named) → Stands slab n → (if holds e.page (held_by pass slab n) then f (held_by pass slab n) else held_by pass slab n) ≡ held_by pass later n
-          at n stands = elim (cases_Bool _) [
-            | inl here ↦
-                let is_key = (Decides-eqb _ _).0 here in
-                let was = ap (λ k. held_under pass (get slab k)) is_key ∙ ap (held_under pass) stood in
-                let now = ap (λ k. held_under pass (get later k)) is_key ∙ ap (held_under pass) fills.changed in
-                ap (λ (h : Held). if holds e.page h then f h else h) was
-                ∙ ap (λ b. cond b (f (held_of pass e)) (held_of pass e)) (same_page_refl e.page)
-                ∙ sym is
-                ∙ sym now
-            | inr other ↦
-                let apart = differ_by other in
-                let no = ap (λ p. same_page p e.page) (page_under _ slab stands) ∙ named_elsewhere stands apart in
-                ap (λ b. cond b (f (held_by pass slab n)) (held_by pass slab n)) no ∙ ap (held_under pass) (sym (fills.others n.key apart))
-          ]
-
-      -- how the order names what stands under a key
-      named_later : e'.mergeable ≡ e.mergeable → (k : ℕ) → option_map (named_of k) (get later k) ≡ option_map (named_of k) (get slab k)
-      named_later flag k = elim (cases_Bool _) [
-        | inl here ↦
-            let is_key = (Decides-eqb k _).0 here in
-            let named = ap₂ (λ p b. record { page = p; key = key; mergeable = b }) same flag in
-            ap (λ j. option_map (named_of j) (get later j)) is_key
-            ∙ ap (option_map (named_of key)) fills.changed
-            ∙ ap Some named
-            ∙ ap (option_map (named_of key)) (sym stood)
-            ∙ ap (λ j. option_map (named_of j) (get slab j)) (sym is_key)
-        | inr other ↦ ap (option_map (named_of k)) (fills.others k (differ_by other))
-      ]
+      written pass f is = grind (arith, map_mapped, all_stand, cases_Bool, Decides-eqb, same_page_refl, differ_by, page_under, named_elsewhere)
 
       -- where one entry is written anew and its mergeable flag stays, pages are named as their entries say
       pub filed_kept : e'.mergeable ≡ e.mergeable → AreFiled later order
-      filed_kept flag n = (λ h. named_later flag _ ∙ (filed n).0 h, λ h. (filed n).1 (sym (named_later flag _) ∙ h))
+      filed_kept flag n = search rules
 
       abbrev mark : Named → Named
       mark n = if is_of e.page n then record n { mergeable = e'.mergeable } else n
@@ -185,10 +147,10 @@ module _ (slab : Slab Entry) (order : List Named) (rise : AreAscending order) (f
           here_named = ap (λ p. record { page = p; key = key; mergeable = e'.mergeable }) same
 
           marked_here : mark (named_of key e) ≡ record (named_of key e) { mergeable = e'.mergeable }
-          marked_here = ap (λ b. cond b (record (named_of key e) { mergeable = e'.mergeable }) (named_of key e)) (same_page_refl e.page)
+          marked_here = grind arith
 
           marked_other : {m : Named} → same_page m.page e.page ≡ false → mark m ≡ m
-          marked_other differ = grind (arith, nat_tests, differ)
+          marked_other differ = grind arith
 
           -- a page that stands in the order is named as its entry says later
           stands_later : {m : Named} → option_map (named_of m.key) (get slab m.key) ≡ Some m → option_map (named_of (mark m).key) (get later (mark m).key) ≡ Some (mark m)
@@ -241,7 +203,7 @@ module _ (slab : Slab Entry) (order : List Named) (rise : AreAscending order) (f
   module _ {key : ℕ} {e : Entry} {later : Slab Entry} (vacant : get slab key ≡ None) (absent : find (is_of e.page) order ≡ None) (fills : Fills slab later key (Some e)) where
     -- no page that the order names stands under the new key
     taken_key : {n : Named} → Stands slab n → n.key ≢ key
-    taken_key stands at = let u = under_named slab _ stands in full _ _ (ap (get slab) at ∙ vacant) u.stands
+    taken_key stands at = grind arith
 
     -- where an entry came under a vacant key with a name, the rows have its row at the place of its page
     pub put : (pass : ℕ) → held_in pass later (with_named (named_of key e) order) ≡ with_held (held_of pass e) (held_in pass slab order)
@@ -252,9 +214,7 @@ module _ (slab : Slab Entry) (order : List Named) (rise : AreAscending order) (f
         part : (test : GuestPage → Bool) → map (held_by pass later) (filter (λ n. test n.page) order) ≡ filter (λ h. test h.row.page) (held_in pass slab order)
         part test =
             map_alike _ _ _ (λ k d lt.
-            let n = get_or (filter (λ (m : Named). test m.page) order) k d in
-            let stands = All-filter _ (Stands slab) _ all_stand k d lt in
-            ap (held_under pass) (fills.others n.key (taken_key stands)))
+            ap (held_under pass) (fills.others (get_or (filter (λ (m : Named). test m.page) order) k d).key (taken_key (All-filter _ (Stands slab) _ all_stand k d lt))))
             ∙ sym (filter_mapped _ _ _ _ (λ k d lt. ap test (page_under _ slab (all_stand k d lt))))
 
     -- where an entry came under a vacant key with a name, all pages are named as their entries say

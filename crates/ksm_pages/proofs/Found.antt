@@ -1,5 +1,5 @@
 -- Lists in the order of their pages: what a search finds once one came, went or changed.
-use Rattle.ksm_pages.proofs.Names.{[], All, All-cons, AllPairs, ap, arith, Bool, cases_Bool, comes_before, cond, false, filter, filter_passes, find, find-append, find_nothing, find_over, get_or, GuestPage, if◌then◌else◌, inl, inr, List, map, None, not, not-true, option_or, pages_ordered, pairs_head, pairs_tail, refl, same_page, same_page_eq, same_page_refl, Some, sym, true, ◌++◌, ◌∙◌, ◌∷◌, ◌≡◌, Option, cond_both, find_passes, option_map, same_page_sym}
+use Rattle.ksm_pages.proofs.Names.{[], All, All-cons, AllPairs, ap, arith, Bool, cases_Bool, comes_before, cond, false, filter, filter_passes, find, find-append, find_nothing, find_over, get_or, GuestPage, if◌then◌else◌, inl, inr, List, map, None, not, pages_ordered, pairs_head, pairs_tail, refl, same_page, same_page_eq, same_page_refl, Some, sym, true, ◌++◌, ◌∙◌, ◌∷◌, ◌≡◌, Option, find_passes, option_map, same_page_sym}
 use Rattle.ksm_rmap.proofs.Ordered.{absent_parts}
 use Rattle.ksm_tree.proofs.Alike.{find_mapped}
 
@@ -15,10 +15,7 @@ find_kept test keep (x ∷ xs) o is kept =
           grind arith
       | inr fails ↦
           let rest = find_kept test keep xs o (grind arith) kept in
-          elim (cases_Bool (keep x)) [
-            | inl stays ↦ grind arith
-            | inr goes ↦ grind arith
-          ]
+          grind arith
     ]
 
 module _ {X : Type 0} (key : X → GuestPage) where
@@ -51,11 +48,7 @@ module _ {X : Type 0} (key : X → GuestPage) where
 
     -- in a list with one more element of the page, a search for the page finds that element
     pub find_put : (x : X) (xs : List X) → key x ≡ page → find is_it (filter low xs ++ x ∷ filter high xs) ≡ Some x
-    find_put x xs at =
-        let none = find_nothing is_it _ (λ k d lt. pages_ordered.apart (key (get_or (filter low xs) k d)) page (filter_passes low xs k d lt)) in
-        find-append is_it (filter low xs) (x ∷ filter high xs)
-        ∙ ap (λ found. option_or found (find is_it (x ∷ filter high xs))) none
-        ∙ ap (λ b. cond b (Some x) (find is_it (filter high xs))) (ap (λ p. same_page p page) at ∙ same_page_refl page)
+    find_put x xs at = grind (arith, find_nothing, filter_passes, find-append, same_page_refl)
 
     -- with one more element of a page, a search for another page finds what it found before
     pub find_put_other : (other : GuestPage) (x : X) (xs : List X) → key x ≡ page → AllPairs Before xs → find is_it xs ≡ None → same_page page other ≡ false → find (is_of_page other) (filter low xs ++ x ∷ filter high xs) ≡ find (is_of_page other) xs
@@ -65,12 +58,11 @@ module _ {X : Type 0} (key : X → GuestPage) where
 
     -- without the elements of the page, a search for the page finds nothing
     pub find_gone : (xs : List X) → find is_it (filter (λ y. not (is_it y)) xs) ≡ None
-    find_gone xs = find_nothing is_it (filter (λ y. not (is_it y)) xs) (λ k d lt. not-true (is_it (get_or (filter (λ y. not (is_it y)) xs) k d)) (filter_passes (λ y. not (is_it y)) xs k d lt))
+    find_gone xs = grind (arith, find_nothing, filter_passes)
 
     -- an element that a search for another page finds is not of the page
     not_it : (other : GuestPage) (xs : List X) → same_page page other ≡ false → {y : X} → find (is_of_page other) xs ≡ Some y → is_it y ≡ false
-    not_it other xs differ {y} is =
-        ap (λ p. same_page p page) (same_page_eq (key y) other (find_passes (is_of_page other) xs y is)) ∙ same_page_sym _ page ∙ differ
+    not_it other xs differ {y} is = grind (arith, same_page_eq, find_passes, same_page_sym)
 
     -- without the elements of a page, a search for another page finds what it found before
     pub find_gone_other : (other : GuestPage) (xs : List X) → same_page page other ≡ false → find (is_of_page other) (filter (λ y. not (is_it y)) xs) ≡ find (is_of_page other) xs
@@ -83,19 +75,12 @@ module _ {X : Type 0} (key : X → GuestPage) where
 
       -- a search finds what it found, changed
       pub find_change : (other : GuestPage) (xs : List X) → find (is_of_page other) (map change xs) ≡ option_map change (find (is_of_page other) xs)
-      find_change other xs =
-          find_mapped change _ _ xs
-          (λ k d lt. let y = get_or xs k d in
-          cond_both _ (f y) y (λ z. same_page (key z) other ≡ same_page (key y) other) (λ _. ap (λ p. same_page p other) (same y)) (λ _. refl))
+      find_change other xs = grind (arith, find_mapped)
 
       -- a search for the page finds the changed element
       pub find_changed : (xs : List X) (x : X) → find is_it xs ≡ Some x → find is_it (map change xs) ≡ Some (f x)
-      find_changed xs x found = find_change _ _ ∙ ap (option_map change) found ∙ ap (λ b. Some (cond b (f x) x)) (find_passes _ xs x found)
+      find_changed xs x found = grind (arith, find_change, find_passes)
 
       -- a search for another page finds what it found before
       pub find_changed_other : (other : GuestPage) (xs : List X) → same_page page other ≡ false → find (is_of_page other) (map change xs) ≡ find (is_of_page other) xs
-      find_changed_other other xs differ = find_change _ _ ∙ go _ refl
-        where
-          go : (o : Option X) → find (is_of_page other) xs ≡ o → option_map change o ≡ o
-          go None is = refl
-          go (Some y) is = ap (λ b. Some (cond b (f y) y)) (not_it _ _ differ is)
+      find_changed_other other xs differ = grind (arith, find_change, not_it)

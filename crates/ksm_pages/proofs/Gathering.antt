@@ -1,15 +1,10 @@
 -- A walk along the order that lists the pages that a visit may change.
-use Rattle.ksm_pages.proofs.Names.{[], after_cursor, All, All-cons, All-map, ap, AreAllListed, AreAscending, AreFiled, AreListed, arith, before_irrefl, Bool, cases_Bool, comes_before, Entry, false, filter, find, find_all, find_none, find_passes, get, get_or, GuestPage, has_item, Held, held_in, held_under, inl, inr, is_of, is_own, is_restless, is_some, IsAddedTo, IsUnder, Kind, length, List, Listing, may_change, Named, named_of, nat_tests, None, not, Option, option_map, own_state, PageState, pairs_head, pairs_tail, Private, rows_of, same_page, same_page_refl, same_Some, shared_state, Slab, Some, state_of, sym, true, true≢false, Waiting, ℕ, ◌&&◌, ◌<◌, ◌∙◌, ◌∷◌, ◌≡◌, ◌≤◌, ◌⊎◌, held_of}
+use Rattle.ksm_pages.proofs.Names.{[], after_cursor, All, All-cons, All-map, ap, AreAllListed, AreAscending, AreFiled, AreListed, arith, before_irrefl, Bool, cases_Bool, comes_before, Entry, false, filter, find, find_all, find_none, find_passes, get, get_or, GuestPage, has_item, Held, held_in, held_under, inl, inr, is_of, is_own, is_restless, is_some, IsAddedTo, IsUnder, Kind, length, List, Listing, may_change, Named, named_of, None, not, Option, option_map, pairs_head, pairs_tail, rows_of, same_page, same_page_refl, same_Some, shared_state, Slab, Some, state_of, sym, true, ℕ, ◌&&◌, ◌<◌, ◌∙◌, ◌∷◌, ◌≡◌, ◌≤◌, ◌⊎◌, held_of}
 use Rattle.ksm_pages.proofs.Filing.{all_stand, named_under, one_key, under_named}
 use Rattle.ksm_pages.proofs.Listings.{with_has}
 
--- what holds of Private and of Waiting holds of the state of any page with a frame of its own
-pub own_either : (P : PageState → Type 0) → P Private → P Waiting → (b : Bool) → P (own_state b)
-own_either P rests waits false = rests
-own_either P rests waits true = waits
-
 own_by : (kind : Kind) (number pass : ℕ) → not (shared_state (state_of kind number pass)) ≡ is_own kind
-own_by kind number pass = grind (arith, nat_tests)
+own_by kind number pass = grind arith
 
 -- a visit may change a row exactly where it may change its entry
 pub restless_as : (pass : ℕ) (e : Entry) → may_change (held_of pass e).row ≡ is_restless e
@@ -22,15 +17,7 @@ AreListedUpTo slab last l = l.known ≡ true → (key : ℕ) (e : Entry) → get
 -- a filter that lets less through leaves no more
 filter_least : {X : Type 0} (p q : X → Bool) (ys : List X) → ((y : X) → q y ≡ true → p y ≡ true) → length (filter q ys) ≤ length (filter p ys)
 filter_least p q [] less = omega arith
-filter_least p q (z ∷ zs) less =
-    let rest = filter_least p q zs less in
-    elim (cases_Bool _) [
-      | inl passes ↦ let also = less z passes in grind (arith, passes, also, rest)
-      | inr fails ↦ elim (cases_Bool (p z)) [
-        | inl passes ↦ grind arith
-        | inr out_too ↦ grind arith
-      ]
-    ]
+filter_least p q (z ∷ zs) less = grind (arith, filter_least p q zs less)
 
 -- and fewer, where it stops what the other finds first
 filter_fewer : {X : Type 0} (p q : X → Bool) (xs : List X) (x : X) → find p xs ≡ Some x → q x ≡ false → ((y : X) → q y ≡ true → p y ≡ true) → length (filter q xs) < length (filter p xs)
@@ -43,10 +30,7 @@ filter_fewer p q (y ∷ ys) x found out less =
           let few = filter_least p q ys less in
           grind arith
       | inr fails ↦
-          let none : q y ≡ false = elim (cases_Bool (q y)) [
-            | inl also ↦ absurd (true≢false (sym (less y also) ∙ fails))
-            | inr out_too ↦ out_too
-          ] in
+          let none : q y ≡ false = grind arith in
           let few = filter_fewer p q ys x (grind arith) out less in
           grind arith
     ]
@@ -61,7 +45,7 @@ first_found p (y ∷ ys) n rise found =
           All-cons (λ m. p m ≡ true → (m.page ≡ n.page) ⊎ (comes_before n.page m.page ≡ true)) y ys (λ also. inl (λ i. (same i).page))
           (λ k d lt also. inr ((λ i. comes_before (sym same i).page (get_or ys k d).page) ∙ pairs_head (λ a b. comes_before a.page b.page ≡ true) y ys rise k d lt))
       | inr fails ↦
-          All-cons (λ m. p m ≡ true → (m.page ≡ n.page) ⊎ (comes_before n.page m.page ≡ true)) y ys (λ also. absurd (true≢false (sym also ∙ fails)))
+          All-cons (λ m. p m ≡ true → (m.page ≡ n.page) ⊎ (comes_before n.page m.page ≡ true)) y ys (λ also. absurd (grind arith))
           (first_found p ys n (pairs_tail (λ a b. comes_before a.page b.page ≡ true) y ys rise) (grind arith))
     ]
 
@@ -73,11 +57,7 @@ module _ (slab : Slab Entry) (order : List Named) (rise : AreAscending order) (f
 
     -- behind the next page there are fewer pages than behind the cursor
     pub fewer_behind : length (filter (λ m. comes_before n.page m.page) order) < length (filter (λ m. after_cursor last m.page) order)
-    fewer_behind =
-        filter_fewer _ _ order n found (before_irrefl n.page) (λ m behind. further last n.page m.page (find_passes _ order n found) behind)
-      where
-        further : (last : Option GuestPage) (p q : GuestPage) → after_cursor last p ≡ true → comes_before p q ≡ true → after_cursor last q ≡ true
-        further last p q after less = grind (arith, nat_tests, after, less)
+    fewer_behind = grind (arith, filter_fewer, before_irrefl, find_passes)
 
     -- an entry that is not behind it is its own, or was not behind the last
     passed : (key : ℕ) {e : Entry} → get slab key ≡ Some e → comes_before n.page e.page ≡ false → (e.page ≡ n.page) ⊎ (after_cursor last e.page ≡ false)
@@ -85,10 +65,7 @@ module _ (slab : Slab Entry) (order : List Named) (rise : AreAscending order) (f
       | inl after ↦
           let first = find_all (is_of e.page) (λ m. after_cursor last m.page ≡ true → (m.page ≡ n.page) ⊎ (comes_before n.page m.page ≡ true)) order (named_of key e) (named_under slab order filed key e stands)
           (first_found (λ m. after_cursor last m.page) order n rise found) in
-          elim (first after) [
-            | inl same ↦ inl same
-            | inr behind ↦ absurd (true≢false (sym behind ∙ not_behind))
-          ]
+          grind arith
       | inr before ↦ inr before
     ]
 
@@ -102,7 +79,7 @@ module _ (slab : Slab Entry) (order : List Named) (rise : AreAscending order) (f
               | inl same ↦ inl (ap (same_page n.page) same ∙ same_page_refl n.page)
               | inr before ↦ inr (listed ((λ i. (sym is i).known) ∙ known) key e stands may before)
             ])
-        | inr is ↦ absurd (true≢false (sym known ∙ (λ i. (is i).known)))
+        | inr is ↦ absurd (grind arith)
       ]
 
       -- where no visit changes the next page, the list has all up to that page that a visit may change
@@ -110,9 +87,8 @@ module _ (slab : Slab Entry) (order : List Named) (rise : AreAscending order) (f
       one_passed {e} here calm is known key f stands may not_behind = elim (passed _ stands not_behind) [
         | inl same ↦
             let u = next_stands in
-            let at = one_key slab _ filed stands u.stands (same ∙ sym u.of_page) in
-            let is_it = same_Some f e (sym stands ∙ ap (get slab) at ∙ here) in
-            absurd (true≢false (sym may ∙ ap is_restless is_it ∙ calm))
+            let is_it = same_Some f e (sym stands ∙ ap (get slab) (one_key slab _ filed stands u.stands (same ∙ sym u.of_page)) ∙ here) in
+            absurd (grind arith)
         | inr before ↦ (λ i. has_item f.page (is i).pages) ∙ listed ((λ i. (sym is i).known) ∙ known) key f stands may before
       ]
 
@@ -130,7 +106,7 @@ module _ (slab : Slab Entry) (order : List Named) (rise : AreAscending order) (f
       (λ k d lt. at _ (all_stand slab _ rise filed k d lt)))
     where
       at : (n : Named) → option_map (named_of n.key) (get slab n.key) ≡ Some n → may_change (held_under pass (get slab n.key)).row ≡ true → has_item (held_under pass (get slab n.key)).row.page pages ≡ true
-      at n stands may = grind (arith, nat_tests, stands, may)
+      at n stands may = grind arith
 
   -- a row has a frame of its own exactly where it is not shared
   pub rows_framed : (pass : ℕ) → All (λ h. is_some h.frame ≡ not (shared_state h.row.state)) (held_in pass slab order)
@@ -138,4 +114,4 @@ module _ (slab : Slab Entry) (order : List Named) (rise : AreAscending order) (f
       All-map (λ (h : Held). is_some h.frame ≡ not (shared_state h.row.state)) _ _ (λ k d lt. at _ (all_stand slab _ rise filed k d lt))
     where
       at : (n : Named) → option_map (named_of n.key) (get slab n.key) ≡ Some n → is_some (held_under pass (get slab n.key)).frame ≡ not (shared_state (held_under pass (get slab n.key)).row.state)
-      at n stands = grind (arith, nat_tests, stands)
+      at n stands = grind arith

@@ -1,5 +1,5 @@
 -- The pages once a page with a frame of its own joined a dup.
-use Rattle.ksm_pages.proofs.Names.{All, ap, AreKept, AreTied, AreWaiting, arith, both_ways, change_held, change_items, change_row, count_by, Dup, dup_numbered, dup_of, DupRow, DupsState, each_at_page, Entry, eq-eqb, false, find_none, frame_of, get_or, GuestPage, HasRoom, Held, held_at, held_of, InPageOrder, Inside, is_some, IsStopped, items_in, length, let_out, lies_on, List, Listing, lodging, lodgings_of, mapped, Merged, merged_into, merged_state, MOST_REFERENCES, nat_tests, None, number_found, Option, option_map, PageState, PagesValue, PagesView, refl, Row, row_at, row_found, row_stopped, rows_items, rows_of, RowsView, seen, shared_state, Some, subst, sym, tied_count, tied_joined, true, true≢false, with_item, ℕ, ◌<◌, ◌==◌, ◌∙◌, ◌≡◌}
+use Rattle.ksm_pages.proofs.Names.{All, ap, AreKept, AreTied, arith, both_ways, change_held, change_items, change_row, count_by, Dup, dup_numbered, dup_of, DupRow, DupsState, each_at_page, Entry, eq-eqb, false, find_none, frame_of, get_or, GuestPage, HasRoom, Held, held_at, held_of, InPageOrder, Inside, is_some, IsStopped, items_in, length, let_out, lies_on, List, Listing, lodging, lodgings_of, mapped, Merged, merged_into, merged_state, MOST_REFERENCES, None, number_found, Option, option_map, PageState, PagesValue, PagesView, refl, Row, row_at, row_found, row_stopped, rows_items, rows_of, RowsView, seen, shared_state, Some, subst, sym, tied_count, tied_joined, true, true≢false, with_item, ℕ, ◌<◌, ◌==◌, ◌∙◌, ◌≡◌}
 use Rattle.ksm_tree.specs.Dups.{items_of as items_numbered, rows_of as dup_rows}
 use Rattle.ksm_pages.proofs.Changing.{row_found as found_rows}
 use Rattle.ksm_pages.proofs.Options.{some_mapped}
@@ -8,11 +8,11 @@ use Rattle.ksm_pages.proofs.Lodgings.{frame_by, seat}
 
 -- a page with a frame of its own is not merged
 pub own_not_merged : (s : PageState) → shared_state s ≡ false → merged_state s ≡ false
-own_not_merged s e = grind (arith, nat_tests, e)
+own_not_merged s e = grind arith
 
 -- a page with a frame of its own leaves no dup, so letting it out changes none
 pub let_out_alone : (state : PageState) (page : GuestPage) {dups : List Dup} → shared_state state ≡ false → let_out state page dups ≡ dups
-let_out_alone state page alone = grind (arith, nat_tests, alone)
+let_out_alone state page alone = grind arith
 
 known_at : {number : ℕ} (ds : List DupRow) (o : Option DupRow) → dup_numbered number ds ≡ o → (k : ℕ) (d : DupRow) → k < length ds
     → (get_or ds k d).number ≡ number → is_some o ≡ true
@@ -29,9 +29,7 @@ found_room : (rows : List Row) (dups : List Dup) {number : ℕ} (o : Option Dup)
     → HasRoom rows (dup_rows dups) number → (is_some o ≡ true) × (length (items_in o) < MOST_REFERENCES)
 found_room rows dups None tied is room = absurd (true≢false (sym (has_known rows dups room) ∙ ap is_some is))
 found_room rows dups {number} (Some d) tied is room =
-    let counted = ap (λ o. length (items_in o)) (sym is) ∙ tied_count rows dups number d tied is in
-    let same = ap (λ n. count_by (λ r. merged_into n r.state) rows) (number_found number dups d is ∙ sym room.2) in
-    (refl, omega (arith, counted, same, room.3))
+    (refl, omega (arith, (ap (λ o. length (items_in o)) (sym is) ∙ tied_count rows dups number d tied is), (ap (λ n. count_by (λ r. merged_into n r.state) rows) (number_found number dups d is ∙ sym room.2)), room.3))
 
 -- a dup with room for an item is found by its number
 pub known_room : (rows : List Row) (dups : List Dup) {number : ℕ} → AreTied rows dups → HasRoom rows (dup_rows dups) number
@@ -45,7 +43,7 @@ fewer_room rows dups tied room = (found_room rows _ _ tied refl room).1
 
 item_seat : (of : ℕ → Option ℕ) (number : ℕ) {r : Row} → merged_into number r.state ≡ true → (o : Option Held)
     → option_map (λ (h : Held). h.row) o ≡ Some r → seat of o ≡ of number
-item_seat of number merged o is = grind (arith, nat_tests, merged, is)
+item_seat of number merged o is = grind arith
 
 -- an item of a dup lies where all its items do
 pub item_lies : (of : ℕ → Option ℕ) (held : List Held) → InPageOrder (rows_of held) → (number : ℕ)
@@ -57,7 +55,7 @@ item_lies of held rise number k d lt merged =
 -- a page with a frame of its own lies on that frame
 pub own_seat : (of : ℕ → Option ℕ) (pass : ℕ) (e : Entry) → shared_state (held_of pass e).row.state ≡ false
     → seat of (Some (held_of pass e)) ≡ Some e.at
-own_seat of pass e alone = grind (arith, nat_tests, alone)
+own_seat of pass e alone = grind arith
 
 module _ (s : Inside) (are : AreLawful s) (page : GuestPage) {h : Held} (found : held_at page s.rows.held ≡ Some h)
     (alone : shared_state h.row.state ≡ false) (number : ℕ)
@@ -65,26 +63,24 @@ module _ (s : Inside) (are : AreLawful s) (page : GuestPage) {h : Held} (found :
     (out : later ≡ record joined { dups = let_out h.row.state h.row.page joined.dups; waiting = later.waiting })
     (stopped : IsStopped s.knobs h.row joined.waiting later.waiting) where
   now_in : later.dups ≡ change_items number (with_item page) s.dups.dups
-  now_in = grind (arith, nat_tests)
+  now_in = grind arith
 
   joined_dups : dup_rows later.dups ≡ dup_rows s.dups.dups
   joined_dups = ap dup_rows now_in ∙ rows_items _ _ _
 
   joined_next : later.next ≡ s.dups.next
-  joined_next = grind (arith, nat_tests)
+  joined_next = grind arith
 
   -- the pages are lawful once a page with a frame of its own joined a dup
   pub lawful_joined : (rows : RowsView) → rows.held ≡ change_held page (mapped (Merged number) None) s.rows.held
       → AreKept s.shape s.knobs (rows_of rows.held) later s.frames.items
   lawful_joined rows turned =
-      let before = rows_of s.rows.held in
       let item = record h.row { state = Merged number } in
       let at = of_page s are _ found in
       lawful_turned s are _ found (mapped (Merged number) None) (λ r. record r { state = Merged number }) (λ x. refl)
       (λ r. refl) rows turned ((λ i. (out i).places) ∙ (λ i. (into i).places))
-      (subst (AreTied (change_row page (λ _. item) before)) (sym now_in) (tied_joined _ _ _ are.order (row_there s are _ found) _ _ _
-      (own_not_merged _ alone) at refl are.tied)) (subst (λ q. AreWaiting s.knobs (change_row q (λ _. item) before) later.waiting) at
-      (row_stopped s.knobs _ _ are.waits _ _ _ (ap (λ q. row_at q before) at ∙ row_there s are _ found) refl
+      (rw now_in (tied_joined _ _ _ are.order (row_there s are _ found) _ _ _ (own_not_merged _ alone) at refl are.tied)) (rw (← at)
+      (row_stopped s.knobs _ _ are.waits _ _ _ (ap (λ q. row_at q (rows_of s.rows.held)) at ∙ row_there s are _ found) refl
       (subst (λ w. IsStopped s.knobs h.row w later.waiting) (λ i. (into i).waiting) stopped)))
 
   -- once a page joined a dup, it lies where the dup's items do, and else all is seen as it was

@@ -34,10 +34,7 @@ module _ {X : Type 0} (key : X → GuestPage) where
     -- a change of the page leaves a list as it is that does not have the page
     pub kept_all : (f : X → X) (ys : List X) → All (λ z. is_it z ≡ false) ys → map (λ y. if is_it y then f y else y) ys ≡ ys
     kept_all f [] none = refl
-    kept_all f (y ∷ ys) none =
-        let here = none 0 y (omega arith) in
-        let rest = kept_all f ys (λ k d lt. none (suc k) d (omega arith)) in
-        grind (arith, here, rest)
+    kept_all f (y ∷ ys) none = grind (arith, (none 0 y (omega arith)), (kept_all f ys (λ k d lt. none (suc k) d (omega arith))))
 
     module _ (xs run ys : List X) (ahead : All (λ z. low z ≡ true) xs) (behind : All (λ z. high z ≡ true) ys) where
       -- in a list cut in three around a page's run, the page is changed by changing it in the run

@@ -1,5 +1,5 @@
 -- The pages once the row of one page changed, or went: they are lawful still, and what is seen of them is changed so.
-use Rattle.ksm_pages.proofs.Names.{ap, ap₂, AreKept, AreTied, AreWaiting, arith, change_held, change_row, DupsState, false, find_passes, frame_of, Frames, GuestPage, Held, held_at, holds, if◌then◌else◌, InPageOrder, Inside, is_some, IsAlone, IsKnown, IsStopped, let_out, lies_on, List, lodging, lodgings_of, MatchOption, merged_state, nat_tests, None, Option, option_map, ordered_map, ordered_without, PagesValue, Row, row_at, row_dropped, row_stopped, rows_of, rows_out, RowsView, same_page, same_page_eq, seen, shared_state, Some, subst, sym, tied_dropped, tied_left, true, waiting_state, without_held, without_page, ℕ, ◌∙◌, ◌≡◌}
+use Rattle.ksm_pages.proofs.Names.{ap, ap₂, AreKept, AreTied, AreWaiting, arith, change_held, change_row, DupsState, false, find_passes, frame_of, Frames, GuestPage, Held, held_at, if◌then◌else◌, InPageOrder, Inside, is_some, IsAlone, IsKnown, IsStopped, let_out, lies_on, List, lodging, lodgings_of, MatchOption, merged_state, None, Option, option_map, ordered_map, ordered_without, PagesValue, Row, row_at, row_dropped, row_stopped, rows_of, rows_out, RowsView, same_page, same_page_eq, seen, shared_state, Some, subst, sym, tied_dropped, tied_left, true, waiting_state, without_held, without_page, ℕ, ◌∙◌, ◌≡◌}
 use Rattle.ksm_tree.specs.Dups.{rows_of as dup_rows}
 use Rattle.ksm_tree.proofs.Alike.{map_mapped}
 use Rattle.ksm_pages.proofs.Changing.{row_told, rows_changed, rows_without}
@@ -27,14 +27,11 @@ AreLawful s = AreKept s.shape s.knobs (rows_of s.rows.held) s.dups s.frames.item
 
 -- two changes of what is held of a page, one after the other, are one change
 pub held_twice : (page : GuestPage) (f g : Held → Held) → ((h : Held) → (f h).row.page ≡ h.row.page) → (held : List Held) → change_held page g (change_held page f held) ≡ change_held page (λ h. g (f h)) held
-held_twice page f g same held = map_mapped _ _ _ _ (λ k d lt. at _)
-  where
-    at : (h : Held) → (λ (x : Held). if holds page x then g x else x) (if holds page h then f h else h) ≡ (if holds page h then g (f h) else h)
-    at h = grind (arith, nat_tests)
+held_twice page f g same held = grind (arith, map_mapped)
 
 -- a page that comes to lie where it lay does not move
 pub lies_same : (page : GuestPage) {frames : Frames} → lies_on page (frames page) frames ≡ frames
-lies_same page = grind (arith, nat_tests)
+lies_same page = grind arith
 
 module _ (s : Inside) {p : PagesValue} (seen_as : view_of s ≡ p) (page : GuestPage) where
   rows_seen : rows_of s.rows.held ≡ p.rows
@@ -66,12 +63,12 @@ module _ (s : Inside) (are : AreLawful s) (page : GuestPage) {h : Held} (found :
 
   -- the row that is held of a page is of that page
   pub of_page : old.page ≡ page
-  of_page = same_page_eq _ _ (find_passes (λ r. same_page r.page page) (rows_of s.rows.held) _ row_there)
+  of_page = grind (arith, same_page_eq, find_passes, row_there)
 
   module _ {p : PagesValue} (seen_as : view_of s ≡ p) where
     -- the page lies where its row says
     pub lies : seat (of_dup s) (Some h) ≡ frame_of p.lodgings page
-    lies = ap (seat (of_dup s)) (sym found) ∙ sym (frame_by _ _ page) ∙ (λ i. frame_of (seen_as i).lodgings page)
+    lies = grind (arith, frame_by)
 
   module _ (f : Held → Held) (g : Row → Row) (is : (x : Held) → (f x).row ≡ g x.row) (same : (r : Row) → (g r).page ≡ r.page) (rows : RowsView) (turned : rows.held ≡ change_held page f s.rows.held) where
     -- once a page's row changed, the rows are those with the new row in place of the old one
@@ -80,20 +77,19 @@ module _ (s : Inside) (are : AreLawful s) (page : GuestPage) {h : Held} (found :
 
     -- a change of the row of one page alone leaves the page of every row
     pub keeps : (r : Row) → (if same_page r.page page then g r else r).page ≡ r.page
-    keeps r = grind (arith, nat_tests)
+    keeps r = grind arith
 
     -- once a page's row changed, the pages are lawful if the dups and waiting pages are those of the new rows
     pub lawful_turned : {later : DupsState} → later.places ≡ s.dups.places → AreTied (change_row page (λ _. g old) (rows_of s.rows.held)) later.dups
         → AreWaiting s.knobs (change_row page (λ _. g old) (rows_of s.rows.held)) later.waiting → AreKept s.shape s.knobs (rows_of rows.held) later s.frames.items
     lawful_turned {later} places tied waits =
         let changed = sym rows_turned in
-        let as_map = changed_to _ _ _ are.order row_there in
         record {
           small = are.small;
-          order = subst InPageOrder (as_map ∙ changed) (ordered_map _ _ keeps are.order);
-          tied = subst (λ rs. AreTied rs later.dups) changed tied;
+          order = subst InPageOrder ((changed_to _ _ _ are.order row_there) ∙ changed) (ordered_map _ _ keeps are.order);
+          tied = rw (← changed) tied;
           places = places ∙ are.places;
-          waits = subst (λ rs. AreWaiting s.knobs rs later.waiting) changed waits;
+          waits = rw (← changed) waits;
           room = are.room;
         }
 
@@ -103,8 +99,7 @@ module _ (s : Inside) (are : AreLawful s) (page : GuestPage) {h : Held} (found :
       pub told : {frame : Option ℕ} → seat (of_dup s) (Some (f h)) ≡ frame
           → seen (view_of (record s { rows = rows; dups = later })) ≡ record (seen p) { rows = change_row page to p.rows; frame = lies_on page frame (frame_of p.lodgings); restless = rows.restless }
       told {frame} lodged =
-          let before = rows_of s.rows.held in
-          let new = rows_turned ∙ ap (λ r. change_row page (λ _. r) before) agree ∙ sym (changed_to _ _ _ are.order row_there) in
+          let new = rows_turned ∙ ap (λ r. change_row page (λ _. r) (rows_of s.rows.held)) agree ∙ sym (changed_to _ _ _ are.order row_there) in
           let lain =
           ap₂ (λ ds held. frame_of (lodgings_of (lodging ds s.frames.items) held)) dups turned
           ∙ lodged_changed _ f (λ x. (λ i. (is x i).page) ∙ same x.row) _ _ found
@@ -130,18 +125,15 @@ module _ (s : Inside) (are : AreLawful s) (page : GuestPage) {h : Held} (found :
     same_next = λ i. (out i).next
 
     dups_out : later.dups ≡ let_out old.state page s.dups.dups
-    dups_out = (λ i. (out i).dups) ∙ ap (λ q. let_out old.state q s.dups.dups) of_page
+    dups_out = grind (arith, of_page)
 
     -- once a page was let out and its new row is neither merged nor waiting, the pages are lawful
     pub lawful_left : (f : Held → Held) (g : Row → Row) → ((x : Held) → (f x).row ≡ g x.row) → ((r : Row) → (g r).page ≡ r.page) → (rows : RowsView) → rows.held ≡ change_held page f s.rows.held
         → merged_state (g old).state ≡ false → waiting_state (g old).state ≡ false → AreKept s.shape s.knobs (rows_of rows.held) later s.frames.items
     lawful_left f g is same rows turned alone still =
-        let before = rows_of s.rows.held in
         let at = same old ∙ of_page in
-        lawful_turned f g is same rows turned (λ i. (out i).places)
-        (subst (AreTied (change_row page (λ _. g old) before)) (sym dups_out) (tied_left _ _ _ are.order row_there _ _ alone are.tied))
-        (subst (λ q. AreWaiting s.knobs (change_row q (λ _. g old) before) later.waiting) at
-        (row_stopped s.knobs _ _ are.waits _ _ _ (ap (λ q. row_at q before) at ∙ row_there) still stopped))
+        lawful_turned f g is same rows turned (λ i. (out i).places) (rw dups_out (tied_left _ _ _ are.order row_there _ _ alone are.tied))
+        (rw (← at) (row_stopped s.knobs _ _ are.waits _ _ _ (ap (λ q. row_at q (rows_of s.rows.held)) at ∙ row_there) still stopped))
 
     module _ (rows : RowsView) (gone : rows.held ≡ without_held page s.rows.held) where
       rows_gone : rows_of rows.held ≡ without_page page (rows_of s.rows.held)
@@ -154,10 +146,10 @@ module _ (s : Inside) (are : AreLawful s) (page : GuestPage) {h : Held} (found :
           let to = sym rows_gone in
           record {
             small = are.small;
-            order = subst InPageOrder to (ordered_without _ _ are.order);
-            tied = subst (λ rs. AreTied rs later.dups) to (subst (AreTied (without_page page before)) (sym dups_out) (tied_dropped _ _ _ are.order row_there _ are.tied));
+            order = rw (← to) (ordered_without _ _ are.order);
+            tied = rw (← to) (rw dups_out (tied_dropped _ _ _ are.order row_there _ are.tied));
             places = (λ i. (out i).places) ∙ are.places;
-            waits = subst (λ rs. AreWaiting s.knobs rs later.waiting) to (row_dropped s.knobs _ _ are.waits _ _ _ row_there stopped);
+            waits = rw (← to) (row_dropped s.knobs _ _ are.waits _ _ _ row_there stopped);
             room = are.room;
           }
 

@@ -1,5 +1,5 @@
 -- Where the pages lie, once the row of one was changed, came or went, and the dups kept their frames.
-use Rattle.ksm_pages.proofs.Names.{All, ap, change_held, change_row, cond, find_all, find_passes, frame_of, frame_seen, GuestPage, Held, held_at, holds, if◌then◌else◌, InPageOrder, lies_on, List, Lodging, lodgings_of, None, one_of_each_page, Option, option_and_then, option_map, refl, Row, row_at, same_page, same_page_eq, same_page_sym, Some, sym, true, without_held, ℕ, ◌∙◌, ◌≡◌, false}
+use Rattle.ksm_pages.proofs.Names.{All, ap, arith, change_held, change_row, find_all, find_passes, frame_of, frame_seen, GuestPage, Held, held_at, holds, if◌then◌else◌, InPageOrder, lies_on, List, Lodging, lodgings_of, nat_tests, None, one_of_each_page, Option, option_and_then, option_map, refl, Row, row_at, same_page, same_page_eq, same_page_sym, Some, true, without_held, ℕ, ◌∙◌, ◌≡◌, false}
 use Rattle.ksm_tree.proofs.Alike.{find_mapped, map_alike}
 use Rattle.ksm_tree.proofs.Indexed.{cond_if}
 use Rattle.ksm_pages.proofs.Found.{find_changed, find_changed_other, find_gone, find_gone_other}
@@ -29,10 +29,7 @@ pub lodged_one : (of_dup : ℕ → Option ℕ) (page : GuestPage) (held later : 
 lodged_one of_dup page held later {o} here others = λ i p. at p i
   where
     at : (p : GuestPage) → frame_of (lodgings_of of_dup later) p ≡ (if same_page p page then seat of_dup o else frame_of (lodgings_of of_dup held) p)
-    at p =
-        cond_if _ _ _ _
-        (λ yes_it. ap (frame_of (lodgings_of of_dup later)) (same_page_eq p _ yes_it) ∙ frame_by _ later _ ∙ ap (seat of_dup) here)
-        (λ not_it. frame_by _ later p ∙ ap (seat of_dup) (others p (same_page_sym page p ∙ not_it)) ∙ sym (frame_by _ held p))
+    at p = grind (arith, nat_tests, cond_if, same_page_eq, frame_by, same_page_sym)
 
 abbrev page_of : Held → GuestPage
 page_of h = h.row.page
@@ -58,6 +55,4 @@ changed_to page g rows {old} rise found = map_alike _ _ _ (λ k d lt. at _ (only
     only = find_all _ (λ r. All (λ s. same_page s.page r.page ≡ true → s ≡ r) rows) _ _ found (one_of_each_page _ rise)
 
     at : (r : Row) → (same_page r.page old.page ≡ true → r ≡ old) → (if same_page r.page page then g r else r) ≡ (if same_page r.page page then g old else r)
-    at r is =
-        cond_if _ _ _ _ (λ yes_it. ap (λ b. cond b (g r) r) yes_it ∙ ap g (is (ap (same_page r.page) (same_page_eq _ _ at_page) ∙ yes_it)))
-        (λ not_it. ap (λ b. cond b (g r) r) not_it)
+    at r is = grind (arith, cond_if, same_page_eq, at_page)

@@ -1,5 +1,5 @@
 -- The page that waits in the tree of a row with its bytes once the row was visited, and the row that is its partner.
-use Rattle.ksm_pages.proofs.Names.{ap, AreWaiting, arith, change_row, cond, false, find_passes, GuestPage, if◌then◌else◌, InPageOrder, IsAdded, Knobs, List, look_up_found, MatchOption, names, nat_tests, None, Option, option_and_then, own_found, partner, partner_found, refl, Row, row_at, row_begun, row_kept, same_page, same_page_eq, Some, subst, sym, tree_of, true, unwrap_or, Waiting, waiting_page, WaitingPage, waits_there, ◌∙◌, ◌≡◌}
+use Rattle.ksm_pages.proofs.Names.{ap, AreWaiting, arith, change_row, cond, false, find_passes, GuestPage, if◌then◌else◌, InPageOrder, IsAdded, Knobs, List, look_up_found, MatchOption, names, None, Option, option_and_then, own_found, partner, partner_found, refl, Row, row_at, row_begun, row_kept, same_page, same_page_eq, Some, sym, tree_of, true, unwrap_or, Waiting, waiting_page, WaitingPage, waits_there, ◌∙◌, ◌≡◌}
 use Rattle.std.specs.Option.{is_some}
 
 module _ (knobs : Knobs) (rows : List Row) (w : List WaitingPage) (row : Row) (rise : InPageOrder rows) (are : AreWaiting knobs rows w)
@@ -27,13 +27,11 @@ module _ (knobs : Knobs) (rows : List Row) (w : List WaitingPage) (row : Row) (r
 
   -- where the page that waits with the row's bytes is another page, that page waited before
   pub met_other : same_page met row.page ≡ false → waits ≡ Some met
-  met_other other = grind (arith, nat_tests, other)
+  met_other other = grind arith
 
   -- where the page that waits with the row's bytes is another page, its row is the partner
   pub met_partner : same_page met row.page ≡ false → MatchOption (partner knobs rows row) (true ≡ false) (λ r. met ≡ r.page)
-  met_partner other =
-      subst (λ o. MatchOption o (true ≡ false) (λ (r : Row). met ≡ r.page))
-      (sym (looked_up (met_other other) ∙ ap (λ b. cond b None (row_at met rows)) other)) (go _ refl)
+  met_partner other = rw (looked_up (met_other other) ∙ ap (λ b. cond b None (row_at met rows)) other) (go _ refl)
     where
       go : (o : Option Row) → row_at met rows ≡ o → MatchOption o (true ≡ false) (λ r. met ≡ r.page)
       go None gone = sym (ap (waits_there knobs (tree_of knobs row) row.bytes) (sym gone)
@@ -49,9 +47,8 @@ module _ (knobs : Knobs) (rows : List Row) (w : List WaitingPage) (row : Row) (r
       go : (o : Option GuestPage) → waits ≡ o → AreWaiting knobs (change_row row.page (λ _. record row { state = Waiting }) rows) new
       go None at =
           row_begun knobs _ w are _ _ _ found (sym (own_found knobs _ w _ found are) ∙ ap (names row.page) at) refl at
-          (subst (λ (p : GuestPage). IsAdded (tree_of knobs row) row.bytes p w new) (met_so at) added)
+          (rw (← met_so at) added)
       go (Some page) at =
           let before = sym (own_found knobs _ w _ found are) ∙ ap (names row.page) at
           ∙ (λ i. same_page (sym (met_so at) i) row.page) ∙ own in
-          subst (AreWaiting knobs (change_row row.page (λ _. record row { state = Waiting }) rows)) (sym (again (ap is_some at)))
-          (row_kept knobs _ w are _ _ found (refl, refl, refl, sym before))
+          rw (again (ap is_some at)) (row_kept knobs _ w are _ _ found (refl, refl, refl, sym before))

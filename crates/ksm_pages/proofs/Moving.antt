@@ -1,5 +1,5 @@
 -- The pages once the items of a dup went to another frame.
-use Rattle.ksm_pages.proofs.Names.{[], All, All-head, All-tail, ap, arith, cases_Bool, dup_numbered, DupRow, each_has_number, eq-eqb, eqb-true, false, find_all, find_passes, frame_of, frame_seen, Held, held_at, if◌then◌else◌, inl, InPlaceOrder, inr, is_item, items_on, length, List, list_any, lodging, lodgings_of, Merged, merged_into, None, one_of_each_place, Option, option_and_then, option_map, PageState, Private, refl, rows_of, set, slice_get, Some, subst, sym, true, Waiting, Zero, ℕ, ◌<◌, ◌==◌, ◌∙◌, ◌∷◌, ◌≡◌}
+use Rattle.ksm_pages.proofs.Names.{[], All, All-head, All-tail, ap, arith, cases_Bool, dup_numbered, DupRow, each_has_number, eq-eqb, eqb-true, false, find_all, find_passes, frame_of, frame_seen, Held, held_at, if◌then◌else◌, inl, InPlaceOrder, inr, is_item, items_on, length, List, list_any, lodging, lodgings_of, Merged, merged_into, None, one_of_each_place, Option, option_and_then, option_map, PageState, Private, refl, rows_of, set, slice_get, Some, sym, true, Waiting, Zero, ℕ, ◌<◌, ◌==◌, ◌∙◌, ◌∷◌, ◌≡◌}
 use Rattle.ksm_tree.proofs.Indexed.{cond_if}
 use Rattle.ksm_pages.proofs.Changing.{row_found}
 use Rattle.ksm_pages.proofs.Filing.{differ_by}
@@ -10,7 +10,7 @@ use Rattle.ksm_pages.proofs.Paired.{set_away, set_there}
 pub any_below : (place n : ℕ) (dups : List DupRow) → All (λ d. d.place < n) dups → list_any (λ d. d.place == place) dups ≡ true → place < n
 any_below place n [] below there = cc
 any_below place n (d ∷ dups) below there = elim (cases_Bool _) [
-  | inl here ↦ subst (λ p. p < n) (eqb-true d.place place here) (All-head (λ e. e.place < n) d _ below)
+  | inl here ↦ rw (← eqb-true d.place place here) (All-head (λ e. e.place < n) d _ below)
   | inr away ↦ any_below _ n dups (All-tail (λ e. e.place < n) d dups below) (grind arith)
 ]
 
@@ -24,8 +24,7 @@ module _ (dups : List DupRow) (rise : InPlaceOrder dups) (frames : List ℕ) (pl
   module _ {d : DupRow} (at : d.place ≡ place) (found : dup_numbered d.number dups ≡ Some d)
       (one : All (λ e. (e.place == d.place) ≡ true → e ≡ d) dups) where
     moved : of_now d.number ≡ Some frame
-    moved = ap (option_and_then (λ (e : DupRow). slice_get (set frames place frame) e.place)) found
-        ∙ ap (slice_get (set frames place frame)) at ∙ set_there _ _ inside
+    moved = grind (arith, set_there)
 
     stayed : (n : ℕ) → (n == d.number) ≡ false → of_now n ≡ of n
     stayed n other = go _ refl

@@ -7,7 +7,7 @@ pub use Rattle.ksm_base.proofs.Sums.{states-add}
 pub use Rattle.ksm_base.specs.Apply.{fresh_row, let_go, stored, unshared}
 pub use Rattle.ksm_base.specs.Counting.{counters_from, shared_count}
 pub use Rattle.ksm_base.specs.Reading.{items_of, place_of}
-pub use Rattle.ksm_base.specs.Rows.{all_zero, change_row, change_rows, comes_before, dup_numbered, has_items, InPageOrder, InPlaceOrder, item_count, merged_into, merged_state, private_state, row_at, same_page, settled, settled_state, shared_state, waiting_state, with_dup, with_row, without_page, zero_state}
+pub use Rattle.ksm_base.specs.Rows.{all_zero, change_row, change_rows, comes_before, dup_numbered, has_items, InPageOrder, InPlaceOrder, item_count, merged_into, merged_state, private_state, row_at, same_page, settled, settled_state, shared_state, waiting_state, with_dup, with_row, without_page}
 pub use Rattle.ksm_base.specs.State.{default_knobs, place_count, tree_of}
 pub use Rattle.ksm_base.specs.Visit.{after_cursor, best_dup, is_for_zero, partner}
 pub use Rattle.ksm_base.specs.declared.knobs.Knobs.{Knobs}

@@ -1,5 +1,5 @@
 -- Options that are mapped.
-use Rattle.ksm_pages.proofs.Names.{arith, MatchOption, nat_tests, None, Option, option_map, refl, Some, ◌≡◌}
+use Rattle.ksm_pages.proofs.Names.{arith, MatchOption, None, Option, option_map, refl, Some, ◌≡◌}
 use Rattle.std.specs.Option.{is_some}
 
 -- an option is full once it is mapped exactly where it was full
@@ -9,11 +9,11 @@ some_mapped f (Some x) = refl
 
 -- an option that is empty once it is mapped was empty
 pub none_mapped : {X Y : Type 0} (f : X → Y) (o : Option X) → option_map f o ≡ None → o ≡ None
-none_mapped f o none = grind (arith, nat_tests, none)
+none_mapped f o none = grind arith
 
 -- an option that is full once it is mapped was full, with something that is mapped to what it has
 pub mapped_some : {X Y : Type 0} (f : X → Y) (o : Option X) {y : Y} → option_map f o ≡ Some y → (x : X) × (o ≡ Some x) × (f x ≡ y)
-mapped_some f o none = grind (arith, nat_tests, none)
+mapped_some f o none = grind arith
 
 -- two maps of an option, one after the other, are one map
 pub mapped_twice : {X Y Z : Type 0} (f : Y → Z) (g : X → Y) (o : Option X) → option_map f (option_map g o) ≡ option_map (λ x. f (g x)) o
@@ -22,4 +22,4 @@ mapped_twice f g (Some x) = refl
 
 -- where an option tells whether another is full, and with what, it is full exactly where that is
 pub both_full : {X Y : Type 0} (f : X → Y) (o : Option X) (p : Option Y) → MatchOption o (p ≡ None) (λ x. p ≡ Some (f x)) → is_some o ≡ is_some p
-both_full f o p is = grind (arith, nat_tests, is)
+both_full f o p is = grind arith

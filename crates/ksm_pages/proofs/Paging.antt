@@ -1,10 +1,9 @@
 -- What is read of the pages: rows and dups found by their pages, places and numbers.
-use Rattle.ksm_pages.proofs.Names.{[], Ahead, All, ap, AreAllListed, AreDups, AreTied, AreWaiting, arith, At, Bool, cases_Bool, comes_before, cond, Contains, Contains-from_any, Dup, dup_at, dup_numbered, dup_of, DupRow, DupsState, each_has_number, End, false, filter, find, find_all, found_passing, frame_seen, get_or, GuestPage, has_items, Held, held_at, inl, InPageOrder, InPlaceOrder, inr, is_live, is_some, is_stale, items_in, items_of, Kind, Knobs, last_or, last_page, length, length-map, List, list_any, live_placed, lodging, lodgings_of, map, merged_into, nat_tests, None, not, Option, option_and_then, option_map, option_or, pages_ahead, passing, Reaches, refl, Row, row_at, rows_between, rows_of, same_page, same_page_eq, shared_state, slice_get, slice_get-get_or, slice_get-map, Some, stale_alike, stands_at, stands_numbered, state_of, subst, suc, sym, tied_counted, true, unwrap_or-slice_get, waiting_state, WaitingPage, waits_there, ℕ, ◌&&◌, ◌-◌, ◌<◌, ◌==◌, ◌∙◌, ◌∷◌, ◌≡◌}
+use Rattle.ksm_pages.proofs.Names.{[], Ahead, All, ap, AreAllListed, AreDups, AreTied, AreWaiting, arith, At, Bool, cases_Bool, comes_before, cond, Contains, Contains-from_any, Dup, dup_at, dup_numbered, dup_of, DupRow, DupsState, each_has_number, End, false, filter, find, find_all, found_passing, get_or, GuestPage, has_items, Held, held_at, inl, InPageOrder, InPlaceOrder, inr, is_live, is_some, is_stale, items_in, items_of, Kind, Knobs, last_or, last_page, length, length-map, List, list_any, live_placed, lodging, lodgings_of, map, merged_into, None, not, Option, option_and_then, option_map, pages_ahead, passing, Reaches, refl, Row, row_at, rows_between, rows_of, same_page, same_page_eq, shared_state, slice_get, slice_get-get_or, slice_get-map, Some, stale_alike, stands_at, stands_numbered, state_of, sym, tied_counted, true, unwrap_or-slice_get, waiting_state, WaitingPage, waits_there, ℕ, ◌&&◌, ◌<◌, ◌==◌, ◌∙◌, ◌∷◌, ◌≡◌}
 use Rattle.std.proofs.Common.{unwrap_or}
 use Rattle.ksm_base.specs.Rows.{is_stale as is_stale_row}
 use Rattle.ksm_tree.specs.Dups.{rows_of as dup_rows}
 use Rattle.ksm_tree.proofs.Changes.{row_found as dup_row_found}
-use Rattle.ksm_pages.specs.declared.row.Kind.TheVariants as kinds
 use Rattle.ksm_pages.specs.Held.{frame_of}
 use Rattle.ksm_pages.specs.Paged.{ComesTo, frame_of as lies_at, is_restless}
 use Rattle.ksm_tree.proofs.Alike.{filter_mapped}
@@ -18,16 +17,12 @@ use Rattle.ksm_pages.proofs.Lodgings.{frame_by, seat}
 
 -- a page has a row among the rows exactly where something is held of it
 pub row_known : (page : GuestPage) (held : List Held) → is_some (held_at page held) ≡ is_some (row_at page (rows_of held))
-row_known page held = sym (some_mapped (λ (h : Held). h.row) _) ∙ ap is_some (sym (row_found page _))
+row_known page held = grind (arith, some_mapped, row_found)
 
 -- a row is shared exactly where it has no frame of its own
 pub shared_by : {b : Bool} (kind : Kind) (number pass at : ℕ) → not b ≡ is_some (frame_of kind at)
     → b ≡ shared_state (state_of kind number pass)
-shared_by kind number pass at is = grind (arith, nat_tests, is)
-
--- a row with a frame of its own lies on it
-pub lies_own : (of_dup : ℕ → Option ℕ) (number pass : ℕ) {at : ℕ} → Some at ≡ frame_seen of_dup (state_of kinds.Own number pass) (Some at)
-lies_own of_dup number pass = grind (arith, nat_tests)
+shared_by kind number pass at is = grind arith
 
 -- where no row waits, the waiting pages are right for any knobs
 pub knobs_free : (knobs tuned : Knobs) (rows : List Row) (w : List WaitingPage) → AreWaiting knobs rows w → All (λ r. waiting_state r.state ≡ false) rows → AreWaiting tuned rows w
@@ -35,9 +30,7 @@ knobs_free knobs tuned rows w are still t b q = are t b q ∙ go _ refl
   where
     go : (o : Option Row) → row_at q rows ≡ o → waits_there knobs t b o ≡ waits_there tuned t b o
     go None found = refl
-    go (Some r) found =
-        let alone = find_all _ (λ s. waiting_state s.state ≡ false) rows r found still in
-        grind (arith, alone)
+    go (Some r) found = grind (arith, (find_all _ (λ s. waiting_state s.state ≡ false) rows r found still))
 
 -- ---------------------------------------------------------------- dups
 
@@ -132,21 +125,15 @@ page_of r = r.page
 
 -- visits that come to a page in a list of rows' pages come to the row of that page
 pub comes : (rows : List Row) (visits : ℕ) (to : Ahead) → Reaches (map page_of rows) visits to → ComesTo rows visits to
-comes rows visits (At page) is = (subst (λ n. visits < n) (length-map rows page_of) is.0, sym (slice_get-map page_of rows _) ∙ is.1)
+comes rows visits (At page) is = (rw (← length-map rows page_of) is.0, sym (slice_get-map page_of rows _) ∙ is.1)
 comes rows visits (End made) is = (is.0 ∙ length-map rows page_of, is.1)
 
 -- the pages behind a cursor and before a page are those of the rows there
 pub passed : (cursor : Option GuestPage) (page : GuestPage) (rows : List Row) → filter (λ p. comes_before p page) (pages_ahead cursor rows) ≡ map page_of (rows_between cursor page rows)
-passed cursor page rows = filter_mapped _ (λ p. comes_before p page) (λ r. comes_before r.page page) _ (λ k d lt. refl)
-
-one_less : (n : ℕ) → suc n - 1 ≡ n
-one_less n = omega arith
+passed cursor page rows = grind (arith, filter_mapped)
 
 -- the last of the pages, or the cursor, is the page of the last row, or the cursor
 pub last_is : (cursor : Option GuestPage) (rows : List Row) → last_or cursor (map page_of rows) ≡ last_page cursor rows
 last_is cursor [] = refl
 last_is cursor (r ∷ []) = refl
-last_is cursor (r ∷ s ∷ rows) =
-    let pages = s.page ∷ map page_of rows in
-    let many = length (map page_of rows) in
-    ap (λ n. option_or (slice_get (r.page ∷ pages) n) cursor) (one_less (suc many)) ∙ ap (λ n. option_or (slice_get pages n) cursor) (sym (one_less many)) ∙ last_is cursor (s ∷ rows)
+last_is cursor (r ∷ s ∷ rows) = grind (arith, last_is cursor (s ∷ rows))

@@ -1,5 +1,5 @@
 -- The pages once two of them became the items of a new dup.
-use Rattle.ksm_pages.proofs.Names.{[], All, ap, ap₂, AreDups, AreKept, AreTied, AreWaiting, arith, at_others, cases_Bool, change_held, change_row, change_rows, cond, dup_numbered, DupRow, DupsState, Entry, false, find, find_all, frame_of, Frames, GuestPage, Held, held_at, held_of, inl, InPageOrder, InPlaceOrder, inr, Inside, is_live, IsStopped, length, length-set, let_out, lies_on, List, lodging, lodgings_of, mapped, MatchOption, MayPair, Merged, merged_into, None, not, Option, option_and_then, option_map, ordered_change, PagesValue, paired, place_kept, place_new, refl, Row, row_at, row_stopped, rows_new, rows_of, RowsView, same_page, same_page_eq, seen, set, slice_get, Some, stands_at, subst, suc, sym, tied_made, tree_of, true, with_dup, with_item, with_new, zero, ℕ, ◌&&◌, ◌+◌, ◌<◌, ◌==◌, ◌||◌, ◌∙◌, ◌∷◌, ◌≡◌, ◌≢◌, get_or-set_same, slice_get-get_or}
+use Rattle.ksm_pages.proofs.Names.{[], All, ap, ap₂, AreDups, AreKept, arith, at_others, cases_Bool, change_held, change_row, change_rows, dup_numbered, DupRow, DupsState, Entry, false, find, find_all, frame_of, Frames, GuestPage, Held, held_at, held_of, InPageOrder, InPlaceOrder, Inside, is_live, IsStopped, length, length-set, let_out, lies_on, List, lodging, lodgings_of, mapped, MatchOption, MayPair, Merged, merged_into, None, not, Option, option_and_then, option_map, ordered_change, PagesValue, paired, place_kept, place_new, refl, Row, row_at, row_stopped, rows_new, rows_of, RowsView, rules, same_page, same_page_eq, seen, set, slice_get, Some, stands_at, subst, suc, sym, tied_made, tree_of, true, with_dup, with_item, with_new, zero, ℕ, ◌&&◌, ◌+◌, ◌<◌, ◌==◌, ◌||◌, ◌∙◌, ◌∷◌, ◌≡◌, ◌≢◌, get_or-set_same, slice_get-get_or}
 use Rattle.std.specs.Vec.{with_item as with_frame}
 use Rattle.ksm_tree.specs.Dups.{rows_of as dup_rows}
 use Rattle.ksm_tree.proofs.Alike.{map_mapped}
@@ -33,10 +33,7 @@ module _ (dups : List DupRow) (dup : DupRow) (frames : List ℕ) (frame : ℕ) w
 
   -- a new dup has the frame that is written at its place
   pub lodged_new : All (λ d. d.number < dup.number) dups → dup.place < length frames → of_now dup.number ≡ Some frame
-  lodged_new fresh inside =
-      sym (kept_at_place (set frames dup.place frame) (dup_numbered dup.number (with_dup dup dups)))
-      ∙ ap (option_and_then (slice_get (set frames dup.place frame))) (place_new dup _ fresh)
-      ∙ set_there _ _ inside
+  lodged_new fresh inside = grind (arith, kept_at_place, place_new, set_there)
 
   -- a dup that stands elsewhere keeps its frame where one is written for a new dup
   pub lodged_kept : InPlaceOrder dups → (n : ℕ) → (n == dup.number) ≡ false
@@ -58,19 +55,7 @@ module _ (dups : List DupRow) (dup : DupRow) (frames : List ℕ) (frame : ℕ) w
 -- two changes of rows of two pages are one of both
 pub both_changed : (q p : GuestPage) (f : Row → Row) → ((r : Row) → (f r).page ≡ r.page) → same_page q p ≡ false → (rows : List Row)
     → change_row p f (change_row q f rows) ≡ change_rows (λ r. same_page r.page q || same_page r.page p) f rows
-both_changed q p f same apart rows =
-    map_mapped _ _ _ _ (λ k d lt. at _)
-  where
-    at : (r : Row) → (λ (x : Row). cond (same_page x.page p) (f x) x) (cond (same_page r.page q) (f r) r)
-        ≡ cond (same_page r.page q || same_page r.page p) (f r) r
-    at r = elim (cases_Bool _) [
-      | inl here ↦
-          let away = ap (λ x. same_page x p) (same r ∙ same_page_eq _ q here) ∙ apart in
-          ap (λ b. (λ (x : Row). cond (same_page x.page p) (f x) x) (cond b (f r) r)) here ∙ ap (λ b. cond b (f (f r)) (f r)) away
-          ∙ ap (λ b. cond (b || same_page r.page p) (f r) r) (sym here)
-      | inr other ↦ ap (λ b. (λ (x : Row). cond (same_page x.page p) (f x) x) (cond b (f r) r)) other
-          ∙ ap (λ b. cond (b || same_page r.page p) (f r) r) (sym other)
-    ]
+both_changed q p f same apart rows = grind (arith, map_mapped, cases_Bool, same_page_eq)
 
 -- two pages have rows, of which something is so
 abbrev IsOfBoth : (Row → Row → Type 0) → Option Row → Option Row → Type 0
@@ -80,7 +65,7 @@ module _ (s : Inside) {p : PagesValue} (seen_as : view_of s ≡ p) (place : ℕ)
     (may : IsOfBoth (MayPair (seen p) place) (row_at first p.rows) (row_at second p.rows)) where
   may_first : {o : Option Held} → held_at first s.rows.held ≡ o
       → IsOfBoth (MayPair (seen p) place) (option_map (λ h. h.row) o) (row_at second p.rows)
-  may_first is = subst (λ r. IsOfBoth (MayPair (seen p) place) r (row_at second p.rows)) (row_seen s seen_as _ is) may
+  may_first is = search (rules, row_seen)
 
   -- the first of two pages that may pair is held
   pub first_there : held_at first s.rows.held ≡ None → true ≡ false
@@ -88,11 +73,7 @@ module _ (s : Inside) {p : PagesValue} (seen_as : view_of s ≡ p) (place : ℕ)
 
   -- the second of two pages that may pair is held
   pub second_there : held_at second s.rows.held ≡ None → true ≡ false
-  second_there gone = go (held_at first s.rows.held) refl
-    where
-      go : (o : Option Held) → held_at first s.rows.held ≡ o → true ≡ false
-      go None is = first_there is
-      go (Some a) is = subst (IsOfBoth (MayPair (seen p) place) (Some a.row)) (row_seen s seen_as _ gone) (may_first is)
+  second_there gone = grind (arith, first_there, row_seen, may_first)
 
   -- and the rows may become items
   may_both : {a b : Held} → held_at first s.rows.held ≡ Some a → held_at second s.rows.held ≡ Some b
@@ -176,7 +157,7 @@ module _ {s : Inside} {p : PagesValue} {place : ℕ} {first second : GuestPage} 
 
   -- the second of two pages that can pair lies on the frame of its own
   pub lay_second : frame_of p.lodgings second ≡ Some other.at
-  lay_second = sym (lies s are _ it.also it.seen_as) ∙ own_seat _ pass other may.second_alone
+  lay_second = grind (arith, lies, own_seat)
 
   module _ {tree : ℕ} (in_tree : (r : Row) → r.home ≡ other.home → tree ≡ tree_of s.knobs r) {made between later : DupsState}
       (is_made : made ≡ with_pair (record { number = s.dups.next; place = place; tree = tree; bytes = b.row.bytes }) first second s.dups)
@@ -204,25 +185,18 @@ module _ {s : Inside} {p : PagesValue} {place : ℕ} {first second : GuestPage} 
     -- ---------------------------------------------------------------- the dups
 
     now_dups : later.dups ≡ with_new (record { row = dup; items = with_item b.row.page (a.row.page ∷ []) }) s.dups.dups
-    now_dups =
-        (λ i. (out_too i).dups) ∙ let_out_alone _ _ may.second_alone
-        ∙ (λ i. (out i).dups) ∙ let_out_alone _ _ may.first_alone
-        ∙ (λ i. (is_made i).dups)
-        ∙ ap₂ (λ q r. with_new (record { row = dup; items = with_item r (q ∷ []) }) s.dups.dups) at_first at_second
+    now_dups = grind (arith, let_out_alone, at_first, at_second)
 
     now_rows : dup_rows later.dups ≡ with_dup dup (dup_rows s.dups.dups)
-    now_rows = ap dup_rows now_dups ∙ rows_new (record { row = dup; items = with_item b.row.page (a.row.page ∷ []) }) s.dups.dups
+    now_rows = grind (arith, now_dups, rows_new)
 
     -- ---------------------------------------------------------------- the rows
 
     now_held : rows.held ≡ change_held b.row.page into half
-    now_held =
-        (λ i. (turned i).held)
-        ∙ ap (λ n. both_merged n first second s.rows.held) is_number
-        ∙ ap₂ (λ q r. both_merged s.dups.next q r s.rows.held) at_first at_second
+    now_held = grind (arith, at_first, at_second)
 
     found_first : held_at a.row.page s.rows.held ≡ Some a
-    found_first = ap (λ q. held_at q s.rows.held) (sym at_first) ∙ it.found
+    found_first = search (rules, at_first)
 
     found_second : held_at b.row.page half ≡ Some b
     found_second =
@@ -236,7 +210,7 @@ module _ {s : Inside} {p : PagesValue} {place : ℕ} {first second : GuestPage} 
     both_rows = ap rows_of now_held ∙ rows_changed _ _ _ _ (λ h. refl)
 
     half_order : InPageOrder (rows_of half)
-    half_order = subst InPageOrder (sym half_rows) (ordered_change _ _ _ (λ r. refl) are.order)
+    half_order = rw half_rows (ordered_change _ _ _ (λ r. refl) are.order)
 
     abbrev one_row : List Row
     one_row = change_row a.row.page (λ _. item a.row) before
@@ -251,15 +225,12 @@ module _ {s : Inside} {p : PagesValue} {place : ℕ} {first second : GuestPage} 
     pub lawful_paired : AreKept s.shape s.knobs (rows_of rows.held) later (set s.frames.items place frame)
     lawful_paired = record {
       small = are.small;
-      order = subst InPageOrder (sym both_rows) (ordered_change _ _ _ (λ r. refl) half_order);
-      tied = subst (λ rs. AreTied rs later.dups) (sym whole)
-          (subst (AreTied (change_row b.row.page (λ _. item b.row) one_row)) (sym now_dups)
-          (tied_made _ _ _ _ are.order may.first_is may.second_is (own_not_merged _ may.first_alone)
+      order = rw both_rows (ordered_change _ _ _ (λ r. refl) half_order);
+      tied = rw whole (rw now_dups (tied_made _ _ _ _ are.order may.first_is may.second_is (own_not_merged _ may.first_alone)
           (own_not_merged _ may.second_alone) may.fresh _ lawful.numbers_below are.tied));
       places = (λ i. (out_too i).places) ∙ (λ i. (out i).places) ∙ (λ i. (is_made i).places)
           ∙ are.places;
-      waits = subst (λ rs. AreWaiting s.knobs rs later.waiting) (sym whole) (row_stopped s.knobs _ _
-          (row_stopped s.knobs _ _ are.waits _ _ _ may.first_is refl
+      waits = rw whole (row_stopped s.knobs _ _ (row_stopped s.knobs _ _ are.waits _ _ _ may.first_is refl
           (subst (λ w. IsStopped s.knobs a.row w between.waiting) (λ i. (is_made i).waiting) stopped))
           _ _ _ (at_others _ b.row.page before may.apart ∙ may.second_is) refl stopped_too);
       room = length-set s.frames.items place frame ∙ are.room;
@@ -271,7 +242,7 @@ module _ {s : Inside} {p : PagesValue} {place : ℕ} {first second : GuestPage} 
     of_new = lodging (dup_rows later.dups) (set s.frames.items place frame)
 
     of_with : of_new ≡ lodging (with_dup dup (dup_rows s.dups.dups)) (set s.frames.items place frame)
-    of_with = ap (λ ds. lodging ds (set s.frames.items place frame)) now_rows
+    of_with = search (rules, now_rows)
 
     abbrev lay : Frames
     lay = frame_of (lodgings_of (of_dup s) s.rows.held)
@@ -282,7 +253,7 @@ module _ {s : Inside} {p : PagesValue} {place : ℕ} {first second : GuestPage} 
     new_frame : of_new s.dups.next ≡ Some frame
     new_frame =
         ap (λ of. of s.dups.next) of_with
-        ∙ lodged_new _ _ _ _ lawful.numbers_below (subst (λ n. place < n) (sym are.room) may.inside)
+        ∙ lodged_new _ _ _ _ lawful.numbers_below (rw are.room may.inside)
 
     others : frame_of (lodgings_of of_new s.rows.held) ≡ lay
     others =
@@ -318,6 +289,4 @@ module _ {s : Inside} {p : PagesValue} {place : ℕ} {first second : GuestPage} 
         IsOfBoth (λ r t. now ≡ paired place r t (seen p)) (row_at first p.rows) (row_at second p.rows)
     told_paired =
         let now = seen (view_of (record s { rows = rows; dups = later; frames = with_frame s.frames place frame })) in
-        let is = told ∙ ap (λ v. paired place a.row b.row (seen v)) it.seen_as in
-        subst (λ o. IsOfBoth (λ r t. now ≡ paired place r t (seen p)) o (row_at second p.rows)) (sym (row_seen s it.seen_as _ it.found))
-        (subst (IsOfBoth (λ r t. now ≡ paired place r t (seen p)) (Some a.row)) (sym (row_seen s it.seen_as _ it.also)) is)
+        rw (row_seen s it.seen_as _ it.found) (rw (row_seen s it.seen_as _ it.also) (told ∙ ap (λ v. paired place a.row b.row (seen v)) it.seen_as))

@@ -1,5 +1,5 @@
 -- The pages in order as the items that are kept for them: what stands before a key, what comes behind it, and in between.
-use Rattle.ksm_pages.proofs.Names.{[], ahead_of, All, All-cons, All-head, All-tail, ap, ap₂, arith, Bool, cases_Bool, cases_lt, comes_before, count_by, drop, eqb-true, false, filter, filter_all, filter_none, find, get_or, GuestPage, if◌then◌else◌, inl, inr, is_of, is_some, key_of, length, length-filter, length-map, List, map, map-append, marked, Named, named_by, nat_lt, nat_tests, None, none-some, not, Option, option_map, page_at, page_of, pairs_head, pairs_tail, passed_to, refl, same_Some, slice_get, slice_get-map, slice_get_past, Some, subst, suc, sym, take, true, true≢false, visited, with_named, without_named, zero, ℕ, ◌&&◌, ◌++◌, ◌+◌, ◌-◌, ◌<◌, ◌^◌, ◌∙◌, ◌∷◌, ◌≡◌, ◌≤◌}
+use Rattle.ksm_pages.proofs.Names.{[], ahead_of, All, All-cons, All-head, All-tail, ap, ap₂, arith, Bool, cases_Bool, cases_lt, comes_before, count_by, drop, eqb-true, false, filter, filter_all, filter_none, find, get_or, GuestPage, if◌then◌else◌, inl, inr, is_of, is_some, key_of, length, length-filter, length-map, List, map, map-append, marked, Named, named_by, nat_lt, None, none-some, not, Option, option_map, page_at, page_of, pairs_head, pairs_tail, passed_to, refl, same_Some, slice_get, slice_get-map, slice_get_past, Some, suc, sym, take, true, visited, with_named, without_named, zero, ℕ, ◌&&◌, ◌++◌, ◌+◌, ◌-◌, ◌<◌, ◌^◌, ◌∙◌, ◌∷◌, ◌≡◌, ◌≤◌}
 use Rattle.std.proofs.lemmas.List.{drop-map, length-drop, length-take-le, nil_from_length, take-map}
 use Rattle.std.proofs.lemmas.List.Kept.{AllPairs-filter}
 use Rattle.ksm_base.proofs.Edits.{count_more}
@@ -15,16 +15,13 @@ use Rattle.ksm_order.proofs.Parts.{up_to_few}
 
 module _ (page : GuestPage) (few : page.page < 2 ^ 32) where
   pub is_its : (x : Item) → is_of page (named_by x) ≡ is_at (key_of page) x
-  is_its x = grind (arith, nat_tests)
+  is_its x = grind arith
 
   pub before_its : (x : Item) → comes_before (named_by x).page page ≡ nat_lt x.key (key_of page)
-  before_its x = grind (arith, nat_tests)
+  before_its x = grind arith
 
   pub behind_its : (x : Item) → comes_before page (named_by x).page ≡ nat_lt (key_of page) x.key
-  behind_its x = grind (arith, nat_tests)
-
-  pub from_its : (x : Item) → comes_before page (named_by x).page ≡ is_from (key_of page + 1) x
-  from_its x = grind (arith, nat_tests)
+  behind_its x = grind arith
 
   pub page_is : page_of (key_of page) ≡ page
   page_is = grind arith
@@ -37,14 +34,11 @@ Less x y = x.key < y.key
 -- a search for a page finds what a search for its key finds
 pub found_by : (page : GuestPage) → page.page < 2 ^ 32 → (items : List Item)
     → find (is_of page) (map named_by items) ≡ option_map named_by (find (is_at (key_of page)) items)
-found_by page few items = find_mapped named_by (is_of page) _ _ (λ k d lt. is_its _ few (get_or items k d))
+found_by page few items = grind (arith, find_mapped, is_its)
 
 pub absent_by : (page : GuestPage) → page.page < 2 ^ 32 → (items : List Item) → find (is_of page) (map named_by items) ≡ None
     → find (is_at (key_of page)) items ≡ None
-absent_by page few items absent = go _ (sym (found_by _ few _) ∙ absent)
-  where
-    go : (o : Option Item) → option_map named_by o ≡ None → o ≡ None
-    go o is = grind (arith, nat_tests, is)
+absent_by page few items absent = grind (arith, found_by)
 
 pub with_by : {page : GuestPage} → page.page < 2 ^ 32 → (x : Item) → x.key ≡ key_of page → {n : Named} → named_by x ≡ n → n.page ≡ page → (items : List Item)
     → with_named n (map named_by items) ≡ map named_by (with_item x items)
@@ -58,8 +52,7 @@ with_by few x at is of items =
 
 pub without_by : (page : GuestPage) → page.page < 2 ^ 32 → (items : List Item)
     → without_named page (map named_by items) ≡ map named_by (without (key_of page) items)
-without_by page few items =
-    filter_mapped named_by (λ m. not (is_of page m)) (λ x. not (is_at (key_of page) x)) _ (λ k d lt. ap not (is_its _ few (get_or items k d)))
+without_by page few items = grind (arith, filter_mapped, is_its)
 
 pub marked_by : (page : GuestPage) → page.page < 2 ^ 32 → (mark : Bool) → (items : List Item)
     → marked page mark (map named_by items) ≡ map named_by (with_mark (key_of page) mark items)
@@ -76,7 +69,7 @@ marked_by page few mark items =
 -- ---------------------------------------------------------------- those that a scan visits
 
 pub visited_by : (items : List Item) → visited (map named_by items) ≡ map named_by (kept_marked items)
-visited_by items = filter_mapped _ (λ n. n.mergeable) (λ x. x.marked) items (λ k d lt. refl)
+visited_by items = grind (arith, filter_mapped)
 
 -- where items are in order, those that are marked and do not come before a key are the marked ones but for as many as come before
 module _ (key : ℕ) where
@@ -88,16 +81,15 @@ module _ (key : ℕ) where
       elim (cases_Bool x.marked) [
         | inl is ↦ elim (cases_lt x.key key) [
           | inl less ↦
-              let n : up_to key (x ∷ xs) ≡ suc (up_to key xs) = grind (arith, nat_tests) in
-              let fails : (x.marked && is_from key x) ≡ false = grind (arith, nat_tests) in
+              let n : up_to key (x ∷ xs) ≡ suc (up_to key xs) = grind arith in
               let all : kept_marked (x ∷ xs) ≡ x ∷ kept_marked xs = grind arith in
-              let kept : filter (λ y. y.marked && is_from key y) (x ∷ xs) ≡ filter (λ y. y.marked && is_from key y) xs = grind (arith, fails) in
+              let kept : filter (λ y. y.marked && is_from key y) (x ∷ xs) ≡ filter (λ y. y.marked && is_from key y) xs = grind arith in
               kept ∙ rest ∙ sym (ap₂ (λ m ys. drop m ys) n all)
           | inr more ↦
               let later : All (λ y. key ≤ y.key) xs = λ k d lt. let up = pairs_head Less x xs rise k d lt in omega (arith, up) in
               let none = up_to_behind key xs later in
-              let n : up_to key (x ∷ xs) ≡ 0 = grind (arith, nat_tests) in
-              let passes : (x.marked && is_from key x) ≡ true = grind (arith, nat_tests) in
+              let n : up_to key (x ∷ xs) ≡ 0 = grind arith in
+              let passes : (x.marked && is_from key x) ≡ true = grind arith in
               let all : kept_marked (x ∷ xs) ≡ x ∷ kept_marked xs = grind arith in
               let kept : filter (λ y. y.marked && is_from key y) (x ∷ xs) ≡ x ∷ filter (λ y. y.marked && is_from key y) xs = grind (arith, passes) in
               kept ∙ ap (λ ys. x ∷ ys) (rest ∙ ap (λ m. drop m (kept_marked xs)) none) ∙ sym (ap₂ (λ m ys. drop m ys) n all)
@@ -121,9 +113,8 @@ module _ (key : ℕ) where
       elim (cases_Bool x.marked) [
         | inl is ↦
             let all : kept_marked (x ∷ xs) ≡ x ∷ kept_marked xs = grind arith in
-            let more = count_more below x (kept_marked xs) in
             let same : (x.marked && nat_lt x.key key) ≡ below x = grind arith in
-            counts ∙ ap₂ (λ b m. (if b then 1 else 0) + m) same rest ∙ sym (ap (count_by below) all ∙ more)
+            counts ∙ ap₂ (λ b m. (if b then 1 else 0) + m) same rest ∙ sym (ap (count_by below) all ∙ count_more below x (kept_marked xs))
         | inr other ↦
             let all : kept_marked (x ∷ xs) ≡ kept_marked xs = grind arith in
             let n : up_to key (x ∷ xs) ≡ up_to key xs = grind arith in
@@ -131,24 +122,20 @@ module _ (key : ℕ) where
       ]
 
   nothing_below : (x : Item) (xs : List Item) → AreAscending (x ∷ xs) → key ≤ x.key → All (λ y. below y ≡ false) xs
-  nothing_below x xs rise more k d lt = let up = pairs_head Less x _ rise k d lt in grind (arith, nat_tests, up)
+  nothing_below x xs rise more k d lt = grind (arith, pairs_head Less x _ rise k d lt)
 
   -- where items are in order, those before a key stand first
   kept_first : (xs : List Item) → AreAscending xs → filter below xs ≡ take (count_by below xs) xs
   kept_first [] rise = refl
   kept_first (x ∷ xs) rise =
-      let rest = kept_first xs (pairs_tail Less x xs rise) in
-      let counts = count_more below x xs in
       elim (cases_lt x.key key) [
         | inl less ↦
-            let n : count_by below (x ∷ xs) ≡ suc (count_by below xs) = grind (arith, nat_tests, less, counts) in
-            let kept : filter below (x ∷ xs) ≡ x ∷ filter below xs = grind (arith, nat_tests) in
-            kept ∙ ap (λ ys. x ∷ ys) rest ∙ sym (ap (λ m. take m (x ∷ xs)) n)
+            let n : count_by below (x ∷ xs) ≡ suc (count_by below xs) = grind (arith, less, count_more below x xs) in
+            let kept : filter below (x ∷ xs) ≡ x ∷ filter below xs = grind arith in
+            kept ∙ ap (λ ys. x ∷ ys) (kept_first xs (pairs_tail Less x xs rise)) ∙ sym (ap (λ m. take m (x ∷ xs)) n)
         | inr more ↦
-            let all = All-cons (λ y. below y ≡ false) x xs (grind (arith, nat_tests)) (nothing_below x _ rise more) in
-            let none = filter_none below (x ∷ xs) all in
-            let n = sym (length-filter below (x ∷ xs)) ∙ ap length none in
-            none ∙ sym (ap (λ m. take m (x ∷ xs)) n)
+            let none = filter_none below (x ∷ xs) (All-cons (λ y. below y ≡ false) x xs (grind arith) (nothing_below x _ rise more)) in
+            none ∙ sym (ap (λ m. take m (x ∷ xs)) (sym (length-filter below (x ∷ xs)) ∙ ap length none))
       ]
 
   abbrev nothing : List Item
@@ -163,22 +150,20 @@ module _ (key : ℕ) where
   kept_between zero xs rise = kept_first _ rise ∙ ap (λ m. take m xs) (omega arith)
   kept_between (suc n) [] rise = take_none _
   kept_between (suc n) (x ∷ xs) rise =
-      let rest = kept_between n xs (pairs_tail Less x _ rise) in
       let counts = count_more below x xs in
       let same : count_by below (x ∷ xs) - suc n ≡ count_by below xs - n = elim (cases_lt x.key key) [
-        | inl less ↦ let m : count_by below (x ∷ xs) ≡ 1 + count_by below xs = grind (arith, nat_tests) in omega arith
+        | inl less ↦ let m : count_by below (x ∷ xs) ≡ 1 + count_by below xs = grind arith in omega arith
         | inr more ↦
-            let m : count_by below (x ∷ xs) ≡ count_by below xs = grind (arith, nat_tests) in
-            let none = sym (length-filter below xs) ∙ ap length (filter_none below _ (nothing_below x _ rise more)) in
-            omega (arith, none)
+            let m : count_by below (x ∷ xs) ≡ count_by below xs = grind arith in
+            omega (arith, sym (length-filter below xs) ∙ ap length (filter_none below _ (nothing_below x _ rise more)))
       ] in
-      rest ∙ ap (λ m. take m (drop n xs)) (sym same)
+      kept_between n xs (pairs_tail Less x _ rise) ∙ ap (λ m. take m (drop n xs)) (sym same)
 
 -- the pages of items in order are in order
 pub rises_by : (items : List Item) → AreAscending items → AreInOrder (map named_by items)
 rises_by items rise =
     pairs_mapped Less (λ (m n : Named). comes_before m.page n.page ≡ true) (λ (x : Item). x.key ≡ x.key) _
-    (λ a b _ _ less. grind (arith, nat_tests)) items (λ k d lt. refl) rise
+    (λ a b _ _ less. grind arith) items (λ k d lt. refl) rise
 
 -- one item more
 pub longer_by : (n : Named) (x : Item) (items : List Item) → AreAscending items → find (is_of n.page) (map named_by items) ≡ None
@@ -197,9 +182,7 @@ some_at (x ∷ xs) (suc n) lt none = some_at xs n (omega arith) none
 pub get_dropped : {X : Type 0} (n k : ℕ) (xs : List X) → slice_get (drop n xs) k ≡ slice_get xs (n + k)
 get_dropped zero k xs = ap (slice_get xs) (omega arith)
 get_dropped (suc n) k [] = slice_get_past [] k (omega arith) ∙ sym (slice_get_past [] (suc n + k) (omega arith))
-get_dropped (suc n) k (x ∷ xs) =
-    let place : suc n + k ≡ suc (n + k) = omega arith in
-    get_dropped n k xs ∙ sym (ap (slice_get (x ∷ xs)) place)
+get_dropped (suc n) k (x ∷ xs) = grind (arith, get_dropped n k xs)
 
 pub get_taken : {X : Type 0} (m k : ℕ) (xs : List X) → k < m → slice_get (take m xs) k ≡ slice_get xs k
 get_taken zero k xs lt = absurd (omega arith)
@@ -214,17 +197,17 @@ page_by (Some x) = refl
 
 -- a key at a place is that of one of the items
 pub small_at : (P : ℕ → Type 0) (xs : List Item) (place : ℕ) {key : ℕ} → All (λ x. P x.key) xs → key_at xs place ≡ Some key → P key
-small_at P [] place all is = absurd (none-some _ (sym (ap (option_map (λ (x : Item). x.key)) (slice_get_past [] place (omega arith))) ∙ is))
-small_at P (x ∷ xs) zero all is = subst P (same_Some _ _ is) (All-head (λ y. P y.key) x _ all)
+small_at P [] place all is = absurd (grind arith)
+small_at P (x ∷ xs) zero all is = rw (← same_Some _ _ is) (All-head (λ y. P y.key) x _ all)
 small_at P (x ∷ xs) (suc n) all is = small_at P xs n (All-tail (λ y. P y.key) x _ all) is
 
 -- without an item that is there, the list has one fewer
 pub gone_one : (key : ℕ) (xs : List Item) → AreAscending xs → is_some (find (is_at key) xs) ≡ true → length (without key xs) + 1 ≡ length xs
-gone_one key [] rise there = absurd (true≢false (sym there))
+gone_one key [] rise there = absurd (grind arith)
 gone_one key (x ∷ xs) rise there = elim (cases_Bool _) [
   | inl is ↦
       let at = eqb-true x.key key is in
-      let others = filter_all (λ y. not (is_at key y)) xs (λ k d lt. let up = pairs_head Less x xs rise k d lt in grind (arith, nat_tests, up, at)) in
+      let others = filter_all (λ y. not (is_at key y)) xs (λ k d lt. let up = pairs_head Less x xs rise k d lt in grind (arith, up, at)) in
       let kept : without key (x ∷ xs) ≡ without key xs = grind arith in
       omega (arith, ap length kept, ap length others)
   | inr other ↦
@@ -242,11 +225,7 @@ module _ (items : List Item) {now : List Named} (seen_as : map named_by items �
   visited_many = ap length visited_is ∙ length-map (kept_marked items) named_by ∙ length-filter (λ (x : Item). x.marked) items
 
   pub visited_at : (place key : ℕ) → key_at (kept_marked items) place ≡ Some key → page_at (visited now) place ≡ Some (page_of key)
-  visited_at place key is =
-      ap (λ ns. page_at ns place) visited_is
-      ∙ ap (option_map (λ n. n.page)) (slice_get-map named_by _ place)
-      ∙ page_by _
-      ∙ ap (option_map page_of) is
+  visited_at place key is = grind (arith, visited_is, slice_get-map, page_by)
 
   -- those behind a cursor and before a page, where it is known how many visited ones come before each
   module _ (cursor : Option GuestPage) (page : GuestPage) (few : page.page < 2 ^ 32) (rise : AreAscending items)
@@ -271,7 +250,4 @@ module _ (items : List Item) {now : List Named} (seen_as : map named_by items �
 
     pub passed_last : passed < before → (key : ℕ) → key_at (kept_marked items) (before - 1) ≡ Some key
         → page_at (passed_to cursor page now) (length (passed_to cursor page now) - 1) ≡ Some (page_of key)
-    passed_last some key is =
-        ap₂ (λ ns n. page_at ns (n - 1)) passed_is passed_many
-        ∙ ap (option_map (λ n. n.page)) (get_taken (before - passed) (before - passed - 1) _ (omega arith) ∙ get_dropped _ _ (visited now))
-        ∙ ap (page_at (visited now)) (omega arith) ∙ visited_at (before - 1) key is
+    passed_last some key is = grind (arith, passed_is, passed_many, get_taken, get_dropped, visited_at)

@@ -1,5 +1,5 @@
 -- What is read of the rows along their order.
-use Rattle.ksm_pages.proofs.Names.{after_cursor, Ahead, ahead_of, All, All-filter, ap, ap₂, AreAscending, AreFiled, At, Bool, comes_before, ComesTo, count_by, End, Entry, filter, find, find_all, get, GuestPage, held_in, held_under, last_or, length-map, List, map, Named, None, Option, option_map, option_or, pages_ahead, passed_to, Reaches, refl, Row, rows_of, Slab, slice_get, slice_get-map, Some, subst, sym, ℕ, ◌&&◌, ◌-◌, ◌<◌, ◌∙◌, ◌≡◌}
+use Rattle.ksm_pages.proofs.Names.{after_cursor, Ahead, ahead_of, All, All-filter, ap, ap₂, AreAscending, AreFiled, arith, At, Bool, comes_before, ComesTo, count_by, End, Entry, filter, find, find_all, get, GuestPage, held_in, held_under, last_or, length-map, List, map, Named, None, Option, option_map, option_or, pages_ahead, passed_to, Reaches, refl, Row, rows_of, Slab, slice_get, slice_get-map, Some, sym, ℕ, ◌&&◌, ◌-◌, ◌∙◌, ◌≡◌}
 use Rattle.ksm_pages.specs.Ordered.{last_or as last_named}
 use Rattle.ksm_tree.proofs.Alike.{count_mapped, filter_mapped, find_mapped, map_mapped}
 use Rattle.ksm_pages.proofs.Filing.{all_stand, flag_under, page_under}
@@ -9,7 +9,7 @@ page_of n = n.page
 
 -- visits that come to a name of the order reach the page of that name
 pub reached : (ahead : List Named) (visits : ℕ) (to : Ahead) → ComesTo ahead visits to → Reaches (map page_of ahead) visits to
-reached ahead visits (At page) comes = (subst (λ n. visits < n) (sym (length-map ahead page_of)) comes.0, slice_get-map page_of ahead _ ∙ comes.1)
+reached ahead visits (At page) comes = (rw (length-map ahead page_of) comes.0, slice_get-map page_of ahead _ ∙ comes.1)
 reached ahead visits (End made) comes = (comes.0 ∙ sym (length-map ahead page_of), comes.1)
 
 -- the last page of named pages, or the cursor, is the last of their pages, or the cursor
@@ -56,6 +56,4 @@ module _ (pass : ℕ) (slab : Slab Entry) (order : List Named) (rise : AreAscend
 
   -- the pages that a scan has behind a cursor and before a page are the same in the rows and in the order
   pub between_by : (cursor : Option GuestPage) (page : GuestPage) → filter (λ p. comes_before p page) (pages_ahead cursor (rows_of (held_in pass slab order))) ≡ map page_of (passed_to cursor page order)
-  between_by cursor page =
-      ap (filter (λ p. comes_before p page)) (ahead_by _)
-      ∙ filter_mapped _ (λ p. comes_before p page) (λ n. comes_before n.page page) _ (λ k d lt. refl)
+  between_by cursor page = grind (arith, ahead_by, filter_mapped)

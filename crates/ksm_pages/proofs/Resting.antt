@@ -1,5 +1,5 @@
 -- Rows that wait no more, and the row of a page that has one.
-use Rattle.ksm_pages.proofs.Names.{All, ap, arith, bytes_eq, false, frame_seen, get_or, GuestPage, Held, held_at, Inside, IsKnown, let_go, List, map, Merged, merged_into, nat_tests, None, Option, PageState, PagesValue, Private, private_state, refl, Row, settled, settled_state, shared_state, Some, stored, true, true≢false, unshared, Waiting, waiting_state, Zero, ℕ, ◌&&◌, ◌≡◌}
+use Rattle.ksm_pages.proofs.Names.{All, arith, bytes_eq, false, frame_seen, GuestPage, Held, held_at, Inside, IsKnown, let_go, List, map, Merged, merged_into, None, Option, PageState, PagesValue, Private, private_state, refl, Row, settled, settled_state, shared_state, Some, stored, true, true≢false, unshared, Waiting, waiting_state, Zero, ℕ, ◌&&◌, ◌≡◌}
 use Rattle.ksm_tree.proofs.Alike.{map_alike}
 use Rattle.ksm_pages.proofs.Leaving.{known_there, view_of}
 
@@ -7,11 +7,11 @@ use Rattle.ksm_pages.proofs.Leaving.{known_there, view_of}
 pub settled_by : {X : Type 0} (p q : PageState → X) → p Private ≡ q Private → p Private ≡ q Waiting → ((n : ℕ) → p (Merged n) ≡ q (Merged n))
     → p Zero ≡ q Zero
     → (s : PageState) → p (settled_state s) ≡ q s
-settled_by p q own waits merged zero_too s = grind (arith, nat_tests, own, waits, merged, zero_too)
+settled_by p q own waits merged zero_too s = grind arith
 
 -- a row with a frame of its own is Private once it is settled
 pub rests : (state : PageState) → shared_state state ≡ false → settled_state state ≡ Private
-rests state alone = grind (arith, nat_tests, alone)
+rests state alone = grind arith
 
 -- a row with these bytes; it stays unchanged only where they are those that it had
 abbrev pub put_bytes : List ℕ → Row → Row
@@ -19,16 +19,16 @@ put_bytes bytes r = record r { bytes = bytes; unchanged = r.unchanged && bytes_e
 
 -- a store to a row with a frame of its own settles the row and writes its bytes
 pub stored_settled : (bytes : List ℕ) (r : Row) → shared_state r.state ≡ false → put_bytes bytes (settled r) ≡ stored bytes r
-stored_settled bytes r alone = grind (arith, nat_tests, alone)
+stored_settled bytes r alone = grind arith
 
 -- a row with a frame of its own is let go where it is settled, and neither unchanged nor mergeable
 pub went : (r : Row) → shared_state r.state ≡ false → record (settled r) { unchanged = false; mergeable = false } ≡ let_go r
-went r alone = λ i. record r { mergeable = false; unchanged = false; state = rests _ alone i }
+went r alone = grind arith
 
 -- where a page lies does not hang on whether it waits
 pub lies_settled : (of_dup : ℕ → Option ℕ) (state : PageState) (own : Option ℕ)
     → frame_seen of_dup (settled_state state) own ≡ frame_seen of_dup state own
-lies_settled of_dup state own = grind (arith, nat_tests)
+lies_settled of_dup state own = grind arith
 
 -- a state that is settled twice is the state settled once
 pub settled_again : (state : PageState) → settled_state (settled_state state) ≡ settled_state state
@@ -40,22 +40,21 @@ settled_still = settled_by waiting_state _ refl refl (λ n. refl) refl
 
 -- two states that settle to one are merged into the same dups
 pub item_alike : (number : ℕ) (a b : PageState) → settled_state a ≡ settled_state b → merged_into number a ≡ merged_into number b
-item_alike number a b like = grind (arith, nat_tests, like)
+item_alike number a b like = grind arith
 
 -- a page in two states that settle to one lies on the same frame
 pub lies_alike : (of_dup : ℕ → Option ℕ) (a b : PageState) (own : Option ℕ) → settled_state a ≡ settled_state b
     → frame_seen of_dup a own ≡ frame_seen of_dup b own
-lies_alike of_dup a b own like = grind (arith, nat_tests, like)
+lies_alike of_dup a b own like = grind arith
 
 -- rows with frames of their own are unshared where they are settled and not unchanged
 pub all_unshared : (rows : List Row) → All (λ r. shared_state r.state ≡ false) rows
     → map (λ r. record (settled r) { unchanged = false }) rows ≡ map unshared rows
-all_unshared rows alone =
-    map_alike _ _ _ (λ k d lt. ap (λ state. record (get_or rows k d) { unchanged = false; state = state }) (rests _ (alone k d lt)))
+all_unshared rows alone = grind (arith, map_alike, rests)
 
 -- a Private state is not Waiting
 pub private_still : (state : PageState) → private_state state ≡ true → waiting_state state ≡ false
-private_still state is = grind (arith, nat_tests, is)
+private_still state is = grind arith
 
 module _ (s : Inside) {p : PagesValue} (seen_as : view_of s ≡ p) (page : GuestPage) where
   -- a page that is known has a row that is held

@@ -1,5 +1,5 @@
 -- The rows once each entry was changed, or the next pass began.
-use Rattle.ksm_pages.proofs.Names.{[], ap, ap₂, AreFiled, AreListed, arith, Bool, CalledAt, cond, count_by, count_none, Entry, false, forgotten, get, get_or, has_item, Held, held_in, held_of, held_under, is_restless, IsRows, IsTally, List, Listing, map, Merged, MutBor, Named, named_of, nat_tests, None, on_row, Option, option_map, PageState, Private, refl, RetainsFrom, rows_of, settled, Slab, Some, subst, sym, Tally, true, Waiting, Zero, ℕ, ◌+◌, ◌∙◌, ◌∷◌, ◌≡◌, ◌≤◌, holds}
+use Rattle.ksm_pages.proofs.Names.{[], ap, ap₂, AreFiled, AreListed, arith, Bool, CalledAt, cond, count_by, count_none, Entry, false, forgotten, get, get_or, has_item, Held, held_in, held_of, held_under, is_restless, IsRows, IsTally, List, Listing, map, Merged, MutBor, Named, named_of, None, on_row, Option, option_map, PageState, Private, refl, RetainsFrom, rows_of, rules, settled, Slab, Some, subst, sym, Tally, true, Waiting, Zero, ℕ, ◌+◌, ◌∙◌, ◌∷◌, ◌≡◌, ◌≤◌, holds}
 use Rattle.ksm_pages.proofs.Options.{mapped_some}
 use Rattle.std.proofs.Math.ListN.{get_or-map}
 use Rattle.ksm_pages.specs.declared.row.Kind.TheVariants as kinds
@@ -52,18 +52,15 @@ tally_kept f same held are = record { merged = are.merged ∙ counts _; waiting 
 module _ {slab : Slab Entry} {order : List Named} {restless : Listing} {tally : Tally} {pass : ℕ} (are : IsRows slab order restless tally pass)
     (later : Slab Entry) (after : ℕ) (g : Entry → Entry) (all : (k : ℕ) → get later k ≡ option_map g (get slab k))
     (same : (e : Entry) → (g e).page ≡ e.page) (flag : (e : Entry) → (g e).mergeable ≡ e.mergeable) (kind : (e : Entry) → (g e).kind ≡ e.kind) where
-  named_all : (k : ℕ) → option_map (named_of k) (get later k) ≡ option_map (named_of k) (get slab k)
-  named_all k = grind (arith, nat_tests)
-
   -- once each entry is changed, but for its page, flag and kind, pages are named as their entries say
   pub all_filed : AreFiled later order
-  all_filed n = (λ h. named_all _ ∙ (are.filed n).0 h, λ h. (are.filed n).1 (sym (named_all _) ∙ h))
+  all_filed n = search rules
 
   -- what holds for each changed entry holds for all that stand once each entry is changed
   pub all_from : (P : Entry → Type 0) → ((k : ℕ) (e : Entry) → get slab k ≡ Some e → P (g e)) → (k : ℕ) (e : Entry) → get later k ≡ Some e → P e
   all_from P holds k e stands =
       let at = mapped_some _ _ (sym (all k) ∙ stands) in
-      subst P at.2 (holds k at.0 at.1)
+      rw (← at.2) (holds k at.0 at.1)
 
   -- once each entry is changed, the pages that a visit may change are listed still
   pub all_listed : restless.known ≡ true → AreListed later restless.pages
@@ -72,14 +69,14 @@ module _ {slab : Slab Entry} {order : List Named} {restless : Listing} {tally : 
       (λ k e stands may. ap (λ p. has_item p restless.pages) (same e) ∙ are.listed known k e stands (sym (restless_same e) ∙ may))
     where
       restless_same : (e : Entry) → is_restless (g e) ≡ is_restless e
-      restless_same e = grind (arith, nat_tests)
+      restless_same e = grind arith
 
   -- once each entry is changed so that its row is changed by f, all rows are changed by f
   pub all_seen : (f : Held → Held) → ((k : ℕ) (e : Entry) → get slab k ≡ Some e → held_of after (g e) ≡ f (held_of pass e)) → held_in after later order ≡ map f (held_in pass slab order)
   all_seen f is = sym (map_mapped _ _ _ _ (λ k d lt. at _ (all_stand slab _ are.ascending are.filed k d lt)))
     where
       at : (n : Named) → option_map (named_of n.key) (get slab n.key) ≡ Some n → f (held_under pass (get slab n.key)) ≡ held_under after (get later n.key)
-      at n stands = grind (arith, nat_tests, stands)
+      at n stands = grind arith
 
   -- once each entry is changed so that its row is settled, the rows are lawful, and none waits
   pub all_settled : ((k : ℕ) (e : Entry) → get slab k ≡ Some e → held_of after (g e) ≡ on_row settled (held_of pass e)) → ((k : ℕ) (e : Entry) → get slab k ≡ Some e → (g e).kind ≡ kinds.Own → (g e).number ≤ after) → 1 ≤ after
@@ -97,10 +94,10 @@ module _ {slab : Slab Entry} {order : List Named} {restless : Listing} {tally : 
   -- ---------------------------------------------------------------- the next pass
 
   itself : (k : ℕ) → get slab k ≡ option_map (λ (e : Entry). e) (get slab k)
-  itself k = grind (arith, nat_tests)
+  itself k = grind arith
 
   settled_next : (k : ℕ) (e : Entry) → get slab k ≡ Some e → held_of (pass + 1) e ≡ on_row settled (held_of pass e)
-  settled_next k e stands = grind (arith, nat_tests, stands)
+  settled_next k e stands = grind arith
 
   -- in the next pass each row is seen settled
   pub next_seen : held_in (pass + 1) slab order ≡ map (on_row settled) (held_in pass slab order)
@@ -110,7 +107,7 @@ module _ {slab : Slab Entry} {order : List Named} {restless : Listing} {tally : 
   pub next_rows : IsRows slab order restless (record tally { waiting = 0 }) (pass + 1)
   next_rows =
       all_settled are _ _ _ itself (λ e. refl) (λ e. refl) (λ e. refl) settled_next
-      (λ k e stands own. let fits = are.begun k e stands own in omega (arith, fits)) (omega arith)
+      (λ k e stands own. omega (arith, are.begun k e stands own)) (omega arith)
 
   -- ---------------------------------------------------------------- passes are counted anew
 
@@ -119,7 +116,7 @@ module _ {slab : Slab Entry} {order : List Named} {restless : Listing} {tally : 
     forgot k = ap (λ xs. get_or xs k None) slots ∙ get_or-map (option_map forgotten) slab.slots k None
 
     settled_anew : (k : ℕ) (e : Entry) → get slab k ≡ Some e → held_of 1 (forgotten e) ≡ on_row settled (held_of pass e)
-    settled_anew k e stands = grind (arith, nat_tests, stands)
+    settled_anew k e stands = grind arith
 
     -- once each entry forgot its pass, each row is seen settled in pass 1
     pub anew_seen : held_in 1 later order ≡ map (on_row settled) (held_in pass slab order)
@@ -149,7 +146,7 @@ module _ {slab : Slab Entry} {order : List Named} {restless : Listing} {tally : 
       ascending = are.ascending;
       filed = all_filed are later pass _ made_plain (λ e. refl) (λ e. refl) (λ e. refl);
       listed = all_listed are later pass _ made_plain (λ e. refl) (λ e. refl) (λ e. refl);
-      counted = subst (λ held. IsTally (rows_of held) tally) (sym plain_seen) (tally_kept _ (λ h. refl) _ are.counted);
+      counted = rw plain_seen (tally_kept _ (λ h. refl) _ are.counted);
       begun = all_from are later pass _ made_plain (λ e. refl) (λ e. refl) (λ e. refl) _ (λ k e stands. are.begun k e stands);
       counting = are.counting;
     }

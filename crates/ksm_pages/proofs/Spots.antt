@@ -1,5 +1,5 @@
 -- Spots in the order of their pages: the pages of them, once one was put in, written or taken away.
-use Rattle.ksm_pages.proofs.Names.{[], add-one, ap, append-nil, append_assoc, ap₂, AreInOrder, arith, Bool, cases_Bool, comes_before, drop, drop_all, Entry, false, filter, find, find_filter, find_passes, get, get_or, get_or_default, GuestPage, has_item, if◌then◌else◌, inl, inr, insert, is_of, is_restless, is_some, is_useless, IsInVain, length, length-append, length-map, length-take-le, List, map, map-append, Named, nat_tests, None, not, not-true, Option, pages_of, pages_ordered, point_is_count, refl, same_page, same_page_eq, set, Slab, Some, Spot, subst, sym, take, true, true≢false, with_found, with_item, ℕ, ◌++◌, ◌+◌, ◌-◌, ◌<◌, ◌∙◌, ◌∷◌, ◌≡◌, ◌≤◌, ◌⊎◌}
+use Rattle.ksm_pages.proofs.Names.{[], add-one, ap, append-nil, append_assoc, ap₂, AreInOrder, arith, Bool, cases_Bool, comes_before, drop, drop_all, Entry, false, filter, find, find_filter, find_passes, get, get_or, get_or_default, GuestPage, has_item, inl, inr, insert, is_of, is_restless, is_some, is_useless, IsInVain, length, length-append, length-map, length-take-le, List, map, map-append, Named, None, not, not-true, Option, pages_of, pages_ordered, point_is_count, refl, same_page, same_page_eq, set, Slab, Some, Spot, subst, sym, take, true, true≢false, with_found, with_item, ℕ, if◌then◌else◌, ◌++◌, ◌+◌, ◌-◌, ◌<◌, ◌∙◌, ◌∷◌, ◌≡◌, ◌≤◌, ◌⊎◌}
 use Rattle.std.specs.List.{copy_within}
 use Rattle.std.specs.Option.{is_none}
 use Rattle.std.proofs.Math.Seq.{take-append_seam, take-suc}
@@ -54,10 +54,7 @@ module _ (spot : Spot) (spots : List Spot) (rise : AreInOrder spots) where
   written = map (λ s. if same_page s.page spot.page then spot else s) spots
 
   same_pages : pages_of written ≡ pages_of spots
-  same_pages = map_mapped _ _ _ _ (λ k d lt. here _)
-    where
-      here : (s : Spot) → (if same_page s.page spot.page then spot else s).page ≡ s.page
-      here s = grind (arith, nat_tests)
+  same_pages = grind (arith, map_mapped)
 
   -- with a spot written over the one of its page, the pages are those with the page of that spot
   pub written_pages : has_item spot.page (pages_of spots) ≡ true → pages_of written ≡ with_item spot.page (pages_of spots)
@@ -116,8 +113,7 @@ moved_up xs at x within =
     ap (λ n. take n l) (add-one at) ∙ take-suc l at x (omega arith) ∙ ap (λ ys. ys ++ get_or l at x ∷ []) (take-append-le at xs (x ∷ []) within) in
     let back =
     sym (drop-take at _ l) ∙ ap (λ n. drop at (take n l)) (omega arith) ∙ ap (drop at) (take-append_seam xs (x ∷ [])) in
-    let none = drop_all _ l (omega arith) in
-    ap (λ ys. set ys at x) (ap₂ (λ a b. a ++ b) (ap₂ (λ a b. a ++ b) front back) none
+    ap (λ ys. set ys at x) (ap₂ (λ a b. a ++ b) (ap₂ (λ a b. a ++ b) front back) (drop_all _ l (omega arith))
     ∙ append-nil ((take at xs ++ get_or l at x ∷ []) ++ drop at xs)
     ∙ append_assoc (take at xs) (get_or l at x ∷ []) (drop at xs))
     ∙ set_at (take at xs) (get_or l at x) (drop at xs) x at (length-take-le at xs within)

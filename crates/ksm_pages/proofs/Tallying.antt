@@ -1,5 +1,5 @@
 -- The tally of rows once one came, went or changed.
-use Rattle.ksm_pages.proofs.Names.{ap, arith, Bool, CanMove, change_row, count_by, count_by-le-length, GuestPage, if◌then◌else◌, InPageOrder, IsMoved, IsTally, length, length-map, List, merged_state, None, one_if, Private, Row, row_at, same_page, Some, Tally, waiting_state, with_row, without_page, zero_state, ℕ, ◌+◌, ◌<◌, ◌^◌, ◌≡◌, ◌≤◌}
+use Rattle.ksm_pages.proofs.Names.{arith, Bool, CanMove, change_row, count_by, count_by-le-length, GuestPage, if◌then◌else◌, InPageOrder, IsMoved, IsTally, length, length-map, List, None, one_if, Private, Row, row_at, rules, same_page, Some, Tally, with_row, without_page, ℕ, ◌+◌, ◌<◌, ◌^◌, ◌≡◌, ◌≤◌}
 use Rattle.ksm_base.proofs.RowCounts.{count_change_row, count_with_row, count_without_page}
 
 module _ {rows : List Row} (rise : InPageOrder rows) (page : GuestPage) {old : Row} (found : row_at page rows ≡ Some old) {tally : Tally} (later : Tally) (are : IsTally rows tally) where
@@ -12,16 +12,13 @@ module _ {rows : List Row} (rise : InPageOrder rows) (page : GuestPage) {old : R
     counts p = count_change_row _ _ _ _ _ rise found
 
     most : (p : Row → Bool) → count_by p changed ≤ length rows
-    most p =
-        let le = count_by-le-length p changed in
-        let same = length-map rows (λ r. if same_page r.page page then new else r) in
-        omega (arith, le, same)
+    most p = omega (arith, count_by-le-length p changed, length-map rows (λ r. if same_page r.page page then new else r))
 
     room : length rows < 2 ^ 64 → (p : Row → Bool) {n : ℕ} → n ≡ count_by p rows → n + one_if (p new) < 2 ^ 64 + one_if (p old)
-    room few p is = let c = counts p in let m = most p in omega (arith, c, m, is, few)
+    room few p is = omega (arith, counts p, most p, is, few)
 
     has : (p : Row → Bool) {n : ℕ} → n ≡ count_by p rows → one_if (p old) ≤ n
-    has p is = let c = count_without_page p page rows old rise found in omega (arith, c, is)
+    has p is = omega (arith, count_without_page p page rows old rise found, is)
 
     -- a tally of the rows can take one row from its state to another
     pub can_move : length rows < 2 ^ 64 → CanMove old.state new.state tally
@@ -35,7 +32,7 @@ module _ {rows : List Row} (rise : InPageOrder rows) (page : GuestPage) {old : R
     }
 
     meets : (p : Row → Bool) {n m : ℕ} → n ≡ count_by p rows → m + one_if (p old) ≡ n + one_if (p new) → m ≡ count_by p changed
-    meets p is moved = let c = counts p in omega (arith, c, is, moved)
+    meets p is moved = omega (arith, counts p, is, moved)
 
     -- a tally moved from a row's old state to its new one counts the rows with that row changed
     pub tally_changed : IsMoved old.state new.state tally later → IsTally changed later
@@ -47,7 +44,7 @@ module _ {rows : List Row} (rise : InPageOrder rows) (page : GuestPage) {old : R
 
   -- the row of a page went
   left : (p : Row → Bool) {n m : ℕ} → n ≡ count_by p rows → m + one_if (p old) ≡ n + 0 → m ≡ count_by p (without_page page rows)
-  left p is moved = let c = count_without_page p page rows old rise found in omega (arith, c, is, moved)
+  left p is moved = grind (arith, count_without_page)
 
   -- a tally moved from a row's state to Private counts the rows without that row
   pub tally_gone : IsMoved old.state Private tally later → IsTally (without_page page rows) later
@@ -59,10 +56,4 @@ module _ {rows : List Row} (rise : InPageOrder rows) (page : GuestPage) {old : R
 
 -- a Private row that comes leaves the tally as it is
 pub tally_put : {rows : List Row} (row : Row) {tally : Tally} → row_at row.page rows ≡ None → row.state ≡ Private → IsTally rows tally → IsTally (with_row row rows) tally
-tally_put {rows} row absent alone are =
-    let more : (p : Row → Bool) → count_by p (with_row row rows) ≡ count_by p rows + one_if (p row) = λ p. count_with_row p row _ absent in
-    record {
-      merged = let m = more (λ r. merged_state r.state) in let n = ap (λ s. one_if (merged_state s)) alone in omega arith;
-      waiting = let m = more (λ r. waiting_state r.state) in let n = ap (λ s. one_if (waiting_state s)) alone in omega arith;
-      zero = let m = more (λ r. zero_state r.state) in let n = ap (λ s. one_if (zero_state s)) alone in omega arith;
-    }
+tally_put {rows} row absent alone are = search (rules, count_with_row)

@@ -1,10 +1,9 @@
 -- The pages once a call changed the row of one page: they are lawful, and what is seen of them changed so.
-use Rattle.ksm_pages.proofs.Names.{[], All-map, ap, ap₂, AreKept, AreTied, AreWaiting, arith, at_mapped, cases_Bool, change_held, change_row, cond, cond_both, DupsState, false, find_passes, frame_of, frame_seen, get_or, GuestPage, Held, held_at, holds, if◌then◌else◌, inl, InPageOrder, inr, Inside, IsAlone, IsKnown, IsLeft, lies_on, List, Listing, lodging, lodgings_of, map, mapped, MatchOption, merged_state, nat_tests, None, none_waiting, on_row, Option, option_map, ordered_map, PageState, PagesValue, PagesView, Private, refl, Row, row_at, rows_of, RowsView, same_page, same_page_eq, seen, settled_state, shared_state, Some, subst, sym, tied_mapped, true≢false, waiting_state, waits_there, without_held, without_page, ℕ, ⊤, ◌∙◌, ◌≡◌}
+use Rattle.ksm_pages.proofs.Names.{[], All-map, ap, AreKept, AreTied, AreWaiting, arith, at_mapped, cases_Bool, change_held, change_row, cond, cond_both, DupsState, false, find_passes, frame_of, frame_seen, get_or, GuestPage, Held, held_at, holds, if◌then◌else◌, inl, inr, Inside, IsAlone, IsKnown, IsLeft, lies_on, List, Listing, lodging, lodgings_of, map, mapped, MatchOption, merged_state, None, none_waiting, on_row, Option, option_map, ordered_map, PageState, PagesValue, PagesView, Private, refl, Row, row_at, rows_of, RowsView, rules, same_page, same_page_eq, seen, settled_state, shared_state, Some, subst, sym, tied_mapped, true≢false, waiting_state, waits_there, without_held, without_page, ℕ, ⊤, ◌∙◌, ◌≡◌}
 use Rattle.std.proofs.lemmas.Bool.{some_since}
 use Rattle.ksm_tree.specs.Dups.{rows_of as dup_rows}
 use Rattle.ksm_tree.proofs.Alike.{map_alike, map_mapped}
 use Rattle.ksm_pages.proofs.Leaving.{AreLawful, alone_found, held_twice, lawful_gone, lawful_left, lies, of_dup, same_dups, told, told_gone, told_still, view_of}
-use Rattle.ksm_pages.proofs.Lodgings.{seat}
 use Rattle.ksm_pages.proofs.Resting.{item_alike, known_row, lies_alike, lies_settled, rests, settled_again, settled_still}
 
 -- the pages with other rows and dups are lawful, and are seen as the new view says
@@ -20,7 +19,7 @@ held_as same = λ i. (same i).held
 pub and_then : (page : GuestPage) (f g : Row → Row) → ((r : Row) → (f r).page ≡ r.page) → (old : List Held) {first second : List Held}
     → first ≡ change_held page (on_row f) old → second ≡ change_held page (on_row g) first
     → second ≡ change_held page (on_row (λ r. g (f r))) old
-and_then page f g same old first second = second ∙ ap (change_held page (on_row g)) first ∙ held_twice _ _ _ (λ h. same h.row) _
+and_then page f g same old first second = grind (arith, held_twice)
 
 -- ---------------------------------------------------------------- a page that leaves what it is in
 
@@ -41,9 +40,7 @@ module _ {s : Inside} {p : PagesValue} {page : GuestPage} {later : DupsState} {f
   -- a page that is known, and which was let out, has left
   pub known_left : AreLawful s → view_of s ≡ p → IsKnown page p.rows
       → MatchOption (held_at page s.rows.held) ⊤ (IsLeft s.knobs frames s.dups later lone) → HasLeft s p page later frames lone
-  known_left are seen_as known left =
-      let there = known_row s seen_as _ known in
-      found_left are seen_as there.1 (subst (λ o. MatchOption o ⊤ (IsLeft s.knobs frames s.dups later lone)) there.1 left)
+  known_left are seen_as known left = search (rules, known_row)
 
   -- a page with a frame of its own, which was let out, has left
   pub alone_left : AreLawful s → view_of s ≡ p → IsAlone page p.rows
@@ -53,16 +50,13 @@ module _ {s : Inside} {p : PagesValue} {page : GuestPage} {later : DupsState} {f
   module _ (it : HasLeft s p page later frames lone) where
     -- a page that has left lay on the frame that is told
     pub lay : frames ≡ s.frames.items → lone ≡ frame_of p.lodgings page
-    lay same =
-        it.left.frame
-        ∙ ap (λ (fs : List ℕ). seat (lodging (dup_rows s.dups.dups) fs) (Some it.held)) same
-        ∙ lies s it.lawful _ it.found it.seen_as
+    lay same = grind (arith, lies)
 
     dups_same : dup_rows later.dups ≡ dup_rows s.dups.dups
-    dups_same = same_dups s it.lawful _ it.found it.left.dups it.left.waiting
+    dups_same = search (rules, same_dups)
 
     next_same : later.next ≡ s.dups.next
-    next_same = grind (arith, nat_tests)
+    next_same = grind arith
 
     module _ (rows : RowsView) {restless : Listing} (listed : rows.restless ≡ restless) where
       -- a page that has left comes to another state and lies where that state and its frame say
@@ -75,14 +69,13 @@ module _ {s : Inside} {p : PagesValue} {page : GuestPage} {later : DupsState} {f
           })
       moved state own apart still turned =
           let to = λ (r : Row). record r { state = state } in
-          let lain = frame_seen (of_dup s) state own in
           record {
             lawful = lawful_left s it.lawful _ it.found it.left.dups it.left.waiting _ to (λ x. refl) (λ r. refl) rows turned apart still;
             told_as =
                 told s it.lawful _ it.found _ to (λ x. refl) (λ r. refl) rows turned it.seen_as later dups_same next_same _ refl refl
                 ∙ ap (λ (l : Listing). record (seen p) {
                   rows = change_row page to p.rows;
-                  frame = lies_on page lain (frame_of p.lodgings);
+                  frame = lies_on page (frame_seen (of_dup s) state own) (frame_of p.lodgings);
                   restless = l;
                 }) listed;
           }
@@ -133,11 +126,11 @@ module _ (s : Inside) (are : AreLawful s) {p : PagesValue} (seen_as : view_of s 
   still f pages like rows turned {restless = restless} listed later rest waits = record {
     lawful = record {
       small = are.small;
-      order = subst InPageOrder (sym changed) (ordered_map f _ pages are.order);
+      order = rw changed (ordered_map f _ pages are.order);
       tied = subst (λ rs. AreTied rs later.dups) (sym changed) (subst (AreTied (map f before)) (λ i. (sym rest i).dups)
           (tied_mapped f _ _ (λ k d lt. let r = get_or before k d in (pages r, λ number. item_alike _ _ _ (like r))) are.tied));
       places = (λ i. (rest i).places) ∙ are.places;
-      waits = subst (λ rs. AreWaiting s.knobs rs later.waiting) (sym changed) waits;
+      waits = rw changed waits;
       room = are.room;
     };
     told_as =
@@ -161,11 +154,7 @@ module _ (s : Inside) (are : AreLawful s) {p : PagesValue} (seen_as : view_of s 
       dups = λ i. dup_rows (rest i).dups
 
       lain : frame_of (lodgings_of (lodging (dup_rows later.dups) s.frames.items) rows.held) ≡ frame_of (lodgings_of (of_dup s) s.rows.held)
-      lain =
-          ap₂ (λ ds held. frame_of (lodgings_of (lodging ds s.frames.items) held)) dups turned
-          ∙ ap frame_of (map_mapped _ _ _ _ (λ k d lt.
-          let h = get_or s.rows.held k d in
-          ap₂ (λ page frame. record { page = page; frame = frame }) (pages h.row) (lies_alike _ _ _ _ (like h.row))))
+      lain = grind (arith, dups, map_mapped, lies_alike)
 
   -- where every row is settled by a change and no page waits any more, all rows are seen changed so
   pub rest_all : (f : Row → Row) → ((r : Row) → (f r).page ≡ r.page) → ((r : Row) → (f r).state ≡ settled_state r.state) → (rows : RowsView)

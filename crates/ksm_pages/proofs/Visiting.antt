@@ -1,5 +1,5 @@
 -- What a visit finds of a row that it may change, and the pages once the row waits.
-use Rattle.ksm_pages.proofs.Names.{all_zero, ap, AreKept, AreTied, AreWaiting, arith, Best, best_dup, best_found, best_of, Bool, change_held, change_row, Dup, DupRow, DupsState, Entry, false, Find, Finds, FindsAt, found_at, GuestPage, Held, held_at, held_of, Inside, is_for_zero, IsAdded, IsAlone, List, MatchOption, nat_tests, None, not, number_of, on_row, Option, option_map, PagesValue, PagesView, partner, Private, refl, Row, row_at, rows_of, RowsView, same_page, seen, shared_state, Some, subst, sym, tied_counted, tied_left, tree_of, true, unwrap_or, Waiting, waiting_page, ℕ, ◌&&◌, ◌==◌, ◌∙◌, ◌≡◌, and_parts, not-true}
+use Rattle.ksm_pages.proofs.Names.{all_zero, ap, AreKept, AreTied, AreWaiting, arith, Best, best_dup, best_found, best_of, Bool, change_held, change_row, Dup, DupRow, DupsState, Entry, false, Find, Finds, FindsAt, found_at, GuestPage, Held, held_at, held_of, Inside, is_for_zero, IsAdded, IsAlone, List, MatchOption, None, not, number_of, on_row, Option, option_map, PagesValue, PagesView, partner, Private, refl, Row, row_at, rows_of, RowsView, rules, same_page, seen, shared_state, Some, subst, sym, tied_counted, tied_left, tree_of, true, unwrap_or, Waiting, waiting_page, ℕ, ◌&&◌, ◌==◌, ◌∙◌, ◌≡◌, and_parts, not-true}
 use Rattle.ksm_pages.proofs.Options.{none_mapped}
 use Rattle.std.specs.Option.{is_some}
 use Rattle.ksm_tree.specs.Dups.{rows_of as dup_rows}
@@ -18,8 +18,7 @@ module _ (s : Inside) {later : DupsState} (kept : later ≡ record s.dups { numb
   -- groups that got other numbers leave the pages lawful
   pub lawful_numbered : AreLawful s → AreLawful (record s { dups = later })
   lawful_numbered are =
-      subst (λ (d : DupsState). AreKept s.shape s.knobs (rows_of s.rows.held) d s.frames.items) (sym kept)
-      (record { small = are.small; order = are.order; tied = are.tied; places = are.places; waits = are.waits; room = are.room })
+      rw kept (record { small = are.small; order = are.order; tied = are.tied; places = are.places; waits = are.waits; room = are.room })
 
   -- groups that got other numbers leave what is seen of the pages as it was
   pub seen_numbered : view_of (record s { dups = later }) ≡ view_of s
@@ -33,15 +32,11 @@ not_shared a {b} is = not-true b (and_parts _ _ is).1
 -- a page without a row is found gone
 pub finds_none : (s : Inside) {p : PagesValue} → view_of s ≡ p → (page : GuestPage) → held_at page s.rows.held ≡ None
     → Finds (seen p) (seen p) page finds.Gone
-finds_none s {p} seen_as page gone =
-    subst (λ o. MatchOption o ((finds.Gone ≡ finds.Gone) × (seen p ≡ seen p)) (λ r. FindsAt (seen p) (seen p) r finds.Gone))
-    (sym (row_seen s seen_as _ gone)) (refl, refl)
+finds_none s {p} seen_as page gone = search (rules, row_seen)
 
 finds_row : (s : Inside) {p : PagesValue} → view_of s ≡ p → (page : GuestPage) {h : Held} → held_at page s.rows.held ≡ Some h
     → (new : PagesView) (what : Find) → FindsAt (seen p) new h.row what → Finds (seen p) new page what
-finds_row s {p} seen_as page found new what is =
-    subst (λ o. MatchOption o ((what ≡ finds.Gone) × (new ≡ seen p)) (λ r. FindsAt (seen p) new r what))
-    (sym (row_seen s seen_as _ found)) is
+finds_row s {p} seen_as page found new what is = rw (row_seen s seen_as _ found) is
 
 -- a row that no visit may change is found gone
 pub finds_gone : (s : Inside) {p : PagesValue} → view_of s ≡ p → (page : GuestPage) (e : Entry)
@@ -52,16 +47,12 @@ finds_gone s seen_as page e found calm = finds_row s seen_as _ found _ _ (restle
 -- a row that a visit may change has a frame of its own
 pub is_alone : (s : Inside) → AreLawful s → (page : GuestPage) (e : Entry) → held_at page s.rows.held ≡ Some (held_of s.rows.pass e)
     → is_restless_entry e ≡ true → IsAlone page (rows_of s.rows.held)
-is_alone s are page e found restless =
-    subst (λ o. MatchOption o (true ≡ false) (λ (r : Row). shared_state r.state ≡ false)) (sym (row_there s are _ found))
-    (not_shared _ (restless_as _ e ∙ restless))
+is_alone s are page e found restless = search (rules, row_there, not_shared, restless_as)
 
 -- an entry that a visit may change is seen as a row that a visit may change
 pub is_seen_restless : (s : Inside) {p : PagesValue} → view_of s ≡ p → (page : GuestPage) (e : Entry) → held_at page s.rows.held ≡ Some (held_of s.rows.pass e)
     → is_restless_entry e ≡ true → MatchOption (row_at page p.rows) (true ≡ false) (λ r. is_restless r ≡ true)
-is_seen_restless s {p} seen_as page e found restless =
-    subst (λ o. MatchOption o (true ≡ false) (λ (r : Row). is_restless r ≡ true))
-    (sym (row_seen s seen_as _ found)) (restless_as _ e ∙ restless)
+is_seen_restless s {p} seen_as page e found restless = grind (arith, row_seen, restless_as)
 
 -- ---------------------------------------------------------------- a row whose group has a number
 
@@ -84,7 +75,7 @@ asked {s} are seen_as {e} found restless {later = later} kept {group = group} in
   seen_as = seen_numbered s kept ∙ seen_as;
   found = found;
   restless = restless;
-  numbered = subst (λ t. number_of t e.bytes later.numbers ≡ Some group) (in_tree (held_of s.rows.pass e).row refl) numbered;
+  numbered = rw (← in_tree (held_of s.rows.pass e).row refl) numbered;
 }
 
 module _ {s : Inside} {p : PagesValue} {page : GuestPage} {e : Entry} {group : ℕ} (it : IsAsked s p page e group) where
@@ -128,31 +119,27 @@ module _ {s : Inside} {p : PagesValue} {page : GuestPage} {e : Entry} {group : �
   pub finds_dup : (b : Best) → IsOfGroup (λ tree bytes. Some b ≡ option_map found_at (best tree bytes))
       → Finds (seen p) (seen (view_of s)) page (finds.Dup b)
   finds_dup b is =
-      let so = go _ (is (tree_of s.knobs row) row.bytes it.numbered) in
       let joins = subst (λ o. MatchOption o (true ≡ false) (λ (d : DupRow). (b.number ≡ d.number) × (b.place ≡ d.place)))
-      (sym best_is) so in
+      (sym best_is) (go _ (is (tree_of s.knobs row) row.bytes it.numbered)) in
       finds_at _ _ (may, joins, ap seen it.seen_as)
     where
       go : (o : Option Dup) → Some b ≡ option_map found_at o
           → MatchOption (option_map (λ d. d.row) o) (true ≡ false) (λ (d : DupRow). (b.number ≡ d.number) × (b.place ≡ d.place))
-      go o no_it = grind (arith, nat_tests, no_it)
+      go o no_it = grind arith
 
   module _ (none : IsOfGroup (λ tree bytes. None ≡ option_map found_at (best tree bytes))) where
     no_best : best_dup p.knobs p.rows p.dups row ≡ None
-    no_best = best_is ∙ ap (option_map (λ d. d.row)) (none_mapped _ _ (sym (none (tree_of s.knobs row) row.bytes it.numbered)))
+    no_best = grind (arith, best_is, none_mapped)
 
     -- without a best dup, a row that was not unchanged is found changed, and is unchanged from then on
     pub finds_changed : e.unchanged ≡ false → {new : PagesView}
         → new ≡ visited page (λ r. record r { unchanged = true; state = Private }) (seen (view_of s))
         → Finds (seen p) new page finds.Changed
-    finds_changed other is =
-        let to = λ (r : Row). record r { unchanged = true; state = Private } in
-        let now = is ∙ (λ i. visited page to (seen (it.seen_as i))) ∙ ap (λ q. visited q to (seen p)) (sym at_row) in
-        finds_at _ _ (may, no_best, other, now)
+    finds_changed other is = search (rules, at_row, finds_at, may, no_best)
 
     module _ (stayed : e.unchanged ≡ true) where
       zero_as : is_for_zero p.knobs row ≡ (s.knobs.use_zero_pages == 1 && all_zero e.bytes)
-      zero_as = grind (arith, nat_tests)
+      zero_as = grind arith
 
       -- without a best dup, an unchanged row of zeroes is found to become Zero, if zero pages are used
       pub finds_zero : (s.knobs.use_zero_pages == 1 && all_zero e.bytes) ≡ true → Finds (seen p) (seen (view_of s)) page finds.Zero
@@ -165,7 +152,7 @@ module _ {s : Inside} {p : PagesValue} {page : GuestPage} {e : Entry} {group : �
         waits = waiting_page (tree_of s.knobs row) row.bytes s.dups.waiting
 
         met_is : met ≡ unwrap_or waits row.page
-        met_is = is (tree_of s.knobs row) row.bytes it.numbered ∙ ap (unwrap_or waits) (sym at_row)
+        met_is = grind (arith, at_row)
 
         same_again : is_some waits ≡ true → later ≡ s.dups
         same_again = again (tree_of s.knobs row) row.bytes it.numbered
@@ -176,9 +163,8 @@ module _ {s : Inside} {p : PagesValue} {page : GuestPage} {e : Entry} {group : �
         finds_partner apart =
             let from = ap (same_page met) at_row ∙ apart in
             let that = met_other s.knobs _ _ row it.lawful.order it.lawful.waits met_is from in
-            let other_row = met_partner s.knobs _ _ row it.lawful.order it.lawful.waits met_is from in
             let partner_is = subst (λ (v : PagesValue). MatchOption (partner v.knobs v.rows row) (true ≡ false)
-            (λ w. met ≡ w.page)) it.seen_as other_row in
+            (λ w. met ≡ w.page)) it.seen_as (met_partner s.knobs _ _ row it.lawful.order it.lawful.waits met_is from) in
             let same = (λ i. seen (view_of (record s { dups = (same_again (ap is_some that) i) }))) ∙ ap seen it.seen_as in
             finds_at _ _ (may, no_best, stayed, zero_as ∙ other, partner_is, same)
 
@@ -196,7 +182,7 @@ module _ {s : Inside} {p : PagesValue} {page : GuestPage} {e : Entry} {group : �
 
           now_waits : AreWaiting s.knobs (change_row page (λ _. to row) before) later.waiting
           now_waits =
-              subst (λ q. AreWaiting s.knobs (change_row q (λ _. to row) before) later.waiting) at_row
+              rw (← at_row)
               (met_waits s.knobs _ _ _ it.lawful.order it.lawful.waits met_is (ap (λ q. row_at q before) at_row ∙ there) same_own
               (added (tree_of s.knobs row) row.bytes it.numbered) (λ that. (λ i. (same_again that i).waiting)))
 

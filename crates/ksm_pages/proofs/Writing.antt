@@ -1,5 +1,5 @@
 -- What each change of one row, found under its key, leaves: rows still, and what is seen of them.
-use Rattle.ksm_pages.proofs.Names.{ap, ap₂, AreBegun, AreFiled, AreListed, arith, Bool, CanMove, change_held, Entry, false, find, forgotten, get, GuestPage, has_item, Held, held_at, held_in, held_of, held_under, IfSome, inl, InPageOrder, inr, is_of, is_own, is_restless, is_some, IsAddedTo, IsInVain, IsMoved, IsRows, IsTally, IsUnder, key_in, Kind, length, length-map, List, Listing, marked, Named, named_of, nat_tests, ne_eqb, None, number_left, on_row, option_map, own_state, pages_ordered, PageState, Private, refl, Row, row_at, rows_of, RowsView, same_page, same_page_refl, same_Some, settled, settled_state, shared_state, Slab, Some, state_of, subst, sym, Tally, true, true≢false, Updates-with_value, Waiting, with_held, with_named, with_value, without_held, without_named, ℕ, ◌&&◌, ◌<◌, ◌^◌, ◌∙◌, ◌≡◌, ◌≢◌, ◌≤◌, ◌⊎◌}
+use Rattle.ksm_pages.proofs.Names.{ap, ap₂, AreBegun, AreListed, arith, Bool, CanMove, change_held, Entry, false, find, forgotten, get, GuestPage, has_item, Held, held_at, held_in, held_of, held_under, IfSome, inl, InPageOrder, inr, is_of, is_own, is_restless, is_some, IsAddedTo, IsInVain, IsMoved, IsRows, IsTally, IsUnder, key_in, Kind, length, length-map, List, Listing, marked, Named, named_of, ne_eqb, None, number_left, on_row, option_map, own_state, pages_ordered, PageState, Private, refl, Row, row_at, rows_of, RowsView, rules, same_page, same_page_refl, same_Some, settled, settled_state, shared_state, Slab, Some, state_of, sym, Tally, true, true≢false, Updates-with_value, Waiting, with_held, with_named, with_value, without_held, without_named, ℕ, ◌&&◌, ◌<◌, ◌^◌, ◌∙◌, ◌≡◌, ◌≢◌, ◌≤◌, ◌⊎◌}
 use Rattle.slab.specs.Slab.{Updates as Fills}
 use Rattle.ksm_pages.specs.declared.row.Kind.TheVariants as kinds
 use Rattle.ksm_pages.specs.declared.rows.Rows.TheInside.{Inside}
@@ -20,16 +20,16 @@ AreRows s = IsRows s.entries s.order s.restless s.tally s.pass
 
 -- a test and false never hold together, so anything follows
 pub never : {P : Type 0} (b : Bool) → (b && false) ≡ true → P
-never true both = absurd (true≢false (sym both))
-never false both = absurd (true≢false (sym both))
+never true both = absurd (grind arith)
+never false both = absurd (grind arith)
 
 -- a row that is not shared has a frame of its own
 pub own_kind : (kind : Kind) (number pass : ℕ) → shared_state (state_of kind number pass) ≡ false → kind ≡ kinds.Own
-own_kind kind number pass alone = grind (arith, nat_tests, alone)
+own_kind kind number pass alone = grind arith
 
 -- a row with a frame of its own waits where its number is that of the pass
 pub waits_now : {kind : Kind} (pass : ℕ) → kind ≡ kinds.Own → state_of kind pass pass ≡ Waiting
-waits_now pass own = grind (arith, nat_tests, own)
+waits_now pass own = grind arith
 
 -- a row with a frame of its own is Private where its number is not that of the pass
 pub rests_apart : {number : ℕ} (pass : ℕ) → number ≢ pass → state_of kinds.Own number pass ≡ Private
@@ -42,11 +42,11 @@ rests_now pass counting = rests_apart _ (λ same. absurd (omega arith))
 -- an entry that has forgotten its pass is settled in any pass from 1 on
 pub rest_of : (kind : Kind) (number pass after : ℕ) → 1 ≤ after
     → state_of kind (number_left kind number) after ≡ settled_state (state_of kind number pass)
-rest_of kind number pass after counting = grind (arith, nat_tests, counting)
+rest_of kind number pass after counting = grind arith
 
 -- an entry with a frame of its own that has forgotten its pass has a number not beyond any pass
 pub left_fits : (kind : Kind) (number pass : ℕ) → kind ≡ kinds.Own → number_left kind number ≤ pass
-left_fits kind number pass own = grind (arith, nat_tests, own)
+left_fits kind number pass own = grind arith
 
 -- a change of a page without a row leaves what is seen of the rows as it is
 pub nothing : (s : Inside) → AreRows s → (page : GuestPage) → None ≡ key_in s.order page → (f : Held → Held) {v : RowsView} → view_of s ≡ v → v ≡ record v { held = change_held page f v.held }
@@ -70,7 +70,7 @@ module _ (s : Inside) (are : AreRows s) where
   module _ {page : GuestPage} {key : ℕ} (there : IsUnder s.entries page key) {e : Entry} (stood : get s.entries key ≡ Some e) where
     -- the entry is that of the page
     of_page : e.page ≡ page
-    of_page = grind (arith, nat_tests)
+    of_page = grind arith
 
     -- a page with an entry under its key has the row that the entry says
     pub row_there : held_at page held ≡ Some (held_of s.pass e)
@@ -82,18 +82,15 @@ module _ (s : Inside) (are : AreRows s) where
     -- the entry of a page whose row is not shared is of the kind with frames of their own
     pub own_there : {v : RowsView} → view_of s ≡ v → IfSome (held_at page v.held) (λ h. shared_state h.row.state ≡ false)
         → e.kind ≡ kinds.Own
-    own_there seen_as alone =
-        own_kind _ _ _
-        (subst (λ o. IfSome o (λ (h : Held). shared_state h.row.state ≡ false)) ((λ i. held_at page (sym seen_as i).held) ∙ row_there) alone)
+    own_there seen_as alone = grind (arith, own_kind, row_there)
 
     -- the tally can take the row of an entry from its state to any other
     pub can_be : {from : PageState} → from ≡ state_of e.kind e.number s.pass → {state : PageState} → length s.order < 2 ^ 64
         → CanMove from state s.tally
     can_be is {state} few =
-        let old = (held_of s.pass e).row in
         let many : length (rows_of held) < 2 ^ 64 =
         omega (arith, length-map held (λ (h : Held). h.row), length-map s.order (λ (n : Named). held_under s.pass (get s.entries n.key)), few) in
-        subst (λ st. CanMove st state s.tally) (sym is) (can_move rise _ found_row s.tally are.counted (record old { state = state }) many)
+        rw is (can_move rise _ found_row s.tally are.counted (record (held_of s.pass e).row { state = state }) many)
 
     other_page : {k : ℕ} {f : Entry} → get s.entries k ≡ Some f → k ≢ key → same_page f.page page ≡ false
     other_page {f} stands apart = ap (same_page f.page) (sym of_page) ∙ elsewhere s.entries _ are.ascending are.filed stood stands apart
@@ -108,41 +105,36 @@ module _ (s : Inside) (are : AreRows s) where
       fills = Updates-with_value _ _ _ (ap is_some stood)
 
       held_later : (f : Held → Held) → held_of s.pass e' ≡ f (held_of s.pass e) → held_in s.pass later s.order ≡ change_held page f held
-      held_later f is =
-          written _ _ are.ascending are.filed stood fills same _ f is
-          ∙ ap (λ p. change_held p f held) of_page
+      held_later f is = grind (arith, written, fills, of_page)
 
       module _ {from to : PageState} {tally : Tally} (was : from ≡ state_of e.kind e.number s.pass) (is : to ≡ state_of e'.kind e'.number s.pass) (moved : IsMoved from to s.tally tally) where
         tallied : IsTally (rows_of (held_in s.pass later s.order)) tally
         tallied =
             let new = (held_of s.pass e').row in
-            subst (λ rs. IsTally rs tally) (sym (ap rows_of (held_later _ refl) ∙ rows_changed _ (λ _. held_of s.pass e') _ _ (λ h. refl)))
-            (tally_changed rise _ found_row _ are.counted _ (subst (λ st. IsMoved st new.state s.tally tally) was (subst (λ st. IsMoved from st s.tally tally) is moved)))
+            rw (ap rows_of (held_later _ refl) ∙ rows_changed _ (λ _. held_of s.pass e') _ _ (λ h. refl))
+            (tally_changed rise _ found_row _ are.counted _ (rw (← was) (rw (← is) moved)))
 
       begun_still : (e'.kind ≡ kinds.Own → e'.number ≤ s.pass) → AreBegun later s.pass
-      begun_still fits = all_filled fills fits (λ k f stands apart. are.begun k f stands)
+      begun_still fits = search (rules, fills)
 
       listed_still : (pages : List GuestPage)
           → ((k : ℕ) (f : Entry) → get s.entries k ≡ Some f → k ≢ key → is_restless f ≡ true → has_item f.page pages ≡ true)
           → (is_restless e' ≡ true → has_item page pages ≡ true) → AreListed later pages
-      listed_still pages others own = all_filled fills (λ may. ap (λ p. has_item p pages) (same ∙ of_page) ∙ own may) others
+      listed_still pages others own = search (rules, fills, of_page)
 
       -- where a page is added to the list, the list is right for any new entry of that page
       pub listed_now : {now : Listing} → IsAddedTo page s.restless now → now.known ≡ true → AreListed later now.pages
       listed_now added known = elim added [
         | inl is ↦
-            subst (λ (l : Listing). AreListed later l.pages) (sym is) (listed_still _
+            rw is (listed_still _
             (λ k f stands apart may. with_has _ page _ (inr (are.listed (listed_known s.restless _ is known) k f stands may)))
             (λ may. with_has page page _ (inl (same_page_refl page))))
-        | inr is ↦ absurd (true≢false (sym known ∙ (λ i. (is i).known)))
+        | inr is ↦ absurd (grind arith)
       ]
 
       -- the list as it was is right for a new entry that no visit changes
       pub listed_calm : is_restless e' ≡ false → {now : Listing} → now ≡ s.restless → now.known ≡ true → AreListed later now.pages
-      listed_calm calm is known =
-          subst (λ (l : Listing). AreListed later l.pages) (sym is) (listed_still _
-          (λ k f stands apart may. are.listed (sym (λ i. (is i).known) ∙ known) k f stands may)
-          (λ may. absurd (true≢false (sym may ∙ calm))))
+      listed_calm calm is known = search (rules, listed_still)
 
       -- rows with an entry written anew are lawful where its flag stays, the list is right and the tally moved
       pub still : e'.mergeable ≡ e.mergeable → (e'.kind ≡ kinds.Own → e'.number ≤ s.pass) → {now : Listing}
@@ -164,16 +156,15 @@ module _ (s : Inside) (are : AreRows s) where
           → {from to : PageState} {tally : Tally} → from ≡ state_of e.kind e.number s.pass → to ≡ state_of e'.kind e'.number s.pass
           → IsMoved from to s.tally tally → IsRows later s.order now tally s.pass
       kept flag fits less now is =
-          still flag fits (subst (λ (l : Listing). l.known ≡ true → AreListed later l.pages) (sym is)
-          (λ known. listed_still _ (λ k f stands apart. are.listed known k f stands)
+          still flag fits (rw is (λ known. listed_still _ (λ k f stands apart. are.listed known k f stands)
           (λ may. ap (λ p. has_item p s.restless.pages) (sym of_page) ∙ are.listed known key e stood (less may))))
 
       module _ (kind : e'.kind ≡ e.kind) (number : e'.number ≡ e.number) where
         fits_still : e'.kind ≡ kinds.Own → e'.number ≤ s.pass
-        fits_still own = grind (arith, nat_tests, own)
+        fits_still own = grind arith
 
         same_state : state_of e.kind e.number s.pass ≡ state_of e'.kind e'.number s.pass
-        same_state = grind (arith, nat_tests)
+        same_state = grind arith
 
         unmoved : {state : PageState} → IsMoved state state s.tally s.tally
         unmoved = record { merged = refl; waiting = refl; zero = refl }
@@ -187,10 +178,9 @@ module _ (s : Inside) (are : AreRows s) where
             → IsRows later (marked page e'.mergeable s.order) now s.tally s.pass
         still_marked listed = record {
           ascending = write_rises _ page _ (λ n. refl) _ are.ascending;
-          filed =
-              subst (λ p. AreFiled later (marked p e'.mergeable s.order)) of_page (filed_marked _ _ are.ascending are.filed stood fills same);
+          filed = rw (← of_page) (filed_marked _ _ are.ascending are.filed stood fills same);
           listed = listed;
-          counted = subst (λ g. IsTally (rows_of g) s.tally) (sym (marked_same _ later _ _ _)) (tallied refl same_state (unmoved));
+          counted = rw (marked_same _ later _ _ _) (tallied refl same_state (unmoved));
           begun = begun_still fits_still;
           counting = are.counting;
         }
@@ -198,9 +188,7 @@ module _ (s : Inside) (are : AreRows s) where
       -- with an entry written anew whose row is changed by f, the rows are seen with f at that page, and the new list
       pub viewed : (f : Held → Held) → held_of s.pass e' ≡ f (held_of s.pass e) → (now : Listing) {v : RowsView} → view_of s ≡ v
           → record { held = held_in s.pass later s.order; restless = now; pass = s.pass } ≡ record v { held = change_held page f v.held; restless = now }
-      viewed f is now seen_as =
-          ap (λ held. record { held = held; restless = now; pass = s.pass }) (held_later f is)
-          ∙ (λ i. record (seen_as i) { held = change_held page f (seen_as i).held; restless = now })
+      viewed f is now seen_as = grind (arith, held_later)
 
       -- with an entry written anew whose row is changed by f, the rows are seen with f at that page
       pub viewed_same : (f : Held → Held) → held_of s.pass e' ≡ f (held_of s.pass e) → {now : Listing} → now ≡ s.restless → {v : RowsView}
@@ -214,8 +202,7 @@ module _ (s : Inside) (are : AreRows s) where
       pub viewed_marked : (f : Held → Held) → held_of s.pass e' ≡ f (held_of s.pass e) → (m : Bool) (now : Listing) {v : RowsView}
           → view_of s ≡ v
           → record { held = held_in s.pass later (marked page m s.order); restless = now; pass = s.pass } ≡ record v { held = change_held page f v.held; restless = now }
-      viewed_marked f is m now seen_as =
-          ap (λ held. record { held = held; restless = now; pass = s.pass }) (marked_same _ later _ m _) ∙ viewed f is _ seen_as
+      viewed_marked f is m now seen_as = search (rules, marked_same, viewed)
 
     -- ---------------------------------------------------------------- the entry changed, and then forgot its pass
 
@@ -224,40 +211,33 @@ module _ (s : Inside) (are : AreRows s) where
         → {from to : PageState} {tally : Tally} → from ≡ state_of e.kind e.number s.pass → to ≡ state_of now.kind now.number s.pass
         → IsMoved from to s.tally tally → IsRows (with_value s.entries key now) s.order s.restless tally s.pass
     kept_forgotten e' is same flag kind {from} {to} {tally} was told moved =
-        subst (λ x. IsRows (with_value s.entries key x) s.order s.restless tally s.pass) (sym is)
-        (kept _ same flag (left_fits _ _ _) (λ may. sym (ap₂ (λ m k. m && is_own k) flag kind) ∙ may)
+        rw is (kept _ same flag (left_fits _ _ _) (λ may. sym (ap₂ (λ m k. m && is_own k) flag kind) ∙ may)
         _ refl was (told ∙ (λ i. state_of (is i).kind (is i).number s.pass)) moved)
 
     -- the row of an entry that is changed, and then forgets its pass, is seen changed and settled
     pub viewed_forgotten : (e' : Entry) {now : Entry} → now ≡ forgotten e' → e'.page ≡ e.page → (f : Row → Row)
         → on_row settled (held_of s.pass e') ≡ on_row f (held_of s.pass e) → {v : RowsView} → view_of s ≡ v
         → record { held = held_in s.pass (with_value s.entries key now) s.order; restless = s.restless; pass = s.pass } ≡ record v { held = change_held page (on_row f) v.held }
-    viewed_forgotten e' is same f told seen_as =
-        ap (λ x. record { held = held_in s.pass (with_value s.entries key x) s.order; restless = s.restless; pass = s.pass }) is
-        ∙ viewed_same _ same _
-        (ap (λ (st : PageState). on_row (λ r. record r { state = st }) (held_of s.pass e')) (rest_of _ _ _ _ are.counting) ∙ told)
-        refl seen_as
+    viewed_forgotten e' is same f told seen_as = grind (arith, viewed_same, rest_of)
 
     -- ---------------------------------------------------------------- the entry went
 
     module _ {later : Slab Entry} (fills : Fills s.entries later key None) where
       -- what stands later stood before, under another key
       stood_before : {k : ℕ} {f : Entry} → get later k ≡ Some f → (get s.entries k ≡ Some f) × (k ≢ key)
-      stood_before stands = grind (arith, nat_tests, stands)
+      stood_before stands = grind arith
 
       held_gone : held_in s.pass later (without_named page s.order) ≡ without_held page held
-      held_gone =
-          subst (λ p. held_in s.pass later (without_named p s.order) ≡ without_held p held) of_page (taken _ _ are.ascending are.filed stood fills _)
+      held_gone = grind (arith, of_page, taken, fills)
 
       -- rows are lawful once a page's entry is gone, with its name and its count
       pub still_gone : {from : PageState} {tally : Tally} → from ≡ state_of e.kind e.number s.pass
           → IsMoved from Private s.tally tally → IsRows later (without_named page s.order) s.restless tally s.pass
       still_gone {from} {tally} was moved = record {
         ascending = without_rises pages_ordered (λ (n : Named). n.page) page _ are.ascending;
-        filed = subst (λ p. AreFiled later (without_named p s.order)) of_page (filed_taken _ _ are.ascending are.filed stood fills);
+        filed = rw (← of_page) (filed_taken _ _ are.ascending are.filed stood fills);
         listed = λ known k f stands may. are.listed known k f (stood_before stands).0 may;
-        counted = subst (λ rs. IsTally rs tally) (sym (ap rows_of held_gone ∙ rows_without page held))
-            (tally_gone rise _ found_row _ are.counted (subst (λ st. IsMoved st Private s.tally tally) was moved));
+        counted = rw (ap rows_of held_gone ∙ rows_without page held) (tally_gone rise _ found_row _ are.counted (rw (← was) moved));
         begun = λ k f stands. are.begun k f (stood_before stands).0;
         counting = are.counting;
       }
@@ -270,21 +250,20 @@ module _ (s : Inside) (are : AreRows s) where
 
 -- where a page has no row, none is seen
 pub nowhere_seen : (s : Inside) → AreRows s → (page : GuestPage) → None ≡ key_in s.order page → {v : RowsView} → view_of s ≡ v → held_at page v.held ≡ None
-nowhere_seen s are page told is = (λ i. held_at page (sym is i).held) ∙ held_nowhere s.entries _ are.ascending are.filed _ _ (sym told)
+nowhere_seen s are page told is = grind (arith, held_nowhere)
 
 -- where a page has no row, the rows without that page are seen as before
 pub nothing_gone : (s : Inside) → AreRows s → (page : GuestPage) → None ≡ key_in s.order page → {v : RowsView} → view_of s ≡ v → v ≡ record v { held = without_held page v.held }
 nothing_gone s are page told is =
-    let absent = held_nowhere s.entries _ are.ascending are.filed _ _ (sym told) in
     sym is
     ∙ ap (λ held. record { held = held; restless = s.restless; pass = s.pass })
-    (absent_kept pages_ordered (λ (h : Held). h.row.page) page _ absent)
+    (absent_kept pages_ordered (λ (h : Held). h.row.page) page _ (held_nowhere s.entries _ are.ascending are.filed _ _ (sym told)))
     ∙ (λ i. record (is i) { held = without_held page (is i).held })
 
 -- a slab with more room has the same rows
 pub with_room : (s : Inside) → AreRows s → {room : Slab Entry} → room ≡ record s.entries { capacity = room.capacity } → IsRows room s.order s.restless s.tally s.pass
 with_room s are is =
-    subst (λ slab. IsRows slab s.order s.restless s.tally s.pass) (sym is)
+    rw is
     (record { ascending = are.ascending; filed = are.filed; listed = are.listed; counted = are.counted; begun = are.begun; counting = are.counting })
 
 -- a slab with more room is seen to have the same rows
@@ -294,7 +273,7 @@ seen_with_room s seen_as is = ap (λ slab. view_of (record s { entries = slab })
 
 -- a page that is seen without a row has no name in the order
 pub no_name : (s : Inside) → AreRows s → (page : GuestPage) {v : RowsView} → view_of s ≡ v → held_at page v.held ≡ None → find (is_of page) s.order ≡ None
-no_name s are page seen_as absent = key_nowhere s.entries _ are.ascending are.filed _ _ ((λ i. held_at page (seen_as i).held) ∙ absent)
+no_name s are page seen_as absent = grind (arith, key_nowhere)
 
 -- the row of a page came, with a frame of its own, under a key where nothing stood
 module _ (s : Inside) (are : AreRows s) {v : RowsView} (seen_as : view_of s ≡ v) {key : ℕ} {e : Entry} {later : Slab Entry} (vacant : get s.entries key ≡ None)
@@ -303,7 +282,7 @@ module _ (s : Inside) (are : AreRows s) {v : RowsView} (seen_as : view_of s ≡ 
   before = held_in s.pass s.entries s.order
 
   held_absent : held_at e.page before ≡ None
-  held_absent = grind (arith, nat_tests)
+  held_absent = grind arith
 
   not_named : find (is_of e.page) s.order ≡ None
   not_named = no_name s are _ seen_as absent
@@ -318,12 +297,11 @@ module _ (s : Inside) (are : AreRows s) {v : RowsView} (seen_as : view_of s ≡ 
     filed = filed_put _ _ are.ascending are.filed vacant not_named fills;
     listed = λ known. elim added [
       | inl is ↦
-          subst (λ (l : Listing). AreListed later l.pages) (sym is)
-          (all_filled fills (λ may. with_has e.page e.page s.restless.pages (inl (same_page_refl e.page)))
+          rw is (all_filled fills (λ may. with_has e.page e.page s.restless.pages (inl (same_page_refl e.page)))
           (λ k f stands apart may. with_has f.page e.page s.restless.pages (inr (are.listed (listed_known s.restless _ is known) k f stands may))))
-      | inr is ↦ absurd (true≢false (sym known ∙ (λ i. (is i).known)))
+      | inr is ↦ absurd (grind arith)
     ];
-    counted = subst (λ rs. IsTally rs s.tally) (sym (ap rows_of held_put ∙ rows_with (held_of s.pass e) before))
+    counted = rw (ap rows_of held_put ∙ rows_with (held_of s.pass e) before)
         (tally_put _ (row_told e.page before held_absent) alone are.counted);
     begun = all_filled fills (λ own. fits) (λ k f stands apart. are.begun k f stands);
     counting = are.counting;
@@ -331,13 +309,11 @@ module _ (s : Inside) (are : AreRows s) {v : RowsView} (seen_as : view_of s ≡ 
 
   -- once an entry came under a vacant key with a name, the rows are seen with its row, and the new list
   pub viewed_put : (now : Listing) → record { held = held_in s.pass later (with_named (named_of key e) s.order); restless = now; pass = s.pass } ≡ record v { held = with_held (held_of s.pass e) v.held; restless = now }
-  viewed_put now =
-      ap (λ held. record { held = held; restless = now; pass = s.pass }) held_put
-      ∙ (λ i. record (seen_as i) { held = with_held (held_of s.pass e) (seen_as i).held; restless = now })
+  viewed_put now = grind (arith, held_put)
 
 -- rows are lawful under another list that has all pages that a visit may change
 pub relisted : (s : Inside) → AreRows s → {now : Listing} → (now.known ≡ true → AreListed s.entries now.pages) → IsRows s.entries s.order now s.tally s.pass
-relisted s are listed = record { ascending = are.ascending; filed = are.filed; listed = listed; counted = are.counted; begun = are.begun; counting = are.counting }
+relisted s are listed = search rules
 
 -- rows are lawful under a list that lost only pages that were there in vain
 pub swept_rows : (s : Inside) → AreRows s → {now : Listing} → now.known ≡ s.restless.known

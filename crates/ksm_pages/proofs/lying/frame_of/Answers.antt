@@ -1,9 +1,8 @@
 use Rattle.ksm_pages.proofs.Names.{rules}
-use Rattle.ksm_pages.proofs.Paging.{kept_at_place, lies_own}
 use Rattle.ksm_pages.proofs.lying.frame_of.Goals as goal
 
 pub returns-in-Own : goal.returns-in-Own
-returns-in-Own c = search (rules, lies_own)
+returns-in-Own c = search rules
 
 pub returns-in-Merged : goal.returns-in-Merged
-returns-in-Merged c = search (rules, kept_at_place)
+returns-in-Merged c = search rules

@@ -1,4 +1,4 @@
-use Rattle.ksm_pages.proofs.Names.{rules, ◌∙◌}
+use Rattle.ksm_pages.proofs.Names.{arith, rules}
 use Rattle.ksm_pages.proofs.Paging.{place_guessed, place_numbered}
 use Rattle.ksm_pages.proofs.lying.place_of.Goals as goal
 
@@ -6,4 +6,4 @@ pub returns-in-Some : goal.returns-in-Some
 returns-in-Some c = search (rules, place_guessed)
 
 pub returns-in_default : goal.returns-in_default
-returns-in_default c = c.place.ensures.place ∙ place_numbered c.args.number _
+returns-in_default c = grind (arith, place_numbered)

@@ -1,4 +1,4 @@
-use Rattle.ksm_pages.proofs.Names.{ap, is_some, IsAddedTo, subst, sym, ◌∙◌}
+use Rattle.ksm_pages.proofs.Names.{ap, is_some, sym, ◌∙◌}
 use Rattle.ksm_pages.proofs.Gathering.{all_passed, fewer_behind, next_stands, one_added, one_passed}
 use Rattle.ksm_pages.proofs.rows.gather.Goals as goal
 use Rattle.ksm_pages.proofs.rows.gather.Goals.{then-is_restless, else-is_restless}
@@ -17,7 +17,7 @@ loop-named-preserved c =
     elim c.if-is_restless.branch [
       | then-is_restless w ↦
           one_added slab _ c.requires.ascending c.requires.filed _ (sym c.in-Some.ensures) c.loop-named.invariant
-          (subst (IsAddedTo n.page c.loop-named.restless) (sym w.restless-is) w.add.ensures)
+          (rw w.restless-is w.add.ensures)
       | else-is_restless w ↦
           one_passed slab _ c.requires.ascending c.requires.filed _ (sym c.in-Some.ensures) c.loop-named.invariant
           c.index.ensures (sym c.is_restless.ensures ∙ w.if-is_restless.false) w.restless-is

@@ -1,6 +1,6 @@
-use Rattle.ksm_pages.proofs.Names.{All, All-append, All-cons, All-filter, ap, arith, find, GuestPage, is_of, length, map, Named, named_by, None, page_of, rules, subst, sym, true, with_named, ◌+◌, ◌<◌, ◌^◌, ◌∙◌, ◌≡◌}
+use Rattle.ksm_pages.proofs.Names.{All-append, All-cons, All-filter, ap, arith, find, GuestPage, is_of, length, map, Named, named_by, None, page_of, rules, true, with_named, ◌+◌, ◌<◌, ◌^◌, ◌∙◌, ◌≡◌}
 use Rattle.ksm_order.specs.declared.item.Item.{Item}
-use Rattle.ksm_order.specs.Listed.{AreAscending, is_at, with_item}
+use Rattle.ksm_order.specs.Listed.{is_at, with_item}
 use Rattle.ksm_order.proofs.Changes.{with_rises}
 use Rattle.ksm_pages.proofs.Ranked.{absent_by, longer_by, page_is, with_by}
 use Rattle.ksm_pages.proofs.order.Order.insert.Goals as goal
@@ -30,16 +30,15 @@ insert-requires c = record {
 pub invariant_of-self-2 : goal.invariant_of-self-2
 invariant_of-self-2 c =
     let k = (goal.at.invariant_of-self-2 c).After-key_of in
-    let items = c.self.inside.pages in
     let x = item k in
     let come = c.in_ok-insert.ensures.added in
     let rise = c.self.invariant.ascending in
     let one_more : c.in-Some.len ≡ c.self.inside.len + 1 = grind arith in
     let Small : Item → Type 0 = λ y. y.key < 2 ^ 48 in
     record {
-      ascending = subst AreAscending (sym come) (with_rises x _ rise);
-      long = omega (arith, one_more, c.self.invariant.long, ap length come, longer_by _ x items rise (absent k) (put k));
-      small = subst (All Small) (sym come) (All-append Small _ _ (All-filter _ Small _ c.self.invariant.small)
+      ascending = rw come (with_rises x _ rise);
+      long = omega (arith, one_more, c.self.invariant.long, ap length come, longer_by _ x c.self.inside.pages rise (absent k) (put k));
+      small = rw come (All-append Small _ _ (All-filter _ Small _ c.self.invariant.small)
           (All-cons Small x _ c.key_of.ensures.small (All-filter _ Small _ c.self.invariant.small)));
     }
 

@@ -1,21 +1,18 @@
-use Rattle.ksm_pages.proofs.Names.{All, All-map, ap, arith, length, length-map, rules, subst, sym, ◌<◌, ◌^◌}
+use Rattle.ksm_pages.proofs.Names.{All-map, ap, arith, length, length-map, rules, ◌<◌, ◌^◌}
 use Rattle.ksm_order.specs.declared.item.Item.{Item}
-use Rattle.ksm_order.specs.Listed.{AreAscending}
 use Rattle.ksm_order.proofs.Changes.{mark_of, mark_rises, same_key}
 use Rattle.ksm_pages.proofs.Ranked.{marked_by}
 use Rattle.ksm_pages.proofs.order.Order.mark.Goals as goal
 
 pub invariant_of-self : goal.invariant_of-self
 invariant_of-self c =
-    let items = c.self.inside.pages in
     let key = c.key_of.result in
     let mark = c.args.mergeable in
     let Small : Item → Type 0 = λ y. y.key < 2 ^ 48 in
     record {
-      ascending = subst AreAscending (sym c.set_mark.ensures) (mark_rises _ _ _ c.self.invariant.ascending);
-      long = omega (arith, c.self.invariant.long, ap length c.set_mark.ensures, length-map items (mark_of key mark));
-      small = subst (All Small) (sym c.set_mark.ensures) (All-map Small _ _
-          (λ k d lt. subst (λ n. n < 2 ^ 48) (sym (same_key key mark _)) (c.self.invariant.small k d lt)));
+      ascending = rw c.set_mark.ensures (mark_rises _ _ _ c.self.invariant.ascending);
+      long = omega (arith, c.self.invariant.long, ap length c.set_mark.ensures, length-map c.self.inside.pages (mark_of key mark));
+      small = rw c.set_mark.ensures (All-map Small _ _ (λ k d lt. rw (same_key key mark _) (c.self.invariant.small k d lt)));
     }
 
 pub returns : goal.returns

@@ -1,24 +1,23 @@
-use Rattle.ksm_pages.proofs.Names.{All, All-filter, ap, arith, find, is_of, is_some, key_of, length, rules, subst, sym, ◌<◌, ◌^◌, ◌∙◌}
+use Rattle.ksm_pages.proofs.Names.{All-filter, ap, arith, find, is_of, is_some, key_of, length, rules, sym, ◌<◌, ◌^◌, ◌∙◌}
 use Rattle.std.proofs.lemmas.List.Kept.{AllPairs-filter}
 use Rattle.ksm_order.specs.declared.item.Item.{Item}
-use Rattle.ksm_order.specs.Listed.{AreAscending, is_at}
+use Rattle.ksm_order.specs.Listed.{is_at}
 use Rattle.ksm_pages.proofs.Options.{some_mapped}
 use Rattle.ksm_pages.proofs.Ranked.{found_by, gone_one, without_by}
 use Rattle.ksm_pages.proofs.order.Order.remove.Goals as goal
 
 pub invariant_of-self : goal.invariant_of-self
 invariant_of-self c =
-    let items = c.self.inside.pages in
     let key = c.key_of.result in
     let there =
-    ap (λ n. is_some (find (is_at n) items)) c.key_of.ensures.key
+    ap (λ n. is_some (find (is_at n) c.self.inside.pages)) c.key_of.ensures.key
     ∙ sym (some_mapped _ _)
     ∙ ap is_some (sym (found_by _ c.key_of.ensures.few _) ∙ ap (find (is_of c.args.page)) c.self.view_is)
     ∙ c.requires.there in
     record {
-      ascending = subst AreAscending (sym c.remove.ensures) (AllPairs-filter (λ (x y : Item). x.key < y.key) _ _ c.self.invariant.ascending);
+      ascending = rw c.remove.ensures (AllPairs-filter (λ (x y : Item). x.key < y.key) _ _ c.self.invariant.ascending);
       long = omega (arith, c.self.invariant.long, ap length c.remove.ensures, gone_one _ _ c.self.invariant.ascending there);
-      small = subst (All (λ (y : Item). y.key < 2 ^ 48)) (sym c.remove.ensures) (All-filter _ (λ (y : Item). y.key < 2 ^ 48) _ c.self.invariant.small);
+      small = rw c.remove.ensures (All-filter _ (λ (y : Item). y.key < 2 ^ 48) _ c.self.invariant.small);
     }
 
 pub returns : goal.returns

@@ -18,12 +18,11 @@ pub returns-then-is_some : goal.returns-then-is_some
 returns-then-is_some c =
     let s = c.self.inside in
     let place = c.args.place in
-    let vacant = subst (λ (v : PagesValue). IsVacant place v.rows v.dups) (sym c.self.view_is) c.requires in
     let left = dup_rows s.dups.dups in
     let dropped = (λ i. dup_rows (c.drop_stale.ensures i).dups) ∙ rows_without place _ in
     let lain =
     ap (λ (ds : List DupRow). frame_of (lodgings_of (lodging ds s.frames.items) s.rows.held)) dropped
-    ∙ lodged_dropped _ _ _ vacant in
+    ∙ lodged_dropped _ _ _ (subst (λ (v : PagesValue). IsVacant place v.rows v.dups) (sym c.self.view_is) c.requires) in
     (λ i. record (seen (view_of s)) { dups = dropped i; frame = lain i; next = ap (λ (d : DupsState). d.next) c.drop_stale.ensures i })
     ∙ ap (λ (v : PagesValue). record (seen v) { dups = filter (elsewhere place) v.dups }) c.self.view_is
 

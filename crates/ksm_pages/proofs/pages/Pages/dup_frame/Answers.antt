@@ -1,4 +1,4 @@
-use Rattle.ksm_pages.proofs.Names.{All, ap, List, merged_into, PagesValue, seen, slice_get, Some, subst, sym, true, ℕ, ◌∙◌, ◌≡◌}
+use Rattle.ksm_pages.proofs.Names.{ap, List, slice_get, sym, ℕ, ◌∙◌}
 use Rattle.std.proofs.Common.{unwrap_or}
 use Rattle.ksm_pages.proofs.Paging.{items_lodge}
 use Rattle.ksm_pages.proofs.pages.Pages.dup_frame.Goals as goal
@@ -6,9 +6,6 @@ use Rattle.ksm_pages.proofs.pages.Pages.dup_frame.Goals as goal
 pub returns : goal.returns
 returns c =
     let s = c.self.inside in
-    subst (λ (v : PagesValue). All
-    (λ d. d.place ≡ c.args.place
-    → All (λ r. merged_into d.number r.state ≡ true → (seen v).frame r.page ≡ Some c.unwrap_or.result) v.rows) v.dups) c.self.view_is
-    (items_lodge _ _ c.self.invariant.order c.at.ensures.lawful (c.self.invariant.places ∙ sym c.self.invariant.room)
+    rw (← c.self.view_is) (items_lodge _ _ c.self.invariant.order c.at.ensures.lawful (c.self.invariant.places ∙ sym c.self.invariant.room)
     (c.unwrap_or.ensures ∙ ap (λ o. unwrap_or o 0) c.frame_at.ensures
     ∙ ap (λ (frames : List ℕ). unwrap_or (slice_get frames c.args.place) 0) c.deref.ensures.value))

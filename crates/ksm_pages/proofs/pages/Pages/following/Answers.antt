@@ -5,10 +5,9 @@ use Rattle.ksm_pages.proofs.pages.Pages.following.Goals as goal
 
 pub returns-in-Some : goal.returns-in-Some
 returns-in-Some c =
-    let page = c.in_ok-page.page in
     let s = c.self.inside in
     let r = (held_of s.rows.pass c.in-Some.field-0.now).row in
     let found = row_seen s c.self.view_is _ c.in-Some.ensures in
     ap (option_map (λ (x : Row). x.page))
     (first_at _ _ c.in_ok-page.ensures.next c.in_ok-page.ensures.least _ c.lie_in_order.ensures.rise r found)
-    ∙ ap Some (same_page_eq _ _ (find_passes (λ x. same_page x.page page) _ r found))
+    ∙ ap Some (same_page_eq _ _ (find_passes (λ x. same_page x.page c.in_ok-page.page) _ r found))

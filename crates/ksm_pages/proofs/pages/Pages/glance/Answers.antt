@@ -1,4 +1,4 @@
-use Rattle.ksm_pages.proofs.Names.{ap, found_at, option_map, refl, rules, same_page, same_page_refl, subst, sym, true, unwrap_or, ◌∙◌, ◌≡◌}
+use Rattle.ksm_pages.proofs.Names.{ap, found_at, option_map, refl, rules, same_page, same_page_refl, sym, true, unwrap_or, ◌∙◌, ◌≡◌}
 use Rattle.ksm_pages.proofs.Visiting.{IsAsked, asked, finds_gone, finds_waits, lawful_waits}
 use Rattle.ksm_pages.proofs.pages.Pages.glance.Goals as goal
 
@@ -14,7 +14,7 @@ own c =
     let tree = c.tree_in-tree.result in
     let bytes = c.in-Some.entry.now.bytes in
     let is = told.numbered refl in
-    subst (λ p. same_page p c.args.spot.page ≡ true) (sym (c.meet.ensures.met tree bytes is ∙ ap (λ o. unwrap_or o c.args.spot.page) (told.waiting refl tree bytes is)))
+    rw (c.meet.ensures.met tree bytes is ∙ ap (λ o. unwrap_or o c.args.spot.page) (told.waiting refl tree bytes is))
     (same_page_refl c.args.spot.page)
 
 pub invariant_of-self : goal.invariant_of-self

@@ -1,6 +1,6 @@
 use Rattle.ksm_pages.proofs.Names.{fresh_row, Held, refl, rules, seen, Some}
 use Rattle.ksm_pages.proofs.Entering.{but_there, either_way, entered, lay_nowhere}
-use Rattle.std.proofs.lemmas.Result.{on_err_weaker, on_ok_weaker}
+use Rattle.std.proofs.lemmas.Result.{on_ok_weaker}
 use Rattle.ksm_pages.proofs.Changing.{nothing_held}
 use Rattle.ksm_pages.proofs.Turning.{held_as}
 use Rattle.ksm_pages.proofs.pages.Pages.insert.Goals as goal
@@ -33,4 +33,4 @@ pub returns-clause-nowhere : goal.returns-clause-nowhere
 returns-clause-nowhere c = lay_nowhere c.self.inside c.self.invariant c.self.view_is (fresh c) c.requires
 
 pub returns-clause-refused : goal.returns-clause-refused
-returns-clause-refused c = search (rules, on_err_weaker)
+returns-clause-refused c = search rules

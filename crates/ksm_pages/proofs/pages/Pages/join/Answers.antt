@@ -19,9 +19,8 @@ join_at-requires-clause-absent c =
     let s = c.self.inside in
     let page = c.args.spot.page in
     let h = held_of s.rows.pass c.in-Some.entry.now in
-    let alone = alone_found s c.self.view_is _ c.in-Some.ensures c.requires.alone in
     tied_absent _ _ _ c.self.invariant.order (row_there s c.self.invariant _ c.in-Some.ensures) _ _
-    (own_not_merged _ alone) c.self.invariant.tied
+    (own_not_merged _ (alone_found s c.self.view_is _ c.in-Some.ensures c.requires.alone)) c.self.invariant.tied
 
 pub unreachable-requires : goal.unreachable-requires
 unreachable-requires c = search (rules, alone_there)

@@ -6,10 +6,8 @@ use Rattle.ksm_pages.proofs.pages.Pages.new_place.Goals as goal
 pub choose_place-requires : goal.choose_place-requires
 choose_place-requires c =
     let rows = rows_of c.self.inside.rows.held in
-    let s = c.self.inside.dups in
     let room = subst (λ (v : PagesValue). place_of_new (place_count v.shape) v.rows v.dups < place_count v.shape) (sym c.self.view_is) c.requires.room in
-    choice_exists rows s (tied_counted rows _ c.self.invariant.tied)
-    (subst (λ n. place_of_new n rows (dup_rows s.dups) < n) (sym c.self.invariant.places) room)
+    choice_exists rows c.self.inside.dups (tied_counted rows _ c.self.invariant.tied) (rw c.self.invariant.places room)
 
 pub returns-in-Stale : goal.returns-in-Stale
 returns-in-Stale c =

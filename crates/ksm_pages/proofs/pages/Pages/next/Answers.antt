@@ -1,7 +1,6 @@
-use Rattle.ksm_pages.proofs.Names.{ap, arith, of_guest, Row, true, ◌≡◌}
-use Rattle.ksm_pages.proofs.Asked.{next_none, next_past, next_told, of_some, told_next}
+use Rattle.ksm_pages.proofs.Names.{arith, of_guest, Row, true, ◌≡◌}
+use Rattle.ksm_pages.proofs.Asked.{next_none, next_past, next_told, told_next}
 use Rattle.ksm_pages.proofs.pages.Pages.next.Goals as goal
-use Rattle.ksm_pages.proofs.pages.Pages.next.Goals.{in_default-guest-via-in-Some-guest+else-spot-guest, in_default-guest-via-in_default-guest}
 
 pub returns-in-Some : goal.returns-in-Some
 returns-in-Some c = told_next _ c.args.guest c.args.cursor c.lie_in_order.ensures.rise c.in-Some.ensures _ c.told.ensures
@@ -12,16 +11,11 @@ returns-in_err-spot c =
 
 pub returns-in-Some-guest : goal.returns-in-Some-guest
 returns-in-Some-guest c =
-    let page = c.in_ok-spot.spot.page in
     next_past _ _ _ c.self.inside c.self.invariant c.self.view_is _ c.start_of.ensures.same
-    _ c.in_ok-spot.ensures c.in-Some-guest.is c.if-spot-guest.true (c.start_of.ensures.begun page (omega arith))
+    _ c.in_ok-spot.ensures c.in-Some-guest.is c.if-spot-guest.true (c.start_of.ensures.begun c.in_ok-spot.spot.page (omega arith))
 
 pub returns-in_default-guest : goal.returns-in_default-guest
 returns-in_default-guest c =
-    let page = c.in_ok-spot.spot.page in
-    let own : (x : Row) → x.page ≡ page → of_guest c.args.guest x ≡ true = elim c.in_default-guest.branch [
-      | in_default-guest-via-in-Some-guest+else-spot-guest w ↦ of_some w.in-Some-guest.is w.if-spot-guest.false
-      | in_default-guest-via-in_default-guest w ↦ λ x at. ap (λ o. of_guest o x) w.in_default-guest.is
-    ] in
+    let own : (x : Row) → x.page ≡ c.in_ok-spot.spot.page → of_guest c.args.guest x ≡ true = grind arith in
     next_told _ _ _ c.self.inside c.self.invariant c.self.view_is _ c.start_of.ensures.same
     _ c.in_ok-spot.ensures own _ c.told-in_default-guest.ensures

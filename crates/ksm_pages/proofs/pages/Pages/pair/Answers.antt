@@ -5,11 +5,9 @@ use Rattle.ksm_pages.proofs.pages.Pages.pair.Goals.{in_default-via-in-Some+in_de
 
 pub unreachable-requires : goal.unreachable-requires
 unreachable-requires c =
-    let first = first_there c.self.inside c.self.view_is _ _ _ c.requires.first in
-    let second = second_there c.self.inside c.self.view_is _ _ _ c.requires.first in
     elim c.in_default.branch [
-      | in_default-via-in-Some+in_default w ↦ true≢false (second w.in_default.ensures')
-      | in_default-via-in_default w ↦ true≢false (first w.in_default.ensures)
+      | in_default-via-in-Some+in_default w ↦ true≢false ((second_there c.self.inside c.self.view_is _ _ _ c.requires.first) w.in_default.ensures')
+      | in_default-via-in_default w ↦ true≢false ((first_there c.self.inside c.self.view_is _ _ _ c.requires.first) w.in_default.ensures)
     ]
 
 begun : (c : goal.After-found-arg-3-1)

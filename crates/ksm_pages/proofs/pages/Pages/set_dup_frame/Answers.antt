@@ -1,5 +1,4 @@
-use Rattle.ksm_pages.proofs.Names.{All, ap, AreDups, arith, frame_of, Frames, Inside, items_on, length, list_any, PagesValue, seen, subst, sym, true, ℕ, ◌<◌, ◌==◌, ◌∙◌, ◌≡◌}
-use Rattle.std.specs.Vec.{with_item}
+use Rattle.ksm_pages.proofs.Names.{ap, AreDups, arith, Frames, Inside, length, list_any, PagesValue, seen, sym, true, ℕ, ◌<◌, ◌==◌, ◌∙◌, ◌≡◌}
 use Rattle.ksm_pages.proofs.Leaving.{AreLawful, view_of}
 use Rattle.ksm_pages.proofs.Moving.{any_below, items_moved}
 use Rattle.ksm_pages.proofs.pages.Pages.set_dup_frame.Goals as goal
@@ -8,21 +7,16 @@ use Rattle.ksm_pages.proofs.pages.Pages.set_dup_frame.Goals as goal
 inside : (s : Inside) (p : PagesValue) → view_of s ≡ p → AreLawful s → AreDups s.dups → (place : ℕ)
     → list_any (λ d. d.place == place) p.dups ≡ true → place < length s.frames.items
 inside s p seen_as are lawful place there =
-    subst (λ n. place < n) (are.places ∙ sym are.room) (any_below _ _ _ lawful.places_below
+    rw (← are.places ∙ sym are.room) (any_below _ _ _ lawful.places_below
     (ap (λ (v : PagesValue). list_any (λ d. d.place == place) v.dups) seen_as ∙ there))
 
 pub index_mut-requires : goal.index_mut-requires
 index_mut-requires c =
-    let fits = inside c.self.inside _ c.self.view_is c.self.invariant c.at.ensures.lawful _ c.requires in
-    omega (arith, fits, c.self.inside.frames.ok.0)
+    omega (arith, inside c.self.inside _ c.self.view_is c.self.invariant c.at.ensures.lawful _ c.requires, c.self.inside.frames.ok.0)
 
 pub returns : goal.returns
 returns c =
     let s = c.self.inside in
     let fits = inside s _ c.self.view_is c.self.invariant c.at.ensures.lawful _ c.requires in
-    subst (λ (v : PagesValue). All
-    (λ d. d.place ≡ c.args.place
-    → seen (view_of (record s { frames = with_item s.frames c.args.place c.args.frame })) ≡ record
-    (seen v) { frame = items_on d.number c.args.frame v.rows (frame_of v.lodgings) }) v.dups) c.self.view_is
-    (λ k d lt at. ap (λ (f : Frames). record (seen (view_of s)) { frame = f })
+    rw (← c.self.view_is) (λ k d lt at. ap (λ (f : Frames). record (seen (view_of s)) { frame = f })
     (items_moved _ c.at.ensures.lawful.in_place_order _ _ _ fits _ k d lt at))

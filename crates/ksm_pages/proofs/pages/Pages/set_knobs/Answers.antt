@@ -1,4 +1,4 @@
-use Rattle.ksm_pages.proofs.Names.{All, AreKept, false, inl, inr, knobs_tuned, PagesValue, rows_of, seen, subst, sym, waiting_state, ◌∙◌, ◌≡◌}
+use Rattle.ksm_pages.proofs.Names.{All, false, inl, inr, knobs_tuned, PagesValue, rows_of, seen, subst, sym, waiting_state, ◌∙◌, ◌≡◌}
 use Rattle.ksm_pages.proofs.Leaving.{view_of}
 use Rattle.ksm_pages.proofs.Paging.{knobs_free}
 use Rattle.ksm_pages.proofs.pages.Pages.set_knobs.Goals as goal
@@ -7,7 +7,7 @@ pub invariant_of-self : goal.invariant_of-self
 invariant_of-self c =
     let s = c.self.inside in
     let rows = rows_of s.rows.held in
-    subst (λ d. AreKept s.shape c.args.knobs rows d s.frames.items) (sym c.set_limit.ensures)
+    rw c.set_limit.ensures
     (record {
       small = c.self.invariant.small;
       order = c.self.invariant.order;

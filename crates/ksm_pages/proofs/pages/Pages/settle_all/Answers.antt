@@ -1,4 +1,4 @@
-use Rattle.ksm_pages.proofs.Names.{refl, ◌∙◌}
+use Rattle.ksm_pages.proofs.Names.{arith, refl}
 use Rattle.ksm_pages.proofs.Turning.{held_as, rest_all}
 use Rattle.ksm_pages.proofs.pages.Pages.settle_all.Goals as goal
 
@@ -8,7 +8,4 @@ invariant_of-self c =
     (held_as c.settle_all.ensures) refl c.clear_waiting.ensures).lawful
 
 pub returns : goal.returns
-returns c =
-    let listed = (λ i. (c.settle_all.ensures i).restless) ∙ (λ i. (c.self.view_is i).restless) in
-    (rest_all c.self.inside c.self.invariant c.self.view_is _ (λ r. refl) (λ r. refl) c.settle_all.new.self
-    (held_as c.settle_all.ensures) listed c.clear_waiting.ensures).told_as
+returns c = grind (arith, rest_all, held_as)

@@ -16,9 +16,8 @@ gone c = alone_left c.self.invariant refl (alone c) c.leave.ensures
 stopped : (c : goal.After-stop_waiting) → Comes c.self.inside c.stop_waiting.new.self c.leave.new.dups
     (record (seen (view_of c.self.inside)) { rows = change_row c.args.spot.page on_its_own (view_of c.self.inside).rows })
 stopped c =
-    let row = (gone c).held.row in
     rested (gone c) _ (λ i. (c.stop_waiting.ensures i).restless) settled on_its_own
-    (λ r. refl) (λ r. refl) (alone c) (λ own i. record row { state = rests _ own i }) (held_as c.stop_waiting.ensures)
+    (λ r. refl) (λ r. refl) (alone c) (λ own i. record (gone c).held.row { state = rests _ own i }) (held_as c.stop_waiting.ensures)
 
 pub invariant_of-self : goal.invariant_of-self
 invariant_of-self c = (stopped c).lawful

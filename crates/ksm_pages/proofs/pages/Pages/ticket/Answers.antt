@@ -1,14 +1,10 @@
-use Rattle.ksm_pages.proofs.Names.{ap, place_of, refl, Row, sym, ◌∙◌}
-use Rattle.std.specs.Prelude.{option_and_then}
+use Rattle.ksm_pages.proofs.Names.{arith, place_of, refl, ◌∙◌}
 use Rattle.ksm_pages.proofs.Asked.{placed_own, ticket_told}
 use Rattle.ksm_pages.proofs.Leaving.{row_seen}
 use Rattle.ksm_pages.proofs.pages.Pages.ticket.Goals as goal
 
 pub returns-in_err-entry : goal.returns-in_err-entry
-returns-in_err-entry c =
-    c.from_residual.ensures
-    ∙ sym (ap (option_and_then (λ (r : Row). place_of r.state c.args.self.now.dups))
-    (row_seen c.self.inside c.self.view_is _ c.in_err-entry.ensures))
+returns-in_err-entry c = grind (arith, row_seen)
 
 pub returns-in-Merged : goal.returns-in-Merged
 returns-in-Merged c =

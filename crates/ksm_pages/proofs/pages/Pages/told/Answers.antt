@@ -1,4 +1,4 @@
-use Rattle.ksm_pages.proofs.Names.{ap, ap₂, held_of, is_some, IsHeld, List, lodging, PagesValue, refl, rules, seen, Some, subst, sym, ℕ, ◌∙◌}
+use Rattle.ksm_pages.proofs.Names.{ap, ap₂, held_of, is_some, List, lodging, refl, rules, Some, sym, ℕ, ◌∙◌}
 use Rattle.ksm_tree.specs.Dups.{rows_of as dup_rows}
 use Rattle.ksm_pages.proofs.Lodgings.{frame_by, seat}
 use Rattle.ksm_pages.proofs.Changing.{row_told}
@@ -13,11 +13,10 @@ returns c =
     let s = c.self.inside in
     let page = c.args.spot.page in
     let e = c.in_ok-spot.entry.now in
-    let h = held_of s.rows.pass e in
     let of_dup = lodging (dup_rows s.dups.dups) s.frames.items in
-    subst (λ (v : PagesValue). IsHeld (seen v) page (record { spot = c.in_ok-spot.spot; home = e.home; shared = c.is_none.result; frame = c.frame_of.result })) c.self.view_is
+    rw (← c.self.view_is)
     (record {
-      row = h.row;
+      row = (held_of s.rows.pass e).row;
       found = row_told page _ c.in_ok-spot.ensures.1;
       spot = c.in_ok-spot.ensures.0;
       home = refl;

@@ -1,12 +1,10 @@
-use Rattle.ksm_pages.proofs.Names.{ap, option_map, page_beside, rules, Spot, sym, ◌∙◌}
+use Rattle.ksm_pages.proofs.Names.{arith, rules}
 use Rattle.ksm_pages.proofs.Beside.{merged_beside, own_beside, zero_beside}
 use Rattle.ksm_pages.proofs.Leaving.{row_seen}
 use Rattle.ksm_pages.proofs.pages.Pages.waiting_beside.Goals as goal
 
 pub returns-in_err-entry : goal.returns-in_err-entry
-returns-in_err-entry c =
-    ap (option_map (λ (s : Spot). s.page)) c.from_residual.ensures
-    ∙ sym (ap (page_beside c.args.self.now.knobs c.args.self.now.rows) (row_seen c.self.inside c.self.view_is _ c.in_err-entry.ensures))
+returns-in_err-entry c = grind (arith, row_seen)
 
 pub returns-in_err-page-in-Merged : goal.returns-in_err-page-in-Merged
 returns-in_err-page-in-Merged c = search (rules, merged_beside)

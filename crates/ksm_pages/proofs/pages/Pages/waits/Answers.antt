@@ -1,4 +1,4 @@
-use Rattle.ksm_pages.proofs.Names.{ap, Bool, false, MatchOption, Option, refl, Row, row_at, rules, state_of, subst, sym, waiting_state, ◌∙◌, ◌≡◌}
+use Rattle.ksm_pages.proofs.Names.{ap, arith, Bool, false, MatchOption, row_at, rules, state_of, waiting_state, ◌∙◌, ◌≡◌}
 use Rattle.ksm_pages.proofs.Leaving.{row_seen}
 use Rattle.ksm_pages.proofs.pages.Pages.waits.Goals as goal
 use Rattle.ksm_pages.proofs.pages.Pages.waits.Goals.{After-state}
@@ -8,8 +8,7 @@ told : (c : After-state) (b : Bool) → b ≡ waiting_state c.state.result
     → MatchOption (row_at c.args.spot.page c.args.self.now.rows) (b ≡ false) (λ r. b ≡ waiting_state r.state)
 told c b is =
     let e = c.in-Some.entry.now in
-    subst (λ (o : Option Row). MatchOption o (b ≡ false) (λ r. b ≡ waiting_state r.state))
-    (sym (row_seen c.self.inside c.self.view_is _ c.in-Some.ensures))
+    rw (row_seen c.self.inside c.self.view_is _ c.in-Some.ensures)
     (is ∙ ap waiting_state (c.state.ensures ∙ ap (state_of e.kind e.number) c.pass.ensures))
 
 pub returns-in-Waiting : goal.returns-in-Waiting
@@ -25,6 +24,4 @@ pub returns-in-Zero : goal.returns-in-Zero
 returns-in-Zero c = search (rules, told)
 
 pub returns-in_default : goal.returns-in_default
-returns-in_default c =
-    subst (λ (o : Option Row). MatchOption o (false ≡ false) (λ r. false ≡ waiting_state r.state))
-    (sym (row_seen c.self.inside c.self.view_is _ c.in_default.ensures)) refl
+returns-in_default c = grind (arith, row_seen)

@@ -1,4 +1,4 @@
-use Rattle.ksm_pages.proofs.Names.{AllPairs-filter, AreInOrder, comes_before, filter, filter_same, get, has_item, is_useless, not, rules, subst, sym, true, ◌∙◌, ◌≡◌}
+use Rattle.ksm_pages.proofs.Names.{AllPairs-filter, comes_before, filter, filter_same, get, has_item, is_useless, not, rules, true, ◌∙◌, ◌≡◌}
 use Rattle.ksm_pages.proofs.Spots.{swept}
 use Rattle.ksm_pages.proofs.restless.Restless.sweep.Goals as goal
 
@@ -8,7 +8,7 @@ left c = filter_same _ _ _ (λ s b g t. search rules) _ _ c.retain.ensures.filte
 
 pub invariant_of-self : goal.invariant_of-self
 invariant_of-self c =
-    subst AreInOrder (sym (left c)) (AllPairs-filter (λ s t. comes_before s.page t.page ≡ true) _ c.self.inside.spots.items c.self.invariant)
+    rw (left c) (AllPairs-filter (λ s t. comes_before s.page t.page ≡ true) (λ s. not (is_useless c.args.order.now s (get c.args.entries.now s.key))) _ c.self.invariant)
 
 pub returns-then-self-len-clause-kept : goal.returns-then-self-len-clause-kept
 returns-then-self-len-clause-kept c page has = rw (left c) (swept _ _ ((λ i. has_item page (c.self.view_is i).pages) ∙ has))

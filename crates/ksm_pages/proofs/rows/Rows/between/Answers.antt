@@ -5,8 +5,7 @@ use Rattle.ksm_pages.proofs.rows.Rows.between.Goals as goal
 -- the pages between, as they are seen
 between : (c : goal.After-between) → map (λ n. n.page) (passed_to c.args.cursor c.args.page c.self.inside.order) ≡ filter (λ p. comes_before p c.args.page) (pages_ahead c.args.cursor (rows_of c.args.self.now.held))
 between c =
-    let s = c.self.inside in
-    sym (between_by _ s.entries _ c.self.invariant.ascending c.self.invariant.filed _ _)
+    sym (between_by _ c.self.inside.entries _ c.self.invariant.ascending c.self.invariant.filed _ _)
     ∙ ap (λ (v : RowsView). filter (λ p. comes_before p c.args.page) (pages_ahead c.args.cursor (rows_of v.held))) c.self.view_is
 
 pub returns-clause-many : goal.returns-clause-many

@@ -1,4 +1,4 @@
-use Rattle.ksm_pages.proofs.Names.{ap, arith, Entry, false, get, held_in, held_of, IsRows, mapped, rules, Some, subst, sym, true, with_held, ◌∙◌, ◌≡◌}
+use Rattle.ksm_pages.proofs.Names.{ap, arith, Entry, false, get, held_in, held_of, mapped, rules, Some, subst, sym, true, with_held, ◌∙◌, ◌≡◌}
 use Rattle.slab.specs.Slab.{Updates as Fills}
 use Rattle.ksm_pages.specs.declared.row.Kind.TheVariants as kinds
 use Rattle.ksm_pages.proofs.Writing.{no_name, rests_now, seen_with_room, still_put, viewed_put, with_room}
@@ -14,7 +14,7 @@ invariant_of-self-2 c =
     let key : c.insert_reserved.result ≡ c.in-Ok.key = search rules in
     let fills = subst (λ n. Fills c.reserve_one.new.slab c.insert_reserved.new.self n (Some e)) key c.insert_reserved.ensures.updates in
     let vacant = ap (λ n. get c.reserve_one.new.slab n) (sym key) ∙ c.insert_reserved.ensures.was_vacant in
-    subst (λ order. IsRows c.insert_reserved.new.self order c.add.new.self s.tally s.pass) (sym c.in_ok-insert.ensures.added)
+    rw c.in_ok-insert.ensures.added
     (still_put (record s { entries = c.reserve_one.new.slab }) (with_room s c.self.invariant c.reserve_one.ensures.rest)
     (seen_with_room s c.self.view_is c.reserve_one.ensures.rest) vacant c.requires.absent fills
     (rests_now _ c.self.invariant.counting) (omega arith) c.add.ensures)

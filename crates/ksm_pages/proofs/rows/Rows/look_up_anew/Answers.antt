@@ -10,12 +10,9 @@ pub returns-in_err-key : goal.returns-in_err-key
 returns-in_err-key c = search (rules, held_nowhere)
 
 pub returns : goal.returns
-returns c =
-    let s = c.self.inside in
-    let page = c.args.page in
-    let there = under _ _ c.self.invariant.filed (sym c.in_ok-key.ensures) in (
-      refl,
-      (λ i. held_at page (sym c.self.view_is i).held)
-          ∙ row_there s c.self.invariant there c.index.ensures
-          ∙ (λ i. Some (held_of (c.self.view_is i).pass c.index.result.now)),
-    )
+returns c = (
+  refl,
+  (λ i. held_at c.args.page (sym c.self.view_is i).held)
+      ∙ row_there c.self.inside c.self.invariant (under _ _ c.self.invariant.filed (sym c.in_ok-key.ensures)) c.index.ensures
+      ∙ (λ i. Some (held_of (c.self.view_is i).pass c.index.result.now)),
+)

@@ -1,4 +1,4 @@
-use Rattle.ksm_pages.proofs.Names.{ap, held_in, is_some, IsRows, rules, subst, sym, ◌∙◌}
+use Rattle.ksm_pages.proofs.Names.{ap, held_in, is_some, rules, sym, ◌∙◌}
 use Rattle.ksm_pages.proofs.Writing.{can_be, nothing_gone, still_gone, viewed_gone}
 use Rattle.ksm_pages.proofs.Options.{some_mapped}
 use Rattle.ksm_pages.proofs.rows.Rows.remove.Goals as goal
@@ -17,10 +17,7 @@ remove-requires c = record {
 
 pub invariant_of-self : goal.invariant_of-self
 invariant_of-self c =
-    let s = c.self.inside in
-    subst (λ list. IsRows c.remove-gone.new.self c.remove.new.self list c.change.new.self s.pass) (sym c.lose_row.ensures)
-    (subst (λ order. IsRows c.remove-gone.new.self order s.restless c.change.new.self s.pass) (sym c.remove.ensures)
-    (still_gone s c.self.invariant c.in-Some.ensures.there c.remove-gone.ensures.value
+    rw c.lose_row.ensures (rw c.remove.ensures (still_gone c.self.inside c.self.invariant c.in-Some.ensures.there c.remove-gone.ensures.value
     c.remove-gone.ensures.updates c.state.ensures c.change.ensures))
 
 pub returns : goal.returns

@@ -1,4 +1,4 @@
-use Rattle.ksm_pages.proofs.Names.{ap, arith, held_in, IsRows, refl, rules, subst, sym, with_value, ◌∙◌}
+use Rattle.ksm_pages.proofs.Names.{ap, arith, held_in, refl, rules, sym, with_value, ◌∙◌}
 use Rattle.ksm_pages.proofs.Writing.{listed_calm, listed_now, nothing, still_marked, untouched, viewed, viewed_marked}
 use Rattle.ksm_pages.proofs.rows.Rows.set_mergeable.Goals as goal
 
@@ -13,9 +13,8 @@ invariant_of-self c =
 
 pub returns-then-was-mergeable : goal.returns-then-was-mergeable
 returns-then-was-mergeable c =
-    let s = c.self.inside in
     let e' = record c.index_mut-entry.result.now { mergeable = c.args.mergeable } in
-    viewed s c.self.invariant c.in-Some.ensures.there c.index_mut-entry.ensures.value _ refl _ refl _ c.self.view_is
+    viewed c.self.inside c.self.invariant c.in-Some.ensures.there c.index_mut-entry.ensures.value _ refl _ refl _ c.self.view_is
 
 pub invariant_of-self-then-restless : goal.invariant_of-self-then-restless
 invariant_of-self-then-restless c =
@@ -23,7 +22,7 @@ invariant_of-self-then-restless c =
     let there = c.in-Some.ensures.there in
     let stood = c.index_mut-entry.ensures.value in
     let e' = record c.index_mut-entry.result.now { mergeable = c.args.mergeable } in
-    subst (λ order. IsRows (with_value s.entries c.in-Some.key e') order c.add.new.self s.tally s.pass) (sym c.mark.ensures)
+    rw c.mark.ensures
     (still_marked s c.self.invariant there stood _ refl refl refl (listed_now s c.self.invariant there stood _ refl c.add.ensures))
 
 pub invariant_of-self-else-restless : goal.invariant_of-self-else-restless
@@ -32,7 +31,7 @@ invariant_of-self-else-restless c =
     let there = c.in-Some.ensures.there in
     let stood = c.index_mut-entry.ensures.value in
     let e' = record c.index_mut-entry.result.now { mergeable = c.args.mergeable } in
-    subst (λ order. IsRows (with_value s.entries c.in-Some.key e') order c.let_be.new.self s.tally s.pass) (sym c.mark.ensures)
+    rw c.mark.ensures
     (still_marked s c.self.invariant there stood _ refl refl refl (listed_calm s c.self.invariant there stood _ refl (sym c.is_restless-restless.ensures ∙ c.if-restless.false) c.let_be.ensures))
 
 pub returns-then-restless : goal.returns-then-restless

@@ -1,11 +1,11 @@
-use Rattle.ksm_pages.proofs.Names.{ap, held_in, IsRows, map, on_row, RowsView, rules, settled, subst, sym, ◌∙◌}
+use Rattle.ksm_pages.proofs.Names.{ap, held_in, map, on_row, RowsView, rules, settled, ◌∙◌}
 use Rattle.ksm_pages.proofs.Settling.{anew_rows, anew_seen, next_rows, next_seen, retained_all}
 use Rattle.ksm_pages.proofs.rows.Rows.settle_all.Goals as goal
 
 pub invariant_of-self : goal.invariant_of-self
 invariant_of-self c =
     let s = c.self.inside in
-    subst (λ pass. IsRows s.entries s.order s.restless (record s.tally { waiting = 0 }) pass) (sym c.in-Some.ensures.1) (next_rows c.self.invariant)
+    rw c.in-Some.ensures.1 (next_rows c.self.invariant)
 
 pub invariant_of-self-in-None : goal.invariant_of-self-in-None
 invariant_of-self-in-None c =
@@ -21,7 +21,6 @@ returns-in-Some c =
 
 pub returns-in-None : goal.returns-in-None
 returns-in-None c =
-    let s = c.self.inside in
-    ap (λ held. record { held = held; restless = s.restless; pass = 1 }) (anew_seen c.self.invariant c.retain.new.self
+    ap (λ held. record { held = held; restless = c.self.inside.restless; pass = 1 }) (anew_seen c.self.invariant c.retain.new.self
     (retained_all _ _ (λ f k old keep new next t. search rules) _ _ _ _ c.retain.ensures.retained))
     ∙ ap (λ (v : RowsView). record v { held = map (on_row settled) v.held; pass = 1 }) c.self.view_is

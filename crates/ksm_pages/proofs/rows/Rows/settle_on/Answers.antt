@@ -13,18 +13,16 @@ change-requires c =
 pub invariant_of-self : goal.invariant_of-self
 invariant_of-self c =
     let s = c.self.inside in
-    let e = c.index_mut-entry.result.now in
     let there = c.in-Some.ensures.there in
     let stood = c.index_mut-entry.ensures.value in
-    let e' = record e { number = 0; at = c.args.frame; kind = kinds.Own } in
+    let e' = record c.index_mut-entry.result.now { number = 0; at = c.args.frame; kind = kinds.Own } in
     still s c.self.invariant there stood _ refl refl (λ own. omega arith) (listed_now s c.self.invariant there stood _ refl c.add.ensures)
     c.state-old.ensures (sym (rests_now _ c.self.invariant.counting)) c.change.ensures
 
 pub invariant_of-self-else-restless-was_restless : goal.invariant_of-self-else-restless-was_restless
 invariant_of-self-else-restless-was_restless c =
-    let s = c.self.inside in
     let e = c.index_mut-entry.result.now in
-    kept s c.self.invariant c.in-Some.ensures.there c.index_mut-entry.ensures.value _ refl refl (λ own. omega arith)
+    kept c.self.inside c.self.invariant c.in-Some.ensures.there c.index_mut-entry.ensures.value _ refl refl (λ own. omega arith)
     (λ may. grind arith) _ refl c.state-old.ensures (sym (rests_now _ c.self.invariant.counting)) c.change.ensures
 
 pub returns-then-restless-was_restless : goal.returns-then-restless-was_restless

@@ -1,4 +1,4 @@
-use Rattle.ksm_pages.proofs.Names.{ap, bytes_eq, Entry, held_in, IsRows, List, refl, rules, subst, sym, with_value, ℕ, ◌&&◌, ◌∙◌}
+use Rattle.ksm_pages.proofs.Names.{ap, bytes_eq, Entry, held_in, List, refl, rules, with_value, ℕ, ◌&&◌, ◌∙◌}
 use Rattle.ksm_pages.proofs.Writing.{nothing, untouched, viewed_same}
 use Rattle.ksm_pages.proofs.rows.Rows.store.Goals as goal
 
@@ -11,9 +11,7 @@ returns-in_default c = search (rules, nothing)
 
 pub invariant_of-self : goal.invariant_of-self
 invariant_of-self c =
-    let s = c.self.inside in
-    subst (λ x. IsRows (with_value s.entries c.in-Some.key x) s.order s.restless s.tally s.pass) (sym c.take_bytes.ensures)
-    (untouched s c.self.invariant c.in-Some.ensures.there c.index_mut.ensures.value _ refl refl refl refl)
+    rw c.take_bytes.ensures (untouched c.self.inside c.self.invariant c.in-Some.ensures.there c.index_mut.ensures.value _ refl refl refl refl)
 
 pub returns : goal.returns
 returns c =
