@@ -164,7 +164,7 @@ module _ {asked : Row → Bool} (f : Row → Row) (keeps : (r : Row) → (f r).p
   -- where a search tells a page as the next one asked for after the cursor, the rows are cut at that page
   pub along_cut : InPageOrder rows → (page : GuestPage) → option_map (λ r. r.page) (find (next_of last) now) ≡ Some page
       → IsCut asked f rows now done page
-  along_cut rise page told = grind (arith, (mapped_some _ _ _ told).2, cut_there)
+  along_cut rise page told = grind (arith, (mapped_some _ _ told).2, cut_there)
 
 -- ---------------------------------------------------------------- how far the cursor is
 

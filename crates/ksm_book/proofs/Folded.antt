@@ -15,7 +15,7 @@ next_first cursor (r ∷ rows) = grind (arith, next_first cursor rows)
 -- the next row, where a page is ahead
 some_next : (c : BookState) {page : GuestPage} {more : List GuestPage} → pages_ahead c ≡ page ∷ more
     → (row : Row) × (next_row c.cursor c.rows ≡ Some row) × (row.page ≡ page)
-some_next c is = mapped_some _ _ _ (next_first c.cursor c.rows ∙ ap (λ l. slice_get l 0) is)
+some_next c is = mapped_some _ _ (next_first c.cursor c.rows ∙ ap (λ l. slice_get l 0) is)
 
 -- where no page is ahead there is no next row
 pub none_next : (c : BookState) → pages_ahead c ≡ [] → next_row c.cursor c.rows ≡ None

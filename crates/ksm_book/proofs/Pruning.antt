@@ -84,7 +84,7 @@ module _ {p q : PagesView} {k l : KeeperView} {count : ℕ} (h : Drops p q k l c
   rows_are = rw h.pages
 
   stale : (d : DupRow) × (find (is_stale q.rows) q.dups ≡ Some d) × (d.place ≡ place)
-  stale = mapped_some _ _ _ (sym told)
+  stale = mapped_some _ _ (sym told)
 
   found : find (is_stale p.rows) q.dups ≡ Some stale.0
   found = grind (arith, rows_are)
