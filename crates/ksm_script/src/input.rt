@@ -159,16 +159,6 @@ pub(crate) fn take_short<M: Lane<R, W>, R, W: Write>(reader: &mut R) -> Option<S
     Some(line)
 }
 
-/// Whether the line that is next at hand may be one with a content: `put`, `reg` or `equal`. It is a guess, by two bytes; where
-/// it is wrong, the line is read by pieces.
-#[inline(always)]
-pub(crate) fn may_have_content<M: Lane<R, W>, R, W: Write>(reader: &R) -> bool {
-    matches!(
-        M::at_hand(reader),
-        [b'p', b'u', ..] | [b'r', b'e', ..] | [b'e', b'q', ..]
-    )
-}
-
 /// Takes the line with a content that is next at hand, read where it lies, if it is one. Else nothing is taken, which may
 /// be of any line.
 #[inline(always)]

@@ -13,7 +13,7 @@ ghost use Rattle.ksm_script.specs.Script.{Goes, IsReadAs, Runs, streams};
 ghost use Rattle.ksm_script.specs.Texts.{AppendsPart};
 
 use crate::hears::{Hears, Unheard};
-use crate::input::{LineEnd, may_have_content, take_empty, take_page, take_rare, take_short};
+use crate::input::{LineEnd, take_empty, take_page, take_rare, take_short};
 use crate::lane::{Bytes, Lane, Sends};
 use crate::replies::{Returned, Written};
 use crate::reply::{LineReply, put_reply};
@@ -142,16 +142,13 @@ fn answer_at_hand<M: Lane<R, W>, N: Naming, T: Threads + Wait + Sync, R, W: Writ
         return Ok(false);
     }
     let Some(line) = take_short::<M, R, W>(reader) else {
-        if may_have_content::<M, R, W>(reader) {
-            return answer_page::<M, N, T, R, W>(rt, reader, writer, session);
-        }
-        return answer_rare::<M, N, T, R, W>(rt, reader, writer, session);
+        return answer_page::<M, N, T, R, W>(rt, reader, writer, session);
     };
     let told = session.answer_short::<Written<M>, T, W>(rt, line, writer);
     told.and(Ok(true))
 }
 
-/// Answers the next line at once, tried as one with a content.
+/// Answers the next line at once, first tried as one with a content.
 ///
 /// It stands apart, so that a page is cleared before no short line.
 #[inline(never)]
@@ -165,7 +162,7 @@ fn answer_page<M: Lane<R, W>, N: Naming, T: Threads + Wait + Sync, R, W: Write>(
         (reader.new, writer.new, session.new) result }
 {
     let Some(taken) = take_page::<M, R, W>(reader) else {
-        return Ok(false);
+        return answer_rare::<M, N, T, R, W>(rt, reader, writer, session);
     };
     let (line, bytes) = taken;
     let told = session.answer_page::<Written<M>, T, W>(rt, line, bytes, writer);
