@@ -204,16 +204,21 @@ static void merge(void) {
     END("settled", 1000);
 }
 
+/* A merge leaves a frame dying, until a store takes a frame of its node: the first on each node is counted by the frames that it reaps. */
 static void store_to_merged(void) {
-    uint64_t some = page_count / 64 < SOME ? page_count / 64 : SOME;
+    uint64_t pairs = page_count / 2, some = page_count / 64 < SOME ? page_count / 64 : SOME, apart = 2 * (pairs / some);
     begin();
-    for (uint64_t k = 0; k < some; k++)
-        of_page(KSM_STORE, 2 * (k * (page_count / 2 / some)), fresh());
-    END("copy", some);
-    for (uint64_t k = 0; k < some; k++) {
-        uint64_t page = 2 * (k * (page_count / 2 / some));
-        of_page(KSM_STORE, page, contents[page + 1]);
-    }
+    for (uint64_t node = 0; node < NODES; node++)
+        of_page(KSM_STORE, 2 * node, fresh());
+    END("reap", pairs);
+    begin();
+    for (uint64_t k = 1; k < some; k++)
+        of_page(KSM_STORE, k * apart, fresh());
+    END("copy", some - 1);
+    for (uint64_t node = 0; node < NODES; node++)
+        of_page(KSM_STORE, 2 * node, contents[2 * node + 1]);
+    for (uint64_t k = 1; k < some; k++)
+        of_page(KSM_STORE, k * apart, contents[k * apart + 1]);
     scan(3 * page_count);
 }
 
