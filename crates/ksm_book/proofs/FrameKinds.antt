@@ -1,5 +1,5 @@
 -- The sets of the free and of the dying frames follow the keeper's steps.
-use Rattle.ksm_book.proofs.Names.{ap, AreSets, arith, blank, Bool, cases_eq, cases_lt, cond, did, dying_kind, false, frame_at, frames_of, Free, free_kind, Freeze, get_or-set_other, get_or-set_same, get_or_past, has, inl, inr, IsSetOf, KeeperStep, KeeperView, Kind, Ledger, ledger_after, length, length-set, List, lowered, Marks, ne_eqb, Note, Raise, raised, Reap, refl, Shape, Sub, sym, true, with_frame, ℕ, ◌*◌, ◌-◌, ◌<◌, ◌∙◌, ◌≡◌, ◌≢◌, ◌≤◌}
+use Rattle.ksm_book.proofs.Names.{ap, AreSets, arith, blank, Bool, cases_eq, cases_lt, cond, count_in, did, Dying, dying_kind, false, frame_at, frames_of, Free, free_kind, Freeze, frozen, get_or-set_other, get_or-set_same, get_or_past, has, inl, inr, IsSetOf, KeeperStep, KeeperView, Kind, Ledger, ledger_after, length, length-set, List, lowered, Marks, MayLeave, ne_eqb, Note, Raise, raised, Reap, refl, Shape, Stable, Sub, sym, true, with_frame, ℕ, ◌*◌, ◌-◌, ◌<◌, ◌∙◌, ◌==◌, ◌≡◌, ◌≢◌, ◌≤◌}
 
 -- ---------------------------------------------------------------- one frame's note is changed
 
@@ -81,6 +81,11 @@ kind_left k f left = elim (cases_lt f _) [
   | inr beyond ↦ absurd (left (ap (λ (n : Note). n.base) (get_or_past _ f _ (omega (arith, length-set k.frames f (lowered (frame_at k f)))))))
 ]
 
+-- a frame that is not free is not so either once it has lost a reference
+free_no_more : (b : Bool) (kind : Kind) → free_kind kind ≡ false → free_kind (cond b Dying kind) ≡ free_kind kind
+free_no_more true kind used = sym used
+free_no_more false kind used = refl
+
 -- where a free frame was raised, and marked by its kind among the free ones, the sets are those of the free and the dying frames
 pub sets_raised : (v w : KeeperView) (found frame : ℕ) (free dying free' : List ℕ) → w ≡ did v (Raise frame) found → (frame_at v.ledger frame).kind ≡ Free
     → AreSets v free dying → Marks free free' frame (free_kind (frame_at w.ledger frame).kind) → AreSets w free' dying
@@ -93,6 +98,48 @@ sets_raised v w found frame free dying free' is may are marks =
       dying = set_stays _ v w _ table are.dying (λ g. rw is
           (same_kinds dying_kind v.ledger frame (raised (frame_at v.ledger frame)) (ap dying_kind (sym may)) g));
     }
+
+-- a frame without a reference that had one before is dying, and was not free
+kind_taken : (k : Ledger) (f : ℕ) → 1 ≤ (frame_at k f).base → (frame_at (with_frame k f (lowered (frame_at k f))) f).base ≡ 0
+    → (frame_at (with_frame k f (lowered (frame_at k f))) f).kind ≡ Dying
+kind_taken k f some none = elim (cases_lt f _) [
+  | inl within ↦
+      let stands = get_or-set_same k.frames f (lowered (frame_at k f)) blank within in
+      let one : (frame_at k f).base ≡ 1 = omega (arith, ap (λ (n : Note). n.base) stands) in
+      rw stands (rw one refl)
+  | inr beyond ↦ absurd (omega (arith, ap (λ (n : Note). n.base) (get_or_past k.frames f blank beyond)))
+]
+
+-- where a frame in use has lost its last reference, and was put among the dying ones, the sets are those of the free and
+-- the dying frames
+pub sets_taken : (v w : KeeperView) (found frame : ℕ) (free dying dying' : List ℕ) → w ≡ did v (Sub frame) found → MayLeave v frame
+    → (frame_at w.ledger frame).base ≡ 0 → AreSets v free dying → Marks dying dying' frame true → AreSets w free dying'
+sets_taken v w found frame free dying dying' is may none are marks =
+    let table = ap (λ (z : KeeperView). z.table) is in
+    let dies : (frame_at w.ledger frame).kind ≡ Dying = rw is (kind_taken v.ledger frame may.0.1 (grind (arith, is, none))) in
+    record {
+      free = set_stays _ v w _ table are.free (λ g. rw is
+          (same_kinds free_kind v.ledger frame (lowered (frame_at v.ledger frame)) (free_no_more _ _ may.1) g));
+      dying = set_marked _ v w _ table are.dying (λ g ne. rw is (other_after v.table.shape v.ledger (Sub frame) found g refl ne))
+          (rw dies marks);
+    }
+
+-- where a shown frame was frozen, or not, and marked by its kind among the dying ones, the sets are those of the free and
+-- the dying frames
+pub sets_frozen : (v w : KeeperView) (found frame : ℕ) (free dying dying' : List ℕ) → w ≡ did v (Freeze frame) found
+    → (frame_at v.ledger frame).kind ≡ Stable → AreSets v free dying
+    → Marks dying dying' frame (dying_kind (frame_at w.ledger frame).kind) → AreSets w free dying'
+sets_frozen v w found frame free dying dying' is shown are marks =
+    let table = ap (λ (z : KeeperView). z.table) is in
+    record {
+      free = set_stays _ v w _ table are.free (λ g. rw is (frozen_kinds (count_in found == (frame_at v.ledger frame).base) g));
+      dying = set_marked _ v w _ table are.dying (λ g ne. rw is (other_after v.table.shape v.ledger (Freeze frame) found g refl ne)) marks;
+    }
+  where
+    frozen_kinds : (made : Bool) (g : ℕ) → free_kind (frame_at (cond made (with_frame v.ledger frame (frozen (frame_at v.ledger frame))) v.ledger) g).kind
+        ≡ free_kind (frame_at v.ledger g).kind
+    frozen_kinds true g = same_kinds free_kind v.ledger frame (frozen (frame_at v.ledger frame)) (ap free_kind (sym shown)) g
+    frozen_kinds false g = refl
 
 -- where a frame has lost a reference of the keeper, and has one left, the sets stay those of the free and the dying frames
 pub sets_lowered : (v w : KeeperView) (found frame : ℕ) (free dying : List ℕ) → w ≡ did v (Sub frame) found → (frame_at w.ledger frame).base ≢ 0

@@ -1,5 +1,5 @@
 -- The keeper's steps as changes of a placement, and the lives that they spend.
-use Rattle.ksm_book.proofs.Names.{[], Add, added, All, All-filter, All-head, All-tail, arith, blank, Bool, cases_lt, cond, count_in, did, DupRow, Dying, dying_kind, dying_on, false, Filling, filter_passes, FitsBase, frame_at, Frames, frames_of, Free, GenerationFits, get_or, get_or-range_with_len, get_or_past, IfSome, inr, KeeperView, Kind, leaving, Ledger, ledger_after, length, length-range_with_len, List, MakesSteps, map, May, ne_eqb, None, Note, Option, past_lives, Placed, Private, range_with_len, Reap, reaped, refl, Retired, Row, same_Some, set, Shape, Some, spent, spent_on, Stable, Sub, subst, suc, sum_by, sum_by-cons, sum_by-set, sym, true, with_frame, zero, ℕ, ◌*◌, ◌+◌, ◌-◌, ◌<◌, ◌==◌, ◌∷◌, ◌≡◌, ◌≢◌, ◌≤◌, cond_both}
+use Rattle.ksm_book.proofs.Names.{[], Add, added, All, All-filter, All-head, All-tail, arith, blank, Bool, cases_lt, cond, cond_both, count_in, did, DupRow, Dying, dying_kind, dying_on, false, Filling, filter_passes, FitsBase, frame_at, Frames, frames_of, Free, free_kind, GenerationFits, get_or, get_or-range_with_len, get_or_past, IfSome, inr, KeeperView, Kind, leaving, Ledger, ledger_after, length, length-range_with_len, List, MakesSteps, map, May, MayLeave, ne_eqb, None, Note, Option, past_lives, Placed, Private, range_with_len, Reap, reaped, refl, Retired, Row, same_Some, set, Shape, Some, spent, spent_on, Stable, Sub, subst, suc, sum_by, sum_by-cons, sum_by-set, sym, true, with_frame, zero, ℕ, ◌*◌, ◌+◌, ◌-◌, ◌<◌, ◌==◌, ◌∷◌, ◌≡◌, ◌≢◌, ◌≤◌}
 use Rattle.ksm_book.proofs.ByPage.{one_same, one_other}
 use Rattle.ksm_book.proofs.Made.{first_made, none_made, step_made}
 use Rattle.ksm_book.proofs.Noted.{noted}
@@ -69,13 +69,18 @@ held_inside {k = k} {g = g} p =
     let some : 1 ≤ (frame_at k g).base = omega arith in
     (omega (arith, held_within k g some), some)
 
+-- a frame with a reference is not free
+in_use : (kind : Kind) {n : ℕ} → 1 ≤ n → FitsBase kind n → free_kind kind ≡ false
+in_use Free some fits = absurd (omega arith)
+in_use _ some fits = refl
+
 -- the frame in hand, if there is one, may be left
 pub may_leave : (v : KeeperView) {sh : Shape} → v.table.shape ≡ sh → {across : ℕ} {rows : List Row} {frame : Frames} {dups : List DupRow} (o : Option ℕ)
-    → Placed sh across v.ledger rows frame dups o → IfSome o (λ f. May v (Sub f))
+    → Placed sh across v.ledger rows frame dups o → IfSome o (MayLeave v)
 may_leave v same None p = tt
 may_leave v same (Some g) p =
     let held = held_inside p in
-    (rw same held.0, held.1)
+    ((rw same held.0, held.1), in_use _ held.1 (p.kinds g))
 
 -- what was in hand was given back: rows and dups lie lawfully
 pub left_placed : {v w : KeeperView} (o : Option ℕ) → MakesSteps v w (leaving o) → {sh : Shape} {across : ℕ} {rows : List Row} {frame : Frames} {dups : List DupRow}

@@ -56,7 +56,7 @@ pub use Rattle.ksm_book.specs.Due.{AreDue, comes_later, due_row_visited, DueView
 pub use Rattle.ksm_book.specs.DuePass.{part_before, part_visited, ReachedBefore, StaysBefore, StopsDue, StopsInPart, TakesOverFrom}
 pub use Rattle.ksm_book.specs.Folded.{begun, IsBeside, IsStill, last_of, mergeable_pages, next_visited, page_visited, pages_ahead, pages_visited, pass_at, restless_at, restless_row, visited, visits_beside}
 pub use Rattle.ksm_tree.specs.NumberSets.{has, Marks}
-pub use Rattle.ksm_book.specs.FrameSets.{AreSets, IsSetOf, NoneOf}
+pub use Rattle.ksm_book.specs.FrameSets.{AreSets, IsSetOf, MayLeave, NoneOf}
 pub use Rattle.ksm_book.specs.Keeping.{holding, IsLawful, Keeps, NoneLeft, past_lives, spent, spent_on, HasNewFrame, with_more}
 pub use Rattle.ksm_book.specs.Laid.{HasRemounted, Houses, IsLaid, lying, MayMove, Resettled, state_of, TurnedAway}
 pub use Rattle.ksm_book.specs.Mounted.{HasLost, HasMoved, MayMount, once_mounted}

@@ -1,5 +1,5 @@
 -- How a page gets another frame.
-use Rattle.ksm_book.proofs.Names.{ap, arith, change_row, FindsNone, GuestPage, Houses, IfSome, InPageOrder, is_some, IsKnown, IsLaid, KeeperView, leaving, lies_on, List, MakesSteps, MatchOption, May, None, on_its_own, Option, PagesView, Placed, Provides, refl, Resettled, Row, Some, Sub, subst, HasNewFrame, true, TurnedAway, ℕ, ◌<◌, ◌≡◌}
+use Rattle.ksm_book.proofs.Names.{ap, arith, change_row, FindsNone, GuestPage, HasNewFrame, Houses, IfSome, InPageOrder, is_some, IsKnown, IsLaid, KeeperView, leaving, lies_on, List, MakesSteps, MatchOption, MayLeave, None, on_its_own, Option, PagesView, Placed, Provides, refl, Resettled, Row, Some, subst, true, TurnedAway, ℕ, ◌<◌, ◌≡◌}
 use Rattle.ksm_base.specs.declared.row.PageState.TheVariants.{Private}
 use Rattle.ksm_book.proofs.Shown.{provides_does}
 use Rattle.ksm_book.proofs.Keeping.{left_placed, left_spends, may_leave, searched_placed, searched_spends}
@@ -29,7 +29,7 @@ module _ {p : PagesView} {k w : KeeperView} (h : IsLaid p k) (rise : InPageOrder
 
   module _ (left : Option ℕ) (was : left ≡ p.frame page) where
     -- once a page has a new frame in hand, the frame that it had, if it had one, may be left
-    pub may_left : IfSome left (λ f. May w (Sub f))
+    pub may_left : IfSome left (MayLeave w)
     may_left = rw was (may_leave w same _ (in_hand houses))
 
     -- a page that took a frame with its bytes on a node, and left the one that it had, is resettled there

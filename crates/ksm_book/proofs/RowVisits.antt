@@ -1,5 +1,5 @@
 -- The visit of a row, by what is found: what becomes of the book, and what is done to the frames.
-use Rattle.ksm_book.proofs.Names.{[], Add, All, All-contains_itself, and_parts, ap, arith, Best, best_dup, best_dup_has_room, BookState, BookValue, BookView, Bool, change_row, Comes, Contains, doing, DupRow, each_at_page, emptying, false, find_all, find_passes, frame_found, frame_number, Frames, GuestPage, handled, handling, HasRoom, HasStayed, idle, IfSome, if◌then◌else◌, is_best, is_restless, IsDupOf, IsForZero, IsJoined, IsLaid, IsSound, item_count, joining, KeeperStep, KeeperView, leaving, lies_on, List, lying, MakesSteps, mapped, MatchOption, May, MayJoin, Merged, merged_into, merged_state, MOST_REFERENCES, None, not, Option, page_visited, PagesView, paired, pairing, partner, Performs, Placed, Reached, refl, Row, row_at, row_visited, row_visiting, same_Some, shared_state, Some, sound_row_visited, state_of, Sub, subst, sym, true, view_of, visited, VisitsPage, Zero, ℕ, ◌-◌, ◌∙◌, ◌∷◌, ◌≡◌, ◌≤◌}
+use Rattle.ksm_book.proofs.Names.{[], Add, All, All-contains_itself, and_parts, ap, arith, Best, best_dup, best_dup_has_room, BookState, BookValue, BookView, Bool, change_row, Comes, Contains, doing, DupRow, each_at_page, emptying, false, find_all, find_passes, frame_found, frame_number, Frames, GuestPage, handled, handling, HasRoom, HasStayed, idle, IfSome, if◌then◌else◌, is_best, is_restless, IsDupOf, IsForZero, IsJoined, IsLaid, IsSound, item_count, joining, KeeperStep, KeeperView, leaving, lies_on, List, lying, MakesSteps, mapped, MatchOption, May, MayJoin, MayLeave, Merged, merged_into, merged_state, MOST_REFERENCES, None, not, Option, page_visited, PagesView, paired, pairing, partner, Performs, Placed, Reached, refl, Row, row_at, row_visited, row_visiting, same_Some, shared_state, Some, sound_row_visited, state_of, Sub, subst, sym, true, view_of, visited, VisitsPage, Zero, ℕ, ◌-◌, ◌∙◌, ◌∷◌, ◌≡◌, ◌≤◌}
 use Rattle.ksm_base.specs.declared.row.PageState.TheVariants.{Private}
 use Rattle.frame_table.specs.Kept.{Did}
 use Rattle.ksm_book.proofs.ByPage.{found_page, row_of_page}
@@ -200,8 +200,8 @@ module _ (best : Best) {p : PagesView} {k : KeeperView} {cursor : Option GuestPa
 
     module _ (lone : ℕ) (left : p.frame page ≡ Some lone) where
       -- once a reference came to the dup's frame, the joining page's own frame may be left
-      pub may_sub : {w : KeeperView} → MakesSteps k w (Add g ∷ []) → May w (Sub lone)
-      may_sub {w} comes = subst (λ o. IfSome o (λ f. May w (Sub f))) left
+      pub may_sub : {w : KeeperView} → MakesSteps k w (Add g ∷ []) → MayLeave w lone
+      may_sub {w} comes = subst (λ o. IfSome o (MayLeave w)) left
           (may_part at.laid at.sound.rows_rise _ row _ at.found found_item g there item_merged
           change (λ r. refl) state_is same_bytes w comes)
 
@@ -250,7 +250,7 @@ module _ {p : PagesView} {k : KeeperView} {cursor : Option GuestPage} {passes : 
   zero_hand = swapped None _ _ at.sound.rows_rise at.found (λ r. refl) at.laid.placed refl
 
   -- the frame of a page that is to become Zero may be left
-  pub may_empty : {left : Option ℕ} → left ≡ p.frame page → IfSome left (λ f. May k (Sub f))
+  pub may_empty : {left : Option ℕ} → left ≡ p.frame page → IfSome left (MayLeave k)
   may_empty was = rw was (may_leave k at.laid.same _ zero_hand)
 
   -- once the page is Zero and has left its frame, the book is what the visit leads to

@@ -1,5 +1,5 @@
 -- The commands on single pages, carried out.
-use Rattle.ksm_book.proofs.Names.{[], All, Answer, ap, arith, BookValue, BookView, Bool, IsCarried, change_row, comes_before, Command, cond_both, Done, Drop, Err, false, filter, FindsNone, frame_at, Frames, frames_of, fresh_row, GuestPage, Houses, IfErr, IfSome, InPageOrder, is_some, IsAlone, IsLaid, IsReadable, IsServed, IsSound, IsWritable, KeeperView, leaving, length, lies_on, List, lying, MakesSteps, MatchBool, May, moved, MovePage, nat_le, NoFrame, None, not, Ok, on_its_own, Option, ordered_with, PAGE_WORDS, PagesView, Performs, Placed, Provides, puts, refl, Register, Resettled, Resettles, Result, rewriting, Row, row_at, same_page, same_page_refl, shared_state, Some, sound_after, state_of, stepped, Store, stored, Sub, subst, sym, true, view_of, with_row, without_page, ℕ, ◌++◌, ◌<◌, ◌==◌, ◌∙◌, ◌∷◌, ◌≡◌, map_fixed, without_between, pages_ordered, absent_parts, find_put, filter_passes, cond, if◌then◌else◌, Held, IsHeld, HasNewFrame}
+use Rattle.ksm_book.proofs.Names.{[], absent_parts, All, Answer, ap, arith, BookValue, BookView, Bool, change_row, comes_before, Command, cond, cond_both, Done, Drop, Err, false, filter, filter_passes, find_put, FindsNone, frame_at, Frames, frames_of, fresh_row, GuestPage, HasNewFrame, Held, Houses, IfErr, IfSome, if◌then◌else◌, InPageOrder, is_some, IsAlone, IsCarried, IsHeld, IsLaid, IsReadable, IsServed, IsSound, IsWritable, KeeperView, leaving, length, lies_on, List, lying, MakesSteps, map_fixed, MatchBool, MayLeave, moved, MovePage, nat_le, NoFrame, None, not, Ok, on_its_own, Option, ordered_with, PAGE_WORDS, pages_ordered, PagesView, Performs, Placed, Provides, puts, refl, Register, Resettled, Resettles, Result, rewriting, Row, row_at, same_page, same_page_refl, shared_state, Some, sound_after, state_of, stepped, Store, stored, subst, sym, true, view_of, with_row, without_between, without_page, ℕ, ◌++◌, ◌<◌, ◌==◌, ◌∙◌, ◌∷◌, ◌≡◌}
 use Rattle.std.proofs.lemmas.Bool.{eq-eqb}
 use Rattle.ksm_base.specs.declared.row.PageState.TheVariants.{Private}
 use Rattle.ksm_book.proofs.ByPage.{at_changed, change_twice, found_page, lies_again, lies_still, row_of_page}
@@ -176,7 +176,7 @@ module _ {p : PagesView} {k : KeeperView} (h : IsLaid p k) (rise : InPageOrder p
   gone_hand = removed _ row rise found h.placed
 
   -- the frame of a page that goes, if it has one, may be left
-  pub drop_may : IfSome left (λ f. May k (Sub f))
+  pub drop_may : IfSome left (MayLeave k)
   drop_may = rw was (may_leave k h.same _ gone_hand)
 
   -- `Drop` is carried out, and all lies lawfully, where the page has left its frame and its row is gone

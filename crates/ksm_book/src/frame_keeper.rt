@@ -10,7 +10,7 @@ ghost use Rattle.frame_core.specs.Ledger.{frame_at, first_ledger};
 ghost use Rattle.frame_core.specs.State.{frame_word, count_in};
 ghost use Rattle.frame_table.specs.Kept.{May, did, Did};
 ghost use Rattle.ksm_tree.specs.NumberSets.{Marks};
-ghost use Rattle.ksm_book.specs.FrameSets.{NoneOf, IsFirstOf};
+ghost use Rattle.ksm_book.specs.FrameSets.{NoneOf, IsFirstOf, MayLeave};
 ghost use Rattle.ksm_book.specs.Steps.{free_kind, dying_kind};
 
 use frame_core::Kind;
@@ -147,13 +147,13 @@ impl FrameKeeper {
     /// One reference less on a frame. With the last it is dying.
     pub fn sub(&mut self, table: &FrameTable, frame: u32)
         requires own { self.old.table ≡ table.now }
-        requires may { May self.old (Sub frame) }
+        requires may { MayLeave self.old frame }
         ensures { Did self.old (Sub frame) self.new }
     {
         self.keeper.sub(table, frame);
         // With a reference left, it is of the kind that it was.
         if self.keeper.base(frame) == 0 {
-            sort(&self.keeper, &mut self.free, &mut self.dying, frame);
+            self.dying.add(frame);
         }
     }
 
@@ -226,7 +226,9 @@ impl FrameKeeper {
             × (IsTrue result ↔ count_in found ≡ (frame_at self.old.ledger frame).base) }
     {
         let alone = self.keeper.freeze(table, frame);
-        sort(&self.keeper, &mut self.free, &mut self.dying, frame);
+        // It was shown, and not free.
+        let kind = self.keeper.kind(frame);
+        self.dying.mark(frame, is_dying(kind));
         alone
     }
 

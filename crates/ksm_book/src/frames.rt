@@ -4,9 +4,10 @@ ghost use Rattle.std.specs.Prelude.{◌≡◌, ◌<◌, ◌≤◌, ◌-◌, true
 ghost use Rattle.std.specs.Prelude.{length, map, if◌then◌else◌};
 ghost use Rattle.ksm_base.specs.declared.page.TheConstants.{PAGE_WORDS as WORDS};
 ghost use Rattle.ksm_base.specs.Values.{frames_of, IsShape};
-ghost use Rattle.frame_core.specs.declared.event.KeeperStep.TheVariants.{Reap, Sub, Withdraw};
+ghost use Rattle.frame_core.specs.declared.event.KeeperStep.TheVariants.{Reap, Withdraw};
 ghost use Rattle.frame_core.specs.Ledger.{frame_at, with_frame, IsReadable, IsWritable};
 ghost use Rattle.frame_table.specs.Kept.{May};
+ghost use Rattle.ksm_book.specs.FrameSets.{MayLeave};
 ghost use Rattle.ksm_book.specs.Steps.{dying_from, loads, puts, stepped, MakesSteps};
 ghost use Rattle.ksm_book.specs.Commands.{Finds, FindsNone, Provides, leaving};
 ghost use Rattle.ksm_book.specs.Keeping.{holding, IsLawful, HasNewFrame};
@@ -144,7 +145,7 @@ pub fn known_frame(frame: Option<u32>) -> u32
 /// Gives the frame in hand back, if there is one.
 pub fn release_if(keeper: &mut FrameKeeper, table: &FrameTable, frame: Option<u32>)
     requires own { keeper.old.table ≡ table.now }
-    requires may { IfSome frame (λ f. May keeper.old (Sub f)) }
+    requires may { IfSome frame (MayLeave keeper.old) }
     ensures { MakesSteps keeper.old keeper.new (leaving frame) }
 {
     if let Some(frame) = frame {

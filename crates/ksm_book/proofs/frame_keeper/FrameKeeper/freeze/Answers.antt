@@ -1,6 +1,8 @@
-use Rattle.ksm_book.proofs.Names.{refl}
-use Rattle.ksm_book.proofs.FrameKinds.{sets_marked}
+use Rattle.ksm_book.proofs.Names.{ap, dying_kind, Marks, subst, ◌∙◌}
+use Rattle.ksm_book.proofs.FrameKinds.{sets_frozen}
 use Rattle.ksm_book.proofs.frame_keeper.FrameKeeper.freeze.Goals as goal
 
 pub invariant_of-self : goal.invariant_of-self
-invariant_of-self c = sets_marked _ _ _ _ _ _ _ _ _ c.freeze-alone.ensures.1 refl c.self.invariant c.sort.ensures.free c.sort.ensures.dying
+invariant_of-self c =
+    sets_frozen _ _ _ _ _ _ _ c.freeze-alone.ensures.1 (rw c.self.view_is c.requires.may.1) c.self.invariant
+    (subst (Marks c.self.inside.dying c.mark.new.self c.args.frame) (c.is_dying.ensures ∙ ap dying_kind c.kind-kind.ensures) c.mark.ensures)

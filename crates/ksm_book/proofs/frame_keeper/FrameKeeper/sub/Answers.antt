@@ -1,9 +1,10 @@
-use Rattle.ksm_book.proofs.Names.{refl, ◌∙◌}
-use Rattle.ksm_book.proofs.FrameKinds.{sets_lowered, sets_marked}
+use Rattle.ksm_book.proofs.Names.{MayLeave, refl, subst, sym, ◌∙◌}
+use Rattle.ksm_book.proofs.FrameKinds.{sets_lowered, sets_taken}
 use Rattle.ksm_book.proofs.frame_keeper.FrameKeeper.sub.Goals as goal
 
 pub invariant_of-self : goal.invariant_of-self
-invariant_of-self c = sets_marked _ _ _ _ _ _ _ _ _ c.sub.ensures.1 refl c.self.invariant c.sort.ensures.free c.sort.ensures.dying
+invariant_of-self c =
+    sets_taken _ _ _ _ _ _ _ c.sub.ensures.1 (rw c.self.view_is c.requires.may) (sym c.base.ensures ∙ c.if-base-eq0.true) c.self.invariant c.add.ensures
 
 pub invariant_of-self-else-base-eq0 : goal.invariant_of-self-else-base-eq0
 invariant_of-self-else-base-eq0 c =
