@@ -1,5 +1,5 @@
 -- Spots in the order of their pages: the pages of them, once one was put in, written or taken away.
-use Rattle.ksm_pages.proofs.Names.{[], add-one, ap, append-nil, append_assoc, ap₂, AreInOrder, arith, Bool, cases_Bool, comes_before, drop, drop_all, Entry, false, filter, find, find_filter, find_passes, get, get_or, get_or_default, GuestPage, has_item, inl, inr, insert, is_of, is_restless, is_some, is_useless, IsInVain, length, length-append, length-map, length-take-le, List, map, map-append, Named, None, not, not-true, Option, pages_of, pages_ordered, point_is_count, refl, same_page, same_page_eq, set, Slab, Some, Spot, subst, sym, take, true, true≢false, with_found, with_item, ℕ, if◌then◌else◌, ◌++◌, ◌+◌, ◌-◌, ◌<◌, ◌∙◌, ◌∷◌, ◌≡◌, ◌≤◌, ◌⊎◌}
+use Rattle.ksm_pages.proofs.Names.{[], add-one, ap, append-nil, append_assoc, ap₂, AreInOrder, arith, Bool, cases_Bool, comes_before, drop, drop_all, Entry, false, filter, find, find_filter, find_passes, get, get_or, get_or_default, GuestPage, has_item, if◌then◌else◌, inl, inr, insert, is_of, is_restless, is_some, is_useless, IsInVain, length, length-append, length-map, length-take-le, List, Listing, map, map-append, Named, None, not, not-true, Option, pages_of, pages_ordered, point_is_count, refl, same_page, same_page_eq, set, Slab, Some, Spot, subst, sym, take, true, true≢false, with_item, ℕ, ◌++◌, ◌+◌, ◌-◌, ◌<◌, ◌∙◌, ◌∷◌, ◌≡◌, ◌≤◌, ◌⊎◌}
 use Rattle.std.specs.List.{copy_within}
 use Rattle.std.specs.Option.{is_none}
 use Rattle.std.proofs.Math.Seq.{take-append_seam, take-suc}
@@ -33,6 +33,13 @@ listed_found page spots =
     ∙ ap is_some (find_mapped page_of (λ p. same_page p page) (λ s. same_page s.page page) _ (λ k d lt. refl))
     ∙ some_mapped page_of _
 
+-- a page that no search finds among the spots is not in the list that is seen of them
+pub unlisted : (page : GuestPage) (spots : List Spot) {read : List Spot} → read ≡ spots → false ≡ is_some (find (λ s. same_page s.page page) read)
+    → {known : Bool} {l : Listing} → record { pages = pages_of spots; known = known } ≡ l → has_item page l.pages ≡ true → ⊥
+unlisted page spots read none is has = true≢false
+    (sym has ∙ ap (λ (l : Listing). has_item page l.pages) (sym is) ∙ listed_found page spots
+    ∙ ap (λ ss. is_some (find (λ (s : Spot). same_page s.page page) ss)) (sym read) ∙ sym none)
+
 module _ (spot : Spot) (spots : List Spot) (rise : AreInOrder spots) where
   abbrev before : Spot → Bool
   before s = comes_before s.page spot.page
@@ -53,12 +60,9 @@ module _ (spot : Spot) (spots : List Spot) (rise : AreInOrder spots) where
   abbrev written : List Spot
   written = map (λ s. if same_page s.page spot.page then spot else s) spots
 
-  same_pages : pages_of written ≡ pages_of spots
+  -- with a spot written over the one of its page, the pages are the same
+  pub same_pages : pages_of written ≡ pages_of spots
   same_pages = grind (arith, map_mapped)
-
-  -- with a spot written over the one of its page, the pages are those with the page of that spot
-  pub written_pages : has_item spot.page (pages_of spots) ≡ true → pages_of written ≡ with_item spot.page (pages_of spots)
-  written_pages has = same_pages ∙ with_found pages_ordered _ _ (pages_rise _ rise) has
 
 no_value : {X : Type 0} (found : Option X) → is_none found ≡ true → found ≡ None
 no_value None is = refl

@@ -203,7 +203,8 @@ impl Restless {
     /// moved already, the list stays as it is, and is no longer known.
     #[inline(always)]
     pub fn add(&mut self, spot: Spot, rows: usize)
-        ensures { IsAddedTo spot.page self.old self.new }
+        ensures added { IsAddedTo spot.page self.old self.new }
+        ensures again { has_item spot.page self.old.pages ≡ true → self.new ≡ self.old }
     {
         let at = place_near(self.spots.as_slice(), self.next, spot.page);
         let found = stands_at(self.spots.as_slice(), at, spot.page);
@@ -242,6 +243,7 @@ impl Restless {
     /// Once many pages may be listed in vain, those are not listed any more.
     pub fn sweep(&mut self, entries: &Slab<Entry>, order: &Order)
         ensures known { self.new.known ≡ self.old.known }
+        ensures fewer { length self.new.pages ≤ length self.old.pages }
         ensures kept { (page : GuestPage) → has_item page self.old.pages ≡ true
             → (has_item page self.new.pages ≡ true) ⊎ IsInVain entries.now order.now page }
     {

@@ -17,7 +17,7 @@ loop-named-preserved c =
     elim c.if-is_restless.branch [
       | then-is_restless w ↦
           one_added slab _ c.requires.ascending c.requires.filed _ (sym c.in-Some.ensures) c.loop-named.invariant
-          (rw w.restless-is w.add.ensures)
+          (rw w.restless-is w.add.ensures.added)
       | else-is_restless w ↦
           one_passed slab _ c.requires.ascending c.requires.filed _ (sym c.in-Some.ensures) c.loop-named.invariant
           c.index.ensures (sym c.is_restless.ensures ∙ w.if-is_restless.false) w.restless-is

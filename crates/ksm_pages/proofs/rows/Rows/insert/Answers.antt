@@ -17,7 +17,7 @@ invariant_of-self-2 c =
     rw c.in_ok-insert.ensures.added
     (still_put (record s { entries = c.reserve_one.new.slab }) (with_room s c.self.invariant c.reserve_one.ensures.rest)
     (seen_with_room s c.self.view_is c.reserve_one.ensures.rest) vacant c.requires.absent fills
-    (rests_now _ c.self.invariant.counting) (omega arith) c.add.ensures)
+    (rests_now _ c.self.invariant.counting) (omega arith) c.add.ensures.added)
 
 pub returns-clause-added : goal.returns-clause-added
 returns-clause-added c =

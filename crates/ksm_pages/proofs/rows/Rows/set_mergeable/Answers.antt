@@ -23,7 +23,7 @@ invariant_of-self-then-restless c =
     let stood = c.index_mut-entry.ensures.value in
     let e' = record c.index_mut-entry.result.now { mergeable = c.args.mergeable } in
     rw c.mark.ensures
-    (still_marked s c.self.invariant there stood _ refl refl refl (listed_now s c.self.invariant there stood _ refl c.add.ensures))
+    (still_marked s c.self.invariant there stood _ refl refl refl (listed_now s c.self.invariant there stood _ refl c.add.ensures.added))
 
 pub invariant_of-self-else-restless : goal.invariant_of-self-else-restless
 invariant_of-self-else-restless c =

@@ -16,7 +16,7 @@ invariant_of-self c =
     let there = c.in-Some.ensures.there in
     let stood = c.index_mut-entry.ensures.value in
     let e' = record c.index_mut-entry.result.now { number = 0; at = c.args.frame; kind = kinds.Own } in
-    still s c.self.invariant there stood _ refl refl (λ own. omega arith) (listed_now s c.self.invariant there stood _ refl c.add.ensures)
+    still s c.self.invariant there stood _ refl refl (λ own. omega arith) (listed_now s c.self.invariant there stood _ refl c.add.ensures.added)
     c.state-old.ensures (sym (rests_now _ c.self.invariant.counting)) c.change.ensures
 
 pub invariant_of-self-else-restless-was_restless : goal.invariant_of-self-else-restless-was_restless
