@@ -1,5 +1,5 @@
 -- The sets of the free and of the dying frames follow the keeper's steps.
-use Rattle.ksm_book.proofs.Names.{ap, AreSets, arith, blank, Bool, cases_eq, cases_lt, cond, count_in, did, Dying, dying_kind, false, frame_at, frames_of, Free, free_kind, Freeze, frozen, get_or-set_other, get_or-set_same, get_or_past, has, inl, inr, IsSetOf, KeeperStep, KeeperView, Kind, Ledger, ledger_after, length, length-set, List, lowered, Marks, MayLeave, ne_eqb, Note, Raise, raised, Reap, refl, Shape, Stable, Sub, sym, true, with_frame, ℕ, ◌*◌, ◌-◌, ◌<◌, ◌∙◌, ◌==◌, ◌≡◌, ◌≢◌, ◌≤◌}
+use Rattle.ksm_book.proofs.Names.{ap, AreSets, arith, blank, Bool, cases_eq, cases_lt, cond, count_in, did, Dying, dying_kind, false, frame_at, frames_of, Free, free_kind, Freeze, frozen, get_or-set_other, get_or-set_same, get_or_past, has, inl, inr, IsSetOf, KeeperStep, KeeperView, Kind, Ledger, ledger_after, length, length-set, List, lowered, Marks, MayLeave, ne_eqb, Note, Raise, raised, Reap, refl, set, Shape, Stable, Sub, sym, true, with_frame, ℕ, ◌*◌, ◌-◌, ◌<◌, ◌==◌, ◌∙◌, ◌≡◌, ◌≢◌, ◌≤◌}
 
 -- ---------------------------------------------------------------- one frame's note is changed
 
@@ -23,133 +23,108 @@ other_after sh k (Sub h) n f on ne = other_if true k h f _ (λ e. ne (e ∙ on))
 other_after sh k (Freeze h) n f on ne = other_if _ k h f _ (λ e. ne (e ∙ on))
 other_after sh k _ n f on ne = absurd on
 
-module _ (asked : Kind → Bool) (v w : KeeperView) (words : List ℕ) (table : w.table ≡ v.table) (are : IsSetOf asked v words) where
-  room_kept : frames_of w.table.shape ≤ 64 * length words
-  room_kept = rw table are.room
+-- a frame's new note is of a kind asked for exactly if the old one was: so is what is known of the frame then
+turned : (asked : Kind → Bool) (k : Ledger) (f : ℕ) (note : Note) → asked note.kind ≡ asked (frame_at k f).kind
+    → asked (frame_at (with_frame k f note) f).kind ≡ asked (frame_at k f).kind
+turned asked k f note same = elim (cases_lt f _) [
+  | inl within ↦ rw (get_or-set_same k.frames f note blank within) same
+  | inr beyond ↦ ap (λ (n : Note). asked n.kind)
+      (get_or_past _ f _ (omega (arith, length-set k.frames f note)) ∙ sym (get_or_past _ f _ beyond))
+]
 
-  known : (f : ℕ) → f < frames_of w.table.shape → f < frames_of v.table.shape
-  known f lt = rw (← table) lt
+-- ---------------------------------------------------------------- a set after a step on a frame
 
-  -- the set is right again once the frame of the step is marked
-  set_marked : {words' : List ℕ} {frame : ℕ} → ((f : ℕ) → f ≢ frame → frame_at w.ledger f ≡ frame_at v.ledger f)
-      → Marks words words' frame (asked (frame_at w.ledger frame).kind) → IsSetOf asked w words'
-  set_marked {words'} others marks = record {
-    room = rw marks.room room_kept;
-    marked = λ f lt. elim (cases_eq f _) [
-      | inl same ↦ ap (has words') same ∙ marks.here ∙ ap (λ g. asked (frame_at w.ledger g).kind) (sym same)
-      | inr differs ↦ rw (others f differs) (marks.others f differs ∙ are.marked f (known f lt))
-    ];
+module _ {v w : KeeperView} (e : KeeperStep) (found frame : ℕ) (is : w ≡ did v e found) (on : TurnsOn e frame) (asked : Kind → Bool) {words : List ℕ} (are : IsSetOf asked v words) where
+  of_set : {words' : List ℕ} → length words' ≡ length words → ((f : ℕ) → f < frames_of v.table.shape → has words' f ≡ asked (frame_at w.ledger f).kind) → IsSetOf asked w words'
+  of_set long marked =
+      let table = ap (λ (z : KeeperView). z.table) is in
+      record { room = rw table (rw long are.room); marked = λ f lt. marked f (rw (← table) lt) }
+
+  others : (f : ℕ) → f ≢ frame → frame_at w.ledger f ≡ frame_at v.ledger f
+  others f ne = rw is (other_after v.table.shape v.ledger e found f on ne)
+
+  -- the set is right again once the frame of the step is marked by its kind
+  set_marked : {words' : List ℕ} → Marks words words' frame (asked (frame_at w.ledger frame).kind) → IsSetOf asked w words'
+  set_marked {words'} marks = of_set marks.room (λ f lt. elim (cases_eq f _) [
+    | inl same ↦ ap (has words') same ∙ marks.here ∙ ap (λ g. asked (frame_at w.ledger g).kind) (sym same)
+    | inr differs ↦ rw (others f differs) (marks.others f differs ∙ are.marked f lt)
+  ])
+
+  -- the set is right still where the frame's kind is among those asked for exactly if it was
+  set_stays : asked (frame_at w.ledger frame).kind ≡ asked (frame_at v.ledger frame).kind → IsSetOf asked w words
+  set_stays same = of_set refl (λ f lt. are.marked f lt ∙ elim (cases_eq f _) [
+    | inl here ↦ rw here (sym same)
+    | inr differs ↦ ap (λ (n : Note). asked n.kind) (sym (others f differs))
+  ])
+
+-- ---------------------------------------------------------------- both sets after a step on a frame
+
+-- what is known of a frame
+abbrev note : KeeperView → ℕ → Note
+note v frame = frame_at v.ledger frame
+
+module _ {v w : KeeperView} (found frame : ℕ) {free dying : List ℕ} (are : AreSets v free dying) where
+  -- where a frame was reaped, and marked in both sets by its kind, they are right
+  pub sets_reaped : w ≡ did v (Reap frame) found → {free' dying' : List ℕ} → Marks free free' frame (free_kind (frame_at w.ledger frame).kind)
+      → Marks dying dying' frame (dying_kind (frame_at w.ledger frame).kind) → AreSets w free' dying'
+  sets_reaped is f d = record { free = set_marked (Reap frame) found frame is refl _ are.free f; dying = set_marked (Reap frame) found frame is refl _ are.dying d }
+
+  -- where a free frame was raised, and marked by its kind among the free ones, both sets are right
+  pub sets_raised : w ≡ did v (Raise frame) found → (note v frame).kind ≡ Free → {free' : List ℕ} → Marks free free' frame (free_kind (frame_at w.ledger frame).kind)
+      → AreSets w free' dying
+  sets_raised is may marks = record {
+    free = set_marked (Raise frame) found frame is refl _ are.free marks;
+    dying = set_stays (Raise frame) found frame is refl _ are.dying (rw is (turned dying_kind v.ledger frame (raised (note v frame)) (ap dying_kind (sym may))));
   }
 
-  -- the set is right still where each frame's kind is among those asked for exactly if it was
-  set_stays : ((f : ℕ) → asked (frame_at w.ledger f).kind ≡ asked (frame_at v.ledger f).kind) → IsSetOf asked w words
-  set_stays same = record { room = room_kept; marked = λ f lt. are.marked f (known f lt) ∙ sym (same f) }
+  -- where a shown frame was frozen, or not, and marked by its kind among the dying ones, both sets are right
+  pub sets_frozen : w ≡ did v (Freeze frame) found → (note v frame).kind ≡ Stable → {dying' : List ℕ} → Marks dying dying' frame (dying_kind (frame_at w.ledger frame).kind)
+      → AreSets w free dying'
+  sets_frozen is shown marks = record {
+    free = set_stays (Freeze frame) found frame is refl _ are.free (rw is (by (count_in found == (note v frame).base)));
+    dying = set_marked (Freeze frame) found frame is refl _ are.dying marks;
+  }
+    where
+      by : (made : Bool) → free_kind (frame_at (cond made (with_frame v.ledger frame (frozen (note v frame))) v.ledger) frame).kind ≡ free_kind (note v frame).kind
+      by true = turned free_kind v.ledger frame (frozen (note v frame)) (ap free_kind (sym shown))
+      by false = refl
 
--- where a step has turned a frame, and it was marked by its kind, the sets are those of the free and the dying frames
-pub sets_marked : (v w : KeeperView) (e : KeeperStep) (found frame : ℕ) (free dying free' dying' : List ℕ) → w ≡ did v e found → TurnsOn e frame → AreSets v free dying
-    → Marks free free' frame (free_kind (frame_at w.ledger frame).kind) → Marks dying dying' frame (dying_kind (frame_at w.ledger frame).kind) → AreSets w free' dying'
-sets_marked v w e found frame free dying free' dying' is on are f d =
-    let table = ap (λ (z : KeeperView). z.table) is in
-    let others : (g : ℕ) → g ≢ frame → frame_at w.ledger g ≡ frame_at v.ledger g = λ g ne. rw is
-    (other_after v.table.shape _ e _ g on ne) in
-    record {
-      free = set_marked _ v w _ table are.free others f;
-      dying = set_marked _ v w _ table are.dying others d;
+  module _ (is : w ≡ did v (Sub frame) found) where
+    lowered_note : frame < length v.ledger.frames → frame_at w.ledger frame ≡ lowered (note v frame)
+    lowered_note within = rw is (get_or-set_same v.ledger.frames frame (lowered (note v frame)) blank within)
+
+    -- a frame in use that has lost its last reference, and was put among the dying ones: both sets are right
+    pub sets_taken : MayLeave v frame → (frame_at w.ledger frame).base ≡ 0 → {dying' : List ℕ} → Marks dying dying' frame true → AreSets w free dying'
+    sets_taken may none marks = record {
+      free = set_stays (Sub frame) found frame is refl _ are.free (rw is (turned free_kind v.ledger frame (lowered (note v frame)) (used ((note v frame).base == 1) _ may.1)));
+      dying = set_marked (Sub frame) found frame is refl _ are.dying (rw dies marks);
     }
+      where
+        used : (b : Bool) (kind : Kind) → free_kind kind ≡ false → free_kind (cond b Dying kind) ≡ free_kind kind
+        used true kind not_free = sym not_free
+        used false kind not_free = refl
 
--- a new note of a frame is among those asked for exactly if the old one was: then so is each frame
-same_kinds : (asked : Kind → Bool) (k : Ledger) (f : ℕ) (note : Note) → asked note.kind ≡ asked (frame_at k f).kind
-    → (g : ℕ) → asked (frame_at (with_frame k f note) g).kind ≡ asked (frame_at k g).kind
-same_kinds asked k f note same g = elim (cases_eq g f) [
-  | inl here ↦ grind (arith, here, at_frame)
-  | inr differs ↦ rw (get_or-set_other k.frames f g note blank differs)
-]
-  where
-    at_frame : asked (frame_at (with_frame k f note) f).kind ≡ asked (frame_at k f).kind
-    at_frame = elim (cases_lt f _) [
-      | inl within ↦ rw (get_or-set_same k.frames f note blank within) same
-      | inr beyond ↦ ap (λ (n : Note). asked n.kind)
-          (get_or_past _ f _ (omega (arith, length-set k.frames f note)) ∙ sym (get_or_past _ f _ beyond))
-    ]
+        dies : (frame_at w.ledger frame).kind ≡ Dying
+        dies = elim (cases_lt frame _) [
+          | inl within ↦
+              let stands = lowered_note within in
+              let one : (note v frame).base ≡ 1 = omega (arith, may, none, ap (λ (n : Note). n.base) stands) in
+              rw stands (rw one refl)
+          | inr beyond ↦ absurd (omega (arith, may, ap (λ (n : Note). n.base) (get_or_past v.ledger.frames frame blank beyond)))
+        ]
 
--- a frame that has lost a reference of the keeper, and has one left, is of the kind that it was
-kind_left : (k : Ledger) (f : ℕ) → (frame_at (with_frame k f (lowered (frame_at k f))) f).base ≢ 0 → (lowered (frame_at k f)).kind ≡ (frame_at k f).kind
-kind_left k f left = elim (cases_lt f _) [
-  | inl within ↦
-      let stands = ap (λ (n : Note). n.base) (get_or-set_same k.frames f (lowered (frame_at k f)) blank within) in
-      rw (ne_eqb (frame_at k f).base 1 (λ one. left (stands ∙ ap (λ n. n - 1) one)))
-  | inr beyond ↦ absurd (left (ap (λ (n : Note). n.base) (get_or_past _ f _ (omega (arith, length-set k.frames f (lowered (frame_at k f)))))))
-]
-
--- a frame that is not free is not so either once it has lost a reference
-free_no_more : (b : Bool) (kind : Kind) → free_kind kind ≡ false → free_kind (cond b Dying kind) ≡ free_kind kind
-free_no_more true kind used = sym used
-free_no_more false kind used = refl
-
--- where a free frame was raised, and marked by its kind among the free ones, the sets are those of the free and the dying frames
-pub sets_raised : (v w : KeeperView) (found frame : ℕ) (free dying free' : List ℕ) → w ≡ did v (Raise frame) found → (frame_at v.ledger frame).kind ≡ Free
-    → AreSets v free dying → Marks free free' frame (free_kind (frame_at w.ledger frame).kind) → AreSets w free' dying
-sets_raised v w found frame free dying free' is may are marks =
-    let table = ap (λ (z : KeeperView). z.table) is in
-    let others : (g : ℕ) → g ≢ frame → frame_at w.ledger g ≡ frame_at v.ledger g = λ g ne. rw is
-    (other_after v.table.shape v.ledger (Raise frame) found g refl ne) in
-    record {
-      free = set_marked _ v w _ table are.free others marks;
-      dying = set_stays _ v w _ table are.dying (λ g. rw is
-          (same_kinds dying_kind v.ledger frame (raised (frame_at v.ledger frame)) (ap dying_kind (sym may)) g));
+    -- where a frame has lost a reference, and has one left, both sets are right as they are
+    pub sets_lowered : (frame_at w.ledger frame).base ≢ 0 → AreSets w free dying
+    sets_lowered left = record {
+      free = set_stays (Sub frame) found frame is refl _ are.free (ap free_kind kept);
+      dying = set_stays (Sub frame) found frame is refl _ are.dying (ap dying_kind kept);
     }
-
--- a frame without a reference that had one before is dying, and was not free
-kind_taken : (k : Ledger) (f : ℕ) → 1 ≤ (frame_at k f).base → (frame_at (with_frame k f (lowered (frame_at k f))) f).base ≡ 0
-    → (frame_at (with_frame k f (lowered (frame_at k f))) f).kind ≡ Dying
-kind_taken k f some none = elim (cases_lt f _) [
-  | inl within ↦
-      let stands = get_or-set_same k.frames f (lowered (frame_at k f)) blank within in
-      let one : (frame_at k f).base ≡ 1 = omega (arith, ap (λ (n : Note). n.base) stands) in
-      rw stands (rw one refl)
-  | inr beyond ↦ absurd (omega (arith, ap (λ (n : Note). n.base) (get_or_past k.frames f blank beyond)))
-]
-
--- where a frame in use has lost its last reference, and was put among the dying ones, the sets are those of the free and
--- the dying frames
-pub sets_taken : (v w : KeeperView) (found frame : ℕ) (free dying dying' : List ℕ) → w ≡ did v (Sub frame) found → MayLeave v frame
-    → (frame_at w.ledger frame).base ≡ 0 → AreSets v free dying → Marks dying dying' frame true → AreSets w free dying'
-sets_taken v w found frame free dying dying' is may none are marks =
-    let table = ap (λ (z : KeeperView). z.table) is in
-    let dies : (frame_at w.ledger frame).kind ≡ Dying = rw is (kind_taken v.ledger frame may.0.1 (grind (arith, is, none))) in
-    record {
-      free = set_stays _ v w _ table are.free (λ g. rw is
-          (same_kinds free_kind v.ledger frame (lowered (frame_at v.ledger frame)) (free_no_more _ _ may.1) g));
-      dying = set_marked _ v w _ table are.dying (λ g ne. rw is (other_after v.table.shape v.ledger (Sub frame) found g refl ne))
-          (rw dies marks);
-    }
-
--- where a shown frame was frozen, or not, and marked by its kind among the dying ones, the sets are those of the free and
--- the dying frames
-pub sets_frozen : (v w : KeeperView) (found frame : ℕ) (free dying dying' : List ℕ) → w ≡ did v (Freeze frame) found
-    → (frame_at v.ledger frame).kind ≡ Stable → AreSets v free dying
-    → Marks dying dying' frame (dying_kind (frame_at w.ledger frame).kind) → AreSets w free dying'
-sets_frozen v w found frame free dying dying' is shown are marks =
-    let table = ap (λ (z : KeeperView). z.table) is in
-    record {
-      free = set_stays _ v w _ table are.free (λ g. rw is (frozen_kinds (count_in found == (frame_at v.ledger frame).base) g));
-      dying = set_marked _ v w _ table are.dying (λ g ne. rw is (other_after v.table.shape v.ledger (Freeze frame) found g refl ne)) marks;
-    }
-  where
-    frozen_kinds : (made : Bool) (g : ℕ) → free_kind (frame_at (cond made (with_frame v.ledger frame (frozen (frame_at v.ledger frame))) v.ledger) g).kind
-        ≡ free_kind (frame_at v.ledger g).kind
-    frozen_kinds true g = same_kinds free_kind v.ledger frame (frozen (frame_at v.ledger frame)) (ap free_kind (sym shown)) g
-    frozen_kinds false g = refl
-
--- where a frame has lost a reference of the keeper, and has one left, the sets stay those of the free and the dying frames
-pub sets_lowered : (v w : KeeperView) (found frame : ℕ) (free dying : List ℕ) → w ≡ did v (Sub frame) found → (frame_at w.ledger frame).base ≢ 0
-    → AreSets v free dying → AreSets w free dying
-sets_lowered v w found frame free dying is left are =
-    let table = ap (λ (z : KeeperView). z.table) is in
-    let kept = kind_left v.ledger frame (grind (arith, is, left)) in
-    let same : (asked : Kind → Bool) (g : ℕ) → asked (frame_at w.ledger g).kind ≡ asked (frame_at v.ledger g).kind = λ asked g.
-    rw is (same_kinds asked v.ledger frame (lowered (frame_at v.ledger frame)) (ap asked kept) g) in
-    record {
-      free = set_stays _ v w _ table are.free (same free_kind);
-      dying = set_stays _ v w _ table are.dying (same dying_kind);
-    }
+      where
+        kept : (frame_at w.ledger frame).kind ≡ (note v frame).kind
+        kept = elim (cases_lt frame _) [
+          | inl within ↦
+              let stands = lowered_note within in
+              rw stands (rw (ne_eqb (note v frame).base 1 (λ one. left (ap (λ (n : Note). n.base) stands ∙ ap (λ n. n - 1) one))) refl)
+          | inr beyond ↦ absurd (left ((λ i. (frame_at (is i).ledger frame).base)
+              ∙ ap (λ (n : Note). n.base) (get_or_past (set v.ledger.frames frame (lowered (note v frame))) frame blank (omega (arith, length-set v.ledger.frames frame (lowered (note v frame)))))))
+        ]
