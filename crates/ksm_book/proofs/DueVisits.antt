@@ -1,5 +1,5 @@
 -- What a visit leaves due, by what was found of the page; and what is due where all restless pages are listed.
-use Rattle.ksm_book.proofs.Names.{ap, AreDue, BookState, BookView, each_at_page, false, FindsAt, GuestPage, InPageOrder, IsDueNoMore, KeeperView, List, MatchOption, None, Option, PagesView, refl, restless_row, Row, row_at, Some, state_of, subst, sym, true, true≢false, ℕ, ◌∙◌, ◌∷◌, ◌≡◌, get_or}
+use Rattle.ksm_book.proofs.Names.{ap, AreAllListed, AreDue, BookState, BookView, false, FindsAt, GuestPage, InPageOrder, IsDueNoMore, KeeperView, List, MatchOption, None, Option, PagesView, refl, restless_row, Row, row_at, Some, state_of, subst, sym, true, true≢false, ℕ, ◌∙◌, ◌∷◌, ◌≡◌}
 use Rattle.ksm_pages.specs.declared.pages.Find.TheVariants as finds
 use Rattle.ksm_pages.specs.Paged.{Finds}
 use Rattle.ksm_book.specs.Scanned.{AreListed}
@@ -29,7 +29,5 @@ gone_due p q cursor passes page rise is = by _ refl is
     by (Some r) found told = rw told.1 (calm_undue b _ rise (ap restless_row found ∙ told.0))
 
 -- where all restless pages are listed, no other is due
-pub listed_due : (b : BookState) (pages : List GuestPage) → InPageOrder b.rows → AreListed b.rows pages → AreDue b pages
-listed_due b pages rise listed k d lt restless out =
-    let r = get_or b.rows k d in
-    absurd (true≢false (sym (listed.1 _ (ap restless_row (each_at_page _ rise k d lt) ∙ restless)) ∙ out))
+pub listed_due : (b : BookState) (pages : List GuestPage) → AreAllListed b.rows pages → AreDue b pages
+listed_due b pages listed k d lt restless out = absurd (true≢false (sym (listed k d lt restless) ∙ out))

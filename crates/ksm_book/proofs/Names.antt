@@ -54,7 +54,7 @@ pub use Rattle.ksm_book.specs.Carried.{CarriedOut, IsCarried, UnmergesTo}
 pub use Rattle.ksm_book.specs.Commands.{Deed, dup_frame, emptying, Finds, FindsHeld, FindsNone, frame_found, frame_number, handling, idle, instead, joining, leaving, Mapped, mounting, Moves, pairing, Performs, Provides, pruning, Resettles, ResettlesEach, rewriting, row_visiting, scanning, staying, then_doing, visiting_of, withdrawing}
 pub use Rattle.ksm_book.specs.Due.{AreDue, comes_later, due_row_visited, DueView, due_visited, due_visits, hidden, hidden_from, IsDueNoMore, taken_over, takes_over, waits_on}
 pub use Rattle.ksm_book.specs.DuePass.{part_before, part_visited, ReachedBefore, StaysBefore, StopsDue, StopsInPart, TakesOverFrom}
-pub use Rattle.ksm_book.specs.Folded.{begun, IsBeside, IsStill, last_of, mergeable_pages, next_visited, page_visited, pages_ahead, pages_visited, pass_at, restless_at, restless_row, visited, visits_beside}
+pub use Rattle.ksm_book.specs.Folded.{begun, IsBeside, IsStill, next_visited, page_visited, pages_ahead, pages_visited, pass_at, restless_at, restless_row, visited, visits_beside}
 pub use Rattle.ksm_tree.specs.NumberSets.{has, Marks}
 pub use Rattle.ksm_book.specs.FrameSets.{AreSets, IsSetOf, MayLeave, NoneOf}
 pub use Rattle.ksm_book.specs.Keeping.{holding, IsLawful, Keeps, NoneLeft, past_lives, spent, spent_on, HasNewFrame, with_more}
@@ -62,14 +62,15 @@ pub use Rattle.ksm_book.specs.Laid.{HasRemounted, Houses, IsLaid, lying, MayMove
 pub use Rattle.ksm_book.specs.Mounted.{HasLost, HasMoved, MayMount, once_mounted}
 pub use Rattle.ksm_book.specs.Placement.{Agrees, DupFits, FitsBase, in_hand, is_frame, IsInLife, IsServed, kind_for, life_or, node_of, place_frame, place_life, Placed, RowFits, uses}
 pub use Rattle.ksm_book.specs.Promised.{dup_frames, FindsPlace, HasItsOwn, is_in_use, IsOutlived, LieOn, own_frames, StandsOn}
-pub use Rattle.ksm_book.specs.Scanned.{AreListed, Comes, doing, EndsAt, from_to, HasScanned, HasStayed, is_nowhere, IsForZero, last_visited, MayJoin, MeetsPage, Reached, up_to, VisitsPage}
+pub use Rattle.ksm_book.specs.Scanned.{AreListed, Comes, doing, from_to, HasScanned, HasStayed, is_nowhere, IsForZero, last_visited, MayJoin, MeetsPage, Reached, up_to, VisitsPage}
 pub use Rattle.ksm_book.specs.Steps.{along, Allocates, AllocatesOn, dying_from, dying_kind, dying_on, free_kind, given_by, Gives, IsLowestFree, IsNeeded, loads, Log, MakesSteps, needed_after, puts, replayed, stepped, steps_of}
 pub use Rattle.ksm_book.specs.Unmerged.{HasLeft, is_shared_of, IsStop, left_by, MayNotLeave, shared_of, Unshares}
 pub use Rattle.ksm_book.specs.Whole.{BookValue, BookView, HasShown, listed, mapped, nodes_got, view_of}
 pub use Rattle.ksm_book.specs.Worked.{apart, page, together}
 pub use Rattle.ksm_pages.proofs.Found.{find_changed, find_changed_other, find_put}
 pub use Rattle.ksm_pages.specs.Held.{Listing}
-pub use Rattle.ksm_pages.specs.Paged.{ComesTo, dup_of_row, elsewhere, FindsAt, Frames, HasRoom, is_item, is_next, is_restless, IsAlone, IsHeld, IsKnown, IsVacant, items_on, last_page, lies_on, MayPair, nowhere, of_guest, on_its_own, PagesValue, PagesView, rows_ahead, rows_between, seen}
+pub use Rattle.ksm_pages.specs.Ahead.{EndsAt, last_of, mergeable_pages}
+pub use Rattle.ksm_pages.specs.Paged.{AreAllListed, dup_of_row, elsewhere, FindsAt, Frames, HasRoom, is_item, is_next, is_restless, IsAlone, IsHeld, IsKnown, IsVacant, items_on, lies_on, MayPair, nowhere, of_guest, on_its_own, PagesValue, PagesView, seen}
 pub use Rattle.ksm_pages.specs.declared.ahead.Ahead.{Ahead}
 pub use Rattle.ksm_pages.specs.declared.ahead.Ahead.TheVariants.{At, End}
 pub use Rattle.ksm_pages.specs.declared.pages.Find.{Find}

@@ -1,5 +1,5 @@
 -- Ascending lists of pages: their parts before and behind a page, by test and by index; and each is known by what it has.
-use Rattle.ksm_book.proofs.Names.{[], after_cursor, All, All-cons, All-filter, All-head, and_right, any-filter_same, ap, AreAscending, arith, before_differs, before_irrefl, before_trans, Bool, cases_Bool, cases_lt, comes_before, Contains-from_any, drop, drop-append-le, drop_of_length-le, false, filter, filter_all, filter_none, from_to, get_or, get_or-drop, get_or-take, get_or_from_slice_get, GuestPage, has_item, inl, inr, last_of, length, length-drop, length-take, length-take-le, List, list_any_none, max, None, not, not_both, one_before, Option, pairs_head, pairs_tail, refl, same_page, same_page_eq, same_page_refl, same_Some, slice_get, slice_get-get_or, slice_get_within, Some, subst, suc, sym, take, take_more, true, true≢false, up_to, zero, ℕ, ◌&&◌, ◌++◌, ◌+◌, ◌-◌, ◌<◌, ◌∙◌, ◌∷◌, ◌≡◌, ◌≤◌, filter_mapped}
+use Rattle.ksm_book.proofs.Names.{[], after_cursor, All, All-cons, All-filter, All-head, and_right, any-filter_same, ap, AreAscending, arith, before_differs, before_irrefl, before_trans, Bool, cases_Bool, cases_lt, comes_before, Contains-from_any, drop, drop-append-le, drop_of_length-le, false, filter, filter_all, filter_none, from_to, get_or, get_or-drop, get_or-take, get_or_from_slice_get, GuestPage, has_item, inl, inr, length, length-drop, length-take, length-take-le, List, list_any_none, max, None, not, not_both, one_before, Option, pairs_head, pairs_tail, refl, same_page, same_page_eq, same_page_refl, same_Some, slice_get, slice_get-get_or, slice_get_within, Some, subst, suc, sym, take, take_more, true, true≢false, up_to, zero, ℕ, ◌&&◌, ◌++◌, ◌+◌, ◌-◌, ◌<◌, ◌∙◌, ◌∷◌, ◌≡◌, ◌≤◌, filter_mapped}
 use Rattle.std.proofs.Common.{ap₂}
 use Rattle.std.proofs.lemmas.List.{map-id}
 
@@ -145,13 +145,6 @@ pub place_of : (page : GuestPage) (pages : List GuestPage) → has_item page pag
 place_of page pages has =
     let there = Contains-from_any {eq = λ q p. same_page p q} (λ x y e. sym (same_page_eq y x e)) _ _ has in
     (there.0, slice_get-get_or _ _ _ there.1 ∙ ap Some there.2)
-
--- the last of the first n + 1 pages is the page at index n
-pub last_of_take : (pages : List GuestPage) (n : ℕ) (cursor : Option GuestPage) (page : GuestPage) → slice_get pages n ≡ Some page
-    → last_of cursor (take (suc n) pages) ≡ Some page
-last_of_take [] n cursor page is = cc
-last_of_take (p ∷ pages) zero cursor page is = is
-last_of_take (p ∷ pages) (suc n) cursor page is = last_of_take pages n (Some p) page is
 
 -- the pages from one index up to another, and the page at that other, are those up to the next index
 pub from_to_more : (pages : List GuestPage) (first at : ℕ) (page : GuestPage) → first ≤ at → slice_get pages at ≡ Some page

@@ -1,6 +1,8 @@
 -- What the parts of a scan come to: the end of a pass, listed pages in the stead of those ahead, visits up to a page, and whole passes.
 use Rattle.ksm_book.proofs.Names.{[], after_cursor, Ahead, All, AllPairs-filter, and_parts, ap, append-nil, AreAscending, AreListed, arith, At, begun, BookState, Bool, cases_lt, comes_before, drop, drop_more, End, EndsAt, false, filter, filter_all, filter_passes, from_to, get_or, get_or_from_slice_get, GuestPage, has_item, inl, InPageOrder, inr, is_nowhere, is_some, IsBeside, IsStill, last_of, last_visited, length, length-take-le, List, mergeable_pages, min, next_row, None, not, Option, option_map, pages_ahead, pages_visited, pass_begun, pass_ended, pass_ended_at_last, refl, restless_at, Row, slice_get, slice_get_within, Some, subst, suc, sym, take, take-append-drop, true, true≢false, up_to, visit_begun, visits_beside, with_none_waiting, ℕ, ◌&&◌, ◌*◌, ◌++◌, ◌+◌, ◌-◌, ◌<◌, ◌^◌, ◌∙◌, ◌∷◌, ◌≡◌, ◌≤◌, ◌⊎◌}
-use Rattle.ksm_book.proofs.PagesAhead.{Before, GoesDown, between_at, between_is, has_filter, last_of_take, place_of, place_splits}
+use Rattle.ksm_pages.proofs.Ranked.{last_of_take}
+use Rattle.ksm_book.proofs.Listed.{listed_at}
+use Rattle.ksm_book.proofs.PagesAhead.{Before, GoesDown, between_at, between_is, has_filter, place_of, place_splits}
 use Rattle.ksm_book.proofs.Going.{Goes, begun_goes, settled_goes}
 use Rattle.ksm_book.proofs.Folded.{ascending_ahead, begun_folded, beside_on, every_page, next_first, none_next, pages_alike, pages_go, pass_goes_on, repeats, same_restless, visits_folded}
 
@@ -90,7 +92,7 @@ module _ (t : GuestPage → Bool) (down : GoesDown t) (pages : List GuestPage) (
       (AllPairs-filter Before t _ (ascending_ahead b rise))
       (λ page restless.
       let was = subst (λ (c : BookState). restless_at page c.rows ≡ true) (sym same) restless in
-      has_filter both page pages ∙ ap (λ h. both page && h) (listed.1 page was) ∙ either_way _ _
+      has_filter both page pages ∙ ap (λ h. both page && h) (listed_at _ _ listed.1 page was) ∙ either_way _ _
       ∙ sym (has_filter t _ _ ∙ ap (λ h. t page && h)
       (has_filter (after_cursor b.cursor) page (mergeable_pages b.rows)
       ∙ ap (λ h. after_cursor b.cursor page && h) (restless_mergeable page b.rows was))))
@@ -141,7 +143,7 @@ module _ {X : Type 0} (step : BookState → X → Row → X) (beside : IsBeside 
       let one : suc n ≡ most = omega arith in
       let done = take (suc n) ahead in
       let many = length-take-le (suc n) ahead (omega arith) in
-      let last = last_of_take _ n _ _ ends.1 in
+      let last = last_of_take _ n _ ends.1 in
       ap (λ l. (record (after l).0 { cursor = Some page }, (after l).1)) (place_splits _ n _ ascending ends.1).1
       ∙ (λ t. (record (after done).0 { cursor = sym last t }, (after done).1))
       ∙ sym (visits_folded step beside s done (get_or ahead (suc n) page ∷ drop (suc n + 1) ahead) rise (omega arith)

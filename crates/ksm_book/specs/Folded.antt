@@ -1,21 +1,18 @@
 -- Visits as a fold over pages: which pages a pass still visits, and what the visit of each does to the book and beside
 -- it (own).
-use Rattle.std.specs.Prelude.{◌≡◌, ℕ, zero, suc, Bool, true, false, List, [], ◌∷◌, fold, filter, map}
+use Rattle.std.specs.Prelude.{◌≡◌, ℕ, zero, suc, Bool, true, false, List, [], ◌∷◌, fold, map}
 use Rattle.std.specs.Prelude.{Option, Some, None, if◌then◌else◌}
 use Rattle.ksm_base.specs.declared.page.GuestPage.{GuestPage}
 use Rattle.ksm_base.specs.declared.row.Row.{Row}
 use Rattle.ksm_base.specs.Rows.{row_at, settled, shared_state}
 use Rattle.ksm_base.specs.State.{BookState, pass_ended}
+use Rattle.ksm_pages.specs.Ahead.{last_of, mergeable_pages, pages_behind}
 use Rattle.ksm_pages.specs.Paged.{is_restless}
-use Rattle.ksm_base.specs.Visit.{after_cursor, next_row, row_visited, visit_begun, visit_ended}
-
--- the pages that scans visit, in order
-abbrev pub mergeable_pages : List Row → List GuestPage
-mergeable_pages rows = map (λ r. r.page) (filter (λ r. r.mergeable) rows)
+use Rattle.ksm_base.specs.Visit.{next_row, row_visited, visit_begun, visit_ended}
 
 -- the pages that a pass still visits, in order
 abbrev pub pages_ahead : BookState → List GuestPage
-pages_ahead b = filter (after_cursor b.cursor) (mergeable_pages b.rows)
+pages_ahead b = pages_behind b.cursor (mergeable_pages b.rows)
 
 abbrev pub restless_row : Option Row → Bool
 restless_row None = false
@@ -60,11 +57,6 @@ visits_beside step zero s = s
 visits_beside step (suc n) s =
     let t = begun (visits_beside step n s) in
     next_visited step t (next_row t.0.cursor t.0.rows)
-
--- the last of some pages, or where there are none the cursor before them
-abbrev pub last_of : Option GuestPage → List GuestPage → Option GuestPage
-last_of cursor [] = cursor
-last_of cursor (page ∷ pages) = last_of (Some page) pages
 
 -- where a pass stands behind its visits of some pages: at the last of them, or where none is left at its end
 abbrev pub pass_at : {X : Type 0} → List GuestPage → List GuestPage → BookState × X → BookState × X

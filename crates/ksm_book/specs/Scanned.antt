@@ -1,5 +1,5 @@
 -- What a scan asks of the book's inside, and what its parts come to (own).
-use Rattle.std.specs.Prelude.{◌≡◌, ℕ, ◌+◌, ◌-◌, ◌^◌, ◌<◌, ◌≤◌, Bool, true, false, not, ◌==◌, List, length}
+use Rattle.std.specs.Prelude.{◌≡◌, ℕ, ◌+◌, ◌-◌, ◌^◌, ◌<◌, ◌≤◌, Bool, true, false, not, ◌==◌, List}
 use Rattle.std.specs.Prelude.{drop, take, filter, min, slice_get, Option, Some, None, MatchOption}
 use Rattle.ksm_base.specs.declared.page.GuestPage.{GuestPage}
 use Rattle.ksm_base.specs.declared.row.Row.{Row}
@@ -9,7 +9,7 @@ use Rattle.ksm_base.specs.declared.reply.Reply.TheVariants.{Scanned}
 use Rattle.ksm_base.specs.Rows.{comes_before, row_at}
 use Rattle.ksm_base.specs.Visit.{best_dup, is_for_zero, partner, row_visited}
 use Rattle.ksm_tree.specs.declared.dup.Best.{Best}
-use Rattle.ksm_pages.specs.Paged.{is_restless}
+use Rattle.ksm_pages.specs.Paged.{AreAllListed, is_restless}
 use Rattle.ksm_base.specs.State.{BookState}
 use Rattle.ksm_rmap.specs.Items.{AreAscending, has_item}
 use Rattle.ksm_book.specs.Commands.{Deed, Performs, row_visiting, then_doing}
@@ -88,12 +88,6 @@ ahead_before page b = filter (λ p. comes_before p page) (pages_ahead b)
 abbrev pub passes_ended : ℕ → BookState → BookState
 passes_ended count b = record b { cursor = None; passes = min (b.passes + count) (2 ^ 64 - 1) }
 
--- what so many visits of these pages come to: the page of the last visit, where a page is left, or the end of the pass
--- after so many
-abbrev pub EndsAt : List GuestPage → ℕ → Ahead → Type 0
-EndsAt pages visits (At page) = (visits < length pages) × (slice_get pages (visits - 1) ≡ Some page)
-EndsAt pages visits (End made) = (made ≡ length pages) × (made ≤ visits)
-
 -- no visit is made in this pass
 abbrev pub is_nowhere : Ahead → Bool
 is_nowhere (At page) = false
@@ -106,9 +100,7 @@ last_visited (End made) = None
 
 -- each page that a visit may change is among these, which are in order
 abbrev pub AreListed : List Row → List GuestPage → Type 0
-AreListed rows pages =
-    AreAscending pages
-    × ((page : GuestPage) → restless_at page rows ≡ true → has_item page pages ≡ true)
+AreListed rows pages = AreAscending pages × AreAllListed rows pages
 
 -- so it is with the listed pages of a book
 abbrev pub ListsAll : BookValue → Type 0

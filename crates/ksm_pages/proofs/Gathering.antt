@@ -1,5 +1,6 @@
 -- A walk along the order that lists the pages that a visit may change.
-use Rattle.ksm_pages.proofs.Names.{[], after_cursor, All, All-cons, All-map, ap, AreAllListed, AreAscending, AreFiled, AreListed, arith, before_irrefl, Bool, cases_Bool, comes_before, Entry, false, filter, find, find_all, find_none, find_passes, get, get_or, GuestPage, has_item, Held, held_in, held_under, inl, inr, is_of, is_own, is_restless, is_some, IsAddedTo, IsUnder, Kind, length, List, Listing, may_change, Named, named_of, None, not, Option, option_map, pairs_head, pairs_tail, rows_of, same_page, same_page_refl, same_Some, shared_state, Slab, Some, state_of, sym, true, ℕ, ◌&&◌, ◌<◌, ◌∙◌, ◌∷◌, ◌≡◌, ◌≤◌, ◌⊎◌, held_of}
+use Rattle.ksm_pages.proofs.Names.{[], after_cursor, All, All-cons, All-map, ap, AreAllListed, AreAscending, AreFiled, AreListed, arith, before_irrefl, Bool, cases_Bool, comes_before, Entry, false, filter, find, find_all, find_none, find_passes, get, get_or, GuestPage, has_item, Held, held_in, held_under, inl, inr, is_of, is_own, is_restless, is_some, IsAddedTo, IsUnder, Kind, length, List, Listing, Named, named_of, None, not, Option, option_map, pairs_head, pairs_tail, rows_of, same_page, same_page_refl, same_Some, shared_state, Slab, Some, state_of, sym, true, ℕ, ◌&&◌, ◌<◌, ◌∙◌, ◌∷◌, ◌≡◌, ◌≤◌, ◌⊎◌, held_of}
+use Rattle.ksm_pages.specs.Paged.{is_restless as may_change}
 use Rattle.ksm_pages.proofs.Filing.{all_stand, named_under, one_key, under_named}
 use Rattle.ksm_pages.proofs.Listings.{with_has}
 

@@ -18,10 +18,11 @@ pub use Rattle.ksm_base.specs.declared.row.PageState.{PageState}
 pub use Rattle.ksm_base.specs.declared.row.PageState.TheVariants.{Merged, Private, Waiting, Zero}
 pub use Rattle.ksm_base.specs.declared.row.Row.{Row}
 pub use Rattle.ksm_pages.specs.Filed.{AreBegun, AreFiled, AreListed, CanMove, held_in, held_under, is_useless, IsCalm, IsInVain, IsMoved, IsRows, IsTally, IsUnder, key_in, named_of, one_if}
-pub use Rattle.ksm_pages.specs.Held.{AreAllListed, AreInOrder, change_held, forgotten, Held, held_at, held_of, holds, is_own, is_restless, IsAddedTo, last_or, Listing, mapped, may_change, number_left, on_row, own_state, pages_ahead, pages_of, Reaches, rows_of, RowsView, state_of, with_held, without_held}
+pub use Rattle.ksm_pages.specs.Ahead.{EndsAt, last_of, mergeable_pages, pages_behind, pages_between}
+pub use Rattle.ksm_pages.specs.Held.{AreInOrder, change_held, forgotten, Held, held_at, held_of, holds, is_own, is_restless, IsAddedTo, Listing, mapped, number_left, on_row, own_state, pages_of, rows_of, RowsView, state_of, with_held, without_held}
 pub use Rattle.ksm_pages.specs.Left.{IsLeft}
-pub use Rattle.ksm_pages.specs.Ordered.{ahead_of, AreAscending, ComesTo, is_of, key_of, marked, named_by, page_at, page_of, passed_to, visited, with_named, without_named}
-pub use Rattle.ksm_pages.specs.Paged.{AreKept, elsewhere, Finds, FindsAt, frame_of, frame_seen, Frames, HasRoom, is_item, is_next, IsAlone, IsHeld, IsKnown, IsVacant, items_on, last_page, lies_on, Lodging, lodging, lodgings_of, MayPair, of_guest, page_beside, PagesValue, PagesView, paired, rows_between, seen}
+pub use Rattle.ksm_pages.specs.Ordered.{AreAscending, is_of, key_of, marked, named_by, page_of, visited, with_named, without_named}
+pub use Rattle.ksm_pages.specs.Paged.{AreAllListed, AreKept, elsewhere, Finds, FindsAt, frame_of, frame_seen, Frames, HasRoom, is_item, is_next, IsAlone, IsHeld, IsKnown, IsVacant, items_on, lies_on, Lodging, lodging, lodgings_of, MayPair, of_guest, page_beside, PagesValue, PagesView, paired, seen}
 pub use Rattle.ksm_pages.specs.declared.ahead.Ahead.{Ahead}
 pub use Rattle.ksm_pages.specs.declared.ahead.Ahead.TheVariants.{At, End}
 pub use Rattle.ksm_pages.specs.declared.named.Named.{Named}

@@ -1,12 +1,11 @@
 -- What is read of the pages: rows and dups found by their pages, places and numbers.
-use Rattle.ksm_pages.proofs.Names.{[], Ahead, All, ap, AreAllListed, AreDups, AreTied, AreWaiting, arith, At, Bool, cases_Bool, comes_before, cond, Contains, Contains-from_any, Dup, dup_at, dup_numbered, dup_of, DupRow, DupsState, each_has_number, End, false, filter, find, find_all, found_passing, get_or, GuestPage, has_items, Held, held_at, inl, InPageOrder, InPlaceOrder, inr, is_live, is_some, is_stale, items_in, items_of, Kind, Knobs, last_or, last_page, length, length-map, List, list_any, live_placed, lodging, lodgings_of, map, merged_into, None, not, Option, option_and_then, option_map, pages_ahead, passing, Reaches, refl, Row, row_at, rows_between, rows_of, same_page, same_page_eq, shared_state, slice_get, slice_get-get_or, slice_get-map, Some, stale_alike, stands_at, stands_numbered, state_of, sym, tied_counted, true, unwrap_or-slice_get, waiting_state, WaitingPage, waits_there, ℕ, ◌&&◌, ◌<◌, ◌==◌, ◌∙◌, ◌∷◌, ◌≡◌}
+use Rattle.ksm_pages.proofs.Names.{All, ap, AreDups, AreTied, AreWaiting, arith, Bool, cases_Bool, cond, Dup, dup_at, dup_numbered, dup_of, DupRow, DupsState, each_has_number, false, find, find_all, found_passing, get_or, GuestPage, has_items, Held, held_at, inl, InPageOrder, InPlaceOrder, inr, is_live, is_some, is_stale, items_in, items_of, Kind, Knobs, length, List, list_any, live_placed, lodging, lodgings_of, merged_into, None, not, Option, option_and_then, option_map, passing, refl, Row, row_at, rows_of, shared_state, slice_get, slice_get-get_or, Some, stale_alike, stands_at, stands_numbered, state_of, sym, tied_counted, true, unwrap_or-slice_get, waiting_state, WaitingPage, waits_there, ℕ, ◌&&◌, ◌<◌, ◌==◌, ◌∙◌, ◌≡◌}
 use Rattle.std.proofs.Common.{unwrap_or}
 use Rattle.ksm_base.specs.Rows.{is_stale as is_stale_row}
 use Rattle.ksm_tree.specs.Dups.{rows_of as dup_rows}
 use Rattle.ksm_tree.proofs.Changes.{row_found as dup_row_found}
 use Rattle.ksm_pages.specs.Held.{frame_of}
-use Rattle.ksm_pages.specs.Paged.{ComesTo, frame_of as lies_at, is_restless}
-use Rattle.ksm_tree.proofs.Alike.{filter_mapped}
+use Rattle.ksm_pages.specs.Paged.{frame_of as lies_at}
 use Rattle.ksm_rmap.proofs.Ordered.{any_found}
 use Rattle.ksm_pages.proofs.Changing.{nothing_held, row_found}
 use Rattle.ksm_pages.proofs.Joined.{item_lies}
@@ -73,10 +72,6 @@ kept_at_place frames (Some d) = refl
 pub lies_nowhere : (of_dup : ℕ → Option ℕ) (held : List Held) (page : GuestPage) → row_at page (rows_of held) ≡ None → lies_at (lodgings_of of_dup held) page ≡ None
 lies_nowhere of_dup held page gone = frame_by _ held _ ∙ ap (seat of_dup) (nothing_held page held gone)
 
--- where the pages of all rows that a visit may change are listed, each such row's page is in the list
-pub listed_pages : (rows : List Row) (pages : List GuestPage) → AreAllListed rows pages → All (λ r. is_restless r ≡ true → Contains pages r.page) rows
-listed_pages rows pages all k d lt may = Contains-from_any {eq = λ q p. same_page p q} (λ p q same. sym (same_page_eq q p same)) _ _ (all k d lt may)
-
 -- ---------------------------------------------------------------- the dups at their places
 
 -- the items of a dup lie on the frame that is kept at its place
@@ -117,23 +112,3 @@ module _ (rows : List Row) (dups : List Dup) (place : ℕ) (tied : AreTied rows 
             ∙ ap (λ o. Some (items_in o)) (sym there)
         | inr stale ↦ absurd (grind arith)
       ]
-
--- ---------------------------------------------------------------- the scan's way
-
-abbrev page_of : Row → GuestPage
-page_of r = r.page
-
--- visits that come to a page in a list of rows' pages come to the row of that page
-pub comes : (rows : List Row) (visits : ℕ) (to : Ahead) → Reaches (map page_of rows) visits to → ComesTo rows visits to
-comes rows visits (At page) is = (rw (← length-map rows page_of) is.0, sym (slice_get-map page_of rows _) ∙ is.1)
-comes rows visits (End made) is = (is.0 ∙ length-map rows page_of, is.1)
-
--- the pages behind a cursor and before a page are those of the rows there
-pub passed : (cursor : Option GuestPage) (page : GuestPage) (rows : List Row) → filter (λ p. comes_before p page) (pages_ahead cursor rows) ≡ map page_of (rows_between cursor page rows)
-passed cursor page rows = grind (arith, filter_mapped)
-
--- the last of the pages, or the cursor, is the page of the last row, or the cursor
-pub last_is : (cursor : Option GuestPage) (rows : List Row) → last_or cursor (map page_of rows) ≡ last_page cursor rows
-last_is cursor [] = refl
-last_is cursor (r ∷ []) = refl
-last_is cursor (r ∷ s ∷ rows) = grind (arith, last_is cursor (s ∷ rows))

@@ -1,5 +1,5 @@
 -- The pages in order as the items that are kept for them: what stands before a key, what comes behind it, and in between.
-use Rattle.ksm_pages.proofs.Names.{[], ahead_of, All, All-cons, All-head, All-tail, ap, ap₂, arith, Bool, cases_Bool, cases_lt, comes_before, count_by, drop, eqb-true, false, filter, filter_all, filter_none, find, get_or, GuestPage, if◌then◌else◌, inl, inr, is_of, is_some, key_of, length, length-filter, length-map, List, map, map-append, marked, Named, named_by, nat_lt, None, none-some, not, Option, option_map, page_at, page_of, pairs_head, pairs_tail, passed_to, refl, same_Some, slice_get, slice_get-map, slice_get_past, Some, suc, sym, take, true, visited, with_named, without_named, zero, ℕ, ◌&&◌, ◌++◌, ◌+◌, ◌-◌, ◌<◌, ◌^◌, ◌∙◌, ◌∷◌, ◌≡◌, ◌≤◌}
+use Rattle.ksm_pages.proofs.Names.{[], after_cursor, All, All-cons, All-head, All-tail, ap, ap₂, arith, Bool, cases_Bool, cases_lt, comes_before, count_by, drop, eqb-true, false, filter, filter_all, filter_none, find, get_or, GuestPage, if◌then◌else◌, inl, inr, is_of, is_some, key_of, last_of, length, length-filter, length-map, List, map, map-append, marked, Named, named_by, nat_lt, None, none-some, not, Option, option_map, page_of, pages_behind, pages_between, pairs_head, pairs_tail, refl, same_Some, slice_get, slice_get-map, slice_get_past, Some, suc, sym, take, true, visited, with_named, without_named, zero, ℕ, ◌&&◌, ◌++◌, ◌+◌, ◌-◌, ◌<◌, ◌^◌, ◌∙◌, ◌∷◌, ◌≡◌, ◌≤◌}
 use Rattle.std.proofs.lemmas.List.{drop-map, length-drop, length-take-le, nil_from_length, take-map}
 use Rattle.std.proofs.lemmas.List.Kept.{AllPairs-filter}
 use Rattle.ksm_base.proofs.Edits.{count_more}
@@ -8,7 +8,6 @@ use Rattle.ksm_pages.specs.Ordered.{AreAscending as AreInOrder}
 use Rattle.ksm_pages.proofs.Keyed.{length_with}
 use Rattle.ksm_order.specs.declared.item.Item.{Item}
 use Rattle.ksm_order.specs.Listed.{AreAscending, is_at, is_from, key_at, marked as kept_marked, up_to, with_item, with_mark, without}
-use Rattle.ksm_order.proofs.Between.{up_to_behind}
 use Rattle.ksm_order.proofs.Parts.{up_to_few}
 
 -- ---------------------------------------------------------------- one page and one item
@@ -68,39 +67,15 @@ marked_by page few mark items =
 
 -- ---------------------------------------------------------------- those that a scan visits
 
-pub visited_by : (items : List Item) → visited (map named_by items) ≡ map named_by (kept_marked items)
-visited_by items = grind (arith, filter_mapped)
+-- the page of an item
+abbrev pub page_by : Item → GuestPage
+page_by x = page_of x.key
 
--- where items are in order, those that are marked and do not come before a key are the marked ones but for as many as come before
+pub visited_by : (items : List Item) → visited (map named_by items) ≡ map page_by (kept_marked items)
+visited_by items = ap (map (λ (n : Named). n.page)) (filter_mapped named_by _ (λ x. x.marked) items (λ k d lt. refl)) ∙ map_mapped _ _ _ _ (λ k d lt. refl)
+
+-- where items are in order, those that come before a key stand first, and those that do not behind them
 module _ (key : ℕ) where
-  pub kept_from : (xs : List Item) → AreAscending xs → filter (λ x. x.marked && is_from key x) xs ≡ drop (up_to key xs) (kept_marked xs)
-  kept_from [] rise = refl
-  kept_from (x ∷ xs) rise =
-      let rest = kept_from xs (pairs_tail Less x xs rise) in
-      let counts = count_more (λ y. y.marked && nat_lt y.key key) x xs in
-      elim (cases_Bool x.marked) [
-        | inl is ↦ elim (cases_lt x.key key) [
-          | inl less ↦
-              let n : up_to key (x ∷ xs) ≡ suc (up_to key xs) = grind arith in
-              let all : kept_marked (x ∷ xs) ≡ x ∷ kept_marked xs = grind arith in
-              let kept : filter (λ y. y.marked && is_from key y) (x ∷ xs) ≡ filter (λ y. y.marked && is_from key y) xs = grind arith in
-              kept ∙ rest ∙ sym (ap₂ (λ m ys. drop m ys) n all)
-          | inr more ↦
-              let later : All (λ y. key ≤ y.key) xs = λ k d lt. let up = pairs_head Less x xs rise k d lt in omega (arith, up) in
-              let none = up_to_behind key xs later in
-              let n : up_to key (x ∷ xs) ≡ 0 = grind arith in
-              let passes : (x.marked && is_from key x) ≡ true = grind arith in
-              let all : kept_marked (x ∷ xs) ≡ x ∷ kept_marked xs = grind arith in
-              let kept : filter (λ y. y.marked && is_from key y) (x ∷ xs) ≡ x ∷ filter (λ y. y.marked && is_from key y) xs = grind (arith, passes) in
-              kept ∙ ap (λ ys. x ∷ ys) (rest ∙ ap (λ m. drop m (kept_marked xs)) none) ∙ sym (ap₂ (λ m ys. drop m ys) n all)
-        ]
-        | inr other ↦
-            let n : up_to key (x ∷ xs) ≡ up_to key xs = grind arith in
-            let all : kept_marked (x ∷ xs) ≡ kept_marked xs = grind arith in
-            let kept : filter (λ y. y.marked && is_from key y) (x ∷ xs) ≡ filter (λ y. y.marked && is_from key y) xs = grind arith in
-            kept ∙ rest ∙ sym (ap₂ (λ m ys. drop m ys) n all)
-      ]
-
   abbrev below : Item → Bool
   below x = nat_lt x.key key
 
@@ -136,6 +111,20 @@ module _ (key : ℕ) where
         | inr more ↦
             let none = filter_none below (x ∷ xs) (All-cons (λ y. below y ≡ false) x xs (grind arith) (nothing_below x _ rise more)) in
             none ∙ sym (ap (λ m. take m (x ∷ xs)) (sym (length-filter below (x ∷ xs)) ∙ ap length none))
+      ]
+
+  kept_from : (xs : List Item) → AreAscending xs → filter (is_from key) xs ≡ drop (count_by below xs) xs
+  kept_from [] rise = refl
+  kept_from (x ∷ xs) rise =
+      elim (cases_lt x.key key) [
+        | inl less ↦
+            let n : count_by below (x ∷ xs) ≡ suc (count_by below xs) = grind (arith, less, count_more below x xs) in
+            let kept : filter (is_from key) (x ∷ xs) ≡ filter (is_from key) xs = grind arith in
+            kept ∙ kept_from xs (pairs_tail Less x xs rise) ∙ sym (ap (λ m. drop m (x ∷ xs)) n)
+        | inr more ↦
+            let low : All (λ y. below y ≡ false) (x ∷ xs) = All-cons (λ y. below y ≡ false) x xs (grind arith) (nothing_below x _ rise more) in
+            let all : filter (is_from key) (x ∷ xs) ≡ x ∷ xs = filter_all (is_from key) (x ∷ xs) (λ k d lt. ap not (low k d lt)) in
+            all ∙ ap (λ m. drop m (x ∷ xs)) (sym (ap length (filter_none below (x ∷ xs) low)) ∙ length-filter below (x ∷ xs))
       ]
 
   abbrev nothing : List Item
@@ -190,11 +179,6 @@ get_taken (suc m) k [] lt = refl
 get_taken (suc m) zero (x ∷ xs) lt = refl
 get_taken (suc m) (suc k) (x ∷ xs) lt = get_taken m k xs (omega arith)
 
--- the page at a place is that of the key there
-pub page_by : (o : Option Item) → option_map (λ n. n.page) (option_map named_by o) ≡ option_map page_of (option_map (λ x. x.key) o)
-page_by None = refl
-page_by (Some x) = refl
-
 -- a key at a place is that of one of the items
 pub small_at : (P : ℕ → Type 0) (xs : List Item) (place : ℕ) {key : ℕ} → All (λ x. P x.key) xs → key_at xs place ≡ Some key → P key
 small_at P [] place all is = absurd (grind arith)
@@ -216,38 +200,64 @@ gone_one key (x ∷ xs) rise there = elim (cases_Bool _) [
       omega (arith, ap length kept, gone_one key xs (pairs_tail Less x _ rise) later)
 ]
 
+-- the last of a beginning is the page at its end
+pub last_of_take : (pages : List GuestPage) (n : ℕ) (cursor : Option GuestPage) {page : GuestPage} → slice_get pages n ≡ Some page
+    → last_of cursor (take (suc n) pages) ≡ Some page
+last_of_take [] n cursor is = cc
+last_of_take (p ∷ pages) zero cursor is = is
+last_of_take (p ∷ pages) (suc n) cursor is = last_of_take pages n (Some p) is
+
 -- the page at a place of those that a scan visits
 module _ (items : List Item) {now : List Named} (seen_as : map named_by items ≡ now) where
-  pub visited_is : visited now ≡ map named_by (kept_marked items)
+  pub visited_is : visited now ≡ map page_by (kept_marked items)
   visited_is = ap visited (sym seen_as) ∙ visited_by items
 
   pub visited_many : length (visited now) ≡ count_by (λ x. x.marked) items
-  visited_many = ap length visited_is ∙ length-map (kept_marked items) named_by ∙ length-filter (λ (x : Item). x.marked) items
+  visited_many = ap length visited_is ∙ length-map (kept_marked items) page_by ∙ length-filter (λ (x : Item). x.marked) items
 
-  pub visited_at : (place key : ℕ) → key_at (kept_marked items) place ≡ Some key → page_at (visited now) place ≡ Some (page_of key)
-  visited_at place key is = grind (arith, visited_is, slice_get-map, page_by)
+  pub visited_at : (place : ℕ) {key : ℕ} → key_at (kept_marked items) place ≡ Some key → slice_get (visited now) place ≡ Some (page_of key)
+  visited_at place {key} is =
+      ap (λ pages. slice_get pages place) visited_is ∙ slice_get-map page_by (kept_marked items) place ∙ at _ is
+    where
+      at : (o : Option Item) → option_map (λ x. x.key) o ≡ Some key → option_map page_by o ≡ Some (page_of key)
+      at None none = cc
+      at (Some x) same = ap (option_map page_of) same
+
+  -- where so many visited pages do not come behind a cursor, those behind it are the others
+  pub behind_is : (cursor : Option GuestPage) (key : ℕ) → ((n : ℕ) → after_cursor cursor (page_of n) ≡ not (nat_lt n key)) → AreAscending items
+      → pages_behind cursor (visited now) ≡ drop (up_to key items) (visited now)
+  behind_is cursor key from rise =
+      let kept = kept_marked items in
+      rw visited_is
+      (filter_mapped page_by (after_cursor cursor) (is_from key) kept (λ k d lt. from (get_or kept k d).key)
+      ∙ ap (map page_by) (kept_from key kept (AllPairs-filter Less _ _ rise) ∙ ap (λ n. drop n kept) (sym (counted_marked key items)))
+      ∙ sym (drop-map page_by (up_to key items) kept))
 
   -- those behind a cursor and before a page, where it is known how many visited ones come before each
   module _ (cursor : Option GuestPage) (page : GuestPage) (few : page.page < 2 ^ 32) (rise : AreAscending items)
-      (passed : ℕ) {before : ℕ} (ahead : ahead_of cursor now ≡ drop passed (visited now)) (many : before ≡ up_to (key_of page) items) where
-    pub passed_is : passed_to cursor page now ≡ take (before - passed) (drop passed (visited now))
+      (passed : ℕ) {before : ℕ} (ahead : pages_behind cursor (visited now) ≡ drop passed (visited now)) (many : before ≡ up_to (key_of page) items) where
+    pub passed_is : pages_between cursor page (visited now) ≡ take (before - passed) (drop passed (visited now))
     passed_is =
-        let marked_ones = kept_marked items in
-        let whole = ap (drop passed) visited_is ∙ drop-map named_by passed marked_ones in
+        let kept = kept_marked items in
+        let whole = ap (drop passed) visited_is ∙ drop-map page_by passed kept in
         let count = many ∙ counted_marked (key_of page) items in
-        ap (filter (λ n. comes_before n.page page)) (ahead ∙ whole)
-        ∙ filter_mapped named_by (λ n. comes_before n.page page) (below (key_of page)) _ (λ k d lt. before_its _ few (get_or (drop passed marked_ones) k d))
-        ∙ ap (map named_by) (kept_between (key_of page) _ _ (AllPairs-filter Less _ _ rise) ∙ ap (λ n. take (n - passed) (drop passed marked_ones)) (sym count))
+        ap (filter (λ p. comes_before p page)) (ahead ∙ whole)
+        ∙ filter_mapped page_by (λ p. comes_before p page) (below (key_of page)) _ (λ k d lt. before_its _ few (get_or (drop passed kept) k d))
+        ∙ ap (map page_by) (kept_between (key_of page) _ _ (AllPairs-filter Less _ _ rise) ∙ ap (λ n. take (n - passed) (drop passed kept)) (sym count))
         ∙ sym (take-map _ _ _) ∙ ap (take (before - passed)) (sym whole)
 
-    pub passed_many : length (passed_to cursor page now) ≡ before - passed
+    pub passed_many : length (pages_between cursor page (visited now)) ≡ before - passed
     passed_many =
         ap length passed_is
         ∙ length-take-le (before - passed) (drop passed (visited now)) (omega (arith, length-drop passed (visited now), visited_many, many, up_to_few (key_of page) items))
 
-    pub passed_none : before ≤ passed → passed_to cursor page now ≡ []
+    pub passed_none : before ≤ passed → pages_between cursor page (visited now) ≡ []
     passed_none none = nil_from_length _ (omega (arith, passed_many, none))
 
-    pub passed_last : passed < before → (key : ℕ) → key_at (kept_marked items) (before - 1) ≡ Some key
-        → page_at (passed_to cursor page now) (length (passed_to cursor page now) - 1) ≡ Some (page_of key)
-    passed_last some key is = grind (arith, passed_is, passed_many, get_taken, get_dropped, visited_at)
+    pub passed_last : passed < before → {key : ℕ} → key_at (kept_marked items) (before - 1) ≡ Some key
+        → last_of cursor (pages_between cursor page (visited now)) ≡ Some (page_of key)
+    passed_last some is =
+        let m = before - passed - 1 in
+        let more : before - passed ≡ suc m = omega arith in
+        ap (last_of cursor) (passed_is ∙ ap (λ n. take n (drop passed (visited now))) more)
+        ∙ last_of_take _ m cursor (get_dropped passed m (visited now) ∙ ap (slice_get (visited now)) (omega arith) ∙ visited_at _ is)

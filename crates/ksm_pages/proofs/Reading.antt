@@ -1,22 +1,10 @@
 -- What is read of the rows along their order.
-use Rattle.ksm_pages.proofs.Names.{after_cursor, Ahead, ahead_of, All, All-filter, ap, ap₂, AreAscending, AreFiled, arith, At, Bool, comes_before, ComesTo, count_by, End, Entry, filter, find, find_all, get, GuestPage, held_in, held_under, last_or, length-map, List, map, Named, None, Option, option_map, option_or, pages_ahead, passed_to, Reaches, refl, Row, rows_of, Slab, slice_get, slice_get-map, Some, sym, ℕ, ◌&&◌, ◌-◌, ◌∙◌, ◌≡◌}
-use Rattle.ksm_pages.specs.Ordered.{last_or as last_named}
+use Rattle.ksm_pages.proofs.Names.{All, All-filter, ap, AreAscending, AreFiled, Bool, count_by, Entry, find, find_all, get, GuestPage, held_in, held_under, List, map, mergeable_pages, Named, None, Option, option_map, refl, Row, rows_of, Slab, Some, visited, ℕ, ◌-◌, ◌∙◌, ◌≡◌}
 use Rattle.ksm_tree.proofs.Alike.{count_mapped, filter_mapped, find_mapped, map_mapped}
 use Rattle.ksm_pages.proofs.Filing.{all_stand, flag_under, page_under}
 
 abbrev page_of : Named → GuestPage
 page_of n = n.page
-
--- visits that come to a name of the order reach the page of that name
-pub reached : (ahead : List Named) (visits : ℕ) (to : Ahead) → ComesTo ahead visits to → Reaches (map page_of ahead) visits to
-reached ahead visits (At page) comes = (rw (length-map ahead page_of) comes.0, slice_get-map page_of ahead _ ∙ comes.1)
-reached ahead visits (End made) comes = (comes.0 ∙ sym (length-map ahead page_of), comes.1)
-
--- the last page of named pages, or the cursor, is the last of their pages, or the cursor
-pub last_mapped : (cursor : Option GuestPage) (named : List Named) → last_named cursor named ≡ last_or cursor (map page_of named)
-last_mapped cursor named =
-    ap (λ o. option_or o cursor) (sym (slice_get-map page_of named _))
-    ∙ ap (λ n. option_or (slice_get (map page_of named) (n - 1)) cursor) (sym (length-map named page_of))
 
 module _ (pass : ℕ) (slab : Slab Entry) (order : List Named) (rise : AreAscending order) (filed : AreFiled slab order) where
   abbrev row_by : Named → Row
@@ -47,13 +35,9 @@ module _ (pass : ℕ) (slab : Slab Entry) (order : List Named) (rise : AreAscend
   pub flags_counted : count_by (λ r. r.mergeable) (rows_of (held_in pass slab order)) ≡ count_by (λ n. n.mergeable) order
   flags_counted = ap (count_by (λ r. r.mergeable)) rows_by ∙ count_mapped _ _ _ _ all_flags
 
-  -- the pages that a scan has behind a cursor are the same in the rows and in the order
-  pub ahead_by : (cursor : Option GuestPage) → pages_ahead cursor (rows_of (held_in pass slab order)) ≡ map page_of (ahead_of cursor order)
-  ahead_by cursor =
-      ap (pages_ahead cursor) rows_by
-      ∙ ap (map (λ (r : Row). r.page)) (filter_mapped _ _ _ _ (λ k d lt. ap₂ (λ b p. b && after_cursor cursor p) (all_flags k d lt) (all_pages k d lt)))
+  -- the pages that a scan visits are the same in the rows and in the order
+  pub pages_by : mergeable_pages (rows_of (held_in pass slab order)) ≡ visited order
+  pages_by =
+      ap mergeable_pages rows_by
+      ∙ ap (map (λ (r : Row). r.page)) (filter_mapped _ _ _ _ all_flags)
       ∙ map_mapped _ _ _ _ (All-filter _ (λ n. (row_by n).page ≡ n.page) _ all_pages)
-
-  -- the pages that a scan has behind a cursor and before a page are the same in the rows and in the order
-  pub between_by : (cursor : Option GuestPage) (page : GuestPage) → filter (λ p. comes_before p page) (pages_ahead cursor (rows_of (held_in pass slab order))) ≡ map page_of (passed_to cursor page order)
-  between_by cursor page = grind (arith, ahead_by, filter_mapped)

@@ -1,16 +1,12 @@
 -- Rows as they are kept, in the order of their pages, each with the frame of its own if it has one. (own)
-use Rattle.std.specs.Prelude.{◌≡◌, ◌⊎◌, ℕ, ◌<◌, ◌≤◌, ◌-◌, Bool, true, false, not, ◌&&◌, ◌==◌, All, AllPairs, List, ◌∷◌}
-use Rattle.std.specs.Prelude.{◌++◌, filter, find, length, map, slice_get, Option, None, Some, if◌then◌else◌}
-use Rattle.std.specs.Option.{option_or}
+use Rattle.std.specs.Prelude.{◌≡◌, ◌⊎◌, ℕ, ◌-◌, Bool, true, false, not, ◌&&◌, ◌==◌, AllPairs, List, ◌∷◌}
+use Rattle.std.specs.Prelude.{◌++◌, filter, find, map, Option, None, Some, if◌then◌else◌}
 use Rattle.ksm_base.specs.declared.page.GuestPage.{GuestPage}
 use Rattle.ksm_base.specs.declared.row.PageState.{PageState}
 use Rattle.ksm_base.specs.declared.row.PageState.TheVariants.{Private, Waiting, Merged, Zero}
 use Rattle.ksm_base.specs.declared.row.Row.{Row}
-use Rattle.ksm_base.specs.Rows.{comes_before, same_page, shared_state}
-use Rattle.ksm_base.specs.Visit.{after_cursor}
-use Rattle.ksm_rmap.specs.Items.{has_item, with_item}
-use Rattle.ksm_pages.specs.declared.ahead.Ahead.{Ahead}
-use Rattle.ksm_pages.specs.declared.ahead.Ahead.TheVariants.{At, End}
+use Rattle.ksm_base.specs.Rows.{comes_before, same_page}
+use Rattle.ksm_rmap.specs.Items.{with_item}
 use Rattle.ksm_pages.specs.declared.row.Kind.{Kind}
 use Rattle.ksm_pages.specs.declared.row.Kind.TheVariants as kinds
 use Rattle.ksm_pages.specs.declared.row.Entry.{Entry}
@@ -132,30 +128,3 @@ on_row change h = record h { row = change h.row }
 -- a change of the state, and of the frame with it
 abbrev pub mapped : PageState → Option ℕ → Held → Held
 mapped state frame h = record { row = record h.row { state = state }; frame = frame }
-
--- a visit may change the row
-abbrev pub may_change : Row → Bool
-may_change r = r.mergeable && not (shared_state r.state)
-
--- each row that a visit may change is of one of these pages
-abbrev pub AreAllListed : List Row → List GuestPage → Type 0
-AreAllListed rows pages = All (λ r. may_change r ≡ true → has_item r.page pages ≡ true) rows
-
--- ---------------------------------------------------------------- the scan's way
-
--- the pages that a scan visits behind a cursor, in their order
-abbrev pub pages_ahead : Option GuestPage → List Row → List GuestPage
-pages_ahead cursor rows = map (λ r. r.page) (filter (λ r. r.mergeable && after_cursor cursor r.page) rows)
-
--- those of them before a page
-abbrev pub pages_between : Option GuestPage → GuestPage → List Row → List GuestPage
-pages_between cursor page rows = filter (λ p. comes_before p page) (pages_ahead cursor rows)
-
--- so many visits, one at least, come to this page as their last, and more are ahead; or the pass ends with so many
-abbrev pub Reaches : List GuestPage → ℕ → Ahead → Type 0
-Reaches ahead visits (At page) = (visits < length ahead) × (slice_get ahead (visits - 1) ≡ Some page)
-Reaches ahead visits (End made) = (made ≡ length ahead) × (made ≤ visits)
-
--- the last of some pages, or else the cursor
-abbrev pub last_or : Option GuestPage → List GuestPage → Option GuestPage
-last_or cursor pages = option_or (slice_get pages (length pages - 1)) cursor

@@ -1,3 +1,4 @@
+pub mod Ahead
 pub mod Ordered
 pub mod Held
 pub mod Filed

@@ -1,15 +1,11 @@
 -- Pages in order, each with the key of its row, and whether a scan visits it; and the items that are kept for it. (own)
-use Rattle.std.specs.Prelude.{◌≡◌, ℕ, ◌+◌, ◌-◌, ◌*◌, ◌/◌, ◌%◌, ◌^◌, ◌<◌, ◌≤◌, Bool, true, not, ◌&&◌, List, ◌∷◌, ◌++◌}
-use Rattle.std.specs.Prelude.{All, AllPairs, filter, length, map, slice_get, Option, Some, option_map, if◌then◌else◌}
-use Rattle.std.specs.Option.{option_or}
+use Rattle.std.specs.Prelude.{◌≡◌, ℕ, ◌+◌, ◌-◌, ◌*◌, ◌/◌, ◌%◌, ◌^◌, ◌<◌, Bool, true, not, List, ◌∷◌, ◌++◌}
+use Rattle.std.specs.Prelude.{All, AllPairs, filter, length, map, if◌then◌else◌}
 use Rattle.ksm_base.specs.declared.page.GuestPage.{GuestPage}
 use Rattle.ksm_base.specs.Rows.{comes_before, same_page}
-use Rattle.ksm_base.specs.Visit.{after_cursor}
 use Rattle.ksm_order.specs.declared.item.Item.{Item}
 use Rattle.ksm_order.specs.Listed.{AreAscending as AreItemsAscending}
 use Rattle.ksm_pages.specs.declared.named.Named.{Named}
-use Rattle.ksm_pages.specs.declared.ahead.Ahead.{Ahead}
-use Rattle.ksm_pages.specs.declared.ahead.Ahead.TheVariants.{At, End}
 
 -- the pages ascend, so none stands twice
 abbrev pub AreAscending : List Named → Type 0
@@ -33,29 +29,8 @@ abbrev pub marked : GuestPage → Bool → List Named → List Named
 marked page mergeable named = map (λ m. if is_of page m then record m { mergeable = mergeable } else m) named
 
 -- the pages that a scan visits, in their order
-abbrev pub visited : List Named → List Named
-visited named = filter (λ n. n.mergeable) named
-
--- those of them behind a cursor
-abbrev pub ahead_of : Option GuestPage → List Named → List Named
-ahead_of cursor named = filter (λ n. n.mergeable && after_cursor cursor n.page) named
-
--- those of them behind a cursor and before a page
-abbrev pub passed_to : Option GuestPage → GuestPage → List Named → List Named
-passed_to cursor page named = filter (λ n. comes_before n.page page) (ahead_of cursor named)
-
--- the page at a place of a list
-abbrev pub page_at : List Named → ℕ → Option GuestPage
-page_at named place = option_map (λ n. n.page) (slice_get named place)
-
--- the last page of a list, or the cursor where there is none
-abbrev pub last_or : Option GuestPage → List Named → Option GuestPage
-last_or cursor named = option_or (page_at named (length named - 1)) cursor
-
--- what so many visits of the pages ahead come to: the page of the last, or the end of the pass with so many
-abbrev pub ComesTo : List Named → ℕ → Ahead → Type 0
-ComesTo ahead visits (At page) = (visits < length ahead) × (page_at ahead (visits - 1) ≡ Some page)
-ComesTo ahead visits (End made) = (made ≡ length ahead) × (made ≤ visits)
+abbrev pub visited : List Named → List GuestPage
+visited named = map (λ n. n.page) (filter (λ n. n.mergeable) named)
 
 -- the key of a page: its guest, then its number
 abbrev pub key_of : GuestPage → ℕ

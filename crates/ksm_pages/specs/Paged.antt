@@ -1,8 +1,8 @@
 -- The pages: the rows with the dups into which they are merged, the frame of each page, and the pages that wait; and
 -- what is seen of them (own).
-use Rattle.std.specs.Prelude.{◌≡◌, ℕ, ◌+◌, ◌<◌, ◌≤◌, ◌^◌, Bool, true, false, not, ◌&&◌, ◌||◌, ◌==◌, ◌-◌, List, [], ◌∷◌}
+use Rattle.std.specs.Prelude.{◌≡◌, ℕ, ◌+◌, ◌<◌, ◌≤◌, ◌^◌, Bool, true, false, not, ◌&&◌, ◌||◌, ◌==◌, ◌-◌, List}
 use Rattle.std.specs.Prelude.{slice_get, option_map, map, All, Contains, find, Option, Some, None, is_some}
-use Rattle.std.specs.Prelude.{option_and_then, MatchOption, length, filter, if◌then◌else◌}
+use Rattle.std.specs.Prelude.{option_and_then, MatchOption, length, if◌then◌else◌}
 use Rattle.ksm_base.specs.declared.limits.TheConstants.{MOST_REFERENCES}
 use Rattle.ksm_base.specs.declared.page.GuestPage.{GuestPage}
 use Rattle.ksm_base.specs.declared.row.PageState.TheVariants.{Private, Waiting, Merged, Zero}
@@ -11,14 +11,12 @@ use Rattle.ksm_base.specs.declared.row.DupRow.{DupRow}
 use Rattle.ksm_base.specs.declared.knobs.Knobs.{Knobs}
 use Rattle.ksm_base.specs.declared.shape.Shape.{Shape}
 use Rattle.ksm_base.specs.Values.{frames_of}
-use Rattle.ksm_base.specs.Rows.{comes_before, same_page, row_at, change_row, change_rows, shared_state, merged_into, merged_state}
+use Rattle.ksm_base.specs.Rows.{same_page, row_at, change_row, change_rows, shared_state, merged_into, merged_state}
 use Rattle.ksm_base.specs.Rows.{item_count, with_dup}
 use Rattle.ksm_base.specs.State.{tree_of}
 use Rattle.ksm_base.specs.Visit.{after_cursor, best_dup, is_for_zero, partner}
 use Rattle.ksm_base.specs.Answers.{every_row}
 use Rattle.ksm_base.specs.Refusals.{is_of}
-use Rattle.ksm_pages.specs.declared.ahead.Ahead.{Ahead}
-use Rattle.ksm_pages.specs.declared.ahead.Ahead.TheVariants.{At, End}
 use Rattle.ksm_pages.specs.declared.pages.Find.{Find}
 use Rattle.ksm_pages.specs.declared.pages.Find.TheVariants as finds
 use Rattle.ksm_pages.specs.declared.pages.Held.{Held}
@@ -26,6 +24,7 @@ use Rattle.ksm_pages.specs.Held.{Held as HeldRow, Listing}
 use Rattle.ksm_base.specs.declared.row.PageState.{PageState}
 use Rattle.ksm_base.specs.Rows.{InPageOrder, dup_numbered}
 use Rattle.ksm_base.specs.Values.{IsShape}
+use Rattle.ksm_rmap.specs.Items.{has_item}
 use Rattle.ksm_tree.specs.Bridge.{AreTied}
 use Rattle.ksm_tree.specs.Dups.{DupsState}
 use Rattle.ksm_tree.specs.Waits.{AreWaiting}
@@ -179,9 +178,9 @@ paired place first second p =
 abbrev pub is_restless : Row → Bool
 is_restless r = r.mergeable && not (shared_state r.state)
 
--- where all of them are listed, each row that a visit may change is
-abbrev pub AreListed : List Row → Listing → Type 0
-AreListed rows restless = restless.known ≡ true → All (λ r. is_restless r ≡ true → Contains restless.pages r.page) rows
+-- each row that a visit may change is of one of these pages
+abbrev pub AreAllListed : List Row → List GuestPage → Type 0
+AreAllListed rows pages = All (λ r. is_restless r ≡ true → has_item r.page pages ≡ true) rows
 
 -- the pages once a visit changed the row of a page
 abbrev pub visited : GuestPage → (Row → Row) → PagesView → PagesView
@@ -214,25 +213,6 @@ FindsAt old new r finds.Waits =
 abbrev pub Finds : PagesView → PagesView → GuestPage → Find → Type 0
 Finds old new page found =
     MatchOption (row_at page old.rows) ((found ≡ finds.Gone) × (new ≡ old)) (λ r. FindsAt old new r found)
-
--- the rows that a scan visits after the cursor
-abbrev pub rows_ahead : Option GuestPage → List Row → List Row
-rows_ahead cursor rows = filter (λ r. r.mergeable && after_cursor cursor r.page) rows
-
--- what so many visits of these rows come to: the page of the last, or the end of the pass with so many
-abbrev pub ComesTo : List Row → ℕ → Ahead → Type 0
-ComesTo rows visits (At page) =
-    (visits < length rows) × (option_map (λ r. r.page) (slice_get rows (visits - 1)) ≡ Some page)
-ComesTo rows visits (End made) = (made ≡ length rows) × (made ≤ visits)
-
--- the rows that a scan visits after the cursor and before a page
-abbrev pub rows_between : Option GuestPage → GuestPage → List Row → List Row
-rows_between cursor page rows = filter (λ r. comes_before r.page page) (rows_ahead cursor rows)
-
--- the page of the last of these rows, or the cursor where there is none
-abbrev pub last_page : Option GuestPage → List Row → Option GuestPage
-last_page cursor [] = cursor
-last_page cursor (r ∷ rows) = last_page (Some r.page) rows
 
 -- ---------------------------------------------------------------- how the pages are kept
 

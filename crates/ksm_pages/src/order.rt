@@ -3,8 +3,9 @@ ghost use Rattle.std.specs.Prelude.{◌≡◌, ℕ, ◌≤◌, ◌<◌, ◌^◌,
 ghost use Rattle.std.specs.Prelude.{count_by, drop, find, is_some, length, nat_lt, not};
 ghost use Rattle.ksm_base.specs.declared.page.GuestPage.{GuestPage};
 ghost use Rattle.ksm_base.specs.Visit.{after_cursor};
-ghost use Rattle.ksm_pages.specs.Ordered.{ComesTo, ahead_of, is_of, key_of, last_or, marked, named_by, page_of};
-ghost use Rattle.ksm_pages.specs.Ordered.{passed_to, visited, with_named, without_named};
+ghost use Rattle.ksm_pages.specs.Ahead.{EndsAt, last_of, pages_behind, pages_between};
+ghost use Rattle.ksm_pages.specs.Ordered.{is_of, key_of, marked, named_by, page_of, visited, with_named};
+ghost use Rattle.ksm_pages.specs.Ordered.{without_named};
 
 use crate::ahead::Ahead;
 use crate::named::Named;
@@ -162,7 +163,7 @@ impl Order {
 
     /// How many of the pages that a scan visits do not come behind a cursor.
     fn passed(&self, cursor: Option<GuestPage>) -> usize
-        ensures ahead { ahead_of cursor self.now ≡ drop result (visited self.now) }
+        ensures ahead { pages_behind cursor (visited self.now) ≡ drop result (visited self.now) }
         ensures within { result ≤ length (visited self.now) }
     {
         match cursor {
@@ -174,7 +175,7 @@ impl Order {
     /// What so many visits behind the cursor come to, one at least.
     pub fn ahead(&self, cursor: Option<GuestPage>, visits: u64) -> Ahead
         requires { 1 ≤ visits }
-        ensures { ComesTo (ahead_of cursor self.now) visits result }
+        ensures { EndsAt (pages_behind cursor (visited self.now)) visits result }
     {
         let passed = self.passed(cursor);
         let left = (self.pages.count() - passed) as u64;
@@ -189,8 +190,8 @@ impl Order {
 
     /// How many pages behind the cursor and before a page a scan visits, and the last of them, or else the cursor.
     pub fn between(&self, cursor: Option<GuestPage>, page: GuestPage) -> (u64, Option<GuestPage>)
-        ensures count { result.0 ≡ length (passed_to cursor page self.now) }
-        ensures last { result.1 ≡ last_or cursor (passed_to cursor page self.now) }
+        ensures count { result.0 ≡ length (pages_between cursor page (visited self.now)) }
+        ensures last { result.1 ≡ last_of cursor (pages_between cursor page (visited self.now)) }
     {
         let passed = self.passed(cursor);
         let before = self.pages.up_to(key_of(page));

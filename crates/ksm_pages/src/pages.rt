@@ -11,7 +11,7 @@ ghost use Rattle.ksm_base.specs.Rows.{InPageOrder, row_at, waiting_state};
 ghost use Rattle.ksm_base.specs.State.{default_knobs};
 ghost use Rattle.ksm_base.specs.Values.{IsShape};
 ghost use Rattle.ksm_rmap.specs.Items.{AreAscending};
-ghost use Rattle.ksm_pages.specs.Paged.{AreListed, nowhere, seen};
+ghost use Rattle.ksm_pages.specs.Paged.{AreAllListed, nowhere, seen};
 
 use crate::row::Spot;
 use crate::rows::Rows;
@@ -120,7 +120,8 @@ impl Pages {
     pub fn lie_in_order(&self)
         ensures rise { InPageOrder self.now.rows }
         ensures absent { (page : GuestPage) → row_at page self.now.rows ≡ None → (seen self.now).frame page ≡ None }
-        ensures listed { AreListed self.now.rows self.now.restless }
+        ensures listed { self.now.restless.known ≡ true
+            → AreAllListed self.now.rows self.now.restless.pages }
         ensures ascending { AreAscending self.now.restless.pages }
     {
         // Called for their contracts alone.

@@ -15,10 +15,12 @@ ghost use Rattle.ksm_base.specs.Apply.{fresh_row};
 ghost use Rattle.ksm_base.specs.Rows.{InPageOrder, settled, shared_state};
 ghost use Rattle.ksm_base.specs.Visit.{after_cursor};
 ghost use Rattle.ksm_rmap.specs.Items.{AreAscending as AreRising};
+ghost use Rattle.ksm_pages.specs.Ahead.{EndsAt, last_of, mergeable_pages, pages_behind, pages_between};
 ghost use Rattle.ksm_pages.specs.Filed.{AreFiled, AreListed, IsTally, IsUnder, key_in};
-ghost use Rattle.ksm_pages.specs.Held.{AreAllListed, Reaches, change_held, held_at, held_of, last_or, mapped, on_row};
-ghost use Rattle.ksm_pages.specs.Held.{pages_ahead, pages_between, rows_of, with_held, without_held};
+ghost use Rattle.ksm_pages.specs.Held.{change_held, held_at, held_of, mapped, on_row, rows_of};
+ghost use Rattle.ksm_pages.specs.Held.{with_held, without_held};
 ghost use Rattle.ksm_pages.specs.Ordered.{AreAscending};
+ghost use Rattle.ksm_pages.specs.Paged.{AreAllListed};
 
 use crate::ahead::Ahead;
 use crate::order::Order;
@@ -238,15 +240,15 @@ impl Rows {
     /// What so many visits behind the cursor come to.
     pub fn ahead(&self, cursor: Option<GuestPage>, visits: u64) -> Ahead
         requires { 1 ≤ visits }
-        ensures { Reaches (pages_ahead cursor (rows_of self.now.held)) visits result }
+        ensures { EndsAt (pages_behind cursor (mergeable_pages (rows_of self.now.held))) visits result }
     {
         self.order.ahead(cursor, visits)
     }
 
     /// How many pages behind the cursor and before a page a scan visits, and the last of them, or else the cursor.
     pub fn between(&self, cursor: Option<GuestPage>, page: GuestPage) -> (u64, Option<GuestPage>)
-        ensures many { result.0 ≡ length (pages_between cursor page (rows_of self.now.held)) }
-        ensures last { result.1 ≡ last_or cursor (pages_between cursor page (rows_of self.now.held)) }
+        ensures many { result.0 ≡ length (pages_between cursor page (mergeable_pages (rows_of self.now.held))) }
+        ensures last { result.1 ≡ last_of cursor (pages_between cursor page (mergeable_pages (rows_of self.now.held))) }
     {
         self.order.between(cursor, page)
     }

@@ -3,7 +3,8 @@
 ghost use Rattle.std.specs.Prelude.{◌≡◌, ◌≤◌, not, true, Err, filter, length, option_map, OnOk, OnErr, slice_get};
 ghost use Rattle.ksm_base.specs.declared.fault.Fault.TheVariants.{Memory};
 ghost use Rattle.ksm_base.specs.Visit.{after_cursor};
-ghost use Rattle.ksm_pages.specs.Paged.{ComesTo, last_page, rows_ahead, rows_between, seen};
+ghost use Rattle.ksm_pages.specs.Ahead.{EndsAt, last_of, mergeable_pages, pages_behind, pages_between};
+ghost use Rattle.ksm_pages.specs.Paged.{seen};
 
 use crate::ahead::Ahead;
 use crate::pages::Pages;
@@ -14,7 +15,7 @@ impl Pages {
     /// Where so many visits behind the cursor end.
     pub fn ahead(&self, cursor: Option<GuestPage>, visits: u64) -> Ahead
         requires { 1 ≤ visits }
-        ensures { ComesTo (rows_ahead cursor self.now.rows) visits result }
+        ensures { EndsAt (pages_behind cursor (mergeable_pages self.now.rows)) visits result }
     {
         self.rows.ahead(cursor, visits)
     }
@@ -22,8 +23,8 @@ impl Pages {
     /// How many visits behind the cursor come before a page, and the page of the last of them; the cursor where there
     /// is none.
     pub fn between(&self, cursor: Option<GuestPage>, page: GuestPage) -> (u64, Option<GuestPage>)
-        ensures many { result.0 ≡ length (rows_between cursor page self.now.rows) }
-        ensures last { result.1 ≡ last_page cursor (rows_between cursor page self.now.rows) }
+        ensures many { result.0 ≡ length (pages_between cursor page (mergeable_pages self.now.rows)) }
+        ensures last { result.1 ≡ last_of cursor (pages_between cursor page (mergeable_pages self.now.rows)) }
     {
         self.rows.between(cursor, page)
     }

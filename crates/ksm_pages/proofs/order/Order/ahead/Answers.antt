@@ -1,13 +1,12 @@
-use Rattle.ksm_pages.proofs.Names.{ahead_of, ap, arith, length, option_map, page_at, rules, Some, sym, visited, ◌-◌, ◌<◌, ◌^◌, ◌∙◌, ◌≡◌}
+use Rattle.ksm_pages.proofs.Names.{All-filter, ap, arith, length, length-filter, pages_behind, rules, slice_get, Some, sym, visited, ◌-◌, ◌<◌, ◌^◌, ◌∙◌, ◌≡◌}
 use Rattle.std.proofs.lemmas.List.{length-drop}
 use Rattle.ksm_order.specs.declared.item.Item.{Item}
-use Rattle.ksm_pages.proofs.Names.{All-filter, length-filter}
 use Rattle.ksm_pages.proofs.Ranked.{get_dropped, small_at, some_at, visited_at, visited_many}
 use Rattle.ksm_pages.proofs.order.Order.ahead.Goals as goal
 use Rattle.ksm_pages.proofs.order.Order.ahead.Goals.{After-count}
 
 -- as many are ahead as are visited and not passed
-many : (c : After-count) → length (ahead_of c.args.cursor c.args.self.now) ≡ c.count.result - c.passed-passed.result
+many : (c : After-count) → length (pages_behind c.args.cursor (visited c.args.self.now)) ≡ c.count.result - c.passed-passed.result
 many c = ap length c.passed-passed.ensures.ahead ∙ length-drop c.passed-passed.result (visited c.args.self.now)
     ∙ ap (λ n. n - c.passed-passed.result) (visited_many _ c.self.view_is ∙ sym c.count.ensures)
 
@@ -24,9 +23,9 @@ page_of-requires c = small_at (λ n. n < 2 ^ 48) _ _
 pub returns-in-Some : goal.returns-in-Some
 returns-in-Some c = (
   omega (arith, many (goal.at.returns-in-Some c).After-count, c.if-left-visits.false),
-  ap (λ ns. page_at ns (c.args.visits - 1)) c.passed-passed.ensures.ahead
-      ∙ ap (option_map (λ n. n.page)) (get_dropped c.passed-passed.result (c.args.visits - 1) (visited c.args.self.now))
-      ∙ visited_at c.self.inside.pages c.self.view_is _ _ (sym c.nth.ensures ∙ c.in-Some.is)
+  ap (λ pages. slice_get pages (c.args.visits - 1)) c.passed-passed.ensures.ahead
+      ∙ get_dropped c.passed-passed.result (c.args.visits - 1) (visited c.args.self.now)
+      ∙ visited_at c.self.inside.pages c.self.view_is _ (sym c.nth.ensures ∙ c.in-Some.is)
       ∙ ap Some (sym c.page_of.ensures),
 )
 

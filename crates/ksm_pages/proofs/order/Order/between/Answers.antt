@@ -1,5 +1,4 @@
-use Rattle.ksm_pages.proofs.Names.{All-filter, ap, arith, length, length-filter, option_or, passed_to, rules, Some, sym, ◌-◌, ◌<◌, ◌^◌, ◌∙◌, ◌≡◌}
-use Rattle.ksm_pages.specs.Ordered.{key_of, last_or}
+use Rattle.ksm_pages.proofs.Names.{All-filter, ap, arith, key_of, last_of, length, length-filter, pages_between, rules, Some, sym, visited, ◌-◌, ◌<◌, ◌^◌, ◌∙◌, ◌≡◌}
 use Rattle.ksm_order.specs.declared.item.Item.{Item}
 use Rattle.ksm_order.specs.Listed.{marked, up_to}
 use Rattle.ksm_order.proofs.Parts.{up_to_few}
@@ -11,7 +10,7 @@ before : (c : After-up_to-before) → c.up_to-before.result ≡ up_to (key_of c.
 before c = c.up_to-before.ensures ∙ ap (λ n. up_to n c.self.inside.pages) c.key_of.ensures.key
 
 -- so many come in between
-many : (c : After-up_to-before) → length (passed_to c.args.cursor c.args.page c.args.self.now) ≡ c.up_to-before.result - c.passed-passed.result
+many : (c : After-up_to-before) → length (pages_between c.args.cursor c.args.page (visited c.args.self.now)) ≡ c.up_to-before.result - c.passed-passed.result
 many c =
     passed_many _ c.self.view_is _ _ c.key_of.ensures.few c.self.invariant.ascending _ c.passed-passed.ensures.ahead (before c)
 
@@ -20,7 +19,7 @@ returns-then-before-passed-clause-count c = search (rules, many)
 
 pub returns-then-before-passed-clause-last : goal.returns-then-before-passed-clause-last
 returns-then-before-passed-clause-last c =
-    sym (ap (last_or c.args.cursor) (passed_none _ c.self.view_is _ _ c.key_of.ensures.few c.self.invariant.ascending
+    sym (ap (last_of c.args.cursor) (passed_none _ c.self.view_is _ _ c.key_of.ensures.few c.self.invariant.ascending
     _ c.passed-passed.ensures.ahead (before (goal.at.returns-then-before-passed-clause-last c).After-up_to-before) c.if-before-passed.true))
 
 pub page_of-requires : goal.page_of-requires
@@ -34,8 +33,8 @@ pub returns-in-Some-clause-last : goal.returns-in-Some-clause-last
 returns-in-Some-clause-last c =
     let a = (goal.at.returns-in-Some-clause-last c).After-up_to-before in
     ap Some c.page_of.ensures
-    ∙ sym (ap (λ o. option_or o c.args.cursor) (passed_last _ c.self.view_is _ _ c.key_of.ensures.few c.self.invariant.ascending
-    _ c.passed-passed.ensures.ahead (before a) (omega arith) c.in-Some.key (sym c.nth.ensures ∙ c.in-Some.is)))
+    ∙ sym (passed_last _ c.self.view_is _ _ c.key_of.ensures.few c.self.invariant.ascending
+    _ c.passed-passed.ensures.ahead (before a) (omega arith) (sym c.nth.ensures ∙ c.in-Some.is))
 
 no_such : (c : goal.In-None) → ⊥
 no_such c =

@@ -1,6 +1,5 @@
-use Rattle.ksm_pages.proofs.Names.{rules}
-use Rattle.ksm_pages.proofs.Reading.{ahead_by, reached}
+use Rattle.ksm_pages.proofs.Reading.{pages_by}
 use Rattle.ksm_pages.proofs.rows.Rows.ahead.Goals as goal
 
 pub returns : goal.returns
-returns c = search (rules, ahead_by, reached)
+returns c = rw (← c.self.view_is) (rw (pages_by _ c.self.inside.entries _ c.self.invariant.ascending c.self.invariant.filed) c.ahead.ensures)

@@ -1,0 +1,31 @@
+-- Which pages scans visit, which of them are ahead, and where so many visits end. (own)
+use Rattle.std.specs.Prelude.{◌≡◌, ℕ, ◌-◌, ◌<◌, ◌≤◌, List, [], ◌∷◌, filter, length, map, slice_get, Option, Some}
+use Rattle.ksm_base.specs.declared.page.GuestPage.{GuestPage}
+use Rattle.ksm_base.specs.declared.row.Row.{Row}
+use Rattle.ksm_base.specs.Rows.{comes_before}
+use Rattle.ksm_base.specs.Visit.{after_cursor}
+use Rattle.ksm_pages.specs.declared.ahead.Ahead.{Ahead}
+use Rattle.ksm_pages.specs.declared.ahead.Ahead.TheVariants.{At, End}
+
+-- the pages that scans visit, in order
+abbrev pub mergeable_pages : List Row → List GuestPage
+mergeable_pages rows = map (λ r. r.page) (filter (λ r. r.mergeable) rows)
+
+-- those of some pages that come behind a cursor
+abbrev pub pages_behind : Option GuestPage → List GuestPage → List GuestPage
+pages_behind cursor pages = filter (after_cursor cursor) pages
+
+-- those that come behind a cursor and before a page
+abbrev pub pages_between : Option GuestPage → GuestPage → List GuestPage → List GuestPage
+pages_between cursor page pages = filter (λ p. comes_before p page) (pages_behind cursor pages)
+
+-- the last of some pages, or where there are none the cursor before them
+abbrev pub last_of : Option GuestPage → List GuestPage → Option GuestPage
+last_of cursor [] = cursor
+last_of cursor (page ∷ pages) = last_of (Some page) pages
+
+-- what so many visits of these pages come to: the page of the last visit, where a page is left, or the end of the pass
+-- after so many
+abbrev pub EndsAt : List GuestPage → ℕ → Ahead → Type 0
+EndsAt pages visits (At page) = (visits < length pages) × (slice_get pages (visits - 1) ≡ Some page)
+EndsAt pages visits (End made) = (made ≡ length pages) × (made ≤ visits)
