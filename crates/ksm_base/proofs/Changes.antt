@@ -25,7 +25,8 @@ use Rattle.ksm_base.specs.Visit.{next_row, visit_begun, row_visited, visit_of, v
 use Rattle.ksm_base.specs.Refusals.{is_of}
 use Rattle.ksm_base.specs.Answers.{IsAnswer, shared_rows, every_row}
 use Rattle.ksm_base.specs.Apply.{fresh_row, stored, moved, let_go, unshared, is_before, scan_stopped, after}
-use Rattle.ksm_base.specs.Reasons.{Replies, registered, dropped, stored as stored_to, scanned, nothing_to_scan, scan_stopped as scan_stopped_at, pruned, unmerged, unmerging_stopped, made_mergeable, moved as moved_to, dup_moved, run_set, all_unshared, unsharing_stopped, pages_set, across_set, limit_set, zero_set, HasReason, replies}
+use Rattle.ksm_base.specs.Reasons.{Replies, registered, dropped, stored as stored_to, scanned, nothing_to_scan, scan_stopped as scan_stopped_at, pruned, unmerged, unmerging_stopped, made_mergeable}
+use Rattle.ksm_base.specs.Reasons.{moved as moved_to, dup_moved, run_set, all_unshared, unsharing_stopped, pages_set, across_set, limit_set, zero_set, HasReason, replies}
 use Rattle.ksm_base.specs.Changes.{Where, StaleGone, IsStored, IsMoved, IsAlone, IsCalmed, IsVisited, Changes}
 use Rattle.ksm_base.proofs.Pages.{same_page_refl, same_page_eq, same_page_sym, after_differs, one_before, not_both}
 use Rattle.ksm_base.proofs.Edits.{find_over}

@@ -23,7 +23,11 @@ use Rattle.ksm_base.specs.State.{BookState}
 use Rattle.ksm_base.specs.Counting.{shared_count}
 use Rattle.ksm_base.specs.Refusals.{is_known, is_of, has_guest, live_dup_at, is_within, changes_while_shared, refusal}
 use Rattle.ksm_base.specs.Answers.{Answer, frame_needed, any_mergeable, IsScanned, IsAccepted, IsAnswerUnless, IsAnswer}
-use Rattle.ksm_base.specs.Reasons.{HasRow, GuestHasRow, HasItem, LivesAt, SharesPages, HasMergeable, IsOutside, Refuses, register_on_no_node, register_again, drop_unknown, store_unknown, scan_stands, unmerge_unknown, mergeable_unknown, move_to_no_node, move_unknown, move_dup_to_no_node, move_no_dup, move_dup_across, run_above, pages_outside, across_above, across_shared, limit_outside, limit_shared, zero_above, Wants, for_a_new_page, for_a_merged_page, for_a_zero_page, elsewhere, for_a_dup, StopsAt, Replies, registered, dropped, stored, scanned, nothing_to_scan, scan_stopped, pruned, unmerged, unmerging_stopped, made_mergeable, moved, dup_moved, run_set, all_unshared, unsharing_stopped, pages_set, across_set, limit_set, zero_set, IsTaken, HasReason, refuses, replies, finds_no_frame, finds_in_use}
+use Rattle.ksm_base.specs.Reasons.{HasRow, GuestHasRow, HasItem, LivesAt, SharesPages, HasMergeable, IsOutside, Refuses, register_on_no_node, register_again, drop_unknown, store_unknown, scan_stands}
+use Rattle.ksm_base.specs.Reasons.{unmerge_unknown, mergeable_unknown, move_to_no_node, move_unknown, move_dup_to_no_node, move_no_dup, move_dup_across, run_above, pages_outside, across_above}
+use Rattle.ksm_base.specs.Reasons.{across_shared, limit_outside, limit_shared, zero_above, Wants, for_a_new_page, for_a_merged_page, for_a_zero_page, elsewhere, for_a_dup, StopsAt, Replies}
+use Rattle.ksm_base.specs.Reasons.{registered, dropped, stored, scanned, nothing_to_scan, scan_stopped, pruned, unmerged, unmerging_stopped, made_mergeable, moved, dup_moved, run_set, all_unshared}
+use Rattle.ksm_base.specs.Reasons.{unsharing_stopped, pages_set, across_set, limit_set, zero_set, IsTaken, HasReason, refuses, replies, finds_no_frame, finds_in_use}
 use Rattle.ksm_base.proofs.Pages.{same_page_refl, same_page_eq}
 use Rattle.ksm_base.proofs.Edits.{count_more}
 
