@@ -1,7 +1,6 @@
 -- Each command changes what is said of it, and nothing else.
-use Rattle.std.proofs.Common.{◌≡◌, ◌≢◌, ℕ, zero, suc, Bool, true, false, List, [], ◌∷◌, get_or, map, Option, Some, None, Ok, inl, inr, refl, ◌∙◌, arith}
+use Rattle.std.proofs.Common.{◌≡◌, ◌≢◌, ℕ, zero, suc, Bool, true, false, List, [], ◌∷◌, get_or, map, Option, Some, None, Ok, inl, inr, refl, arith}
 use Rattle.std.specs.Prelude.{◌&&◌, ◌⊎◌, not, filter, find, slice_get, Contains, if◌then◌else◌}
-use Rattle.std.specs.Bool.{Decides}
 use Rattle.std.specs.List.{AllZip}
 use Rattle.std.specs.Option.{option_or}
 use Rattle.std.proofs.lemmas.Bool.{cases_Bool}
@@ -28,7 +27,7 @@ use Rattle.ksm_base.specs.Apply.{fresh_row, stored, moved, let_go, unshared, is_
 use Rattle.ksm_base.specs.Reasons.{Replies, registered, dropped, stored as stored_to, scanned, nothing_to_scan, scan_stopped as scan_stopped_at, pruned, unmerged, unmerging_stopped, made_mergeable}
 use Rattle.ksm_base.specs.Reasons.{moved as moved_to, dup_moved, run_set, all_unshared, unsharing_stopped, pages_set, across_set, limit_set, zero_set, HasReason, replies}
 use Rattle.ksm_base.specs.Changes.{Where, StaleGone, IsStored, IsMoved, IsAlone, IsCalmed, IsVisited, Changes}
-use Rattle.ksm_base.proofs.Pages.{same_page_refl, same_page_eq, same_page_sym, after_differs, one_before, not_both}
+use Rattle.ksm_base.proofs.Pages.{same_page_refl, same_page_eq, after_differs, one_before, not_both}
 use Rattle.ksm_base.proofs.Edits.{find_over}
 use Rattle.ksm_base.proofs.Visits.{IsRowwise, and_then, rowwise_begun, rowwise_visits}
 use Rattle.ksm_base.proofs.Reasons.{Decides-page, Decides-item, has_reason}
@@ -39,30 +38,16 @@ zip_map : (R : Row → Row → Type 0) (f : Row → Row) → ((r : Row) → R r 
 zip_map R f each [] = tt
 zip_map R f each (r ∷ rs) = (each r, zip_map R f each rs)
 
--- a change of the rows that pass a test, beside what the test tells
-zip_where : (P : Row → Type 0) (R : Row → Row → Type 0) (test : Row → Bool) (f : Row → Row)
-    → ((r : Row) → Decides (test r) (P r))
-    → ((r : Row) → P r → R r (f r)) → (rows : List Row) → AllZip (Where P R) rows (change_rows test f rows)
-zip_where P R test f tells each rows =
-    zip_map (Where P R) (λ r. if test r then f r else r) (λ r. grind (arith, tells r, each r)) rows
+-- so it does where those rows change that pass a test
+zip_where : (R : Row → Row → Type 0) (test : Row → Bool) (f : Row → Row) → ((r : Row) → R r (if test r then f r else r))
+    → (rows : List Row) → AllZip R rows (change_rows test f rows)
+zip_where R test f = zip_map R (λ r. if test r then f r else r)
 
--- a change of some of the rows of which something holds
-zip_some : (P : Row → Type 0) (R : Row → Row → Type 0) (test : Row → Bool) (f : Row → Row)
-    → ((r : Row) → test r ≡ true → P r)
-    → ((r : Row) → R r (f r)) → (rows : List Row) → AllZip (Where P (λ r s. R r s ⊎ (s ≡ r))) rows (change_rows test f rows)
-zip_some P R test f tells each rows =
-    zip_map (Where P (λ r s. R r s ⊎ (s ≡ r))) (λ r. if test r then f r else r) (λ r. grind (arith, tells r, each r)) rows
-
-module _ {X : Type 0} (p q : X → Bool) where
-  -- a search finds the same among those that pass a test, where what it looks for passes
-  find_within : ((x : X) → p x ≡ true → q x ≡ true) → (xs : List X) → find p (filter q xs) ≡ find p xs
-  find_within implies [] = refl
-  find_within implies (x ∷ xs) = grind (arith, implies x, find_within implies xs)
-
-  -- a search finds nothing among those that pass a test, where what it looks for fails
-  find_without : ((x : X) → p x ≡ true → q x ≡ false) → (xs : List X) → find p (filter q xs) ≡ None
-  find_without fail [] = refl
-  find_without fail (x ∷ xs) = grind (arith, fail x, find_without fail xs)
+-- a search looks among those that pass a test in vain, or as among all, where all that it looks for pass it or fail it
+find_kept : {X : Type 0} (p q : X → Bool) (c : Bool) → ((x : X) → p x ≡ true → q x ≡ c) → (xs : List X)
+    → find p (filter q xs) ≡ (if c then find p xs else None)
+find_kept p q c same [] = grind arith
+find_kept p q c same (x ∷ xs) = grind (arith, same x, find_kept p q c same xs)
 
 -- what passes a test is among those that pass it
 pub contains_filter : {X : Type 0} (t : X → Bool) (xs : List X) (x : X) → Contains xs x → t x ≡ true
@@ -85,55 +70,40 @@ other_with row rows other differs =
     let of_other : Row → Bool = λ r. same_page r.page other in
     let below : Row → Bool = λ r. comes_before r.page row.page in
     let above : Row → Bool = λ r. comes_before row.page r.page in
+    let first = find_kept of_other below (comes_before other row.page) (λ r same. grind (arith, same_page_eq r.page other, same)) rows in
+    let second = find_kept of_other above (comes_before row.page other) (λ r same. grind (arith, same_page_eq r.page other, same)) rows in
     let apart : same_page row.page other ≡ false = grind (arith, same_page_eq row.page other, differs) in
-    let parts = find_over of_other (filter below rows) (filter above rows) row apart ∙ find-append of_other (filter below rows) (filter above rows) in
-    elim (cases_Bool (comes_before other row.page)) [
-      | inl before ↦
-          let first = find_within of_other below (λ r same. grind (arith, same_page_eq r.page other, same, before)) rows in
-          let second = find_without of_other above (λ r same. grind (arith, same_page_eq r.page other, same, not_both other row.page, before)) rows in
-          grind (arith, parts, first, second, or_nothing)
-      | inr after ↦
-          let first = find_without of_other below (λ r same. grind (arith, same_page_eq r.page other, same, after)) rows in
-          let second = find_within of_other above (λ r same. grind (arith, same_page_eq r.page other, same, one_before other row.page, same_page_sym other row.page, apart, after)) rows in
-          grind (arith, parts, first, second)
-    ]
+    grind (arith, find_over of_other (filter below rows) (filter above rows) row, find-append of_other (filter below rows) (filter above rows), apart, first, second, or_nothing, one_before row.page other, not_both other row.page)
 
 own_with : (row : Row) (rows : List Row) → row_at row.page (with_row row rows) ≡ Some row
 own_with row rows =
     let of_page : Row → Bool = λ r. same_page r.page row.page in
     let below : Row → Bool = λ r. comes_before r.page row.page in
     let above : Row → Bool = λ r. comes_before row.page r.page in
-    let none = find_without of_page below (λ r same. grind (arith, after_differs r.page row.page, same)) rows in
+    let none = find_kept of_page below false (λ r same. grind (arith, after_differs r.page row.page, same)) rows in
     grind (arith, find-append of_page (filter below rows) (row ∷ filter above rows), none, same_page_refl row.page)
 
 other_without : (page : GuestPage) (rows : List Row) (other : GuestPage) → other ≢ page
     → row_at other (without_page page rows) ≡ row_at other rows
 other_without page rows other differs =
-    find_within (λ r. same_page r.page other) (λ r. not (same_page r.page page)) (λ r same. grind (arith, same_page_eq r.page, same, differs)) rows
+    find_kept (λ r. same_page r.page other) (λ r. not (same_page r.page page)) true (λ r same. grind (arith, same_page_eq r.page, same, differs)) rows
 
 own_without : (page : GuestPage) (rows : List Row) → row_at page (without_page page rows) ≡ None
 own_without page rows =
-    find_without (λ r. same_page r.page page) (λ r. not (same_page r.page page)) (λ r same. rw same refl) rows
+    find_kept (λ r. same_page r.page page) (λ r. not (same_page r.page page)) false (λ r same. grind (arith, same)) rows
 
 -- the stale dups go, the others stay
 stale_gone : (b c : BookState) → c.dups ≡ filter (has_items b.rows) b.dups → StaleGone b c
 stale_gone b c dups =
+    let live = has_items b.rows in
+    let itself = All-contains_itself b.dups in
     record {
-      stay = λ k d lt has. rw dups (contains_filter (has_items b.rows) b.dups (get_or b.dups k d) (All-contains_itself b.dups k d lt) ((Decides-item b (get_or b.dups k d)).1 has));
+      stay = λ k d lt has. rw dups (contains_filter live b.dups (get_or b.dups k d) (itself k d lt) ((Decides-item b (get_or b.dups k d)).1 has));
       no_more = rw dups (λ k d lt. (
-        All-filter (has_items b.rows) (Contains b.dups) b.dups (All-contains_itself b.dups) k d lt,
-        (Decides-item b (get_or (filter (has_items b.rows) b.dups) k d)).0 (filter_passes (has_items b.rows) b.dups k d lt),
+        All-filter live (Contains b.dups) b.dups itself k d lt,
+        (Decides-item b (get_or (filter live b.dups) k d)).0 (filter_passes live b.dups k d lt),
       ));
     }
-
-stored_row : (bytes : List ℕ) (r : Row) → IsStored bytes r (stored bytes r)
-stored_row bytes r = grind (arith, bytes_eq-Decides r.bytes bytes)
-
-moved_row : (node : ℕ) (r : Row) → IsMoved node r (moved node r)
-moved_row node r = grind (arith, nat_tests)
-
-settled_row : (r : Row) → IsCalmed r (settled r)
-settled_row r = grind arith
 
 module _ (start : BookState) where
   -- shape and knobs are those with which the visits began
@@ -160,8 +130,7 @@ module _ (start : BookState) where
   same_but c h = grind (arith, h)
 
 zip_rowwise : (old new : List Row) → IsRowwise old new → AllZip IsVisited old new
-zip_rowwise old new h =
-    rw h.rows (zip_map IsVisited h.change (λ r. grind (arith, h.keeps r)) old)
+zip_rowwise old new h = rw h.rows (zip_map IsVisited h.change (λ r. grind (arith, h.keeps r)) old)
 
 module _ (b : BookState) where
   scan_changes : (n v : ℕ) (stop : Option Fault)
@@ -180,7 +149,7 @@ module _ (b : BookState) where
       (refl, other_with (fresh_row page node bytes) b.rows, own_with (fresh_row page node bytes) b.rows)
   changes (dropped {page = page}) = (refl, other_without page b.rows, own_without page b.rows)
   changes (stored_to {page = page} {bytes = bytes}) =
-      (refl, zip_where (λ r. r.page ≡ page) (IsStored bytes) (λ r. same_page r.page page) (stored bytes) (Decides-page page) (λ r _. stored_row bytes r) b.rows)
+      (refl, zip_where (Where (λ r. r.page ≡ page) (IsStored bytes)) (λ r. same_page r.page page) (stored bytes) (λ r. grind (arith, Decides-page page r, bytes_eq-Decides r.bytes bytes)) b.rows)
   changes (scanned {n = n} some) = scan_changes n n None
   changes (nothing_to_scan {n = n} none) = scan_changes n 0 None
   changes (scan_stopped_at {n = n} {v = v} some below) = scan_changes n v (Some faults.Memory)
@@ -189,31 +158,25 @@ module _ (b : BookState) where
       let test : Row → Bool = λ r. is_of guest r && shared_state r.state in
       let past : slice_get (shared_rows (is_of guest) b) k ≡ None = grind (arith, count, length-filter test b.rows, slice_get_past) in (
         refl,
-        rw past (zip_where (λ r. r.page.guest ≡ guest) (IsAlone false false) (λ r. is_of guest r && true) let_go (λ r. grind (arith, nat_tests)) (λ r _. grind arith) b.rows),
+        rw past (zip_where (Where (λ r. r.page.guest ≡ guest) (IsAlone false false)) (λ r. is_of guest r && true) let_go (λ r. grind (arith, nat_tests)) b.rows),
       )
-  changes (unmerging_stopped {guest = guest} {k = k} s) = (
-    refl,
-    zip_some (λ r. r.page.guest ≡ guest) (IsAlone false false) (λ r. is_of guest r && is_before (slice_get (shared_rows (is_of guest) b) k) r) let_go
-        (λ r passes. grind (arith, nat_tests, passes)) (λ r. grind arith) b.rows,
-  )
+  changes (unmerging_stopped {guest = guest} {k = k} s) =
+      (refl, zip_where (Where (λ r. r.page.guest ≡ guest) (λ r s. IsAlone false false r s ⊎ (s ≡ r))) (λ r. is_of guest r && is_before (slice_get (shared_rows (is_of guest) b) k) r) let_go (λ r. grind (arith, nat_tests)) b.rows)
   changes (made_mergeable {guest = guest}) =
-      (refl, zip_where (λ r. r.page.guest ≡ guest) _ (is_of guest) (λ r. record r { mergeable = true }) (λ r. grind (arith, nat_tests)) (λ r _. refl) b.rows)
+      (refl, zip_where (Where (λ r. r.page.guest ≡ guest) (λ r s. s ≡ record r { mergeable = true })) (is_of guest) (λ r. record r { mergeable = true }) (λ r. grind (arith, nat_tests)) b.rows)
   changes (moved_to {page = page} {node = node}) =
-      (refl, zip_where (λ r. r.page ≡ page) (IsMoved node) (λ r. same_page r.page page) (moved node) (Decides-page page) (λ r _. moved_row node r) b.rows)
+      (refl, zip_where (Where (λ r. r.page ≡ page) (IsMoved node)) (λ r. same_page r.page page) (moved node) (λ r. grind (arith, nat_tests, Decides-page page r)) b.rows)
   changes dup_moved = refl
   changes (run_set other) = refl
   changes (all_unshared two count) =
       (refl, zip_map (λ r s. IsAlone r.mergeable false r s) unshared (λ r. grind arith) b.rows)
-  changes (unsharing_stopped {k = k} two s) = (
-    refl,
-    zip_some (λ r. shared_state r.state ≡ true) (λ r s. IsAlone r.mergeable false r s)
-        (λ r. shared_state r.state && is_before (slice_get (shared_rows every_row b) k) r) unshared (λ r passes. grind (arith, passes)) (λ r. grind arith) b.rows,
-  )
+  changes (unsharing_stopped {k = k} two s) =
+      (refl, zip_where (Where (λ r. shared_state r.state ≡ true) (λ r s. IsAlone r.mergeable false r s ⊎ (s ≡ r))) (λ r. shared_state r.state && is_before (slice_get (shared_rows every_row b) k) r) unshared (λ r. grind arith) b.rows)
   changes pages_set = refl
   changes (across_set {v = v}) =
       let dropped = with_none_waiting (without_stale b) in
       let set : BookState = record dropped { knobs = record b.knobs { merge_across_nodes = v } } in
-      grind (arith, nat_tests, zip_map IsCalmed settled settled_row b.rows, stale_gone b set refl)
+      grind (arith, nat_tests, zip_map IsCalmed settled (λ r. grind arith) b.rows, stale_gone b set refl)
   changes (limit_set {v = v}) =
       let set : BookState = record (without_stale b) { knobs = record b.knobs { max_page_sharing = v } } in
       grind (arith, nat_tests, stale_gone b set refl)

@@ -1,28 +1,28 @@
 -- Each answer has its reason, and each reason its answer.
-use Rattle.std.proofs.Common.{◌≡◌, ◌≢◌, ℕ, zero, suc, ◌+◌, Bool, true, false, List, [], ◌∷◌, ◌++◌, length, Option, Some, None, Ok, Err, inl, inr, refl, arith}
+use Rattle.std.proofs.Common.{◌≡◌, ℕ, zero, suc, ◌+◌, Bool, true, List, [], ◌∷◌, ◌++◌, length, Option, Some, None, Ok, Err, inl, inr, refl, arith}
 use Rattle.std.specs.Prelude.{◌==◌, ◌&&◌, not, nat_lt, filter, find, count_by, slice_get, MatchOption, Any, is_some}
 use Rattle.std.specs.List.{list_any}
 use Rattle.std.specs.Bool.{Decides}
 use Rattle.std.proofs.lemmas.Bool.{cases_Bool}
-use Rattle.std.proofs.lemmas.Bool.Decides.{Decides-eqb, Decides-not, Decides-and, nat_tests}
+use Rattle.std.proofs.lemmas.Bool.Decides.{Decides-eqb, Decides-and, nat_tests}
 use Rattle.std.proofs.lemmas.List.Sums.{length-filter}
 use Rattle.std.proofs.lemmas.List.Folds.{Any-from_list_any, list_any-from_Any}
 use Rattle.ksm_base.specs.declared.limits.TheConstants.{MOST_REFERENCES}
 use Rattle.ksm_base.specs.declared.page.GuestPage.{GuestPage}
 use Rattle.ksm_base.specs.declared.row.PageState.{PageState}
-use Rattle.ksm_base.specs.declared.row.PageState.TheVariants.{Private, Waiting, Merged, Zero}
+use Rattle.ksm_base.specs.declared.row.PageState.TheVariants.{Merged}
 use Rattle.ksm_base.specs.declared.row.Row.{Row}
 use Rattle.ksm_base.specs.declared.row.DupRow.{DupRow}
 use Rattle.ksm_base.specs.declared.command.Command.{Command}
-use Rattle.ksm_base.specs.declared.command.Command.TheVariants.{Register, Drop, Store, Scan, Prune, Unmerge, Mergeable, MovePage, MoveDup, SetRun, SetPagesToScan, SetAcross, SetLimit, SetZeroPages}
+use Rattle.ksm_base.specs.declared.command.Command.TheVariants.{Register, Store, Scan, Prune, Unmerge, MovePage, MoveDup, SetRun, SetPagesToScan, SetAcross, SetLimit}
 use Rattle.ksm_base.specs.declared.reply.Reply.{Reply}
 use Rattle.ksm_base.specs.declared.fault.Fault.{Fault}
 use Rattle.ksm_base.specs.declared.fault.Fault.TheVariants.{NoFrame, InUse}
 use Rattle.ksm_base.specs.Rows.{same_page, merged_into, shared_state, is_stale, has_items}
 use Rattle.ksm_base.specs.State.{BookState}
 use Rattle.ksm_base.specs.Counting.{shared_count}
-use Rattle.ksm_base.specs.Refusals.{is_known, is_of, has_guest, live_dup_at, is_within, changes_while_shared, refusal}
-use Rattle.ksm_base.specs.Answers.{Answer, frame_needed, any_mergeable, IsScanned, IsAccepted, IsAnswerUnless, IsAnswer}
+use Rattle.ksm_base.specs.Refusals.{is_known, is_of, has_guest, live_dup_at, is_within, refusal}
+use Rattle.ksm_base.specs.Answers.{Answer, frame_needed, any_mergeable, IsAccepted, IsAnswerUnless, IsAnswer}
 use Rattle.ksm_base.specs.Reasons.{HasRow, GuestHasRow, HasItem, LivesAt, SharesPages, HasMergeable, IsOutside, Refuses, register_on_no_node, register_again, drop_unknown, store_unknown, scan_stands}
 use Rattle.ksm_base.specs.Reasons.{unmerge_unknown, mergeable_unknown, move_to_no_node, move_unknown, move_dup_to_no_node, move_no_dup, move_dup_across, run_above, pages_outside, across_above}
 use Rattle.ksm_base.specs.Reasons.{across_shared, limit_outside, limit_shared, zero_above, Wants, for_a_new_page, for_a_merged_page, for_a_zero_page, elsewhere, for_a_dup, StopsAt, Replies}
@@ -55,19 +55,12 @@ module _ {X : Type 0} (t : X → Bool) (P : X → Type 0) (each : (x : X) → De
   pub Decides-counted : Decides (nat_lt 0 (count_by t xs)) (Any P xs)
   Decides-counted = rw counted_is_any Decides-any
 
--- a test fails where what it tells does not hold
-pub fails : {P : Type 0} (t : Bool) → Decides t P → ¬ P → t ≡ false
-fails t d none = elim (cases_Bool t) [ inl h ↦ absurd (none (d.0 h)) | inr h ↦ h ]
-
 -- a row tests as of a page exactly where it is
 pub Decides-page : (page : GuestPage) (r : Row) → Decides (same_page r.page page) (r.page ≡ page)
 Decides-page page r = (same_page_eq r.page page, λ same. rw same (same_page_refl page))
 
 Decides-merged : (number : ℕ) (state : PageState) → Decides (merged_into number state) (state ≡ Merged number)
-Decides-merged number Private = (λ h. cc, λ h. cc)
-Decides-merged number Waiting = (λ h. cc, λ h. cc)
-Decides-merged number Zero = (λ h. cc, λ h. cc)
-Decides-merged number (Merged d) = (λ h. grind (arith, nat_tests, h), λ h. grind (arith, nat_tests, h))
+Decides-merged number state = (λ h. grind (arith, nat_tests, h), λ h. grind (arith, nat_tests, h))
 
 Decides-outside : (low high v : ℕ) → Decides (not (is_within low high v)) (IsOutside low high v)
 Decides-outside low high v = (λ h. grind (arith, nat_tests, h), λ h. grind (arith, nat_tests, h))
@@ -76,12 +69,9 @@ module _ (b : BookState) where
   Decides-row : (page : GuestPage) → Decides (is_known b page) (HasRow b page)
   Decides-row page = Decides-find (λ r. same_page r.page page) (λ r. r.page ≡ page) (Decides-page page) b.rows
 
-  Decides-no_row : (page : GuestPage) → Decides (not (is_known b page)) (¬ (HasRow b page))
-  Decides-no_row page = Decides-not (is_known b page) (Decides-row page)
-
-  Decides-no_guest : (guest : ℕ) → Decides (not (has_guest b guest)) (¬ (GuestHasRow b guest))
-  Decides-no_guest guest =
-      Decides-not (has_guest b guest) (Decides-any (is_of guest) (λ r. r.page.guest ≡ guest) (λ r. Decides-eqb r.page.guest guest) b.rows)
+  Decides-guest : (guest : ℕ) → Decides (has_guest b guest) (GuestHasRow b guest)
+  Decides-guest guest =
+      Decides-any (is_of guest) (λ r. r.page.guest ≡ guest) (λ r. Decides-eqb r.page.guest guest) b.rows
 
   -- a dup tests as living exactly where it has an item
   pub Decides-item : (d : DupRow) → Decides (has_items b.rows d) (HasItem b d)
@@ -96,53 +86,43 @@ module _ (b : BookState) where
   Decides-shared : Decides (nat_lt 0 (shared_count b.rows b.dups)) (SharesPages b)
   Decides-shared = Decides-counted (has_items b.rows) (HasItem b) Decides-item b.dups
 
-  Decides-changes : (knob v : ℕ) → Decides (changes_while_shared b knob v) ((v ≢ knob) × SharesPages b)
-  Decides-changes knob v =
-      Decides-and (not (v == knob)) (nat_lt 0 (shared_count b.rows b.dups)) (Decides-not (v == knob) (Decides-eqb v knob)) Decides-shared
-
   Decides-mergeable : Decides (any_mergeable b) (HasMergeable b)
   Decides-mergeable = Decides-any (λ r. r.mergeable) (λ r. r.mergeable ≡ true) (λ r. (λ h. h, λ h. h)) b.rows
 
   -- a refusal has its reason
   pub reason : (c : Command) (f : Fault) → refusal b c ≡ Some f → Refuses b c f
   reason (Register page node bytes) f h =
-      grind (arith, nat_tests, register_on_no_node, register_again, h, (Decides-row page).0)
-  reason (Drop page) f h = grind (arith, drop_unknown, h, (Decides-no_row page).0)
-  reason (Store page bytes) f h = grind (arith, store_unknown, h, (Decides-no_row page).0)
-  reason (Scan n) f h = grind (arith, nat_tests, scan_stands, h)
-  reason Prune f h = cc
-  reason (Unmerge guest) f h = grind (arith, unmerge_unknown, h, (Decides-no_guest guest).0)
-  reason (Mergeable guest) f h = grind (arith, mergeable_unknown, h, (Decides-no_guest guest).0)
-  reason (MovePage page node) f h = grind (arith, nat_tests, move_to_no_node, move_unknown, h, (Decides-no_row page).0)
+      grind (arith, nat_tests, h, register_on_no_node, register_again, Decides-row page)
+  reason (MovePage page node) f h = grind (arith, nat_tests, h, move_to_no_node, move_unknown, Decides-row page)
   reason (MoveDup place node) f h =
-      grind (arith, nat_tests, move_dup_to_no_node, move_no_dup, move_dup_across, h, (Decides-lives place).1)
-  reason (SetRun v) f h = grind (arith, nat_tests, run_above, h)
-  reason (SetPagesToScan v) f h = grind (arith, nat_tests, pages_outside, h, (Decides-outside 1 1000000 v).0)
-  reason (SetAcross v) f h = grind (arith, nat_tests, across_above, across_shared, h, Decides-shared.0)
-  reason (SetZeroPages v) f h = grind (arith, nat_tests, zero_above, h)
+      grind (arith, nat_tests, h, move_dup_to_no_node, move_no_dup, move_dup_across, Decides-lives place)
   reason (SetLimit v) f h =
-      grind (arith, nat_tests, limit_outside, limit_shared, h, Decides-shared.0, Decides-outside 2 MOST_REFERENCES v)
+      grind (arith, nat_tests, h, limit_outside, limit_shared, Decides-shared, Decides-outside 2 MOST_REFERENCES v)
+  reason (SetPagesToScan v) f h = grind (arith, nat_tests, h, pages_outside, Decides-outside 1 1000000 v)
+  reason (SetAcross v) f h = grind (arith, nat_tests, h, across_above, across_shared, Decides-shared)
+  reason _ f h =
+      grind (arith, nat_tests, h, drop_unknown, store_unknown, scan_stands, unmerge_unknown, mergeable_unknown, run_above, zero_above, Decides-row, Decides-guest)
 
   -- what has a reason is refused
   pub refused : {c : Command} {f : Fault} → Refuses b c f → refusal b c ≡ Some f
   refused (register_on_no_node n) = grind (arith, nat_tests, n)
-  refused (register_again {page = page} n h) = grind (arith, nat_tests, n, (Decides-row page).1 h)
-  refused (drop_unknown {page = page} h) = grind (arith, (Decides-no_row page).1 h)
-  refused (store_unknown {page = page} h) = grind (arith, (Decides-no_row page).1 h)
+  refused (register_again n h) = grind (arith, nat_tests, n, h, Decides-row)
+  refused (drop_unknown h) = grind (arith, h, Decides-row)
+  refused (store_unknown h) = grind (arith, h, Decides-row)
   refused (scan_stands h) = grind (arith, nat_tests, h)
-  refused (unmerge_unknown {guest = guest} h) = grind (arith, (Decides-no_guest guest).1 h)
-  refused (mergeable_unknown {guest = guest} h) = grind (arith, (Decides-no_guest guest).1 h)
+  refused (unmerge_unknown h) = grind (arith, h, Decides-guest)
+  refused (mergeable_unknown h) = grind (arith, h, Decides-guest)
   refused (move_to_no_node n) = grind (arith, nat_tests, n)
-  refused (move_unknown {page = page} n h) = grind (arith, nat_tests, n, (Decides-no_row page).1 h)
+  refused (move_unknown n h) = grind (arith, nat_tests, n, h, Decides-row)
   refused (move_dup_to_no_node n) = grind (arith, nat_tests, n)
-  refused (move_no_dup {place = place} n h) = grind (arith, nat_tests, n, h, (Decides-lives place).0)
+  refused (move_no_dup n h) = grind (arith, nat_tests, n, h, Decides-lives)
   refused (move_dup_across n found by_node other) = grind (arith, nat_tests, n, found, by_node, other)
   refused (run_above h) = grind (arith, nat_tests, h)
-  refused (pages_outside {v = v} h) = grind (arith, (Decides-outside 1 1000000 v).1 h)
+  refused (pages_outside h) = grind (arith, nat_tests, h)
   refused (across_above h) = grind (arith, nat_tests, h)
-  refused (across_shared most other shares) = grind (arith, nat_tests, most, other, Decides-shared.1 shares)
-  refused (limit_outside {v = v} h) = grind (arith, (Decides-outside 2 MOST_REFERENCES v).1 h)
-  refused (limit_shared {v = v} inside other shares) = grind (arith, nat_tests, inside, (Decides-outside 2 MOST_REFERENCES v).0, other, Decides-shared.1 shares)
+  refused (across_shared most other shares) = grind (arith, nat_tests, most, other, shares, Decides-shared)
+  refused (limit_outside h) = grind (arith, nat_tests, h)
+  refused (limit_shared inside other shares) = grind (arith, nat_tests, inside, other, shares, Decides-shared)
   refused (zero_above h) = grind (arith, nat_tests, h)
 
 abbrev StopHome : (Row → Bool) → List Row → ℕ → ℕ → Type 0
@@ -198,44 +178,33 @@ module _ (b : BookState) where
       → Wants b (Store page bytes) n
   copied page bytes n h = grind (arith, h, for_a_merged_page, for_a_zero_page)
 
-  moved_on : (page : GuestPage) (node n : ℕ) → frame_needed b (MovePage page node) ≡ Some n
-      → Wants b (MovePage page node) n
-  moved_on page node n h = grind (arith, nat_tests, h, elsewhere)
-
-  scan_answer : (n : ℕ) (a : Answer) → IsTaken b (Scan n) → IsScanned b n a → HasReason b (Scan n) a
-  scan_answer n a taken h = grind (arith, h, taken, replies, scanned, nothing_to_scan, scan_stopped, Decides-mergeable)
-
   -- what is answered to a command that is not refused has its reason
   accepted : (c : Command) (a : Answer) → IsTaken b c → IsAccepted b c a → HasReason b c a
   accepted (Register page node bytes) a taken h =
       grind (arith, h, taken, replies, registered, finds_no_frame, for_a_new_page)
-  accepted (Drop page) a taken h = grind (arith, h, taken, replies, dropped)
   accepted (Store page bytes) a taken h = grind (arith, h, taken, replies, stored, finds_no_frame, copied)
-  accepted (Scan n) a taken h = scan_answer n a taken h
+  accepted (Scan n) a taken h =
+      grind (arith, h, taken, replies, scanned, nothing_to_scan, scan_stopped, Decides-mergeable)
   accepted Prune a taken h = grind (arith, h, taken, replies, pruned, stale_beside b.rows b.dups)
   accepted (Unmerge guest) a taken h =
-      grind (arith, h, taken, replies, unmerged, unmerging_stopped, stops (λ r. is_of guest r && shared_state r.state) b.rows, length-filter (λ r. is_of guest r && shared_state r.state) b.rows)
-  accepted (Mergeable guest) a taken h = grind (arith, h, taken, replies, made_mergeable)
-  accepted (MovePage page node) a taken h = grind (arith, h, taken, replies, moved, finds_no_frame, moved_on)
+      let test : Row → Bool = λ r. is_of guest r && shared_state r.state in
+      grind (arith, h, taken, replies, unmerged, unmerging_stopped, stops test b.rows, length-filter test b.rows)
+  accepted (MovePage page node) a taken h =
+      grind (arith, nat_tests, h, taken, replies, moved, finds_no_frame, elsewhere)
   accepted (MoveDup place node) a taken h =
       grind (arith, h, taken, replies, dup_moved, finds_no_frame, for_a_dup, finds_in_use)
   accepted (SetRun v) a taken h =
-      grind (arith, nat_tests, h, taken, replies, run_set, all_unshared, unsharing_stopped, stops (λ r. shared_state r.state) b.rows, length-filter (λ (r : Row). shared_state r.state) b.rows)
-  accepted (SetPagesToScan v) a taken h = grind (arith, h, taken, replies, pages_set)
-  accepted (SetAcross v) a taken h = grind (arith, h, taken, replies, across_set)
-  accepted (SetLimit v) a taken h = grind (arith, h, taken, replies, limit_set)
-  accepted (SetZeroPages v) a taken h = grind (arith, h, taken, replies, zero_set)
+      let test : Row → Bool = λ r. shared_state r.state in
+      grind (arith, nat_tests, h, taken, replies, run_set, all_unshared, unsharing_stopped, stops test b.rows, length-filter test b.rows)
+  accepted _ a taken h =
+      grind (arith, h, taken, replies, dropped, made_mergeable, pages_set, across_set, limit_set, zero_set)
 
   -- each answer has its reason
   pub has_reason : (c : Command) (a : Answer) → IsAnswer b c a → HasReason b c a
   has_reason c a h = grind (arith, h, reason b c, refuses, accepted c a, refused)
 
   wanted : {c : Command} {n : ℕ} → Wants b c n → frame_needed b c ≡ Some n
-  wanted for_a_new_page = refl
-  wanted (for_a_merged_page found merged) = grind (arith, found, merged)
-  wanted (for_a_zero_page found is_zero) = grind (arith, found, is_zero)
-  wanted (elsewhere found other) = grind (arith, nat_tests, found, other)
-  wanted for_a_dup = refl
+  wanted w = grind (arith, nat_tests, w)
 
   answers : {c : Command} (a : Answer) → IsTaken b c → IsAccepted b c a → (r : Option Fault) → refusal b c ≡ r
       → IsAnswerUnless r b c a
@@ -243,32 +212,19 @@ module _ (b : BookState) where
   answers a taken h (Some fault) is = absurd (taken fault (reason b _ fault is))
 
   replied : {c : Command} {r : Reply} → Replies b c r → IsAccepted b c (Ok r)
-  replied registered = tt
-  replied dropped = tt
-  replied stored = tt
-  replied (scanned some) = grind (arith, (Decides-mergeable b).1 some)
-  replied (nothing_to_scan none) = grind (arith, (Decides-mergeable b).0, none)
-  replied (scan_stopped some below) = ((Decides-mergeable b).1 some, below)
+  replied (scanned some) = grind (arith, Decides-mergeable b, some)
+  replied (nothing_to_scan none) = grind (arith, Decides-mergeable b, none)
+  replied (scan_stopped some below) = grind (arith, Decides-mergeable b, some, below)
   replied (pruned count) = grind (arith, stale_beside b.rows b.dups, count)
   replied (unmerged {guest = guest} count) = grind (arith, count, length-filter (λ r. is_of guest r && shared_state r.state) b.rows)
-  replied (unmerging_stopped {guest = guest} {k = k} {n = n} s) = stopped_at (λ r. is_of guest r && shared_state r.state) b.rows k n s
-  replied made_mergeable = tt
-  replied moved = tt
-  replied dup_moved = tt
+  replied (unmerging_stopped s) = grind (arith, stopped_at _ _ _ _ s)
   replied (run_set other) = grind (arith, nat_tests, other)
   replied (all_unshared two count) = grind (arith, two, count, length-filter (λ (r : Row). shared_state r.state) b.rows)
-  replied (unsharing_stopped {k = k} {n = n} two s) = rw two (stopped_at (λ r. shared_state r.state) b.rows k n s)
-  replied pages_set = tt
-  replied across_set = tt
-  replied limit_set = tt
-  replied zero_set = tt
+  replied (unsharing_stopped two s) = grind (arith, two, stopped_at _ _ _ _ s)
+  replied _ = tt
 
   without_frame : (c : Command) (n : ℕ) → Wants b c n → IsAccepted b c (Err (NoFrame n))
-  without_frame (Register page node bytes) n w = grind (arith, wanted w)
-  without_frame (Store page bytes) n w = grind (arith, wanted w)
-  without_frame (MovePage page node) n w = grind (arith, wanted w)
-  without_frame (MoveDup place node) n w = grind (arith, wanted w)
-  without_frame _ n w = elim w [ ]
+  without_frame c n w = grind (arith, wanted w)
 
   -- what has a reason may be answered
   pub may_answer : {c : Command} {a : Answer} → HasReason b c a → IsAnswer b c a

@@ -1,7 +1,7 @@
 -- A new dup of two pages keeps a book sound.
-use Rattle.std.proofs.Common.{◌≡◌, ℕ, suc, ◌+◌, ◌<◌, ◌≤◌, Bool, true, false, List, [], ◌∷◌, get_or, Some, None, Option, refl, sym, inl, inr, arith}
+use Rattle.std.proofs.Common.{◌≡◌, ℕ, suc, ◌+◌, ◌<◌, ◌≤◌, Bool, true, false, List, [], ◌∷◌, get_or, Some, refl, sym, inl, inr, arith}
 use Rattle.std.specs.Prelude.{◌==◌, ◌||◌, nat_lt, All, filter, find, if◌then◌else◌}
-use Rattle.std.proofs.lemmas.Bool.{cases_Bool, cond_both, or_cases}
+use Rattle.std.proofs.lemmas.Bool.{cases_Bool, or_cases}
 use Rattle.std.proofs.lemmas.Bool.Decides.{nat_tests}
 use Rattle.std.proofs.lemmas.List.Elements.{All-cons, All-filter}
 use Rattle.std.proofs.lemmas.List.Folds.{find-append}
@@ -13,7 +13,7 @@ use Rattle.ksm_base.specs.declared.row.DupRow.{DupRow}
 use Rattle.ksm_base.specs.declared.knobs.Knobs.{Knobs}
 use Rattle.ksm_base.specs.Rows.{same_page, waiting_state, merged_into, item_count, is_stale, has_items, with_dup, change_rows, dup_numbered, InPlaceOrder}
 use Rattle.ksm_base.specs.State.{BookState, tree_of, place_count}
-use Rattle.ksm_base.specs.Visit.{waits_for, partner, empty_from, place_or, new_place, made_dup}
+use Rattle.ksm_base.specs.Visit.{waits_for, partner, empty_from, new_place, made_dup}
 use Rattle.ksm_base.specs.Sound.{IsSound}
 use Rattle.ksm_base.proofs.Edits.{find_nothing, find_passes, find_filter, find_over, find_all, count_map_le, count_change_le, count_either_le, count_none}
 use Rattle.ksm_base.proofs.Orders.{Lower, pairs_tail, ordered_change, one_of_each_page, one_of_each_place, one_of_page, dups_parted, elsewhere, dups_with, all_with_dup}
@@ -28,8 +28,7 @@ pub record IsFree (b : BookState) (place : ℕ) : Type 0 where
 -- the least empty place from a place on is not below that place
 pub empty_from_le : (p : ℕ) (dups : List DupRow) → p ≤ empty_from p dups
 empty_from_le p [] = omega arith
-empty_from_le p (d ∷ ds) =
-    grind (arith, empty_from_le (p + 1) ds)
+empty_from_le p (d ∷ ds) = grind (arith, empty_from_le (p + 1) ds)
 
 no_dup_has : (p : ℕ) (dups : List DupRow) → InPlaceOrder dups → All (λ d. p ≤ d.place) dups
     → All (λ d. (d.place == empty_from p dups) ≡ false) dups
@@ -54,14 +53,7 @@ free_stale b stale s found =
 
 -- the place that a new dup gets has no dup with items
 pub new_place_free : (b : BookState) → IsSound b → IsFree b (new_place (place_count b.shape) b.rows b.dups)
-new_place_free b s =
-    let empty = empty_from 0 b.dups in
-    cond_both (nat_lt empty (place_count b.shape)) empty (place_or empty (find (is_stale b.rows) b.dups)) (IsFree b) (λ _. free_empty b s) (λ _. go (find (is_stale b.rows) b.dups) refl)
-  where
-    go : (stale : Option DupRow) → find (is_stale b.rows) b.dups ≡ stale
-        → IsFree b (place_or (empty_from 0 b.dups) stale)
-    go None is = free_empty b s
-    go (Some d) is = free_stale b d s is
+new_place_free b s = grind (arith, free_empty b s, free_stale b, s)
 
 -- the dup of an item stays among the dups when a new one comes
 pub still_stands : (b : BookState) (new dup : DupRow) (number : ℕ) → IsSound b → IsFree b new.place
@@ -84,15 +76,20 @@ new_stands new dups fresh =
     let none = find_nothing p lower (All-filter (λ d. nat_lt d.place new.place) (λ d. p d ≡ false) dups (λ k d lt. grind (arith, nat_tests, fresh k d lt))) in
     grind (arith, nat_tests, find-append p lower (new ∷ higher), none)
 
+-- a dup's number has been given
+item_older : (b : BookState) → IsSound b → (number : ℕ) (dup : DupRow) → dup_numbered number b.dups ≡ Some dup
+    → number < b.next
+item_older b s number dup stands =
+    let p : DupRow → Bool = λ e. e.number == number in
+    grind (arith, nat_tests, find_passes p b.dups dup stands, find_all p (λ e. e.number < b.next) b.dups dup stands s.numbers)
+
 -- no row is merged into the number that comes next
 pub next_is_new : (b : BookState) → IsSound b → All (λ r. merged_into b.next r.state ≡ false) b.rows
 next_is_new b s k d lt = go (get_or b.rows k d).state refl
   where
     go : (state : PageState) → (get_or b.rows k d).state ≡ state → merged_into b.next state ≡ false
     go (Merged number) is =
-        let item = s.items k d lt number is in
-        let p : DupRow → Bool = λ e. e.number == number in
-        grind (arith, nat_tests, find_passes p b.dups item.0 item.1.stands, find_all p (λ e. e.number < b.next) b.dups item.0 item.1.stands s.numbers)
+        let item = s.items k d lt number is in grind (arith, nat_tests, item_older b s number item.0 item.1.stands)
     go _ is = refl
 
 -- two pages of one tree and content, of which a new dup is made: the one that waited, and the one visited
@@ -123,15 +120,9 @@ pub partner_pairs : (b : BookState) (w row : Row) → IsSound b → IsVisited b 
 partner_pairs b w row s visited found =
     let p = waits_for b.knobs row in
     let waits = waits_tells b.knobs row w (find_passes p b.rows w found) in
-    record {
-      visited = visited;
-      waited = record {
-        mergeable = find_all p IsMergeableSo b.rows w found s.mergeable (waiting_not_private w.state waits.state);
-        once = find_all p (λ r. All (λ t. same_page t.page r.page ≡ true → t ≡ r) b.rows) b.rows w found (one_of_each_page b.rows s.rows_rise);
-      };
-      tree = waits.tree;
-      bytes = waits.bytes;
-    }
+    let mergeable = find_all p IsMergeableSo b.rows w found s.mergeable (waiting_not_private w.state waits.state) in
+    let once = find_all p (λ r. All (λ t. same_page t.page r.page ≡ true → t ≡ r) b.rows) b.rows w found (one_of_each_page b.rows s.rows_rise) in
+    assumption
 
 -- what holds of both pages holds of each row that is one of them
 each_of_pair : (P : Row → Type 0) (b : BookState) (w row : Row) → IsPair b w row → P w → P row
@@ -167,9 +158,7 @@ sound_made b w row place pair free s =
           (λ k d lt _ number merged.
           let r = get_or b.rows k d in
           let item = s.items k d lt number merged in
-          let p : DupRow → Bool = λ e. e.number == number in
-          let other : (b.next == number) ≡ false =
-          grind (arith, nat_tests, find_passes p b.dups item.0 item.1.stands, find_all p (λ e. e.number < b.next) b.dups item.0 item.1.stands s.numbers) in
+          let other : (b.next == number) ≡ false = grind (arith, nat_tests, item_older b s number item.0 item.1.stands) in
           let lives = dup_has_items b.rows item.0 k d lt (item_of_dup b.knobs b.dups r number item.0 merged item.1) in
           (item.0, grind (arith, item.1, still_stands b new item.0 number s free other item.1.stands lives)));
       dups_rise = dups_with new b.dups s.dups_rise s.numbers;

@@ -46,8 +46,7 @@ item_once _ dups rise = omega (arith, count_none (λ d. false) dups (λ k d lt. 
 -- a dup has an item among more rows if the first is one, or it has one among the others
 items_more : (r : Row) (rows : List Row) (d : DupRow) → has_items (r ∷ rows) d ≡ true
     → (merged_into d.number r.state || has_items rows d) ≡ true
-items_more r rows d items =
-    grind (arith, nat_tests, count_more (λ s. merged_into d.number s.state) r rows, items)
+items_more r rows d items = grind (arith, nat_tests, count_more (λ s. merged_into d.number s.state) r rows, items)
 
 -- there are no more dups with items than merged rows
 pub shared-le-merged : (rows : List Row) (dups : List DupRow) → InPlaceOrder dups
