@@ -1,5 +1,5 @@
 -- The bytes of the rows are those stored last.
-use Rattle.std.proofs.Common.{◌≡◌, ℕ, Bool, List, [], ◌∷◌, get_or, map, Some, None, Option, Ok, Err, refl, arith}
+use Rattle.std.proofs.Common.{true, ◌≡◌, ℕ, Bool, List, [], ◌∷◌, get_or, map, Some, None, Option, Ok, Err, refl, arith}
 use Rattle.std.specs.Prelude.{All, filter, fold, not, option_map, if◌then◌else◌}
 use Rattle.std.proofs.lemmas.List.Elements.{All-map, All-append, All-cons, All-filter, filter_passes}
 use Rattle.ksm_base.specs.declared.page.GuestPage.{GuestPage}
@@ -28,13 +28,14 @@ module _ (kept : GuestPage → Option (List ℕ)) where
   abbrev Reads : List Row → Type 0
   Reads rows = All Has rows
 
-  reads_map : (f : Row → Row) (page : (r : Row) → (f r).page ≡ r.page) (bytes : (r : Row) → (f r).bytes ≡ r.bytes) (rows : List Row) → Reads rows
-      → Reads (map f rows)
-  reads_map f page bytes rows h = All-map Has f rows (λ k d lt. grind (arith, page, bytes, h k d lt))
+  -- a change that keeps pages and bytes keeps what they have
+  reads_map : (f : Row → Row) → ((r : Row) → ((f r).page ≡ r.page) × ((f r).bytes ≡ r.bytes)) → (rows : List Row)
+      → Reads rows → Reads (map f rows)
+  reads_map f keeps rows h = All-map Has f rows (λ k d lt. grind (arith, keeps (get_or rows k d), h k d lt))
 
-  reads_change : (test : Row → Bool) (f : Row → Row) (page : (r : Row) → (f r).page ≡ r.page) (bytes : (r : Row) → (f r).bytes ≡ r.bytes) (rows : List Row) → Reads rows → Reads (change_rows test f rows)
-  reads_change test f page bytes rows h =
-      reads_map (λ r. if test r then f r else r) (λ r. grind (arith, page r)) (λ r. grind (arith, bytes r)) rows h
+  reads_change : (test : Row → Bool) (f : Row → Row) → ((r : Row) → ((f r).page ≡ r.page) × ((f r).bytes ≡ r.bytes))
+      → (rows : List Row) → Reads rows → Reads (change_rows test f rows)
+  reads_change test f keeps rows h = reads_map (λ r. if test r then f r else r) (λ r. grind (arith, keeps r)) rows h
 
   reads_rowwise : (old new : List Row) → IsRowwise old new → Reads old → Reads new
   reads_rowwise old new h = rowwise_all Has (λ r s same has. grind (arith, same, has)) old new h
@@ -47,8 +48,8 @@ module _ (kept : GuestPage → Option (List ℕ)) where
       reads_rowwise done.rows _ (rowwise_begun done) (reads_rowwise b.rows done.rows (rowwise_visits n b) h)
 
   reads_unshared : (stop : Option Fault) (k : ℕ) (b : BookState) → Reads b.rows → Reads (unshare_stopped stop k b).rows
-  reads_unshared None k b h = reads_map unshared (λ _. refl) (λ _. refl) b.rows h
-  reads_unshared (Some fault) k b h = reads_change _ unshared (λ _. refl) (λ _. refl) b.rows h
+  reads_unshared None k b h = reads_map unshared (λ r. grind arith) b.rows h
+  reads_unshared (Some fault) k b h = reads_change _ unshared (λ r. grind arith) b.rows h
 
 -- what is kept after an entry
 abbrev kept_after : Command → Answer → (GuestPage → Option (List ℕ)) → GuestPage → Option (List ℕ)
@@ -84,12 +85,12 @@ reads_effect kept b (Register page node bytes) r h =
 reads_effect kept b (Drop page) r h = All-filter (λ r. not (same_page r.page page)) (Has kept) b.rows h
 reads_effect kept b (Store page bytes) r h = reads_stored kept page bytes b.rows h
 reads_effect kept b (Scan n) (Scanned v stop) h = reads_scanned kept stop v b h
-reads_effect kept b (Unmerge guest) (Unmerged k stop) h = reads_change kept _ let_go (λ _. refl) (λ _. refl) b.rows h
-reads_effect kept b (Mergeable guest) r h = reads_change kept _ _ (λ _. refl) (λ _. refl) b.rows h
-reads_effect kept b (MovePage page node) r h =
-    reads_change kept _ (moved node) (λ r. grind arith) (λ r. grind arith) b.rows h
+reads_effect kept b (Unmerge guest) (Unmerged k stop) h = reads_change kept _ let_go (λ r. grind arith) b.rows h
+reads_effect kept b (Mergeable guest) r h =
+    reads_change kept _ (λ r. record r { mergeable = true }) (λ r. grind arith) b.rows h
+reads_effect kept b (MovePage page node) r h = reads_change kept _ (moved node) (λ r. grind arith) b.rows h
 reads_effect kept b (SetRun v) (Unmerged k stop) h = reads_unshared kept stop k b h
-reads_effect kept b (SetAcross v) r h = grind (arith, reads_map kept settled (λ _. refl) (λ _. refl) b.rows h, h)
+reads_effect kept b (SetAcross v) r h = grind (arith, reads_map kept settled (λ r. grind arith) b.rows h, h)
 reads_effect kept b (SetLimit v) r h = grind (arith, h)
 reads_effect kept b _ _ h = h
 

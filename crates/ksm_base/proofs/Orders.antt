@@ -1,10 +1,10 @@
 -- The order of rows and of dups is kept by each edit.
-use Rattle.std.proofs.Common.{◌≡◌, ℕ, suc, ◌<◌, ◌≤◌, Bool, true, false, List, [], ◌∷◌, ◌++◌, get_or, map, Some, inl, inr, refl, arith}
+use Rattle.std.proofs.Common.{length, ◌+◌, ◌≡◌, ℕ, suc, ◌<◌, ◌≤◌, Bool, true, false, List, [], ◌∷◌, ◌++◌, get_or, map, Some, inl, inr, refl, arith}
 use Rattle.std.specs.Prelude.{◌==◌, nat_lt, All, AllPairs, filter, count_by, not, if◌then◌else◌}
 use Rattle.std.proofs.lemmas.Bool.{cases_Bool, cases_lt}
 use Rattle.std.proofs.lemmas.Bool.Decides.{nat_tests}
-use Rattle.std.proofs.lemmas.List.{get_or_default}
-use Rattle.std.proofs.lemmas.List.Elements.{All-head, All-tail, All-map, All-append, All-weaker, All-cons, All-filter, filter_passes}
+use Rattle.std.proofs.lemmas.List.{get_or-append-add, get_or-map, get_or_append_left, get_or_default, length-append, length-map}
+use Rattle.std.proofs.lemmas.List.Elements.{All-head, All-tail, All-append, All-weaker, All-cons, All-filter, filter_passes}
 use Rattle.std.proofs.lemmas.List.Kept.{AllPairs-cons, AllPairs-filter}
 use Rattle.ksm_base.specs.declared.page.GuestPage.{GuestPage}
 use Rattle.ksm_base.specs.declared.row.Row.{Row}
@@ -38,16 +38,11 @@ pairs_with R p q x xs rise ahead behind cross =
     pairs_append R (filter p xs) (x ∷ filter q xs) (AllPairs-filter R p xs rise) (AllPairs-cons R x (filter q xs) behind (AllPairs-filter R q xs rise))
     (λ k d lt. All-cons (R (get_or (filter p xs) k d)) x (filter q xs) (ahead k d lt) (cross k d lt))
 
-all_right : {X : Type 0} (P : X → Type 0) (xs ys : List X) → All P (xs ++ ys) → All P ys
-all_right P [] ys h = h
-all_right P (x ∷ xs) ys h = all_right P xs ys (All-tail P x (xs ++ ys) h)
-
 -- where all pairs of two lists in a row are related, each of the first is related to each of the second
 pub pairs_cross : {X : Type 0} (R : X → X → Type 0) (xs ys : List X) → AllPairs R (xs ++ ys)
     → All (λ x. All (R x) ys) xs
-pairs_cross R [] ys h = λ k d lt. absurd (omega arith)
-pairs_cross R (x ∷ xs) ys h =
-    All-cons (λ y. All (R y) ys) x xs (all_right (R x) xs ys (pairs_head R x (xs ++ ys) h)) (pairs_cross R xs ys (pairs_tail R x (xs ++ ys) h))
+pairs_cross R xs ys h i d lt j e le =
+    grind (arith, h i (length xs + j) d, get_or_append_left xs ys d i, get_or-append-add xs ys j d, get_or_default ys j e d, length-append xs ys)
 
 -- a filter that no element passes leaves nothing
 pub filter_none : {X : Type 0} (p : X → Bool) (xs : List X) → All (λ x. p x ≡ false) xs → filter p xs ≡ []
@@ -60,11 +55,8 @@ Before r s = comes_before r.page s.page ≡ true
 -- a change that keeps the page of each row keeps the order
 pub ordered_map : (f : Row → Row) (rows : List Row) → ((r : Row) → (f r).page ≡ r.page) → InPageOrder rows
     → InPageOrder (map f rows)
-ordered_map f [] keeps rise = λ i j d lt in_range. absurd (omega arith)
-ordered_map f (r ∷ rs) keeps rise =
-    AllPairs-cons Before (f r) (map f rs)
-    (All-map (λ s. Before (f r) s) f rs (λ k d lt. grind (arith, keeps, rise 0 (suc k) d)))
-    (ordered_map f rs keeps (pairs_tail Before r rs rise))
+ordered_map f rows keeps rise i j d lt in_range =
+    grind (arith, keeps, rise i j d, get_or-map f rows i d d, get_or-map f rows j d d, length-map rows f)
 
 -- rows stay in the order of their pages where a change keeps each row's page
 pub ordered_change : (test : Row → Bool) (f : Row → Row) (rows : List Row) → ((r : Row) → (f r).page ≡ r.page)

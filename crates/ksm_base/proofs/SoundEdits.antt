@@ -103,12 +103,6 @@ calmer_waits old new c = grind (arith, c, waiting_not_private new.state)
 merged_not_private : (number : ℕ) (state : PageState) → merged_into number state ≡ true → private_state state ≡ false
 merged_not_private number state merged = grind (arith, merged)
 
--- a row with the home and bytes of another has the dup of that other
-pub same_dup : (knobs : Knobs) (dups : List DupRow) (old new : Row) (number : ℕ) (dup : DupRow) → new.home ≡ old.home
-    → new.bytes ≡ old.bytes
-    → IsDupOf knobs dups old number dup → IsDupOf knobs dups new number dup
-same_dup knobs dups old new number dup home bytes h = grind (arith, home, bytes, h)
-
 -- a sound book stays sound where rows become calmer, each with a home that there is
 pub sound_calmed : (b : BookState) (f : Row → Row) → ((r : Row) → IsCalmer r (f r)) → All (λ r. (f r).home < b.shape.nodes) b.rows → IsSound b → IsSound (record b { rows = map f b.rows })
 sound_calmed b f calmer homes s =
@@ -199,14 +193,6 @@ sound_without_stale b s =
 -- where the count of shared dups is 0, no dup has items
 pub no_dup_lives : (b : BookState) → shared_count b.rows b.dups ≡ 0 → filter (has_items b.rows) b.dups ≡ []
 no_dup_lives b none = filter_none (has_items b.rows) b.dups (none_counted (has_items b.rows) b.dups none)
-
--- a row that becomes private is calmer than it was
-pub becomes_private : (old new : Row) → new.page ≡ old.page → new.state ≡ Private → IsCalmer old new
-becomes_private old new page is_private = grind (arith, page, is_private)
-
--- a row that stays as it is counts as calmer
-pub stays_calm : (r : Row) → IsCalmer r r
-stays_calm r = grind arith
 
 -- a sound book stays sound where the rows that pass a test become calmer, with homes that there are
 pub sound_changed : (b : BookState) (test : Row → Bool) (f : Row → Row) → ((r : Row) → IsCalmer r (f r)) → ((r : Row) → r.home < b.shape.nodes → (f r).home < b.shape.nodes) → IsSound b → IsSound (record b { rows = change_rows test f b.rows })

@@ -14,17 +14,12 @@ use Rattle.ksm_base.specs.declared.fault.Fault.{Fault}
 use Rattle.ksm_base.specs.Rows.{item_count, change_rows, shared_state, settled}
 use Rattle.ksm_base.specs.State.{BookState, without_stale, with_none_waiting}
 use Rattle.ksm_base.specs.Counting.{shared_count}
-use Rattle.ksm_base.specs.Refusals.{refused_if, refusal}
+use Rattle.ksm_base.specs.Refusals.{refusal}
 use Rattle.ksm_base.specs.Answers.{shared_rows, every_row}
 use Rattle.ksm_base.specs.Apply.{unshared, is_before, unshare_stopped, effect}
 use Rattle.ksm_base.specs.Sound.{AreKnobs, IsSound}
 use Rattle.ksm_base.proofs.SoundEdits.{HasDup, WaitsAlone, NoneWaitsTwice, sound_settings, sound_calmed, sound_changed, sound_without_stale, no_dup_lives}
 use Rattle.ksm_base.proofs.SoundScan.{sound_cursor, sound_none_waiting}
-
--- what is not refused passed the first test, and is not refused by a later one
-pub refused_none : (test : Bool) (fault : Fault) (later : Option Fault) → refused_if test fault later ≡ None
-    → (test ≡ false) × (later ≡ None)
-refused_none test fault later none = grind (arith, none)
 
 -- a sound book stays sound where run gets a value of at most 2
 pub sound_run : (b : BookState) (v : ℕ) → v ≤ 2 → IsSound b → IsSound (record b { knobs = record b.knobs { run = v } })

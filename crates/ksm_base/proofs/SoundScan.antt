@@ -1,15 +1,14 @@
 -- A scan keeps a book sound.
 use Rattle.std.proofs.Common.{◌≡◌, ℕ, zero, suc, Bool, true, Some, None, Option, refl, arith}
 use Rattle.std.specs.Prelude.{◌&&◌, All}
-use Rattle.std.proofs.lemmas.Bool.{cond_both}
 use Rattle.ksm_base.specs.declared.page.GuestPage.{GuestPage}
-use Rattle.ksm_base.specs.declared.row.PageState.TheVariants.{Private, Zero}
+use Rattle.ksm_base.specs.declared.row.PageState.TheVariants.{Private}
 use Rattle.ksm_base.specs.declared.row.Row.{Row}
 use Rattle.ksm_base.specs.declared.row.DupRow.{DupRow}
 use Rattle.ksm_base.specs.declared.fault.Fault.{Fault}
-use Rattle.ksm_base.specs.Rows.{same_page, shared_state, settled, change_row}
+use Rattle.ksm_base.specs.Rows.{same_page, settled, change_row}
 use Rattle.ksm_base.specs.State.{BookState, place_count, with_none_waiting, pass_ended}
-use Rattle.ksm_base.specs.Visit.{after_cursor, next_row, best_dup, partner, new_place, pass_ended_at_last, pass_begun, visit_begun, paired, is_for_zero, stayed, handled, row_visited, visit_of, visits}
+use Rattle.ksm_base.specs.Visit.{after_cursor, next_row, best_dup, partner, new_place, pass_ended_at_last, pass_begun, visit_begun, paired, stayed, handled, row_visited, visit_of, visits}
 use Rattle.ksm_base.specs.Apply.{scan_stopped}
 use Rattle.ksm_base.specs.Sound.{IsSound}
 use Rattle.ksm_base.proofs.Edits.{find_passes, find_all}
@@ -38,10 +37,10 @@ sound_none_waiting b s = sound_calmed b settled settled_calmer s.homes s
 
 -- a sound book stays sound where its pass ends as no mergeable page comes after the cursor
 pub sound_ended_at_last : (b : BookState) → IsSound b → IsSound (pass_ended_at_last b)
-sound_ended_at_last b s = cond_both _ (pass_ended b) b IsSound (λ _. sound_pass_ended b s) (λ _. s)
+sound_ended_at_last b s = grind (arith, sound_pass_ended b s, s)
 
 sound_begun : (b : BookState) → IsSound b → IsSound (pass_begun b)
-sound_begun b s = cond_both _ (with_none_waiting b) b IsSound (λ _. sound_none_waiting b s) (λ _. s)
+sound_begun b s = grind (arith, sound_none_waiting b s, s)
 
 -- a sound book stays sound where a visit begins
 pub sound_visit_begun : (b : BookState) → IsSound b → IsSound (visit_begun b)
@@ -70,20 +69,15 @@ module _ (b : BookState) (row : Row) (visited : IsVisited b row) (s : IsSound b)
 
   -- the book is sound after the visit of an unchanged page that joins no dup: it becomes Zero or is paired
   pub sound_stayed : IsSound (stayed b row)
-  sound_stayed =
-      cond_both (is_for_zero b.knobs row) (record b { rows = change_row row.page (λ r. record r { state = Zero }) b.rows }) (paired (partner b.knobs b.rows row) b row) IsSound
-      (λ is. sound_zero b row visited (grind (arith, is)) s) (λ _. sound_paired (partner b.knobs b.rows row) refl)
+  sound_stayed = grind (arith, sound_zero b row visited, sound_paired (partner b.knobs b.rows row) refl, s)
 
   sound_handled : (dup : Option DupRow) → best_dup b.knobs b.rows b.dups row ≡ dup → IsSound (handled dup b row)
   sound_handled (Some dup) found = sound_joined b row dup visited (best_dup_has_room b row dup s found) s
-  sound_handled None found =
-      cond_both row.unchanged (stayed b row) (record b { rows = change_row row.page (λ r. record r { unchanged = true; state = Private }) b.rows }) IsSound
-      (λ _. sound_stayed) (λ _. sound_marked)
+  sound_handled None found = grind (arith, sound_stayed, sound_marked)
 
   -- the book is sound after the visit of a row, whatever the visit does with it
   pub sound_row_visited : IsSound (row_visited b row)
-  sound_row_visited =
-      cond_both (shared_state row.state) b (handled (best_dup b.knobs b.rows b.dups row) b row) IsSound (λ _. s) (λ _. sound_handled (best_dup b.knobs b.rows b.dups row) refl)
+  sound_row_visited = grind (arith, s, sound_handled (best_dup b.knobs b.rows b.dups row) refl)
 
 -- a sound book stays sound after a visit of the row that comes next, if there is one
 pub sound_visit_of : (b : BookState) (row : Option Row) → next_row b.cursor b.rows ≡ row → IsSound b

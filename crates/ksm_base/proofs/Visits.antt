@@ -1,16 +1,15 @@
 -- Visits change rows one by one, and of a row nothing but its state and the flag that its bytes have stayed.
 use Rattle.std.proofs.Common.{arith, ◌≡◌, ℕ, zero, suc, Bool, true, List, [], ◌∷◌, get_or, map, Option, Some, None, refl, sym}
 use Rattle.std.specs.Prelude.{◌||◌, All, if◌then◌else◌}
-use Rattle.std.proofs.lemmas.Bool.{cond_both}
 use Rattle.std.proofs.lemmas.List.{map-id}
 use Rattle.std.proofs.lemmas.List.Elements.{All-map}
 use Rattle.std.proofs.lemmas.Simd.{map-map}
 use Rattle.ksm_base.specs.declared.row.PageState.TheVariants.{Private, Waiting, Merged, Zero}
 use Rattle.ksm_base.specs.declared.row.Row.{Row}
 use Rattle.ksm_base.specs.declared.row.DupRow.{DupRow}
-use Rattle.ksm_base.specs.Rows.{change_row, same_page, change_rows, settled, shared_state}
-use Rattle.ksm_base.specs.State.{BookState, with_none_waiting, pass_ended}
-use Rattle.ksm_base.specs.Visit.{next_row, best_dup, partner, pass_ended_at_last, visit_begun, paired, is_for_zero, stayed, handled, row_visited, visit_of, visits}
+use Rattle.ksm_base.specs.Rows.{change_row, same_page, change_rows, settled}
+use Rattle.ksm_base.specs.State.{BookState}
+use Rattle.ksm_base.specs.Visit.{next_row, best_dup, partner, pass_ended_at_last, visit_begun, paired, stayed, handled, row_visited, visit_of, visits}
 
 -- a row with another state or flag: page, home, bytes and mergeable are the same
 pub record IsSameBut (old new : Row) : Type 0 where
@@ -49,13 +48,13 @@ module _ (start : List Row) where
   Comes b = IsRowwise start b.rows
 
   comes_ended : (b : BookState) → Comes b → Comes (pass_ended_at_last b)
-  comes_ended b h = cond_both _ (pass_ended b) b Comes (λ _. h) (λ _. h)
+  comes_ended b h = grind (arith, h)
 
   comes_begun : (b : BookState) → Comes b → Comes (visit_begun b)
   comes_begun b h =
       let e = pass_ended_at_last b in
       let settle : IsRowwise e.rows (map settled e.rows) = record { change = settled; keeps = λ r. grind arith; rows = refl } in
-      cond_both _ (with_none_waiting e) e Comes (λ _. and_then start e.rows (map settled e.rows) (comes_ended b h) settle) (λ _. comes_ended b h)
+      grind (arith, and_then start e.rows (map settled e.rows) (comes_ended b h) settle, comes_ended b h)
 
   -- the row of a page, or those of two pages, get another state or flag
   comes_changed : (test : Row → Bool) (f : Row → Row) → ((r : Row) → IsSameBut r (f r)) → (b : BookState) → Comes b
@@ -74,18 +73,15 @@ module _ (start : List Row) where
 
   comes_stayed : (b : BookState) (row : Row) → Comes b → Comes (stayed b row)
   comes_stayed b row h =
-      cond_both (is_for_zero b.knobs row) _ (paired (partner b.knobs b.rows row) b row) Comes
-      (λ _. comes_at b row (λ r. record r { state = Zero }) (λ r. grind arith) h) (λ _. comes_paired (partner b.knobs b.rows row) b row h)
+      grind (arith, comes_at b row (λ r. record r { state = Zero }) (λ r. grind arith) h, comes_paired (partner b.knobs b.rows row) b row h)
 
   comes_handled : (d : Option DupRow) (b : BookState) (row : Row) → Comes b → Comes (handled d b row)
   comes_handled (Some d) b row h = comes_at b row (λ r. record r { state = Merged d.number }) (λ r. grind arith) h
   comes_handled None b row h =
-      cond_both row.unchanged (stayed b row) _ Comes
-      (λ _. comes_stayed b row h) (λ _. comes_at b row (λ r. record r { unchanged = true; state = Private }) (λ r. grind arith) h)
+      grind (arith, comes_stayed b row h, comes_at b row (λ r. record r { unchanged = true; state = Private }) (λ r. grind arith) h)
 
   comes_row_visited : (b : BookState) (row : Row) → Comes b → Comes (row_visited b row)
-  comes_row_visited b row h =
-      cond_both (shared_state row.state) b (handled (best_dup b.knobs b.rows b.dups row) b row) Comes (λ _. h) (λ _. comes_handled _ b row h)
+  comes_row_visited b row h = grind (arith, h, comes_handled (best_dup b.knobs b.rows b.dups row) b row h)
 
   comes_visit_of : (b : BookState) (row : Option Row) → Comes b → Comes (visit_of b row)
   comes_visit_of b None h = h
