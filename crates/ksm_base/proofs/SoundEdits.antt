@@ -106,14 +106,15 @@ merged_not_private number state merged = grind (arith, merged)
 -- a sound book stays sound where rows become calmer, each with a home that there is
 pub sound_calmed : (b : BookState) (f : Row → Row) → ((r : Row) → IsCalmer r (f r)) → All (λ r. (f r).home < b.shape.nodes) b.rows → IsSound b → IsSound (record b { rows = map f b.rows })
 sound_calmed b f calmer homes s =
+    let mapped = λ (P : Row → Type 0). All-map P f b.rows in
     sound_rows b (map f b.rows) s
     (record {
       rows_rise = ordered_map f b.rows (λ r. (calmer r).page) s.rows_rise;
-      homes = All-map (λ r. r.home < b.shape.nodes) f b.rows homes;
-      mergeable = All-map IsMergeableSo f b.rows (λ k d lt taken. grind (arith, calmer (get_or b.rows k d), s.mergeable k d lt, taken));
-      zero = All-map IsZeroSo f b.rows (λ k d lt is. grind (arith, calmer (get_or b.rows k d), s.zero k d lt, zero_not_private, is));
+      homes = mapped (λ r. r.home < b.shape.nodes) homes;
+      mergeable = mapped IsMergeableSo (λ k d lt taken. grind (arith, calmer (get_or b.rows k d), s.mergeable k d lt, taken));
+      zero = mapped IsZeroSo (λ k d lt is. grind (arith, calmer (get_or b.rows k d), s.zero k d lt, zero_not_private, is));
       waiting = waiting_map b.knobs f b.rows (λ r. calmer_waits r (f r) (calmer r)) s.waiting;
-      items = All-map (HasDup b.knobs b.dups) f b.rows
+      items = mapped (HasDup b.knobs b.dups)
           (λ k d lt number merged.
           let calm = calmer (get_or b.rows k d) in
           let item = s.items k d lt number (grind (arith, calm, merged)) in
@@ -126,35 +127,37 @@ sound_calmed b f calmer homes s =
 -- a sound book stays sound where rows go
 pub sound_filtered : (b : BookState) (test : Row → Bool) → IsSound b → IsSound (record b { rows = filter test b.rows })
 sound_filtered b test s =
+    let kept = λ (P : Row → Type 0). All-filter test P b.rows in
     sound_rows b (filter test b.rows) s
     (record {
       rows_rise = AllPairs-filter (λ r t. comes_before r.page t.page ≡ true) test b.rows s.rows_rise;
-      homes = All-filter test (λ r. r.home < b.shape.nodes) b.rows s.homes;
-      mergeable = All-filter test IsMergeableSo b.rows s.mergeable;
-      zero = All-filter test IsZeroSo b.rows s.zero;
-      waiting = All-filter test (WaitsAlone b.knobs (filter test b.rows)) b.rows
+      homes = kept (λ r. r.home < b.shape.nodes) s.homes;
+      mergeable = kept IsMergeableSo s.mergeable;
+      zero = kept IsZeroSo s.zero;
+      waiting = kept (WaitsAlone b.knobs (filter test b.rows))
           (λ k d lt waits.
           let waits_so = waits_for b.knobs (get_or b.rows k d) in
           find_nothing waits_so (filter test b.rows) (All-filter test (λ w. waits_so w ≡ false) b.rows (find_none waits_so b.rows (s.waiting k d lt waits))));
-      items = All-filter test (HasDup b.knobs b.dups) b.rows s.items;
+      items = kept (HasDup b.knobs b.dups) s.items;
       limit = λ k d lt. omega (arith, s.limit k d lt, count_filter_le (λ r. merged_into (get_or b.dups k d).number r.state) test b.rows);
     })
 
 -- a sound book stays sound where a private row comes
 pub sound_with_row : (b : BookState) (row : Row) → row.state ≡ Private → row.home < b.shape.nodes → IsSound b → IsSound (record b { rows = with_row row b.rows })
 sound_with_row b row is_private home s =
+    let among = λ (P : Row → Type 0). all_with_row P row b.rows in
     sound_rows b (with_row row b.rows) s
     (record {
       rows_rise = ordered_with row b.rows s.rows_rise;
-      homes = all_with_row (λ r. r.home < b.shape.nodes) row b.rows home s.homes;
-      mergeable = all_with_row IsMergeableSo row b.rows (λ taken. grind (arith, is_private, taken)) s.mergeable;
-      zero = all_with_row IsZeroSo row b.rows (λ is. grind (arith, is_private, is)) s.zero;
+      homes = among (λ r. r.home < b.shape.nodes) home s.homes;
+      mergeable = among IsMergeableSo (λ taken. grind (arith, is_private, taken)) s.mergeable;
+      zero = among IsZeroSo (λ is. grind (arith, is_private, is)) s.zero;
       waiting =
-          all_with_row (WaitsAlone b.knobs (with_row row b.rows)) row b.rows (λ waits. grind (arith, is_private, waits))
+          among (WaitsAlone b.knobs (with_row row b.rows)) (λ waits. grind (arith, is_private, waits))
           (λ k d lt waits.
           let waits_so = waits_for b.knobs (get_or b.rows k d) in
           find_nothing waits_so (with_row row b.rows) (all_with_row (λ w. waits_so w ≡ false) row b.rows (grind (arith, is_private)) (find_none waits_so b.rows (s.waiting k d lt waits))));
-      items = all_with_row (HasDup b.knobs b.dups) row b.rows (λ number merged. absurd (grind (arith, is_private, merged))) s.items;
+      items = among (HasDup b.knobs b.dups) (λ number merged. absurd (grind (arith, is_private, merged))) s.items;
       limit = λ k d lt.
           let p : Row → Bool = λ r. merged_into (get_or b.dups k d).number r.state in
           let first : Row → Bool = λ r. comes_before r.page row.page in

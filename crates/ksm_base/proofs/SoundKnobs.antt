@@ -6,7 +6,6 @@ use Rattle.std.proofs.lemmas.Bool.Decides.{nat_tests}
 use Rattle.std.proofs.lemmas.List.Elements.{All-map}
 use Rattle.ksm_base.specs.declared.row.Row.{Row}
 use Rattle.ksm_base.specs.declared.knobs.Knobs.{Knobs}
-use Rattle.ksm_base.specs.declared.limits.TheConstants.{MOST_REFERENCES}
 use Rattle.ksm_base.specs.declared.command.Command.TheVariants.{SetRun, SetPagesToScan, SetAcross, SetLimit, SetZeroPages}
 use Rattle.ksm_base.specs.declared.reply.Reply.{Reply}
 use Rattle.ksm_base.specs.declared.reply.Reply.TheVariants.{Done, Unmerged}
@@ -75,7 +74,7 @@ sound_set_across b v reply accepted s =
     let knobs : Knobs = record b.knobs { merge_across_nodes = v } in
     cond_both (v == b.knobs.merge_across_nodes) b (record (with_none_waiting (without_stale b)) { knobs = knobs }) IsSound (λ _. s)
     (λ other.
-    sound_reset (with_none_waiting (without_stale b)) knobs (let most : v ≤ 1 = grind (arith, nat_tests, accepted) in grind (arith, s.knobs, most))
+    sound_reset (with_none_waiting (without_stale b)) knobs (grind (arith, nat_tests, s.knobs, accepted))
     (no_dup_lives b (none_shared b (v == b.knobs.merge_across_nodes) (grind (arith, accepted)) other))
     (All-map (WaitsAlone knobs (map settled b.rows)) settled b.rows (λ k d lt waits. grind (arith, waits)))
     (sound_none_waiting (without_stale b) (sound_without_stale b s)))
@@ -87,5 +86,5 @@ sound_set_limit b v reply accepted s =
     let knobs : Knobs = record b.knobs { max_page_sharing = v } in
     cond_both (v == b.knobs.max_page_sharing) b (record (without_stale b) { knobs = knobs }) IsSound (λ _. s)
     (λ other.
-    sound_reset (without_stale b) knobs (let range : (2 ≤ v) × (v ≤ MOST_REFERENCES) = grind (arith, nat_tests, accepted) in grind (arith, s.knobs, range))
+    sound_reset (without_stale b) knobs (grind (arith, nat_tests, s.knobs, accepted))
     (no_dup_lives b (none_shared b (v == b.knobs.max_page_sharing) (grind (arith, accepted)) other)) s.waiting (sound_without_stale b s))

@@ -141,17 +141,19 @@ sound_made b w row place pair free s =
     let f : Row → Row = λ r. record r { state = Merged b.next } in
     let new : DupRow = record { number = b.next; place = place; tree = tree_of b.knobs row; bytes = row.bytes } in
     let dups = with_dup new b.dups in
+    let changed = λ (P : Row → Type 0). all_changed P test f b.rows in
+    let among = λ (P : DupRow → Type 0). all_with_dup P new b.dups in
     record {
       shape = s.shape;
       knobs = s.knobs;
       passes = s.passes;
       rows_rise = ordered_change test f b.rows (λ _. refl) s.rows_rise;
-      homes = all_changed (λ r. r.home < b.shape.nodes) test f b.rows (λ k d lt _. s.homes k d lt) (λ k d lt _. s.homes k d lt);
-      mergeable = all_changed IsMergeableSo test f b.rows
+      homes = changed (λ r. r.home < b.shape.nodes) (λ k d lt _. s.homes k d lt) (λ k d lt _. s.homes k d lt);
+      mergeable = changed IsMergeableSo
           (λ k d lt either _. each_of_pair (λ r. r.mergeable ≡ true) b w row pair pair.waited.mergeable pair.visited.mergeable k d lt either) (λ k d lt _. s.mergeable k d lt);
-      zero = all_changed IsZeroSo test f b.rows (λ k d lt either is. cc) (λ k d lt _. s.zero k d lt);
+      zero = changed IsZeroSo (λ k d lt either is. cc) (λ k d lt _. s.zero k d lt);
       waiting = waiting_changed b.knobs test f b.rows (merged_waits b.next) s.waiting;
-      items = all_changed (HasDup b.knobs dups) test f b.rows
+      items = changed (HasDup b.knobs dups)
           (λ k d lt either number merged.
           let same = each_of_pair (λ r. (tree_of b.knobs row ≡ tree_of b.knobs r) × (row.bytes ≡ r.bytes)) b w row pair (sym pair.tree, sym pair.bytes) (refl, refl) k d lt either in
           (new, grind (arith, merged, new_stands new b.dups s.numbers, same)))
@@ -162,9 +164,9 @@ sound_made b w row place pair free s =
           let lives = dup_has_items b.rows item.0 k d lt (item_of_dup b.knobs b.dups r number item.0 merged item.1) in
           (item.0, grind (arith, item.1, still_stands b new item.0 number s free other item.1.stands lives)));
       dups_rise = dups_with new b.dups s.dups_rise s.numbers;
-      numbers = all_with_dup (λ d. d.number < b.next + 1) new b.dups (omega arith) (λ k d lt. omega (arith, s.numbers k d lt));
-      trees = all_with_dup (λ d. b.knobs.merge_across_nodes ≡ 1 → d.tree ≡ 0) new b.dups (λ across. rw across refl) s.trees;
-      limit = all_with_dup (λ d. item_count (change_rows test f b.rows) d ≤ b.knobs.max_page_sharing) new b.dups
+      numbers = among (λ d. d.number < b.next + 1) (omega arith) (λ k d lt. omega (arith, s.numbers k d lt));
+      trees = among (λ d. b.knobs.merge_across_nodes ≡ 1 → d.tree ≡ 0) (λ across. rw across refl) s.trees;
+      limit = among (λ d. item_count (change_rows test f b.rows) d ≤ b.knobs.max_page_sharing)
           (omega (
             arith,
             count_change_le (λ r. merged_into b.next r.state) test f b.rows,

@@ -8,7 +8,7 @@ use Rattle.ksm_base.specs.declared.row.DupRow.{DupRow}
 use Rattle.ksm_base.specs.declared.fault.Fault.{Fault}
 use Rattle.ksm_base.specs.Rows.{same_page, settled, change_row}
 use Rattle.ksm_base.specs.State.{BookState, place_count, with_none_waiting, pass_ended}
-use Rattle.ksm_base.specs.Visit.{after_cursor, next_row, best_dup, partner, new_place, pass_ended_at_last, pass_begun, visit_begun, paired, stayed, handled, row_visited, visit_of, visits}
+use Rattle.ksm_base.specs.Visit.{after_cursor, next_row, best_dup, partner, new_place, pass_ended_at_last, visit_begun, paired, stayed, handled, row_visited, visit_of, visits}
 use Rattle.ksm_base.specs.Apply.{scan_stopped}
 use Rattle.ksm_base.specs.Sound.{IsSound}
 use Rattle.ksm_base.proofs.Edits.{find_passes, find_all}
@@ -39,21 +39,17 @@ sound_none_waiting b s = sound_calmed b settled settled_calmer s.homes s
 pub sound_ended_at_last : (b : BookState) → IsSound b → IsSound (pass_ended_at_last b)
 sound_ended_at_last b s = grind (arith, sound_pass_ended b s, s)
 
-sound_begun : (b : BookState) → IsSound b → IsSound (pass_begun b)
-sound_begun b s = grind (arith, sound_none_waiting b s, s)
-
 -- a sound book stays sound where a visit begins
 pub sound_visit_begun : (b : BookState) → IsSound b → IsSound (visit_begun b)
-sound_visit_begun b s = sound_begun (pass_ended_at_last b) (sound_ended_at_last b s)
+sound_visit_begun b s =
+    let ended = sound_ended_at_last b s in grind (arith, sound_none_waiting (pass_ended_at_last b) ended, ended)
 
 -- the row that is visited next is a mergeable one of the book
 pub next_row_visited : (b : BookState) (row : Row) → IsSound b → next_row b.cursor b.rows ≡ Some row → IsVisited b row
 next_row_visited b row s found =
     let p : Row → Bool = λ r. r.mergeable && after_cursor b.cursor r.page in
-    record {
-      mergeable = grind (arith, find_passes p b.rows row found);
-      once = find_all p (λ r. All (λ t. same_page t.page r.page ≡ true → t ≡ r) b.rows) b.rows row found (one_of_each_page b.rows s.rows_rise);
-    }
+    let mergeable : row.mergeable ≡ true = grind (arith, find_passes p b.rows row found) in
+    assumption (find_all p (λ r. All (λ t. same_page t.page r.page ≡ true → t ≡ r) b.rows) b.rows row found (one_of_each_page b.rows s.rows_rise))
 
 module _ (b : BookState) (row : Row) (visited : IsVisited b row) (s : IsSound b) where
   -- the book is sound after the visited page has met its partner, or waits where it has none

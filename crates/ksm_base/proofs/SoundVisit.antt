@@ -76,15 +76,15 @@ sound_turned : (b : BookState) (row : Row) (state : PageState) → IsVisited b r
     → HasDup b.knobs b.dups (in_state state row) → All (λ d. item_count (turned row state b.rows) d ≤ b.knobs.max_page_sharing) b.dups → IsSound b
     → IsSound (record b { rows = turned row state b.rows })
 sound_turned b row state visited zero waiting item limit s =
-    let test : Row → Bool = λ r. same_page r.page row.page in
+    let changed = λ (P : Row → Type 0). all_changed P (λ r. same_page r.page row.page) (in_state state) b.rows in
     sound_rows b (turned row state b.rows) s
     (record {
-      rows_rise = ordered_change test (in_state state) b.rows (λ _. refl) s.rows_rise;
-      homes = all_changed (λ r. r.home < b.shape.nodes) test (in_state state) b.rows (λ k d lt _. s.homes k d lt) (λ k d lt _. s.homes k d lt);
-      mergeable = all_changed IsMergeableSo test (in_state state) b.rows (λ k d lt same _. rw (visited.once k d lt same) visited.mergeable) (λ k d lt _. s.mergeable k d lt);
-      zero = all_changed IsZeroSo test (in_state state) b.rows (λ k d lt same. rw (visited.once k d lt same) zero) (λ k d lt _. s.zero k d lt);
+      rows_rise = ordered_change (λ r. same_page r.page row.page) (in_state state) b.rows (λ _. refl) s.rows_rise;
+      homes = changed (λ r. r.home < b.shape.nodes) (λ k d lt _. s.homes k d lt) (λ k d lt _. s.homes k d lt);
+      mergeable = changed IsMergeableSo (λ k d lt same _. rw (visited.once k d lt same) visited.mergeable) (λ k d lt _. s.mergeable k d lt);
+      zero = changed IsZeroSo (λ k d lt same. rw (visited.once k d lt same) zero) (λ k d lt _. s.zero k d lt);
       waiting = waiting;
-      items = all_changed (HasDup b.knobs b.dups) test (in_state state) b.rows (λ k d lt same. rw (visited.once k d lt same) item) (λ k d lt _. s.items k d lt);
+      items = changed (HasDup b.knobs b.dups) (λ k d lt same. rw (visited.once k d lt same) item) (λ k d lt _. s.items k d lt);
       limit = limit;
     })
 

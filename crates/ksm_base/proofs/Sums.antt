@@ -1,5 +1,5 @@
 -- The counters of pages add up to the mergeable rows.
-use Rattle.std.proofs.Common.{◌≡◌, ℕ, ◌+◌, ◌<◌, ◌≤◌, Bool, true, false, List, [], ◌∷◌, inl, inr, refl, arith}
+use Rattle.std.proofs.Common.{◌≡◌, ℕ, ◌+◌, ◌≤◌, Bool, true, false, List, [], ◌∷◌, inl, inr, refl, arith}
 use Rattle.std.specs.Prelude.{◌==◌, ◌||◌, ◌&&◌, count_by, All, if◌then◌else◌}
 use Rattle.std.proofs.lemmas.Bool.{cases_Bool}
 use Rattle.std.proofs.lemmas.Bool.Decides.{nat_tests}
@@ -9,11 +9,11 @@ use Rattle.ksm_base.specs.declared.row.PageState.TheVariants.{Merged}
 use Rattle.ksm_base.specs.declared.row.Row.{Row}
 use Rattle.ksm_base.specs.declared.row.DupRow.{DupRow}
 use Rattle.ksm_base.specs.Rows.{private_state, waiting_state, merged_state, zero_state, merged_into, has_items, InPlaceOrder}
-use Rattle.ksm_base.specs.Counting.{shared_count, merged_count, counters_of, counters_from, mergeable_count, pages_told}
+use Rattle.ksm_base.specs.Counting.{shared_count, merged_count, counters_of, mergeable_count, pages_told}
 use Rattle.ksm_base.specs.State.{BookState}
 use Rattle.ksm_base.specs.Sound.{IsSound}
 use Rattle.ksm_base.proofs.Edits.{count_more, count_none, count_either_le}
-use Rattle.ksm_base.proofs.Orders.{pairs_head, pairs_tail}
+use Rattle.ksm_base.proofs.Orders.{Lower, pairs_head, pairs_tail}
 
 -- a test that passes more counts more
 count_weaker : {X : Type 0} (p q : X → Bool) → ((x : X) → p x ≡ true → q x ≡ true) → (xs : List X)
@@ -22,18 +22,14 @@ count_weaker p q weaker [] = omega arith
 count_weaker p q weaker (x ∷ xs) =
     grind (arith, count_more p x xs, count_more q x xs, weaker x, count_weaker p q weaker xs)
 
--- two dups of different places have different numbers
-abbrev Apart : DupRow → DupRow → Type 0
-Apart d e = (d.place < e.place) × ((d.number == e.number) ≡ false)
-
 -- at most one dup has a number
 count_numbered : (number : ℕ) (dups : List DupRow) → InPlaceOrder dups → count_by (λ d. number == d.number) dups ≤ 1
 count_numbered number [] rise = omega arith
 count_numbered number (d ∷ dups) rise =
     let has : DupRow → Bool = λ e. number == e.number in
-    let rest = count_numbered number dups (pairs_tail Apart d dups rise) in
+    let rest = count_numbered number dups (pairs_tail Lower d dups rise) in
     elim (cases_Bool (number == d.number)) [
-      | inl same ↦ grind (arith, count_more has d dups, same, count_none has dups (λ k e lt. grind (arith, nat_tests, same, pairs_head Apart d dups rise k e lt)))
+      | inl same ↦ grind (arith, count_more has d dups, same, count_none has dups (λ k e lt. grind (arith, nat_tests, same, pairs_head Lower d dups rise k e lt)))
       | inr differ ↦ grind (arith, count_more has d dups, rest, differ)
     ]
 
@@ -69,21 +65,17 @@ pub states-add : (rows : List Row) → All (λ r. private_state r.state ≡ fals
     + count_by (λ r. zero_state r.state) rows ≡ count_by (λ r. r.mergeable) rows
 states-add [] h = refl
 states-add (r ∷ rows) h =
-    let rest = states-add rows (All-tail (λ s. private_state s.state ≡ false → s.mergeable ≡ true) r rows h) in
-    let a = count_more (λ s. merged_state s.state) r rows in
-    let b = count_more (λ s. waiting_state s.state) r rows in
-    let c = count_more (λ s. s.mergeable && private_state s.state) r rows in
-    let d = count_more (λ s. s.mergeable) r rows in
-    let e = count_more (λ s. zero_state s.state) r rows in
-    omega (arith, state_once r.state r.mergeable (h 0 r (omega arith)))
-
--- the counters of pages tell of the mergeable rows, each once
-pub told-mergeable : (rows : List Row) (dups : List DupRow) (passes : ℕ) → InPlaceOrder dups
-    → All (λ r. private_state r.state ≡ false → r.mergeable ≡ true) rows
-    → pages_told (counters_from rows dups passes) ≡ mergeable_count rows
-told-mergeable rows dups passes rise mergeable =
-    omega (arith, shared-le-merged rows dups rise, states-add rows mergeable)
+    omega (
+      arith,
+      states-add rows (All-tail (λ s. private_state s.state ≡ false → s.mergeable ≡ true) r rows h),
+      count_more (λ s. merged_state s.state) r rows,
+      count_more (λ s. waiting_state s.state) r rows,
+      count_more (λ s. s.mergeable && private_state s.state) r rows,
+      count_more (λ s. s.mergeable) r rows,
+      count_more (λ s. zero_state s.state) r rows,
+      state_once r.state r.mergeable (h 0 r (omega arith)),
+    )
 
 -- in each sound state the counters of pages add up to the mergeable pages
 pub told_sound : (b : BookState) → IsSound b → pages_told (counters_of b) ≡ mergeable_count b.rows
-told_sound b sound = told-mergeable b.rows b.dups b.passes sound.dups_rise sound.mergeable
+told_sound b sound = omega (arith, shared-le-merged b.rows b.dups sound.dups_rise, states-add b.rows sound.mergeable)
