@@ -1,4 +1,4 @@
-use Rattle.std.proofs.Common.{subst, ◌∙◌, ◌≡◌}
+use Rattle.std.proofs.Common.{◌∙◌, ◌≡◌}
 use Rattle.ksm_order.specs.Listed.{IsHere, without}
 use Rattle.ksm_order.proofs.Changes.{filter_rises, removed_counted}
 use Rattle.ksm_order.proofs.Between.{remove_here, without_none}
@@ -7,7 +7,7 @@ use Rattle.ksm_order.proofs.leaf.LeafPart.remove.Goals.{After-remove-gone}
 use Rattle.std.proofs.Common.{arith}
 
 here : (c : After-remove-gone) → IsHere c.args.key c.self.inside.items.items c.in-Some.at
-here c = subst (λ xs. IsHere c.args.key xs c.in-Some.at) c.as_slice.ensures.value c.in-Some.ensures.here
+here c = rw c.as_slice.ensures.value at c.in-Some.ensures.here
 
 -- the item is taken away
 gone : (c : After-remove-gone) → c.remove-gone.new.self.items ≡ without c.args.key c.self.inside.items.items
