@@ -52,9 +52,8 @@ find_kept p q c same (x ∷ xs) = grind (arith, same x, find_kept p q c same xs)
 -- what passes a test is among those that pass it
 pub contains_filter : {X : Type 0} (t : X → Bool) (xs : List X) (x : X) → Contains xs x → t x ≡ true
     → Contains (filter t xs) x
-contains_filter t [] x has e = absurd (let lt = has.1 in omega (arith, lt))
-contains_filter t (y ∷ ys) x (zero, lt, is) e =
-    let here : t y ≡ true = grind (arith, is, e) in rw here (0, omega arith, is)
+contains_filter t [] x has e = absurd (let lt = has.1 in omega arith)
+contains_filter t (y ∷ ys) x (zero, lt, is) e = let here : t y ≡ true = grind arith in rw here (0, omega arith, is)
 contains_filter t (y ∷ ys) x (suc i, lt, is) e =
     let rest = contains_filter t ys x (i, omega arith, is) e in
     elim (cases_Bool (t y)) [ inl kept ↦ rw kept (suc rest.0, omega arith, rest.2) | inr gone ↦ rw gone rest ]
@@ -70,27 +69,27 @@ other_with row rows other differs =
     let of_other : Row → Bool = λ r. same_page r.page other in
     let below : Row → Bool = λ r. comes_before r.page row.page in
     let above : Row → Bool = λ r. comes_before row.page r.page in
-    let first = find_kept of_other below (comes_before other row.page) (λ r same. grind (arith, same_page_eq r.page other, same)) rows in
-    let second = find_kept of_other above (comes_before row.page other) (λ r same. grind (arith, same_page_eq r.page other, same)) rows in
-    let apart : same_page row.page other ≡ false = grind (arith, same_page_eq row.page other, differs) in
-    grind (arith, find_over of_other (filter below rows) (filter above rows) row, find-append of_other (filter below rows) (filter above rows), apart, first, second, or_nothing, one_before row.page other, not_both other row.page)
+    let first = find_kept of_other below (comes_before other row.page) (λ r same. grind (arith, same_page_eq r.page other)) rows in
+    let second = find_kept of_other above (comes_before row.page other) (λ r same. grind (arith, same_page_eq r.page other)) rows in
+    let apart : same_page row.page other ≡ false = grind (arith, same_page_eq row.page other) in
+    grind (arith, find_over of_other (filter below rows) (filter above rows) row, find-append of_other (filter below rows) (filter above rows), or_nothing, one_before row.page other, not_both other row.page)
 
 own_with : (row : Row) (rows : List Row) → row_at row.page (with_row row rows) ≡ Some row
 own_with row rows =
     let of_page : Row → Bool = λ r. same_page r.page row.page in
     let below : Row → Bool = λ r. comes_before r.page row.page in
     let above : Row → Bool = λ r. comes_before row.page r.page in
-    let none = find_kept of_page below false (λ r same. grind (arith, after_differs r.page row.page, same)) rows in
-    grind (arith, find-append of_page (filter below rows) (row ∷ filter above rows), none, same_page_refl row.page)
+    let none = find_kept of_page below false (λ r same. grind (arith, after_differs r.page row.page)) rows in
+    grind (arith, find-append of_page (filter below rows) (row ∷ filter above rows), same_page_refl row.page)
 
 other_without : (page : GuestPage) (rows : List Row) (other : GuestPage) → other ≢ page
     → row_at other (without_page page rows) ≡ row_at other rows
 other_without page rows other differs =
-    find_kept (λ r. same_page r.page other) (λ r. not (same_page r.page page)) true (λ r same. grind (arith, same_page_eq r.page, same, differs)) rows
+    find_kept (λ r. same_page r.page other) (λ r. not (same_page r.page page)) true (λ r same. grind (arith, same_page_eq r.page)) rows
 
 own_without : (page : GuestPage) (rows : List Row) → row_at page (without_page page rows) ≡ None
 own_without page rows =
-    find_kept (λ r. same_page r.page page) (λ r. not (same_page r.page page)) false (λ r same. grind (arith, same)) rows
+    find_kept (λ r. same_page r.page page) (λ r. not (same_page r.page page)) false (λ r same. grind arith) rows
 
 -- the stale dups go, the others stay
 stale_gone : (b c : BookState) → c.dups ≡ filter (has_items b.rows) b.dups → StaleGone b c
@@ -111,7 +110,7 @@ module _ (start : BookState) where
   Same b = (b.shape ≡ start.shape) × (b.knobs ≡ start.knobs)
 
   same_begun : (b : BookState) → Same b → Same (visit_begun b)
-  same_begun b h = grind (arith, h)
+  same_begun b h = grind arith
 
   same_visit : (b : BookState) → Same b → Same (visit b)
   same_visit b h = grind (arith, same_begun b h)
@@ -121,7 +120,7 @@ module _ (start : BookState) where
   same_visits (suc n) b h = same_visit (visits n b) (same_visits n b h)
 
   same_but : (c : BookState) → Same c → c ≡ record start { rows = c.rows; dups = c.dups; cursor = c.cursor; passes = c.passes; next = c.next }
-  same_but c h = grind (arith, h)
+  same_but c h = grind arith
 
 zip_rowwise : (old new : List Row) → IsRowwise old new → AllZip IsVisited old new
 zip_rowwise old new h = rw h.rows (zip_map IsVisited h.change (λ r. grind (arith, h.keeps r)) old)
@@ -150,7 +149,7 @@ module _ (b : BookState) where
   changes (pruned count) = (refl, stale_gone b (without_stale b) refl)
   changes (unmerged {guest = guest} {k = k} count) =
       let test : Row → Bool = λ r. is_of guest r && shared_state r.state in
-      let past : slice_get (shared_rows (is_of guest) b) k ≡ None = grind (arith, count, length-filter test b.rows, slice_get_past) in (
+      let past : slice_get (shared_rows (is_of guest) b) k ≡ None = grind (arith, length-filter test b.rows, slice_get_past) in (
         refl,
         rw past (zip_where (Where (λ r. r.page.guest ≡ guest) (IsAlone false false)) (λ r. is_of guest r && true) let_go (λ r. grind (arith, nat_tests)) b.rows),
       )

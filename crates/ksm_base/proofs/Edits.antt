@@ -17,17 +17,17 @@ module _ {X : Type 0} (p : X → Bool) where
   -- what holds of each element of a list holds of what a search finds there
   pub find_all : (P : X → Type 0) (xs : List X) (x : X) → find p xs ≡ Some x → All P xs → P x
   find_all P [] x found all = cc
-  find_all P (y ∷ ys) x found all = grind (arith, found, all 0 y, find_all P ys x, All-tail P y ys all)
+  find_all P (y ∷ ys) x found all = grind (arith, all 0 y, find_all P ys x, All-tail P y ys all)
 
   -- what a search finds passes its test
   pub find_passes : (xs : List X) (x : X) → find p xs ≡ Some x → p x ≡ true
   find_passes [] x found = cc
-  find_passes (y ∷ ys) x found = grind (arith, found, find_passes ys x)
+  find_passes (y ∷ ys) x found = grind (arith, find_passes ys x)
 
   -- where a search finds nothing, every element fails the test
   pub find_none : (xs : List X) → find p xs ≡ None → All (λ x. p x ≡ false) xs
   find_none [] none = λ k d lt. absurd (omega arith)
-  find_none (y ∷ ys) none = All-cons (λ x. p x ≡ false) y ys (grind (arith, none)) (find_none ys (grind (arith, none)))
+  find_none (y ∷ ys) none = All-cons (λ x. p x ≡ false) y ys (grind arith) (find_none ys (grind arith))
 
   -- where every element fails the test, a search finds nothing
   pub find_nothing : (xs : List X) → All (λ x. p x ≡ false) xs → find p xs ≡ None
@@ -38,11 +38,11 @@ module _ {X : Type 0} (p : X → Bool) where
   pub find_filter : (q : X → Bool) (xs : List X) (x : X) → find p xs ≡ Some x → q x ≡ true
       → find p (filter q xs) ≡ Some x
   find_filter q [] x found keeps = cc
-  find_filter q (y ∷ ys) x found keeps = grind (arith, found, keeps, find_filter q ys x)
+  find_filter q (y ∷ ys) x found keeps = grind (arith, find_filter q ys x)
 
   -- a search finds the same whether an element that fails its test stands in the list or not
   pub find_over : (xs ys : List X) (y : X) → p y ≡ false → find p (xs ++ y ∷ ys) ≡ find p (xs ++ ys)
-  find_over [] ys y fails = grind (arith, fails)
+  find_over [] ys y fails = grind arith
   find_over (x ∷ xs) ys y fails = grind (arith, find_over xs ys y fails)
 
   -- a filter leaves at most as many elements that pass a test
@@ -79,7 +79,7 @@ module _ {X : Type 0} (p : X → Bool) where
   pub none_counted : (xs : List X) → count_by p xs ≡ 0 → All (λ x. p x ≡ false) xs
   none_counted [] none = λ k d lt. absurd (omega arith)
   none_counted (x ∷ xs) none =
-      All-cons (λ y. p y ≡ false) x xs (grind (arith, count_more, none)) (none_counted xs (grind (arith, count_more, none)))
+      All-cons (λ y. p y ≡ false) x xs (grind (arith, count_more)) (none_counted xs (grind (arith, count_more)))
 
   -- the count of those that pass one of two tests is at most the sum of both counts
   pub count_either_le : (q : X → Bool) (xs : List X) → count_by (λ x. p x || q x) xs ≤ count_by p xs + count_by q xs
@@ -90,5 +90,5 @@ module _ {X : Type 0} (p : X → Bool) where
   pub counts_one : (xs : List X) → All (λ x. p x ≡ true → 0 < count_by p xs) xs
   counts_one [] = λ k d lt. absurd (omega arith)
   counts_one (x ∷ xs) =
-      All-cons (λ y. p y ≡ true → 0 < count_by p (x ∷ xs)) x xs (λ passes. grind (arith, count_more, passes))
+      All-cons (λ y. p y ≡ true → 0 < count_by p (x ∷ xs)) x xs (λ passes. grind (arith, count_more))
       (λ k d lt passes. grind (arith, count_more, counts_one xs k d lt passes))

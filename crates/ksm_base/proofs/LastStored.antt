@@ -38,7 +38,7 @@ module _ (kept : GuestPage → Option (List ℕ)) where
   reads_change test f keeps rows h = reads_map (λ r. if test r then f r else r) (λ r. grind (arith, keeps r)) rows h
 
   reads_rowwise : (old new : List Row) → IsRowwise old new → Reads old → Reads new
-  reads_rowwise old new h = rowwise_all Has (λ r s same has. grind (arith, same, has)) old new h
+  reads_rowwise old new h = rowwise_all Has (λ r s same has. grind arith) old new h
 
   reads_scanned : (stop : Option Fault) (n : ℕ) (b : BookState) → Reads b.rows
       → Reads (scan_stopped stop (visits n b)).rows
@@ -66,9 +66,9 @@ module _ (kept : GuestPage → Option (List ℕ)) (page : GuestPage) (bytes : Li
       let before : Row → Bool = λ r. comes_before r.page row.page in
       let behind : Row → Bool = λ r. comes_before row.page r.page in
       All-append (Has kept_now) (filter before rows) (row ∷ filter behind rows)
-      (λ k d lt. grind (arith, is_page, before_differs (get_or (filter before rows) k d).page row.page (filter_passes before rows k d lt), All-filter before (Has kept) rows h k d lt))
-      (All-cons (Has kept_now) row (filter behind rows) (grind (arith, is_page, is_bytes, same_page_refl))
-      (λ k d lt. grind (arith, is_page, after_differs row.page (get_or (filter behind rows) k d).page (filter_passes behind rows k d lt), All-filter behind (Has kept) rows h k d lt)))
+      (λ k d lt. grind (arith, before_differs (get_or (filter before rows) k d).page row.page (filter_passes before rows k d lt), All-filter before (Has kept) rows h k d lt))
+      (All-cons (Has kept_now) row (filter behind rows) (grind (arith, same_page_refl))
+      (λ k d lt. grind (arith, after_differs row.page (get_or (filter behind rows) k d).page (filter_passes behind rows k d lt), All-filter behind (Has kept) rows h k d lt)))
 
   reads_stored : (rows : List Row) → Reads kept rows → Reads kept_now (change_row page (stored bytes) rows)
   reads_stored rows h =
@@ -90,8 +90,8 @@ reads_effect kept b (Mergeable guest) r h =
     reads_change kept _ (λ r. record r { mergeable = true }) (λ r. grind arith) b.rows h
 reads_effect kept b (MovePage page node) r h = reads_change kept _ (moved node) (λ r. grind arith) b.rows h
 reads_effect kept b (SetRun v) (Unmerged k stop) h = reads_unshared kept stop k b h
-reads_effect kept b (SetAcross v) r h = grind (arith, reads_map kept settled (λ r. grind arith) b.rows h, h)
-reads_effect kept b (SetLimit v) r h = grind (arith, h)
+reads_effect kept b (SetAcross v) r h = grind (arith, reads_map kept settled (λ r. grind arith) b.rows h)
+reads_effect kept b (SetLimit v) r h = grind arith
 reads_effect kept b _ _ h = h
 
 reads_after : (kept : GuestPage → Option (List ℕ)) (b : BookState) (c : Command) (a : Answer) → Reads kept b.rows
@@ -121,4 +121,4 @@ read_last page bytes b journal reads read = go (row_at page b.rows) refl read
     go (Some row) found is =
         let test : Row → Bool = λ r. same_page r.page page in
         let stored_last = find_all test (λ r. last_stored r.page journal ≡ Some r.bytes) b.rows row found reads in
-        grind (arith, stored_last, is, same_page_eq row.page page (find_passes test b.rows row found))
+        grind (arith, same_page_eq row.page page (find_passes test b.rows row found))

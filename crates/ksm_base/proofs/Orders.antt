@@ -56,7 +56,7 @@ Before r s = comes_before r.page s.page ≡ true
 pub ordered_map : (f : Row → Row) (rows : List Row) → ((r : Row) → (f r).page ≡ r.page) → InPageOrder rows
     → InPageOrder (map f rows)
 ordered_map f rows keeps rise i j d lt in_range =
-    grind (arith, keeps, rise i j d, get_or-map f rows i d d, get_or-map f rows j d d, length-map rows f)
+    grind (arith, rise i j d, get_or-map f rows i d d, get_or-map f rows j d d, length-map rows f)
 
 -- rows stay in the order of their pages where a change keeps each row's page
 pub ordered_change : (test : Row → Bool) (f : Row → Row) (rows : List Row) → ((r : Row) → (f r).page ≡ r.page)
@@ -84,7 +84,7 @@ pub one_of_each : {X : Type 0} (R : X → X → Type 0) (same : X → X → Bool
     → ((x y : X) → R x y → same x y ≡ false)
     → ((x y : X) → R x y → same y x ≡ false) → AllPairs R xs → All (λ x. All (λ y. same y x ≡ true → y ≡ x) xs) xs
 one_of_each R same xs first last rise k d lt j e lt_e is_same =
-    grind (arith, first (get_or xs j d), last (get_or xs k d), rise j k d, rise k j d, get_or_default xs j e d, is_same)
+    grind (arith, first (get_or xs j d), last (get_or xs k d), rise j k d, rise k j d, get_or_default xs j e d)
 
 -- in order, rows of one page are one row
 pub one_of_each_page : (rows : List Row) → InPageOrder rows
@@ -100,8 +100,8 @@ one_of_page page (r ∷ rs) rise =
     let of_page : Row → Bool = λ s. same_page s.page page in
     let rest = one_of_page page rs (pairs_tail Before r rs rise) in
     elim (cases_Bool (of_page r)) [
-      | inl same ↦ grind (arith, count_more of_page r rs, same, count_none of_page rs (λ k e lt. grind (arith, apart_second r.page, rise 0 (suc k) e, same)))
-      | inr other ↦ grind (arith, count_more of_page r rs, other, rest)
+      | inl same ↦ grind (arith, count_more of_page r rs, count_none of_page rs (λ k e lt. grind (arith, apart_second r.page, rise 0 (suc k) e)))
+      | inr other ↦ grind (arith, count_more of_page r rs)
     ]
 
 -- one dup's place is below the other's, and their numbers differ
@@ -132,8 +132,8 @@ module _ (place : ℕ) where
   dups_parted (d ∷ ds) rise =
       let rest = dups_parted ds (pairs_tail Lower d ds rise) in
       elim (cases_lt place d.place) [
-        | inl greater ↦ grind (arith, nat_tests, greater, rest, filter_none below ds (λ k e lt. grind (arith, nat_tests, greater, rise 0 (suc k) e)))
-        | inr no_greater ↦ grind (arith, nat_tests, no_greater, rest)
+        | inl greater ↦ grind (arith, nat_tests, filter_none below ds (λ k e lt. grind (arith, nat_tests, rise 0 (suc k) e)))
+        | inr no_greater ↦ grind (arith, nat_tests)
       ]
 
 -- a dup with a new number, at its place, keeps the order
@@ -167,7 +167,7 @@ all_with_row P row rows here all =
 pub one_of_each_place : (dups : List DupRow) → InPlaceOrder dups
     → All (λ d. All (λ e. (e.place == d.place) ≡ true → e ≡ d) dups) dups
 one_of_each_place dups rise =
-    one_of_each Lower (λ d e. d.place == e.place) dups (λ d e h. grind (arith, nat_tests, h)) (λ d e h. grind (arith, nat_tests, h)) rise
+    one_of_each Lower (λ d e. d.place == e.place) dups (λ d e h. grind (arith, nat_tests)) (λ d e h. grind (arith, nat_tests)) rise
 
 -- in order, each dup is the one with its number
 pub each_has_number : (dups : List DupRow) → InPlaceOrder dups → All (λ d. dup_numbered d.number dups ≡ Some d) dups

@@ -60,10 +60,10 @@ pub Decides-page : (page : GuestPage) (r : Row) → Decides (same_page r.page pa
 Decides-page page r = (same_page_eq r.page page, λ same. rw same (same_page_refl page))
 
 Decides-merged : (number : ℕ) (state : PageState) → Decides (merged_into number state) (state ≡ Merged number)
-Decides-merged number state = (λ h. grind (arith, nat_tests, h), λ h. grind (arith, nat_tests, h))
+Decides-merged number state = (λ h. grind (arith, nat_tests), λ h. grind (arith, nat_tests))
 
 Decides-outside : (low high v : ℕ) → Decides (not (is_within low high v)) (IsOutside low high v)
-Decides-outside low high v = (λ h. grind (arith, nat_tests, h), λ h. grind (arith, nat_tests, h))
+Decides-outside low high v = (λ h. grind (arith, nat_tests), λ h. grind (arith, nat_tests))
 
 module _ (b : BookState) where
   Decides-row : (page : GuestPage) → Decides (is_known b page) (HasRow b page)
@@ -92,38 +92,38 @@ module _ (b : BookState) where
   -- a refusal has its reason
   pub reason : (c : Command) (f : Fault) → refusal b c ≡ Some f → Refuses b c f
   reason (Register page node bytes) f h =
-      grind (arith, nat_tests, h, register_on_no_node, register_again, Decides-row page)
-  reason (MovePage page node) f h = grind (arith, nat_tests, h, move_to_no_node, move_unknown, Decides-row page)
+      grind (arith, nat_tests, register_on_no_node, register_again, Decides-row page)
+  reason (MovePage page node) f h = grind (arith, nat_tests, move_to_no_node, move_unknown, Decides-row page)
   reason (MoveDup place node) f h =
-      grind (arith, nat_tests, h, move_dup_to_no_node, move_no_dup, move_dup_across, Decides-lives place)
+      grind (arith, nat_tests, move_dup_to_no_node, move_no_dup, move_dup_across, Decides-lives place)
   reason (SetLimit v) f h =
-      grind (arith, nat_tests, h, limit_outside, limit_shared, Decides-shared, Decides-outside 2 MOST_REFERENCES v)
-  reason (SetPagesToScan v) f h = grind (arith, nat_tests, h, pages_outside, Decides-outside 1 1000000 v)
-  reason (SetAcross v) f h = grind (arith, nat_tests, h, across_above, across_shared, Decides-shared)
+      grind (arith, nat_tests, limit_outside, limit_shared, Decides-shared, Decides-outside 2 MOST_REFERENCES v)
+  reason (SetPagesToScan v) f h = grind (arith, nat_tests, pages_outside, Decides-outside 1 1000000 v)
+  reason (SetAcross v) f h = grind (arith, nat_tests, across_above, across_shared, Decides-shared)
   reason _ f h =
-      grind (arith, nat_tests, h, drop_unknown, store_unknown, scan_stands, unmerge_unknown, mergeable_unknown, run_above, zero_above, Decides-row, Decides-guest)
+      grind (arith, nat_tests, drop_unknown, store_unknown, scan_stands, unmerge_unknown, mergeable_unknown, run_above, zero_above, Decides-row, Decides-guest)
 
   -- what has a reason is refused
   pub refused : {c : Command} {f : Fault} → Refuses b c f → refusal b c ≡ Some f
-  refused (register_on_no_node n) = grind (arith, nat_tests, n)
-  refused (register_again n h) = grind (arith, nat_tests, n, h, Decides-row)
-  refused (drop_unknown h) = grind (arith, h, Decides-row)
-  refused (store_unknown h) = grind (arith, h, Decides-row)
-  refused (scan_stands h) = grind (arith, nat_tests, h)
-  refused (unmerge_unknown h) = grind (arith, h, Decides-guest)
-  refused (mergeable_unknown h) = grind (arith, h, Decides-guest)
-  refused (move_to_no_node n) = grind (arith, nat_tests, n)
-  refused (move_unknown n h) = grind (arith, nat_tests, n, h, Decides-row)
-  refused (move_dup_to_no_node n) = grind (arith, nat_tests, n)
-  refused (move_no_dup n h) = grind (arith, nat_tests, n, h, Decides-lives)
-  refused (move_dup_across n found by_node other) = grind (arith, nat_tests, n, found, by_node, other)
-  refused (run_above h) = grind (arith, nat_tests, h)
-  refused (pages_outside h) = grind (arith, nat_tests, h)
-  refused (across_above h) = grind (arith, nat_tests, h)
-  refused (across_shared most other shares) = grind (arith, nat_tests, most, other, shares, Decides-shared)
-  refused (limit_outside h) = grind (arith, nat_tests, h)
-  refused (limit_shared inside other shares) = grind (arith, nat_tests, inside, other, shares, Decides-shared)
-  refused (zero_above h) = grind (arith, nat_tests, h)
+  refused (register_on_no_node n) = grind (arith, nat_tests)
+  refused (register_again n h) = grind (arith, nat_tests, Decides-row)
+  refused (drop_unknown h) = grind (arith, Decides-row)
+  refused (store_unknown h) = grind (arith, Decides-row)
+  refused (scan_stands h) = grind (arith, nat_tests)
+  refused (unmerge_unknown h) = grind (arith, Decides-guest)
+  refused (mergeable_unknown h) = grind (arith, Decides-guest)
+  refused (move_to_no_node n) = grind (arith, nat_tests)
+  refused (move_unknown n h) = grind (arith, nat_tests, Decides-row)
+  refused (move_dup_to_no_node n) = grind (arith, nat_tests)
+  refused (move_no_dup n h) = grind (arith, nat_tests, Decides-lives)
+  refused (move_dup_across n found by_node other) = grind (arith, nat_tests)
+  refused (run_above h) = grind (arith, nat_tests)
+  refused (pages_outside h) = grind (arith, nat_tests)
+  refused (across_above h) = grind (arith, nat_tests)
+  refused (across_shared most other shares) = grind (arith, nat_tests, Decides-shared)
+  refused (limit_outside h) = grind (arith, nat_tests)
+  refused (limit_shared inside other shares) = grind (arith, nat_tests, Decides-shared)
+  refused (zero_above h) = grind (arith, nat_tests)
 
 abbrev StopHome : (Row → Bool) → List Row → ℕ → ℕ → Type 0
 StopHome test rows k n = MatchOption (slice_get (filter test rows) k) ⊥ (λ r. n ≡ r.home)
@@ -135,9 +135,9 @@ behind_one {test = test} r m one s =
       before = r ∷ s.before;
       row = s.row;
       behind = s.behind;
-      splits = grind (arith, s.splits);
+      splits = grind arith;
       passes = s.passes;
-      count = grind (arith, count_more test r s.before, one, s.count);
+      count = grind (arith, count_more test r s.before);
       home = s.home;
     }
 
@@ -146,7 +146,7 @@ at_or_behind : (test : Row → Bool) (r : Row) (rs : List Row) (k n : ℕ) → t
     → MatchOption (slice_get (r ∷ filter test rs) k) ⊥ (λ x. n ≡ x.home) → StopsAt test (r ∷ rs) k n
 at_or_behind test r rs zero n passes rest at =
     record { before = []; row = r; behind = rs; splits = refl; passes = passes; count = refl; home = at }
-at_or_behind test r rs (suc k) n passes rest at = behind_one r (suc k) (grind (arith, count_more, passes)) (rest k at)
+at_or_behind test r rs (suc k) n passes rest at = behind_one r (suc k) (grind (arith, count_more)) (rest k at)
 
 -- where an unmerging of the rows that pass stops, one of them stands, with so many before it
 stops : (test : Row → Bool) (rows : List Row) (k n : ℕ) → StopHome test rows k n → StopsAt test rows k n
@@ -154,7 +154,7 @@ stops test [] k n at = absurd at
 stops test (r ∷ rs) k n at =
     elim (cases_Bool (test r)) [
       | inl passes ↦ at_or_behind test r rs k n passes (λ j. stops test rs j n) (rw passes at at)
-      | inr fails ↦ behind_one r k (grind (arith, count_more, fails)) (stops test rs k n (rw fails at at))
+      | inr fails ↦ behind_one r k (grind (arith, count_more)) (stops test rs k n (rw fails at at))
     ]
 
 stands : (test : Row → Bool) (before behind : List Row) (row : Row) (n : ℕ) → test row ≡ true → n ≡ row.home
@@ -164,7 +164,7 @@ stands test (r ∷ before) behind row n passes home =
     grind (arith, count_more test r before, stands test before behind row n passes home)
 
 stopped_at : (test : Row → Bool) (rows : List Row) (k n : ℕ) → StopsAt test rows k n → StopHome test rows k n
-stopped_at test rows k n s = grind (arith, s.splits, s.count, stands test s.before s.behind s.row n s.passes s.home)
+stopped_at test rows k n s = grind (arith, stands test s.before s.behind s.row n s.passes s.home)
 
 -- the stale dups are all but those that have an item
 stale_beside : (rows : List Row) (dups : List DupRow)
@@ -176,35 +176,30 @@ stale_beside rows (d ∷ ds) =
 module _ (b : BookState) where
   copied : (page : GuestPage) (bytes : List ℕ) (n : ℕ) → frame_needed b (Store page bytes) ≡ Some n
       → Wants b (Store page bytes) n
-  copied page bytes n h = grind (arith, h, for_a_merged_page, for_a_zero_page)
+  copied page bytes n h = grind (arith, for_a_merged_page, for_a_zero_page)
 
   -- what is answered to a command that is not refused has its reason
   accepted : (c : Command) (a : Answer) → IsTaken b c → IsAccepted b c a → HasReason b c a
-  accepted (Register page node bytes) a taken h =
-      grind (arith, h, taken, replies, registered, finds_no_frame, for_a_new_page)
-  accepted (Store page bytes) a taken h = grind (arith, h, taken, replies, stored, finds_no_frame, copied)
-  accepted (Scan n) a taken h =
-      grind (arith, h, taken, replies, scanned, nothing_to_scan, scan_stopped, Decides-mergeable)
-  accepted Prune a taken h = grind (arith, h, taken, replies, pruned, stale_beside b.rows b.dups)
+  accepted (Register page node bytes) a taken h = grind (arith, replies, registered, finds_no_frame, for_a_new_page)
+  accepted (Store page bytes) a taken h = grind (arith, replies, stored, finds_no_frame, copied)
+  accepted (Scan n) a taken h = grind (arith, replies, scanned, nothing_to_scan, scan_stopped, Decides-mergeable)
+  accepted Prune a taken h = grind (arith, replies, pruned, stale_beside b.rows b.dups)
   accepted (Unmerge guest) a taken h =
       let test : Row → Bool = λ r. is_of guest r && shared_state r.state in
-      grind (arith, h, taken, replies, unmerged, unmerging_stopped, stops test b.rows, length-filter test b.rows)
-  accepted (MovePage page node) a taken h =
-      grind (arith, nat_tests, h, taken, replies, moved, finds_no_frame, elsewhere)
-  accepted (MoveDup place node) a taken h =
-      grind (arith, h, taken, replies, dup_moved, finds_no_frame, for_a_dup, finds_in_use)
+      grind (arith, replies, unmerged, unmerging_stopped, stops test b.rows, length-filter test b.rows)
+  accepted (MovePage page node) a taken h = grind (arith, nat_tests, replies, moved, finds_no_frame, elsewhere)
+  accepted (MoveDup place node) a taken h = grind (arith, replies, dup_moved, finds_no_frame, for_a_dup, finds_in_use)
   accepted (SetRun v) a taken h =
       let test : Row → Bool = λ r. shared_state r.state in
-      grind (arith, nat_tests, h, taken, replies, run_set, all_unshared, unsharing_stopped, stops test b.rows, length-filter test b.rows)
-  accepted _ a taken h =
-      grind (arith, h, taken, replies, dropped, made_mergeable, pages_set, across_set, limit_set, zero_set)
+      grind (arith, nat_tests, replies, run_set, all_unshared, unsharing_stopped, stops test b.rows, length-filter test b.rows)
+  accepted _ a taken h = grind (arith, replies, dropped, made_mergeable, pages_set, across_set, limit_set, zero_set)
 
   -- each answer has its reason
   pub has_reason : (c : Command) (a : Answer) → IsAnswer b c a → HasReason b c a
-  has_reason c a h = grind (arith, h, reason b c, refuses, accepted c a, refused)
+  has_reason c a h = grind (arith, reason b c, refuses, accepted c a, refused)
 
   wanted : {c : Command} {n : ℕ} → Wants b c n → frame_needed b c ≡ Some n
-  wanted w = grind (arith, nat_tests, w)
+  wanted w = grind (arith, nat_tests)
 
   answers : {c : Command} (a : Answer) → IsTaken b c → IsAccepted b c a → (r : Option Fault) → refusal b c ≡ r
       → IsAnswerUnless r b c a
@@ -212,15 +207,15 @@ module _ (b : BookState) where
   answers a taken h (Some fault) is = absurd (taken fault (reason b _ fault is))
 
   replied : {c : Command} {r : Reply} → Replies b c r → IsAccepted b c (Ok r)
-  replied (scanned some) = grind (arith, Decides-mergeable b, some)
-  replied (nothing_to_scan none) = grind (arith, Decides-mergeable b, none)
-  replied (scan_stopped some below) = grind (arith, Decides-mergeable b, some, below)
-  replied (pruned count) = grind (arith, stale_beside b.rows b.dups, count)
-  replied (unmerged {guest = guest} count) = grind (arith, count, length-filter (λ r. is_of guest r && shared_state r.state) b.rows)
+  replied (scanned some) = grind (arith, Decides-mergeable b)
+  replied (nothing_to_scan none) = grind (arith, Decides-mergeable b)
+  replied (scan_stopped some below) = grind (arith, Decides-mergeable b)
+  replied (pruned count) = grind (arith, stale_beside b.rows b.dups)
+  replied (unmerged {guest = guest} count) = grind (arith, length-filter (λ r. is_of guest r && shared_state r.state) b.rows)
   replied (unmerging_stopped s) = grind (arith, stopped_at _ _ _ _ s)
-  replied (run_set other) = grind (arith, nat_tests, other)
-  replied (all_unshared two count) = grind (arith, two, count, length-filter (λ (r : Row). shared_state r.state) b.rows)
-  replied (unsharing_stopped two s) = grind (arith, two, stopped_at _ _ _ _ s)
+  replied (run_set other) = grind (arith, nat_tests)
+  replied (all_unshared two count) = grind (arith, length-filter (λ (r : Row). shared_state r.state) b.rows)
+  replied (unsharing_stopped two s) = grind (arith, stopped_at _ _ _ _ s)
   replied _ = tt
 
   without_frame : (c : Command) (n : ℕ) → Wants b c n → IsAccepted b c (Err (NoFrame n))

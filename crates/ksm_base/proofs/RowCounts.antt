@@ -40,8 +40,8 @@ module _ (p : Row → Bool) where
       let after = count_more p (if of_page r then f r else r) (change_row page f rs) in
       let rest = count_change_row page f rs row (pairs_tail Before r rs rise) in
       elim (cases_Bool (of_page r)) [
-        | inl same ↦ grind (arith, same, found, before, after, change_none of_page f rs (λ k e lt. grind (arith, apart_second r.page (get_or rs k e).page page, rise 0 (suc k) e, same)))
-        | inr other ↦ grind (arith, other, found, before, after, rest)
+        | inl same ↦ grind (arith, change_none of_page f rs (λ k e lt. grind (arith, apart_second r.page (get_or rs k e).page page, rise 0 (suc k) e)))
+        | inr other ↦ grind arith
       ]
 
   -- where a page's row goes, the count is less by what that row counted
@@ -53,8 +53,8 @@ module _ (p : Row → Bool) where
       let of_page : Row → Bool = λ s. same_page s.page page in
       let rest = count_without_page page rs row (pairs_tail Before r rs rise) in
       elim (cases_Bool (of_page r)) [
-        | inl same ↦ grind (arith, same, found, count_more, filter_all (λ s. not (of_page s)) rs (λ k e lt. grind (arith, apart_second r.page (get_or rs k e).page page, rise 0 (suc k) e, same)))
-        | inr other ↦ grind (arith, other, found, count_more, rest)
+        | inl same ↦ grind (arith, count_more, filter_all (λ s. not (of_page s)) rs (λ k e lt. grind (arith, apart_second r.page (get_or rs k e).page page, rise 0 (suc k) e)))
+        | inr other ↦ grind (arith, count_more)
       ]
 
   count_filters : (q s : Row → Bool) (rows : List Row) → All (λ r. s r ≡ not (q r)) rows
@@ -71,7 +71,7 @@ module _ (p : Row → Bool) where
       let last : Row → Bool = λ r. comes_before row.page r.page in
       let none = find_none (λ r. same_page r.page row.page) rows absent in
       let both = count_filters first last rows (λ k d lt. grind (arith, none k d lt, not_both, one_before (get_or rows k d).page row.page)) in
-      grind (arith, count-append p (filter first rows) (row ∷ filter last rows), count_more p row (filter last rows), both)
+      grind (arith, count-append p (filter first rows) (row ∷ filter last rows), count_more p row (filter last rows))
 
 -- in order, each row is the one of its page
 pub each_at_page : (rows : List Row) → InPageOrder rows → All (λ r. row_at r.page rows ≡ Some r) rows

@@ -10,7 +10,7 @@ use Rattle.ksm_base.proofs.RowCounts.{count_change_row}
 
 -- a row that is not merged is an item of no dup
 pub not_an_item : (number : ℕ) (state : PageState) → merged_state state ≡ false → merged_into number state ≡ false
-not_an_item number state single = grind (arith, single)
+not_an_item number state single = grind arith
 
 -- a dup that a page joins has one item more
 pub joined_count : (rows : List Row) (row : Row) (dup : DupRow) → InPageOrder rows → row_at row.page rows ≡ Some row → merged_state row.state ≡ false → item_count (change_row row.page (λ r. record r { state = Merged dup.number }) rows) dup ≡ item_count rows dup + 1

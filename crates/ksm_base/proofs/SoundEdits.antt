@@ -54,7 +54,7 @@ waiting_map knobs f rows like alone =
     let r = get_or rows k d in
     let none = find_none (waits_for knobs r) rows (alone k d lt ((like r).state waits)) in
     find_nothing (waits_for knobs (f r)) (map f rows) (All-map (λ w. waits_for knobs (f r) w ≡ false) f rows
-    (λ j e lt_e. grind (arith, like r, like (get_or rows j e), waits, none j e lt_e))))
+    (λ j e lt_e. grind (arith, like r, like (get_or rows j e), none j e lt_e))))
 
 -- what must be true of the rows for the book to be sound with them
 pub record AreSoundRows (b : BookState) (rows : List Row) : Type 0 where
@@ -78,7 +78,7 @@ pub sound_settings : (b : BookState) (run pages_to_scan zero_pages passes : ℕ)
     → IsSound (record b { knobs = record b.knobs { run = run; pages_to_scan = pages_to_scan; use_zero_pages = zero_pages }; cursor = cursor; passes = passes })
 sound_settings b run pages_to_scan zero_pages passes cursor run_most pages_range zero_most passes_fit s =
     let set : Knobs = record b.knobs { run = run; pages_to_scan = pages_to_scan; use_zero_pages = zero_pages } in
-    let items : All (HasDup set b.dups) b.rows = λ k d lt number merged. let item = s.items k d lt number merged in (item.0, grind (arith, item.1)) in
+    let items : All (HasDup set b.dups) b.rows = λ k d lt number merged. let item = s.items k d lt number merged in (item.0, grind arith) in
     assumption
 
 -- a calmer row: of the old row's page, and private, or else with the old row's home, bytes and state
@@ -91,17 +91,17 @@ pub record IsCalmer (old new : Row) : Type 0 where
 
 -- a row that waits is not private
 pub waiting_not_private : (state : PageState) → waiting_state state ≡ true → private_state state ≡ false
-waiting_not_private state waits = grind (arith, waits)
+waiting_not_private state waits = grind arith
 
 zero_not_private : (state : PageState) → zero_state state ≡ true → private_state state ≡ false
-zero_not_private state is = grind (arith, is)
+zero_not_private state is = grind arith
 
 -- a calmer row waits only as the old row did
 pub calmer_waits : (old new : Row) → IsCalmer old new → WaitsAs old new
-calmer_waits old new c = grind (arith, c, waiting_not_private new.state)
+calmer_waits old new c = grind (arith, waiting_not_private new.state)
 
 merged_not_private : (number : ℕ) (state : PageState) → merged_into number state ≡ true → private_state state ≡ false
-merged_not_private number state merged = grind (arith, merged)
+merged_not_private number state merged = grind arith
 
 -- a sound book stays sound where rows become calmer, each with a home that there is
 pub sound_calmed : (b : BookState) (f : Row → Row) → ((r : Row) → IsCalmer r (f r)) → All (λ r. (f r).home < b.shape.nodes) b.rows → IsSound b → IsSound (record b { rows = map f b.rows })
@@ -111,17 +111,17 @@ sound_calmed b f calmer homes s =
     (record {
       rows_rise = ordered_map f b.rows (λ r. (calmer r).page) s.rows_rise;
       homes = mapped (λ r. r.home < b.shape.nodes) homes;
-      mergeable = mapped IsMergeableSo (λ k d lt taken. grind (arith, calmer (get_or b.rows k d), s.mergeable k d lt, taken));
-      zero = mapped IsZeroSo (λ k d lt is. grind (arith, calmer (get_or b.rows k d), s.zero k d lt, zero_not_private, is));
+      mergeable = mapped IsMergeableSo (λ k d lt taken. grind (arith, calmer (get_or b.rows k d), s.mergeable k d lt));
+      zero = mapped IsZeroSo (λ k d lt is. grind (arith, calmer (get_or b.rows k d), s.zero k d lt, zero_not_private));
       waiting = waiting_map b.knobs f b.rows (λ r. calmer_waits r (f r) (calmer r)) s.waiting;
       items = mapped (HasDup b.knobs b.dups)
           (λ k d lt number merged.
           let calm = calmer (get_or b.rows k d) in
-          let item = s.items k d lt number (grind (arith, calm, merged)) in
-          (item.0, grind (arith, calm, merged, item.1)));
+          let item = s.items k d lt number (grind arith) in
+          (item.0, grind arith));
       limit = λ k d lt.
           let number = (get_or b.dups k d).number in
-          omega (arith, s.limit k d lt, count_map_le (λ r. merged_into number r.state) f b.rows (λ j e lt_e merged. grind (arith, calmer (get_or b.rows j e), merged_not_private number, merged)));
+          omega (arith, s.limit k d lt, count_map_le (λ r. merged_into number r.state) f b.rows (λ j e lt_e merged. grind (arith, calmer (get_or b.rows j e), merged_not_private number)));
     })
 
 -- a sound book stays sound where rows go
@@ -150,20 +150,20 @@ sound_with_row b row is_private home s =
     (record {
       rows_rise = ordered_with row b.rows s.rows_rise;
       homes = among (λ r. r.home < b.shape.nodes) home s.homes;
-      mergeable = among IsMergeableSo (λ taken. grind (arith, is_private, taken)) s.mergeable;
-      zero = among IsZeroSo (λ is. grind (arith, is_private, is)) s.zero;
+      mergeable = among IsMergeableSo (λ taken. grind arith) s.mergeable;
+      zero = among IsZeroSo (λ is. grind arith) s.zero;
       waiting =
-          among (WaitsAlone b.knobs (with_row row b.rows)) (λ waits. grind (arith, is_private, waits))
+          among (WaitsAlone b.knobs (with_row row b.rows)) (λ waits. grind arith)
           (λ k d lt waits.
           let waits_so = waits_for b.knobs (get_or b.rows k d) in
-          find_nothing waits_so (with_row row b.rows) (all_with_row (λ w. waits_so w ≡ false) row b.rows (grind (arith, is_private)) (find_none waits_so b.rows (s.waiting k d lt waits))));
-      items = among (HasDup b.knobs b.dups) (λ number merged. absurd (grind (arith, is_private, merged))) s.items;
+          find_nothing waits_so (with_row row b.rows) (all_with_row (λ w. waits_so w ≡ false) row b.rows (grind arith) (find_none waits_so b.rows (s.waiting k d lt waits))));
+      items = among (HasDup b.knobs b.dups) (λ number merged. absurd (grind arith)) s.items;
       limit = λ k d lt.
           let p : Row → Bool = λ r. merged_into (get_or b.dups k d).number r.state in
           let first : Row → Bool = λ r. comes_before r.page row.page in
           let last : Row → Bool = λ r. comes_before row.page r.page in
           let apart = count_filters_le p first last b.rows (λ j e lt_e. not_both (get_or b.rows j e).page row.page) in
-          grind (arith, is_private, apart, count-append p (filter first b.rows) (row ∷ filter last b.rows), count_more p row (filter last b.rows), s.limit k d lt);
+          grind (arith, count-append p (filter first b.rows) (row ∷ filter last b.rows), count_more p row (filter last b.rows), s.limit k d lt);
     })
 
 -- a merged row is an item of its dup
@@ -171,7 +171,7 @@ pub item_of_dup : (knobs : Knobs) (dups : List DupRow) (row : Row) (number : ℕ
     → row.state ≡ Merged number
     → IsDupOf knobs dups row number dup → merged_into dup.number row.state ≡ true
 item_of_dup knobs dups row number dup merged h =
-    grind (arith, nat_tests, merged, h, find_passes (λ d. d.number == number) dups dup)
+    grind (arith, nat_tests, find_passes (λ d. d.number == number) dups dup)
 
 -- a dup into which a row is merged has items
 pub dup_has_items : (rows : List Row) (dup : DupRow)
@@ -185,7 +185,7 @@ sound_without_stale b s =
     let live = has_items b.rows in
     let items : All (HasDup b.knobs (filter live b.dups)) b.rows = λ k d lt number merged.
     let item = s.items k d lt number merged in
-    (item.0, grind (arith, item.1, find_filter (λ d. d.number == number) live b.dups item.0, dup_has_items b.rows item.0 k d lt, item_of_dup b.knobs b.dups (get_or b.rows k d) number item.0 merged)) in
+    (item.0, grind (arith, find_filter (λ d. d.number == number) live b.dups item.0, dup_has_items b.rows item.0 k d lt, item_of_dup b.knobs b.dups (get_or b.rows k d) number item.0 merged)) in
     assumption (
       ordered_filter live b.dups s.dups_rise,
       All-filter live (λ d. d.number < b.next) b.dups s.numbers,

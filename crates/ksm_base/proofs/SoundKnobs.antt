@@ -37,7 +37,7 @@ sound_unshared (Some fault) k b s =
 -- `set run` keeps the state sound
 pub sound_set_run : (b : BookState) (v : ℕ) (reply : Reply) → refusal b (SetRun v) ≡ None → IsSound b
     → IsSound (effect b (SetRun v) reply)
-sound_set_run b v Done accepted s = sound_run b v (grind (arith, nat_tests, accepted)) s
+sound_set_run b v Done accepted s = sound_run b v (grind (arith, nat_tests)) s
 sound_set_run b v (Unmerged k stop) accepted s = sound_unshared stop k b s
 sound_set_run b v _ accepted s = s
 
@@ -45,18 +45,18 @@ sound_set_run b v _ accepted s = s
 pub sound_set_pages : (b : BookState) (v : ℕ) (reply : Reply) → refusal b (SetPagesToScan v) ≡ None → IsSound b
     → IsSound (effect b (SetPagesToScan v) reply)
 sound_set_pages b v reply accepted s =
-    sound_settings b _ v _ _ _ s.knobs.run (grind (arith, nat_tests, accepted)) s.knobs.use_zero_pages s.passes s
+    sound_settings b _ v _ _ _ s.knobs.run (grind (arith, nat_tests)) s.knobs.use_zero_pages s.passes s
 
 -- `set use_zero_pages` keeps the state sound
 pub sound_set_zero_pages : (b : BookState) (v : ℕ) (reply : Reply) → refusal b (SetZeroPages v) ≡ None → IsSound b
     → IsSound (effect b (SetZeroPages v) reply)
 sound_set_zero_pages b v reply accepted s =
-    sound_settings b _ _ v _ _ s.knobs.run s.knobs.pages_to_scan (grind (arith, nat_tests, accepted)) s.passes s
+    sound_settings b _ _ v _ _ s.knobs.run s.knobs.pages_to_scan (grind (arith, nat_tests)) s.passes s
 
 -- where there is no dup, any knob may be set
 sound_reset : (b : BookState) (knobs : Knobs) → AreKnobs knobs → b.dups ≡ [] → NoneWaitsTwice knobs b.rows → IsSound b → IsSound (record b { knobs = knobs })
 sound_reset b knobs are_knobs empty alone s =
-    let items : All (HasDup knobs b.dups) b.rows = λ k d lt number merged. absurd (grind (arith, (s.items k d lt number merged).1.stands, empty)) in
+    let items : All (HasDup knobs b.dups) b.rows = λ k d lt number merged. absurd (grind (arith, (s.items k d lt number merged).1.stands)) in
     let trees : All (λ d. knobs.merge_across_nodes ≡ 1 → d.tree ≡ 0) b.dups = rw empty (λ k d lt. absurd (omega arith)) in
     let limit : All (λ d. item_count b.rows d ≤ knobs.max_page_sharing) b.dups = rw empty (λ k d lt. absurd (omega arith)) in
     assumption
@@ -65,7 +65,7 @@ sound_reset b knobs are_knobs empty alone s =
 pub none_shared : (b : BookState) (same : Bool) → (not same && nat_lt 0 (shared_count b.rows b.dups)) ≡ false
     → same ≡ false
     → shared_count b.rows b.dups ≡ 0
-none_shared b same accepted other = grind (arith, nat_tests, accepted, other)
+none_shared b same accepted other = grind (arith, nat_tests)
 
 -- `set merge_across_nodes` keeps the state sound
 pub sound_set_across : (b : BookState) (v : ℕ) (reply : Reply) → refusal b (SetAcross v) ≡ None → IsSound b
@@ -74,9 +74,9 @@ sound_set_across b v reply accepted s =
     let knobs : Knobs = record b.knobs { merge_across_nodes = v } in
     cond_both (v == b.knobs.merge_across_nodes) b (record (with_none_waiting (without_stale b)) { knobs = knobs }) IsSound (λ _. s)
     (λ other.
-    sound_reset (with_none_waiting (without_stale b)) knobs (grind (arith, nat_tests, s.knobs, accepted))
-    (no_dup_lives b (none_shared b (v == b.knobs.merge_across_nodes) (grind (arith, accepted)) other))
-    (All-map (WaitsAlone knobs (map settled b.rows)) settled b.rows (λ k d lt waits. grind (arith, waits)))
+    sound_reset (with_none_waiting (without_stale b)) knobs (grind (arith, nat_tests))
+    (no_dup_lives b (none_shared b (v == b.knobs.merge_across_nodes) (grind arith) other))
+    (All-map (WaitsAlone knobs (map settled b.rows)) settled b.rows (λ k d lt waits. grind arith))
     (sound_none_waiting (without_stale b) (sound_without_stale b s)))
 
 -- `set max_page_sharing` keeps the state sound
@@ -86,5 +86,5 @@ sound_set_limit b v reply accepted s =
     let knobs : Knobs = record b.knobs { max_page_sharing = v } in
     cond_both (v == b.knobs.max_page_sharing) b (record (without_stale b) { knobs = knobs }) IsSound (λ _. s)
     (λ other.
-    sound_reset (without_stale b) knobs (grind (arith, nat_tests, s.knobs, accepted))
-    (no_dup_lives b (none_shared b (v == b.knobs.max_page_sharing) (grind (arith, accepted)) other)) s.waiting (sound_without_stale b s))
+    sound_reset (without_stale b) knobs (grind (arith, nat_tests))
+    (no_dup_lives b (none_shared b (v == b.knobs.max_page_sharing) (grind arith) other)) s.waiting (sound_without_stale b s))

@@ -36,8 +36,8 @@ no_dup_has p [] rise from = λ k d lt. absurd (omega arith)
 no_dup_has p (d ∷ ds) rise from =
     elim (cases_Bool (d.place == p)) [
       | inl here ↦
-          let rest = no_dup_has (p + 1) ds (pairs_tail Lower d ds rise) (λ k e lt. grind (arith, nat_tests, here, rise 0 (suc k) e)) in
-          rw here (All-cons (λ e. (e.place == empty_from (p + 1) ds) ≡ false) d ds (grind (arith, nat_tests, here, empty_from_le (p + 1) ds)) rest)
+          let rest = no_dup_has (p + 1) ds (pairs_tail Lower d ds rise) (λ k e lt. grind (arith, nat_tests, rise 0 (suc k) e)) in
+          rw here (All-cons (λ e. (e.place == empty_from (p + 1) ds) ≡ false) d ds (grind (arith, nat_tests, empty_from_le (p + 1) ds)) rest)
       | inr there ↦
           rw there (All-cons (λ e. (e.place == p) ≡ false) d ds there (λ k e lt. grind (arith, nat_tests, from 0 d, rise 0 (suc k) e)))
     ]
@@ -49,11 +49,11 @@ free_stale : (b : BookState) (stale : DupRow) → IsSound b → find (is_stale b
     → IsFree b stale.place
 free_stale b stale s found =
     let once = find_all (is_stale b.rows) (λ d. All (λ e. (e.place == d.place) ≡ true → e ≡ d) b.dups) b.dups stale found (one_of_each_place b.dups s.dups_rise) in
-    record { apart = λ k d lt lives. grind (arith, nat_tests, find_passes (is_stale b.rows) b.dups stale found, once k d lt, lives) }
+    record { apart = λ k d lt lives. grind (arith, nat_tests, find_passes (is_stale b.rows) b.dups stale found, once k d lt) }
 
 -- the place that a new dup gets has no dup with items
 pub new_place_free : (b : BookState) → IsSound b → IsFree b (new_place (place_count b.shape) b.rows b.dups)
-new_place_free b s = grind (arith, free_empty b s, free_stale b, s)
+new_place_free b s = grind (arith, free_empty b s, free_stale b)
 
 -- the dup of an item stays among the dups when a new one comes
 pub still_stands : (b : BookState) (new dup : DupRow) (number : ℕ) → IsSound b → IsFree b new.place
@@ -64,7 +64,7 @@ still_stands b new dup number s free other found lives =
     let lower = filter (λ d. nat_lt d.place new.place) b.dups in
     let higher = filter (λ d. nat_lt new.place d.place) b.dups in
     let away = find_all p (λ d. has_items b.rows d ≡ true → (d.place == new.place) ≡ false) b.dups dup found free.apart lives in
-    grind (arith, find_over p lower higher new other, dups_parted new.place b.dups s.dups_rise, find_filter p (elsewhere new.place) b.dups dup found, away)
+    grind (arith, find_over p lower higher new other, dups_parted new.place b.dups s.dups_rise, find_filter p (elsewhere new.place) b.dups dup found)
 
 -- a new dup is the one with its number
 pub new_stands : (new : DupRow) (dups : List DupRow) → All (λ d. d.number < new.number) dups
@@ -74,7 +74,7 @@ new_stands new dups fresh =
     let lower = filter (λ d. nat_lt d.place new.place) dups in
     let higher = filter (λ d. nat_lt new.place d.place) dups in
     let none = find_nothing p lower (All-filter (λ d. nat_lt d.place new.place) (λ d. p d ≡ false) dups (λ k d lt. grind (arith, nat_tests, fresh k d lt))) in
-    grind (arith, nat_tests, find-append p lower (new ∷ higher), none)
+    grind (arith, nat_tests, find-append p lower (new ∷ higher))
 
 -- a dup's number has been given
 item_older : (b : BookState) → IsSound b → (number : ℕ) (dup : DupRow) → dup_numbered number b.dups ≡ Some dup
@@ -108,11 +108,11 @@ pub record WaitsFor (knobs : Knobs) (row w : Row) : Type 0 where
 
 -- a row that passes the test for a waiting partner is one
 pub waits_tells : (knobs : Knobs) (row w : Row) → waits_for knobs row w ≡ true → WaitsFor knobs row w
-waits_tells knobs row w passes = grind (arith, nat_tests, passes, bytes_eq-Decides w.bytes row.bytes)
+waits_tells knobs row w passes = grind (arith, nat_tests, bytes_eq-Decides w.bytes row.bytes)
 
 -- a waiting partner passes the test for one
 pub tells_waits : (knobs : Knobs) (row w : Row) → WaitsFor knobs row w → waits_for knobs row w ≡ true
-tells_waits knobs row w h = grind (arith, nat_tests, h, bytes_eq-Decides w.bytes row.bytes)
+tells_waits knobs row w h = grind (arith, nat_tests, bytes_eq-Decides w.bytes row.bytes)
 
 -- the partner of a visited row is a pair with that row
 pub partner_pairs : (b : BookState) (w row : Row) → IsSound b → IsVisited b row → partner b.knobs b.rows row ≡ Some w
@@ -156,13 +156,13 @@ sound_made b w row place pair free s =
       items = changed (HasDup b.knobs dups)
           (λ k d lt either number merged.
           let same = each_of_pair (λ r. (tree_of b.knobs row ≡ tree_of b.knobs r) × (row.bytes ≡ r.bytes)) b w row pair (sym pair.tree, sym pair.bytes) (refl, refl) k d lt either in
-          (new, grind (arith, merged, new_stands new b.dups s.numbers, same)))
+          (new, grind (arith, new_stands new b.dups s.numbers)))
           (λ k d lt _ number merged.
           let r = get_or b.rows k d in
           let item = s.items k d lt number merged in
           let other : (b.next == number) ≡ false = grind (arith, nat_tests, item_older b s number item.0 item.1.stands) in
           let lives = dup_has_items b.rows item.0 k d lt (item_of_dup b.knobs b.dups r number item.0 merged item.1) in
-          (item.0, grind (arith, item.1, still_stands b new item.0 number s free other item.1.stands lives)));
+          (item.0, grind (arith, still_stands b new item.0 number s free other item.1.stands lives)));
       dups_rise = dups_with new b.dups s.dups_rise s.numbers;
       numbers = among (λ d. d.number < b.next + 1) (omega arith) (λ k d lt. omega (arith, s.numbers k d lt));
       trees = among (λ d. b.knobs.merge_across_nodes ≡ 1 → d.tree ≡ 0) (λ across. rw across refl) s.trees;
@@ -178,6 +178,6 @@ sound_made b w row place pair free s =
           ))
           (λ k d lt.
           let p : Row → Bool = λ r. merged_into (get_or b.dups k d).number r.state in
-          let fewer = count_map_le p (λ r. if test r then f r else r) b.rows (λ j x lt_x into. grind (arith, nat_tests, s.numbers k d lt, into)) in
-          omega (arith, fewer, s.limit k d lt));
+          let fewer = count_map_le p (λ r. if test r then f r else r) b.rows (λ j x lt_x into. grind (arith, nat_tests, s.numbers k d lt)) in
+          omega (arith, s.limit k d lt));
     }

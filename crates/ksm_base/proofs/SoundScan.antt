@@ -37,12 +37,12 @@ sound_none_waiting b s = sound_calmed b settled settled_calmer s.homes s
 
 -- a sound book stays sound where its pass ends as no mergeable page comes after the cursor
 pub sound_ended_at_last : (b : BookState) → IsSound b → IsSound (pass_ended_at_last b)
-sound_ended_at_last b s = grind (arith, sound_pass_ended b s, s)
+sound_ended_at_last b s = grind (arith, sound_pass_ended b s)
 
 -- a sound book stays sound where a visit begins
 pub sound_visit_begun : (b : BookState) → IsSound b → IsSound (visit_begun b)
 sound_visit_begun b s =
-    let ended = sound_ended_at_last b s in grind (arith, sound_none_waiting (pass_ended_at_last b) ended, ended)
+    let ended = sound_ended_at_last b s in grind (arith, sound_none_waiting (pass_ended_at_last b) ended)
 
 -- the row that is visited next is a mergeable one of the book
 pub next_row_visited : (b : BookState) (row : Row) → IsSound b → next_row b.cursor b.rows ≡ Some row → IsVisited b row
@@ -65,7 +65,7 @@ module _ (b : BookState) (row : Row) (visited : IsVisited b row) (s : IsSound b)
 
   -- the book is sound after the visit of an unchanged page that joins no dup: it becomes Zero or is paired
   pub sound_stayed : IsSound (stayed b row)
-  sound_stayed = grind (arith, sound_zero b row visited, sound_paired (partner b.knobs b.rows row) refl, s)
+  sound_stayed = grind (arith, sound_zero b row visited, sound_paired (partner b.knobs b.rows row) refl)
 
   sound_handled : (dup : Option DupRow) → best_dup b.knobs b.rows b.dups row ≡ dup → IsSound (handled dup b row)
   sound_handled (Some dup) found = sound_joined b row dup visited (best_dup_has_room b row dup s found) s
@@ -73,7 +73,7 @@ module _ (b : BookState) (row : Row) (visited : IsVisited b row) (s : IsSound b)
 
   -- the book is sound after the visit of a row, whatever the visit does with it
   pub sound_row_visited : IsSound (row_visited b row)
-  sound_row_visited = grind (arith, s, sound_handled (best_dup b.knobs b.rows b.dups row) refl)
+  sound_row_visited = grind (arith, sound_handled (best_dup b.knobs b.rows b.dups row) refl)
 
 -- a sound book stays sound after a visit of the row that comes next, if there is one
 pub sound_visit_of : (b : BookState) (row : Option Row) → next_row b.cursor b.rows ≡ row → IsSound b

@@ -23,7 +23,7 @@ use Rattle.ksm_base.proofs.SoundKnobs.{sound_set_run, sound_set_pages, sound_set
 sound_effect : (b : BookState) (c : Command) (reply : Reply) → refusal b c ≡ None → IsSound b
     → IsSound (effect b c reply)
 sound_effect b (Register page node bytes) reply accepted s =
-    sound_with_row b (fresh_row page node bytes) refl (grind (arith, nat_tests, accepted)) s
+    sound_with_row b (fresh_row page node bytes) refl (grind (arith, nat_tests)) s
 sound_effect b (Drop page) reply accepted s = sound_filtered b (λ r. not (same_page r.page page)) s
 sound_effect b (Store page bytes) reply accepted s =
     sound_changed b (λ r. same_page r.page page) (stored bytes) (λ r. grind arith) (λ r home. home) s
@@ -34,8 +34,8 @@ sound_effect b (Unmerge guest) (Unmerged k stop) accepted s =
 sound_effect b (Mergeable guest) reply accepted s =
     sound_changed b (is_of guest) (λ r. record r { mergeable = true }) (λ r. grind arith) (λ r home. home) s
 sound_effect b (MovePage page node) reply accepted s =
-    let there : node < b.shape.nodes = grind (arith, nat_tests, accepted) in
-    sound_changed b (λ r. same_page r.page page) (moved node) (λ r. grind arith) (λ r home. grind (arith, there, home)) s
+    let there : node < b.shape.nodes = grind (arith, nat_tests) in
+    sound_changed b (λ r. same_page r.page page) (moved node) (λ r. grind arith) (λ r home. grind arith) s
 sound_effect b (SetRun v) reply accepted s = sound_set_run b v reply accepted s
 sound_effect b (SetPagesToScan v) reply accepted s = sound_set_pages b v reply accepted s
 sound_effect b (SetAcross v) reply accepted s = sound_set_across b v reply accepted s
@@ -45,7 +45,7 @@ sound_effect b _ reply accepted s = s
 
 -- what answers with a reply is not refused
 not_refused : (b : BookState) (c : Command) (reply : Reply) → IsAnswerOrMemory b c (Ok reply) → refusal b c ≡ None
-not_refused b c reply h = grind (arith, h)
+not_refused b c reply h = grind arith
 
 -- each step that the definition allows keeps a book sound
 pub sound_after : (b : BookState) (c : Command) (a : Answer) → IsSound b → IsAnswerOrMemory b c a
@@ -55,7 +55,7 @@ sound_after b c (Err fault) s h = s
 
 -- the opening state is sound
 pub sound_opening : (shape : Shape) → IsShape shape → IsSound (opening shape)
-sound_opening shape small = grind (arith, small)
+sound_opening shape small = grind arith
 
 -- the state is sound after each list of entries with answers that their commands may have
 pub sound_replay : (b : BookState) (entries : List Entry) → AreAnswers b entries → IsSound b

@@ -68,7 +68,7 @@ turned row state rows = change_row row.page (in_state state) rows
 fewer_items : (row : Row) (state : PageState) (rows : List Row) (d : DupRow) → merged_into d.number state ≡ false
     → item_count (turned row state rows) d ≤ item_count rows d
 fewer_items row state rows d none =
-    count_map_le (λ r. merged_into d.number r.state) (λ r. if same_page r.page row.page then in_state state r else r) rows (λ j x lt into. grind (arith, none, into))
+    count_map_le (λ r. merged_into d.number r.state) (λ r. if same_page r.page row.page then in_state state r else r) rows (λ j x lt into. grind arith)
 
 -- a sound book stays sound where a visited row gets a state that is right for it
 sound_turned : (b : BookState) (row : Row) (state : PageState) → IsVisited b row → IsZeroSo (in_state state row)
@@ -93,13 +93,13 @@ pub sound_joined : (b : BookState) (row : Row) (dup : DupRow) → IsVisited b ro
 sound_joined b row dup visited joined s =
     let test : Row → Bool = λ r. same_page r.page row.page in
     sound_turned b row (Merged dup.number) visited (λ is. cc) (waiting_changed b.knobs test (in_state (Merged dup.number)) b.rows (merged_waits dup.number) s.waiting)
-    (λ number merged. (dup, grind (arith, merged, joined)))
+    (λ number merged. (dup, grind arith))
     (λ k d lt.
     let e = get_or b.dups k d in
     elim (cases_Bool (dup.number == e.number)) [
       | inl same ↦
           let counts : item_count b.rows dup ≡ item_count b.rows e = ap (λ n. count_by (λ r. merged_into n r.state) b.rows) (eqb-true dup.number e.number same) in
-          omega (arith, count_change_le (λ r. merged_into e.number r.state) test (in_state (Merged dup.number)) b.rows, one_of_page row.page b.rows s.rows_rise, counts, joined.room)
+          omega (arith, count_change_le (λ r. merged_into e.number r.state) test (in_state (Merged dup.number)) b.rows, one_of_page row.page b.rows s.rows_rise)
       | inr other ↦ omega (arith, fewer_items row (Merged dup.number) b.rows e other, s.limit k d lt)
     ]) s
 
@@ -108,8 +108,7 @@ bytes_sym x y = grind (arith, bytes_eq-Decides x y, bytes_eq-Decides y x)
 
 -- of two rows of which one waits and isn't waited for by the other, the other isn't waited for by it
 waits_back : (knobs : Knobs) (r w : Row) (state : PageState) → waiting_state r.state ≡ true → waits_for knobs w r ≡ false → waits_for knobs r (record w { state = state }) ≡ false
-waits_back knobs r w state waits none =
-    grind (arith, nat_tests, waits, none, same_page_sym w.page r.page, bytes_sym w.bytes r.bytes)
+waits_back knobs r w state waits none = grind (arith, nat_tests, same_page_sym w.page r.page, bytes_sym w.bytes r.bytes)
 
 -- a sound book stays sound where a page waits and no other of its tree and bytes does
 pub sound_waiting : (b : BookState) (row : Row) → IsVisited b row → partner b.knobs b.rows row ≡ None → IsSound b → IsSound (record b { rows = change_row row.page (λ r. record r { state = Waiting }) b.rows })
@@ -121,7 +120,7 @@ sound_waiting b row visited alone s =
     all_changed (WaitsAlone b.knobs new) test (in_state Waiting) b.rows
     (λ k d lt same _. rw (visited.once k d lt same)
     (find_nothing (waits_for b.knobs (in_state Waiting row)) new (all_changed (λ w. waits_for b.knobs (in_state Waiting row) w ≡ false) test (in_state Waiting) b.rows
-    (λ j e lt_e same_e. grind (arith, same_e)) (λ j e lt_e _. none j e lt_e))))
+    (λ j e lt_e same_e. grind arith) (λ j e lt_e _. none j e lt_e))))
     (λ k d lt other waits.
     let r = get_or b.rows k d in
     find_nothing (waits_for b.knobs r) new (all_changed (λ w. waits_for b.knobs r w ≡ false) test (in_state Waiting) b.rows

@@ -29,8 +29,8 @@ count_numbered number (d ∷ dups) rise =
     let has : DupRow → Bool = λ e. number == e.number in
     let rest = count_numbered number dups (pairs_tail Lower d dups rise) in
     elim (cases_Bool (number == d.number)) [
-      | inl same ↦ grind (arith, count_more has d dups, same, count_none has dups (λ k e lt. grind (arith, nat_tests, same, pairs_head Lower d dups rise k e lt)))
-      | inr differ ↦ grind (arith, count_more has d dups, rest, differ)
+      | inl same ↦ grind (arith, count_more has d dups, count_none has dups (λ k e lt. grind (arith, nat_tests, pairs_head Lower d dups rise k e lt)))
+      | inr differ ↦ grind (arith, count_more has d dups)
     ]
 
 -- a row is an item of at most one dup
@@ -42,7 +42,7 @@ item_once _ dups rise = omega (arith, count_none (λ d. false) dups (λ k d lt. 
 -- a dup has an item among more rows if the first is one, or it has one among the others
 items_more : (r : Row) (rows : List Row) (d : DupRow) → has_items (r ∷ rows) d ≡ true
     → (merged_into d.number r.state || has_items rows d) ≡ true
-items_more r rows d items = grind (arith, nat_tests, count_more (λ s. merged_into d.number s.state) r rows, items)
+items_more r rows d items = grind (arith, nat_tests, count_more (λ s. merged_into d.number s.state) r rows)
 
 -- there are no more dups with items than merged rows
 pub shared-le-merged : (rows : List Row) (dups : List DupRow) → InPlaceOrder dups
@@ -51,13 +51,13 @@ shared-le-merged [] dups rise = omega (arith, count_none (has_items []) dups (λ
 shared-le-merged (r ∷ rows) dups rise =
     let wider = count_weaker (has_items (r ∷ rows)) (λ d. merged_into d.number r.state || has_items rows d) (items_more r rows) dups in
     let both = count_either_le (λ d. merged_into d.number r.state) (has_items rows) dups in
-    omega (arith, wider, both, shared-le-merged rows dups rise, item_once r.state dups rise, count_more (λ s. merged_state s.state) r rows)
+    omega (arith, shared-le-merged rows dups rise, item_once r.state dups rise, count_more (λ s. merged_state s.state) r rows)
 
 -- a row is counted once if it is mergeable, where it waits, is merged or is Zero only so
 state_once : (state : PageState) (mergeable : Bool) → (private_state state ≡ false → mergeable ≡ true)
     → (if merged_state state then 1 else 0) + (if waiting_state state then 1 else 0) + (if mergeable && private_state state then 1 else 0)
     + (if zero_state state then 1 else 0) ≡ (if mergeable then 1 else 0)
-state_once state mergeable h = grind (arith, h)
+state_once state mergeable h = grind arith
 
 -- rows by states add up to the mergeable rows, where only mergeable rows wait, are merged or are Zero
 pub states-add : (rows : List Row) → All (λ r. private_state r.state ≡ false → r.mergeable ≡ true) rows

@@ -39,7 +39,7 @@ and_then first second third f g =
     record {
       change = λ r. g.change (f.change r);
       keeps = λ r. grind (arith, g.keeps (f.change r), f.keeps r);
-      rows = grind (arith, g.rows, f.rows, map-map g.change f.change first);
+      rows = grind (arith, map-map g.change f.change first);
     }
 
 module _ (start : List Row) where
@@ -48,7 +48,7 @@ module _ (start : List Row) where
   Comes b = IsRowwise start b.rows
 
   comes_ended : (b : BookState) → Comes b → Comes (pass_ended_at_last b)
-  comes_ended b h = grind (arith, h)
+  comes_ended b h = grind arith
 
   comes_begun : (b : BookState) → Comes b → Comes (visit_begun b)
   comes_begun b h =
@@ -81,7 +81,7 @@ module _ (start : List Row) where
       grind (arith, comes_stayed b row h, comes_at b row (λ r. record r { unchanged = true; state = Private }) (λ r. grind arith) h)
 
   comes_row_visited : (b : BookState) (row : Row) → Comes b → Comes (row_visited b row)
-  comes_row_visited b row h = grind (arith, h, comes_handled (best_dup b.knobs b.rows b.dups row) b row h)
+  comes_row_visited b row h = grind (arith, comes_handled (best_dup b.knobs b.rows b.dups row) b row h)
 
   comes_visit_of : (b : BookState) (row : Option Row) → Comes b → Comes (visit_of b row)
   comes_visit_of b None h = h
@@ -112,7 +112,7 @@ rowwise_all P keeps old new h all =
 pub flags-visits : (n : ℕ) (b : BookState) → map (λ r. r.mergeable) (visits n b).rows ≡ map (λ r. r.mergeable) b.rows
 flags-visits n b =
     let h = rowwise_visits n b in
-    grind (arith, h.rows, map-map (λ (r : Row). r.mergeable) h.change b.rows, go h.change h.keeps b.rows)
+    grind (arith, map-map (λ (r : Row). r.mergeable) h.change b.rows, go h.change h.keeps b.rows)
   where
     go : (f : Row → Row) → ((r : Row) → IsSameBut r (f r)) → (rows : List Row)
         → map (λ r. (f r).mergeable) rows ≡ map (λ r. r.mergeable) rows
