@@ -48,8 +48,7 @@ all_in_front xs all n within =
 -- and the marked ones are all there are
 pub all_marked : (xs : List Item) → many xs ≡ length xs → marked xs ≡ xs
 all_marked [] all = refl
-all_marked (x ∷ xs) all =
-    grind (arith, all, all_marked xs, many-cons x xs, count_by-le-length (λ (y : Item). y.marked) xs)
+all_marked (x ∷ xs) all = grind (arith, all_marked xs, many-cons x xs, count_by-le-length (λ (y : Item). y.marked) xs)
 
 -- no more are marked of those that are kept than of all
 pub many_kept : (p : Item → Bool) (xs : List Item) → many (filter p xs) ≤ many xs
@@ -59,19 +58,19 @@ many_kept p (x ∷ xs) = grind (arith, many-cons x xs, many-cons x (filter p xs)
 -- a list that does not have a key is the same list without the key
 pub without_none : (key : ℕ) (xs : List Item) → find (is_at key) xs ≡ None → xs ≡ without key xs
 without_none key [] none = refl
-without_none key (x ∷ xs) none = grind (arith, none, without_none key xs)
+without_none key (x ∷ xs) none = grind (arith, without_none key xs)
 
 -- nor does a mark change it
 pub mark_none : (key : ℕ) (mark : Bool) (xs : List Item) → find (is_at key) xs ≡ None → xs ≡ with_mark key mark xs
 mark_none key mark [] none = refl
-mark_none key mark (x ∷ xs) none = grind (arith, none, mark_none key mark xs)
+mark_none key mark (x ∷ xs) none = grind (arith, mark_none key mark xs)
 
 -- all but the item of a key come before the key or behind it
 many_parted : (key : ℕ) (xs : List Item) → find (is_at key) xs ≡ None
     → many (filter (low key) xs) + many (filter (high key) xs) ≡ many xs
 many_parted key [] absent = refl
 many_parted key (y ∷ ys) absent =
-    grind (arith, nat_tests, absent, many_parted key ys, many-cons y ys, many-cons y (filter (low key) ys), many-cons y (filter (high key) ys))
+    grind (arith, nat_tests, many_parted key ys, many-cons y ys, many-cons y (filter (low key) ys), many-cons y (filter (high key) ys))
 
 -- an item whose key is not there counts as one more where it is marked
 pub many_with : (x : Item) (xs : List Item) → find (is_at x.key) xs ≡ None
@@ -108,7 +107,7 @@ not_low : (key : ℕ) (ys : List Item) → All (λ x. key ≤ x.key) ys → find
     → (filter (low key) ys ≡ []) × (filter (high key) ys ≡ ys)
 not_low key [] from absent = (refl, refl)
 not_low key (y ∷ ys) from absent =
-    grind (arith, nat_tests, absent, from 0 y, not_low key ys (All-tail (λ x. key ≤ x.key) y ys from))
+    grind (arith, nat_tests, from 0 y, not_low key ys (All-tail (λ x. key ≤ x.key) y ys from))
 
 behind : (key : ℕ) (ys : List Item) → AreBehind key ys
     → (find (is_at key) ys ≡ None) × (find (is_from key) ys ≡ slice_get ys 0) × (up_to key ys ≡ 0) × (filter (low key) ys ≡ []) × (filter (high key) ys ≡ ys)

@@ -26,7 +26,7 @@ byte_of false = refl
 pub removed_counted : {xs : List Item} {n : ℕ} → IsCounted xs n → (at : ℕ) {x : Item} → at < length xs
     → x ≡ get_or xs at x
     → (from_bool x.marked ≤ n) × (n - from_bool x.marked ≡ many (remove xs at))
-removed_counted {xs = xs} is at {x = x} within stood = grind (arith, sum_by-remove (λ (y : Item). cond y.marked 1 0) xs at x within, byte_of x.marked, stood, is.counted)
+removed_counted {xs = xs} is at {x = x} within stood = grind (arith, sum_by-remove (λ (y : Item). cond y.marked 1 0) xs at x within, byte_of x.marked)
 
 -- two lists in order make one in order where each item of the first comes before each of the second
 rises_append : (xs ys : List Item) → AreAscending xs → AreAscending ys
@@ -98,7 +98,7 @@ nothing_of_parts f (p ∷ ps) filled =
 -- parts that are filled have some items
 some_items : {P : Type 0} (f : P → List Item) (parts : List P) → All (Full f) parts → 0 < length parts
     → flat_map f parts ≢ []
-some_items f parts filled some none = grind (arith, nat_tests, nothing_of_parts f parts filled, none)
+some_items f parts filled some none = grind (arith, nat_tests, nothing_of_parts f parts filled)
 
 -- parts in order that are cut in two
 module _ {P : Type 0} {f : P → List Item} {parts : List P} {n : ℕ} (are : AreParts f parts) (is : IsCounted (flat_map f parts) n) (at : ℕ) where
@@ -146,10 +146,10 @@ local_without key = record { between = without_between key; rises = filter_rises
 
 -- a list with an item put in is not empty, nor is one that was none with a mark
 pub with_filled : (x : Item) (xs : List Item) → with_item x xs ≢ []
-with_filled x xs none = grind (arith, none, length-append (filter (low x.key) xs) (x ∷ filter (high x.key) xs))
+with_filled x xs none = grind (arith, length-append (filter (low x.key) xs) (x ∷ filter (high x.key) xs))
 
 pub mark_filled : (key : ℕ) (mark : Bool) (xs : List Item) → xs ≢ [] → with_mark key mark xs ≢ []
-mark_filled key mark xs some none = grind (arith, some, none, length-map xs (mark_of key mark), nil_from_length)
+mark_filled key mark xs some none = grind (arith, length-map xs (mark_of key mark), nil_from_length)
 
 -- parts in place of the one of a key, which have its items after such a change
 module _ {P : Type 0} {f : P → List Item} {key : ℕ} {parts : List P} {at : ℕ} {q : P} (are : AreParts f parts) (place : IsPartOf f key parts at) (is : q ≡ get_or parts at q) {h : List Item → List Item} (local : IsLocal key h) where
@@ -160,29 +160,29 @@ module _ {P : Type 0} {f : P → List Item} {key : ℕ} {parts : List P} {at : �
       let later = drop (at + 1) parts in
       let old = cut f parts at place.within is in
       let now : flat_map f all ≡ front f parts at ++ (flat_map f news ++ rest f parts at) = grind (arith, whole, flat_map-append) in
-      let items : flat_map f all ≡ h (flat_map f parts) = grind (arith, now, old, changed, local.between (front f parts at) (f q) (rest f parts at) place.ahead place.behind) in (
+      let items : flat_map f all ≡ h (flat_map f parts) = grind (arith, local.between (front f parts at) (f q) (rest f parts at) place.ahead place.behind) in (
         record {
           filled = rw whole (All-append (Full f) (take at parts) (news ++ later) (All-take (Full f) at parts are.filled) (All-append (Full f) news later filled (All-drop (Full f) (at + 1) parts are.filled)));
           ascending = rw items (local.rises _ are.ascending);
         },
         items,
-        grind (arith, old, now, many-append),
+        grind (arith, many-append),
       )
 
   -- one part in its place
   pub set_part : {p : P} → f p ≡ h (f q) → h (f q) ≢ []
       → AreParts f (set parts at p) × (flat_map f (set parts at p) ≡ h (flat_map f parts)) × (many (flat_map f (set parts at p)) + many (f q) ≡ many (flat_map f parts) + many (f p))
-  set_part {p = p} changed some = rw append-nil at (replaced {all = set parts at p} (p ∷ []) (All-cons (Full f) p [] (grind (arith, some, changed)) (All-nil (Full f))) (grind (arith, append-nil, changed)) (rw add-one (set_split parts at p place.within)))
+  set_part {p = p} changed some = rw append-nil at (replaced {all = set parts at p} (p ∷ []) (All-cons (Full f) p [] (grind arith) (All-nil (Full f))) (grind (arith, append-nil)) (rw add-one (set_split parts at p place.within)))
 
 -- a part that keeps its items changes nothing
 pub same_part : {P : Type 0} {f : P → List Item} {key : ℕ} {parts : List P} {at : ℕ} {q p : P} → AreParts f parts
     → IsPartOf f key parts at → q ≡ get_or parts at q → f p ≡ f q
     → AreParts f (set parts at p) × (flat_map f (set parts at p) ≡ flat_map f parts) × IsPartOf f key (set parts at p) at
 same_part {f = f} {key = key} {parts = parts} {at = at} {q = q} {p = p} are place is same =
-    let set = set_part are place is (local_none key) same (grind (arith, are.filled at q, place.within, is)) in (
+    let set = set_part are place is (local_none key) same (grind (arith, are.filled at q)) in (
       set.0,
       set.1,
-      record { within = grind (arith, place.within, length-set); ahead = grind (arith, place.ahead, take-set); behind = grind (arith, place.behind, drop-set-lt) },
+      record { within = grind (arith, length-set); ahead = grind (arith, take-set); behind = grind (arith, drop-set-lt) },
     )
 
 -- a part that is cut in two
@@ -191,22 +191,22 @@ module _ {P : Type 0} {f : P → List Item} {key : ℕ} {parts : List P} {at : �
   two = insert (set parts at p) (at + 1) m
 
   two_is : two ≡ take at parts ++ (p ∷ m ∷ drop (at + 1) parts)
-  two_is = grind (arith, take-set_at, drop-set-lt, append_assoc, place.within)
+  two_is = grind (arith, take-set_at, drop-set-lt, append_assoc)
 
   pub split : AreParts f two × (flat_map f two ≡ flat_map f parts)
   split =
-      let r = replaced are place is (local_none key) {all = two} (p ∷ m ∷ []) (All-cons (Full f) p (m ∷ []) halves.front_filled (All-cons (Full f) m [] halves.back_filled (All-nil (Full f)))) (grind (arith, halves.whole, append-nil)) two_is in
+      let r = replaced are place is (local_none key) {all = two} (p ∷ m ∷ []) (All-cons (Full f) p (m ∷ []) halves.front_filled (All-cons (Full f) m [] halves.back_filled (All-nil (Full f)))) (grind (arith, append-nil)) two_is in
       (r.0, r.1)
 
   there : (at + 1 < length two) × (m ≡ get_or two (at + 1) m)
   there =
-      grind (arith, length-insert (set parts at p) (at + 1) m, length-set parts at p, get_or-insert_at (set parts at p) (at + 1) m m, place.within)
+      grind (arith, length-insert (set parts at p) (at + 1) m, length-set parts at p, get_or-insert_at (set parts at p) (at + 1) m m)
 
   -- the key is in the first half where the second begins behind it, and else in the second
   pub into_first : begins_behind key (f m) ≡ true → IsPartOf f key two at
   into_first begins = record {
     within = omega (arith, there.0);
-    ahead = grind (arith, two_is, take_at (take at parts) (p ∷ m ∷ drop (at + 1) parts) at, length-take-le at parts, place.within, place.ahead);
+    ahead = grind (arith, two_is, take_at (take at parts) (p ∷ m ∷ drop (at + 1) parts) at, length-take-le at parts);
     behind = behind_of f two (at + 1) there.0 there.1 key split.0 begins;
   }
 
@@ -214,5 +214,5 @@ module _ {P : Type 0} {f : P → List Item} {key : ℕ} {parts : List P} {at : �
   into_second from = record {
     within = there.0;
     ahead = ahead_of f two (at + 1) there.0 there.1 key split.0 from;
-    behind = grind (arith, two_is, drop_at (take at parts ++ (p ∷ m ∷ [])) (drop (at + 1) parts) (at + 1 + 1), length-take-le at parts, length-append, append_assoc, place.within, place.behind);
+    behind = grind (arith, two_is, drop_at (take at parts ++ (p ∷ m ∷ [])) (drop (at + 1) parts) (at + 1 + 1), length-take-le at parts, length-append, append_assoc);
   }

@@ -38,13 +38,13 @@ before_part : (key : ℕ) (front run rest : List Item) → run ≢ [] → AreAsc
     → begins_behind key run ≡ false → AreBefore key front
 before_part key front [] rest filled rise from = absurd (filled refl)
 before_part key front (x ∷ run) rest filled rise from =
-    λ k d lt. grind (arith, nat_tests, from, (halves_rise front (x ∷ (run ++ rest)) rise).2 k 0 d)
+    λ k d lt. grind (arith, nat_tests, (halves_rise front (x ∷ (run ++ rest)) rise).2 k 0 d)
 
 -- and a part that begins behind it and all that follow come behind it
 behind_part : (key : ℕ) (run rest : List Item) → AreAscending (run ++ rest) → begins_behind key run ≡ true
     → AreBehind key (run ++ rest)
-behind_part key [] rest rise begins = grind (arith, begins)
-behind_part key (x ∷ run) rest rise begins = λ k d lt. grind (arith, nat_tests, begins, rise 0 k d)
+behind_part key [] rest rise begins = grind arith
+behind_part key (x ∷ run) rest rise begins = λ k d lt. grind (arith, nat_tests, rise 0 k d)
 
 -- the items in front of a part, and those behind it
 abbrev pub front : {P : Type 0} → (P → List Item) → List P → ℕ → List Item
@@ -59,7 +59,7 @@ pub behind_later : {P : Type 0} (f : P → List Item) (key : ℕ) (parts : List 
 behind_later f key [] zero behind = behind
 behind_later f key (p ∷ ps) zero behind =
     λ k d lt. grind (arith, get_or-append-add (f p) (flat_map f ps) k d, behind (length (f p) + k) d, length-append (f p) (flat_map f ps))
-behind_later f key parts (suc low) behind = grind (arith, behind)
+behind_later f key parts (suc low) behind = grind arith
 
 -- the first of two lists in a row is that of the first, if it has one
 first_of : (xs ys : List Item) → xs ≢ [] → slice_get (xs ++ ys) 0 ≡ slice_get xs 0
@@ -80,7 +80,7 @@ module _ {P : Type 0} (f : P → List Item) (parts : List P) (at : ℕ) {q : P} 
 
   -- all items from a part on are its own and those behind, and all are those and the ones in front
   pub from_cut : flat_map f (drop at parts) ≡ f q ++ later
-  from_cut = grind (arith, drop_more parts at q, is)
+  from_cut = grind (arith, drop_more parts at q)
 
   pub cut : flat_map f parts ≡ ahead ++ (f q ++ later)
   cut = grind (arith, ap (flat_map f) (take-append-drop at parts), flat_map-append, from_cut)
@@ -94,13 +94,12 @@ module _ {P : Type 0} (f : P → List Item) (parts : List P) (at : ℕ) {q : P} 
   module _ (key : ℕ) (are : AreParts f parts) where
     -- all in front of a part that does not begin behind a key come before the key
     pub ahead_of : begins_behind key (f q) ≡ false → AreBefore key ahead
-    ahead_of =
-        before_part key ahead (f q) later (grind (arith, are.filled at q, is)) (grind (arith, are.ascending, cut))
+    ahead_of = before_part key ahead (f q) later (grind (arith, are.filled at q)) (grind (arith, cut))
 
     -- a part that begins behind a key and all that follow come behind the key
     pub behind_of : begins_behind key (f q) ≡ true → AreBehind key (flat_map f (drop at parts))
     behind_of begins =
-        rw from_cut (behind_part key (f q) later (halves_rise ahead (f q ++ later) (grind (arith, are.ascending, cut))).1 begins)
+        rw from_cut (behind_part key (f q) later (halves_rise ahead (f q ++ later) (grind (arith, cut))).1 begins)
 
 -- a part of the key: what is found there, and counted, is found and counted in all
 module _ {P : Type 0} {f : P → List Item} {key : ℕ} {parts : List P} {at : ℕ} {q : P} (place : IsPartOf f key parts at) (is : q ≡ get_or parts at q) where
@@ -118,7 +117,7 @@ module _ {P : Type 0} {f : P → List Item} {key : ℕ} {parts : List P} {at : �
 
   -- the first item that does not come before the key is in its part, or the first behind it
   pub from_in_part : find (is_from key) (flat_map f parts) ≡ option_or (find (is_from key) (f q)) (slice_get (rest f parts at) 0)
-  from_in_part = grind (arith, cut f parts at place.within is, from_between, place.ahead, place.behind)
+  from_in_part = grind (arith, cut f parts at place.within is, from_between)
 
   -- which is the first in the next part
   pub from_in_next : {p : P} → AreParts f parts → at + 1 < length parts → p ≡ get_or parts (at + 1) p
@@ -128,4 +127,4 @@ module _ {P : Type 0} {f : P → List Item} {key : ℕ} {parts : List P} {at : �
       let later = rest f parts (at + 1) in
       let whole = from_cut f parts (at + 1) next there in
       let after : AreBehind key (run ++ later) = rw whole at place.behind in
-      grind (arith, whole, first_of run later, are.filled (at + 1) p, there, from_first key run (λ k c lt. grind (arith, after k c, length-append run later, get_or_append_left run later c k)))
+      grind (arith, first_of run later, are.filled (at + 1) p, from_first key run (λ k c lt. grind (arith, after k c, length-append run later, get_or_append_left run later c k)))

@@ -7,9 +7,9 @@ use Rattle.ksm_order.proofs.leaf.nth.Goals as goal
 pub returns-in-Some : goal.returns-in-Some
 returns-in-Some c =
     let walked = nth_from_yields_List _ _ _ c.nth.ensures.ran (YieldsList-from_filter _ (λ (x : Item). x.marked) (YieldsList-from_slice c.args.items.now cc) c.filter.ensures.closure (λ x r q k. search (rules, tests))) in
-    grind (arith, walked, c.in-Some.is)
+    grind arith
 
 pub returns-in-None : goal.returns-in-None
 returns-in-None c =
     let walked = nth_from_yields_List _ _ _ c.nth.ensures.ran (YieldsList-from_filter _ (λ (x : Item). x.marked) (YieldsList-from_slice c.args.items.now cc) c.filter.ensures.closure (λ x r q k. search (rules, tests))) in
-    grind (arith, walked, c.in-None.is)
+    grind arith

@@ -7,8 +7,8 @@ returns c =
     let i = c.loop-low.invariant in
     record {
       within = omega arith;
-      ahead = λ k d lt. grind (arith, get_or-take, i.ahead, length-take-le);
-      behind = λ k d lt. grind (arith, get_or-drop, i.behind, length-drop);
+      ahead = λ k d lt. grind (arith, get_or-take, length-take-le);
+      behind = λ k d lt. grind (arith, get_or-drop, length-drop);
     }
 
 pub loop-low-preserved-then-items-mid : goal.loop-low-preserved-then-items-mid
@@ -17,7 +17,7 @@ loop-low-preserved-then-items-mid c =
     record {
       ordered = omega arith;
       within = i.within;
-      ahead = λ k d lt. grind (arith, c.requires k, c.if-items-mid.true, get_or_default);
+      ahead = λ k d lt. grind (arith, c.requires k, get_or_default);
       behind = i.behind;
     }
 
@@ -28,5 +28,5 @@ loop-low-preserved c =
       ordered = omega arith;
       within = omega arith;
       ahead = i.ahead;
-      behind = λ k d le lt. grind (arith, c.requires (c.loop-low.low + (c.loop-low.high - c.loop-low.low) / 2) k d, c.if-items-mid.false, get_or_default);
+      behind = λ k d le lt. grind (arith, c.requires (c.loop-low.low + (c.loop-low.high - c.loop-low.low) / 2) k d, get_or_default);
     }

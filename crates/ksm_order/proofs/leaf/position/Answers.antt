@@ -14,10 +14,10 @@ returns-then-items-at-clause-here c =
     record {
       within = omega arith;
       ahead = at.ahead;
-      is = λ d. grind (arith, at.within, get_or_default, c.if-items-at.true);
+      is = λ d. grind (arith, get_or_default);
     }
 
 pub returns-else-items-at-clause-missing : goal.returns-else-items-at-clause-missing
 returns-else-items-at-clause-missing c =
     let at = c.place_of-at.ensures in
-    find_next c.args.key c.args.items.now _ c.requires at.ahead at.behind (λ d lt is. grind (arith, get_or_default, c.if-items-at.false))
+    find_next c.args.key c.args.items.now _ c.requires at.ahead at.behind (λ d lt is. grind (arith, get_or_default))

@@ -4,13 +4,11 @@ use Rattle.ksm_order.proofs.Parts.{from_in_next, from_in_part}
 use Rattle.ksm_order.proofs.node.first_from_in.Goals as goal
 
 pub returns-in-Some : goal.returns-in-Some
-returns-in-Some g c =
-    grind (arith, from_in_part c.part_of-at.ensures c.index-parts-at.is, c.first_from.ensures, c.in-Some.is)
+returns-in-Some g c = grind (arith, from_in_part c.part_of-at.ensures c.index-parts-at.is)
 
 pub returns-in-None : goal.returns-in-None
 returns-in-None g c =
-    grind (arith, from_in_part c.part_of-at.ensures c.index-parts-at.is, c.first_from.ensures, c.in-None.is, from_in_next c.part_of-at.ensures c.index-parts-at.is c.requires c.if-at-parts.true c.index-parts-at-in-None.is, c.first_from-in-None.ensures)
+    grind (arith, from_in_part c.part_of-at.ensures c.index-parts-at.is, from_in_next c.part_of-at.ensures c.index-parts-at.is c.requires c.if-at-parts.true c.index-parts-at-in-None.is)
 
 pub returns-in-None-2 : goal.returns-in-None-2
-returns-in-None-2 g c =
-    grind (arith, from_in_part c.part_of-at.ensures c.index-parts-at.is, c.first_from.ensures, c.in-None.is, drop_all, c.if-at-parts.false)
+returns-in-None-2 g c = grind (arith, from_in_part c.part_of-at.ensures c.index-parts-at.is, drop_all)

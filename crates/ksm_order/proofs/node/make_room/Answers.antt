@@ -14,13 +14,13 @@ pub returns-in_err-more : goal.returns-in_err-more
 returns-in_err-more g c =
     let s = (goal.at.returns-in_err-more g c).After-spill in
     let kept = same_part (are g s) (place g s) c.index_mut.ensures.value c.in_err-more.ensures.failed in
-    record { parts = kept.0; items = grind (arith, kept.1, c.in_ok-reserve.ensures.items); place = grind arith }
+    record { parts = kept.0; items = grind (arith, c.in_ok-reserve.ensures.items); place = grind arith }
 
 pub returns-in-None : goal.returns-in-None
 returns-in-None g c =
     let s = (goal.at.returns-in-None g c).After-spill in
     let kept = same_part (are g s) (place g s) c.index_mut.ensures.value (rw c.in-None.is at c.in_ok-more.ensures.kept) in
-    record { parts = kept.0; items = grind (arith, kept.1, c.in_ok-reserve.ensures.items); place = kept.2 }
+    record { parts = kept.0; items = grind (arith, c.in_ok-reserve.ensures.items); place = kept.2 }
 
 pub returns-then-behind : goal.returns-then-behind
 returns-then-behind g c =
@@ -29,7 +29,7 @@ returns-then-behind g c =
     let both = split (are g s) (place g s) c.index_mut.ensures.value cut in
     record {
       parts = rw c.in_ok-insert.ensures.items both.0;
-      items = grind (arith, c.in_ok-insert.ensures.items, both.1, c.in_ok-reserve.ensures.items);
+      items = grind (arith, c.in_ok-insert.ensures.items, c.in_ok-reserve.ensures.items);
       place = rw c.in_ok-insert.ensures.items (into_first (are g s) (place g s) c.index_mut.ensures.value cut (sym c.begins_behind-behind.ensures ∙ c.if-behind.true));
     }
 
@@ -40,6 +40,6 @@ returns-else-behind g c =
     let both = split (are g s) (place g s) c.index_mut.ensures.value cut in
     record {
       parts = rw c.in_ok-insert.ensures.items both.0;
-      items = grind (arith, c.in_ok-insert.ensures.items, both.1, c.in_ok-reserve.ensures.items);
+      items = grind (arith, c.in_ok-insert.ensures.items, c.in_ok-reserve.ensures.items);
       place = rw c.in_ok-insert.ensures.items (into_second (are g s) (place g s) c.index_mut.ensures.value cut (sym c.begins_behind-behind.ensures ∙ c.if-behind.false));
     }

@@ -20,7 +20,7 @@ loop-low-preserved g c =
     record {
       ordered = omega arith;
       within = omega arith;
-      ahead = grind (arith, ahead);
+      ahead = grind arith;
       behind = i.behind;
     }
 
@@ -29,8 +29,8 @@ returns g c =
     let i = c.loop-low.invariant in
     record {
       within = omega arith;
-      ahead = grind (arith, i.ahead);
-      behind = rw c.saturating_sub.ensures (behind_later g.P.Part.items c.args.key c.args.parts.now c.loop-low.low (grind (arith, i.behind)));
+      ahead = grind arith;
+      behind = rw c.saturating_sub.ensures (behind_later g.P.Part.items c.args.key c.args.parts.now c.loop-low.low (grind arith));
     }
 
 pub returns-then-not-begins_behind : goal.returns-then-not-begins_behind

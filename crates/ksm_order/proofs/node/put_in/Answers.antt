@@ -4,13 +4,12 @@ use Rattle.ksm_order.proofs.Changes.{local_with, same_part, set_part, with_fille
 use Rattle.ksm_order.proofs.node.put_in.Goals as goal
 
 pub insert-requires : goal.insert-requires
-insert-requires g c =
-    record { absent = grind (arith, find_in_part c.requires.place c.index_mut.ensures.value, c.requires.absent) }
+insert-requires g c = record { absent = grind (arith, find_in_part c.requires.place c.index_mut.ensures.value) }
 
 pub returns-in_err-insert : goal.returns-in_err-insert
 returns-in_err-insert g c =
     let kept = same_part c.requires.parts c.requires.place c.index_mut.ensures.value c.in_err-insert.ensures.kept in
-    record { parts = kept.0; added = grind arith; kept = grind (arith, kept.1) }
+    record { parts = kept.0; added = grind arith; kept = grind arith }
 
 pub returns : goal.returns
 returns g c =

@@ -5,9 +5,7 @@ use Rattle.ksm_order.proofs.Between.{many_kept}
 use Rattle.ksm_order.proofs.node.remove_from.Goals as goal
 
 pub overflow_sub-result : goal.overflow_sub-result
-overflow_sub-result g c =
-    grind (arith, c.count-before.ensures, c.count.ensures, c.remove.ensures, many_kept (λ y. not (is_at c.args.key y)) (g.P.Part.items c.args.part.now))
+overflow_sub-result g c = grind (arith, many_kept (λ y. not (is_at c.args.key y)) (g.P.Part.items c.args.part.now))
 
 pub returns : goal.returns
-returns g c =
-    grind (arith, c.count-before.ensures, c.count.ensures, c.remove.ensures, many_kept (λ y. not (is_at c.args.key y)) (g.P.Part.items c.args.part.now))
+returns g c = grind (arith, many_kept (λ y. not (is_at c.args.key y)) (g.P.Part.items c.args.part.now))

@@ -13,13 +13,13 @@ pub returns-then-not-is_empty : goal.returns-then-not-is_empty
 returns-then-not-is_empty g c =
     let at = place g (goal.at.returns-then-not-is_empty g c).After-remove_from-fewer in
     let removed = c.remove_from-fewer.ensures.removed in
-    let rest = set_part c.requires at c.index_mut.ensures.value (local_without c.args.key) removed (grind (arith, removed, c.index.ensures, get_or-set_same, c.is_empty-2.ensures, c.if-not-is_empty.true, at.within)) in
-    record { parts = rest.0; removed = rest.1; fewer = omega (arith, rest.2, c.remove_from-fewer.ensures.fewer) }
+    let rest = set_part c.requires at c.index_mut.ensures.value (local_without c.args.key) removed (grind (arith, get_or-set_same)) in
+    record { parts = rest.0; removed = rest.1; fewer = omega arith }
 
 pub returns : goal.returns
 returns g c =
     let f = g.P.Part.items in
     let at = place g (goal.at.returns g c).After-remove_from-fewer in
-    let none = nothing_is (f c.remove_from-fewer.new.part) (grind (arith, c.index.ensures, get_or-set_same, c.is_empty-2.ensures, c.if-not-is_empty.false, at.within)) in
-    let rest = replaced c.requires at c.index_mut.ensures.value (local_without c.args.key) {all = c.remove.new.self.items} [] (λ k d lt. absurd (omega arith)) (sym none ∙ c.remove_from-fewer.ensures.removed) (grind (arith, c.remove.ensures.items, take-set, drop-set-lt)) in
-    record { parts = rest.0; removed = rest.1; fewer = grind (arith, rest.2, c.remove_from-fewer.ensures.fewer, none) }
+    let none = nothing_is (f c.remove_from-fewer.new.part) (grind (arith, get_or-set_same)) in
+    let rest = replaced c.requires at c.index_mut.ensures.value (local_without c.args.key) {all = c.remove.new.self.items} [] (λ k d lt. absurd (omega arith)) (sym none ∙ c.remove_from-fewer.ensures.removed) (grind (arith, take-set, drop-set-lt)) in
+    record { parts = rest.0; removed = rest.1; fewer = grind arith }

@@ -8,7 +8,7 @@ count_marked-requires g c = omega (arith, many_front g.P.Part.items c.args.parts
 
 pub overflow_add-result : goal.overflow_add-result
 overflow_add-result g c =
-    omega (arith, c.count_marked.ensures, up_to_in_part c.part_of-at.ensures c.index-parts-at.is, up_to_few c.args.key (flat_map g.P.Part.items c.args.parts.now))
+    omega (arith, up_to_in_part c.part_of-at.ensures c.index-parts-at.is, up_to_few c.args.key (flat_map g.P.Part.items c.args.parts.now))
 
 pub returns : goal.returns
-returns g c = omega (arith, c.count_marked.ensures, up_to_in_part c.part_of-at.ensures c.index-parts-at.is)
+returns g c = omega (arith, up_to_in_part c.part_of-at.ensures c.index-parts-at.is)

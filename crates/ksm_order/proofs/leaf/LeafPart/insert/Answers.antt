@@ -8,13 +8,13 @@ use Rattle.ksm_order.proofs.leaf.LeafPart.insert.Goals as goal
 added : (c : goal.After-self-1) → c.insert.new.self.items ≡ with_item c.args.item c.self.inside.items.items
 added c =
     let at = rw c.as_slice.ensures.value at c.place_of-at.ensures in
-    grind (arith, c.in_ok-insert.ensures.items, insert_here c.args.item c.self.inside.items.items c.place_of-at.result at.ahead at.behind, c.self.view_is, c.requires.absent)
+    grind (arith, c.in_ok-insert.ensures.items, insert_here c.args.item c.self.inside.items.items c.place_of-at.result at.ahead at.behind)
 
 pub invariant_of-self-2 : goal.invariant_of-self-2
 invariant_of-self-2 c =
     record {
       ascending = rw (added c) (with_rises c.args.item _ c.self.invariant.ascending);
-      counted = grind (arith, added c, many_with c.args.item c.self.inside.items.items, c.self.view_is, c.requires.absent, c.self.invariant.counted, c.from.ensures, byte_of);
+      counted = grind (arith, added c, many_with c.args.item c.self.inside.items.items, byte_of);
     }
 
 pub returns-clause-added : goal.returns-clause-added

@@ -8,9 +8,9 @@ use Rattle.ksm_order.proofs.leaf.LeafPart.nth.Goals as goal
 pub returns-then-place-items : goal.returns-then-place-items
 returns-then-place-items c =
     let xs = c.self.inside.items.items in
-    rw (← c.self.view_is) (grind (arith, c.as_slice-items.ensures.value, slice_get-get_or, all_marked xs, c.self.invariant.counted, count_by-le-length (λ (x : Item). x.marked) xs))
+    rw (← c.self.view_is) (grind (arith, slice_get-get_or, all_marked xs, count_by-le-length (λ (x : Item). x.marked) xs))
 
 pub returns-else-place-items : goal.returns-else-place-items
 returns-else-place-items c =
     let xs = c.self.inside.items.items in
-    rw (← c.self.view_is) (grind (arith, c.as_slice-items.ensures.value, slice_get_past, all_marked xs, c.self.invariant.counted, count_by-le-length (λ (x : Item). x.marked) xs))
+    rw (← c.self.view_is) (grind (arith, slice_get_past, all_marked xs, count_by-le-length (λ (x : Item). x.marked) xs))

@@ -23,7 +23,7 @@ invariant_of-self c =
     let r = (goal.at.invariant_of-self c).After-remove-gone in
     record {
       ascending = rw (gone r) (filter_rises _ _ c.self.invariant.ascending);
-      counted = grind (arith, c.from.ensures, removed_counted c.self.invariant c.in-Some.at (here r).within c.remove-gone.ensures.value, c.remove-gone.ensures.items);
+      counted = grind (arith, removed_counted c.self.invariant c.in-Some.at (here r).within c.remove-gone.ensures.value);
     }
 
 pub returns-in-Some : goal.returns-in-Some

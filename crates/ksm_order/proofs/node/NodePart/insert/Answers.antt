@@ -9,6 +9,6 @@ invariant_of-self-2 g c = (
   c.put.ensures.parts,
   record {
     ascending = c.put.ensures.parts.ascending;
-    counted = grind (arith, c.in_ok-put.ensures.added, many_with c.args.item (flat_map g.P.Part.items c.self.inside.parts.items), c.self.view_is, c.requires.absent, c.self.invariant.1.counted, c.from.ensures, byte_of, c.checked_add.ensures, c.in-Some.is);
+    counted = grind (arith, c.in_ok-put.ensures.added, many_with c.args.item (flat_map g.P.Part.items c.self.inside.parts.items), byte_of);
   },
 )

@@ -3,5 +3,4 @@ use Rattle.ksm_order.proofs.Changes.{nothing_of_parts}
 use Rattle.ksm_order.proofs.node.NodePart.is_empty.Goals as goal
 
 pub returns : goal.returns
-returns g c =
-    grind (arith, c.is_empty.ensures, c.self.inside.parts.ok.0, nothing_of_parts, c.self.invariant.0.filled, c.self.view_is)
+returns g c = grind (arith, nothing_of_parts)
