@@ -1,10 +1,10 @@
 -- The order of rows and of dups is kept by each edit.
-use Rattle.std.proofs.Common.{◌≡◌, ℕ, suc, ◌<◌, ◌≤◌, Bool, true, false, List, [], ◌∷◌, ◌++◌, get_or, map, Some, inl, inr, refl, ap, ◌∙◌, arith}
+use Rattle.std.proofs.Common.{length, ◌+◌, ◌≡◌, ℕ, suc, ◌<◌, ◌≤◌, Bool, true, false, List, [], ◌∷◌, ◌++◌, get_or, map, Some, inl, inr, refl, arith}
 use Rattle.std.specs.Prelude.{◌==◌, nat_lt, All, AllPairs, filter, count_by, not, if◌then◌else◌}
-use Rattle.std.proofs.lemmas.Bool.{cases_Bool, cases_lt, cases_order, both_ways, cond_both, le-ltb, ltb-true, eq-eqb, ne_eqb}
+use Rattle.std.proofs.lemmas.Bool.{cases_Bool, cases_lt}
 use Rattle.std.proofs.lemmas.Bool.Decides.{nat_tests}
-use Rattle.std.proofs.lemmas.List.{get_or_default}
-use Rattle.std.proofs.lemmas.List.Elements.{All-head, All-tail, All-map, All-append, All-weaker, All-cons, All-filter, filter_passes}
+use Rattle.std.proofs.lemmas.List.{get_or-append-add, get_or-map, get_or_append_left, get_or_default, length-append, length-map}
+use Rattle.std.proofs.lemmas.List.Elements.{All-head, All-tail, All-append, All-weaker, All-cons, All-filter, filter_passes}
 use Rattle.std.proofs.lemmas.List.Kept.{AllPairs-cons, AllPairs-filter}
 use Rattle.ksm_base.specs.declared.page.GuestPage.{GuestPage}
 use Rattle.ksm_base.specs.declared.row.Row.{Row}
@@ -22,7 +22,8 @@ pub pairs_tail : {X : Type 0} (R : X → X → Type 0) (x : X) (xs : List X) →
 pairs_tail R x xs pairs i j d lt in_range = pairs (suc i) (suc j) d (omega arith) (omega arith)
 
 -- two lists in order make one in order where each element of the first comes before each of the second
-pub pairs_append : {X : Type 0} (R : X → X → Type 0) (xs ys : List X) → AllPairs R xs → AllPairs R ys → All (λ x. All (R x) ys) xs
+pub pairs_append : {X : Type 0} (R : X → X → Type 0) (xs ys : List X) → AllPairs R xs → AllPairs R ys
+    → All (λ x. All (R x) ys) xs
     → AllPairs R (xs ++ ys)
 pairs_append R [] ys first second cross = second
 pairs_append R (x ∷ xs) ys first second cross =
@@ -30,45 +31,39 @@ pairs_append R (x ∷ xs) ys first second cross =
     (pairs_append R xs ys (pairs_tail R x xs first) second (All-tail (λ y. All (R y) ys) x xs cross))
 
 -- an element put between those of a list in order that come before it and those that come behind it leaves a list in order
-pub pairs_with : {X : Type 0} (R : X → X → Type 0) (p q : X → Bool) (x : X) (xs : List X) → AllPairs R xs → All (λ y. R y x) (filter p xs)
+pub pairs_with : {X : Type 0} (R : X → X → Type 0) (p q : X → Bool) (x : X) (xs : List X) → AllPairs R xs
+    → All (λ y. R y x) (filter p xs)
     → All (R x) (filter q xs) → All (λ y. All (R y) (filter q xs)) (filter p xs) → AllPairs R (filter p xs ++ x ∷ filter q xs)
 pairs_with R p q x xs rise ahead behind cross =
     pairs_append R (filter p xs) (x ∷ filter q xs) (AllPairs-filter R p xs rise) (AllPairs-cons R x (filter q xs) behind (AllPairs-filter R q xs rise))
     (λ k d lt. All-cons (R (get_or (filter p xs) k d)) x (filter q xs) (ahead k d lt) (cross k d lt))
 
-all_right : {X : Type 0} (P : X → Type 0) (xs ys : List X) → All P (xs ++ ys) → All P ys
-all_right P [] ys h = h
-all_right P (x ∷ xs) ys h = all_right P xs ys (All-tail P x (xs ++ ys) h)
-
 -- where all pairs of two lists in a row are related, each of the first is related to each of the second
-pub pairs_cross : {X : Type 0} (R : X → X → Type 0) (xs ys : List X) → AllPairs R (xs ++ ys) → All (λ x. All (R x) ys) xs
-pairs_cross R [] ys h = λ k d lt. absurd (omega arith)
-pairs_cross R (x ∷ xs) ys h = All-cons (λ y. All (R y) ys) x xs (all_right (R x) xs ys (pairs_head R x (xs ++ ys) h)) (pairs_cross R xs ys (pairs_tail R x (xs ++ ys) h))
+pub pairs_cross : {X : Type 0} (R : X → X → Type 0) (xs ys : List X) → AllPairs R (xs ++ ys)
+    → All (λ x. All (R x) ys) xs
+pairs_cross R xs ys h i d lt j e le =
+    grind (arith, h i (length xs + j) d, get_or_append_left xs ys d i, get_or-append-add xs ys j d, get_or_default ys j e d, length-append xs ys)
 
 -- a filter that no element passes leaves nothing
 pub filter_none : {X : Type 0} (p : X → Bool) (xs : List X) → All (λ x. p x ≡ false) xs → filter p xs ≡ []
 filter_none p [] none = refl
-filter_none p (x ∷ xs) none =
-    let here = All-head (λ y. p y ≡ false) x xs none in
-    let rest = filter_none p xs (All-tail (λ y. p y ≡ false) x xs none) in
-    grind (arith, here, rest)
+filter_none p (x ∷ xs) none = grind (arith, none 0 x, filter_none p xs (All-tail (λ y. p y ≡ false) x xs none))
 
 abbrev Before : Row → Row → Type 0
 Before r s = comes_before r.page s.page ≡ true
 
 -- a change that keeps the page of each row keeps the order
-pub ordered_map : (f : Row → Row) (rows : List Row) → ((r : Row) → (f r).page ≡ r.page) → InPageOrder rows → InPageOrder (map f rows)
-ordered_map f [] keeps rise = λ i j d lt in_range. absurd (omega arith)
-ordered_map f (r ∷ rs) keeps rise =
-    AllPairs-cons Before (f r) (map f rs)
-    (All-map (λ s. Before (f r) s) f rs (λ k d lt. rw (keeps r, keeps (get_or rs k d)) (rise 0 (suc k) d (omega arith) (omega arith))))
-    (ordered_map f rs keeps (pairs_tail Before r rs rise))
+pub ordered_map : (f : Row → Row) (rows : List Row) → ((r : Row) → (f r).page ≡ r.page) → InPageOrder rows
+    → InPageOrder (map f rows)
+ordered_map f rows keeps rise i j d lt in_range =
+    grind (arith, rise i j d, get_or-map f rows i d d, get_or-map f rows j d d, length-map rows f)
 
 -- rows stay in the order of their pages where a change keeps each row's page
-pub ordered_change : (test : Row → Bool) (f : Row → Row) (rows : List Row) → ((r : Row) → (f r).page ≡ r.page) → InPageOrder rows
+pub ordered_change : (test : Row → Bool) (f : Row → Row) (rows : List Row) → ((r : Row) → (f r).page ≡ r.page)
+    → InPageOrder rows
     → InPageOrder (change_rows test f rows)
 ordered_change test f rows keeps rise =
-    ordered_map (λ r. if test r then f r else r) rows (λ r. cond_both (test r) (f r) r (λ x. x.page ≡ r.page) (λ _. keeps r) (λ _. refl)) rise
+    ordered_map (λ r. if test r then f r else r) rows (λ r. grind (arith, keeps r)) rise
 
 -- rows stay in order where a page's row goes
 pub ordered_without : (page : GuestPage) (rows : List Row) → InPageOrder rows → InPageOrder (without_page page rows)
@@ -85,35 +80,28 @@ ordered_with row rows rise =
     All-weaker (Before row) (Before x) (λ s later. before_trans x.page row.page s.page (filter_passes first rows k d lt) later) (filter last rows) behind)
 
 -- where none of two in order is the same as the other, those that are the same are one
-pub one_of_each : {X : Type 0} (R : X → X → Type 0) (same : X → X → Bool) (xs : List X) → ((x y : X) → R x y → same x y ≡ false)
+pub one_of_each : {X : Type 0} (R : X → X → Type 0) (same : X → X → Bool) (xs : List X)
+    → ((x y : X) → R x y → same x y ≡ false)
     → ((x y : X) → R x y → same y x ≡ false) → AllPairs R xs → All (λ x. All (λ y. same y x ≡ true → y ≡ x) xs) xs
 one_of_each R same xs first last rise k d lt j e lt_e is_same =
-    let x = get_or xs k d in
-    let y = get_or xs j d in
-    let is : get_or xs j e ≡ y = get_or_default xs j e d lt_e in
-    let is_same_x : same y x ≡ true = rw (← is) is_same in
-    elim (cases_order j k) [
-      | inl at ↦ is ∙ ap (λ n. get_or xs n d) at
-      | inr (inl before) ↦ absurd (both_ways (same y x) (first y x (rise j k d before lt)) is_same_x)
-      | inr (inr behind) ↦ absurd (both_ways (same y x) (last x y (rise k j d behind lt_e)) is_same_x)
-    ]
+    grind (arith, first (get_or xs j d), last (get_or xs k d), rise j k d, rise k j d, get_or_default xs j e d)
 
 -- in order, rows of one page are one row
-pub one_of_each_page : (rows : List Row) → InPageOrder rows → All (λ r. All (λ s. same_page s.page r.page ≡ true → s ≡ r) rows) rows
+pub one_of_each_page : (rows : List Row) → InPageOrder rows
+    → All (λ r. All (λ s. same_page s.page r.page ≡ true → s ≡ r) rows) rows
 one_of_each_page rows rise =
     one_of_each Before (λ r s. same_page r.page s.page) rows (λ r s h. after_differs r.page s.page h) (λ r s h. before_differs r.page s.page h) rise
 
 -- in order, at most one row is of a page
-pub one_of_page : (page : GuestPage) (rows : List Row) → InPageOrder rows → count_by (λ r. same_page r.page page) rows ≤ 1
+pub one_of_page : (page : GuestPage) (rows : List Row) → InPageOrder rows
+    → count_by (λ r. same_page r.page page) rows ≤ 1
 one_of_page page [] rise = omega arith
 one_of_page page (r ∷ rs) rise =
     let of_page : Row → Bool = λ s. same_page s.page page in
-    let more = count_more of_page r rs in
+    let rest = one_of_page page rs (pairs_tail Before r rs rise) in
     elim (cases_Bool (of_page r)) [
-      | inl same ↦
-          let none = count_none of_page rs (λ k e lt. apart_second r.page (get_or rs k e).page page (rise 0 (suc k) e (omega arith) (omega arith)) same) in
-          grind (arith, more, same, none)
-      | inr other ↦ let rest = one_of_page page rs (pairs_tail Before r rs rise) in grind (arith, more, other, rest)
+      | inl same ↦ grind (arith, count_more of_page r rs, count_none of_page rs (λ k e lt. grind (arith, apart_second r.page, rise 0 (suc k) e)))
+      | inr other ↦ grind (arith, count_more of_page r rs)
     ]
 
 -- one dup's place is below the other's, and their numbers differ
@@ -144,15 +132,13 @@ module _ (place : ℕ) where
   dups_parted (d ∷ ds) rise =
       let rest = dups_parted ds (pairs_tail Lower d ds rise) in
       elim (cases_lt place d.place) [
-        | inl greater ↦
-            let none_below : All (λ e. below e ≡ false) ds = λ k e lt. le-ltb (get_or ds k e).place place (omega (arith, (rise 0 (suc k) e (omega arith) (omega arith)).0)) in
-            let none = filter_none below ds none_below in
-            grind (arith, nat_tests, greater, rest, none)
-        | inr no_greater ↦ grind (arith, nat_tests, no_greater, rest)
+        | inl greater ↦ grind (arith, nat_tests, filter_none below ds (λ k e lt. grind (arith, nat_tests, rise 0 (suc k) e)))
+        | inr no_greater ↦ grind (arith, nat_tests)
       ]
 
 -- a dup with a new number, at its place, keeps the order
-pub dups_with : (dup : DupRow) (ds : List DupRow) → InPlaceOrder ds → All (λ d. d.number < dup.number) ds → InPlaceOrder (with_dup dup ds)
+pub dups_with : (dup : DupRow) (ds : List DupRow) → InPlaceOrder ds → All (λ d. d.number < dup.number) ds
+    → InPlaceOrder (with_dup dup ds)
 dups_with dup ds rise fresh =
     let F : DupRow → Type 0 = λ d. d.number < dup.number in
     let lower = filter (below dup.place) ds in
@@ -160,10 +146,8 @@ dups_with dup ds rise fresh =
     let fresh_lower = All-filter (below dup.place) F ds fresh in
     let fresh_higher = All-filter (above dup.place) F ds fresh in
     pairs_with Lower (below dup.place) (above dup.place) dup ds rise
-    (λ k d lt. let x = get_or lower k d in
-    (ltb-true x.place dup.place (filter_passes (below dup.place) ds k d lt), ne_eqb x.number dup.number (λ e. omega (arith, fresh_lower k d lt, e))))
-    (λ k d lt. let y = get_or higher k d in
-    (ltb-true dup.place y.place (filter_passes (above dup.place) ds k d lt), ne_eqb dup.number y.number (λ e. omega (arith, fresh_higher k d lt, e))))
+    (λ k d lt. grind (arith, nat_tests, filter_passes (below dup.place) ds k d lt, fresh_lower k d lt))
+    (λ k d lt. grind (arith, nat_tests, filter_passes (above dup.place) ds k d lt, fresh_higher k d lt))
     (pairs_cross Lower lower higher (rw (← dups_parted dup.place ds rise) (AllPairs-filter Lower (elsewhere dup.place) ds rise)))
 
 -- what holds of a new dup and of the others holds once the dup is among them
@@ -180,15 +164,14 @@ all_with_row P row rows here all =
     All-append P (filter first rows) (row ∷ filter last rows) (All-filter first P rows all) (All-cons P row (filter last rows) here (All-filter last P rows all))
 
 -- in order, dups of one place are one dup
-pub one_of_each_place : (dups : List DupRow) → InPlaceOrder dups → All (λ d. All (λ e. (e.place == d.place) ≡ true → e ≡ d) dups) dups
+pub one_of_each_place : (dups : List DupRow) → InPlaceOrder dups
+    → All (λ d. All (λ e. (e.place == d.place) ≡ true → e ≡ d) dups) dups
 one_of_each_place dups rise =
-    one_of_each Lower (λ d e. d.place == e.place) dups (λ d e h. ne_eqb d.place e.place (λ same. omega (arith, h.0, same))) (λ d e h. ne_eqb e.place d.place (λ same. omega (arith, h.0, same))) rise
+    one_of_each Lower (λ d e. d.place == e.place) dups (λ d e h. grind (arith, nat_tests)) (λ d e h. grind (arith, nat_tests)) rise
 
 -- in order, each dup is the one with its number
 pub each_has_number : (dups : List DupRow) → InPlaceOrder dups → All (λ d. dup_numbered d.number dups ≡ Some d) dups
 each_has_number [] rise = λ k d lt. absurd (omega arith)
 each_has_number (d ∷ ds) rise =
     let rest = each_has_number ds (pairs_tail Lower d ds rise) in
-    let first : (d.number == d.number) ≡ true = eq-eqb d.number d.number refl in
-    All-cons (λ e. dup_numbered e.number (d ∷ ds) ≡ Some e) d ds (rw first refl)
-    (λ k e lt. let other : (d.number == (get_or ds k e).number) ≡ false = (rise 0 (suc k) e (omega arith) (omega arith)).1 in rw other (rest k e lt))
+    All-cons (λ e. dup_numbered e.number (d ∷ ds) ≡ Some e) d ds (grind (arith, nat_tests)) (λ k e lt. grind (arith, rise 0 (suc k) e, rest k e lt))

@@ -1,9 +1,8 @@
 -- What a sound book's counts and searches tell.
-use Rattle.std.proofs.Common.{◌≡◌, ℕ, ◌+◌, Bool, true, false, List, Some, refl, arith}
-use Rattle.std.specs.Prelude.{◌==◌}
-use Rattle.std.proofs.lemmas.Bool.{eq-eqb}
+use Rattle.std.proofs.Common.{◌≡◌, ℕ, ◌+◌, Bool, false, List, Some, arith}
+use Rattle.std.proofs.lemmas.Bool.Decides.{nat_tests}
 use Rattle.ksm_base.specs.declared.row.PageState.{PageState}
-use Rattle.ksm_base.specs.declared.row.PageState.TheVariants.{Private, Waiting, Merged, Zero}
+use Rattle.ksm_base.specs.declared.row.PageState.TheVariants.{Merged}
 use Rattle.ksm_base.specs.declared.row.Row.{Row}
 use Rattle.ksm_base.specs.declared.row.DupRow.{DupRow}
 use Rattle.ksm_base.specs.Rows.{row_at, InPageOrder, merged_state, merged_into, item_count, change_row}
@@ -11,16 +10,10 @@ use Rattle.ksm_base.proofs.RowCounts.{count_change_row}
 
 -- a row that is not merged is an item of no dup
 pub not_an_item : (number : ℕ) (state : PageState) → merged_state state ≡ false → merged_into number state ≡ false
-not_an_item number Private single = refl
-not_an_item number Waiting single = refl
-not_an_item number (Merged n) single = cc
-not_an_item number Zero single = refl
+not_an_item number state single = grind arith
 
 -- a dup that a page joins has one item more
 pub joined_count : (rows : List Row) (row : Row) (dup : DupRow) → InPageOrder rows → row_at row.page rows ≡ Some row → merged_state row.state ≡ false → item_count (change_row row.page (λ r. record r { state = Merged dup.number }) rows) dup ≡ item_count rows dup + 1
 joined_count rows row dup rise found single =
     let p : Row → Bool = λ r. merged_into dup.number r.state in
-    let exact = count_change_row p row.page (λ r. record r { state = Merged dup.number }) rows row rise found in
-    let before : p row ≡ false = not_an_item dup.number row.state single in
-    let here : (dup.number == dup.number) ≡ true = eq-eqb dup.number dup.number refl in
-    grind (arith, exact, before, here)
+    grind (arith, nat_tests, count_change_row p row.page (λ r. record r { state = Merged dup.number }) rows row rise found, not_an_item dup.number row.state single)

@@ -1,41 +1,35 @@
 -- A scan keeps a book sound.
-use Rattle.std.proofs.Common.{◌≡◌, ℕ, zero, suc, Bool, true, false, Some, None, Option, refl, arith}
-use Rattle.std.specs.Prelude.{◌&&◌, ◌==◌, All}
-use Rattle.std.proofs.lemmas.Bool.{cond_both, and_parts}
+use Rattle.std.proofs.Common.{◌≡◌, ℕ, zero, suc, Bool, true, Some, None, Option, refl, arith}
+use Rattle.std.specs.Prelude.{◌&&◌, All}
 use Rattle.ksm_base.specs.declared.page.GuestPage.{GuestPage}
-use Rattle.ksm_base.specs.declared.row.PageState.{PageState}
-use Rattle.ksm_base.specs.declared.row.PageState.TheVariants.{Private, Waiting, Merged, Zero}
+use Rattle.ksm_base.specs.declared.row.PageState.TheVariants.{Private}
 use Rattle.ksm_base.specs.declared.row.Row.{Row}
 use Rattle.ksm_base.specs.declared.row.DupRow.{DupRow}
 use Rattle.ksm_base.specs.declared.fault.Fault.{Fault}
-use Rattle.ksm_base.specs.Rows.{same_page, private_state, shared_state, settled_state, settled, all_zero, change_row}
+use Rattle.ksm_base.specs.Rows.{same_page, settled, change_row}
 use Rattle.ksm_base.specs.State.{BookState, place_count, with_none_waiting, pass_ended}
-use Rattle.ksm_base.specs.Visit.{after_cursor, next_row, best_dup, partner, new_place, pass_ended_at_last, pass_begun, visit_begun, paired, is_for_zero, stayed, handled, row_visited, visit_of, visits}
+use Rattle.ksm_base.specs.Visit.{after_cursor, next_row, best_dup, partner, new_place, pass_ended_at_last, visit_begun, paired, stayed, handled, row_visited, visit_of, visits}
 use Rattle.ksm_base.specs.Apply.{scan_stopped}
 use Rattle.ksm_base.specs.Sound.{IsSound}
 use Rattle.ksm_base.proofs.Edits.{find_passes, find_all}
 use Rattle.ksm_base.proofs.Orders.{one_of_each_page}
-use Rattle.ksm_base.proofs.SoundEdits.{IsCalmer, sound_settings, becomes_private, sound_calmed, sound_changed}
+use Rattle.ksm_base.proofs.SoundEdits.{IsCalmer, sound_settings, sound_calmed, sound_changed}
 use Rattle.ksm_base.proofs.SoundVisit.{IsVisited, best_dup_has_room, sound_joined, sound_waiting, sound_zero}
 use Rattle.ksm_base.proofs.SoundPair.{new_place_free, partner_pairs, sound_made}
 
 -- a sound book stays sound wherever its cursor is
 pub sound_cursor : (b : BookState) (cursor : Option GuestPage) → IsSound b → IsSound (record b { cursor = cursor })
-sound_cursor b cursor s = sound_settings b b.knobs.run b.knobs.pages_to_scan b.knobs.use_zero_pages b.passes cursor s.knobs.run s.knobs.pages_to_scan s.knobs.use_zero_pages s.passes s
+sound_cursor b cursor s =
+    sound_settings b _ _ _ _ cursor s.knobs.run s.knobs.pages_to_scan s.knobs.use_zero_pages s.passes s
 
 -- a sound book stays sound where a pass ends
 pub sound_pass_ended : (b : BookState) → IsSound b → IsSound (pass_ended b)
-sound_pass_ended b s = sound_settings b b.knobs.run b.knobs.pages_to_scan b.knobs.use_zero_pages _ None s.knobs.run s.knobs.pages_to_scan s.knobs.use_zero_pages (omega arith) s
-
-settled_keeps : (state : PageState) → private_state (settled_state state) ≡ false → settled_state state ≡ state
-settled_keeps Private taken = cc
-settled_keeps Waiting taken = cc
-settled_keeps (Merged number) taken = refl
-settled_keeps Zero taken = refl
+sound_pass_ended b s =
+    sound_settings b _ _ _ _ None s.knobs.run s.knobs.pages_to_scan s.knobs.use_zero_pages (omega arith) s
 
 -- a settled row is calmer than it was
 pub settled_calmer : (r : Row) → IsCalmer r (settled r)
-settled_calmer r = record { page = refl; state = settled_keeps r.state; home = λ _. refl; bytes = λ _. refl; mergeable = λ _ yet. yet }
+settled_calmer r = grind arith
 
 -- a pass that begins, when no row waits any more, keeps the state sound
 pub sound_none_waiting : (b : BookState) → IsSound b → IsSound (with_none_waiting b)
@@ -43,53 +37,47 @@ sound_none_waiting b s = sound_calmed b settled settled_calmer s.homes s
 
 -- a sound book stays sound where its pass ends as no mergeable page comes after the cursor
 pub sound_ended_at_last : (b : BookState) → IsSound b → IsSound (pass_ended_at_last b)
-sound_ended_at_last b s = cond_both _ (pass_ended b) b IsSound (λ _. sound_pass_ended b s) (λ _. s)
-
-sound_begun : (b : BookState) → IsSound b → IsSound (pass_begun b)
-sound_begun b s = cond_both _ (with_none_waiting b) b IsSound (λ _. sound_none_waiting b s) (λ _. s)
+sound_ended_at_last b s = grind (arith, sound_pass_ended b s)
 
 -- a sound book stays sound where a visit begins
 pub sound_visit_begun : (b : BookState) → IsSound b → IsSound (visit_begun b)
-sound_visit_begun b s = sound_begun (pass_ended_at_last b) (sound_ended_at_last b s)
+sound_visit_begun b s =
+    let ended = sound_ended_at_last b s in grind (arith, sound_none_waiting (pass_ended_at_last b) ended)
 
 -- the row that is visited next is a mergeable one of the book
 pub next_row_visited : (b : BookState) (row : Row) → IsSound b → next_row b.cursor b.rows ≡ Some row → IsVisited b row
 next_row_visited b row s found =
     let p : Row → Bool = λ r. r.mergeable && after_cursor b.cursor r.page in
-    record {
-      mergeable = (and_parts row.mergeable (after_cursor b.cursor row.page) (find_passes p b.rows row found)).0;
-      once = find_all p (λ r. All (λ t. same_page t.page r.page ≡ true → t ≡ r) b.rows) b.rows row found (one_of_each_page b.rows s.rows_rise);
-    }
+    let mergeable : row.mergeable ≡ true = grind (arith, find_passes p b.rows row found) in
+    assumption (find_all p (λ r. All (λ t. same_page t.page r.page ≡ true → t ≡ r) b.rows) b.rows row found (one_of_each_page b.rows s.rows_rise))
 
 module _ (b : BookState) (row : Row) (visited : IsVisited b row) (s : IsSound b) where
   -- the book is sound after the visited page has met its partner, or waits where it has none
   pub sound_paired : (w : Option Row) → partner b.knobs b.rows row ≡ w → IsSound (paired w b row)
-  sound_paired (Some w) waits = sound_made b w row (new_place (place_count b.shape) b.rows b.dups) (partner_pairs b w row s visited waits) (new_place_free b s) s
+  sound_paired (Some w) waits =
+      sound_made b w row (new_place (place_count b.shape) b.rows b.dups) (partner_pairs b w row s visited waits) (new_place_free b s) s
   sound_paired None alone = sound_waiting b row visited alone s
 
   -- the book is sound after the visit of a page whose bytes have changed: it is marked unchanged
   sound_marked : IsSound (record b { rows = change_row row.page (λ r. record r { unchanged = true; state = Private }) b.rows })
-  sound_marked = sound_changed b (λ r. same_page r.page row.page) (λ r. record r { unchanged = true; state = Private }) (λ r. becomes_private r (record r { unchanged = true; state = Private }) refl refl) (λ r home. home) s
+  sound_marked =
+      sound_changed b (λ r. same_page r.page row.page) (λ r. record r { unchanged = true; state = Private }) (λ r. grind arith) (λ r home. home) s
 
   -- the book is sound after the visit of an unchanged page that joins no dup: it becomes Zero or is paired
   pub sound_stayed : IsSound (stayed b row)
-  sound_stayed =
-      cond_both (is_for_zero b.knobs row) (record b { rows = change_row row.page (λ r. record r { state = Zero }) b.rows }) (paired (partner b.knobs b.rows row) b row) IsSound
-      (λ is. sound_zero b row visited (and_parts (b.knobs.use_zero_pages == 1) (all_zero row.bytes) is).1 s) (λ _. sound_paired (partner b.knobs b.rows row) refl)
+  sound_stayed = grind (arith, sound_zero b row visited, sound_paired (partner b.knobs b.rows row) refl)
 
   sound_handled : (dup : Option DupRow) → best_dup b.knobs b.rows b.dups row ≡ dup → IsSound (handled dup b row)
   sound_handled (Some dup) found = sound_joined b row dup visited (best_dup_has_room b row dup s found) s
-  sound_handled None found =
-      cond_both row.unchanged (stayed b row) (record b { rows = change_row row.page (λ r. record r { unchanged = true; state = Private }) b.rows }) IsSound
-      (λ _. sound_stayed) (λ _. sound_marked)
+  sound_handled None found = grind (arith, sound_stayed, sound_marked)
 
   -- the book is sound after the visit of a row, whatever the visit does with it
   pub sound_row_visited : IsSound (row_visited b row)
-  sound_row_visited =
-      cond_both (shared_state row.state) b (handled (best_dup b.knobs b.rows b.dups row) b row) IsSound (λ _. s) (λ _. sound_handled (best_dup b.knobs b.rows b.dups row) refl)
+  sound_row_visited = grind (arith, sound_handled (best_dup b.knobs b.rows b.dups row) refl)
 
 -- a sound book stays sound after a visit of the row that comes next, if there is one
-pub sound_visit_of : (b : BookState) (row : Option Row) → next_row b.cursor b.rows ≡ row → IsSound b → IsSound (visit_of b row)
+pub sound_visit_of : (b : BookState) (row : Option Row) → next_row b.cursor b.rows ≡ row → IsSound b
+    → IsSound (visit_of b row)
 sound_visit_of b None found s = s
 sound_visit_of b (Some row) found s =
     let done = row_visited b row in

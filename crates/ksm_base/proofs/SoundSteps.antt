@@ -1,98 +1,66 @@
 -- Every step keeps a book sound.
-use Rattle.std.proofs.Common.{◌≡◌, ℕ, ◌<◌, true, List, [], ◌∷◌, Some, None, Option, Ok, Err, refl, arith}
-use Rattle.std.specs.Prelude.{◌==◌, ◌&&◌, nat_le, slice_get, not}
-use Rattle.std.proofs.lemmas.Bool.{cond_both, leb-false}
-use Rattle.ksm_base.specs.declared.row.PageState.TheVariants.{Private}
-use Rattle.ksm_base.specs.declared.row.Row.{Row}
+use Rattle.std.proofs.Common.{◌≡◌, ◌<◌, true, List, [], ◌∷◌, None, Ok, Err, refl, arith}
+use Rattle.std.specs.Prelude.{◌&&◌, slice_get, not}
+use Rattle.std.proofs.lemmas.Bool.Decides.{nat_tests}
 use Rattle.ksm_base.specs.declared.shape.Shape.{Shape}
 use Rattle.ksm_base.specs.declared.command.Command.{Command}
-use Rattle.ksm_base.specs.declared.command.Command.TheVariants.{Register, Drop, Store, Scan, Prune, Unmerge, Mergeable, MovePage, MoveDup, SetRun, SetPagesToScan, SetAcross, SetLimit, SetZeroPages}
+use Rattle.ksm_base.specs.declared.command.Command.TheVariants.{Register, Drop, Store, Scan, Prune, Unmerge, Mergeable, MovePage, SetRun, SetPagesToScan, SetAcross, SetLimit, SetZeroPages}
 use Rattle.ksm_base.specs.declared.reply.Reply.{Reply}
-use Rattle.ksm_base.specs.declared.reply.Reply.TheVariants.{Done, Scanned, Pruned, Unmerged}
-use Rattle.ksm_base.specs.declared.fault.Fault.{Fault}
-use Rattle.ksm_base.specs.declared.fault.Fault.TheVariants.{BadNode}
+use Rattle.ksm_base.specs.declared.reply.Reply.TheVariants.{Scanned, Unmerged}
 use Rattle.ksm_base.specs.Values.{IsShape}
 use Rattle.ksm_base.specs.Rows.{same_page}
 use Rattle.ksm_base.specs.State.{BookState, opening}
 use Rattle.ksm_base.specs.Visit.{visits}
 use Rattle.ksm_base.specs.Refusals.{refusal, is_of}
-use Rattle.ksm_base.specs.Answers.{Answer, IsAnswerUnless, shared_rows}
+use Rattle.ksm_base.specs.Answers.{Answer, shared_rows}
 use Rattle.ksm_base.specs.Apply.{IsAnswerOrMemory, effect, after, fresh_row, stored, moved, let_go, is_before}
 use Rattle.ksm_base.specs.Journal.{Entry, replay, AreAnswers}
 use Rattle.ksm_base.specs.Sound.{IsSound}
-use Rattle.ksm_base.proofs.SoundEdits.{IsCalmer, stays_calm, becomes_private, sound_filtered, sound_with_row, sound_changed, sound_without_stale}
+use Rattle.ksm_base.proofs.SoundEdits.{sound_filtered, sound_with_row, sound_changed, sound_without_stale}
 use Rattle.ksm_base.proofs.SoundScan.{sound_visits, sound_scan_stopped}
-use Rattle.ksm_base.proofs.SoundKnobs.{refused_none, sound_set_run, sound_set_pages, sound_set_across, sound_set_limit, sound_set_zero_pages}
+use Rattle.ksm_base.proofs.SoundKnobs.{sound_set_run, sound_set_pages, sound_set_across, sound_set_limit, sound_set_zero_pages}
 
-moved_calmer : (node : ℕ) (r : Row) → IsCalmer r (moved node r)
-moved_calmer node r = cond_both (r.home == node) r (record r { home = node; state = Private }) (IsCalmer r) (λ _. stays_calm r) (λ _. becomes_private r (record r { home = node; state = Private }) refl refl)
-
-moved_home : (nodes node : ℕ) → node < nodes → (r : Row) → r.home < nodes → (moved node r).home < nodes
-moved_home nodes node one_of r home = cond_both (r.home == node) r (record r { home = node; state = Private }) (λ x. x.home < nodes) (λ _. home) (λ _. one_of)
-
-mergeable_calmer : (r : Row) → IsCalmer r (record r { mergeable = true })
-mergeable_calmer r = record { page = refl; state = λ _. refl; home = λ _. refl; bytes = λ _. refl; mergeable = λ _ _. refl }
-
-sound_effect : (b : BookState) (c : Command) (reply : Reply) → refusal b c ≡ None → IsSound b → IsSound (effect b c reply)
+sound_effect : (b : BookState) (c : Command) (reply : Reply) → refusal b c ≡ None → IsSound b
+    → IsSound (effect b c reply)
 sound_effect b (Register page node bytes) reply accepted s =
-    sound_with_row b (fresh_row page node bytes) refl (leb-false b.shape.nodes node (refused_none (nat_le b.shape.nodes node) BadNode _ accepted).0) s
+    sound_with_row b (fresh_row page node bytes) refl (grind (arith, nat_tests)) s
 sound_effect b (Drop page) reply accepted s = sound_filtered b (λ r. not (same_page r.page page)) s
-sound_effect b (Store page bytes) reply accepted s = sound_changed b (λ r. same_page r.page page) (stored bytes) (λ r. becomes_private r (stored bytes r) refl refl) (λ r home. home) s
+sound_effect b (Store page bytes) reply accepted s =
+    sound_changed b (λ r. same_page r.page page) (stored bytes) (λ r. grind arith) (λ r home. home) s
 sound_effect b (Scan n) (Scanned v stop) accepted s = sound_scan_stopped stop (visits v b) (sound_visits v b s)
-sound_effect b (Scan n) Done accepted s = s
-sound_effect b (Scan n) (Pruned k) accepted s = s
-sound_effect b (Scan n) (Unmerged k stop) accepted s = s
 sound_effect b Prune reply accepted s = sound_without_stale b s
 sound_effect b (Unmerge guest) (Unmerged k stop) accepted s =
-    sound_changed b (λ r. is_of guest r && is_before (slice_get (shared_rows (is_of guest) b) k) r) let_go (λ r. becomes_private r (let_go r) refl refl) (λ r home. home) s
-sound_effect b (Unmerge guest) Done accepted s = s
-sound_effect b (Unmerge guest) (Scanned v stop) accepted s = s
-sound_effect b (Unmerge guest) (Pruned k) accepted s = s
-sound_effect b (Mergeable guest) reply accepted s = sound_changed b (is_of guest) (λ r. record r { mergeable = true }) mergeable_calmer (λ r home. home) s
+    sound_changed b (λ r. is_of guest r && is_before (slice_get (shared_rows (is_of guest) b) k) r) let_go (λ r. grind arith) (λ r home. home) s
+sound_effect b (Mergeable guest) reply accepted s =
+    sound_changed b (is_of guest) (λ r. record r { mergeable = true }) (λ r. grind arith) (λ r home. home) s
 sound_effect b (MovePage page node) reply accepted s =
-    sound_changed b (λ r. same_page r.page page) (moved node) (moved_calmer node)
-    (moved_home b.shape.nodes node (leb-false b.shape.nodes node (refused_none (nat_le b.shape.nodes node) BadNode _ accepted).0)) s
-sound_effect b (MoveDup place node) reply accepted s = s
+    let there : node < b.shape.nodes = grind (arith, nat_tests) in
+    sound_changed b (λ r. same_page r.page page) (moved node) (λ r. grind arith) (λ r home. grind arith) s
 sound_effect b (SetRun v) reply accepted s = sound_set_run b v reply accepted s
 sound_effect b (SetPagesToScan v) reply accepted s = sound_set_pages b v reply accepted s
 sound_effect b (SetAcross v) reply accepted s = sound_set_across b v reply accepted s
 sound_effect b (SetLimit v) reply accepted s = sound_set_limit b v reply accepted s
 sound_effect b (SetZeroPages v) reply accepted s = sound_set_zero_pages b v reply accepted s
+sound_effect b _ reply accepted s = s
 
 -- what answers with a reply is not refused
 not_refused : (b : BookState) (c : Command) (reply : Reply) → IsAnswerOrMemory b c (Ok reply) → refusal b c ≡ None
-not_refused b c reply h = go (refusal b c) refl h
-  where
-    go : (refused : Option Fault) → refusal b c ≡ refused → IsAnswerUnless refused b c (Ok reply) → refusal b c ≡ None
-    go (Some fault) is answer = cc
-    go None is answer = is
+not_refused b c reply h = grind arith
 
 -- each step that the definition allows keeps a book sound
-pub sound_after : (b : BookState) (c : Command) (a : Answer) → IsSound b → IsAnswerOrMemory b c a → IsSound (after b c a)
+pub sound_after : (b : BookState) (c : Command) (a : Answer) → IsSound b → IsAnswerOrMemory b c a
+    → IsSound (after b c a)
 sound_after b c (Ok reply) s h = sound_effect b c reply (not_refused b c reply h) s
 sound_after b c (Err fault) s h = s
 
 -- the opening state is sound
 pub sound_opening : (shape : Shape) → IsShape shape → IsSound (opening shape)
-sound_opening shape small =
-    record {
-      shape = small;
-      knobs = record { run = omega arith; pages_to_scan = (omega arith, omega arith); merge_across_nodes = omega arith; max_page_sharing = (omega arith, omega arith); use_zero_pages = omega arith };
-      passes = omega arith;
-      rows_rise = λ i j d first lt. absurd (omega arith);
-      homes = λ k d lt. absurd (omega arith);
-      mergeable = λ k d lt. absurd (omega arith);
-      zero = λ k d lt. absurd (omega arith);
-      waiting = λ k d lt. absurd (omega arith);
-      items = λ k d lt. absurd (omega arith);
-      dups_rise = λ i j d first lt. absurd (omega arith);
-      numbers = λ k d lt. absurd (omega arith);
-      trees = λ k d lt. absurd (omega arith);
-      limit = λ k d lt. absurd (omega arith);
-    }
+sound_opening shape small = grind arith
 
 -- the state is sound after each list of entries with answers that their commands may have
-pub sound_replay : (b : BookState) (entries : List Entry) → AreAnswers b entries → IsSound b → IsSound (replay b entries)
+pub sound_replay : (b : BookState) (entries : List Entry) → AreAnswers b entries → IsSound b
+    → IsSound (replay b entries)
 sound_replay b [] answers s = s
-sound_replay b ((c, Ok reply) ∷ es) answers s = sound_replay (after b c (Ok reply)) es answers.1 (sound_after b c (Ok reply) s answers.0)
+sound_replay b ((c, Ok reply) ∷ es) answers s =
+    sound_replay (after b c (Ok reply)) es answers.1 (sound_after b c (Ok reply) s answers.0)
 sound_replay b ((c, Err fault) ∷ es) answers s = sound_replay b es answers.1 s

@@ -8,4 +8,5 @@ pub returns-clause-rows : goal.returns-clause-rows
 returns-clause-rows c = λ shape journal. reads_last (opening shape) journal refl
 
 pub returns-clause-read : goal.returns-clause-read
-returns-clause-read c = λ shape journal page bytes read. read_last page bytes (replay (opening shape) journal) journal (reads_last (opening shape) journal refl) read
+returns-clause-read c =
+    λ shape journal page bytes read. read_last page bytes (replay (opening shape) journal) journal (reads_last (opening shape) journal refl) read

@@ -9,4 +9,5 @@ pub returns-clause-step : goal.returns-clause-step
 returns-clause-step c = sound_after
 
 pub returns-clause-journal : goal.returns-clause-journal
-returns-clause-journal c = λ shape journal small answers. sound_replay (opening shape) journal answers (sound_opening shape small)
+returns-clause-journal c =
+    λ shape journal small answers. sound_replay (opening shape) journal answers (sound_opening shape small)

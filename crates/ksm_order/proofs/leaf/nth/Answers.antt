@@ -1,5 +1,4 @@
-use Rattle.std.proofs.Common.{ap, sym, ◌∙◌, rules, tests}
-use Rattle.std.specs.Prelude.{option_map}
+use Rattle.std.proofs.Common.{arith, rules, tests}
 use Rattle.std.proofs.lemmas.Iterator.{YieldsList-from_slice}
 use Rattle.std.proofs.lemmas.Iterator.Consumers.{nth_from_yields_List, YieldsList-from_filter}
 use Rattle.ksm_order.specs.declared.item.Item.{Item}
@@ -8,9 +7,9 @@ use Rattle.ksm_order.proofs.leaf.nth.Goals as goal
 pub returns-in-Some : goal.returns-in-Some
 returns-in-Some c =
     let walked = nth_from_yields_List _ _ _ c.nth.ensures.ran (YieldsList-from_filter _ (λ (x : Item). x.marked) (YieldsList-from_slice c.args.items.now cc) c.filter.ensures.closure (λ x r q k. search (rules, tests))) in
-    ap (option_map (λ (x : Item). x.key)) (sym (ap (option_map (λ y. y.now)) c.in-Some.is) ∙ walked)
+    grind arith
 
 pub returns-in-None : goal.returns-in-None
 returns-in-None c =
     let walked = nth_from_yields_List _ _ _ c.nth.ensures.ran (YieldsList-from_filter _ (λ (x : Item). x.marked) (YieldsList-from_slice c.args.items.now cc) c.filter.ensures.closure (λ x r q k. search (rules, tests))) in
-    ap (option_map (λ (x : Item). x.key)) (sym (ap (option_map (λ y. y.now)) c.in-None.is) ∙ walked)
+    grind arith

@@ -1,34 +1,32 @@
-use Rattle.std.proofs.Common.{arith}
-use Rattle.ksm_order.proofs.Between.{before_take, before_too, from_drop, from_too}
+use Rattle.std.proofs.Common.{arith, ◌+◌, ◌-◌, ◌/◌}
+use Rattle.std.proofs.lemmas.List.{get_or-drop, get_or-take, get_or_default, length-drop, length-take-le}
 use Rattle.ksm_order.proofs.leaf.place_of.Goals as goal
 
 pub returns : goal.returns
 returns c =
     let i = c.loop-low.invariant in
     record {
-      within = omega (arith, i.ordered, i.within);
-      ahead = before_take c.args.key c.args.items.now c.loop-low.low (omega (arith, i.ordered, i.within)) i.ahead;
-      behind = from_drop c.args.key c.args.items.now c.loop-low.low (λ k d le lt. i.behind k d (omega (arith, le, c.loop-low-test.false)) lt);
+      within = omega arith;
+      ahead = λ k d lt. grind (arith, get_or-take, length-take-le);
+      behind = λ k d lt. grind (arith, get_or-drop, length-drop);
     }
 
 pub loop-low-preserved-then-items-mid : goal.loop-low-preserved-then-items-mid
 loop-low-preserved-then-items-mid c =
     let i = c.loop-low.invariant in
-    let less = c.loop-low-test.true in
     record {
-      ordered = omega (arith, i.ordered, less);
+      ordered = omega arith;
       within = i.within;
-      ahead = before_too c.args.key c.args.items.now c.requires _ _ (omega (arith, less, i.within)) c.if-items-mid.true;
+      ahead = λ k d lt. grind (arith, c.requires k, get_or_default);
       behind = i.behind;
     }
 
 pub loop-low-preserved : goal.loop-low-preserved
 loop-low-preserved c =
     let i = c.loop-low.invariant in
-    let less = c.loop-low-test.true in
     record {
-      ordered = omega (arith, i.ordered, less);
-      within = omega (arith, i.within, less);
+      ordered = omega arith;
+      within = omega arith;
       ahead = i.ahead;
-      behind = from_too c.args.key c.args.items.now c.requires _ _ (omega (arith, less, i.within)) c.if-items-mid.false;
+      behind = λ k d le lt. grind (arith, c.requires (c.loop-low.low + (c.loop-low.high - c.loop-low.low) / 2) k d, get_or_default);
     }
