@@ -1,7 +1,8 @@
 -- The test of where a step of the keeper is allowed is met exactly where the ledger allows it.
 use Rattle.std.proofs.Common.{◌≡◌, ℕ, ◌-◌, ◌<◌, ◌≤◌, ◌==◌, ◌&&◌, not, ltb, leb, Bool, true, false, Option, Some, None, ap, refl}
 use Rattle.std.proofs.lemmas.Bool.{and_parts, and_from, lt-ltb, ltb-true, le-leb, leb-true, eqb-true, eq-eqb}
-use Rattle.frame_core.proofs.Names.{MOST_REFERENCES, PAGE_WORDS, Shape, frames_of, KeeperStep, Reap, Put, Raise, Open, Add, Sub, Publish, Replace, Withdraw, Freeze, Word, Kind, Free, Filling, Private, Stable, Dying, Retired, Ledger, Life, is_kind, is_writable, is_readable, is_live, may_step, frame_at, named_at, IsWritable, IsReadable, IsLive, IsLoose, MayStep}
+use Rattle.frame_core.proofs.Names.{MOST_REFERENCES, PAGE_WORDS, Shape, frames_of, KeeperStep, Reap, Put, Raise, Open, Add, Sub, Publish, Replace, Withdraw, Freeze, Word, Kind, Free, Filling, Private}
+use Rattle.frame_core.proofs.Names.{Stable, Dying, Retired, Ledger, Life, is_kind, is_writable, is_readable, is_live, may_step, frame_at, named_at, IsWritable, IsReadable, IsLive, IsLoose, MayStep}
 
 -- a test is met exactly where a statement is true
 abbrev pub Tests : Bool → Type 0 → Type 0

@@ -3,7 +3,8 @@ use Rattle.std.proofs.Common.{◌≡◌, ℕ, ◌+◌, ◌-◌, ◌*◌, ◌<◌
 use Rattle.std.specs.List.{flat_map}
 use Rattle.std.proofs.lemmas.List.{length-append, length-map, map-set, set-append_left, set-append_right, set-get_or, get_or-append-add, get_or_append_left, get_or-map}
 use Rattle.std.proofs.Math.Nat.{suc-mul}
-use Rattle.frame_core.proofs.Names.{PAGE_WORDS, Shape, frames_of, LINE_WORDS, Note, Life, State, place_word, frame_word, count_at, frame_word_of, blank, frame_at, named_at, with_frame, frame_words, line_of, page_of, pages_of, words_of, frame_word_at, content_at, Rule}
+use Rattle.frame_core.proofs.Names.{PAGE_WORDS, Shape, frames_of, LINE_WORDS, Note, Life, State, place_word, frame_word, count_at, frame_word_of, blank, frame_at, named_at, with_frame, frame_words}
+use Rattle.frame_core.proofs.Names.{line_of, page_of, pages_of, words_of, frame_word_at, content_at, Rule}
 
 module _ {A : Type 0} where
   -- a write past the first part

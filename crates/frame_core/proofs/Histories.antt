@@ -3,7 +3,9 @@ use Rattle.std.proofs.Common.{◌≡◌, ℕ, ◌+◌, ◌<◌, ◌≢◌, Bool,
 use Rattle.std.specs.List.{range_with_len}
 use Rattle.std.proofs.lemmas.List.Sums.{sum_by-cons, length-filter, fold_push}
 use Rattle.std.proofs.lemmas.List.{nil_from_length}
-use Rattle.frame_core.proofs.Names.{PAGE_WORDS, Shape, IsShape, frames_of, Event, Keeper, KeeperStep, Put, Raise, Open, Kind, Aim, Life, Phase, Idle, Held, Spent, count_at, may_step, blank, frame_at, MayStep, Rule, CountFits, MayBeHeld, SeatRule, is_on, readers_on, IsSafe, WasUnheld, GivenUnheld, phase_at, State, step, only_if, History, first_history, history_after, history_with, run_of, held_by, holders, is_frame, life_of, HoldsRightly}
+use Rattle.frame_core.proofs.Names.{PAGE_WORDS, Shape, IsShape, frames_of, Event, Keeper, KeeperStep, Put, Raise, Open, Kind, Aim, Life, Phase, Idle, Held, Spent, count_at, may_step, blank, frame_at}
+use Rattle.frame_core.proofs.Names.{MayStep, Rule, CountFits, MayBeHeld, SeatRule, is_on, readers_on, IsSafe, WasUnheld, GivenUnheld, phase_at, State, step, only_if, History, first_history}
+use Rattle.frame_core.proofs.Names.{history_after, history_with, run_of, held_by, holders, is_frame, life_of, HoldsRightly}
 use Rattle.frame_core.proofs.Decides.{decides}
 use Rattle.frame_core.proofs.Frames.{not_held}
 use Rattle.frame_core.proofs.Keeps.{step_keeps, first_rule}

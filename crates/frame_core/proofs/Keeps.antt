@@ -1,10 +1,16 @@
 -- Every step keeps the rule, and the first state meets it.
-use Rattle.std.proofs.Common.{◌≡◌, ℕ, ◌+◌, ◌-◌, ◌*◌, ◌/◌, ◌%◌, ◌<◌, ◌≤◌, ◌≢◌, ◌==◌, leb, not, Bool, true, false, cond, List, get_or, set, slice_get, Option, Some, None, replicate, length, subst, sym, ap, ◌∙◌, refl, arith, ⊎_elim, get_or-set_same}
+use Rattle.std.proofs.Common.{◌≡◌, ℕ, ◌+◌, ◌-◌, ◌*◌, ◌/◌, ◌%◌, ◌<◌, ◌≤◌, ◌≢◌, ◌==◌, leb, not, Bool, true, false, cond, List, get_or, set, slice_get, Option, Some, None, replicate, length, subst, sym}
+use Rattle.std.proofs.Common.{ap, ◌∙◌, refl, arith, ⊎_elim, get_or-set_same}
 use Rattle.std.proofs.lemmas.Bool.{eqb-true, eqb-false, eq-eqb, ne_eqb, and_parts, not-true, leb-false, ltb-true}
 use Rattle.std.proofs.lemmas.Option.{same_Some, slice_get-get_or}
 use Rattle.std.proofs.lemmas.List.{length-replicate}
 use Rattle.std.proofs.lemmas.List.Folds.{sum_by-replicate}
-use Rattle.frame_core.proofs.Names.{PLACE_SPAN, PAGE_WORDS, Shape, IsShape, frames_of, Event, KeeperStep, Reap, Put, Raise, Open, Add, Sub, Publish, Replace, Withdraw, Freeze, Word, ReaderStep, LoadPlace, LoadFrame, Exchange, Leave, LoadWord, Kind, Filling, Private, Stable, Dying, Ledger, Note, Aim, Life, Phase, Idle, Placed, Counted, Held, Spent, State, place_word, life_at, frame_word, count_in, life_in, blank, first_ledger, frame_at, named_anew, named_at, with_frame, MayStep, reaped, raised, opened, added, lowered, filled, shown, frozen, count_at, frame_word_of, keeper_finds, may_step, counted_up, phase_at, aim_of, nothing_known, is_referenced, may_read, reader_finds, seat_after, reader_counts, first_state, after_keeper, after_reader, only_if, step, after, Rule, FrameRule, LifeRule, IsNamed, SeatRule, MayBeNamed, MayBeHeld, KnownFits, CountFits, GenerationFits, readers_on, is_on}
+use Rattle.frame_core.proofs.Names.{PLACE_SPAN, PAGE_WORDS, Shape, IsShape, frames_of, Event, KeeperStep, Reap, Put, Raise, Open, Add, Sub, Publish, Replace, Withdraw, Freeze, Word, ReaderStep}
+use Rattle.frame_core.proofs.Names.{LoadPlace, LoadFrame, Exchange, Leave, LoadWord, Kind, Filling, Private, Stable, Dying, Ledger, Note, Aim, Life, Phase, Idle, Placed, Counted, Held, Spent, State}
+use Rattle.frame_core.proofs.Names.{place_word, life_at, frame_word, count_in, life_in, blank, first_ledger, frame_at, named_anew, named_at, with_frame, MayStep, reaped, raised, opened, added}
+use Rattle.frame_core.proofs.Names.{lowered, filled, shown, frozen, count_at, frame_word_of, keeper_finds, may_step, counted_up, phase_at, aim_of, nothing_known, is_referenced, may_read, reader_finds}
+use Rattle.frame_core.proofs.Names.{seat_after, reader_counts, first_state, after_keeper, after_reader, only_if, step, after, Rule, FrameRule, LifeRule, IsNamed, SeatRule, MayBeNamed, MayBeHeld}
+use Rattle.frame_core.proofs.Names.{KnownFits, CountFits, GenerationFits, readers_on, is_on}
 use Rattle.frame_core.specs.declared.event.Event.TheVariants as event
 use Rattle.frame_core.proofs.Lists.{get_set, in_replicate, copied, count_set, count_one}
 use Rattle.frame_core.proofs.Packed.{count_packed, life_packed, parts_of_word}

@@ -1,10 +1,15 @@
 -- A place stays live until the keeper gives its frame up, and what a live place names was never found gone.
-use Rattle.std.proofs.Common.{◌≡◌, ℕ, zero, suc, ◌+◌, ◌-◌, ◌*◌, ◌<◌, ◌≤◌, ◌≢◌, ◌==◌, not, leb, if◌then◌else◌, Bool, true, false, cond, List, [], ◌∷◌, ◌++◌, length, get_or, set, Option, Some, None, subst, sym, ap, ◌∙◌, refl, arith}
+use Rattle.std.proofs.Common.{◌≡◌, ℕ, zero, suc, ◌+◌, ◌-◌, ◌*◌, ◌<◌, ◌≤◌, ◌≢◌, ◌==◌, not, leb, if◌then◌else◌, Bool, true, false, cond, List, [], ◌∷◌, ◌++◌, length, get_or, set, Option, Some, None}
+use Rattle.std.proofs.Common.{subst, sym, ap, ◌∙◌, refl, arith}
 use Rattle.std.specs.Prelude.{All}
 use Rattle.std.proofs.lemmas.Bool.{eqb-true, eq-eqb, ne_eqb, and_from}
 use Rattle.std.proofs.lemmas.List.Elements.{All-nil, All-cons, All-weaker}
 use Rattle.std.proofs.lemmas.List.Sums.{fold_push}
-use Rattle.frame_core.proofs.Names.{PLACE_SPAN, Shape, IsShape, frames_of, Event, KeeperStep, Reap, Put, Raise, Open, Add, Sub, Publish, Replace, Withdraw, Freeze, Word, ReaderStep, LoadPlace, LoadFrame, Exchange, Leave, LoadWord, Kind, Free, Filling, Private, Stable, Dying, Retired, Ledger, Note, Aim, Life, Phase, Idle, Placed, Counted, Held, Spent, State, place_word, life_at, frame_word, count_in, life_in, blank, frame_at, named_at, named_anew, with_frame, IsLive, IsLoose, MayStep, Rule, IsNamed, BaseFits, MayBeNamed, count_at, frame_word_of, is_referenced, may_step, phase_at, aim_of, nothing_known, may_read, reader_finds, seat_after, reader_counts, after_keeper, step, first_history, history_with, History, run_of, SeatRule, reaped, raised, opened, added, lowered, filled, shown, frozen, ledger_after}
+use Rattle.frame_core.proofs.Names.{PLACE_SPAN, Shape, IsShape, frames_of, Event, KeeperStep, Reap, Put, Raise, Open, Add, Sub, Publish, Replace, Withdraw, Freeze, Word, ReaderStep, LoadPlace}
+use Rattle.frame_core.proofs.Names.{LoadFrame, Exchange, Leave, LoadWord, Kind, Free, Filling, Private, Stable, Dying, Retired, Ledger, Note, Aim, Life, Phase, Idle, Placed, Counted, Held, Spent}
+use Rattle.frame_core.proofs.Names.{State, place_word, life_at, frame_word, count_in, life_in, blank, frame_at, named_at, named_anew, with_frame, IsLive, IsLoose, MayStep, Rule, IsNamed, BaseFits}
+use Rattle.frame_core.proofs.Names.{MayBeNamed, count_at, frame_word_of, is_referenced, may_step, phase_at, aim_of, nothing_known, may_read, reader_finds, seat_after, reader_counts, after_keeper}
+use Rattle.frame_core.proofs.Names.{step, first_history, history_with, History, run_of, SeatRule, reaped, raised, opened, added, lowered, filled, shown, frozen, ledger_after}
 use Rattle.frame_core.specs.Live.{LiveAt, GivesUp, PublishMakesLive, LiveUntilGivenUp, Looked, looked_after, looked, found_gone, LivePlacesAreFound}
 use Rattle.frame_core.proofs.Fitting.{frames_at_most}
 use Rattle.frame_core.proofs.Keeps.{count_found, life_found, life_of_word, if_made, aimed}

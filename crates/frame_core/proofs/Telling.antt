@@ -1,9 +1,14 @@
 -- After each step, the state and the trace still go together. Of a step of the keeper that is said for any tale: what it adds to the tale is written out.
-use Rattle.std.proofs.Common.{◌≡◌, ℕ, ◌+◌, ◌-◌, ◌*◌, ◌%◌, ◌<◌, ◌≢◌, ◌==◌, ◌&&◌, not, leb, Bool, true, false, cond, if◌then◌else◌, List, [], ◌∷◌, length, get_or, set, Option, Some, None, slice_get, subst, sym, ap, ◌∙◌, refl, ⊎_elim, arith}
+use Rattle.std.proofs.Common.{◌≡◌, ℕ, ◌+◌, ◌-◌, ◌*◌, ◌%◌, ◌<◌, ◌≢◌, ◌==◌, ◌&&◌, not, leb, Bool, true, false, cond, if◌then◌else◌, List, [], ◌∷◌, length, get_or, set, Option, Some, None, slice_get}
+use Rattle.std.proofs.Common.{subst, sym, ap, ◌∙◌, refl, ⊎_elim, arith}
 use Rattle.std.proofs.lemmas.Bool.{eq-eqb, eqb-true, ne_eqb, cases_eq, and_parts, ltb-true}
 use Rattle.std.proofs.lemmas.List.Elements.{All-nil, All-cons}
 use Rattle.std.proofs.lemmas.Option.{same_Some, slice_get-get_or}
-use Rattle.frame_core.proofs.Names.{PLACE_SPAN, PAGE_WORDS, Shape, frames_of, Event, KeeperStep, Reap, Put, Raise, Open, Add, Sub, Publish, Replace, Withdraw, Freeze, Word, ReaderStep, LoadPlace, LoadFrame, Exchange, Leave, LoadWord, Free, Filling, Private, Dying, Retired, Ledger, Note, Life, Aim, Phase, Idle, Placed, Counted, Held, Spent, State, place_word, frame_word, count_in, life_in, blank, frame_at, named_at, with_frame, IsWritable, MayStep, reaped, raised, opened, added, lowered, filled, shown, frozen, frame_word_of, keeper_finds, may_step, phase_at, nothing_known, aim_of, is_referenced, may_read, reader_finds, seat_after, reader_counts, after_keeper, step, Entry, frame_in, Rule, IsNamed, HeldRule, SeatRule, MayBeNamed, MayBeHeld}
+use Rattle.frame_core.proofs.Names.{PLACE_SPAN, PAGE_WORDS, Shape, frames_of, Event, KeeperStep, Reap, Put, Raise, Open, Add, Sub, Publish, Replace, Withdraw, Freeze, Word, ReaderStep, LoadPlace}
+use Rattle.frame_core.proofs.Names.{LoadFrame, Exchange, Leave, LoadWord, Free, Filling, Private, Dying, Retired, Ledger, Note, Life, Aim, Phase, Idle, Placed, Counted, Held, Spent, State, place_word}
+use Rattle.frame_core.proofs.Names.{frame_word, count_in, life_in, blank, frame_at, named_at, with_frame, IsWritable, MayStep, reaped, raised, opened, added, lowered, filled, shown, frozen}
+use Rattle.frame_core.proofs.Names.{frame_word_of, keeper_finds, may_step, phase_at, nothing_known, aim_of, is_referenced, may_read, reader_finds, seat_after, reader_counts, after_keeper, step, Entry}
+use Rattle.frame_core.proofs.Names.{frame_in, Rule, IsNamed, HeldRule, SeatRule, MayBeNamed, MayBeHeld}
 use Rattle.frame_core.specs.declared.event.Event.TheVariants as event
 use Rattle.frame_core.proofs.Lists.{each_set, get_set}
 use Rattle.frame_core.proofs.Decides.{decides}

@@ -1,6 +1,7 @@
 -- After every event, what the keeper knows is as its ledger says, and what the other seats know is as it was.
 use Rattle.std.proofs.Common.{◌≡◌, ℕ, Bool, true, false, subst, refl}
-use Rattle.frame_core.proofs.Names.{Shape, Event, Reader, Keeper, KeeperStep, FollowsLedger, LedgerTells, ChangesOwnView, may_step, keeper_finds, ledger_after, phase_at, may_read, reader_finds, seat_after, State, step, answer, after, only_if, after_keeper}
+use Rattle.frame_core.proofs.Names.{Shape, Event, Reader, Keeper, KeeperStep, FollowsLedger, LedgerTells, ChangesOwnView, may_step, keeper_finds, ledger_after, phase_at, may_read, reader_finds}
+use Rattle.frame_core.proofs.Names.{seat_after, State, step, answer, after, only_if, after_keeper}
 use Rattle.frame_core.proofs.Decides.{decides}
 use Rattle.frame_core.proofs.Lists.{get_set_else}
 

@@ -1,7 +1,8 @@
 -- The keeper's steps in a state: a test of where each is allowed, the word that it finds, and the references on the frames after it.
 -- What the keeper knows after it is `ledger_after`. Source: own.
 use Rattle.std.specs.Prelude.{ℕ, ◌+◌, ◌-◌, Bool, true, false, ◌&&◌, ◌||◌, not, ◌==◌, nat_lt, nat_le, cond, List, slice_index, slice_set, Option, None, Some}
-use Rattle.frame_core.specs.Terms.{MOST_REFERENCES, PAGE_WORDS, Shape, frames_of, KeeperStep, Reap, Put, Raise, Open, Add, Sub, Publish, Replace, Withdraw, Freeze, Word, Kind, Free, Filling, Private, Stable, Dying, Retired, Ledger, Life}
+use Rattle.frame_core.specs.Terms.{MOST_REFERENCES, PAGE_WORDS, Shape, frames_of, KeeperStep, Reap, Put, Raise, Open, Add, Sub, Publish, Replace, Withdraw, Freeze, Word, Kind, Free, Filling, Private}
+use Rattle.frame_core.specs.Terms.{Stable, Dying, Retired, Ledger, Life}
 use Rattle.frame_core.specs.State.{State, frame_word, count_in}
 use Rattle.frame_core.specs.Ledger.{frame_at, named_at}
 

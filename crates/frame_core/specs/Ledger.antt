@@ -1,6 +1,7 @@
 -- What the keeper knows, where each of its steps is allowed, and what it knows after it: a function of what it knew, the step and the word found.
 use Rattle.std.specs.Prelude.{◌≡◌, ℕ, ◌+◌, ◌-◌, ◌<◌, ◌≤◌, ◌==◌, cond, replicate, slice_index_or, slice_set, Option, Some, None}
-use Rattle.frame_core.specs.Terms.{MOST_REFERENCES, PAGE_WORDS, Shape, frames_of, KeeperStep, Reap, Put, Raise, Open, Add, Sub, Publish, Replace, Withdraw, Freeze, Word, Kind, Free, Filling, Private, Stable, Dying, Retired, Ledger, Note, Life}
+use Rattle.frame_core.specs.Terms.{MOST_REFERENCES, PAGE_WORDS, Shape, frames_of, KeeperStep, Reap, Put, Raise, Open, Add, Sub, Publish, Replace, Withdraw, Freeze, Word, Kind, Free, Filling, Private}
+use Rattle.frame_core.specs.Terms.{Stable, Dying, Retired, Ledger, Note, Life}
 use Rattle.frame_core.specs.State.{count_in}
 
 -- a frame that was never given

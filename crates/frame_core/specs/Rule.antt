@@ -1,6 +1,7 @@
 -- The rule of the protocol: what is true of words, keeper and seats between any two steps, and is kept by each. Source: own.
 use Rattle.std.specs.Prelude.{ℕ, ◌≡◌, ◌+◌, ◌<◌, ◌≤◌, Bool, false, ◌==◌, List, length, slice_get, count_by, Option, Some}
-use Rattle.frame_core.specs.Terms.{MOST_COUNT, MOST_REFERENCES, IsShape, frames_of, PAGE_WORDS, Shape, Kind, Free, Filling, Private, Stable, Dying, Retired, Ledger, Note, Life, Phase, Idle, Placed, Counted, Held, Spent}
+use Rattle.frame_core.specs.Terms.{MOST_COUNT, MOST_REFERENCES, IsShape, frames_of, PAGE_WORDS, Shape, Kind, Free, Filling, Private, Stable, Dying, Retired, Ledger, Note, Life, Phase, Idle, Placed}
+use Rattle.frame_core.specs.Terms.{Counted, Held, Spent}
 use Rattle.frame_core.specs.State.{State}
 use Rattle.frame_core.specs.Ledger.{frame_at, named_at}
 use Rattle.frame_core.specs.KeeperSteps.{count_at}

@@ -1,6 +1,7 @@
 -- Worked runs of the least table, one frame, one place and one seat: what is told from their traces. Own.
 use Rattle.std.specs.Prelude.{◌≡◌, ℕ, List, [], ◌∷◌, ◌++◌, replicate, Some, None}
-use Rattle.frame_core.specs.Terms.{Shape, Event, Reader, Keeper, LoadPlace, LoadFrame, Exchange, LoadWord, Put, Raise, Open, Add, Sub, Reap, Publish, Replace, Private, Stable, Ledger, ReaderStep, COUNT_SPAN, PLACE_SPAN, PAGE_WORDS}
+use Rattle.frame_core.specs.Terms.{Shape, Event, Reader, Keeper, LoadPlace, LoadFrame, Exchange, LoadWord, Put, Raise, Open, Add, Sub, Reap, Publish, Replace, Private, Stable, Ledger, ReaderStep}
+use Rattle.frame_core.specs.Terms.{COUNT_SPAN, PLACE_SPAN, PAGE_WORDS}
 use Rattle.frame_core.specs.Steps.{step}
 use Rattle.frame_core.specs.Trace.{Entry, History, run_of}
 

@@ -1,5 +1,7 @@
 -- The core's definitions by their names, for proofs.
-pub use Rattle.frame_table.specs.Terms.{Add, Aim, COUNT_SPAN, Counted, Dying, Event, Exchange, FRAME_WORDS, Filling, Free, Freeze, Held, Idle, IsShape, KeeperStep, Kind, LINE_WORDS, Leave, Ledger, Life, LoadFrame, LoadPlace, LoadWord, MOST_FRAMES, MOST_LIVES, MOST_REFERENCES, Open, PAGE_WORDS, PLACE_SPAN, Phase, Placed, Publish, Put, Raise, ReaderStep, Reap, Replace, Shape, Spent, Stable, Sub, Withdraw, Word, frames_of}
+pub use Rattle.frame_table.specs.Terms.{Add, Aim, COUNT_SPAN, Counted, Dying, Event, Exchange, FRAME_WORDS, Filling, Free, Freeze, Held, Idle, IsShape, KeeperStep, Kind, LINE_WORDS, Leave, Ledger}
+pub use Rattle.frame_table.specs.Terms.{Life, LoadFrame, LoadPlace, LoadWord, MOST_FRAMES, MOST_LIVES, MOST_REFERENCES, Open, PAGE_WORDS, PLACE_SPAN, Phase, Placed, Publish, Put, Raise, ReaderStep}
+pub use Rattle.frame_table.specs.Terms.{Reap, Replace, Shape, Spent, Stable, Sub, Withdraw, Word, frames_of}
 pub use Rattle.frame_core.specs.KeeperSteps.{count_at, counted_up, frame_word_of, keeper_finds}
 pub use Rattle.frame_core.specs.Ledger.{IsWritable, MayStep, added, blank, filled, frame_at, frozen, ledger_after, lowered, named_anew, named_at, opened, raised, reaped, shown, with_frame}
 pub use Rattle.frame_core.specs.Rule.{CountFits, GenerationFits, MayBeHeld, Rule, SeatRule, is_on, readers_on}

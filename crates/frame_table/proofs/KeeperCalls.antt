@@ -3,8 +3,10 @@ use Rattle.std.proofs.Common.{◌≡◌, ℕ, ◌+◌, ◌-◌, ◌*◌, ◌%◌
 use mathlib.Core.Option.{none as unsaid}
 use prog.Atomic.{either}
 use Rattle.atomic_table.specs.Table.{step, Allows}
-use Rattle.frame_table.proofs.CoreNames.{COUNT_SPAN, FRAME_WORDS, MOST_LIVES, MOST_REFERENCES, PAGE_WORDS, PLACE_SPAN, Shape, frames_of, KeeperStep, Reap, Put, Raise, Open, Add, Sub, Publish, Replace, Withdraw, Freeze, Word, Ledger, frame_word, life_in, frame_word_at, content_at, frame_at, MayStep}
-use Rattle.frame_table.proofs.Names.{Holds, Sat, IsKeeper, shape_in, ledger_in, tally_in, keeper_log, order_in, Keeps, keeper_word, keeper_written, found_by, word_of_frame, knows, on_frame, puts, publishes, replaces, withdraws, shows}
+use Rattle.frame_table.proofs.CoreNames.{COUNT_SPAN, FRAME_WORDS, MOST_LIVES, MOST_REFERENCES, PAGE_WORDS, PLACE_SPAN, Shape, frames_of, KeeperStep, Reap, Put, Raise, Open, Add, Sub, Publish, Replace}
+use Rattle.frame_table.proofs.CoreNames.{Withdraw, Freeze, Word, Ledger, frame_word, life_in, frame_word_at, content_at, frame_at, MayStep}
+use Rattle.frame_table.proofs.Names.{Holds, Sat, IsKeeper, shape_in, ledger_in, tally_in, keeper_log, order_in, Keeps, keeper_word, keeper_written, found_by, word_of_frame, knows, on_frame, puts}
+use Rattle.frame_table.proofs.Names.{publishes, replaces, withdraws, shows}
 use Rattle.frame_table.proofs.Allowed.{turned, weaker, MayLoad, MayStore, MayExchange, MayAdd, MaySubOne, one_less_word}
 use Rattle.frame_table.proofs.KeeperMay.{keeper_may}
 

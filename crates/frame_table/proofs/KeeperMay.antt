@@ -4,7 +4,8 @@ use Rattle.std.proofs.lemmas.List.{map-set}
 use mathlib.Core.Option.{some}
 use lib.ListN.{get_elem?}
 use Rattle.atomic_table.specs.Table.{keeps, Allows}
-use Rattle.frame_table.proofs.CoreNames.{Shape, frames_of, Event, KeeperStep, Ledger, Phase, Spent as spent_phase, keeper_finds, ledger_after, MayStep, step, only_if, after_keeper, words_of, History, run_of, log_of, keeper_log_of}
+use Rattle.frame_table.proofs.CoreNames.{Shape, frames_of, Event, KeeperStep, Ledger, Phase, Spent as spent_phase, keeper_finds, ledger_after, MayStep, step, only_if, after_keeper, words_of, History}
+use Rattle.frame_table.proofs.CoreNames.{run_of, log_of, keeper_log_of}
 use Rattle.frame_core.specs.declared.event.Event.TheVariants as event
 use Rattle.frame_core.specs.State as core
 use Rattle.frame_core.specs.Rule as core_rule

@@ -1,7 +1,9 @@
 -- A step of the keeper changes one word of the table, and is told what it found there.
 use Rattle.std.proofs.Common.{◌≡◌, ℕ, ◌+◌, ◌-◌, ◌<◌, ◌≤◌, ◌==◌, Bool, true, false, cond, eqb, set, get_or, Some, None, refl, ap, sym, subst, ◌∙◌, arith}
 use Rattle.std.proofs.lemmas.Bool.{eqb-true, eqb-false, eq-eqb, ne_eqb}
-use Rattle.frame_table.proofs.CoreNames.{COUNT_SPAN, Shape, frames_of, KeeperStep, Reap, Put, Raise, Open, Add, Sub, Publish, Replace, Withdraw, Freeze, Word, Kind, Free, Filling, Ledger, State, frame_word, count_in, words_of, frame_word_at, content_at, count_at, frame_word_of, keeper_finds, frame_at, with_frame, MayStep, reaped, filled, raised, opened, added, lowered, named_anew, shown, frozen, after_keeper, Rule, CountFits, GenerationFits}
+use Rattle.frame_table.proofs.CoreNames.{COUNT_SPAN, Shape, frames_of, KeeperStep, Reap, Put, Raise, Open, Add, Sub, Publish, Replace, Withdraw, Freeze, Word, Kind, Free, Filling, Ledger, State}
+use Rattle.frame_table.proofs.CoreNames.{frame_word, count_in, words_of, frame_word_at, content_at, count_at, frame_word_of, keeper_finds, frame_at, with_frame, MayStep, reaped, filled, raised}
+use Rattle.frame_table.proofs.CoreNames.{opened, added, lowered, named_anew, shown, frozen, after_keeper, Rule, CountFits, GenerationFits}
 use Rattle.frame_core.proofs.Above.{as_it_was, base_at_most, count_at_most, life_low, count_found, life_found, word_get, content_get, word_set, note_set, content_set, place_set, words_same}
 use Rattle.frame_table.specs.Keeping.{keeper_word, keeper_written, found_by, word_of_frame, knows}
 

@@ -1,5 +1,6 @@
 -- What a live place shows to lookups, from the core's law and the table's rule.
-use Rattle.std.proofs.Common.{◌≡◌, ◌≢◌, ℕ, suc, ◌<◌, ◌==◌, not, if◌then◌else◌, Bool, true, false, List, [], ◌∷◌, ◌++◌, fold, get_or, Option, Some, None, refl, ap, sym, subst, ◌∙◌, ⊎_elim, arith, eq-eqb, ne_eqb}
+use Rattle.std.proofs.Common.{◌≡◌, ◌≢◌, ℕ, suc, ◌<◌, ◌==◌, not, if◌then◌else◌, Bool, true, false, List, [], ◌∷◌, ◌++◌, fold, get_or, Option, Some, None, refl, ap, sym, subst, ◌∙◌, ⊎_elim, arith}
+use Rattle.std.proofs.Common.{eq-eqb, ne_eqb}
 use Rattle.std.specs.Prelude.{All}
 use Rattle.std.proofs.lemmas.Bool.{eqb-true, eqb-false, and_parts, not-true}
 use Rattle.std.proofs.lemmas.List.Sums.{fold-append}
@@ -8,7 +9,8 @@ use Rattle.frame_core.specs.Ledger.{IsLive}
 use Rattle.frame_core.specs.Live.{LiveAt, Looked, looked_after, looked, found_gone, is_gone}
 use Rattle.frame_core.specs.Rule.{IsNamed}
 use Rattle.frame_core.proofs.Above.{life_of_word, place_get, word_get, run_live}
-use Rattle.frame_table.proofs.CoreNames.{Shape, frames_of, ReaderStep, LoadPlace, LoadFrame, Ledger, Life, Phase, Placed, Rule, SeatRule, State, place_word, life_at, count_in, life_in, named_at, frame_word_of, frame_word_at, is_referenced, phase_at, run_of, log_of}
+use Rattle.frame_table.proofs.CoreNames.{Shape, frames_of, ReaderStep, LoadPlace, LoadFrame, Ledger, Life, Phase, Placed, Rule, SeatRule, State, place_word, life_at, count_in, life_in, named_at}
+use Rattle.frame_table.proofs.CoreNames.{frame_word_of, frame_word_at, is_referenced, phase_at, run_of, log_of}
 use Rattle.frame_table.proofs.Names.{Moment, Holds, IsTrueEntry, ReaderLog, IsAlive, AllLost, IsOld, IsZero, lookup_so_far, rounds}
 use Rattle.frame_table.proofs.Looked.{there}
 use Rattle.frame_table.proofs.Making.{kept, seen, phase_is}

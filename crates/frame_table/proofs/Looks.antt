@@ -1,9 +1,11 @@
 -- The steps of a lookup, put together.
-use Rattle.std.proofs.Common.{◌≡◌, ℕ, ◌+◌, ◌<◌, ◌≤◌, eqb, nat_le, Bool, true, false, cond, Some, None, List, [], ◌∷◌, ◌++◌, length, sym, refl, ap, ◌∙◌, subst, arith, ne_eqb, eq-eqb, append_assoc, length-append}
+use Rattle.std.proofs.Common.{◌≡◌, ℕ, ◌+◌, ◌<◌, ◌≤◌, eqb, nat_le, Bool, true, false, cond, Some, None, List, [], ◌∷◌, ◌++◌, length, sym, refl, ap, ◌∙◌, subst, arith, ne_eqb, eq-eqb, append_assoc}
+use Rattle.std.proofs.Common.{length-append}
 use Rattle.std.proofs.lemmas.Bool.{lt-leb, eqb-false}
 use Rattle.std.proofs.lemmas.Option.{same_Some}
 use Rattle.frame_table.proofs.CoreNames.{Shape, Life, Aim, Phase, Idle, Placed, Counted, LoadPlace, LoadFrame, Exchange, life_at, frame_word, count_in, life_in, aim_of, is_referenced}
-use Rattle.frame_table.proofs.Names.{Round, Lost, Reader, GoesRound, rounds, IsAlive, AllLost, GoesOn, lookup_so_far, TableName, ReaderLog, Sat, sits, log_in, order_in, shape_in, IsIn, reader_after, Steps}
+use Rattle.frame_table.proofs.Names.{Round, Lost, Reader, GoesRound, rounds, IsAlive, AllLost, GoesOn, lookup_so_far, TableName, ReaderLog, Sat, sits, log_in, order_in, shape_in, IsIn, reader_after}
+use Rattle.frame_table.proofs.Names.{Steps}
 use Rattle.atomic_table.specs.Seated.{TableId}
 
 -- from the value of a seat, what `IsIn` says

@@ -12,7 +12,8 @@ pub use Rattle.frame_table.specs.Seat.{reader_word, written}
 pub use Rattle.frame_table.specs.Seats.{Ends, new_pass, newcomer, one_less, one_more}
 pub use Rattle.frame_table.specs.Steps.{IsKeeperStep, IsReaderStep}
 pub use Rattle.frame_table.specs.Truth.{IsOpen, IsTrueEntry, KeepersLogIsTrue, Moment, ReadersLogIsTrue}
-pub use Rattle.frame_table.specs.Views.{IsIn, IsKeeper, KeeperLog, ReaderLog, Sat, keeper_log, keeps_ledger, known_in, ledger_in, log_in, order_in, order_of, phase_of, shape_in, sits, tally_in, tally_of}
+pub use Rattle.frame_table.specs.Views.{IsIn, IsKeeper, KeeperLog, ReaderLog, Sat, keeper_log, keeps_ledger, known_in, ledger_in, log_in, order_in, order_of, phase_of, shape_in, sits, tally_in}
+pub use Rattle.frame_table.specs.Views.{tally_of}
 pub use Rattle.frame_table.specs.Worked.{life_word, loads, named}
 pub use Rattle.frame_table.specs.declared.pass.Round.{Round}
 pub use Rattle.frame_table.specs.declared.pass.Round.TheVariants.{Lost, Old, Won, Zero}

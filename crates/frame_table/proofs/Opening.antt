@@ -6,7 +6,8 @@ use Rattle.std.specs.List.{flat_map}
 use mathlib.Core.Option.{some, some-injective, some-ne-none}
 use lib.ListN.{get_elem?}
 use Rattle.atomic_table.specs.Table as table
-use Rattle.frame_table.proofs.CoreNames.{PAGE_WORDS, LINE_WORDS, Shape, IsShape, frames_of, Phase, Idle, Spent as spent_phase, blank, place_word, first_state, frame_words, words_of, words_for, line_of, page_of, first_history}
+use Rattle.frame_table.proofs.CoreNames.{PAGE_WORDS, LINE_WORDS, Shape, IsShape, frames_of, Phase, Idle, Spent as spent_phase, blank, place_word, first_state, frame_words, words_of, words_for}
+use Rattle.frame_table.proofs.CoreNames.{line_of, page_of, first_history}
 use Rattle.frame_table.proofs.Names.{View, Reader, phase_of, tally_of, Holds, Tied, IsInOrder, all_views, first_view}
 
 -- so many blocks of zeros are zeros

@@ -2,7 +2,9 @@
 use Rattle.std.proofs.Common.{◌≡◌, ℕ, ◌+◌, ◌-◌, ◌<◌, ◌≤◌, Bool, true, false, cond, eqb, set, get_or, Option, Some, None, subst, refl, ap, sym, ◌∙◌, arith, eq-eqb}
 use Rattle.std.proofs.lemmas.Bool.{ltb-true}
 use Rattle.std.proofs.lemmas.Option.{get_or_from_slice_get}
-use Rattle.frame_table.proofs.CoreNames.{PAGE_WORDS, Shape, frames_of, ReaderStep, LoadPlace, LoadFrame, Exchange, Leave, LoadWord, Life, Phase, Idle, Placed, Counted, Held, State, place_word, frame_word, words_of, frame_word_at, content_at, count_at, frame_word_of, counted_up, frame_at, named_at, Rule, SeatRule, is_on, phase_at, may_read, reader_finds, reader_counts, only_if, after_reader}
+use Rattle.frame_table.proofs.CoreNames.{PAGE_WORDS, Shape, frames_of, ReaderStep, LoadPlace, LoadFrame, Exchange, Leave, LoadWord, Life, Phase, Idle, Placed, Counted, Held, State, place_word}
+use Rattle.frame_table.proofs.CoreNames.{frame_word, words_of, frame_word_at, content_at, count_at, frame_word_of, counted_up, frame_at, named_at, Rule, SeatRule, is_on, phase_at, may_read}
+use Rattle.frame_table.proofs.CoreNames.{reader_finds, reader_counts, only_if, after_reader}
 use Rattle.frame_core.proofs.Above.{as_it_was, count_at_most, life_low, referenced, count_found, life_of_word, word_get, content_get, place_get, word_counted}
 use Rattle.frame_table.proofs.Names.{reader_word, written, tells, NamesFrame, IsReaderStep}
 use Rattle.frame_table.proofs.Looked.{there}

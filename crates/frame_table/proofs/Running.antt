@@ -3,7 +3,8 @@ use Rattle.std.proofs.Common.{◌≡◌, ◌↔◌, ℕ, zero, suc, ◌<◌, ◌
 use Rattle.std.proofs.lemmas.Option.{slice_get_within, get_or_from_slice_get}
 use mathlib.Core.Option.{some}
 use lib.ListN.{get_elem?}
-use Rattle.frame_table.proofs.CoreNames.{PAGE_WORDS, Shape, frames_of, Event, Ledger, Aim, Held, State, count_in, life_in, words_of, frame_word_at, frame_at, IsWritable, Rule, SeatRule, is_on, phase_at, History, run_of, keeper_log_of, IsSafe}
+use Rattle.frame_table.proofs.CoreNames.{PAGE_WORDS, Shape, frames_of, Event, Ledger, Aim, Held, State, count_in, life_in, words_of, frame_word_at, frame_at, IsWritable, Rule, SeatRule, is_on}
+use Rattle.frame_table.proofs.CoreNames.{phase_at, History, run_of, keeper_log_of, IsSafe}
 use Rattle.frame_core.proofs.Above.{not_held, referenced, count_found, life_found, word_get, content_get, place_get, run_safe, run_given}
 use Rattle.frame_table.proofs.Names.{Tally, View, Keeper, Reader, Spent, Moment, Holds, Tied, IsKeepers, KeeperLog, TheTableRunsSafely, LedgerIs, HoldIs}
 use Rattle.frame_table.proofs.Making.{kept, seen, seated, phase_is}

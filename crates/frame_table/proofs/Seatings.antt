@@ -1,5 +1,6 @@
 -- The table's rule where a pass is made, where one is given back, and what it says at the end.
-use Rattle.std.proofs.Common.{◌≡◌, ℕ, zero, suc, ◌+◌, ◌-◌, ◌<◌, ◌≤◌, ◌≢◌, Bool, true, false, cond, List, [], ◌∷◌, ◌++◌, map, set, get_or, replicate, count_by, sym, refl, ap, ◌∙◌, subst, ⊎_elim, inl, inr, ◌⊎◌, length, arith, append_assoc, append-nil}
+use Rattle.std.proofs.Common.{◌≡◌, ℕ, zero, suc, ◌+◌, ◌-◌, ◌<◌, ◌≤◌, ◌≢◌, Bool, true, false, cond, List, [], ◌∷◌, ◌++◌, map, set, get_or, replicate, count_by, sym, refl, ap, ◌∙◌, subst, ⊎_elim, inl}
+use Rattle.std.proofs.Common.{inr, ◌⊎◌, length, arith, append_assoc, append-nil}
 use Rattle.std.proofs.lemmas.List.{map-set}
 use Rattle.std.proofs.lemmas.List.Sums.{sum_by-append, sum_by-cons}
 use Rattle.std.proofs.lemmas.Option.{get_or_from_slice_get, slice_get_within}
@@ -13,7 +14,8 @@ use Rattle.frame_table.proofs.CoreNames.{Shape, Event, Ledger, Phase, Idle, Spen
 use Rattle.frame_core.specs.State as core
 use Rattle.frame_core.specs.Rule as core_rule
 use Rattle.frame_core.proofs.Above.{count_set, count_found, life_found, word_get, place_get}
-use Rattle.frame_table.proofs.Names.{Tally, View, Keeper, Reader, Spent, ReaderLog, KeeperLog, phase_of, order_of, tally_of, Begins, later, Moment, Holds, IsAfter, IsInOrder, Tied, all_views, is_out, one_more, newcomer, one_less, Ends}
+use Rattle.frame_table.proofs.Names.{Tally, View, Keeper, Reader, Spent, ReaderLog, KeeperLog, phase_of, order_of, tally_of, Begins, later, Moment, Holds, IsAfter, IsInOrder, Tied, all_views, is_out}
+use Rattle.frame_table.proofs.Names.{one_more, newcomer, one_less, Ends}
 use Rattle.frame_table.proofs.Looked.{got, each_put}
 use Rattle.frame_table.proofs.Orders.{begins_shorter, begins_whole, later_is, between, keeper_log_grows}
 use Rattle.frame_table.proofs.Making.{all_set, out_same, kept, seen}

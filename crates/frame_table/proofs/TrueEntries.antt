@@ -1,5 +1,6 @@
 -- An entry that one seat has written, while no other went on, is the core's step from the state before to that after.
-use Rattle.std.proofs.Common.{◌≡◌, ℕ, suc, ◌<◌, ◌≢◌, ◌⊎◌, Bool, cond, List, [], ◌∷◌, ◌++◌, length, set, fold, get_or, slice_set, Some, true, get_or-set_same, refl, ap, sym, subst, ◌∙◌, inl, inr, arith, eq-eqb, ne_eqb, length-append}
+use Rattle.std.proofs.Common.{◌≡◌, ℕ, suc, ◌<◌, ◌≢◌, ◌⊎◌, Bool, cond, List, [], ◌∷◌, ◌++◌, length, set, fold, get_or, slice_set, Some, true, get_or-set_same, refl, ap, sym, subst, ◌∙◌, inl, inr}
+use Rattle.std.proofs.Common.{arith, eq-eqb, ne_eqb, length-append}
 use Rattle.std.proofs.lemmas.List.{set-set}
 use Rattle.std.proofs.lemmas.Option.{same_Some, slice_get_within}
 use mathlib.Core.Option.{some}
@@ -7,10 +8,12 @@ use mathlib.Core.Logic.{dite}
 use native.Mathlib.Decide.{ℕ_discrete}
 use lib.ListN.{get_elem?}
 use Rattle.atomic_table.proofs.Lists.{set_here, set_else}
-use Rattle.frame_table.proofs.CoreNames.{Shape, Event, ReaderStep, KeeperStep, Phase, Spent as spent_phase, State, step, Rule, words_of, History, history_after, history_with, run_of, log_of, keeper_log_of, phase_at, may_read, seat_after}
+use Rattle.frame_table.proofs.CoreNames.{Shape, Event, ReaderStep, KeeperStep, Phase, Spent as spent_phase, State, step, Rule, words_of, History, history_after, history_with, run_of, log_of}
+use Rattle.frame_table.proofs.CoreNames.{keeper_log_of, phase_at, may_read, seat_after}
 use Rattle.frame_core.specs.declared.event.Event.TheVariants as event
 use Rattle.frame_core.proofs.Above.{seat_there, if_made, step_keeps, run_rule}
-use Rattle.frame_table.proofs.Names.{View, Keeper, Reader, Spent, Begins, Holds, reader_word, written, IsReaderStep, Moment, IsOpen, IsTrueEntry, ReadersLogIsTrue, KeepersLogIsTrue, ReaderLog, KeeperLog}
+use Rattle.frame_table.proofs.Names.{View, Keeper, Reader, Spent, Begins, Holds, reader_word, written, IsReaderStep, Moment, IsOpen, IsTrueEntry, ReadersLogIsTrue, KeepersLogIsTrue, ReaderLog}
+use Rattle.frame_table.proofs.Names.{KeeperLog}
 use Rattle.frame_table.proofs.Looked.{got}
 use Rattle.frame_table.proofs.Orders.{fold_grows, log_grows, keeper_log_grows}
 use Rattle.frame_table.proofs.Making.{phase_is, seen as tied_at}

@@ -2,7 +2,8 @@
 use Rattle.std.specs.Prelude.{◌≡◌, ℕ, Some, ◌+◌, ◌-◌, ◌%◌, ◌<◌, ◌≤◌, ◌==◌, cond, List, [], ◌∷◌, ◌++◌, slice_index}
 use Rattle.atomic_table.specs.Seated.{TableId}
 use Rattle.atomic_table.specs.Table.{Step}
-use Rattle.frame_table.specs.Terms.{COUNT_SPAN, FRAME_WORDS, MOST_LIVES, MOST_REFERENCES, PAGE_WORDS, PLACE_SPAN, frames_of, Event, KeeperStep, Reap, Put, Raise, Open, Add, Sub, Publish, Replace, Withdraw, Freeze, Word, Ledger}
+use Rattle.frame_table.specs.Terms.{COUNT_SPAN, FRAME_WORDS, MOST_LIVES, MOST_REFERENCES, PAGE_WORDS, PLACE_SPAN, frames_of, Event, KeeperStep, Reap, Put, Raise, Open, Add, Sub, Publish, Replace}
+use Rattle.frame_table.specs.Terms.{Withdraw, Freeze, Word, Ledger}
 use Rattle.frame_core.specs.declared.event.Event.TheVariants as event
 use Rattle.frame_core.specs.State.{place_word, frame_word, count_in, life_in}
 use Rattle.frame_core.specs.Words.{frame_word_at, content_at}

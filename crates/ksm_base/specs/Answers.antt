@@ -1,6 +1,7 @@
 -- What a command may answer. Each free choice shows in the answer: a frame that is missing or in use, and where a scan or an
 -- unmerging stopped. Own.
-use Rattle.std.specs.Prelude.{◌≡◌, ℕ, ◌<◌, Bool, true, ◌&&◌, ◌==◌, List, length, filter, count_by, slice_get, Option, Some, None, option_and_then, Result, Ok, Err, MatchBool, MatchOption, if◌then◌else◌}
+use Rattle.std.specs.Prelude.{◌≡◌, ℕ, ◌<◌, Bool, true, ◌&&◌, ◌==◌, List, length, filter, count_by, slice_get, Option, Some, None, option_and_then, Result, Ok, Err, MatchBool, MatchOption}
+use Rattle.std.specs.Prelude.{if◌then◌else◌}
 use Rattle.std.specs.List.{list_any}
 use Rattle.ksm_base.specs.declared.row.Row.{Row}
 use Rattle.ksm_base.specs.declared.command.Command.{Command}

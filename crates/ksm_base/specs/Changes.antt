@@ -7,9 +7,7 @@ use Rattle.ksm_base.specs.declared.page.GuestPage.{GuestPage}
 use Rattle.ksm_base.specs.declared.row.PageState.TheVariants.{Private, Waiting}
 use Rattle.ksm_base.specs.declared.row.Row.{Row}
 use Rattle.ksm_base.specs.declared.command.Command.{Command}
-use Rattle.ksm_base.specs.declared.command.Command.TheVariants.{Register, Drop, Store, Scan, Prune, Unmerge}
-use Rattle.ksm_base.specs.declared.command.Command.TheVariants.{Mergeable, MovePage, MoveDup, SetRun}
-use Rattle.ksm_base.specs.declared.command.Command.TheVariants.{SetPagesToScan, SetAcross, SetLimit, SetZeroPages}
+use Rattle.ksm_base.specs.declared.command.Command.TheVariants.{Register, Drop, Store, Scan, Prune, Unmerge, Mergeable, MovePage, MoveDup, SetRun, SetPagesToScan, SetAcross, SetLimit, SetZeroPages}
 use Rattle.ksm_base.specs.declared.reply.Reply.{Reply}
 use Rattle.ksm_base.specs.declared.reply.Reply.TheVariants.{Done, Scanned, Pruned, Unmerged}
 use Rattle.ksm_base.specs.Rows.{row_at, shared_state}

@@ -2,23 +2,18 @@
 -- and dups there are.
 -- Refusals and Answers say the same by tests in an order; that both agree, each way, is the law
 -- `each_answer_has_its_reason`. Own.
-use Rattle.std.specs.Prelude.{◌≡◌, ◌≢◌, ℕ, ◌+◌, ◌<◌, ◌≤◌, Bool, true, ◌&&◌, List, ◌∷◌, ◌++◌, length, count_by, Any}
-use Rattle.std.specs.Prelude.{◌⊎◌, Some, None, Ok, Err}
+use Rattle.std.specs.Prelude.{◌≡◌, ◌≢◌, ℕ, ◌+◌, ◌<◌, ◌≤◌, Bool, true, ◌&&◌, List, ◌∷◌, ◌++◌, length, count_by, Any, ◌⊎◌, Some, None, Ok, Err}
 use Rattle.ksm_base.specs.declared.limits.TheConstants.{MOST_REFERENCES}
 use Rattle.ksm_base.specs.declared.page.GuestPage.{GuestPage}
 use Rattle.ksm_base.specs.declared.row.PageState.TheVariants.{Merged, Zero}
 use Rattle.ksm_base.specs.declared.row.Row.{Row}
 use Rattle.ksm_base.specs.declared.row.DupRow.{DupRow}
 use Rattle.ksm_base.specs.declared.command.Command.{Command}
-use Rattle.ksm_base.specs.declared.command.Command.TheVariants.{Register, Drop, Store, Scan, Prune, Unmerge}
-use Rattle.ksm_base.specs.declared.command.Command.TheVariants.{Mergeable, MovePage, MoveDup, SetRun}
-use Rattle.ksm_base.specs.declared.command.Command.TheVariants.{SetPagesToScan, SetAcross, SetLimit, SetZeroPages}
+use Rattle.ksm_base.specs.declared.command.Command.TheVariants.{Register, Drop, Store, Scan, Prune, Unmerge, Mergeable, MovePage, MoveDup, SetRun, SetPagesToScan, SetAcross, SetLimit, SetZeroPages}
 use Rattle.ksm_base.specs.declared.reply.Reply.{Reply}
 use Rattle.ksm_base.specs.declared.reply.Reply.TheVariants.{Done, Scanned, Pruned, Unmerged}
 use Rattle.ksm_base.specs.declared.fault.Fault.{Fault}
-use Rattle.ksm_base.specs.declared.fault.Fault.TheVariants.{Memory, UnknownPage, AlreadyRegistered, NoFrame}
-use Rattle.ksm_base.specs.declared.fault.Fault.TheVariants.{NotRunning, SharedPages, BadValue, InUse, CrossesNodes}
-use Rattle.ksm_base.specs.declared.fault.Fault.TheVariants.{UnknownPlace, BadNode}
+use Rattle.ksm_base.specs.declared.fault.Fault.TheVariants.{Memory, UnknownPage, AlreadyRegistered, NoFrame, NotRunning, SharedPages, BadValue, InUse, CrossesNodes, UnknownPlace, BadNode}
 use Rattle.ksm_base.specs.Rows.{row_at, shared_state}
 use Rattle.ksm_base.specs.State.{BookState}
 use Rattle.ksm_base.specs.Counting.{shared_count}

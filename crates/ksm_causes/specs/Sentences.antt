@@ -1,6 +1,5 @@
 -- The sentences that say why a line is bad (own).
-use Rattle.std.specs.Prelude.{ℕ, ◌-◌, ◌*◌, ◌/◌, ◌%◌, false, nat_lt, List, [], ◌∷◌, length, drop, take, codes, decimal}
-use Rattle.std.specs.Prelude.{slice_index, if◌then◌else◌}
+use Rattle.std.specs.Prelude.{ℕ, ◌-◌, ◌*◌, ◌/◌, ◌%◌, false, nat_lt, List, [], ◌∷◌, length, drop, take, codes, decimal, slice_index, if◌then◌else◌}
 use Rattle.std.specs.Fmt.{digit_glyph}
 use Rattle.std.specs.Str.{is_utf8}
 use Rattle.std.specs.List.{concat}

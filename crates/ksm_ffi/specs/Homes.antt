@@ -1,6 +1,5 @@
 -- The passes of a table that are not out: what lending one says, and taking one back (own).
-use Rattle.std.specs.Prelude.{◌≡◌, ◌≢◌, ◌<◌, ◌≤◌, ℕ, ◌⊎◌, List, [], ◌∷◌, ◌++◌, length, map, replicate}
-use Rattle.std.specs.Prelude.{Result, Ok, Err}
+use Rattle.std.specs.Prelude.{◌≡◌, ◌≢◌, ◌<◌, ◌≤◌, ℕ, ◌⊎◌, List, [], ◌∷◌, ◌++◌, length, map, replicate, Result, Ok, Err}
 use Rattle.frame_table.specs.Named.{PassView, TableName}
 use Rattle.frame_table.specs.Seats.{new_pass}
 use Rattle.ksm_ffi.specs.declared.answer.Answer.{Answer}

@@ -1,5 +1,7 @@
 -- What a run wrote is a beginning of the replies to what it read.
-use Rattle.ksm_host.proofs.Names.{[], AllRead, AnsweredAll, AnsweredLast, ap, append-nil, append_assoc, append_known, Appends, Appends-kept, AppendsBroken, AppendsPart, bad_line, BadLine, Bool, Broken, End, Err, false, inl, inr, Keeps, LineReply, List, more, None, Ok, Option, Read, refl, Replies, Result, RunFault, Runs, ScriptState, Serves, Some, status_after, Streams, subst, text_of, true, Write, ℕ, ◌++◌, ◌+◌, ◌∙◌, ◌∷◌, ◌≡◌}
+use Rattle.ksm_host.proofs.Names.{[], AllRead, AnsweredAll, AnsweredLast, ap, append-nil, append_assoc, append_known, Appends, Appends-kept, AppendsBroken, AppendsPart, bad_line, BadLine, Bool}
+use Rattle.ksm_host.proofs.Names.{Broken, End, Err, false, inl, inr, Keeps, LineReply, List, more, None, Ok, Option, Read, refl, Replies, Result, RunFault, Runs, ScriptState, Serves, Some}
+use Rattle.ksm_host.proofs.Names.{status_after, Streams, subst, text_of, true, Write, ℕ, ◌++◌, ◌+◌, ◌∙◌, ◌∷◌, ◌≡◌}
 
 whole : (begun written : Option (List ℕ)) (text : List ℕ) → Appends begun written text → AppendsPart begun written text
 whole begun written text h = (text, [], append-nil text, h)

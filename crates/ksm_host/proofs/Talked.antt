@@ -1,5 +1,6 @@
 -- However a session ended, its run had a dialogue.
-use Rattle.ksm_host.proofs.Names.{AllRead, BadLine, Bool, Broken, Dialogue, End, Err, false, HasReplied, HasTalked, inl, inr, List, Ok, OnOk, Option, refl, Result, RunFault, RunTalks, ScriptState, status_after, true, Write, ℕ, ◌≡◌}
+use Rattle.ksm_host.proofs.Names.{AllRead, BadLine, Bool, Broken, Dialogue, End, Err, false, HasReplied, HasTalked, inl, inr, List, Ok, OnOk, Option, refl, Result, RunFault, RunTalks, ScriptState}
+use Rattle.ksm_host.proofs.Names.{status_after, true, Write, ℕ, ◌≡◌}
 
 module _ {R W : Type 0} (takes : R → R → List ℕ → Type 0) (waits : W → R → R → Option (List ℕ) → Type 0) (fails is_sent : W → Type 0)
     (contents : W → Option (List ℕ)) (from : ScriptState) (first last : R) (begun writer later : W) where

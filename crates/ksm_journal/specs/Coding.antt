@@ -11,10 +11,12 @@ use Rattle.ksm_base.specs.declared.fault.Fault.TheVariants.{UnknownPage, Already
 use Rattle.ksm_base.specs.Answers.{Answer}
 use Rattle.ksm_base.specs.Journal.{Entry}
 use Rattle.ksm_journal.specs.declared.code.CommandKind.{CommandKind}
-use Rattle.ksm_journal.specs.declared.code.CommandKind.TheVariants.{Storing, Registering0, Registering1, Registering2, Registering3, Dropping, Scanning, Unmerging, MakingMergeable, MovingPage, MovingDup, SettingRun, SettingPagesToScan, SettingAcross, SettingLimit, SettingZeroPages, StoringPage, RegisteringPage, Whole}
+use Rattle.ksm_journal.specs.declared.code.CommandKind.TheVariants.{Storing, Registering0, Registering1, Registering2, Registering3, Dropping, Scanning, Unmerging, MakingMergeable, MovingPage}
+use Rattle.ksm_journal.specs.declared.code.CommandKind.TheVariants.{MovingDup, SettingRun, SettingPagesToScan, SettingAcross, SettingLimit, SettingZeroPages, StoringPage, RegisteringPage, Whole}
 use Rattle.ksm_journal.specs.declared.code.CommandCode.{CommandCode}
 use Rattle.ksm_journal.specs.declared.code.AnswerCode.{AnswerCode}
-use Rattle.ksm_journal.specs.declared.code.AnswerCode.TheVariants.{AllDone, PageUnknown, PageKnown, FrameMissing0, FrameMissing1, FrameMissing2, FrameMissing3, ScanStands, PagesShared, ValueOutOfRange, DupInUse, NodesCrossed, PlaceUnknown, NodeUnknown, NumberScanned, NoneScanned, NumberPruned, NumberUnmerged}
+use Rattle.ksm_journal.specs.declared.code.AnswerCode.TheVariants.{AllDone, PageUnknown, PageKnown, FrameMissing0, FrameMissing1, FrameMissing2, FrameMissing3, ScanStands, PagesShared}
+use Rattle.ksm_journal.specs.declared.code.AnswerCode.TheVariants.{ValueOutOfRange, DupInUse, NodesCrossed, PlaceUnknown, NodeUnknown, NumberScanned, NoneScanned, NumberPruned, NumberUnmerged}
 use Rattle.ksm_journal.specs.declared.code.StoredPage.{StoredPage}
 
 -- a page full of one byte

@@ -1,5 +1,6 @@
 -- What stands at the front of a text.
-use Rattle.ksm_lines.proofs.Names.{[], AllPass-from_list_all, ap, append_assoc, arith, Bool, drop, get_or, get_or-take, length, length-take, List, list_all, sym, take, take-append-drop, take_more, take_rest, true, ℕ, ◌++◌, ◌+◌, ◌-◌, ◌<◌, ◌∙◌, ◌∷◌, ◌≡◌, ◌≤◌}
+use Rattle.ksm_lines.proofs.Names.{[], AllPass-from_list_all, ap, append_assoc, arith, Bool, drop, get_or, get_or-take, length, length-take, List, list_all, sym, take, take-append-drop, take_more}
+use Rattle.ksm_lines.proofs.Names.{take_rest, true, ℕ, ◌++◌, ◌+◌, ◌-◌, ◌<◌, ◌∙◌, ◌∷◌, ◌≡◌, ◌≤◌}
 
 -- where all bytes at the front of a text pass a test, each byte there passes
 pub passes_in : (p : ℕ → Bool) (text : List ℕ) (i k : ℕ) → list_all p (take i text) ≡ true → k < i → i ≤ length text → p (get_or text k 0) ≡ true

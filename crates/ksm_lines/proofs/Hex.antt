@@ -1,5 +1,6 @@
 -- The values of hexadecimal digits.
-use Rattle.ksm_lines.proofs.Names.{and_parts, arith, Bool, cases_lt, digit_or_none, DIGIT_VALUES, eqb, eqb-true, hex_value, inl, inr, lt-ltb, ltb, not, refl, slice_index, suc, true, zero, ℕ, ◌&&◌, ◌<◌, ◌==◌, ◌||◌, ◌∙◌, ◌≡◌}
+use Rattle.ksm_lines.proofs.Names.{and_parts, arith, Bool, cases_lt, digit_or_none, DIGIT_VALUES, eqb, eqb-true, hex_value, inl, inr, lt-ltb, ltb, not, refl, slice_index, suc, true, zero, ℕ, ◌&&◌}
+use Rattle.ksm_lines.proofs.Names.{◌<◌, ◌==◌, ◌||◌, ◌∙◌, ◌≡◌}
 use Rattle.ksm_lines.proofs.Booleans.{implied}
 
 -- a test of all numbers below n

@@ -1,5 +1,8 @@
 -- Digits, many at once.
-use Rattle.ksm_lines.proofs.Names.{[], and_parts, ap, ap₂, arith, bitmask_splat, Bool, byte_at, cond, digits_of_word, Each1, eqb, eqb-true, false, Fits, get_or, get_or-chunk, get_or-map, get_or_append_left, hex_value, is_ascii_hexdigit, is_small, length, length-chunk, List, list_all, list_all-append, list_all-map, lt-ltb, ltb, ltb-false, ltb-true, map, map-id, mask_l, ne_eqb, not, pair_in, range_with_len, refl, replicate, sel_l, splat_is_map, suc, sym, take, take-add, take_all, top, true, zero, zip2, zip2_of_maps, zip2_splat, zip2_splat_left, ℕ, ◌%◌, ◌&&◌, ◌*◌, ◌++◌, ◌+◌, ◌<◌, ◌^◌, ◌||◌, ◌∙◌, ◌∷◌, ◌≡◌, ◌≤◌}
+use Rattle.ksm_lines.proofs.Names.{[], and_parts, ap, ap₂, arith, bitmask_splat, Bool, byte_at, cond, digits_of_word, Each1, eqb, eqb-true, false, Fits, get_or, get_or-chunk, get_or-map}
+use Rattle.ksm_lines.proofs.Names.{get_or_append_left, hex_value, is_ascii_hexdigit, is_small, length, length-chunk, List, list_all, list_all-append, list_all-map, lt-ltb, ltb, ltb-false, ltb-true}
+use Rattle.ksm_lines.proofs.Names.{map, map-id, mask_l, ne_eqb, not, pair_in, range_with_len, refl, replicate, sel_l, splat_is_map, suc, sym, take, take-add, take_all, top, true, zero, zip2}
+use Rattle.ksm_lines.proofs.Names.{zip2_of_maps, zip2_splat, zip2_splat_left, ℕ, ◌%◌, ◌&&◌, ◌*◌, ◌++◌, ◌+◌, ◌<◌, ◌^◌, ◌||◌, ◌∙◌, ◌∷◌, ◌≡◌, ◌≤◌}
 use Rattle.std.proofs.Common.{w8}
 use Rattle.ksm_lines.proofs.Booleans.{implied}
 use Rattle.ksm_lines.proofs.Front.{passes_in}

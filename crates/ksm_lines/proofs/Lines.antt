@@ -1,5 +1,8 @@
 -- Bytes are read as a line exactly where they write it.
-use Rattle.ksm_lines.proofs.Names.{IfErr, Bool, list_all, ltb, ap, AreWritten, arith, bytes_eq, bytes_eq-Decides, cond, content, Err, Form, form_in, Gives, guest, IfOk, IsLine, IsOf, IsWritten, Kind, kind_of, knob, Knob, knob_name, knob_of, left_out, Line, line_at, line_of, LineFault, List, made, MaxPageSharing, MergeAcrossNodes, named_in, None, number, OfKnob, Ok, Option, option_map, PagesToScan, Part, read, refl, Result, Run, Shown, shown, shown_name, shown_of, Some, sym, Told, true, false, UseZeroPages, Values, values, visits, ZeroPages, ℕ, [], ◌>>=◌, ◌^◌, ◌∙◌, ◌∷◌, ◌≡◌}
+use Rattle.ksm_lines.proofs.Names.{IfErr, Bool, list_all, ltb, ap, AreWritten, arith, bytes_eq, bytes_eq-Decides, cond, content, Err, Form, form_in, Gives, guest, IfOk, IsLine, IsOf, IsWritten, Kind}
+use Rattle.ksm_lines.proofs.Names.{kind_of, knob, Knob, knob_name, knob_of, left_out, Line, line_at, line_of, LineFault, List, made, MaxPageSharing, MergeAcrossNodes, named_in, None, number, OfKnob}
+use Rattle.ksm_lines.proofs.Names.{Ok, Option, option_map, PagesToScan, Part, read, refl, Result, Run, Shown, shown, shown_name, shown_of, Some, sym, Told, true, false, UseZeroPages, Values, values}
+use Rattle.ksm_lines.proofs.Names.{visits, ZeroPages, ℕ, [], ◌>>=◌, ◌^◌, ◌∙◌, ◌∷◌, ◌≡◌}
 use Rattle.ksm_lines.proofs.Numbers.{number_takes, number_again}
 
 -- values that are there and equal are equal

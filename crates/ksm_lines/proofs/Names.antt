@@ -3,7 +3,8 @@ pub use Rattle.ksm_base.specs.declared.page.GuestPage.{GuestPage}
 pub use Rattle.ksm_base.specs.declared.page.TheConstants.{PAGE_WORDS}
 pub use Rattle.ksm_lines.specs.Content.{byte_at, content_of, digit_or_none, digits_of_word, hex_value, is_small, page_of, pair_in, word_at}
 pub use Rattle.ksm_lines.specs.Digits.{IsReadTo}
-pub use Rattle.ksm_lines.specs.Grammar.{AreWritten, at, content, Form, form_in, forms, guest, IsLine, IsNoLine, IsOf, IsWritten, Kind, kind_of, knob, left_out, made, Makes, number, shown, Told, Values, visits, words_of, Writes}
+pub use Rattle.ksm_lines.specs.Grammar.{AreWritten, at, content, Form, form_in, forms, guest, IsLine, IsNoLine, IsOf, IsWritten, Kind, kind_of, knob, left_out, made, Makes, number, shown, Told}
+pub use Rattle.ksm_lines.specs.Grammar.{Values, visits, words_of, Writes}
 pub use Rattle.ksm_lines.specs.Knobs.{knob_name, knob_of, named_in, shown_name, shown_of}
 pub use Rattle.ksm_lines.specs.Leading.{BeginsWith}
 pub use Rattle.ksm_lines.specs.Reading.{ended, field, Gives, GivesLast, is_plain, line_at, line_of, named_line, number_below, read, values, words_left, ◌>>=◌}
@@ -17,7 +18,9 @@ pub use Rattle.ksm_lines.specs.declared.line.Line.{Line}
 pub use Rattle.ksm_lines.specs.declared.line.LineFault.{LineFault}
 pub use Rattle.ksm_lines.specs.declared.part.Part.{Part}
 pub use Rattle.ksm_lines.specs.declared.part.Part.TheVariants as parts
-pub use Rattle.std.proofs.Common.{[], All, ap, append_assoc, ap₂, arith, Bool, cond, drop, eq-eqb, eqb, Err, false, Fits, get_or, inl, inr, length, length-set, List, ltb, map, None, not, Ok, Option, refl, replicate, Result, rules, set, Some, subst, suc, sym, take, take-append-drop, take-take, true, zero, ℕ, ◌%◌, ◌&&◌, ◌*◌, ◌++◌, ◌+◌, ◌-◌, ◌<◌, ◌==◌, ◌^◌, ◌||◌, ◌∙◌, ◌∷◌, ◌≡◌, ◌≢◌, ◌≤◌}
+pub use Rattle.std.proofs.Common.{[], All, ap, append_assoc, ap₂, arith, Bool, cond, drop, eq-eqb, eqb, Err, false, Fits, get_or, inl, inr, length, length-set, List, ltb, map, None, not, Ok, Option}
+pub use Rattle.std.proofs.Common.{refl, replicate, Result, rules, set, Some, subst, suc, sym, take, take-append-drop, take-take, true, zero, ℕ, ◌%◌, ◌&&◌, ◌*◌, ◌++◌, ◌+◌, ◌-◌, ◌<◌, ◌==◌, ◌^◌, ◌||◌}
+pub use Rattle.std.proofs.Common.{◌∙◌, ◌∷◌, ◌≡◌, ◌≢◌, ◌≤◌}
 pub use Rattle.std.proofs.Math.Seq.{take-add}
 pub use Rattle.std.proofs.lemmas.Bool.{and_parts, cases_lt, eqb-true, le-ltb, lt-ltb, ltb-false, ltb-true, ne_eqb}
 pub use Rattle.std.proofs.lemmas.Fmt.{decimal-digits_value, decimal_digit, decimal_nonempty, digits_decimal, digits_value-decimal, first_decimal}

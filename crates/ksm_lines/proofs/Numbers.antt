@@ -1,5 +1,8 @@
 -- A word is read as a number exactly where it is the number's decimal text.
-use Rattle.ksm_lines.proofs.Names.{and_parts, ap, ap₂, arith, Bool, cases_lt, decimal, decimal-digits_value, decimal_digit, decimal_nonempty, digit_value, digits_decimal, digits_value, digits_value-decimal, digits_value_more, eq-eqb, eqb, eqb-true, false, first_decimal, get_or, inl, inr, is_ascii_digit, is_plain, digits_value-take-le, None, IsNumeralModel, IsReadTo, le-ltb, length, List, list_all, list_all_more, lt-ltb, ltb, ltb-true, not, number_below, numerals_by_value, refl, rules, Some, subst, sym, take, true, ℕ, ◌&&◌, ◌*◌, ◌+◌, ◌-◌, ◌<◌, ◌^◌, ◌||◌, ◌∙◌, ◌≡◌, ◌≤◌}
+use Rattle.ksm_lines.proofs.Names.{and_parts, ap, ap₂, arith, Bool, cases_lt, decimal, decimal-digits_value, decimal_digit, decimal_nonempty, digit_value, digits_decimal, digits_value}
+use Rattle.ksm_lines.proofs.Names.{digits_value-decimal, digits_value_more, eq-eqb, eqb, eqb-true, false, first_decimal, get_or, inl, inr, is_ascii_digit, is_plain, digits_value-take-le, None}
+use Rattle.ksm_lines.proofs.Names.{IsNumeralModel, IsReadTo, le-ltb, length, List, list_all, list_all_more, lt-ltb, ltb, ltb-true, not, number_below, numerals_by_value, refl, rules, Some, subst, sym}
+use Rattle.ksm_lines.proofs.Names.{take, true, ℕ, ◌&&◌, ◌*◌, ◌+◌, ◌-◌, ◌<◌, ◌^◌, ◌||◌, ◌∙◌, ◌≡◌, ◌≤◌}
 use Rattle.ksm_lines.proofs.Booleans.{chosen, implied, is_chosen}
 
 -- the test for decimal digits and the value of a text of digits are a model of numerals

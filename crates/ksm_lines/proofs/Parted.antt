@@ -1,5 +1,8 @@
 -- Lines at the front of a text, word by word, each with the byte behind it.
-use Rattle.ksm_lines.proofs.Names.{[], All, All-append, All-cons, ap, append_assoc, AreWritten, arith, BeginsWith, Bool, cond, content_of, decimal, decimal-digits_value, digits_decimal, digits_value, drop, false, form_in, get_or, get_or-take, is_ascii_digit, is_ascii_hexdigit, IsLine, IsOf, IsReadTo, IsWritten, kind_of, knob_of, length, length-take-le, Line, line_at, List, list_all, made, Makes, None, not, OfKnob, Option, Part, refl, Knob, Shown, shown_name, shown_of, GuestPage, slice_split_at, slice_split_none, Some, subst, sym, take, Told, true, Values, words_of, ℕ, ◌++◌, ◌+◌, ◌-◌, ◌<◌, ◌^◌, ◌∙◌, ◌∷◌, ◌≡◌, ◌≢◌, ◌≤◌}
+use Rattle.ksm_lines.proofs.Names.{[], All, All-append, All-cons, ap, append_assoc, AreWritten, arith, BeginsWith, Bool, cond, content_of, decimal, decimal-digits_value, digits_decimal, digits_value}
+use Rattle.ksm_lines.proofs.Names.{drop, false, form_in, get_or, get_or-take, is_ascii_digit, is_ascii_hexdigit, IsLine, IsOf, IsReadTo, IsWritten, kind_of, knob_of, length, length-take-le, Line}
+use Rattle.ksm_lines.proofs.Names.{line_at, List, list_all, made, Makes, None, not, OfKnob, Option, Part, refl, Knob, Shown, shown_name, shown_of, GuestPage, slice_split_at, slice_split_none, Some}
+use Rattle.ksm_lines.proofs.Names.{subst, sym, take, Told, true, Values, words_of, ℕ, ◌++◌, ◌+◌, ◌-◌, ◌<◌, ◌^◌, ◌∙◌, ◌∷◌, ◌≡◌, ◌≢◌, ◌≤◌}
 use Rattle.ksm_lines.proofs.Names.parts
 use Rattle.ksm_lines.proofs.Numbers.{own}
 use Rattle.ksm_lines.proofs.Front.{parted_at}

@@ -1,5 +1,8 @@
 -- Words, parted at each space.
-use Rattle.ksm_lines.proofs.Names.{[], ◌≢◌, number, after_first, arith, All, All-weaker, AllPass-from_list_all, ap, before_first, Bool, cases_lt, drop, ended, eqb, eqb-true, fails_before_first, Err, false, get_or, Gives, GivesLast, inl, inr, is_ok, is_some, kind_of, length, LineFault, List, list_all, list_all_at, lt-ltb, ltb-true, None, ne_eqb, Ok, Option, Part, passes_at_first, position, position_or_len, read, refl, Result, slice_split_first, slice_split_none, Some, sym, take, take_rest, true, values, words_of, ℕ, ◌+◌, ◌-◌, ◌<◌, ◌>>=◌, ◌∙◌, ◌∷◌, ◌≡◌}
+use Rattle.ksm_lines.proofs.Names.{[], ◌≢◌, number, after_first, arith, All, All-weaker, AllPass-from_list_all, ap, before_first, Bool, cases_lt, drop, ended, eqb, eqb-true, fails_before_first, Err}
+use Rattle.ksm_lines.proofs.Names.{false, get_or, Gives, GivesLast, inl, inr, is_ok, is_some, kind_of, length, LineFault, List, list_all, list_all_at, lt-ltb, ltb-true, None, ne_eqb, Ok, Option, Part}
+use Rattle.ksm_lines.proofs.Names.{passes_at_first, position, position_or_len, read, refl, Result, slice_split_first, slice_split_none, Some, sym, take, take_rest, true, values, words_of, ℕ, ◌+◌, ◌-◌}
+use Rattle.ksm_lines.proofs.Names.{◌<◌, ◌>>=◌, ◌∙◌, ◌∷◌, ◌≡◌}
 use Rattle.ksm_lines.proofs.Names.parts
 use Rattle.ksm_lines.proofs.Booleans.{is_chosen}
 

@@ -1,6 +1,5 @@
 -- The hexadecimal texts of a page's content (own).
-use Rattle.std.specs.Prelude.{◌≡◌, true, ℕ, Bool, ◌+◌, ◌*◌, not, ◌==◌, nat_lt, List, length, map, take, drop, Option}
-use Rattle.std.specs.Prelude.{Some, None, slice_index, if◌then◌else◌}
+use Rattle.std.specs.Prelude.{◌≡◌, true, ℕ, Bool, ◌+◌, ◌*◌, not, ◌==◌, nat_lt, List, length, map, take, drop, Option, Some, None, slice_index, if◌then◌else◌}
 use Rattle.std.specs.Char.{digit_value, is_ascii_hexdigit}
 use Rattle.std.specs.Int.{w64, from_le_bytes}
 use Rattle.std.specs.List.{list_all, range_with_len}

@@ -5,8 +5,7 @@ use Rattle.ksm_base.specs.declared.page.GuestPage.{GuestPage}
 use Rattle.ksm_lines.specs.declared.knob.Knob as knobs
 use Rattle.ksm_lines.specs.declared.knob.Shown as showns
 use Rattle.ksm_lines.specs.declared.part.Part.{Part}
-use Rattle.ksm_lines.specs.declared.part.Part.TheVariants.{Guest, Page, Node, Place, Pass, Visits, Value}
-use Rattle.ksm_lines.specs.declared.part.Part.TheVariants.{Content, Knob, Shown}
+use Rattle.ksm_lines.specs.declared.part.Part.TheVariants.{Guest, Page, Node, Place, Pass, Visits, Value, Content, Knob, Shown}
 use Rattle.ksm_lines.specs.declared.line.Line.{Line}
 use Rattle.ksm_lines.specs.declared.line.Line.TheVariants as lines
 use Rattle.ksm_lines.specs.declared.line.PageLine.TheVariants as pages

@@ -1,16 +1,14 @@
 -- The knobs, and what else is shown, by their names (admin-guide/mm/ksm).
 use Rattle.std.specs.Prelude.{ℕ, List, [], ◌∷◌, Option, Some, None, option_map, codes, bytes_eq, if◌then◌else◌}
 use Rattle.ksm_base.specs.declared.command.Command.{Command}
-use Rattle.ksm_base.specs.declared.command.Command.TheVariants.{SetRun, SetPagesToScan, SetAcross, SetLimit}
-use Rattle.ksm_base.specs.declared.command.Command.TheVariants.{SetZeroPages}
+use Rattle.ksm_base.specs.declared.command.Command.TheVariants.{SetRun, SetPagesToScan, SetAcross, SetLimit, SetZeroPages}
 use Rattle.ksm_base.specs.declared.knobs.Knobs.{Knobs}
 use Rattle.ksm_base.specs.Counting.{counters_of}
 use Rattle.ksm_base.specs.State.{BookState}
 use Rattle.ksm_lines.specs.declared.knob.Knob.{Knob}
 use Rattle.ksm_lines.specs.declared.knob.Shown.{Shown}
 use Rattle.ksm_lines.specs.declared.knob.Shown.TheVariants.{Knob as OfKnob, ZeroPages}
-use Rattle.ksm_lines.specs.declared.knob.Knob.TheVariants.{Run, PagesToScan, MergeAcrossNodes, MaxPageSharing}
-use Rattle.ksm_lines.specs.declared.knob.Knob.TheVariants.{UseZeroPages}
+use Rattle.ksm_lines.specs.declared.knob.Knob.TheVariants.{Run, PagesToScan, MergeAcrossNodes, MaxPageSharing, UseZeroPages}
 
 -- the name of a knob
 abbrev pub knob_name : Knob → List ℕ

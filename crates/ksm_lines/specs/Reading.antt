@@ -1,6 +1,5 @@
 -- Reading the words of a line from left to right.
-use Rattle.std.specs.Prelude.{◌≡◌, ℕ, ◌+◌, ◌^◌, Bool, not, ◌&&◌, ◌||◌, ◌==◌, nat_lt, List, [], ◌∷◌, length, Option}
-use Rattle.std.specs.Prelude.{Some, None, option_map, Result, Ok, Err, slice_index, if◌then◌else◌}
+use Rattle.std.specs.Prelude.{◌≡◌, ℕ, ◌+◌, ◌^◌, Bool, not, ◌&&◌, ◌||◌, ◌==◌, nat_lt, List, [], ◌∷◌, length, Option, Some, None, option_map, Result, Ok, Err, slice_index, if◌then◌else◌}
 use Rattle.std.specs.Char.{is_ascii_digit}
 use Rattle.std.specs.List.{list_all}
 use Rattle.std.specs.Str.Parse.{digits_value}
@@ -10,8 +9,7 @@ use Rattle.ksm_lines.specs.declared.line.LineFault.{LineFault}
 use Rattle.ksm_lines.specs.Content.{content_of}
 use Rattle.ksm_lines.specs.declared.line.Line.{Line}
 use Rattle.ksm_lines.specs.declared.part.Part.{Part}
-use Rattle.ksm_lines.specs.Grammar.{words_of, Kind, guest, number, visits, content, knob, shown, kind_of, Told, left_out}
-use Rattle.ksm_lines.specs.Grammar.{Values, Form, made, form_in}
+use Rattle.ksm_lines.specs.Grammar.{words_of, Kind, guest, number, visits, content, knob, shown, kind_of, Told, left_out, Values, Form, made, form_in}
 use Rattle.ksm_lines.specs.Knobs.{knob_of, shown_of}
 
 -- the words of what is left of a line, if anything is

@@ -1,22 +1,16 @@
 -- What any word may be, where clap finds no fault.
-use Rattle.std.proofs.Common.{◌≡◌, ◌∙◌, ap, refl, sym, codes, true, false, List, [], ◌∷◌, ◌++◌, Option, Some, None, Bool, ℕ, cond, ◌||◌}
-use Rattle.std.specs.Prelude.{◌==◌, option_and_then}
+use Rattle.std.proofs.Common.{◌≡◌, ◌∙◌, ap, refl, sym, codes, true, false, List, [], ◌∷◌, ◌++◌, Option, Some, None, Bool, ℕ, cond, ◌||◌, inl, inr, ◌⊎◌, arith, ◌+◌, take}
+use Rattle.std.specs.Prelude.{◌==◌, option_and_then, slice_get, length, drop, suc}
 use Rattle.std.specs.Option.{option_map_or}
-use Rattle.std.specs.Str.{bytes_eq}
-use Rattle.clap.specs.Lexer.{long_of, short_of}
+use Rattle.std.specs.Str.{bytes_eq, chars}
+use Rattle.clap.specs.Lexer.{long_of, short_of, strip_byte, long_of_rest, has_byte}
 use Rattle.clap.specs.Kinds.{Kinds}
 use Rattle.std.proofs.lemmas.Slice.Eq.{bytes_eq-Decides}
-use Rattle.clap.specs.Faults.{long_fault, settle_fault}
-use Rattle.std.proofs.Common.{inl, inr, ◌⊎◌, arith, ◌+◌, take}
+use Rattle.clap.specs.Faults.{long_fault, settle_fault, flag_word_fault, flags_fault, bundle_fault, bundle_step_fault, short_fault}
 use Rattle.std.specs.List.{position_or_len, before_first, after_first}
-use Rattle.std.specs.Prelude.{slice_get, length, drop, suc}
-use Rattle.std.specs.Str.{chars}
-use Rattle.clap.specs.Lexer.{strip_byte, long_of_rest, has_byte}
-use Rattle.clap.specs.Faults.{flag_word_fault, flags_fault, bundle_fault, bundle_step_fault, short_fault}
-use Rattle.clap.specs.Walk.{long_or_other, short_or_plain, plain_word, after_flag, arg_by_short, plain}
+use Rattle.clap.specs.Walk.{long_or_other, short_or_plain, plain_word, after_flag, arg_by_short, plain, Held, Row, Rule, Text, Waiting, arg_by_long}
 use Rattle.std.proofs.lemmas.Bool.Decides.{nat_tests}
 use Rattle.clap.proofs.WalkLemmas.{bundle_ends}
-use Rattle.clap.specs.Walk.{Held, Row, Rule, Text, Waiting, arg_by_long}
 use Rattle.clap.proofs.OnLiterals.{clap_on_literals}
 use Rattle.ksm_options.specs.Settings.{Setting, Nodes, Frames, Passes, Tries, LastGeneration, flag, name_of}
 use Rattle.ksm_options.proofs.Steps.{first_none, held, rules, second_none}

@@ -2,14 +2,13 @@
 use Rattle.std.proofs.Common.{◌≡◌, ◌∙◌, ap, ap₂, refl, sym, subst, true, false, List, [], ◌∷◌, ◌++◌, map, Option, Some, None, Bool, ℕ, cond, ◌&&◌, ◌||◌, ◌==◌, drop, append-nil, append_assoc, arith}
 use Rattle.std.specs.Option.{option_map_or}
 use Rattle.std.proofs.lemmas.Bool.Decides.{nat_tests}
-use Rattle.clap.specs.Faults.{bundle_fault}
+use Rattle.clap.specs.Faults.{bundle_fault, check_fault, fault_of, flag_word_fault, settle_fault, step_fault, turn_fault, walk_fault}
 use Rattle.std.specs.Prelude.{option_and_then}
 use Rattle.std.specs.Str.{bytes_eq}
 use Rattle.std.specs.Str.Parse.{IsNumeral, without_leading_plus}
 use Rattle.std.proofs.lemmas.List.Folds.{list_any-append}
 use Rattle.clap.specs.Lexer.{long_of, long_of_rest, short_of, short_of_rest, strip_byte}
 use Rattle.clap.specs.Values.{IsUnsignedIn}
-use Rattle.clap.specs.Faults.{check_fault, fault_of, flag_word_fault, settle_fault, step_fault, turn_fault, walk_fault}
 use Rattle.clap.specs.Walk.{Held, Row, Step, Text, Waiting, Walk, finished, long_or_other, option, plain_word, settled_rows, short_or_plain, walk_from, walked}
 use Rattle.clap.specs.declared.builder.value_parser.ValueParser.TheVariants.{Unsigned}
 use Rattle.clap.specs.declared.error.kind.ErrorKind.TheVariants as kind

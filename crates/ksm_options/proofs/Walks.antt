@@ -8,7 +8,8 @@ use Rattle.clap.specs.Walk.{Waiting, idle, Held, Row, Text, Walk, option, settle
 use Rattle.ksm_options.specs.Settings.{AllFit, Given, IsOnce, Setting, flag, has, name_of}
 use Rattle.ksm_options.specs.Told.{Gives, apart, dashes, joined, nothing}
 use Rattle.ksm_options.proofs.Rows.{fit_more, once_more, text_fits, text_is_new, use_more}
-use Rattle.ksm_options.proofs.Steps.{after_use, first_none, held, joined_fault, joined_step, name_fault, name_step, row_for, rules, second_none, shape, text_fault, two_hyphens, used_fault, used_rows, waiting_for}
+use Rattle.ksm_options.proofs.Steps.{after_use, first_none, held, joined_fault, joined_step, name_fault, name_step, row_for, rules, second_none, shape, text_fault, two_hyphens, used_fault, used_rows}
+use Rattle.ksm_options.proofs.Steps.{waiting_for}
 use Rattle.ksm_options.proofs.Turns.{after_hyphens, hyphens_step, idle_turn, no_more, value_turn, waiting_fault, waiting_hyphens}
 
 -- the rows stand for what was given so far, each setting once and in its range

@@ -3,8 +3,7 @@ use Rattle.std.specs.Prelude.{ℕ, Some, codes, true}
 use Rattle.clap.specs.Words.{App, Rule, Text, new_app, new_rule, with_rule}
 use Rattle.clap.specs.declared.builder.action.ArgAction.TheVariants.{Set}
 use Rattle.clap.specs.declared.builder.value_parser.ValueParser.TheVariants.{Unsigned}
-use Rattle.ksm_options.specs.Settings.{Frames, LastGeneration, Nodes, Passes, Setting, Tries, is_required, most_of}
-use Rattle.ksm_options.specs.Settings.{name_of}
+use Rattle.ksm_options.specs.Settings.{Frames, LastGeneration, Nodes, Passes, Setting, Tries, is_required, most_of, name_of}
 
 -- the option `--NAME N`, where N is 1 to the most
 abbrev pub number_rule : Text → ℕ → Rule

@@ -1,6 +1,5 @@
 -- The settings of the program, and the texts that words give them (own).
-use Rattle.std.specs.Prelude.{◌≡◌, ◌++◌, ⊤, ℕ, Bool, true, false, List, [], ◌∷◌, Option, Some, None, codes, find}
-use Rattle.std.specs.Prelude.{option_map}
+use Rattle.std.specs.Prelude.{◌≡◌, ◌++◌, ⊤, ℕ, Bool, true, false, List, [], ◌∷◌, Option, Some, None, codes, find, option_map}
 use Rattle.std.specs.List.{list_any}
 use Rattle.std.specs.Str.{bytes_eq}
 use Rattle.std.specs.Str.Parse.{digits_value, without_leading_plus}

@@ -2,8 +2,7 @@
 use Rattle.std.specs.Prelude.{◌≡◌, ◌++◌, Some, true, List, [], ◌∷◌, codes, drop}
 use Rattle.clap.specs.Words.{Text}
 use Rattle.ksm_base.specs.declared.shape.Shape.{Shape}
-use Rattle.ksm_options.specs.Settings.{AllFit, Frames, Given, IsOnce, LastGeneration, Nodes, Passes, Setting, Tries}
-use Rattle.ksm_options.specs.Settings.{flag, has, value_of}
+use Rattle.ksm_options.specs.Settings.{AllFit, Frames, Given, IsOnce, LastGeneration, Nodes, Passes, Setting, Tries, flag, has, value_of}
 
 -- the words give the settings these texts, in this order, as `--nodes 2` or as `--nodes=2`; a
 -- `--` at the end gives nothing

@@ -4,8 +4,8 @@ use Rattle.std.specs.Prelude.{◌≢◌, ◌==◌, All, cond, filter, flat_map, 
 use Rattle.std.specs.Int.{from_bool}
 use Rattle.std.proofs.lemmas.Bool.{ltb-true}
 use Rattle.std.proofs.lemmas.Bool.Decides.{nat_tests}
-use Rattle.std.proofs.lemmas.List.{append-nil, append_assoc, drop-set-lt, drop_at, get_or-append_right, get_or-map, get_or_append_left, length-append, length-drop}
-use Rattle.std.proofs.lemmas.List.{length-map, length-take-le, nil_from_length, set_split, take-append-drop, take-set, take_at}
+use Rattle.std.proofs.lemmas.List.{append-nil, append_assoc, drop-set-lt, drop_at, get_or-append_right, get_or-map, get_or_append_left, length-append, length-drop, length-map, length-take-le}
+use Rattle.std.proofs.lemmas.List.{nil_from_length, set_split, take-append-drop, take-set, take_at}
 use Rattle.std.proofs.lemmas.List.Concat.{flat_map-append}
 use Rattle.std.proofs.lemmas.List.Elements.{All-append, All-cons, All-drop, All-nil, All-take, filter_passes}
 use Rattle.std.proofs.lemmas.List.Edits.{get_or-insert_at, length-insert}

@@ -1,6 +1,6 @@
 -- Items in the order of their keys.
-use Rattle.std.specs.Prelude.{◌≡◌, ◌≢◌, ℕ, ◌+◌, ◌<◌, Bool, true, false, not, ◌&&◌, ◌==◌, List, [], ◌∷◌, ◌++◌, All, AllPairs}
-use Rattle.std.specs.Prelude.{count_by, filter, flat_map, drop, if◌then◌else◌, length, map, nat_lt, take, slice_get, slice_index_or, Option, option_map}
+use Rattle.std.specs.Prelude.{◌≡◌, ◌≢◌, ℕ, ◌+◌, ◌<◌, Bool, true, false, not, ◌&&◌, ◌==◌, List, [], ◌∷◌, ◌++◌, All, AllPairs, count_by, filter, flat_map, drop, if◌then◌else◌, length, map, nat_lt, take}
+use Rattle.std.specs.Prelude.{slice_get, slice_index_or, Option, option_map}
 use Rattle.ksm_order.specs.declared.item.Item.{Item}
 
 -- the keys ascend, so none stands twice

@@ -1,5 +1,6 @@
 -- Bytes in hexadecimal digits, many at once.
-use Rattle.ksm_script.proofs.Names.{[], All, ap, ap₂, arith, byte_digits, content_text, digit_glyph, Each1, eqb, eqb-true, false, Fits, flat_map, flat_map-map, List, map, passes_at, passes_below, pick_l, refl, subst, suc, sym, to_le_bytes, true, w64, w8, word_digits, zero, ℕ, ◌%◌, ◌++◌, ◌/◌, ◌<◌, ◌∙◌, ◌∷◌, ◌≡◌}
+use Rattle.ksm_script.proofs.Names.{[], All, ap, ap₂, arith, byte_digits, content_text, digit_glyph, Each1, eqb, eqb-true, false, Fits, flat_map, flat_map-map, List, map, passes_at, passes_below}
+use Rattle.ksm_script.proofs.Names.{pick_l, refl, subst, suc, sym, to_le_bytes, true, w64, w8, word_digits, zero, ℕ, ◌%◌, ◌++◌, ◌/◌, ◌<◌, ◌∙◌, ◌∷◌, ◌≡◌}
 
 -- what was computed of each of these values is another function of it, where the two agree on all values below a number
 pub agrees_below : (n : ℕ) (f g : ℕ → ℕ) (v : List ℕ) {a : List ℕ} → a ≡ map f v → All (λ x. x < n) v → passes_below (λ k. eqb (f k) (g k)) n ≡ true → a ≡ map g v

@@ -1,5 +1,6 @@
 -- A command of one caller is a step of the script's state.
-use Rattle.ksm_script.proofs.Names.{Answer, ap, append-nil, Caller, Command, Commands, entries, journal_after, List, made_by, new_journal, Owned, PartsId, PassState, refl, reply_to, script_of, ScriptState, SeesOn, Some, StepsAlone, sym, ◌++◌, ◌∙◌, ◌≡◌}
+use Rattle.ksm_script.proofs.Names.{Answer, ap, append-nil, Caller, Command, Commands, entries, journal_after, List, made_by, new_journal, Owned, PartsId, PassState, refl, reply_to, script_of}
+use Rattle.ksm_script.proofs.Names.{ScriptState, SeesOn, Some, StepsAlone, sym, ◌++◌, ◌∙◌, ◌≡◌}
 
 module _ (parts : PartsId) (old new : Caller) (c : Command) (r : Answer) (one : parts.callers ≡ 1) (sees : SeesOn parts old new (made_by old.number c r)) where
   -- nothing of anybody else comes in between

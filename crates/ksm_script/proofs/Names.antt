@@ -64,12 +64,15 @@ pub use Rattle.ksm_shared.specs.Seen.{caller, entries}
 pub use Rattle.ksm_shared.specs.declared.seen.Caller.{Caller}
 pub use Rattle.ksm_shared.specs.declared.seen.Owned.{Owned}
 pub use Rattle.memchr.specs.Find.{is_byte, Nowhere, Passes}
-pub use Rattle.std.proofs.Common.{[], All, ap, append_assoc, ap₂, arith, Bool, cond, drop, eqb, Err, false, Fits, get_or, IfErr, inl, inr, length, length-append, length-drop, length-set, List, map, None, Ok, Option, refl, Result, rules, set, Some, subst, suc, sym, take, take-append-drop, take-take, true, vec_capacity, vec_len, w64, w8, zero, zero-le, ℕ, ⊎_elim, ◌%◌, ◌*◌, ◌++◌, ◌+◌, ◌-◌, ◌/◌, ◌<◌, ◌==◌, ◌^◌, ◌∙◌, ◌∷◌, ◌≡◌, ◌≢◌, ◌≤◌, ◌⊎◌}
+pub use Rattle.std.proofs.Common.{[], All, ap, append_assoc, ap₂, arith, Bool, cond, drop, eqb, Err, false, Fits, get_or, IfErr, inl, inr, length, length-append, length-drop, length-set, List, map}
+pub use Rattle.std.proofs.Common.{None, Ok, Option, refl, Result, rules, set, Some, subst, suc, sym, take, take-append-drop, take-take, true, vec_capacity, vec_len, w64, w8, zero, zero-le, ℕ, ⊎_elim}
+pub use Rattle.std.proofs.Common.{◌%◌, ◌*◌, ◌++◌, ◌+◌, ◌-◌, ◌/◌, ◌<◌, ◌==◌, ◌^◌, ◌∙◌, ◌∷◌, ◌≡◌, ◌≢◌, ◌≤◌, ◌⊎◌}
 pub use Rattle.std.proofs.KnownBytes.{Appends-kept, Appends-nil, Appends-trans, Consumes-nil, Consumes-trans, Keeps-refl, Keeps-trans}
 pub use Rattle.std.proofs.Math.Seq.{take-add}
 pub use Rattle.std.proofs.lemmas.Bool.{eq-eqb, eqb-true}
 pub use Rattle.std.proofs.lemmas.Fmt.{length-decimal-le}
-pub use Rattle.std.proofs.lemmas.List.{append-nil, ext_get_or, get_or-map, get_or-take, get_or_default, length-map, length-replicate, length-take, map-append, map-set, take_all, take_min, take_more, take_more_set, take_rest}
+pub use Rattle.std.proofs.lemmas.List.{append-nil, ext_get_or, get_or-map, get_or-take, get_or_default, length-map, length-replicate, length-take, map-append, map-set, take_all, take_min, take_more}
+pub use Rattle.std.proofs.lemmas.List.{take_more_set, take_rest}
 pub use Rattle.std.proofs.lemmas.List.Concat.{flat_map-append}
 pub use Rattle.std.proofs.lemmas.List.Elements.{All-append, All-cons, All-head, All-nil, All-replicate, All-tail}
 pub use Rattle.std.proofs.lemmas.List.Folds.{flat_map-map}

@@ -1,5 +1,6 @@
 -- What a session opens with.
-use Rattle.ksm_script.proofs.Names.{[], All, All-replicate, ap, ap₂, arith, Caller, caller, fresh, get_or, Idle, length, length-append, length-replicate, List, new_pass, PassState, PassView, refl, replicate, subst, sym, table_of, TableName, ℕ, ◌++◌, ◌∙◌, ◌∷◌, ◌≡◌}
+use Rattle.ksm_script.proofs.Names.{[], All, All-replicate, ap, ap₂, arith, Caller, caller, fresh, get_or, Idle, length, length-append, length-replicate, List, new_pass, PassState, PassView, refl}
+use Rattle.ksm_script.proofs.Names.{replicate, subst, sym, table_of, TableName, ℕ, ◌++◌, ◌∙◌, ◌∷◌, ◌≡◌}
 
 -- a book of one caller has one share
 pub one_share : (n : ℕ) (shares : List Caller) → n ≡ 1 → shares ≡ fresh n → length shares ≡ 1

@@ -1,5 +1,7 @@
 -- A text that is written in parts.
-use Rattle.ksm_script.proofs.Names.{[], ap, append-nil, append_assoc, Appends, Appends-kept, Appends-trans, AppendsBroken, AppendsPart, BreaksText, drop, Err, flat_map, flat_map-append, get_or, IsErrAnd, Keeps, length, List, Ok, Option, Result, RunFault, subst, sym, take, take-add, take-append-drop, take_more, take_rest, WritesText, ℕ, ◌++◌, ◌+◌, ◌-◌, ◌<◌, ◌∙◌, ◌∷◌, ◌≡◌}
+use Rattle.ksm_script.proofs.Names.{[], ap, append-nil, append_assoc, Appends, Appends-kept, Appends-trans, AppendsBroken, AppendsPart, BreaksText, drop, Err, flat_map, flat_map-append, get_or}
+use Rattle.ksm_script.proofs.Names.{IsErrAnd, Keeps, length, List, Ok, Option, Result, RunFault, subst, sym, take, take-add, take-append-drop, take_more, take_rest, WritesText, ℕ, ◌++◌, ◌+◌, ◌-◌, ◌<◌}
+use Rattle.ksm_script.proofs.Names.{◌∙◌, ◌∷◌, ◌≡◌}
 
 -- what appended one part of a text, and then the next, appended both
 pub one_more : (a b c : Option (List ℕ)) (text : List ℕ) (n m : ℕ)

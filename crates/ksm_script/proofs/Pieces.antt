@@ -1,5 +1,8 @@
 -- What a reader's buffer has of a line.
-use Rattle.ksm_script.proofs.Names.{[], All-append, ap, append_assoc, arith, BeginsWith, Bool, Came, cond, Consumes, Consumes-nil, Consumes-trans, Dialogue, EndsAs, eq-eqb, eqb-true, Err, Extends, false, get_or, get_or-take, get_or_default, IfErr, if◌then◌else◌, is_byte, IsErrAnd, IsPlain, IsTrue, Keeps, Keeps-refl, length, length-append, length-take, Line, LineEnd, List, None, Nowhere, Ok, Option, Passes, prepend_known, refl, Result, RunFault, silent, Some, subst, sym, take, take-append_seam, take-take, take_min, take_more, Takes, TakesForm, then_some, Took, took, TooLong, true, waited, zero-le, ℕ, ◌++◌, ◌+◌, ◌-◌, ◌<◌, ◌==◌, ◌↔◌, ◌∙◌, ◌∷◌, ◌≡◌, ◌≢◌, ◌≤◌}
+use Rattle.ksm_script.proofs.Names.{[], All-append, ap, append_assoc, arith, BeginsWith, Bool, Came, cond, Consumes, Consumes-nil, Consumes-trans, Dialogue, EndsAs, eq-eqb, eqb-true, Err, Extends}
+use Rattle.ksm_script.proofs.Names.{false, get_or, get_or-take, get_or_default, IfErr, if◌then◌else◌, is_byte, IsErrAnd, IsPlain, IsTrue, Keeps, Keeps-refl, length, length-append, length-take, Line}
+use Rattle.ksm_script.proofs.Names.{LineEnd, List, None, Nowhere, Ok, Option, Passes, prepend_known, refl, Result, RunFault, silent, Some, subst, sym, take, take-append_seam, take-take, take_min}
+use Rattle.ksm_script.proofs.Names.{take_more, Takes, TakesForm, then_some, Took, took, TooLong, true, waited, zero-le, ℕ, ◌++◌, ◌+◌, ◌-◌, ◌<◌, ◌==◌, ◌↔◌, ◌∙◌, ◌∷◌, ◌≡◌, ◌≢◌, ◌≤◌}
 
 -- bytes that are taken from a buffer are read; with no capacity nothing is known
 pub taken_from : (n m : ℕ) (a b : Option (List ℕ)) (buffer rest bytes : List ℕ) → m ≡ n → b ≡ a → buffer ≡ bytes ++ rest

@@ -1,5 +1,7 @@
 -- Passes are taken out of their slots and put back.
-use Rattle.ksm_script.proofs.Names.{[], ActsAt, All, All-cons, All-head, All-nil, All-tail, AllZip, ap, AreThere, arith, DoesAt, drop, emptied, EndsIdle, gaps, get_or, Holding, HoldsStill, Idle, idle_of, InBoth, IsIdle, IsSomeAnd, length, length-map, length-set, LineReply, List, map, map-set, None, NoPass, Option, option_to_list, PassState, PassView, present, refilled, refl, Refused, replicate, set, slice_get, Some, subst, suc, sym, table_of, TableName, take, zero, ℕ, ◌++◌, ◌+◌, ◌<◌, ◌∙◌, ◌∷◌, ◌≡◌}
+use Rattle.ksm_script.proofs.Names.{[], ActsAt, All, All-cons, All-head, All-nil, All-tail, AllZip, ap, AreThere, arith, DoesAt, drop, emptied, EndsIdle, gaps, get_or, Holding, HoldsStill, Idle}
+use Rattle.ksm_script.proofs.Names.{idle_of, InBoth, IsIdle, IsSomeAnd, length, length-map, length-set, LineReply, List, map, map-set, None, NoPass, Option, option_to_list, PassState, PassView}
+use Rattle.ksm_script.proofs.Names.{present, refilled, refl, Refused, replicate, set, slice_get, Some, subst, suc, sym, table_of, TableName, take, zero, ℕ, ◌++◌, ◌+◌, ◌<◌, ◌∙◌, ◌∷◌, ◌≡◌}
 
 pub present_all : (passes : List PassState) → present (map (λ (s : PassState). let o : Option PassState = Some s in o) passes) ≡ passes
 present_all [] = refl

@@ -1,5 +1,10 @@
 -- A run goes on by one line.
-use Rattle.ksm_script.proofs.Names.{[], AllRead, Answered, AnsweredAll, AnsweredLast, AnsweredToBad, Answers, ap, append-nil, append_assoc, Appends, Appends-kept, Appends-nil, Appends-trans, AppendsPart, AtOnce, Bad, bad_line, BadLine, Bool, BreaksOff, CarriesOut, Consumes, Consumes-nil, Consumes-trans, Dialogue, Empty, End, end_at, EndsAs, EndsBad, EndsOpen, Err, false, Goes, GoesOn, HasReplied, inl, Input, inr, IsAtEnd, IsBad, IsDone, IsErrAnd, IsNoLine, IsPlain, IsReadAs, IsReplied, IsSaid, IsSoFar, IsWithin, Keeps, length, Line, LineEnd, LineFault, LineReply, List, more, Newline, None, none, Ok, Option, Read, ReadFor, refl, reply_text, Result, result_and, ReturnsReply, RunFault, ScriptState, SessionView, silent, Some, some_is, streams, subst, sym, TakesForm, Talks, text_of, Took, took, TooLong, true, waited, Write, WritesReply, ℕ, ◌++◌, ◌+◌, ◌∙◌, ◌∷◌, ◌≡◌, ◌≢◌, ◌≤◌, ◌⊎◌}
+use Rattle.ksm_script.proofs.Names.{[], AllRead, Answered, AnsweredAll, AnsweredLast, AnsweredToBad, Answers, ap, append-nil, append_assoc, Appends, Appends-kept, Appends-nil, Appends-trans}
+use Rattle.ksm_script.proofs.Names.{AppendsPart, AtOnce, Bad, bad_line, BadLine, Bool, BreaksOff, CarriesOut, Consumes, Consumes-nil, Consumes-trans, Dialogue, Empty, End, end_at, EndsAs, EndsBad}
+use Rattle.ksm_script.proofs.Names.{EndsOpen, Err, false, Goes, GoesOn, HasReplied, inl, Input, inr, IsAtEnd, IsBad, IsDone, IsErrAnd, IsNoLine, IsPlain, IsReadAs, IsReplied, IsSaid, IsSoFar}
+use Rattle.ksm_script.proofs.Names.{IsWithin, Keeps, length, Line, LineEnd, LineFault, LineReply, List, more, Newline, None, none, Ok, Option, Read, ReadFor, refl, reply_text, Result, result_and}
+use Rattle.ksm_script.proofs.Names.{ReturnsReply, RunFault, ScriptState, SessionView, silent, Some, some_is, streams, subst, sym, TakesForm, Talks, text_of, Took, took, TooLong, true, waited, Write}
+use Rattle.ksm_script.proofs.Names.{WritesReply, ℕ, ◌++◌, ◌+◌, ◌∙◌, ◌∷◌, ◌≡◌, ◌≢◌, ◌≤◌, ◌⊎◌}
 use Rattle.ksm_script.proofs.Parts.{broken_after}
 
 -- a run ends so, or goes on

@@ -1,5 +1,9 @@
 -- The worked lines hold.
-use Rattle.ksm_script.proofs.Names.{[], AllZip, Answer, ap, arith, at, Audit, AuditedBy, BadNode, BadValue, Book, BookState, both_hold, bytes_of, Command, commanded, CommandLines, Commands, Content, content_reply, Done, Err, Found, frames_of, full, GivesUp, Gone, GuestPage, Held, HeldView, Holding, HoldsStill, Idle, idle_of, inl, inr, is_known, IsAnswerOrMemory, IsVacant, KeepsBook, length, LineReply, List, LooksAt, LookupLines, Memory, merged, None, NotRunning, OfKnob, Ok, one_holds, Option, PassState, PassView, Pruned, ReaderLog, ReadingLines, Reads, refl, Refused, register, reply_to, Row, Run, Scanned, ScriptState, shape, shown_in, Some, start, subst, sym, TableName, ticket_of, ticket_reply, UnknownPage, UnknownPlace, Unmerged, Vacant, Value, word_loads, ℕ, ⊎_elim, ◌++◌, ◌<◌, ◌∙◌, ◌∷◌, ◌≡◌, ◌≤◌}
+use Rattle.ksm_script.proofs.Names.{[], AllZip, Answer, ap, arith, at, Audit, AuditedBy, BadNode, BadValue, Book, BookState, both_hold, bytes_of, Command, commanded, CommandLines, Commands, Content}
+use Rattle.ksm_script.proofs.Names.{content_reply, Done, Err, Found, frames_of, full, GivesUp, Gone, GuestPage, Held, HeldView, Holding, HoldsStill, Idle, idle_of, inl, inr, is_known}
+use Rattle.ksm_script.proofs.Names.{IsAnswerOrMemory, IsVacant, KeepsBook, length, LineReply, List, LooksAt, LookupLines, Memory, merged, None, NotRunning, OfKnob, Ok, one_holds, Option, PassState}
+use Rattle.ksm_script.proofs.Names.{PassView, Pruned, ReaderLog, ReadingLines, Reads, refl, Refused, register, reply_to, Row, Run, Scanned, ScriptState, shape, shown_in, Some, start, subst, sym}
+use Rattle.ksm_script.proofs.Names.{TableName, ticket_of, ticket_reply, UnknownPage, UnknownPlace, Unmerged, Vacant, Value, word_loads, ℕ, ⊎_elim, ◌++◌, ◌<◌, ◌∙◌, ◌∷◌, ◌≡◌, ◌≤◌}
 use Rattle.ksm_base.specs.declared.command.Command.TheVariants as commands
 use Rattle.ksm_base.specs.declared.reply.Reply.TheVariants as replies
 

@@ -1,6 +1,5 @@
 -- What becomes of a reply (own).
-use Rattle.std.specs.Prelude.{◌≡◌, ◌≤◌, ◌<◌, ℕ, ◌⊎◌, List, length, take, Option, Some, None, Result, Ok, Err}
-use Rattle.std.specs.Prelude.{OnOk, IfErr}
+use Rattle.std.specs.Prelude.{◌≡◌, ◌≤◌, ◌<◌, ℕ, ◌⊎◌, List, length, take, Option, Some, None, Result, Ok, Err, OnOk, IfErr}
 use Rattle.std.specs.Io.KnownBytes.{Appends, Keeps}
 use Rattle.ksm_script.specs.declared.reply.LineReply.{LineReply}
 use Rattle.ksm_script.specs.declared.script.RunFault.{RunFault}

@@ -12,7 +12,8 @@ use Rattle.ksm_shared.specs.declared.seen.Owned.{Owned}
 use Rattle.ksm_shared.specs.declared.seen.Caller.{Caller}
 use Rattle.ksm_shared.specs.declared.seen.View.{View}
 use Rattle.ksm_shared.specs.Seen.{CallersFit, times, total, OwnersBelow, Fits, IsKept, Kept, view_of, nobody, book_view, share_view, caller, added, after, Knows, Looks, Writes}
-use Rattle.ksm_shared.proofs.Lists.{total_set, total_one, total_two, total_snoc, total_zero, times_append, times_map, times_le, times_other, callers_grow, callers_more, callers_append, callers_fresh, times_above, owners_append, owners_more, owners_none, added_apart, added_owners}
+use Rattle.ksm_shared.proofs.Lists.{total_set, total_one, total_two, total_snoc, total_zero, times_append, times_map, times_le, times_other, callers_grow, callers_more, callers_append, callers_fresh}
+use Rattle.ksm_shared.proofs.Lists.{times_above, owners_append, owners_more, owners_none, added_apart, added_owners}
 
 fits_set : (book : ℕ) (log : List Owned) (count : ℕ) (views : List View) (by : ℕ) (w : View)
     → ((j : ℕ) (u : View) → j ≢ by → get_elem? views j ≡ some u → Fits book log count j u) → Fits book log count by w

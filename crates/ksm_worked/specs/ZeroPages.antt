@@ -4,7 +4,8 @@ use Rattle.ksm_base.specs.declared.row.PageState.TheVariants.{Private, Waiting, 
 use Rattle.ksm_base.specs.declared.command.Command.TheVariants.{Register, Drop, Store, Unmerge, Mergeable, MovePage, SetRun, SetAcross, SetLimit, SetZeroPages}
 use Rattle.ksm_base.specs.declared.reply.Reply.TheVariants.{Unmerged}
 use Rattle.ksm_base.specs.declared.fault.Fault.TheVariants.{NoFrame, BadValue}
-use Rattle.ksm_worked.specs.Scripts.{Line, gives, never, shows, lies_at, maps, lies, at, full, one_at_the_end, ok, refused, reg, put, drop, scan, unmerge, stopped, stat, stat_beside, get, ticket, merged}
+use Rattle.ksm_worked.specs.Scripts.{Line, gives, never, shows, lies_at, maps, lies, at, full, one_at_the_end, ok, refused, reg, put, drop, scan, unmerge, stopped, stat, stat_beside, get, ticket}
+use Rattle.ksm_worked.specs.Scripts.{merged}
 
 -- empty pages become Zero; a store of zeroes takes one away until the next pass
 abbrev pub empty_pages_become_zero : List Line

@@ -1,4 +1,5 @@
-use Rattle.ksm_lines.proofs.Names.{and_parts, ap, ap₂, arith, byte_at, fill_by_all, fill_by_more, from_le_bytes, get_or, is_ascii_hexdigit, is_small, length-set, List, list_all, map, page_of, PAGE_WORDS, pair_in, range_with_len, refl, set, Some, subst, sym, take_all, true, w64, word_at, ℕ, ◌&&◌, ◌*◌, ◌+◌, ◌<◌, ◌∙◌, ◌≡◌}
+use Rattle.ksm_lines.proofs.Names.{and_parts, ap, ap₂, arith, byte_at, fill_by_all, fill_by_more, from_le_bytes, get_or, is_ascii_hexdigit, is_small, length-set, List, list_all, map, page_of}
+use Rattle.ksm_lines.proofs.Names.{PAGE_WORDS, pair_in, range_with_len, refl, set, Some, subst, sym, take_all, true, w64, word_at, ℕ, ◌&&◌, ◌*◌, ◌+◌, ◌<◌, ◌∙◌, ◌≡◌}
 use Rattle.ksm_lines.proofs.Lanes.{one_more, other_way, word_is}
 use Rattle.ksm_lines.proofs.field.page_in.Goals as goal
 

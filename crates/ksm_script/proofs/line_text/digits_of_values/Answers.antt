@@ -1,4 +1,5 @@
-use Rattle.ksm_script.proofs.Names.{[], ap, arith, digit_glyph, Each1-from_get_or, eqb, eqb-true, ext_get_or, false, get_or, get_or-map, get_or-swz_l_below, length-map, length-swz_l, List, map, passes_at, refl, SwzOk-from_below, sym, w8, ℕ, ◌*◌, ◌+◌, ◌/◌, ◌<◌, ◌∙◌, ◌∷◌, ◌≡◌}
+use Rattle.ksm_script.proofs.Names.{[], ap, arith, digit_glyph, Each1-from_get_or, eqb, eqb-true, ext_get_or, false, get_or, get_or-map, get_or-swz_l_below, length-map, length-swz_l, List, map}
+use Rattle.ksm_script.proofs.Names.{passes_at, refl, SwzOk-from_below, sym, w8, ℕ, ◌*◌, ◌+◌, ◌/◌, ◌<◌, ◌∙◌, ◌∷◌, ◌≡◌}
 use Rattle.ksm_script.proofs.line_text.digits_of_values.Goals as goal
 
 -- the digits 0 to 9, and a to f
