@@ -5,9 +5,7 @@ use Rattle.ksm_tree.proofs.item_counts.open_anew.Goals.{then-is_open, else-is_op
 
 pub insert-requires : goal.insert-requires
 insert-requires c =
-    let within : c.loop-place.place < length c.args.counts.now = omega (arith, c.loop-place-test.true) in
-    let room = where_first_room (is_open c.args.limit) 0 c.loop-place.place c.args.counts.now within in
-    omega (arith, room, ap length c.loop-place.invariant.0, c.loop-place.invariant.1, c.requires.room)
+    grind (arith, where_first_room (is_open c.args.limit) 0 c.loop-place.place c.args.counts.now, c.loop-place-test.true, c.loop-place.invariant, c.requires.room)
 
 pub loop-place-preserved : goal.loop-place-preserved
 loop-place-preserved c =
@@ -16,9 +14,14 @@ loop-place-preserved c =
     let within : place < length counts = omega (arith, c.loop-place-test.true) in
     elim c.if-is_open.branch [
       | then-is_open w ↦
-          let next = where_next (is_open c.args.limit) 0 0 place place counts (omega arith) within (sym c.is_open.ensures ∙ w.if-is_open.true) in
-          rw w.open_at-is (w.insert.ensures.with ∙ ap (with_place place) c.loop-place.invariant.0 ∙ sym next, w.insert.ensures.capacity ∙ c.loop-place.invariant.1)
+          let next = where_next (is_open c.args.limit) 0 0 place place counts (omega arith) within
+          (sym c.is_open.ensures ∙ w.if-is_open.true) in
+          rw w.open_at-is (
+            w.insert.ensures.with ∙ ap (with_place place) c.loop-place.invariant.0 ∙ sym next,
+            w.insert.ensures.capacity ∙ c.loop-place.invariant.1,
+          )
       | else-is_open w ↦
-          let same = where_not_next (is_open c.args.limit) 0 0 place counts within (sym c.is_open.ensures ∙ w.if-is_open.false) in
+          let same = where_not_next (is_open c.args.limit) 0 0 place counts within
+          (sym c.is_open.ensures ∙ w.if-is_open.false) in
           rw w.open_at-is (c.loop-place.invariant.0 ∙ sym same, c.loop-place.invariant.1)
     ]

@@ -1,11 +1,10 @@
-use Rattle.ksm_tree.proofs.Names.{ap, arith, get_or_default, IsLowestBit, length, subst, sym, ◌∙◌, ℕ}
+use Rattle.ksm_tree.proofs.Names.{arith, get_or_default, IsLowestBit, subst, sym, ◌∙◌, ℕ}
 use Rattle.ksm_tree.proofs.NumberBits.{alone_behind, found_behind, within_named}
 use Rattle.ksm_tree.proofs.bits.Words.first_behind.Goals as goal
 
 pub returns-then-this-le1 : goal.returns-then-this-le1
 returns-then-this-le1 g c =
-    rw (← c.self.view_is)
-    (alone_behind _ _ _ (omega (arith, c.if-this-le1.true)) c.self.invariant.few (omega (arith, c.requires, ap length c.self.view_is)))
+    grind (arith, c.self.view_is, alone_behind, c.if-this-le1.true, c.self.invariant.few, c.requires)
 
 pub returns : goal.returns
 returns g c =
