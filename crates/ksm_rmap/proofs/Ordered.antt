@@ -151,9 +151,6 @@ module _ {X K : Type 0} {before same : K → K → Bool} (order : IsOrder before
       counted : n ≡ place xs
       counted = count ∙ ap place read
 
-      within_place : n < length t → place xs < length xs
-      within_place within = grind (arith, counted, again)
-
       -- where an element stands behind those before the key, the key is found exactly if that element is of the key
       pub found_by : (d : X) → n < length t → is_some (find is_it xs) ≡ is_it (get_or xs n d)
       found_by d within = by_found (find is_it xs)

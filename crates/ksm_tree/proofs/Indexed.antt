@@ -7,15 +7,8 @@ use Rattle.ksm_base.proofs.Orders.{Lower}
 use Rattle.ksm_tree.proofs.Rows.{only_one, place_gone, group_unlike}
 use Rattle.ksm_tree.proofs.Changes.{all_rows, rows_changed, rows_without, row_found, number_place_found, number_place_changed, unchanged_items}
 
-dup_some : {p : ℕ} (d : Option Dup) → option_map (λ e. e.row.place) d ≡ Some p → is_some d ≡ true
-dup_some d is = grind (arith)
-
 no_place : (d : Option Dup) → None ≡ option_map (λ e. e.row.place) d → d ≡ None
 no_place d none = grind (arith)
-
-place_of_row : (d : Option Dup) → option_map (λ r. r.place) (option_map (λ e. e.row) d) ≡ option_map (λ e. e.row.place) d
-place_of_row None = refl
-place_of_row (Some e) = refl
 
 -- a dup has the place that its row has
 row_placed : (q : ℕ) (dups : List Dup) → row_place q (rows_of dups) ≡ option_map (λ d. d.row.place) (dup_of q dups)

@@ -54,12 +54,6 @@ module _ {s : SlotsState} {next : ℕ} {index : Index} (new : Index) (dup : Dup)
         grouped = λ t b. rw (rows_new dup s.dups) (grouped t b);
       }
 
-  swap_tests : (q m n : ℕ) (x y z : Option ℕ) → (m == n) ≡ false → (if q == m then x else (if q == n then y else z)) ≡ (if q == n then y else (if q == m then x else z))
-  swap_tests q m n x y z apart = grind (arith, nat_tests, apart)
-
-  group_swap : (old_group new_group : Bool) (p : ℕ) (group : List ℕ) → (old_group ≡ false → without p group ≡ group) → (let mid = if new_group then with_place p group else group in if old_group && not new_group then without p mid else mid) ≡ (if new_group then with_place p group else without p group)
-  group_swap old_group new_group p group unlike = grind (arith, nat_tests, unlike)
-
   -- the rows as they were, those that stay, and those that are there then
   record Swapped (old : Dup) : Type 0 where
     less : List DupRow

@@ -1,34 +1,17 @@
 -- What the words of a set, and their summary, say of its numbers.
-use Rattle.ksm_tree.proofs.Names.{AreSummed, arith, Bool, bit_at, bit_at-zero, bit_at_above, bit_at_clear_other, bit_at_clear_same, bit_at_ones, bit_at_set_other, bit_at_set_same, bit_and, bit_or, false, get_or, get_or-set_other, get_or-set_same, get_or_past, get_or-replicate, has, HasNoBit, HasNone, IsLeast, IsLowestBit, IsSummed, length, length-set, List, Marks, MatchOption, nat_tests, not, Option, replicate, set, shr-shr, true, w64, ℕ, ◌%◌, ◌*◌, ◌+◌, ◌-◌, ◌/◌, ◌<◌, ◌==◌, ◌^◌, ◌≡◌, ◌≢◌, ◌≤◌}
+use Rattle.ksm_tree.proofs.Names.{AreSummed, arith, Bool, bit_at, bit_at-zero, bit_at_clear_other, bit_at_clear_same, bit_at_ones, bit_at_set_other, bit_at_set_same, bit_and, bit_or, false, get_or, get_or-set_other, get_or-set_same, get_or_past, get_or-replicate, has, HasNoBit, HasNone, IsLeast, IsLowestBit, IsSummed, length, length-set, List, Marks, MatchOption, nat_tests, not, Option, replicate, set, shr-shr, true, w64, ℕ, ◌%◌, ◌*◌, ◌+◌, ◌-◌, ◌/◌, ◌<◌, ◌==◌, ◌^◌, ◌≡◌, ◌≢◌, ◌≤◌}
 use Rattle.std.proofs.lemmas.List.{length-replicate}
 
 module _ (words : List ℕ) where
-  -- a number is in the set exactly where its bit is set in its word
-  in_word : (w n : ℕ) → w * 64 ≤ n → n < (w + 1) * 64 → has words n ≡ (bit_at (get_or words w 0) (n % 64) == 1)
-  in_word w n from below = grind (arith, nat_tests)
-
-  -- the lowest bit set in a word, from that of a number on, is of the least number from there on
-  found_in_word : (w : ℕ) {r low high bit : ℕ} → r < 64 → low ≡ w * 64 + r → IsLowestBit (get_or words w 0) r bit → w * 64 + bit < high → IsLeast words low high (w * 64 + bit)
-  found_in_word w {bit} small is found below =
-      grind (arith, nat_tests, found.low_is, found.high_is, found.there, found.lowest)
-
   -- none of the numbers of words that are 0 is in the set
   none_in_zeros : (low high : ℕ) → ((w : ℕ) → low ≤ w → w < high → get_or words w 0 ≡ 0) → HasNone words (low * 64) (high * 64)
   none_in_zeros low high zeros n from below = grind (arith, nat_tests)
-
-  -- what is not in the set below a number, nor from it on, is not in the set
-  none_further : (low middle high : ℕ) → HasNone words low middle → HasNone words middle high → HasNone words low high
-  none_further low middle high before behind n from below = grind (arith, nat_tests)
-
-  -- the least number from one on is the least from a lower one on, where none is in between
-  least_further : {low middle high n : ℕ} → low ≤ middle → HasNone words low middle → IsLeast words middle high n → IsLeast words low high n
-  least_further onward before found = grind (arith, nat_tests, before, found)
 
   -- what the words behind one answer holds from a number of that word on, where the word has no bit from there on
   pub further : (from : ℕ) {w : ℕ} → w ≡ from / 64 → HasNoBit (get_or words w 0) (from % 64) → (found : Option ℕ)
       → MatchOption found (HasNone words ((w + 1) * 64) (64 * length words)) (IsLeast words ((w + 1) * 64) (64 * length words))
       → MatchOption found (HasNone words from (64 * length words)) (IsLeast words from (64 * length words))
-  further from at none found h = grind (arith, nat_tests, h, none)
+  further from at none found h = grind (arith, nat_tests)
 
   module _ {upper : List ℕ} (h : IsSummed words upper) where
     -- a word whose number is not in the upper set is 0
@@ -40,15 +23,20 @@ module _ (words : List ℕ) where
     word_set w low one zero = grind (arith, nat_tests)
 
     word_within : (w : ℕ) → get_or words w 0 ≢ 0 → w < length words
-    word_within w some = grind (arith, some, get_or_past)
+    word_within w some = grind (arith, get_or_past)
 
     -- the least number of the upper set behind a word's is that of the word of the least number behind that word
     pub found_behind : (at : ℕ) {next bit : ℕ} → IsLeast upper (at + 1) (64 * length upper) next → IsLowestBit (get_or words next 0) 0 bit → IsLeast words ((at + 1) * 64) (64 * length words) (next * 64 + bit)
-    found_behind at {next} {bit} named found =
-        let within = word_within _ (word_set _ named.high_is named.there) in
-        least_further (omega (arith, named.low_is))
-        (none_in_zeros _ _ (λ w from below. word_clear w (omega (arith, named.high_is)) (named.least w from below)))
-        (found_in_word next (omega arith) (omega arith) found (omega (arith, within, found.high_is)))
+    found_behind at {next} {bit} named found = grind (
+      arith,
+      nat_tests,
+      none_in_zeros (at + 1) next (λ w from below. word_clear w (omega (arith, named.high_is)) (named.least w from below)),
+      word_within next (word_set next named.high_is named.there),
+      named.low_is,
+      found.there,
+      found.lowest,
+      found.high_is,
+    )
 
     -- the least number of the upper set from one on is that of a word that is there
     pub within_named : {low next : ℕ} → IsLeast upper low (64 * length upper) next → next < length words
@@ -56,30 +44,16 @@ module _ (words : List ℕ) where
 
     -- the upper set is right once a word is put, if it says of that whether it is 0, and of the others what it did
     pub summed_put : {w : ℕ} (word : ℕ) {upper' : List ℕ} {there : Bool} → w < length words → there ≡ not (word == 0) → Marks upper upper' w there → IsSummed (set words w word) upper'
-    summed_put {w} word within here marks = grind (arith, nat_tests, h.room, h.named, marks.room, marks.here, marks.others, length-set, get_or-set_same, get_or-set_other)
-
-    -- the upper set is right once a bit is set in a word, and that word's number is in it
-    pub summed_more : {w : ℕ} (i : ℕ) {upper' : List ℕ} → w < length words → i < 64 → Marks upper upper' w true → IsSummed (set words w (bit_or (get_or words w 0) (1 * 2 ^ i % 18446744073709551616))) upper'
-    summed_more {w} i within small marks =
-        summed_put _ within (grind (arith, nat_tests, bit_at_set_same w64 (get_or words w 0) i small)) marks
-
-    -- the upper set is right once a word is 0, and its number is not in it any more
-    pub summed_less : {w : ℕ} (word : ℕ) {upper' : List ℕ} → w < length words → word ≡ 0 → Marks upper upper' w false → IsSummed (set words w word) upper'
-    summed_less {w} word within zero marks = summed_put _ within (grind (arith, zero)) marks
-
-    -- the upper set is right where a word is put that is not 0, as the word before it
-    pub summed_some : (w word : ℕ) → w < length words → word ≢ 0 → get_or words w 0 ≢ 0 → IsSummed (set words w word) upper
-    summed_some w word within some before =
-        grind (arith, nat_tests, h.room, h.named, length-set, get_or-set_same, get_or-set_other)
+    summed_put word within here marks = grind (arith, h.room, h.named, marks.room, marks.here, marks.others, length-set, get_or-set_same, get_or-set_other)
 
 module _ {most : ℕ} {words upper : List ℕ} (h : AreSummed most words upper) where
   -- the sets stay right once a bit is set in a word, and that word's number is in the upper one
   pub stay_more : {w : ℕ} (i : ℕ) {upper' : List ℕ} → w < length words → i < 64 → 1 < most → Marks upper upper' w true → AreSummed most (set words w (bit_or (get_or words w 0) (1 * 2 ^ i % 18446744073709551616))) upper'
-  stay_more {w} i {upper'} within small many marks = grind (arith, h.fits, h.few, length-set, summed_more, h.summed)
+  stay_more i within small many marks = grind (arith, nat_tests, h.fits, h.few, length-set, summed_put, bit_at_set_same w64, h.summed)
 
   -- they stay right once a word is 0, and its number is not in the upper one any more
   pub stay_less : {w : ℕ} (word : ℕ) {upper' : List ℕ} → w < length words → word ≡ 0 → 1 < most → Marks upper upper' w false → AreSummed most (set words w word) upper'
-  stay_less {w} word within zero many marks = grind (arith, h.fits, h.few, length-set, summed_less, h.summed)
+  stay_less word within zero many marks = grind (arith, h.fits, h.few, length-set, summed_put, h.summed)
 
   -- they stay right whatever a word is put to, where there may be one alone
   pub stay_alone : (w word : ℕ) → most ≤ 1 → AreSummed most (set words w word) upper
@@ -87,24 +61,19 @@ module _ {most : ℕ} {words upper : List ℕ} (h : AreSummed most words upper) 
 
   -- they stay right where a word is put that is not 0, as the word before it
   pub stay_some : (w word : ℕ) → w < length words → word ≢ 0 → get_or words w 0 ≢ 0 → AreSummed most (set words w word) upper
-  stay_some w word within some before = grind (arith, h.fits, h.few, length-set, summed_some, h.summed)
+  stay_some w word within some before = grind (arith, nat_tests, h.fits, h.few, h.summed, length-set, get_or-set_same, get_or-set_other)
 
 -- words with all bits have all numbers for which there is room
 pub all_there : (k n : ℕ) → n < 64 * k → has (replicate k 18446744073709551615) n ≡ true
-all_there k n low = grind (arith, nat_tests, get_or-replicate, bit_at_ones 64 (n % 64))
+all_there k n low = grind (arith, nat_tests, get_or-replicate, bit_at_ones 64)
 
 -- words that are 0 have no number
 pub none_there : (k n : ℕ) → has (replicate k 0) n ≡ false
 none_there k n = grind (arith, nat_tests, get_or-replicate, get_or_past, length-replicate, bit_at-zero)
 
--- where one word may stand at most, a word behind another is not there
-pub alone_behind : (most at : ℕ) (words : List ℕ) → most ≤ 1 → length words ≤ most → at < length words → HasNone words ((at + 1) * 64) (64 * length words)
-alone_behind most at words one few within n from below = absurd (omega arith)
-
 -- a word that has a number's bit as it is to be, and keeps its other bits, marks that number
 marks_put : {words : List ℕ} {number : ℕ} (word bit : ℕ) → number < 64 * length words → bit_at word (number % 64) ≡ bit → ((i : ℕ) → i < 64 → i ≢ number % 64 → bit_at word i ≡ bit_at (get_or words (number / 64) 0) i) → Marks words (set words (number / 64) word) number (bit == 1)
-marks_put word bit room here others =
-    grind (arith, nat_tests, length-set, get_or-set_same, get_or-set_other, here, others)
+marks_put word bit room here others = grind (arith, nat_tests, length-set, get_or-set_same, get_or-set_other)
 
 module _ (words : List ℕ) (number : ℕ) (room : number < 64 * length words) where
   -- a number's bit that is set marks it as there
@@ -116,17 +85,8 @@ module _ (words : List ℕ) (number : ℕ) (room : number < 64 * length words) w
   marks_less = marks_put _ 0 room (bit_at_clear_same w64 _ _ (omega arith)) (grind (arith, bit_at_clear_other w64))
 
 -- a bit of a word that is shifted is a higher bit of the word
-bit_of_rest : (word from i : ℕ) → bit_at (word / 2 ^ from) i ≡ bit_at word (from + i)
+pub bit_of_rest : (word from i : ℕ) → bit_at (word / 2 ^ from) i ≡ bit_at word (from + i)
 bit_of_rest word from i = grind (arith, shr-shr)
 
-bit_behind : (word from i : ℕ) → from ≤ i → bit_at word i ≡ bit_at (word / 2 ^ from) (i - from)
+pub bit_behind : (word from i : ℕ) → from ≤ i → bit_at word i ≡ bit_at (word / 2 ^ from) (i - from)
 bit_behind word from i behind = grind (arith, bit_of_rest word from (i - from))
-
--- where a word is shifted to 0, no bit of it is set from there on
-pub none_from : (word from : ℕ) → word / 2 ^ from ≡ 0 → HasNoBit word from
-none_from word from clear i behind low = grind (arith, bit_of_rest word from (i - from), bit_at-zero)
-
--- the lowest bit of a word that is shifted is the lowest of the word from there on
-pub lowest_behind : {word from i : ℕ} → word < 2 ^ 64 → IsLowestBit (word / 2 ^ from) 0 i → IsLowestBit word from (from + i)
-lowest_behind {word} {from} {i} fits found =
-    grind (arith, bit_of_rest word from i, found.there, bit_at_above word 64, bit_behind word from, found.lowest)

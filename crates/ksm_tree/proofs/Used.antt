@@ -5,14 +5,6 @@ use Rattle.ksm_tree.specs.Reserve.{KeepsReserve}
 use Rattle.std.specs.Prelude.{◌⊎◌}
 use Rattle.ksm_tree.proofs.Standing.{are_one, waiting_found}
 
--- a change of a value leaves whether there is one
-some_of_map : {X Y : Type 0} (f : X → Y) (x : Option X) → is_some (option_map f x) ≡ is_some x
-some_of_map f x = grind arith
-
--- a slot with a content has a group
-has_group : (slot : Option Group) {k : Content} → content_in slot ≡ Some k → is_some slot ≡ true
-has_group slot is = grind arith
-
 -- a slot with a group is one of the slots
 pub within_slots : (groups : Slab Group) (n : ℕ) → is_some (get groups n) ≡ true → n < length groups.slots
 within_slots groups n has = grind (arith, has, get_or_past)

@@ -1,11 +1,10 @@
-use Rattle.ksm_tree.proofs.Names.{ap, arith, get_or_default, length, sym, ◌%◌, ◌<◌, ◌∙◌}
+use Rattle.ksm_tree.proofs.Names.{arith, get_or_default, length, ◌%◌, ◌<◌}
 use Rattle.ksm_tree.proofs.NumberBits.{marks_more, stay_alone, stay_more}
 use Rattle.ksm_tree.proofs.bits.WordsBits.add.Goals as goal
 
 pub invariant_of-self : goal.invariant_of-self
 invariant_of-self g c =
-    let within : c.word_of-at.result < length c.self.inside.words.items =
-    omega (arith, c.word_of-at.ensures, c.requires, ap length c.self.view_is) in
+    let within : c.word_of-at.result < length c.self.inside.words.items = grind (arith, c.word_of-at.ensures, c.requires, c.self.view_is) in
     grind (arith, c.index_mut.ensures.value, get_or_default, stay_more c.self.invariant (c.args.number % 64) within (omega arith) c.if-this-gt1.true c.add.ensures)
 
 pub invariant_of-self-else-this-gt1 : goal.invariant_of-self-else-this-gt1
@@ -16,10 +15,4 @@ pub returns-then-this-gt1 : goal.returns-then-this-gt1
 returns-then-this-gt1 g c = grind (arith, c.word_of-at.ensures, c.requires, c.self.view_is, c.index_mut.ensures.value, get_or_default, marks_more)
 
 pub returns-else-this-gt1 : goal.returns-else-this-gt1
-returns-else-this-gt1 g c =
-    let words = c.self.inside.words.items in
-    let at = c.word_of-at.result in
-    let within : at < length words = omega (arith, c.word_of-at.ensures, c.requires, ap length c.self.view_is) in
-    let read = get_or_default _ at 0 _ within ∙ sym c.index_mut.ensures.value in
-    rw (← read, ← c.self.view_is, c.word_of-at.ensures)
-    (marks_more _ _ (omega (arith, c.requires, ap length c.self.view_is)))
+returns-else-this-gt1 g c = grind (arith, c.word_of-at.ensures, c.requires, c.self.view_is, c.index_mut.ensures.value, get_or_default, marks_more c.args.self.now c.args.number)

@@ -1,4 +1,4 @@
-use Rattle.ksm_tree.proofs.Names.{ap, arith, get_or_default, length, sym, ◌<◌, ◌∙◌}
+use Rattle.ksm_tree.proofs.Names.{ap, arith, get_or_default, length, ◌<◌}
 use Rattle.std.proofs.lemmas.Nat.{and_le_l}
 use Rattle.ksm_tree.proofs.NumberBits.{marks_less, stay_alone, stay_less, stay_some}
 use Rattle.ksm_tree.proofs.bits.WordsBits.remove.Goals as goal
@@ -27,14 +27,8 @@ returns-then-left-eq0 g c =
 
 pub returns-else-this-gt1 : goal.returns-else-this-gt1
 returns-else-this-gt1 g c =
-    let at = c.word_of-at.result in
-    let within : at < length c.self.inside.words.items = omega (arith, c.word_of-at.ensures, c.requires, ap length c.self.view_is) in
-    let read = get_or_default _ at 0 _ within ∙ sym c.index.ensures in
+    let marks = marks_less c.args.self.now c.args.number c.requires in
     elim c.else-this-gt1.branch [
-      | else-this-gt1-via-then-this-gt1+else-left-eq0 w ↦
-          rw (w.self-is, ← read, ← c.self.view_is, c.word_of-at.ensures)
-          (marks_less _ _ (omega (arith, c.requires, ap length c.self.view_is)))
-      | else-this-gt1-via-else-this-gt1 w ↦
-          rw (w.self-is, ← read, ← c.self.view_is, c.word_of-at.ensures)
-          (marks_less _ _ (omega (arith, c.requires, ap length c.self.view_is)))
+      | else-this-gt1-via-then-this-gt1+else-left-eq0 w ↦ grind (arith, w.self-is, c.word_of-at.ensures, c.requires, c.self.view_is, c.index.ensures, get_or_default c.self.inside.words.items, marks)
+      | else-this-gt1-via-else-this-gt1 w ↦ grind (arith, w.self-is, c.word_of-at.ensures, c.requires, c.self.view_is, c.index.ensures, get_or_default c.self.inside.words.items, marks)
     ]

@@ -1,11 +1,9 @@
-use Rattle.ksm_tree.proofs.Names.{arith}
 use Rattle.ksm_tree.proofs.OneSlot.{count_within, seen_emptied, seen_within, slots_cleared}
 use Rattle.ksm_tree.proofs.PlaceSets.{may_be_marked}
 use Rattle.ksm_tree.proofs.slots.Slots.clear.Goals as goal
 
 pub set-requires : goal.set-requires
-set-requires c =
-    omega (arith, count_within c.args.place c.self.inside.dups.slots c.self.invariant.counted (seen_within _ c.self.inside.dups c.self.view_is c.self.invariant.placed c.requires))
+set-requires c = count_within _ _ c.self.invariant.counted (seen_within _ c.self.inside.dups c.self.view_is c.self.invariant.placed c.requires)
 
 pub remove-requires : goal.remove-requires
 remove-requires c = may_be_marked c.self.invariant.stales c.self.invariant.few
@@ -22,6 +20,4 @@ invariant_of-self c =
     c.self.invariant c.add.ensures c.remove.ensures)
 
 pub returns : goal.returns
-returns c =
-    seen_emptied c.args.place c.self.inside.dups c.clear.new.self c.self.view_is c.self.invariant.placed
-    c.clear.ensures.slots
+returns c = seen_emptied _ _ c.clear.new.self c.self.view_is c.self.invariant.placed c.clear.ensures.slots

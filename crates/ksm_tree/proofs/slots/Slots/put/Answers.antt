@@ -12,11 +12,7 @@ remove-requires-2 c =
     may_be_marked c.self.invariant.stales c.self.invariant.few (grind (arith, c.self.view_is, c.requires.place))
 
 pub invariant_of-self : goal.invariant_of-self
-invariant_of-self c = rw (c.put.ensures, c.set.ensures)
-    (slots_put c.args.dup c.len.result (grind (arith, c.self.view_is, c.requires.place)) c.len.ensures.count
-    c.requires.live c.self.invariant c.remove.ensures c.remove-2.ensures)
+invariant_of-self c = rw (c.put.ensures, c.set.ensures) (slots_put _ _ (grind (arith, c.self.view_is, c.requires.place)) c.len.ensures.count c.requires.live c.self.invariant c.remove.ensures c.remove-2.ensures)
 
 pub returns : goal.returns
-returns c =
-    seen_put c.self.inside.dups c.put.new.self c.args.dup c.self.view_is c.requires.place c.self.invariant.placed
-    c.put.ensures
+returns c = seen_put _ c.put.new.self _ c.self.view_is c.requires.place c.self.invariant.placed c.put.ensures
