@@ -1,6 +1,6 @@
 -- Dups and their rows: what a dup that comes or goes and a change of items changes of the rows, and where a dup is found.
-use Rattle.ksm_tree.proofs.Names.{[], All, arith, Bool, change_at, change_items, Dup, dup_at, dup_of, DupRow, filter, find, find_none, get_or, GuestPage, has_number, InPlaceOrder, let_out, List, map, map-append, Merged, None, not, Option, option_map, PageState, Private, refl, row_place, rows_of, same_Some, Some, stands_at, sym, Waiting, with_dup, with_new, without_place, Zero, ℕ, if◌then◌else◌, ◌==◌, ◌∷◌, ◌≡◌, subst, get_or-map, length-map, nat_lt}
-use Rattle.ksm_tree.proofs.Alike.{change_none, filter_mapped, find_alike, find_mapped, map_alike}
+use Rattle.ksm_tree.proofs.Names.{[], All, arith, Bool, change_at, change_items, Dup, DupRow, filter, find, get_or, GuestPage, has_number, InPlaceOrder, let_out, List, map, map-append, Merged, None, not, Option, option_map, PageState, Private, refl, row_place, rows_of, same_Some, Some, stands_at, sym, Waiting, with_dup, with_new, without_place, Zero, ℕ, if◌then◌else◌, ◌==◌, ◌∷◌, ◌≡◌, subst, get_or-map, length-map, nat_lt}
+use Rattle.ksm_tree.proofs.Alike.{filter_mapped, find_mapped, map_alike}
 use Rattle.ksm_tree.proofs.Rows.{only_number}
 
 -- the row of a new dup is added to the rows
@@ -42,7 +42,7 @@ row_there {p} None is = grind (arith, is)
 row_there {p} (Some e) is = (e, refl, same_Some _ p is)
 
 -- two tests that agree on each dup change one dup
-agree_changed : (test by : Dup → Bool) (f : List GuestPage → List GuestPage) (dups : List Dup) → All (λ d. test d ≡ by d) dups → map {B = Dup} (λ d. if test d then record d { items = f d.items } else d) dups ≡ map (λ d. if by d then record d { items = f d.items } else d) dups
+pub agree_changed : (test by : Dup → Bool) (f : List GuestPage → List GuestPage) (dups : List Dup) → All (λ d. test d ≡ by d) dups → map {B = Dup} (λ d. if test d then record d { items = f d.items } else d) dups ≡ map (λ d. if by d then record d { items = f d.items } else d) dups
 agree_changed test by f dups same = map_alike _ _ dups (λ k e lt. grind (arith, same k e lt))
 
 -- what holds of all rows holds of each dup's row
@@ -51,20 +51,8 @@ all_rows P dups each k d lt =
     subst P (get_or-map (λ (d : Dup). d.row) dups k d) (each k d.row (rw (length-map dups (λ d. d.row)) lt))
 
 -- number and place tell one dup
-one_dup : (q : ℕ) {p : ℕ} (dups : List Dup) → InPlaceOrder (rows_of dups) → row_place q (rows_of dups) ≡ Some p → All (λ d. has_number q d ≡ stands_at p d) dups
+pub one_dup : (q : ℕ) {p : ℕ} (dups : List Dup) → InPlaceOrder (rows_of dups) → row_place q (rows_of dups) ≡ Some p → All (λ d. has_number q d ≡ stands_at p d) dups
 one_dup q {p} dups rise is =
     let there = row_there _ is in
     all_rows (λ r. (r.number == q) ≡ (r.place == p)) _
     (λ k d lt. grind (arith, only_number q _ rise there.1 k d lt, there.2))
-
--- a dup found by its number is the one at its place
-pub number_place_found : (q : ℕ) {p : ℕ} (dups : List Dup) → InPlaceOrder (rows_of dups) → row_place q (rows_of dups) ≡ Some p → dup_of q dups ≡ dup_at p dups
-number_place_found q {p} dups rise is = search (find_alike, one_dup)
-
--- items changed by a dup's number are those at its place
-pub number_place_changed : (q : ℕ) {p : ℕ} (f : List GuestPage → List GuestPage) (dups : List Dup) → InPlaceOrder (rows_of dups) → row_place q (rows_of dups) ≡ Some p → change_items q f dups ≡ change_at p f dups
-number_place_changed q {p} f dups rise is = agree_changed _ _ f _ (one_dup q _ rise is)
-
--- to change the items of a number that no dup has changes nothing
-pub unchanged_items : (q : ℕ) (f : List GuestPage → List GuestPage) {dups : List Dup} → dup_of q dups ≡ None → dups ≡ change_items q f dups
-unchanged_items q f {dups} is = sym (change_none _ (λ d. record d { items = f d.items }) _ (find_none _ _ is))

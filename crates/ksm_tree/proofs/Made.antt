@@ -1,5 +1,5 @@
 -- The index once a new dup has taken its place.
-use Rattle.ksm_tree.proofs.Names.{All, AllPairs-filter, ap, AreDups, AreIndexed, AreTotals, arith, Bool, bytes_eq, cases_Bool, Dup, dup_at, DupRow, dups_seen, DupsState, false, filter, filter_all, find_all, find_none, find_nothing, group_places, if◌then◌else◌, in_group, Index, inl, InPlaceOrder, inr, IsCounted, IsCountedAnew, IsEntered, IsRegrouped, length, List, nat_tests, ne_eqb, None, not, Option, place_of, places_of, row_place, rows_of, SameWaits, SlotsState, Some, subst, sym, true, with_dup, with_new, with_place, without, ℕ, ◌&&◌, ◌+◌, ◌<◌, ◌==◌, ◌≡◌}
+use Rattle.ksm_tree.proofs.Names.{All, AllPairs-filter, ap, AreIndexed, AreTotals, arith, Bool, bytes_eq, cases_Bool, Dup, dup_at, DupRow, dups_seen, DupsState, false, filter, filter_all, find_all, find_none, find_nothing, group_places, if◌then◌else◌, in_group, Index, inl, InPlaceOrder, inr, IsCounted, IsCountedAnew, IsEntered, IsRegrouped, length, List, nat_tests, ne_eqb, None, not, place_of, places_of, row_place, rows_of, SameWaits, SlotsState, Some, subst, sym, true, with_dup, with_new, without, ℕ, ◌&&◌, ◌+◌, ◌<◌, ◌==◌, ◌≡◌}
 use Rattle.ksm_tree.proofs.Changes.{rows_new}
 use Rattle.ksm_tree.proofs.Grouped.{IsMore, chains_kept, dups_kept, more_with, more_there, places_size, totals_apart, totals_between, totals_few, totals_moved, totals_same}
 use Rattle.ksm_tree.proofs.Keys.{own_bytes, own_group, own_tree, self_group}
@@ -7,95 +7,94 @@ use Rattle.ksm_tree.proofs.Indexed.{row_at_place, not_in_group, found_stands, to
 use Rattle.ksm_base.proofs.Orders.{all_with_dup, dups_with}
 use Rattle.ksm_tree.proofs.Rows.{place_new, place_kept, place_gone, group_joined, group_passed, group_unlike}
 
--- the place of a number, and the places of a group, with a new row
-place_with : (q : ℕ) (row : DupRow) (rows : List DupRow) → InPlaceOrder rows → All (λ r. r.number < row.number) rows → row_place q (with_dup row rows) ≡ (if q == row.number then Some row.place else row_place q (filter (λ r. not (r.place == row.place)) rows))
-place_with q row rows rise fresh = grind (arith, nat_tests, place_new, place_kept)
-
-group_with : (t : ℕ) (b : List ℕ) (row : DupRow) (rows : List DupRow) → InPlaceOrder rows → group_places t b (with_dup row rows) ≡ (if in_group t b row then with_place row.place (group_places t b rows) else without row.place (group_places t b rows))
-group_with t b row rows rise = grind (arith, group_joined, group_passed)
-
 module _ {s : SlotsState} {next : ℕ} {index : Index} (new : Index) (dup : Dup) (h : AreIndexed s next index) (number : dup.row.number ≡ next) (within : dup.row.place < s.places) where
-  fresh : All (λ r. r.number < dup.row.number) (rows_of s.dups)
+  abbrev rows : List DupRow
+  rows = rows_of s.dups
+
+  -- the rows with the new one
+  abbrev all : List DupRow
+  all = with_dup dup.row rows
+
+  rise : InPlaceOrder rows
+  rise = h.lawful.in_place_order
+
+  fresh : All (λ r. r.number < dup.row.number) rows
   fresh = rw number h.lawful.numbers_below
 
-  lawful_new : (ready : Bool) → AreDups (dups_seen (record { places = s.places; dups = with_new dup s.dups; ready = ready }) (next + 1) new)
-  lawful_new ready =
+  new_rise : InPlaceOrder all
+  new_rise = dups_with _ _ rise fresh
+
+  -- the index is right once a new dup stands among the others, if it is right by their rows
+  made : (ready : Bool) → AreTotals all new.groups.totals → ((q : ℕ) → place_of q new ≡ row_place q all) → ((t : ℕ) (b : List ℕ) → places_of t b new ≡ group_places t b all)
+      → AreIndexed (record { places = s.places; dups = with_new dup s.dups; ready = ready }) (next + 1) new
+  made ready counted numbered grouped =
       let is = rows_new dup s.dups in
       record {
-        in_place_order = rw is (dups_with _ _ h.lawful.in_place_order fresh);
-        places_below = rw is (all_with_dup (λ r. r.place < s.places) _ _ within h.lawful.places_below);
-        numbers_below = rw is (all_with_dup (λ r. r.number < next + 1) dup.row (rows_of s.dups) (omega (arith, number))
-            (λ k d lt. omega (arith, h.lawful.numbers_below k d lt)));
+        few = h.few;
+        counted = rw is counted;
+        lawful = record {
+          in_place_order = rw is new_rise;
+          places_below = rw is (all_with_dup (λ r. r.place < s.places) _ _ within h.lawful.places_below);
+          numbers_below = rw is (all_with_dup (λ r. r.number < next + 1) dup.row rows (omega (arith, number))
+              (λ k d lt. omega (arith, h.lawful.numbers_below k d lt)));
+        };
+        numbered = λ q. rw is (numbered q);
+        grouped = λ t b. rw is (grouped t b);
       }
 
   -- the index is right once a new dup stands at a place that was empty
   pub fresh_indexed : (ready : Bool) → None ≡ dup_at dup.row.place s.dups → IsEntered dup.row index new
       → AreIndexed (record { places = s.places; dups = with_new dup s.dups; ready = ready }) (next + 1) new
   fresh_indexed ready none entered =
-      let rows = rows_of s.dups in
       let p = dup.row.place in
       let apart = find_none (λ r. r.place == p) rows (row_at_place p s.dups (sym none)) in
       let kept : filter (λ r. not (r.place == p)) rows ≡ rows = filter_all _ rows (λ k d lt. ap not (apart k d lt)) in
-      let grouped : (t : ℕ) (b : List ℕ) → places_of t b new ≡ group_places t b (with_dup dup.row rows) = λ t b.
+      let grouped : (t : ℕ) (b : List ℕ) → places_of t b new ≡ group_places t b all = λ t b.
       let unlike = group_unlike p t b rows (λ k d lt. grind (arith, apart k d lt)) in
-      grind (arith, entered.groups t b, own_group t b dup.row, h.grouped t b, unlike, group_with t b dup.row rows h.lawful.in_place_order) in
+      grind (arith, entered.groups t b, own_group t b dup.row, h.grouped t b, unlike, group_joined t b dup.row rows, group_passed t b dup.row rows rise) in
       let t = dup.row.tree in
       let b = dup.row.bytes in
-      let more = subst (λ l. IsMore dup.row l (with_dup dup.row rows)) kept (more_with rows h.lawful.in_place_order) in
+      let more = subst (λ l. IsMore dup.row l all) kept (more_with rows rise) in
       let own = self_group dup.row in
-      record {
-        few = h.few;
-        counted = rw (rows_new dup s.dups)
-            (totals_moved t b h.lawful.in_place_order (dups_with dup.row rows h.lawful.in_place_order fresh)
-            (dups_kept t b more own) (chains_kept t b more own)
-            (grind (arith, h.grouped t b, grouped t b, entered.totals)) h.counted);
-        lawful = lawful_new ready;
-        numbered = λ q. grind (arith, entered.numbers q, h.numbered q, kept, place_with q dup.row rows h.lawful.in_place_order fresh, rows_new dup s.dups);
-        grouped = λ t b. rw (rows_new dup s.dups) (grouped t b);
-      }
+      made ready (totals_moved t b rise new_rise (dups_kept t b more own) (chains_kept t b more own)
+      (grind (arith, h.grouped t b, grouped t b, entered.totals)) h.counted)
+      (λ q. grind (arith, nat_tests, entered.numbers q, h.numbered q, kept, place_new dup.row rows fresh, place_kept q dup.row rows rise)) grouped
 
   -- the rows as they were, those that stay, and those that are there then
   record Swapped (old : Dup) : Type 0 where
     less : List DupRow
-    there : IsMore old.row less (rows_of s.dups)
-    here : IsMore dup.row less (with_dup dup.row (rows_of s.dups))
+    there : IsMore old.row less rows
+    here : IsMore dup.row less all
     less_rise : InPlaceOrder less
-    new_rise : InPlaceOrder (with_dup dup.row (rows_of s.dups))
 
   swapped : {old : Dup} → Some old ≡ dup_at dup.row.place s.dups → Swapped old
   swapped {old} found = record {
-    less = filter (λ r. not (r.place == dup.row.place)) (rows_of s.dups);
-    there = more_there dup.row.place _ old.row h.lawful.in_place_order (row_at_place _ s.dups (sym found));
-    here = more_with _ h.lawful.in_place_order;
-    less_rise = AllPairs-filter (λ a b. (a.place < b.place) × ((a.number == b.number) ≡ false)) _ (rows_of s.dups)
-        h.lawful.in_place_order;
-    new_rise = dups_with _ _ h.lawful.in_place_order fresh;
+    less = filter (λ r. not (r.place == dup.row.place)) rows;
+    there = more_there dup.row.place _ old.row rise (row_at_place _ s.dups (sym found));
+    here = more_with _ rise;
+    less_rise = AllPairs-filter (λ a b. (a.place < b.place) × ((a.number == b.number) ≡ false)) _ rows rise;
   }
 
   -- the index between: the new dup is in, and the old one not yet out
-  joined_in : {mid : Index} → IsEntered dup.row index mid → (t : ℕ) (b : List ℕ) → in_group t b dup.row ≡ true → places_of t b mid ≡ group_places t b (with_dup dup.row (rows_of s.dups))
-  joined_in entered t b inside = grind (arith, entered.groups, own_group, h.grouped, group_joined)
+  joined_in : {mid : Index} → IsEntered dup.row index mid → (t : ℕ) (b : List ℕ) → in_group t b dup.row ≡ true → places_of t b mid ≡ group_places t b all
+  joined_in entered t b inside = grind (arith, entered.groups, own_group, h, group_joined)
 
-  joined_own : {mid : Index} → IsEntered dup.row index mid → places_of dup.row.tree dup.row.bytes mid ≡ group_places dup.row.tree dup.row.bytes (with_dup dup.row (rows_of s.dups))
+  joined_own : {mid : Index} → IsEntered dup.row index mid → places_of dup.row.tree dup.row.bytes mid ≡ group_places dup.row.tree dup.row.bytes all
   joined_own entered = joined_in entered _ _ (self_group dup.row)
-
-  -- the old one's group has as many places as before
-  left_size : {mid : Index} {old : Dup} → Swapped old → IsEntered dup.row index mid → length (places_of old.row.tree old.row.bytes mid) ≡ length (places_of old.row.tree old.row.bytes index)
-  left_size {mid} {old} swap entered =
-      let t = old.row.tree in
-      let b = old.row.bytes in
-      grind (arith, h.grouped t b, places_size t b, self_group old.row, joined_in entered t b, entered.groups t b, own_group t b dup.row, swap.there, swap.here)
 
   -- once the new dup is entered beside the old one at its place, the totals are right for the group of the old one
   pub told_between : {mid : Index} (old : Dup) → Some old ≡ dup_at dup.row.place s.dups → IsEntered dup.row index mid
       → IsCounted old.row.tree old.row.bytes mid.groups
   told_between {mid} old found entered =
       let r = dup.row in
+      let t = old.row.tree in
+      let b = old.row.bytes in
       let swap = swapped found in
-      let few = totals_few s.places h.few h.lawful.places_below h.lawful.in_place_order h.counted in
-      rw (left_size swap entered) (totals_between swap.there swap.here h.lawful.in_place_order swap.less_rise
-      swap.new_rise (rw (← h.grouped r.tree r.bytes, ← joined_own entered) entered.totals) _ few.0 few.1
-      (told h _ _))
+      let size : length (places_of t b mid) ≡ length (places_of t b index) =
+      grind (arith, h.grouped t b, places_size t b, self_group old.row, joined_in entered t b, entered.groups t b, own_group t b r, swap) in
+      let few = totals_few s.places h.few h.lawful.places_below rise h.counted in
+      rw size (totals_between swap.there swap.here rise swap.less_rise new_rise
+      (rw (← h.grouped r.tree r.bytes, ← joined_own entered) entered.totals) _ few.0 few.1 (told h _ _))
 
   -- the index is right once a new dup stands at the place of a dup that goes
   pub taken_indexed : (ready : Bool) {mid : Index} (old : Dup) → Some old ≡ dup_at dup.row.place s.dups
@@ -105,39 +104,31 @@ module _ {s : SlotsState} {next : ℕ} {index : Index} (new : Index) (dup : Dup)
       → IsCountedAnew old.row.tree old.row.bytes mid.groups new.groups
       → AreIndexed (record { places = s.places; dups = with_new dup s.dups; ready = ready }) (next + 1) new
   taken_indexed ready {mid} old found entered left_numbers left_groups left =
-      let rows = rows_of s.dups in
       let p = dup.row.place in
       let at = found_stands s.dups (sym found) in
       let row_found = row_at_place p s.dups (sym found) in
       let older : old.row.number < dup.row.number = find_all (λ r. r.place == p) (λ r. r.number < dup.row.number) rows
       old.row row_found fresh in
-      let grouped : (t : ℕ) (b : List ℕ) → places_of t b new ≡ group_places t b (with_dup dup.row rows) = λ t b.
+      let grouped : (t : ℕ) (b : List ℕ) → places_of t b new ≡ group_places t b all = λ t b.
       let outside = λ (out : in_group t b old.row ≡ false). group_unlike p t b rows
-      (not_in_group p t b s.dups h.lawful.in_place_order (sym found) out) in
-      grind (arith, left_groups t b, entered.groups t b, own_group t b dup.row, own_group t b old.row, h.grouped t b, at, outside, group_with t b dup.row rows h.lawful.in_place_order) in
+      (not_in_group p t b s.dups rise (sym found) out) in
+      grind (arith, left_groups t b, entered.groups t b, own_group t b dup.row, own_group t b old.row, h.grouped t b, at, outside, group_joined t b dup.row rows, group_passed t b dup.row rows rise) in
       let swap = swapped found in
       let r = dup.row in
       let o = old.row in
       let first : IsRegrouped (length (group_places r.tree r.bytes rows)) (length (places_of r.tree r.bytes mid))
       index.groups.totals mid.groups.totals = rw (← h.grouped r.tree r.bytes) entered.totals in
-      let counted : AreTotals (with_dup r rows) new.groups.totals = elim (cases_Bool (in_group r.tree r.bytes o)) [
+      let counted : AreTotals all new.groups.totals = elim (cases_Bool (in_group r.tree r.bytes o)) [
         | inl same ↦
-            let second : IsRegrouped (length (places_of r.tree r.bytes mid))
-            (length (group_places r.tree r.bytes (with_dup r rows))) mid.groups.totals new.groups.totals =
+            let second : IsRegrouped (length (places_of r.tree r.bytes mid)) (length (group_places r.tree r.bytes all))
+            mid.groups.totals new.groups.totals =
             grind (arith, grouped r.tree r.bytes, own_tree r.bytes o same, own_bytes r.tree o same, left) in
-            totals_same swap.there swap.here h.lawful.in_place_order swap.less_rise swap.new_rise same first second
-            h.counted
-        | inr other ↦ totals_apart swap.there swap.here h.lawful.in_place_order swap.less_rise swap.new_rise
-            mid.groups.totals other (rw (← joined_own entered) first)
+            totals_same swap.there swap.here rise swap.less_rise new_rise same first second h.counted
+        | inr other ↦ totals_apart swap.there swap.here rise swap.less_rise new_rise mid.groups.totals other (rw (← joined_own entered) first)
             (grind (arith, entered.groups o.tree o.bytes, other, h.grouped o.tree o.bytes, grouped o.tree o.bytes, left)) h.counted
       ] in
-      record {
-        few = h.few;
-        counted = rw (rows_new dup s.dups) counted;
-        lawful = lawful_new ready;
-        numbered = λ q. grind (arith, nat_tests, left_numbers q, entered.numbers q, h.numbered q, older, place_gone p q rows h.lawful.in_place_order row_found, place_with q dup.row rows h.lawful.in_place_order fresh, rows_new dup s.dups);
-        grouped = λ t b. rw (rows_new dup s.dups) (grouped t b);
-      }
+      made ready counted
+      (λ q. grind (arith, nat_tests, left_numbers q, entered.numbers q, h.numbered q, older, place_gone p q rows rise row_found, place_new dup.row rows fresh, place_kept q dup.row rows rise)) grouped
 
 -- once a dup is made, callers see that dup among the others, and the next number one higher
 pub seen_made : (s : SlotsState) (next : ℕ) (index new : Index) (dup : ℕ → Dup) (ready : Bool) {old : DupsState} → dups_seen s next index ≡ old → SameWaits index.groups new.groups

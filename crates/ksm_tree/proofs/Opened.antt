@@ -21,11 +21,11 @@ none_passes test (suc n) = grind (arith, none_passes test n, count_more, suc-mul
 
 -- a set that has all of so many places, or none, is that of the empty slots that pass a test
 none_set : {test : Option Dup → Bool} (n : ℕ) {places : CountedSet} → n ≤ 64 * length places.set → ((p : ℕ) → p < n → has places.set p ≡ test None) → places.count ≡ n * cond (test None) 1 0 → IsSetOf test (none_of n) places
-none_set n wide each count = grind (arith, length-replicate, wide, each, get_or-replicate, count, none_passes)
+none_set n wide each count = grind (arith, length-replicate, get_or-replicate, none_passes)
 
 -- in empty slots no dup is seen
 pub none_seen : (n : ℕ) (shelf : ShelfState) → shelf.slots ≡ none_of n → slots_seen shelf ≡ record { places = n; dups = []; ready = shelf.ready }
-none_seen n shelf is = grind (arith, is, length-replicate, none_present)
+none_seen n shelf is = grind (arith, length-replicate, none_present)
 
 none_counted : (n : ℕ) → replicate n 0 ≡ map count_in (none_of n)
 none_counted zero = refl
@@ -33,7 +33,7 @@ none_counted (suc n) = grind (arith, none_counted n)
 
 -- empty slots are right with counts of 0, all places empty, and none stale
 pub none_slots : (n : ℕ) {counts : List ℕ} {empty stale : CountedSet} → n ≤ MOST_FRAMES → counts ≡ replicate n 0 → n ≤ 64 * length empty.set → ((p : ℕ) → p < n → has empty.set p ≡ true) → empty.count ≡ n → n ≤ 64 * length stale.set → ((p : ℕ) → has stale.set p ≡ false) → stale.count ≡ 0 → AreSlots (none_of n) counts empty stale
-none_slots n {empty} {stale} few counted wide all each wide_stale none zero_count = record {
+none_slots n few counted wide all each wide_stale none zero_count = record {
   few = rw length-replicate few;
   placed = none_placed 0 n;
   counted = counted ∙ none_counted n;

@@ -34,11 +34,9 @@ module _ (page : GuestPage) where
       go : (o : Option Row) → row_at page rows ≡ o → without_page page rows ≡ filter ahead rows ++ filter behind rows
       go None none = sym (absent_kept pages_ordered _ page _ none) ∙ absent_parts pages_ordered _ page _ rise none
       go (Some r) found =
-          let here : filter (λ s. not (same_page s.page page)) (r ∷ []) ≡ [] = rw (find_passes _ rows r found) refl in
           ap (without_page page) (found_parts pages_ordered page_of page rows r rise found)
-          ∙ without_between pages_ordered page_of page (filter ahead rows) (r ∷ []) (filter behind rows)
-          (filter_passes ahead rows) (filter_passes behind rows)
-          ∙ ap (λ mid. filter ahead rows ++ (mid ++ filter behind rows)) here
+          ∙ without_between pages_ordered page_of page _ (r ∷ []) _ (filter_passes ahead rows) (filter_passes behind rows)
+          ∙ rw (find_passes _ rows r found) refl
 
 module _ (rows : List Row) (d : DupRow) (rise : InPageOrder rows) (page : GuestPage) where
   abbrev merged : Row → Bool
@@ -50,19 +48,17 @@ module _ (rows : List Row) (d : DupRow) (rise : InPageOrder rows) (page : GuestP
 
   -- the items of a dup have the page once the page's row is merged into it
   pub items_joined : (new : Row) → new.page ≡ page → is_some (row_at page rows) ≡ true → merged new ≡ true → items_of (change_row page (λ _. new) rows) d ≡ with_item page (items_of rows d)
-  items_joined new at there passes =
-      grind (arith, passes, at, change_splits page new rows rise there, kept_append, chosen page_of merged)
+  items_joined new at there passes = grind (arith, at, change_splits page new rows rise, kept_append, chosen page_of merged)
 
   -- the items of a dup are without the page once the page's row is not merged into it
   pub items_left : (new : Row) → is_some (row_at page rows) ≡ true → merged new ≡ false → items_of (change_row page (λ _. new) rows) d ≡ without_item page (items_of rows d)
-  items_left new there fails = grind (arith, fails, change_splits page new rows rise there, kept_append, without_splits page rows rise, items_dropped)
+  items_left new there fails = grind (arith, change_splits page new rows rise there, kept_append, without_splits page rows rise, items_dropped)
 
 -- the items of a dup stay where each row changes but for its page and its dup
 pub items_kept : (rows : List Row) (d : DupRow) (f : Row → Row) → All (λ r. ((f r).page ≡ r.page) × (merged_into d.number (f r).state ≡ merged_into d.number r.state)) rows → items_of (map f rows) d ≡ items_of rows d
 items_kept [] d f same = refl
-items_kept (r ∷ rows) d f same = let rest = items_kept rows d f (λ k e lt. same (suc k) e (omega arith)) in
-    grind (arith, (same 0 r (omega arith)).0, (same 0 r (omega arith)).1, rest)
+items_kept (r ∷ rows) d f same = grind (arith, same 0 r, items_kept rows d f (λ k e lt. same (suc k) e (omega arith)))
 
 -- where each dup's items are the pages of the rows merged into the dup, there are as many items as such rows
 pub tied_counted : (rows : List Row) (dups : List Dup) → AreTied rows dups → AreCounted rows dups
-tied_counted rows dups tied = λ k d lt. grind (arith, tied k d lt, length-map, length-filter)
+tied_counted rows dups tied k d lt = grind (arith, tied k d lt, length-map, length-filter)

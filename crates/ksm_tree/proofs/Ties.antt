@@ -1,39 +1,32 @@
 -- The items of each dup stay the pages of the rows merged into it: the dups after a change of one row, and after a change of all.
-use Rattle.ksm_tree.proofs.Names.{[], absent_kept, All, All-append, All-cons, All-filter, All-map, ap, AreTied, arith, change_items, change_row, Dup, dup_of, DupRow, each_at_page, eqb-true, false, filter_all, filter_none, find_all, find_none, find_passes, get_or, GuestPage, has_item, has_number, InPageOrder, is_some, item_count, items_in, items_of, length, let_out, List, map, Merged, merged_into, merged_state, nat_tests, None, none_found, not, not_an_item, Option, ordered_map, pages_ordered, PageState, Private, refl, Row, row_at, rows_of, same_page, Some, sym, true, Waiting, with_item, with_new, with_row, without_item, without_page, without_place, Zero, ℕ, if◌then◌else◌, ◌<◌, ◌==◌, ◌∙◌, ◌∷◌, ◌≡◌, suc}
+use Rattle.ksm_tree.proofs.Names.{[], absent_kept, All, All-append, All-cons, All-filter, All-map, ap, AreTied, arith, change_items, change_row, Dup, dup_of, DupRow, each_at_page, eqb-true, false, filter_all, filter_none, find_all, find_none, find_passes, get_or, GuestPage, has_item, InPageOrder, is_some, item_count, items_in, items_of, length, let_out, List, map, Merged, merged_into, merged_state, nat_tests, None, none_found, not, not_an_item, Option, ordered_map, pages_ordered, PageState, Private, refl, Row, row_at, rows_of, same_page, Some, sym, true, Waiting, with_item, with_new, with_row, without_item, without_page, without_place, Zero, ℕ, if◌then◌else◌, ◌<◌, ◌==◌, ◌∙◌, ◌∷◌, ◌≡◌, suc}
 use Rattle.ksm_tree.specs.Dups.{items_of as items_numbered}
 use Rattle.ksm_tree.proofs.Alike.{kept_append}
 use Rattle.ksm_tree.proofs.Changes.{all_rows}
-use Rattle.ksm_tree.proofs.Tied.{page_of, without_splits, items_dropped, items_joined, items_left, items_kept, tied_counted}
+use Rattle.ksm_tree.proofs.Tied.{without_splits, items_dropped, items_joined, items_left, items_kept, tied_counted}
 
 abbrev IsTied : List Row → Dup → Type 0
 IsTied rows d = d.items ≡ items_of rows d.row
 
--- the row of a page is the only one of its page
-only_row : (page : GuestPage) (rows : List Row) {old : Row} → InPageOrder rows → row_at page rows ≡ Some old → All (λ r. same_page r.page page ≡ true → r ≡ old) rows
-only_row page rows {old} rise found k d lt same =
-    grind (arith, each_at_page rows rise k d lt, pages_ordered.same_eq (get_or rows k d).page page same, found)
-
 -- a page whose rows are no items of a dup is no item of it
 no_item : (page : GuestPage) (d : DupRow) (rows : List Row) → All (λ r. same_page r.page page ≡ true → merged_into d.number r.state ≡ false) rows → has_item page (items_of rows d) ≡ false
 no_item page d [] none = refl
-no_item page d (r ∷ rows) none = let rest = no_item page d rows (λ k e lt. none (suc k) e (omega arith)) in
-    grind (arith, nat_tests, none 0 r, rest)
+no_item page d (r ∷ rows) none = grind (arith, nat_tests, none 0 r, no_item page d rows (λ k e lt. none (suc k) e (omega arith)))
 
 module _ (rows : List Row) (page : GuestPage) (old : Row) (rise : InPageOrder rows) (found : row_at page rows ≡ Some old) where
   -- a page is an item of no dup but that of its row
   not_item : (d : DupRow) → merged_into d.number old.state ≡ false → has_item page (items_of rows d) ≡ false
-  not_item d fails = no_item _ d rows (λ k e lt same. rw (only_row page rows rise found k e lt same) fails)
+  not_item d fails = no_item _ d rows (λ k e lt same. grind (arith, each_at_page rows rise k e lt, pages_ordered.same_eq (get_or rows k e).page page same, found, fails))
 
   unlike : (d : DupRow) → merged_into d.number old.state ≡ false → items_of rows d ≡ without_item page (items_of rows d)
   unlike d fails = absent_kept pages_ordered _ page _ (none_found _ (items_of rows d) (not_item d fails))
 
   -- where the page is no item any more
   out_of : (state : PageState) → old.state ≡ state → (new : List Row) (dups : List Dup) → ((d : DupRow) → items_of new d ≡ without_item page (items_of rows d)) → AreTied rows dups → AreTied new (let_out state page dups)
-  out_of (Merged n) is new dups less tied = All-map (IsTied new) _ dups
-      (λ k e lt. grind (arith, nat_tests, is, tied k e lt, less, unlike))
-  out_of Private is new dups less tied = λ k d lt. grind (arith, is, tied k d lt, unlike, less)
-  out_of Waiting is new dups less tied = λ k d lt. grind (arith, is, tied k d lt, unlike, less)
-  out_of Zero is new dups less tied = λ k d lt. grind (arith, is, tied k d lt, unlike, less)
+  out_of (Merged n) is new dups less tied = All-map (IsTied new) _ dups (λ k e lt. grind (arith, is, tied k e lt, less, unlike))
+  out_of Private is new dups less tied = λ k d lt. grind (arith, tied k d lt, unlike, less)
+  out_of Waiting is new dups less tied = λ k d lt. grind (arith, tied k d lt, unlike, less)
+  out_of Zero is new dups less tied = λ k d lt. grind (arith, tied k d lt, unlike, less)
 
   -- rows and dups stay tied where a row goes and its page leaves its dup
   pub tied_dropped : (dups : List Dup) → AreTied rows dups → AreTied (without_page page rows) (let_out old.state page dups)
@@ -41,21 +34,16 @@ module _ (rows : List Row) (page : GuestPage) (old : Row) (rise : InPageOrder ro
 
   -- rows and dups stay tied where a row becomes one that is not merged and its page leaves its dup
   pub tied_left : (row : Row) (dups : List Dup) → merged_state row.state ≡ false → AreTied rows dups → AreTied (change_row page (λ _. row) rows) (let_out old.state page dups)
-  tied_left row dups alone tied =
-      out_of _ refl (change_row page (λ _. row) rows) _
-      (λ d. items_left _ d rise _ row (ap is_some found) (not_an_item _ _ alone)) tied
+  tied_left row dups alone tied = out_of _ refl (change_row page (λ _. row) rows) _ (λ d. grind (arith, items_left rows d rise page row, found, not_an_item, alone)) tied
 
   -- rows and dups stay tied where a row that was not merged is merged, and its page becomes an item
   pub tied_joined : (row : Row) (number : ℕ) (dups : List Dup) → merged_state old.state ≡ false → row.page ≡ page → row.state ≡ Merged number → AreTied rows dups → AreTied (change_row page (λ _. row) rows) (change_items number (with_item page) dups)
-  tied_joined row number dups alone at is tied =
-      All-map (IsTied (change_row page (λ _. row) rows))
-      (λ d. if has_number number d then record d { items = with_item page d.items } else d) dups
-      (λ k e lt. grind (arith, nat_tests, tied k e lt, is, found, not_an_item, alone, unlike, items_joined rows (get_or dups k e).row rise page row at, items_left rows (get_or dups k e).row rise page row))
+  tied_joined row number dups alone at is tied = All-map (IsTied (change_row page (λ _. row) rows)) _ dups (λ k e lt. grind (arith, nat_tests, tied k e lt, is, found, not_an_item, unlike, items_joined, items_left))
 
   -- a page whose row is not merged is an item of none
   absent_in : (number : ℕ) (dups : List Dup) (o : Option Dup) → merged_state old.state ≡ false → AreTied rows dups → dup_of number dups ≡ o → has_item page (items_in o) ≡ false
   absent_in number dups None alone tied is = refl
-  absent_in number dups (Some d) alone tied is = grind (arith, find_all _ (IsTied rows) _ d is tied, not_item d.row (not_an_item _ _ alone))
+  absent_in number dups (Some d) alone tied is = grind (arith, find_all _ (IsTied rows) _ d is tied, not_item, not_an_item)
 
   -- a page whose row is not merged is an item of no dup
   pub tied_absent : (number : ℕ) (dups : List Dup) → merged_state old.state ≡ false → AreTied rows dups → has_item page (items_numbered number dups) ≡ false
@@ -73,7 +61,7 @@ number_found number dups d found = search (eqb-true, find_passes)
 -- a change that keeps the page of each row finds a row at a page exactly where one was
 pub row_stays : (page : GuestPage) (f : Row → Row) (rows : List Row) → ((r : Row) → (f r).page ≡ r.page) → is_some (row_at page (map f rows)) ≡ is_some (row_at page rows)
 row_stays page f [] same = refl
-row_stays page f (r ∷ rows) same = grind (arith, row_stays page f rows same, same)
+row_stays page f (r ∷ rows) same = grind (arith, row_stays page f rows same)
 
 -- what holds of each dup and of a new one holds of each with it
 all_with_new : (P : Dup → Type 0) (dup : Dup) (dups : List Dup) → All P dups → P dup → All P (with_new dup dups)
@@ -105,11 +93,11 @@ module _ (rows : List Row) (first second : Row) (row : DupRow) (rise : InPageOrd
 
   -- the items of another dup
   others : (d : DupRow) → (row.number == d.number) ≡ false → items_of whole d ≡ items_of rows d
-  others d fails = grind (arith, items_left rows d rise first.page first_in, items_left half d half_rises second.page second_in there fails, found, also, unlike _ _ _ rise found d (not_an_item _ _ alone), unlike _ _ _ rise also d (not_an_item _ _ alone_too))
+  others d fails = grind (arith, items_left rows d rise first.page first_in, items_left half d half_rises second.page second_in there, unlike rows first.page first rise found d, unlike rows second.page second rise also d, not_an_item)
 
   -- the items of the new dup are the two pages
   both_in : items_of whole row ≡ with_item second.page (first.page ∷ [])
-  both_in = grind (arith, nat_tests, filter_none (λ r. merged_into row.number r.state) rows none, found, items_joined half row half_rises second.page second_in refl there, items_joined rows row rise first.page first_in refl)
+  both_in = grind (arith, nat_tests, filter_none (λ r. merged_into row.number r.state) rows none, items_joined half row half_rises second.page second_in refl there, items_joined rows row rise first.page first_in refl)
 
   -- rows and dups stay tied where two pages make a dup whose number is above all others
   pub tied_made : (dups : List Dup) → All (λ r. r.number < row.number) (rows_of dups) → AreTied rows dups → AreTied whole (with_new (record { row = row; items = with_item second.page (first.page ∷ []) }) dups)
@@ -119,15 +107,12 @@ module _ (rows : List Row) (first second : Row) (row : DupRow) (rise : InPageOrd
 -- rows and dups stay tied where a row that is not merged comes
 pub tied_inserted : (rows : List Row) (row : Row) (dups : List Dup) → InPageOrder rows → row_at row.page rows ≡ None → merged_state row.state ≡ false → AreTied rows dups → AreTied (with_row row rows) dups
 tied_inserted rows row dups rise absent alone tied k d lt =
-    let page = row.page in
-    let m = λ (r : Row). merged_into (get_or dups k d).row.number r.state in
-    let same : without_page page rows ≡ rows = filter_all _ _ (λ k e lt. ap not (find_none _ _ absent k e lt)) in
-    grind (arith, tied k d lt, alone, not_an_item, kept_append page_of m, without_splits page rows rise, same)
+    let same : without_page row.page rows ≡ rows = filter_all _ _ (λ k e lt. ap not (find_none _ _ absent k e lt)) in
+    grind (arith, tied k d lt, not_an_item, kept_append, without_splits row.page rows rise, same)
 
 -- rows and dups stay tied where each row changes but for its page and its dup
 pub tied_mapped : (f : Row → Row) (rows : List Row) (dups : List Dup) → All (λ r. ((f r).page ≡ r.page) × ((number : ℕ) → merged_into number (f r).state ≡ merged_into number r.state)) rows → AreTied rows dups → AreTied (map f rows) dups
-tied_mapped f rows dups same tied k d lt =
-    tied k d lt ∙ sym (items_kept _ (get_or dups k d).row f (λ k r lt. ((same k r lt).0, (same k r lt).1 _)))
+tied_mapped f rows dups same tied k d lt = tied k d lt ∙ sym (items_kept _ (get_or dups k d).row f (λ j r lt. ((same j r lt).0, (same j r lt).1 _)))
 
 -- rows and dups stay tied where a dup goes
 pub tied_pruned : (rows : List Row) (dups : List Dup) (place : ℕ) → AreTied rows dups → AreTied rows (without_place place dups)
