@@ -21,19 +21,19 @@ module _ {X Y : Type 0} (g : X → Y) (p : Y → Bool) (q : X → Bool) where
   pub find_mapped : (xs : List X) → All (λ x. p (g x) ≡ q x) xs → find p (map g xs) ≡ option_map g (find q xs)
   find_mapped [] same = refl
   find_mapped (x ∷ xs) same =
-      let rest = find_mapped xs (λ k d lt. same (suc k) d (omega arith)) in grind (arith, same 0 x, rest)
+      let rest = find_mapped xs (λ k d lt. same (suc k) d (omega arith)) in grind (arith, same 0 x)
 
   -- where two tests agree across a map, those kept of the mapped list are the images of those kept before
   pub filter_mapped : (xs : List X) → All (λ x. p (g x) ≡ q x) xs → filter p (map g xs) ≡ map g (filter q xs)
   filter_mapped [] same = refl
   filter_mapped (x ∷ xs) same =
-      let rest = filter_mapped xs (λ k d lt. same (suc k) d (omega arith)) in grind (arith, same 0 x, rest)
+      let rest = filter_mapped xs (λ k d lt. same (suc k) d (omega arith)) in grind (arith, same 0 x)
 
   -- where two tests agree across a map, as many pass in the mapped list as before
   pub count_mapped : (xs : List X) → All (λ x. p (g x) ≡ q x) xs → count_by p (map g xs) ≡ count_by q xs
   count_mapped [] same = refl
   count_mapped (x ∷ xs) same =
-      let rest = count_mapped xs (λ k d lt. same (suc k) d (omega arith)) in grind (arith, same 0 x, rest, count_more)
+      let rest = count_mapped xs (λ k d lt. same (suc k) d (omega arith)) in grind (arith, same 0 x, count_more)
 
 -- a map that takes related elements to related ones makes a list in order of a list in order
 pub pairs_mapped : {X Y : Type 0} (S : X → X → Type 0) (R : Y → Y → Type 0) (P : X → Type 0) (g : X → Y) → ((a b : X) → P a → P b → S a b → R (g a) (g b)) → (xs : List X) → All P xs → AllPairs S xs → AllPairs R (map g xs)
@@ -63,7 +63,7 @@ change_none test f xs none =
 pub chosen : {X Y : Type 0} (f : X → Y) (test : X → Bool) (by : Y → Bool) (xs : List X)
     → map f (filter test (filter (λ x. by (f x)) xs)) ≡ filter by (map f (filter test xs))
 chosen f test by [] = refl
-chosen f test by (x ∷ xs) = let rest = chosen f test by xs in grind (arith, rest)
+chosen f test by (x ∷ xs) = let rest = chosen f test by xs in grind arith
 
 -- what a map makes of those kept of two lists in a row is what it makes of those of the first, then of the second
 pub kept_append : {X Y : Type 0} (f : X → Y) (test : X → Bool) (xs ys : List X)

@@ -15,7 +15,7 @@ rows_without p dups = sym (filter_mapped _ _ _ dups (λ k d lt. refl))
 
 rows_same : (test : Dup → Bool) (f : List GuestPage → List GuestPage) (dups : List Dup) → rows_of (map (λ d. if test d then record d { items = f d.items } else d) dups) ≡ rows_of dups
 rows_same test f [] = refl
-rows_same test f (d ∷ dups) = let rest = rows_same test f dups in grind (arith, rest)
+rows_same test f (d ∷ dups) = let rest = rows_same test f dups in grind arith
 
 -- other items at a place change no row
 pub rows_changed : (p : ℕ) (f : List GuestPage → List GuestPage) (dups : List Dup) → rows_of (change_at p f dups) ≡ rows_of dups
@@ -38,7 +38,7 @@ row_found test by same dups = sym (find_mapped _ by test dups (λ k d lt. sym (s
 
 -- the row of a number that has a place
 row_there : {p : ℕ} (r : Option DupRow) → option_map (λ s. s.place) r ≡ Some p → (e : DupRow) × (r ≡ Some e) × (e.place ≡ p)
-row_there {p} None is = grind (arith, is)
+row_there {p} None is = grind arith
 row_there {p} (Some e) is = (e, refl, same_Some _ p is)
 
 -- two tests that agree on each dup change one dup
@@ -55,4 +55,4 @@ pub one_dup : (q : ℕ) {p : ℕ} (dups : List Dup) → InPlaceOrder (rows_of du
 one_dup q {p} dups rise is =
     let there = row_there _ is in
     all_rows (λ r. (r.number == q) ≡ (r.place == p)) _
-    (λ k d lt. grind (arith, only_number q _ rise there.1 k d lt, there.2))
+    (λ k d lt. grind (arith, only_number q _ rise there.1 k d lt))

@@ -43,12 +43,12 @@ room_indexed is h = record {
 
 -- an index that leads as another does finds the same dups
 pub led_indexed : {s : SlotsState} {next : ℕ} {index new : Index} → LeadTheSame index new → AreIndexed s next index → AreIndexed s next new
-led_indexed same h = grind (arith, same, h)
+led_indexed same h = grind arith
 
 -- where callers are told the place of a number
 module _ (q : ℕ) {p : ℕ} {s : SlotsState} {next : ℕ} {index : Index} {seen : DupsState} (h : AreIndexed s next index) (view : dups_seen s next index ≡ seen) (is : Some p ≡ option_map (λ d. d.row.place) (dup_of q seen.dups)) where
   is_inside : Some p ≡ option_map (λ d. d.row.place) (dup_of q s.dups)
-  is_inside = grind (arith, is, view)
+  is_inside = grind arith
 
   -- a dup stands at that place
   pub told_there : is_some (dup_at p s.dups) ≡ true
@@ -79,7 +79,7 @@ module _ {s : SlotsState} {next : ℕ} {index : Index} (h : AreIndexed s next in
 
 -- the totals tell of the group of each tree and bytes
 pub told : {s : SlotsState} {next : ℕ} {index : Index} → AreIndexed s next index → (t : ℕ) (b : List ℕ) → Tells (length (places_of t b index)) index.groups.totals
-told {s} h t b = search (rules, h.grouped t b, totals_tell, h)
+told {s} h t b = search (rules, h.grouped t b, totals_tell)
 
 -- the row found at a place is the row of the dup found there
 pub row_at_place : (p : ℕ) (dups : List Dup) {d : Option Dup} → dup_at p dups ≡ d → find (λ r. r.place == p) (rows_of dups) ≡ option_map (λ e. e.row) d
@@ -107,18 +107,18 @@ gone_indexed {s} {next} {index} {new} p d ready h found at numbers groups regrou
     let at_p = row_at_place p s.dups found in
     let grouped : (t : ℕ) (b : List ℕ) → places_of t b new ≡ group_places t b (filter test rows) = λ t b.
     let unlike = λ (outside : in_group t b d.row ≡ false). group_unlike p t b rows (not_in_group p t b s.dups law.in_place_order found outside) in
-    grind (arith, groups t b, own_group t b d.row, at, h.grouped t b, unlike, chosen (λ (r : DupRow). r.place) (in_group t b) (λ q. not (q == p)) rows) in
+    grind (arith, groups t b, own_group t b d.row, h.grouped t b, chosen (λ (r : DupRow). r.place) (in_group t b) (λ q. not (q == p)) rows) in
     let more = more_there p rows d.row law.in_place_order at_p in
     let own = self_group d.row in
     record {
       few = h.few;
-      counted = rw left (totals_moved t b law.in_place_order rise (sym (dups_kept t b more own)) (sym (chains_kept t b more own)) (grind (arith, h.grouped t b, grouped t b, regrouped)) h.counted);
+      counted = rw left (totals_moved t b law.in_place_order rise (sym (dups_kept t b more own)) (sym (chains_kept t b more own)) (grind (arith, h.grouped t b, grouped t b)) h.counted);
       lawful = record {
         in_place_order = rw left rise;
         places_below = rw left (All-filter test (λ r. r.place < s.places) rows law.places_below);
         numbers_below = rw left (All-filter test (λ r. r.number < next) rows law.numbers_below);
       };
-      numbered = λ q. grind (arith, numbers q, h.numbered q, place_gone p q rows law.in_place_order at_p, left);
+      numbered = λ q. grind (arith, numbers q, h.numbered q, place_gone p q rows law.in_place_order at_p);
       grouped = λ t b. rw left (grouped t b);
     }
 
@@ -129,7 +129,7 @@ found_stands dups found = search (eqb-true, find_passes)
 -- the dup found at a place is the one that has its number
 pub stands_numbered : (p q : ℕ) (dups : List Dup) (d : Dup) → InPlaceOrder (rows_of dups) → dup_at p dups ≡ Some d → d.row.number ≡ q → Some p ≡ option_map (λ d. d.row.place) (dup_of q dups)
 stands_numbered p q dups d rise found is =
-    let one = all_rows (λ r. (r.place == p) ≡ (r.number == q)) dups (λ k e lt. grind (arith, only_one p _ _ rise (row_at_place p _ found) k e lt, is)) in
+    let one = all_rows (λ r. (r.place == p) ≡ (r.number == q)) dups (λ k e lt. grind (arith, only_one p _ _ rise (row_at_place p _ found) k e lt)) in
     grind (arith, found_stands dups found, find_alike (stands_at p) (has_number q) dups one)
 
 -- where nothing stands, nothing that passes a test stands

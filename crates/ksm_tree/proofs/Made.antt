@@ -35,7 +35,7 @@ module _ {s : SlotsState} {next : ℕ} {index : Index} (new : Index) (dup : Dup)
         lawful = record {
           in_place_order = rw is new_rise;
           places_below = rw is (all_with_dup (λ r. r.place < s.places) _ _ within h.lawful.places_below);
-          numbers_below = rw is (all_with_dup (λ r. r.number < next + 1) dup.row rows (omega (arith, number))
+          numbers_below = rw is (all_with_dup (λ r. r.number < next + 1) dup.row rows (omega arith)
               (λ k d lt. omega (arith, h.lawful.numbers_below k d lt)));
         };
         numbered = λ q. rw is (numbered q);
@@ -51,14 +51,14 @@ module _ {s : SlotsState} {next : ℕ} {index : Index} (new : Index) (dup : Dup)
       let kept : filter (λ r. not (r.place == p)) rows ≡ rows = filter_all _ rows (λ k d lt. ap not (apart k d lt)) in
       let grouped : (t : ℕ) (b : List ℕ) → places_of t b new ≡ group_places t b all = λ t b.
       let unlike = group_unlike p t b rows (λ k d lt. grind (arith, apart k d lt)) in
-      grind (arith, entered.groups t b, own_group t b dup.row, h.grouped t b, unlike, group_joined t b dup.row rows, group_passed t b dup.row rows rise) in
+      grind (arith, entered.groups t b, own_group t b dup.row, h.grouped t b, group_joined t b dup.row rows, group_passed t b dup.row rows rise) in
       let t = dup.row.tree in
       let b = dup.row.bytes in
       let more = subst (λ l. IsMore dup.row l all) kept (more_with rows rise) in
       let own = self_group dup.row in
       made ready (totals_moved t b rise new_rise (dups_kept t b more own) (chains_kept t b more own)
-      (grind (arith, h.grouped t b, grouped t b, entered.totals)) h.counted)
-      (λ q. grind (arith, nat_tests, entered.numbers q, h.numbered q, kept, place_new dup.row rows fresh, place_kept q dup.row rows rise)) grouped
+      (grind (arith, h.grouped t b, grouped t b)) h.counted)
+      (λ q. grind (arith, nat_tests, entered.numbers q, h.numbered q, place_new dup.row rows fresh, place_kept q dup.row rows rise)) grouped
 
   -- the rows as they were, those that stay, and those that are there then
   record Swapped (old : Dup) : Type 0 where
@@ -77,7 +77,7 @@ module _ {s : SlotsState} {next : ℕ} {index : Index} (new : Index) (dup : Dup)
 
   -- the index between: the new dup is in, and the old one not yet out
   joined_in : {mid : Index} → IsEntered dup.row index mid → (t : ℕ) (b : List ℕ) → in_group t b dup.row ≡ true → places_of t b mid ≡ group_places t b all
-  joined_in entered t b inside = grind (arith, entered.groups, own_group, h, group_joined)
+  joined_in entered t b inside = grind (arith, own_group, group_joined)
 
   joined_own : {mid : Index} → IsEntered dup.row index mid → places_of dup.row.tree dup.row.bytes mid ≡ group_places dup.row.tree dup.row.bytes all
   joined_own entered = joined_in entered _ _ (self_group dup.row)
@@ -91,7 +91,7 @@ module _ {s : SlotsState} {next : ℕ} {index : Index} (new : Index) (dup : Dup)
       let b = old.row.bytes in
       let swap = swapped found in
       let size : length (places_of t b mid) ≡ length (places_of t b index) =
-      grind (arith, h.grouped t b, places_size t b, self_group old.row, joined_in entered t b, entered.groups t b, own_group t b r, swap) in
+      grind (arith, h.grouped t b, places_size t b, self_group old.row, joined_in entered t b, entered.groups t b, own_group t b r) in
       let few = totals_few s.places h.few h.lawful.places_below rise h.counted in
       rw size (totals_between swap.there swap.here rise swap.less_rise new_rise
       (rw (← h.grouped r.tree r.bytes, ← joined_own entered) entered.totals) _ few.0 few.1 (told h _ _))
@@ -112,7 +112,7 @@ module _ {s : SlotsState} {next : ℕ} {index : Index} (new : Index) (dup : Dup)
       let grouped : (t : ℕ) (b : List ℕ) → places_of t b new ≡ group_places t b all = λ t b.
       let outside = λ (out : in_group t b old.row ≡ false). group_unlike p t b rows
       (not_in_group p t b s.dups rise (sym found) out) in
-      grind (arith, left_groups t b, entered.groups t b, own_group t b dup.row, own_group t b old.row, h.grouped t b, at, outside, group_joined t b dup.row rows, group_passed t b dup.row rows rise) in
+      grind (arith, left_groups t b, entered.groups t b, own_group t b dup.row, own_group t b old.row, h.grouped t b, group_joined t b dup.row rows, group_passed t b dup.row rows rise) in
       let swap = swapped found in
       let r = dup.row in
       let o = old.row in
@@ -122,20 +122,20 @@ module _ {s : SlotsState} {next : ℕ} {index : Index} (new : Index) (dup : Dup)
         | inl same ↦
             let second : IsRegrouped (length (places_of r.tree r.bytes mid)) (length (group_places r.tree r.bytes all))
             mid.groups.totals new.groups.totals =
-            grind (arith, grouped r.tree r.bytes, own_tree r.bytes o same, own_bytes r.tree o same, left) in
+            grind (arith, grouped r.tree r.bytes, own_tree r.bytes o same, own_bytes r.tree o same) in
             totals_same swap.there swap.here rise swap.less_rise new_rise same first second h.counted
         | inr other ↦ totals_apart swap.there swap.here rise swap.less_rise new_rise mid.groups.totals other (rw (← joined_own entered) first)
-            (grind (arith, entered.groups o.tree o.bytes, other, h.grouped o.tree o.bytes, grouped o.tree o.bytes, left)) h.counted
+            (grind (arith, entered.groups o.tree o.bytes, h.grouped o.tree o.bytes, grouped o.tree o.bytes)) h.counted
       ] in
       made ready counted
-      (λ q. grind (arith, nat_tests, left_numbers q, entered.numbers q, h.numbered q, older, place_gone p q rows rise row_found, place_new dup.row rows fresh, place_kept q dup.row rows rise)) grouped
+      (λ q. grind (arith, nat_tests, left_numbers q, entered.numbers q, h.numbered q, place_gone p q rows rise row_found, place_new dup.row rows fresh, place_kept q dup.row rows rise)) grouped
 
 -- once a dup is made, callers see that dup among the others, and the next number one higher
 pub seen_made : (s : SlotsState) (next : ℕ) (index new : Index) (dup : ℕ → Dup) (ready : Bool) {old : DupsState} → dups_seen s next index ≡ old → SameWaits index.groups new.groups
     → dups_seen (record { places = s.places; dups = with_new (dup next) s.dups; ready = ready }) (next + 1) new ≡ record old { dups = with_new (dup old.next) old.dups; next = old.next + 1 }
 seen_made s next index new dup ready view same =
-    grind (arith, nat_tests, view, same)
+    grind (arith, nat_tests)
 
 -- the next number is that of no dup
 pub next_unused : {s : SlotsState} {next : ℕ} {index : Index} → AreIndexed s next index → place_of next index ≡ None
-next_unused {s} {next} h = grind (arith, h.numbered next, find_nothing (λ r. r.number == next) (rows_of s.dups) (λ k d lt. ne_eqb _ next (λ e. omega (arith, e, h.lawful.numbers_below k d lt))))
+next_unused {s} {next} h = grind (arith, h.numbered next, find_nothing (λ r. r.number == next) (rows_of s.dups) (λ k d lt. ne_eqb _ next (λ e. omega (arith, h.lawful.numbers_below k d lt))))

@@ -27,7 +27,7 @@ module _ (words : List ℕ) where
 
     -- the least number of the upper set behind a word's is that of the word of the least number behind that word
     pub found_behind : (at : ℕ) {next bit : ℕ} → IsLeast upper (at + 1) (64 * length upper) next → IsLowestBit (get_or words next 0) 0 bit → IsLeast words ((at + 1) * 64) (64 * length words) (next * 64 + bit)
-    found_behind at {next} {bit} named found = grind (arith, nat_tests, none_in_zeros (at + 1) next (λ w from below. word_clear w (omega (arith, named.high_is)) (named.least w from below)), word_within next (word_set next named.high_is named.there), named.low_is, found)
+    found_behind at {next} {bit} named found = grind (arith, nat_tests, none_in_zeros (at + 1) next (λ w from below. word_clear w (omega arith) (named.least w from below)), word_within next (word_set next named.high_is named.there), named.low_is, found)
 
     -- the least number of the upper set from one on is that of a word that is there
     pub within_named : {low next : ℕ} → IsLeast upper low (64 * length upper) next → next < length words
@@ -35,24 +35,20 @@ module _ (words : List ℕ) where
 
     -- the upper set is right once a word is put, if it says of that whether it is 0, and of the others what it did
     pub summed_put : {w : ℕ} (word : ℕ) {upper' : List ℕ} {there : Bool} → w < length words → there ≡ not (word == 0) → Marks upper upper' w there → IsSummed (set words w word) upper'
-    summed_put word within here marks = grind (arith, h, marks, length-set, get_or-set_same, get_or-set_other)
+    summed_put word within here marks = grind (arith, length-set, get_or-set_same, get_or-set_other)
 
 module _ {most : ℕ} {words upper : List ℕ} (h : AreSummed most words upper) where
   -- the sets stay right once a bit is set in a word, and that word's number is in the upper one
   pub stay_more : {w : ℕ} (i : ℕ) {upper' : List ℕ} → w < length words → i < 64 → 1 < most → Marks upper upper' w true → AreSummed most (set words w (bit_or (get_or words w 0) (1 * 2 ^ i % 18446744073709551616))) upper'
-  stay_more i within small many marks = grind (arith, nat_tests, h, length-set, summed_put, bit_at_set_same w64)
+  stay_more i within small many marks = grind (arith, nat_tests, length-set, summed_put, bit_at_set_same w64)
 
   -- they stay right once a word is 0, and its number is not in the upper one any more
   pub stay_less : {w : ℕ} (word : ℕ) {upper' : List ℕ} → w < length words → word ≡ 0 → 1 < most → Marks upper upper' w false → AreSummed most (set words w word) upper'
-  stay_less word within zero many marks = grind (arith, h, length-set, summed_put)
-
-  -- they stay right whatever a word is put to, where there may be one alone
-  pub stay_alone : (w word : ℕ) → most ≤ 1 → AreSummed most (set words w word) upper
-  stay_alone w word one = grind (arith, h, length-set)
+  stay_less word within zero many marks = grind (arith, length-set, summed_put)
 
   -- they stay right where a word is put that is not 0, as the word before it
   pub stay_some : (w word : ℕ) → w < length words → word ≢ 0 → get_or words w 0 ≢ 0 → AreSummed most (set words w word) upper
-  stay_some w word within some before = grind (arith, nat_tests, h, length-set, get_or-set_same, get_or-set_other)
+  stay_some w word within some before = grind (arith, nat_tests, length-set, get_or-set_same, get_or-set_other)
 
 -- words with all bits have all numbers for which there is room
 pub all_there : (k n : ℕ) → n < 64 * k → has (replicate k 18446744073709551615) n ≡ true

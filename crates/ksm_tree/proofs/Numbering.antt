@@ -23,10 +23,10 @@ module _ (old new : BTreeMap Content ℕ) (kept later : ℕ → Option Content) 
   pub entered : {key : ℕ} → its_number k old.entries ≡ None → kept key ≡ None → Updates content_order old new k (Some key) → Stands kept later key (Some k) → AreNumbered new.entries later
   entered {key} none vacant updates fills q n =
       let same : is_at (content_order k) q ≡ true → k ≡ q = same_content in
-      grind (arith, updates.0 q, updates.1, same, fills.changed, fills.others n, are q n)
+      grind (arith, updates.0 q, fills.others n, are q n)
 
   -- the numbers are right once a content lost its number, and nothing stands under that
   pub forgotten : {number : ℕ} → kept number ≡ Some k → Updates content_order old new k None → Stands kept later number None → AreNumbered new.entries later
   forgotten {number} stood updates fills q n =
       let same : is_at (content_order k) q ≡ true → k ≡ q = same_content in
-      grind (arith, nat_tests, updates.0 q, updates.1, same, fills.changed, fills.others n, are q n, are k number, stood)
+      grind (arith, nat_tests, updates.0 q, fills.others n, are q n, are k number)

@@ -3,7 +3,7 @@ use Rattle.ksm_tree.proofs.Names.{arith, Err, IsOk, IsOrder, nat_lt, nat_tests, 
 
 -- what is promised where a result is `Ok` holds where the result is `Ok`
 pub at_ok : {T E : Type 0} {P : Type 0} (r : Result T E) → IsOk r → OnOk r P → P
-at_ok r good holds = grind (arith, good, holds)
+at_ok r good holds = grind arith
 
 -- what holds anyway may be promised where a result is an error
 pub on_err : {T E : Type 0} {P : Type 0} (r : Result T E) → P → OnErr r P

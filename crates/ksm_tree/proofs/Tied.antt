@@ -24,7 +24,7 @@ module _ (page : GuestPage) where
   change_splits new rows rise there = go _ refl
     where
       go : (o : Option Row) → row_at page rows ≡ o → change_row page (λ _. new) rows ≡ filter ahead rows ++ new ∷ filter behind rows
-      go None none = grind (arith, none, there)
+      go None none = grind arith
       go (Some r) found = grind (arith, map-append, found_parts pages_ordered page_of page rows r rise found, find_passes (λ s. same_page s.page page) rows r found, change_none (λ s. same_page s.page page) (λ _. new) (filter ahead rows) (none_same_low pages_ordered page_of _ (filter ahead rows) (filter_passes ahead rows)), change_none (λ s. same_page s.page page) (λ _. new) (filter behind rows) (none_same pages_ordered page_of page (filter behind rows) (filter_passes behind rows)))
 
   -- in the order of pages, the rows of pages other than one are those ahead of that page, then those behind
@@ -48,7 +48,7 @@ module _ (rows : List Row) (d : DupRow) (rise : InPageOrder rows) (page : GuestP
 
   -- the items of a dup have the page once the page's row is merged into it
   pub items_joined : (new : Row) → new.page ≡ page → is_some (row_at page rows) ≡ true → merged new ≡ true → items_of (change_row page (λ _. new) rows) d ≡ with_item page (items_of rows d)
-  items_joined new at there passes = grind (arith, at, change_splits page new rows rise, kept_append, chosen page_of merged)
+  items_joined new at there passes = grind (arith, change_splits page new rows rise, kept_append, chosen page_of merged)
 
   -- the items of a dup are without the page once the page's row is not merged into it
   pub items_left : (new : Row) → is_some (row_at page rows) ≡ true → merged new ≡ false → items_of (change_row page (λ _. new) rows) d ≡ without_item page (items_of rows d)

@@ -16,17 +16,17 @@ no_item page d (r ∷ rows) none = grind (arith, nat_tests, none 0 r, no_item pa
 module _ (rows : List Row) (page : GuestPage) (old : Row) (rise : InPageOrder rows) (found : row_at page rows ≡ Some old) where
   -- a page is an item of no dup but that of its row
   not_item : (d : DupRow) → merged_into d.number old.state ≡ false → has_item page (items_of rows d) ≡ false
-  not_item d fails = no_item _ d rows (λ k e lt same. grind (arith, each_at_page rows rise k e lt, pages_ordered.same_eq (get_or rows k e).page page same, found, fails))
+  not_item d fails = no_item _ d rows (λ k e lt same. grind (arith, each_at_page rows rise k e lt, pages_ordered.same_eq (get_or rows k e).page page same))
 
   unlike : (d : DupRow) → merged_into d.number old.state ≡ false → items_of rows d ≡ without_item page (items_of rows d)
   unlike d fails = absent_kept pages_ordered _ page _ (none_found _ (items_of rows d) (not_item d fails))
 
   -- where the page is no item any more
   out_of : (state : PageState) → old.state ≡ state → (new : List Row) (dups : List Dup) → ((d : DupRow) → items_of new d ≡ without_item page (items_of rows d)) → AreTied rows dups → AreTied new (let_out state page dups)
-  out_of (Merged n) is new dups less tied = All-map (IsTied new) _ dups (λ k e lt. grind (arith, is, tied k e lt, less, unlike))
-  out_of Private is new dups less tied = λ k d lt. grind (arith, tied k d lt, unlike, less)
-  out_of Waiting is new dups less tied = λ k d lt. grind (arith, tied k d lt, unlike, less)
-  out_of Zero is new dups less tied = λ k d lt. grind (arith, tied k d lt, unlike, less)
+  out_of (Merged n) is new dups less tied = All-map (IsTied new) _ dups (λ k e lt. grind (arith, tied k e lt, unlike))
+  out_of Private is new dups less tied = λ k d lt. grind (arith, tied k d lt, unlike)
+  out_of Waiting is new dups less tied = λ k d lt. grind (arith, tied k d lt, unlike)
+  out_of Zero is new dups less tied = λ k d lt. grind (arith, tied k d lt, unlike)
 
   -- rows and dups stay tied where a row goes and its page leaves its dup
   pub tied_dropped : (dups : List Dup) → AreTied rows dups → AreTied (without_page page rows) (let_out old.state page dups)
@@ -34,11 +34,11 @@ module _ (rows : List Row) (page : GuestPage) (old : Row) (rise : InPageOrder ro
 
   -- rows and dups stay tied where a row becomes one that is not merged and its page leaves its dup
   pub tied_left : (row : Row) (dups : List Dup) → merged_state row.state ≡ false → AreTied rows dups → AreTied (change_row page (λ _. row) rows) (let_out old.state page dups)
-  tied_left row dups alone tied = out_of _ refl (change_row page (λ _. row) rows) _ (λ d. grind (arith, items_left rows d rise page row, found, not_an_item, alone)) tied
+  tied_left row dups alone tied = out_of _ refl (change_row page (λ _. row) rows) _ (λ d. grind (arith, items_left rows d rise page row, not_an_item)) tied
 
   -- rows and dups stay tied where a row that was not merged is merged, and its page becomes an item
   pub tied_joined : (row : Row) (number : ℕ) (dups : List Dup) → merged_state old.state ≡ false → row.page ≡ page → row.state ≡ Merged number → AreTied rows dups → AreTied (change_row page (λ _. row) rows) (change_items number (with_item page) dups)
-  tied_joined row number dups alone at is tied = All-map (IsTied (change_row page (λ _. row) rows)) _ dups (λ k e lt. grind (arith, nat_tests, tied k e lt, is, found, not_an_item, unlike, items_joined, items_left))
+  tied_joined row number dups alone at is tied = All-map (IsTied (change_row page (λ _. row) rows)) _ dups (λ k e lt. grind (arith, nat_tests, tied k e lt, not_an_item, unlike, items_joined, items_left))
 
   -- a page whose row is not merged is an item of none
   absent_in : (number : ℕ) (dups : List Dup) (o : Option Dup) → merged_state old.state ≡ false → AreTied rows dups → dup_of number dups ≡ o → has_item page (items_in o) ≡ false
@@ -52,7 +52,7 @@ module _ (rows : List Row) (page : GuestPage) (old : Row) (rise : InPageOrder ro
 -- a dup with a number has as many items as there are rows merged into it
 pub tied_count : (rows : List Row) (dups : List Dup) (number : ℕ) (d : Dup) → AreTied rows dups → dup_of number dups ≡ Some d → length (items_numbered number dups) ≡ item_count rows d.row
 tied_count rows dups number d tied found =
-    grind (arith, found, find_all _ (λ e. length e.items ≡ item_count rows e.row) dups d found (tied_counted rows _ tied))
+    grind (arith, find_all _ (λ e. length e.items ≡ item_count rows e.row) dups d found (tied_counted rows _ tied))
 
 -- a dup found by a number has that number
 pub number_found : (number : ℕ) (dups : List Dup) (d : Dup) → dup_of number dups ≡ Some d → d.row.number ≡ number
@@ -108,7 +108,7 @@ module _ (rows : List Row) (first second : Row) (row : DupRow) (rise : InPageOrd
 pub tied_inserted : (rows : List Row) (row : Row) (dups : List Dup) → InPageOrder rows → row_at row.page rows ≡ None → merged_state row.state ≡ false → AreTied rows dups → AreTied (with_row row rows) dups
 tied_inserted rows row dups rise absent alone tied k d lt =
     let same : without_page row.page rows ≡ rows = filter_all _ _ (λ k e lt. ap not (find_none _ _ absent k e lt)) in
-    grind (arith, tied k d lt, not_an_item, kept_append, without_splits row.page rows rise, same)
+    grind (arith, tied k d lt, not_an_item, kept_append, without_splits row.page rows rise)
 
 -- rows and dups stay tied where each row changes but for its page and its dup
 pub tied_mapped : (f : Row → Row) (rows : List Row) (dups : List Dup) → All (λ r. ((f r).page ≡ r.page) × ((number : ℕ) → merged_into number (f r).state ≡ merged_into number r.state)) rows → AreTied rows dups → AreTied (map f rows) dups

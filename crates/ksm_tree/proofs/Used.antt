@@ -13,7 +13,7 @@ within_slots groups n has = grind (arith, get_or_past)
 pub all_used : (g : Groups) → AreGroups g.numbers.entries g.groups g.pass
     → ((n : ℕ) → is_some (get g.groups n) ≡ true → is_occupied g.pass (get g.groups n) ≡ true)
     → (t : ℕ) (b : List ℕ) → is_some (number_of t b g.numbers.entries) ≡ true → is_used_in g t b ≡ true
-all_used g are occupied t b has = grind (arith, waiting_found are t b, occupied, are.numbered (content_of t b))
+all_used g are occupied t b has = grind (arith, waiting_found are t b, are.numbered (content_of t b))
 
 -- a content that had no number gets one: there is one more, and no other content got one
 pub one_more : (old new : BTreeMap Content ℕ) (tree : ℕ) (bytes : List ℕ) (key : ℕ) {before : Option ℕ}
@@ -23,10 +23,10 @@ pub one_more : (old new : BTreeMap Content ℕ) (tree : ℕ) (bytes : List ℕ) 
     → (length new.entries ≡ length old.entries + 1)
     × ((t : ℕ) (b : List ℕ) → is_some (number_of t b new.entries) ≡ true → (t == tree && bytes_eq b bytes) ≡ false → is_some (number_of t b old.entries) ≡ true)
 one_more old new tree bytes key none was long updates = (
-  grind (arith, was, none, long),
+  grind arith,
   λ t b has apart. elim (cases_Bool (is_at (content_order (content_of tree bytes)) (content_of t b))) [
-    | inl here ↦ grind (arith, apart, are_one t _ b _ (sym (same_content here)))
-    | inr other ↦ grind (arith, has, updates.2 (content_of t b) other)
+    | inl here ↦ grind (arith, are_one t _ b _ (sym (same_content here)))
+    | inr other ↦ grind (arith, updates.2 (content_of t b) other)
   ],
 )
 

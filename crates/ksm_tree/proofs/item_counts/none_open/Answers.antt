@@ -2,9 +2,9 @@ use Rattle.ksm_tree.proofs.Names.{arith, get_or, list_all_more, ◌∙◌, nat_t
 use Rattle.ksm_tree.proofs.item_counts.none_open.Goals as goal
 
 pub bounds-counts-place : goal.bounds-counts-place
-bounds-counts-place c = c.requires _ 0 c.loop-place-test.true
+bounds-counts-place c = grind arith
 
 pub loop-place-preserved : goal.loop-place-preserved
 loop-place-preserved c =
     let place = get_or c.args.places.now c.loop-place.place-index 0 in
-    list_all_more _ _ _ 0 c.loop-place-test.true ∙ grind (arith, nat_tests, c.loop-place.invariant, c.type_inv.counts place, c.ranges.limit, c.if-counts-place.false)
+    list_all_more _ _ _ 0 c.loop-place-test.true ∙ grind (arith, nat_tests, c.type_inv.counts place)

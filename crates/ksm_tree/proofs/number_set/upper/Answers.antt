@@ -4,7 +4,7 @@ use Rattle.ksm_tree.proofs.NumberBits.{none_there}
 use Rattle.ksm_tree.proofs.number_set.upper.Goals as goal
 
 pub returns-clause-room : goal.returns-clause-room
-returns-clause-room c = grind (arith, c.in_ok-all.ensures.none, length-replicate)
+returns-clause-room c = grind (arith, length-replicate)
 
 pub returns-clause-none : goal.returns-clause-none
-returns-clause-none c n = rw c.in_ok-all.ensures.none (none_there _ n)
+returns-clause-none c n = grind (arith, none_there)

@@ -4,5 +4,5 @@ use Rattle.ksm_tree.proofs.bits.WordBits.remove.Goals as goal
 
 pub returns : goal.returns
 returns c =
-    let at : c.args.number / 64 ≡ 0 = omega (arith, c.requires, ap length c.self.view_is) in
-    rw (← c.self.view_is) (grind (arith, at, marks_less (c.self.inside.word ∷ []) c.args.number))
+    let at : c.args.number / 64 ≡ 0 = omega (arith, ap length c.self.view_is) in
+    rw (← c.self.view_is) (grind (arith, marks_less (c.self.inside.word ∷ []) c.args.number))

@@ -3,4 +3,4 @@ use Rattle.ksm_tree.proofs.Openings.{none_kept}
 use Rattle.ksm_tree.proofs.item_counts.Counts.keep_open.Goals as goal
 
 pub invariant_of-self : goal.invariant_of-self
-invariant_of-self c = grind (arith, c.clear.ensures.none, none_kept)
+invariant_of-self c = grind (arith, none_kept)

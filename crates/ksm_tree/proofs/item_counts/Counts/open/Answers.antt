@@ -4,4 +4,4 @@ use Rattle.ksm_tree.proofs.Openings.{none_open}
 use Rattle.ksm_tree.proofs.item_counts.Counts.open.Goals as goal
 
 pub invariant_of-result : goal.invariant_of-result
-invariant_of-result c = grind (arith, c.in_ok-vec.ensures.items_if_clones_equal (λ y same. same), c.in_ok-with_room.ensures, none_open, length-replicate)
+invariant_of-result c = grind (arith, none_open, length-replicate)

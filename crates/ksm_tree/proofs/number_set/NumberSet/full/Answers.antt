@@ -3,5 +3,4 @@ use Rattle.ksm_tree.proofs.NumberBits.{all_there}
 use Rattle.ksm_tree.proofs.number_set.NumberSet.full.Goals as goal
 
 pub returns-clause-all : goal.returns-clause-all
-returns-clause-all c n below =
-    rw c.in_ok-full.ensures.all (all_there _ n (omega (arith, c.words_for-words.ensures.room)))
+returns-clause-all c n below = grind (arith, all_there)

@@ -1,4 +1,4 @@
-use Rattle.ksm_tree.proofs.Names.{insert_at, none_found, refl, sym, with_found, with_place, with_rises, ◌∙◌, ◌≡◌}
+use Rattle.ksm_tree.proofs.Names.{insert_at, none_found, refl, sym, with_found, with_place, with_rises, ◌∙◌, ◌≡◌, arith}
 use Rattle.ksm_tree.proofs.Numbers.{places_ordered, at_ok}
 use Rattle.ksm_tree.proofs.places.Places.insert.Goals as goal
 use Rattle.ksm_tree.proofs.places.Places.insert.Goals.{After-insert-there_is_room}
@@ -12,7 +12,7 @@ pub invariant_of-self : goal.invariant_of-self
 invariant_of-self c = record { ascending = rw (inserted (goal.at.invariant_of-self c).After-insert-there_is_room) (with_rises places_ordered (λ p. p) c.args.place _ _ refl c.args.self.now.ascending) }
 
 pub returns-then-not-stands_at-clause-with : goal.returns-then-not-stands_at-clause-with
-returns-then-not-stands_at-clause-with c = inserted (goal.at.returns-then-not-stands_at-clause-with c).After-insert-there_is_room
+returns-then-not-stands_at-clause-with c = grind (arith, inserted)
 
 pub returns-else-not-stands_at-clause-with : goal.returns-else-not-stands_at-clause-with
 returns-else-not-stands_at-clause-with c = with_found places_ordered _ _ c.args.self.now.ascending (rw (← c.as_slice-places.ensures) (sym c.if-not-stands_at.ensures.found))

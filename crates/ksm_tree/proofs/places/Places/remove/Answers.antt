@@ -1,4 +1,4 @@
-use Rattle.ksm_tree.proofs.Names.{absent_kept, none_found, refl, remove_at, sym, without, without_rises, ◌∙◌, ◌≡◌}
+use Rattle.ksm_tree.proofs.Names.{absent_kept, none_found, refl, remove_at, sym, without, without_rises, ◌∙◌, ◌≡◌, arith}
 use Rattle.ksm_tree.proofs.Numbers.{places_ordered}
 use Rattle.ksm_tree.proofs.places.Places.remove.Goals as goal
 use Rattle.ksm_tree.proofs.places.Places.remove.Goals.{After-remove}
@@ -13,7 +13,7 @@ pub invariant_of-self : goal.invariant_of-self
 invariant_of-self c = record { ascending = rw (taken (goal.at.invariant_of-self c).After-remove) (without_rises places_ordered (λ p. p) c.args.place _ c.args.self.now.ascending) }
 
 pub returns-then-stands_at-clause-without : goal.returns-then-stands_at-clause-without
-returns-then-stands_at-clause-without c = taken (goal.at.returns-then-stands_at-clause-without c).After-remove
+returns-then-stands_at-clause-without c = grind (arith, taken)
 
 pub returns-else-stands_at-clause-without : goal.returns-else-stands_at-clause-without
 returns-else-stands_at-clause-without c =

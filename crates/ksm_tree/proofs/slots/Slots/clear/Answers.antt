@@ -1,17 +1,16 @@
+use Rattle.ksm_tree.proofs.Names.{arith}
 use Rattle.ksm_tree.proofs.OneSlot.{count_within, seen_emptied, seen_within, slots_cleared}
 use Rattle.ksm_tree.proofs.PlaceSets.{may_be_marked}
 use Rattle.ksm_tree.proofs.slots.Slots.clear.Goals as goal
 
 pub set-requires : goal.set-requires
-set-requires c = count_within _ _ c.self.invariant.counted (seen_within _ c.self.inside.dups c.self.view_is c.self.invariant.placed c.requires)
+set-requires c = grind (arith, count_within, seen_within)
 
 pub remove-requires : goal.remove-requires
-remove-requires c = may_be_marked c.self.invariant.stales c.self.invariant.few
-    (seen_within _ c.self.inside.dups c.self.view_is c.self.invariant.placed c.requires)
+remove-requires c = grind (arith, may_be_marked, seen_within)
 
 pub add-requires : goal.add-requires
-add-requires c = may_be_marked c.self.invariant.empties c.self.invariant.few
-    (seen_within _ c.self.inside.dups c.self.view_is c.self.invariant.placed c.requires)
+add-requires c = grind (arith, may_be_marked, seen_within)
 
 pub invariant_of-self : goal.invariant_of-self
 invariant_of-self c =
@@ -20,4 +19,4 @@ invariant_of-self c =
     c.self.invariant c.add.ensures c.remove.ensures)
 
 pub returns : goal.returns
-returns c = seen_emptied _ _ c.clear.new.self c.self.view_is c.self.invariant.placed c.clear.ensures.slots
+returns c = grind (arith, seen_emptied)

@@ -3,11 +3,10 @@ use Rattle.ksm_tree.proofs.Counts.{three_kinds}
 use Rattle.ksm_tree.proofs.slots.Slots.count_live.Goals as goal
 
 pub overflow_sub-result : goal.overflow_sub-result
-overflow_sub-result c = omega (arith, three_kinds c.self.inside.dups.slots, c.self.invariant.empties.count)
+overflow_sub-result c = grind (arith, three_kinds)
 
 pub overflow_sub-result-2 : goal.overflow_sub-result-2
-overflow_sub-result-2 c =
-    omega (arith, three_kinds c.self.inside.dups.slots, c.self.invariant.empties.count, c.self.invariant.stales.count)
+overflow_sub-result-2 c = grind (arith, three_kinds)
 
 pub returns : goal.returns
-returns c = grind (arith, three_kinds c.self.inside.dups.slots, c.self.invariant.empties.count, c.self.invariant.stales.count, c.self.view_is)
+returns c = grind (arith, three_kinds c.self.inside.dups.slots)

@@ -3,4 +3,4 @@ use Rattle.ksm_tree.proofs.Counts.{stale_slots}
 use Rattle.ksm_tree.proofs.slots.Slots.count_stale.Goals as goal
 
 pub returns : goal.returns
-returns c = grind (arith, c.self.invariant.stales.count, stale_slots, c.self.view_is)
+returns c = grind (arith, stale_slots)

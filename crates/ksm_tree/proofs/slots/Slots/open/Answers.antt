@@ -1,4 +1,4 @@
-use Rattle.ksm_tree.proofs.Names.{refl}
+use Rattle.ksm_tree.proofs.Names.{refl, arith}
 use Rattle.ksm_tree.proofs.Opened.{none_slots, none_seen}
 use Rattle.ksm_tree.proofs.slots.Slots.open.Goals as goal
 
@@ -8,4 +8,4 @@ invariant_of-result c =
     c.in_ok-empty.ensures.wide c.in_ok-empty.ensures.none refl)
 
 pub returns-clause-opened : goal.returns-clause-opened
-returns-clause-opened c = none_seen c.args.places c.in_ok-open.field-0 c.in_ok-open.ensures.empty
+returns-clause-opened c = grind (arith, none_seen)

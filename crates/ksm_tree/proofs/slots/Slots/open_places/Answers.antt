@@ -3,4 +3,4 @@ use Rattle.ksm_tree.proofs.Openings.{open_seen}
 use Rattle.ksm_tree.proofs.slots.Slots.open_places.Goals as goal
 
 pub returns : goal.returns
-returns c = grind (arith, c.self.invariant.counted, open_seen c.args.limit 0 c.self.inside.dups.slots c.self.invariant.placed, c.self.view_is, c.open_places.ensures)
+returns c = grind (arith, open_seen c.args.limit 0 c.self.inside.dups.slots c.self.invariant.placed)

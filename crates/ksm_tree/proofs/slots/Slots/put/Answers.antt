@@ -4,15 +4,13 @@ use Rattle.ksm_tree.proofs.PlaceSets.{may_be_marked}
 use Rattle.ksm_tree.proofs.slots.Slots.put.Goals as goal
 
 pub remove-requires : goal.remove-requires
-remove-requires c =
-    may_be_marked c.self.invariant.empties c.self.invariant.few (grind (arith, c.self.view_is, c.requires.place))
+remove-requires c = grind (arith, may_be_marked)
 
 pub remove-requires-2 : goal.remove-requires-2
-remove-requires-2 c =
-    may_be_marked c.self.invariant.stales c.self.invariant.few (grind (arith, c.self.view_is, c.requires.place))
+remove-requires-2 c = grind (arith, may_be_marked)
 
 pub invariant_of-self : goal.invariant_of-self
-invariant_of-self c = rw (c.put.ensures, c.set.ensures) (slots_put _ _ (grind (arith, c.self.view_is, c.requires.place)) c.len.ensures.count c.requires.live c.self.invariant c.remove.ensures c.remove-2.ensures)
+invariant_of-self c = rw (c.put.ensures, c.set.ensures) (slots_put _ _ (grind arith) c.len.ensures.count c.requires.live c.self.invariant c.remove.ensures c.remove-2.ensures)
 
 pub returns : goal.returns
-returns c = seen_put _ c.put.new.self _ c.self.view_is c.requires.place c.self.invariant.placed c.put.ensures
+returns c = grind (arith, seen_put)

@@ -1,45 +1,35 @@
-use Rattle.ksm_tree.proofs.Names.{length, without_item, ◌∙◌, ◌≡◌, arith, nat_tests}
+use Rattle.ksm_tree.proofs.Names.{length, without_item, ◌∙◌, ◌≡◌, arith, nat_tests, has_item, true}
 use Rattle.ksm_tree.proofs.OneSlot.{changed_dup, had_item, holds_dup, not_taken, slot_filled, slots_kept, slots_marked, slots_same, view_changed}
 use Rattle.ksm_tree.proofs.slots.Slots.remove_item.Goals as goal
 
 pub remove_item-requires : goal.remove_item-requires
-remove_item-requires c = slot_filled _ c.self.inside.dups c.self.view_is c.self.invariant.placed c.requires
+remove_item-requires c = grind (arith, slot_filled)
 
 pub invariant_of-self : goal.invariant_of-self
 invariant_of-self c =
-    let s = c.self.inside in
-    let held = holds_dup c.args.place s.dups c.self.view_is c.self.invariant.placed c.requires in
-    let count : c.in-Some.left ≡ length (without_item c.args.page held.0.items) = grind (arith, nat_tests, c.in-Some.ensures.count, held.1.filled) in
-    rw (c.in-Some.ensures.removed ∙ changed_dup _ (without_item c.args.page) s.dups.slots held.1.filled, c.set.ensures)
-    (slots_marked _ s.dups.slots s.counts s.empty s.stale held.0 (without_item c.args.page) held.1.within c.self.invariant held.1.filled _ count (grind (arith, count, c.if-left-eq0.true)) c.add.ensures)
+    let held = holds_dup c.args.place c.self.inside.dups c.self.view_is c.self.invariant.placed c.requires in
+    let count : c.in-Some.left ≡ length (without_item c.args.page held.0.items) = grind (arith, nat_tests) in
+    rw (c.in-Some.ensures.removed ∙ changed_dup _ (without_item c.args.page) _ held.1.filled, c.set.ensures)
+    (slots_marked _ _ _ _ _ held.0 (without_item c.args.page) held.1.within c.self.invariant held.1.filled _ count (grind arith) c.add.ensures)
 
 pub invariant_of-self-else-left-eq0 : goal.invariant_of-self-else-left-eq0
 invariant_of-self-else-left-eq0 c =
-    let s = c.self.inside in
-    let held = holds_dup c.args.place s.dups c.self.view_is c.self.invariant.placed c.requires in
-    let count : c.in-Some.left ≡ length (without_item c.args.page held.0.items) = grind (arith, nat_tests, c.in-Some.ensures.count, held.1.filled) in
-    let had = had_item c.args.page held.0 (grind (arith, nat_tests, c.in-Some.ensures.count, held.1.filled)) in
-    rw (c.in-Some.ensures.removed ∙ changed_dup _ _ s.dups.slots held.1.filled, c.set.ensures)
-    (slots_kept _ s.dups.slots s.counts s.empty s.stale held.0 (without_item c.args.page) held.1.within c.self.invariant held.1.filled count (grind (arith, nat_tests, count, c.if-left-eq0.false, had)))
+    let held = holds_dup c.args.place c.self.inside.dups c.self.view_is c.self.invariant.placed c.requires in
+    let told : (true ≡ has_item c.args.page held.0.items) × (c.in-Some.left ≡ length (without_item c.args.page held.0.items)) = grind (arith, nat_tests) in
+    rw (c.in-Some.ensures.removed ∙ changed_dup _ (without_item c.args.page) _ held.1.filled, c.set.ensures)
+    (slots_kept _ _ _ _ _ held.0 (without_item c.args.page) held.1.within c.self.invariant held.1.filled told.1 (grind (arith, nat_tests, had_item c.args.page held.0 told.0)))
 
 pub invariant_of-self-in-None : goal.invariant_of-self-in-None
 invariant_of-self-in-None c =
-    let s = c.self.inside in
-    let held = holds_dup c.args.place s.dups c.self.view_is c.self.invariant.placed c.requires in
-    rw (c.in-None.ensures.removed ∙ changed_dup _ (without_item c.args.page) s.dups.slots held.1.filled)
-    (slots_same _ s.dups.slots s.counts s.empty s.stale held.0 (without_item c.args.page) held.1.within c.self.invariant held.1.filled (not_taken _ (grind (arith, nat_tests, c.in-None.ensures.count, held.1.filled))))
+    let held = holds_dup c.args.place c.self.inside.dups c.self.view_is c.self.invariant.placed c.requires in
+    rw (c.in-None.ensures.removed ∙ changed_dup _ (without_item c.args.page) _ held.1.filled)
+    (slots_same _ _ _ _ _ held.0 (without_item c.args.page) held.1.within c.self.invariant held.1.filled (not_taken _ (grind (arith, nat_tests))))
 
 pub returns-then-left-eq0 : goal.returns-then-left-eq0
-returns-then-left-eq0 c =
-    view_changed _ _ c.remove_item.new.self _ c.self.view_is c.self.invariant.placed
-    (holds_dup _ c.self.inside.dups c.self.view_is c.self.invariant.placed c.requires).1.filled c.in-Some.ensures.removed
+returns-then-left-eq0 c = grind (arith, view_changed, holds_dup)
 
 pub returns-else-left-eq0 : goal.returns-else-left-eq0
-returns-else-left-eq0 c =
-    view_changed _ _ c.remove_item.new.self _ c.self.view_is c.self.invariant.placed
-    (holds_dup _ c.self.inside.dups c.self.view_is c.self.invariant.placed c.requires).1.filled c.in-Some.ensures.removed
+returns-else-left-eq0 c = grind (arith, view_changed, holds_dup)
 
 pub returns-in-None : goal.returns-in-None
-returns-in-None c =
-    view_changed _ _ c.remove_item.new.self _ c.self.view_is c.self.invariant.placed
-    (holds_dup _ c.self.inside.dups c.self.view_is c.self.invariant.placed c.requires).1.filled c.in-None.ensures.removed
+returns-in-None c = grind (arith, view_changed, holds_dup)
