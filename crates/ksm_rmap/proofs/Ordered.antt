@@ -53,7 +53,7 @@ none_of found none = grind arith
 
 -- where no element passes a test, a search by that test finds nothing
 pub none_found : {X : Type 0} (p : X → Bool) (xs : List X) → list_any p xs ≡ false → find p xs ≡ None
-none_found p xs none = grind (arith, any_found, none)
+none_found p xs none = grind (arith, any_found)
 
 module _ {X K : Type 0} {before same : K → K → Bool} (order : IsOrder before same) (key : X → K) where
   abbrev Before : X → X → Type 0
@@ -77,13 +77,13 @@ module _ {X K : Type 0} {before same : K → K → Bool} (order : IsOrder before
 
     -- in a list in order, those before the key stand before all others
     pub parted : (xs : List X) → AllPairs Before xs → IsPartitionedBy low xs
-    parted xs rise i j d le lt later = grind (arith, order.trans, rise i j d, later)
+    parted xs rise i j d le lt later = grind (arith, rise i j d)
 
     -- where the last of a list in order comes before the key, as many come before the key as the list has
     pub all_counted : (xs : List X) (d : X) → AllPairs Before xs → 0 < length xs → low (get_or xs (length xs - 1) d) ≡ true → place xs ≡ length xs
     all_counted xs d rise some last = sym
         (point_is_count low xs _ (omega arith)
-        (λ k e from lt. grind (arith, parted xs rise k (length xs - 1), get_or_default, last))
+        (λ k e from lt. grind (arith, parted xs rise k (length xs - 1), get_or_default))
         (λ k e from lt. grind arith))
 
     -- where a list in order has the key, as many come before it as stand before it
@@ -91,15 +91,15 @@ module _ {X K : Type 0} {before same : K → K → Bool} (order : IsOrder before
     counted_here xs i d rise within here =
         let it : (e : X) → key (get_or xs i e) ≡ q = λ e. ap key (get_or_default xs i e d within) ∙ order.same_eq _ q
         here in
-        sym (point_is_count low xs i (omega arith) (λ k e from lt. grind (arith, rise k i, it))
-        (λ k e from lt. grind (arith, rise i k, it, order.asym, irreflexive)))
+        sym (point_is_count low xs i (omega arith) (λ k e from lt. grind (arith, rise k i))
+        (λ k e from lt. grind (arith, rise i k, irreflexive)))
 
     none_low : (ys : List X) → All (λ z. high z ≡ true) ys → All (λ z. low z ≡ false) ys
-    none_low ys behind k d lt = order.asym q _ (behind k d lt)
+    none_low ys behind k d lt = grind (arith, order.asym)
 
     -- where all of a list come behind the key, none of them is the key
     pub none_same : (ys : List X) → All (λ z. high z ≡ true) ys → All (λ z. is_it z ≡ false) ys
-    none_same ys behind k d lt = order.apart_back q _ (behind k d lt)
+    none_same ys behind k d lt = grind (arith, order.apart_back)
 
     -- where the first element of a list in order is behind the key, so are all others
     pub behind_rest : (y : X) (ys : List X) → AllPairs Before (y ∷ ys) → high y ≡ true → All (λ z. high z ≡ true) ys
@@ -110,13 +110,12 @@ module _ {X K : Type 0} {before same : K → K → Bool} (order : IsOrder before
 
     -- where all of a list come before the key, none of them has the key
     pub none_same_low : (xs : List X) → All (λ z. low z ≡ true) xs → All (λ z. is_it z ≡ false) xs
-    none_same_low xs ahead k d lt = order.apart _ q (ahead k d lt)
+    none_same_low xs ahead k d lt = grind (arith, order.apart)
 
     -- in a list cut in three around a key's run, the key is taken out by taking it out of the run
     pub without_between : (xs run ys : List X) → All (λ z. low z ≡ true) xs → All (λ z. high z ≡ true) ys
         → filter (λ y. not (is_it y)) (xs ++ (run ++ ys)) ≡ xs ++ (filter (λ y. not (is_it y)) run ++ ys)
-    without_between xs run ys ahead behind =
-        grind (arith, filter-append, filter_all (λ y. not (is_it y)) xs (λ k d lt. ap not (none_same_low xs ahead k d lt)), filter_all (λ y. not (is_it y)) ys (λ k d lt. ap not (none_same ys behind k d lt)))
+    without_between xs run ys ahead behind = grind (arith, filter-append, filter_all, is_it, none_same_low, none_same)
 
     -- the key, if it is there
     abbrev one : Option X → List X
@@ -126,15 +125,15 @@ module _ {X K : Type 0} {before same : K → K → Bool} (order : IsOrder before
     -- a list in order is what comes before the key, the key, and what comes behind it
     parts : (xs : List X) → AllPairs Before xs → xs ≡ filter low xs ++ (one (find is_it xs) ++ filter high xs)
     parts [] rise = refl
-    parts (y ∷ ys) rise = grind (arith, order.asym, order.apart, parts ys (pairs_tail Before y ys rise), order.same_eq, irreflexive, behind_it y ys rise, behind_rest y ys rise, none_low ys, none_same ys, order.total, filter_none low ys, filter_all high ys, find_nothing is_it ys)
+    parts (y ∷ ys) rise = grind (arith, parts ys (pairs_tail Before y ys rise), irreflexive, behind_it y ys rise, behind_rest y ys rise, none_low ys, none_same ys, filter_none low ys, filter_all high ys, find_nothing is_it ys)
 
     -- a list in order without the key is what comes before the key, and what comes behind
     pub absent_parts : (xs : List X) → AllPairs Before xs → find is_it xs ≡ None → xs ≡ filter low xs ++ filter high xs
-    absent_parts xs rise absent = grind (arith, parts xs rise, absent)
+    absent_parts xs rise absent = grind (arith, parts xs rise)
 
     -- a list in order that has the key is what comes before the key, the element of the key, and what comes behind
     pub found_parts : (xs : List X) (x : X) → AllPairs Before xs → find is_it xs ≡ Some x → xs ≡ filter low xs ++ x ∷ filter high xs
-    found_parts xs x rise found = grind (arith, parts xs rise, found)
+    found_parts xs x rise found = grind (arith, parts xs rise)
 
     -- a key that is found stands behind those before it
     pub found_place : (xs : List X) (x : X) → AllPairs Before xs → find is_it xs ≡ Some x
@@ -149,27 +148,27 @@ module _ {X K : Type 0} {before same : K → K → Bool} (order : IsOrder before
     -- a search for the key in a list ended at n, behind so many that come before the key; s and t are that list as it was read, once and again
     module _ (xs : List X) (rise : AllPairs Before xs) {s t : List X} (read : s ≡ xs) (again : t ≡ xs) {n : ℕ} (count : n ≡ place s) where
       counted : n ≡ place xs
-      counted = count ∙ ap place read
+      counted = grind (arith, place)
 
       -- where an element stands behind those before the key, the key is found exactly if that element is of the key
       pub found_by : (d : X) → n < length t → is_some (find is_it xs) ≡ is_it (get_or xs n d)
       found_by d within = by_found (find is_it xs)
-          (λ none. grind (arith, again, none, counted, absent_differs xs d rise))
-          (λ x found. grind (arith, found, counted, get_or_default, found_place xs x rise found))
+          (λ none. grind (arith, counted, absent_differs xs d rise))
+          (λ x found. grind (arith, counted, get_or_default, found_place xs x rise found))
 
       -- where the element behind those before the key is of the key, a search for the key finds it
       pub found_at : (d : X) → n < length t → is_it (get_or t n d) ≡ true → find is_it xs ≡ Some (get_or xs n d)
-      found_at d within here = by_found (find is_it xs) (λ none. grind (arith, none, here, again, found_by d))
-          (λ x found. grind (arith, found, counted, get_or_default, found_place xs x rise found))
+      found_at d within here = by_found (find is_it xs) (λ none. grind (arith, found_by d))
+          (λ x found. grind (arith, counted, get_or_default, found_place xs x rise found))
 
       -- where all of a list come before the key, the key is not found
       pub absent_past : length t ≤ n → find is_it xs ≡ None
       absent_past past =
-          by_found (find is_it xs) (λ none. none) (λ x found. grind (arith, found_place xs x, counted, again))
+          by_found (find is_it xs) (λ none. none) (λ x found. grind (arith, found_place xs x, counted))
 
       -- an insert behind those before a key that is not there puts the key at its place
       pub insert_at : (x : X) → find is_it t ≡ None → insert xs n x ≡ filter low xs ++ x ∷ filter high xs
-      insert_at x absent = grind (arith, counted, again, absent_parts xs rise, insert-append_right (filter low xs) (filter high xs) (place xs) n x)
+      insert_at x absent = grind (arith, counted, absent_parts xs rise, insert-append_right (filter low xs) (filter high xs) (place xs) n x)
 
       -- a removal behind those before a key that is there takes the key away
       pub remove_at : (d : X) → n < length t → is_it (get_or t n d) ≡ true → remove xs n ≡ filter (λ y. not (is_it y)) xs
@@ -185,13 +184,13 @@ module _ {X K : Type 0} {before same : K → K → Bool} (order : IsOrder before
 
     -- a list that does not have the key is the same list without the key
     pub absent_kept : (xs : List X) → find is_it xs ≡ None → xs ≡ filter (λ y. not (is_it y)) xs
-    absent_kept xs absent = sym (filter_all _ xs (λ k d lt. ap not (find_none is_it xs absent k d lt)))
+    absent_kept xs absent = grind (arith, filter_all, find_none, is_it)
 
     -- a list in order stays in order with an element of the key at its place
     pub with_rises : (x : X) (xs : List X) → key x ≡ q → AllPairs Before xs → AllPairs Before (filter low xs ++ x ∷ filter high xs)
     with_rises x xs at rise = pairs_with Before low high x xs rise (rw at (filter_passes low xs))
         (rw at (filter_passes high xs))
-        (λ k d lt j e le. grind (arith, order.trans, filter_passes low xs k d lt, filter_passes high xs j e le))
+        (λ k d lt j e le. grind (arith, filter_passes low xs k d lt, filter_passes high xs j e le))
 
     -- a list in order stays in order without the key
     pub without_rises : (xs : List X) → AllPairs Before xs → AllPairs Before (filter (λ y. not (is_it y)) xs)
@@ -201,5 +200,5 @@ module _ {X K : Type 0} {before same : K → K → Bool} (order : IsOrder before
 pub with_found : {X : Type 0} {before same : X → X → Bool} (order : IsOrder before same) (x : X) (xs : List X) → AllPairs (λ a b. before a b ≡ true) xs
     → list_any (λ y. same y x) xs ≡ true → xs ≡ filter (λ y. before y x) xs ++ x ∷ filter (before x) xs
 with_found {before} {same} order x xs rise has = by_found (find (λ y. same y x) xs)
-    (λ none. grind (arith, has, any_found, none))
+    (λ none. grind (arith, any_found))
     (λ y found. grind (arith, found_parts order (λ z. z) x xs y rise found, order.same_eq y x, find_passes (λ z. same z x) xs y))

@@ -1,17 +1,15 @@
 -- Dups and their rows: what a dup that comes or goes and a change of items changes of the rows, and where a dup is found.
-use Rattle.ksm_tree.proofs.Names.{[], All, arith, Bool, change_at, change_items, Dup, DupRow, filter, find, get_or, GuestPage, has_number, InPlaceOrder, let_out, List, map, map-append, Merged, None, not, Option, option_map, PageState, Private, refl, row_place, rows_of, same_Some, Some, stands_at, sym, Waiting, with_dup, with_new, without_place, Zero, ℕ, if◌then◌else◌, ◌==◌, ◌∷◌, ◌≡◌, subst, get_or-map, length-map, nat_lt}
+use Rattle.ksm_tree.proofs.Names.{[], All, arith, Bool, change_at, change_items, Dup, DupRow, filter, find, GuestPage, has_number, InPlaceOrder, let_out, List, map, map-append, Merged, None, not, Option, option_map, PageState, Private, refl, row_place, rows_of, same_Some, Some, stands_at, Waiting, with_dup, with_new, without_place, Zero, ℕ, if◌then◌else◌, ◌==◌, ◌∷◌, ◌≡◌, subst, get_or-map, length-map}
 use Rattle.ksm_tree.proofs.Alike.{filter_mapped, find_mapped, map_alike}
 use Rattle.ksm_tree.proofs.Rows.{only_number}
 
 -- the row of a new dup is added to the rows
 pub rows_new : (dup : Dup) (dups : List Dup) → rows_of (with_new dup dups) ≡ with_dup dup.row (rows_of dups)
-rows_new dup dups = let filtered = λ (by : DupRow → Bool). filter_mapped (λ (d : Dup). d.row) by (λ d. by d.row) dups
-    (λ k d lt. refl) in
-    grind (arith, map-append, filtered (λ r. nat_lt r.place dup.row.place), filtered (λ r. nat_lt dup.row.place r.place))
+rows_new dup dups = grind (arith, filter_mapped, map-append)
 
 -- a place that is dropped takes its row out of the rows
 pub rows_without : (p : ℕ) (dups : List Dup) → rows_of (without_place p dups) ≡ filter (λ r. not (r.place == p)) (rows_of dups)
-rows_without p dups = sym (filter_mapped _ _ _ dups (λ k d lt. refl))
+rows_without p dups = grind (arith, filter_mapped)
 
 rows_same : (test : Dup → Bool) (f : List GuestPage → List GuestPage) (dups : List Dup) → rows_of (map (λ d. if test d then record d { items = f d.items } else d) dups) ≡ rows_of dups
 rows_same test f [] = refl
@@ -34,7 +32,7 @@ rows_out (Merged number) page dups = rows_items _ _ _
 
 -- a dup is found where its row is
 pub row_found : (test : Dup → Bool) (by : DupRow → Bool) → ((d : Dup) → test d ≡ by d.row) → (dups : List Dup) → option_map (λ d. d.row) (find test dups) ≡ find by (rows_of dups)
-row_found test by same dups = sym (find_mapped _ by test dups (λ k d lt. sym (same (get_or dups k d))))
+row_found test by same dups = grind (arith, find_mapped)
 
 -- the row of a number that has a place
 row_there : {p : ℕ} (r : Option DupRow) → option_map (λ s. s.place) r ≡ Some p → (e : DupRow) × (r ≡ Some e) × (e.place ≡ p)
@@ -43,7 +41,7 @@ row_there {p} (Some e) is = (e, refl, same_Some _ p is)
 
 -- two tests that agree on each dup change one dup
 pub agree_changed : (test by : Dup → Bool) (f : List GuestPage → List GuestPage) (dups : List Dup) → All (λ d. test d ≡ by d) dups → map {B = Dup} (λ d. if test d then record d { items = f d.items } else d) dups ≡ map (λ d. if by d then record d { items = f d.items } else d) dups
-agree_changed test by f dups same = map_alike _ _ dups (λ k e lt. grind (arith, same k e lt))
+agree_changed test by f dups same = grind (arith, map_alike)
 
 -- what holds of all rows holds of each dup's row
 pub all_rows : (P : DupRow → Type 0) (dups : List Dup) → All P (rows_of dups) → All (λ d. P d.row) dups

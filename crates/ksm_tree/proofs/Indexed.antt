@@ -1,5 +1,5 @@
 -- The index over dups: what it finds, and how it stays with a change of items and with a dup that goes.
-use Rattle.ksm_tree.proofs.Names.{[], All, All-filter, AllPairs-filter, ap, AreIndexed, arith, Bool, bytes_eq, change_at, change_items, content_of, Dup, dup_at, dup_of, DupRow, dups_seen, DupsState, eqb-true, false, false≢true, filter, find, find_nothing, find_passes, get, Group, group_places, GuestPage, if◌then◌else◌, in_group, Index, InPlaceOrder, is_some, items_in, IsRegrouped, length, List, nat_tests, None, not, number_of, Option, option_map, pairs_head, pairs_tail, place_of, places_of, refl, row_place, rows_of, SlotsState, Some, stands_at, sym, Tells, true, without, without_place, ℕ, ◌&&◌, ◌<◌, ◌==◌, ◌∙◌, ◌∷◌, ◌≡◌, LeadTheSame, has_number, rules, find_none}
+use Rattle.ksm_tree.proofs.Names.{[], All, All-filter, AllPairs-filter, AreIndexed, arith, Bool, bytes_eq, change_at, change_items, content_of, Dup, dup_at, dup_of, DupRow, dups_seen, DupsState, eqb-true, false, false≢true, filter, find, find_nothing, find_passes, get, Group, group_places, GuestPage, if◌then◌else◌, in_group, Index, InPlaceOrder, is_some, items_in, IsRegrouped, length, List, nat_tests, None, not, number_of, Option, option_map, pairs_head, pairs_tail, place_of, places_of, refl, row_place, rows_of, SlotsState, Some, stands_at, sym, Tells, true, without, without_place, ℕ, ◌&&◌, ◌<◌, ◌==◌, ◌∙◌, ◌∷◌, ◌≡◌, LeadTheSame, has_number, rules, find_none}
 use Rattle.ksm_tree.proofs.Alike.{change_none, chosen, find_alike}
 use Rattle.ksm_tree.proofs.Grouped.{chains_kept, dups_kept, more_there, totals_moved, totals_tell}
 use Rattle.ksm_tree.proofs.Keys.{own_group, self_group}
@@ -13,7 +13,7 @@ row_placed q dups = grind (arith, row_found (has_number q) (λ r. r.number == q)
 
 -- where the place of a number is told, a search by the number finds the dup at that place
 pub placed_found : (q : ℕ) {p : ℕ} (dups : List Dup) → InPlaceOrder (rows_of dups) → Some p ≡ option_map (λ d. d.row.place) (dup_of q dups) → dup_of q dups ≡ dup_at p dups
-placed_found q dups rise is = find_alike _ _ _ (one_dup q _ rise (row_placed q _ ∙ sym is))
+placed_found q dups rise is = grind (arith, find_alike, one_dup, row_placed)
 
 -- where no place of a number is told, a change of the number's items changes no dup
 pub unplaced_changed : (q : ℕ) {dups : List Dup} → None ≡ option_map (λ d. d.row.place) (dup_of q dups) → (f : List GuestPage → List GuestPage) → dups ≡ change_items q f dups
@@ -22,7 +22,7 @@ unplaced_changed q {dups} none f = grind (arith, change_none (has_number q) (λ 
 module _ {s : SlotsState} {next : ℕ} {index : Index} (h : AreIndexed s next index) where
   -- the index gives for each number the place of its dup
   pub indexed_place : (q : ℕ) → place_of q index ≡ option_map (λ d. d.row.place) (dup_of q s.dups)
-  indexed_place q = h.numbered q ∙ row_placed q _
+  indexed_place q = grind (arith, row_placed)
 
   -- a change of items changes no row, and so nothing of the index
   pub stays_indexed : (p : ℕ) (f : List GuestPage → List GuestPage) (ready : Bool) → AreIndexed (record { places = s.places; dups = change_at p f s.dups; ready = ready }) next index
@@ -83,7 +83,7 @@ told {s} h t b = search (rules, h.grouped t b, totals_tell)
 
 -- the row found at a place is the row of the dup found there
 pub row_at_place : (p : ℕ) (dups : List Dup) {d : Option Dup} → dup_at p dups ≡ d → find (λ r. r.place == p) (rows_of dups) ≡ option_map (λ e. e.row) d
-row_at_place p dups is = sym (row_found _ _ (λ e. refl) dups) ∙ ap (option_map (λ e. e.row)) is
+row_at_place p dups is = grind (arith, row_found)
 
 -- no row of another group stands where a dup stands
 pub not_in_group : (p t : ℕ) (b : List ℕ) (dups : List Dup) {d : Dup} → InPlaceOrder (rows_of dups) → dup_at p dups ≡ Some d → in_group t b d.row ≡ false → All (λ r. (r.place == p && in_group t b r) ≡ false) (rows_of dups)

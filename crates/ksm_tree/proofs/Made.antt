@@ -16,10 +16,10 @@ module _ {s : SlotsState} {next : ℕ} {index : Index} (new : Index) (dup : Dup)
   all = with_dup dup.row rows
 
   rise : InPlaceOrder rows
-  rise = h.lawful.in_place_order
+  rise = grind arith
 
   fresh : All (λ r. r.number < dup.row.number) rows
-  fresh = rw number h.lawful.numbers_below
+  fresh = grind arith
 
   new_rise : InPlaceOrder all
   new_rise = dups_with _ _ rise fresh
@@ -80,7 +80,7 @@ module _ {s : SlotsState} {next : ℕ} {index : Index} (new : Index) (dup : Dup)
   joined_in entered t b inside = grind (arith, own_group, group_joined)
 
   joined_own : {mid : Index} → IsEntered dup.row index mid → places_of dup.row.tree dup.row.bytes mid ≡ group_places dup.row.tree dup.row.bytes all
-  joined_own entered = joined_in entered _ _ (self_group dup.row)
+  joined_own entered = grind (arith, joined_in, self_group)
 
   -- once the new dup is entered beside the old one at its place, the totals are right for the group of the old one
   pub told_between : {mid : Index} (old : Dup) → Some old ≡ dup_at dup.row.place s.dups → IsEntered dup.row index mid
@@ -133,9 +133,8 @@ module _ {s : SlotsState} {next : ℕ} {index : Index} (new : Index) (dup : Dup)
 -- once a dup is made, callers see that dup among the others, and the next number one higher
 pub seen_made : (s : SlotsState) (next : ℕ) (index new : Index) (dup : ℕ → Dup) (ready : Bool) {old : DupsState} → dups_seen s next index ≡ old → SameWaits index.groups new.groups
     → dups_seen (record { places = s.places; dups = with_new (dup next) s.dups; ready = ready }) (next + 1) new ≡ record old { dups = with_new (dup old.next) old.dups; next = old.next + 1 }
-seen_made s next index new dup ready view same =
-    grind (arith, nat_tests)
+seen_made s next index new dup ready view same = grind arith
 
 -- the next number is that of no dup
 pub next_unused : {s : SlotsState} {next : ℕ} {index : Index} → AreIndexed s next index → place_of next index ≡ None
-next_unused {s} {next} h = grind (arith, h.numbered next, find_nothing (λ r. r.number == next) (rows_of s.dups) (λ k d lt. ne_eqb _ next (λ e. omega (arith, h.lawful.numbers_below k d lt))))
+next_unused {s} {next} h = grind (arith, find_nothing, ne_eqb)

@@ -27,11 +27,11 @@ module _ (words : List ℕ) where
 
     -- the least number of the upper set behind a word's is that of the word of the least number behind that word
     pub found_behind : (at : ℕ) {next bit : ℕ} → IsLeast upper (at + 1) (64 * length upper) next → IsLowestBit (get_or words next 0) 0 bit → IsLeast words ((at + 1) * 64) (64 * length words) (next * 64 + bit)
-    found_behind at {next} {bit} named found = grind (arith, nat_tests, none_in_zeros (at + 1) next (λ w from below. word_clear w (omega arith) (named.least w from below)), word_within next (word_set next named.high_is named.there), named.low_is, found)
+    found_behind at {next} {bit} named found = grind (arith, none_in_zeros, word_clear, word_within, word_set)
 
     -- the least number of the upper set from one on is that of a word that is there
     pub within_named : {low next : ℕ} → IsLeast upper low (64 * length upper) next → next < length words
-    within_named named = word_within _ (word_set _ named.high_is named.there)
+    within_named named = grind (arith, word_within, word_set)
 
     -- the upper set is right once a word is put, if it says of that whether it is 0, and of the others what it did
     pub summed_put : {w : ℕ} (word : ℕ) {upper' : List ℕ} {there : Bool} → w < length words → there ≡ not (word == 0) → Marks upper upper' w there → IsSummed (set words w word) upper'
@@ -76,4 +76,4 @@ pub bit_of_rest : (word from i : ℕ) → bit_at (word / 2 ^ from) i ≡ bit_at 
 bit_of_rest word from i = grind (arith, shr-shr)
 
 pub bit_behind : (word from i : ℕ) → from ≤ i → bit_at word i ≡ bit_at (word / 2 ^ from) (i - from)
-bit_behind word from i behind = grind (arith, bit_of_rest word from (i - from))
+bit_behind word from i behind = grind (arith, bit_of_rest)

@@ -1,5 +1,5 @@
 -- The items of each dup stay the pages of the rows merged into it: the dups after a change of one row, and after a change of all.
-use Rattle.ksm_tree.proofs.Names.{[], absent_kept, All, All-append, All-cons, All-filter, All-map, ap, AreTied, arith, change_items, change_row, Dup, dup_of, DupRow, each_at_page, eqb-true, false, filter_all, filter_none, find_all, find_none, find_passes, get_or, GuestPage, has_item, InPageOrder, is_some, item_count, items_in, items_of, length, let_out, List, map, Merged, merged_into, merged_state, nat_tests, None, none_found, not, not_an_item, Option, ordered_map, pages_ordered, PageState, Private, refl, Row, row_at, rows_of, same_page, Some, sym, true, Waiting, with_item, with_new, with_row, without_item, without_page, without_place, Zero, ℕ, if◌then◌else◌, ◌<◌, ◌==◌, ◌∙◌, ◌∷◌, ◌≡◌, suc}
+use Rattle.ksm_tree.proofs.Names.{[], absent_kept, All, All-append, All-cons, All-filter, All-map, ap, AreTied, arith, change_items, change_row, Dup, dup_of, DupRow, each_at_page, eqb-true, false, filter_all, filter_none, find_all, find_none, find_passes, GuestPage, has_item, InPageOrder, is_some, item_count, items_in, items_of, length, let_out, List, map, Merged, merged_into, merged_state, nat_tests, None, none_found, not, not_an_item, Option, ordered_map, pages_ordered, PageState, Private, refl, Row, row_at, rows_of, same_page, Some, sym, true, Waiting, with_item, with_new, with_row, without_item, without_page, without_place, Zero, ℕ, if◌then◌else◌, ◌<◌, ◌==◌, ◌∷◌, ◌≡◌, suc}
 use Rattle.ksm_tree.specs.Dups.{items_of as items_numbered}
 use Rattle.ksm_tree.proofs.Alike.{kept_append}
 use Rattle.ksm_tree.proofs.Changes.{all_rows}
@@ -16,7 +16,7 @@ no_item page d (r ∷ rows) none = grind (arith, nat_tests, none 0 r, no_item pa
 module _ (rows : List Row) (page : GuestPage) (old : Row) (rise : InPageOrder rows) (found : row_at page rows ≡ Some old) where
   -- a page is an item of no dup but that of its row
   not_item : (d : DupRow) → merged_into d.number old.state ≡ false → has_item page (items_of rows d) ≡ false
-  not_item d fails = no_item _ d rows (λ k e lt same. grind (arith, each_at_page rows rise k e lt, pages_ordered.same_eq (get_or rows k e).page page same))
+  not_item d fails = grind (arith, no_item, each_at_page, pages_ordered.same_eq)
 
   unlike : (d : DupRow) → merged_into d.number old.state ≡ false → items_of rows d ≡ without_item page (items_of rows d)
   unlike d fails = absent_kept pages_ordered _ page _ (none_found _ (items_of rows d) (not_item d fails))
@@ -47,7 +47,7 @@ module _ (rows : List Row) (page : GuestPage) (old : Row) (rise : InPageOrder ro
 
   -- a page whose row is not merged is an item of no dup
   pub tied_absent : (number : ℕ) (dups : List Dup) → merged_state old.state ≡ false → AreTied rows dups → has_item page (items_numbered number dups) ≡ false
-  tied_absent number dups alone tied = absent_in _ _ _ alone tied refl
+  tied_absent number dups alone tied = grind (arith, absent_in)
 
 -- a dup with a number has as many items as there are rows merged into it
 pub tied_count : (rows : List Row) (dups : List Dup) (number : ℕ) (d : Dup) → AreTied rows dups → dup_of number dups ≡ Some d → length (items_numbered number dups) ≡ item_count rows d.row
@@ -89,7 +89,7 @@ module _ (rows : List Row) (first second : Row) (row : DupRow) (rise : InPageOrd
   half_rises = ordered_map _ _ keeps_page rise
 
   there : is_some (row_at second.page half) ≡ true
-  there = row_stays _ _ _ keeps_page ∙ ap is_some also
+  there = grind (arith, row_stays, keeps_page)
 
   -- the items of another dup
   others : (d : DupRow) → (row.number == d.number) ≡ false → items_of whole d ≡ items_of rows d
@@ -112,7 +112,7 @@ tied_inserted rows row dups rise absent alone tied k d lt =
 
 -- rows and dups stay tied where each row changes but for its page and its dup
 pub tied_mapped : (f : Row → Row) (rows : List Row) (dups : List Dup) → All (λ r. ((f r).page ≡ r.page) × ((number : ℕ) → merged_into number (f r).state ≡ merged_into number r.state)) rows → AreTied rows dups → AreTied (map f rows) dups
-tied_mapped f rows dups same tied k d lt = tied k d lt ∙ sym (items_kept _ (get_or dups k d).row f (λ j r lt. ((same j r lt).0, (same j r lt).1 _)))
+tied_mapped f rows dups same tied k d lt = grind (arith, items_kept)
 
 -- rows and dups stay tied where a dup goes
 pub tied_pruned : (rows : List Row) (dups : List Dup) (place : ℕ) → AreTied rows dups → AreTied rows (without_place place dups)

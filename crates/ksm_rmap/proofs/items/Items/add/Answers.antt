@@ -19,4 +19,4 @@ invariant_of-self-2 c = (
 )
 
 pub returns-clause-added : goal.returns-clause-added
-returns-clause-added c = rw (← c.self.view_is) (added c)
+returns-clause-added c = grind (arith, added)

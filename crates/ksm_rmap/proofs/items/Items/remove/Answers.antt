@@ -17,13 +17,13 @@ removed c =
 pub invariant_of-self : goal.invariant_of-self
 invariant_of-self c = (
   rw (removed c) (without_rises pages_ordered (λ p. p) c.args.page _ c.self.invariant.0),
-  omega (arith, c.remove.ensures.len, c.self.invariant.1),
+  omega arith,
 )
 
 pub returns-then-found-clause-removed : goal.returns-then-found-clause-removed
-returns-then-found-clause-removed c = rw (← c.self.view_is) (removed c)
+returns-then-found-clause-removed c = grind (arith, removed)
 
 pub returns-else-found-clause-removed : goal.returns-else-found-clause-removed
 returns-else-found-clause-removed c =
     absent_kept pages_ordered (λ p. p) c.args.page _
-    (none_found _ c.args.self.now (grind (arith, c.as_slice-2.ensures, c.self.view_is, c.if-found.ensures.found)))
+    (none_found _ c.args.self.now (grind arith))
