@@ -35,7 +35,12 @@ pub point_is_count : {X : Type 0} (p : X → Bool) (xs : List X) (i : ℕ) → i
 point_is_count p [] i within below above = omega arith
 point_is_count p (x ∷ xs) zero within below above =
     grind (arith, filter_none p (x ∷ xs) (λ k d lt. above k d (omega arith) lt))
-point_is_count p (x ∷ xs) (suc i) within below above = grind (arith, below 0 x, point_is_count p xs i (omega arith) (λ k d low high. below (suc k) d (omega arith) (omega arith)) (λ k d low high. above (suc k) d (omega arith) (omega arith)))
+point_is_count p (x ∷ xs) (suc i) within below above = grind (
+  arith,
+  below 0 x,
+  point_is_count p xs i (omega arith) (λ k d low high. below (suc k) d (omega arith) (omega arith))
+      (λ k d low high. above (suc k) d (omega arith) (omega arith)),
+)
 
 -- what follows both where nothing is found and from what is found
 by_found : {X P : Type 0} (found : Option X) → (found ≡ None → P) → ((x : X) → found ≡ Some x → P) → P
@@ -60,7 +65,7 @@ module _ {X K : Type 0} {before same : K → K → Bool} (order : IsOrder before
   Before a b = before (key a) (key b) ≡ true
 
   irreflexive : (p : K) → before p p ≡ false
-  irreflexive p = grind (arith, order.asym p p)
+  irreflexive p = grind arith
 
   module _ (q : K) where
     abbrev low : X → Bool
@@ -77,13 +82,13 @@ module _ {X K : Type 0} {before same : K → K → Bool} (order : IsOrder before
 
     -- in a list in order, those before the key stand before all others
     pub parted : (xs : List X) → AllPairs Before xs → IsPartitionedBy low xs
-    parted xs rise i j d le lt later = grind (arith, rise i j d)
+    parted xs rise i j d le lt later = grind arith
 
     -- where the last of a list in order comes before the key, as many come before the key as the list has
     pub all_counted : (xs : List X) (d : X) → AllPairs Before xs → 0 < length xs → low (get_or xs (length xs - 1) d) ≡ true → place xs ≡ length xs
     all_counted xs d rise some last = sym
         (point_is_count low xs _ (omega arith)
-        (λ k e from lt. grind (arith, parted xs rise k (length xs - 1), get_or_default))
+        (λ k e from lt. grind (arith, get_or_default))
         (λ k e from lt. grind arith))
 
     -- where a list in order has the key, as many come before it as stand before it
@@ -92,30 +97,30 @@ module _ {X K : Type 0} {before same : K → K → Bool} (order : IsOrder before
         let it : (e : X) → key (get_or xs i e) ≡ q = λ e. ap key (get_or_default xs i e d within) ∙ order.same_eq _ q
         here in
         sym (point_is_count low xs i (omega arith) (λ k e from lt. grind (arith, rise k i))
-        (λ k e from lt. grind (arith, rise i k, irreflexive)))
+        (λ k e from lt. grind (arith, rise i k)))
 
     none_low : (ys : List X) → All (λ z. high z ≡ true) ys → All (λ z. low z ≡ false) ys
-    none_low ys behind k d lt = grind (arith, order.asym)
+    none_low = grind arith
 
     -- where all of a list come behind the key, none of them is the key
     pub none_same : (ys : List X) → All (λ z. high z ≡ true) ys → All (λ z. is_it z ≡ false) ys
-    none_same ys behind k d lt = grind (arith, order.apart_back)
+    none_same ys behind k d lt = grind arith
 
     -- where the first element of a list in order is behind the key, so are all others
     pub behind_rest : (y : X) (ys : List X) → AllPairs Before (y ∷ ys) → high y ≡ true → All (λ z. high z ≡ true) ys
-    behind_rest y ys rise here k d lt = order.trans q _ _ here (rise 0 (suc k) d (omega arith) (omega arith))
+    behind_rest y ys rise here k d lt = grind (arith, rise 0 (suc k) d)
 
     behind_it : (y : X) (ys : List X) → AllPairs Before (y ∷ ys) → is_it y ≡ true → All (λ z. high z ≡ true) ys
-    behind_it y ys rise equal k d lt = grind (arith, order.same_eq (key y) q, rise 0 (suc k) d)
+    behind_it y ys rise equal k d lt = grind (arith, rise 0 (suc k) d)
 
     -- where all of a list come before the key, none of them has the key
     pub none_same_low : (xs : List X) → All (λ z. low z ≡ true) xs → All (λ z. is_it z ≡ false) xs
-    none_same_low xs ahead k d lt = grind (arith, order.apart)
+    none_same_low = grind arith
 
     -- in a list cut in three around a key's run, the key is taken out by taking it out of the run
     pub without_between : (xs run ys : List X) → All (λ z. low z ≡ true) xs → All (λ z. high z ≡ true) ys
         → filter (λ y. not (is_it y)) (xs ++ (run ++ ys)) ≡ xs ++ (filter (λ y. not (is_it y)) run ++ ys)
-    without_between xs run ys ahead behind = grind (arith, filter-append, filter_all, is_it, none_same_low, none_same)
+    without_between xs run ys ahead behind = grind (arith, filter-append, filter_all)
 
     -- the key, if it is there
     abbrev one : Option X → List X
@@ -125,7 +130,14 @@ module _ {X K : Type 0} {before same : K → K → Bool} (order : IsOrder before
     -- a list in order is what comes before the key, the key, and what comes behind it
     parts : (xs : List X) → AllPairs Before xs → xs ≡ filter low xs ++ (one (find is_it xs) ++ filter high xs)
     parts [] rise = refl
-    parts (y ∷ ys) rise = grind (arith, parts ys (pairs_tail Before y ys rise), irreflexive, behind_it y ys rise, behind_rest y ys rise, none_low ys, none_same ys, filter_none low ys, filter_all high ys, find_nothing is_it ys)
+    parts (y ∷ ys) rise = grind (
+      arith,
+      parts ys (pairs_tail Before y ys rise),
+      behind_it y ys rise,
+      behind_rest y ys rise,
+      filter_none low ys,
+      find_nothing is_it ys,
+    )
 
     -- a list in order without the key is what comes before the key, and what comes behind
     pub absent_parts : (xs : List X) → AllPairs Before xs → find is_it xs ≡ None → xs ≡ filter low xs ++ filter high xs
@@ -143,32 +155,39 @@ module _ {X K : Type 0} {before same : K → K → Bool} (order : IsOrder before
 
     -- where it is not, another stands behind those before it
     absent_differs : (xs : List X) (d : X) → AllPairs Before xs → place xs < length xs → find is_it xs ≡ None → is_it (get_or xs (place xs) d) ≡ false
-    absent_differs xs d rise within absent = grind (arith, absent_parts xs rise absent, length-append, get_or-append_right (filter low xs) (filter high xs) (place xs) (place xs) d, none_same (filter high xs), filter_passes high xs)
+    absent_differs xs d rise within absent = grind (
+      arith,
+      absent_parts xs rise absent,
+      length-append,
+      get_or-append_right (filter low xs) (filter high xs) (place xs) (place xs) d,
+      filter_passes high xs,
+    )
 
     -- a search for the key in a list ended at n, behind so many that come before the key; s and t are that list as it was read, once and again
     module _ (xs : List X) (rise : AllPairs Before xs) {s t : List X} (read : s ≡ xs) (again : t ≡ xs) {n : ℕ} (count : n ≡ place s) where
       counted : n ≡ place xs
-      counted = grind (arith, place)
+      counted = grind arith
 
       -- where an element stands behind those before the key, the key is found exactly if that element is of the key
       pub found_by : (d : X) → n < length t → is_some (find is_it xs) ≡ is_it (get_or xs n d)
       found_by d within = by_found (find is_it xs)
-          (λ none. grind (arith, counted, absent_differs xs d rise))
-          (λ x found. grind (arith, counted, get_or_default, found_place xs x rise found))
+          (λ none. grind (arith, absent_differs xs d rise))
+          (λ x found. grind (arith, get_or_default, found_place xs x rise found))
 
       -- where the element behind those before the key is of the key, a search for the key finds it
       pub found_at : (d : X) → n < length t → is_it (get_or t n d) ≡ true → find is_it xs ≡ Some (get_or xs n d)
       found_at d within here = by_found (find is_it xs) (λ none. grind (arith, found_by d))
-          (λ x found. grind (arith, counted, get_or_default, found_place xs x rise found))
+          (λ x found. grind (arith, get_or_default, found_place xs x rise found))
 
       -- where all of a list come before the key, the key is not found
       pub absent_past : length t ≤ n → find is_it xs ≡ None
       absent_past past =
-          by_found (find is_it xs) (λ none. none) (λ x found. grind (arith, found_place xs x, counted))
+          by_found (find is_it xs) (λ none. none) (λ x found. grind (arith, found_place xs x))
 
       -- an insert behind those before a key that is not there puts the key at its place
       pub insert_at : (x : X) → find is_it t ≡ None → insert xs n x ≡ filter low xs ++ x ∷ filter high xs
-      insert_at x absent = grind (arith, counted, absent_parts xs rise, insert-append_right (filter low xs) (filter high xs) (place xs) n x)
+      insert_at x absent =
+          grind (arith, absent_parts xs rise, insert-append_right (filter low xs) (filter high xs) (place xs) n x)
 
       -- a removal behind those before a key that is there takes the key away
       pub remove_at : (d : X) → n < length t → is_it (get_or t n d) ≡ true → remove xs n ≡ filter (λ y. not (is_it y)) xs
@@ -184,7 +203,7 @@ module _ {X K : Type 0} {before same : K → K → Bool} (order : IsOrder before
 
     -- a list that does not have the key is the same list without the key
     pub absent_kept : (xs : List X) → find is_it xs ≡ None → xs ≡ filter (λ y. not (is_it y)) xs
-    absent_kept xs absent = grind (arith, filter_all, find_none, is_it)
+    absent_kept xs absent = grind (arith, filter_all, find_none)
 
     -- a list in order stays in order with an element of the key at its place
     pub with_rises : (x : X) (xs : List X) → key x ≡ q → AllPairs Before xs → AllPairs Before (filter low xs ++ x ∷ filter high xs)
@@ -201,4 +220,4 @@ pub with_found : {X : Type 0} {before same : X → X → Bool} (order : IsOrder 
     → list_any (λ y. same y x) xs ≡ true → xs ≡ filter (λ y. before y x) xs ++ x ∷ filter (before x) xs
 with_found {before} {same} order x xs rise has = by_found (find (λ y. same y x) xs)
     (λ none. grind (arith, any_found))
-    (λ y found. grind (arith, found_parts order (λ z. z) x xs y rise found, order.same_eq y x, find_passes (λ z. same z x) xs y))
+    (λ y found. grind (arith, found_parts order (λ z. z) x xs y rise found, find_passes (λ z. same z x) xs y))

@@ -1,7 +1,6 @@
 -- A list that is made of another, element by element: what is searched, kept and counted in it.
 use Rattle.ksm_tree.proofs.Names.{[], All, All-head, All-map, All-tail, AllPairs, AllPairs-cons, arith, Bool, count_by, count_more, false, filter, filter-append, find, get_or, if◌then◌else◌, List, map, map-append, option_map, pairs_head, pairs_tail, refl, suc, ◌++◌, ◌∙◌, ◌∷◌, ◌≡◌}
 use Rattle.std.proofs.Common.{ap₂}
-use Rattle.std.proofs.lemmas.Iterator.Adapters.{option_map_id}
 use Rattle.std.proofs.lemmas.List.{map-id}
 
 -- two changes that agree at each element of a list make one list of it
@@ -46,7 +45,7 @@ pairs_mapped S R P g step (x ∷ xs) all rise =
 
 -- two tests that agree at each element of a list find the same element
 pub find_alike : {X : Type 0} (p q : X → Bool) (xs : List X) → All (λ x. p x ≡ q x) xs → find p xs ≡ find q xs
-find_alike p q xs same = grind (arith, find_mapped (λ x. x) p q xs same, map-id, option_map_id)
+find_alike p q xs same = grind (arith, find_mapped (λ x. x) p q xs same, map-id)
 
 -- two tests that agree at each element of a list count alike
 pub count_alike : {X : Type 0} (p q : X → Bool) (xs : List X) → All (λ x. p x ≡ q x) xs → count_by p xs ≡ count_by q xs

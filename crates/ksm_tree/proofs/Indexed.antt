@@ -1,5 +1,5 @@
 -- The index over dups: what it finds, and how it stays with a change of items and with a dup that goes.
-use Rattle.ksm_tree.proofs.Names.{[], All, All-filter, AllPairs-filter, AreIndexed, arith, Bool, bytes_eq, change_at, change_items, content_of, Dup, dup_at, dup_of, DupRow, dups_seen, DupsState, eqb-true, false, false≢true, filter, find, find_nothing, find_passes, get, Group, group_places, GuestPage, if◌then◌else◌, in_group, Index, InPlaceOrder, is_some, items_in, IsRegrouped, length, List, nat_tests, None, not, number_of, Option, option_map, pairs_head, pairs_tail, place_of, places_of, refl, row_place, rows_of, SlotsState, Some, stands_at, sym, Tells, true, without, without_place, ℕ, ◌&&◌, ◌<◌, ◌==◌, ◌∙◌, ◌∷◌, ◌≡◌, LeadTheSame, has_number, rules, find_none}
+use Rattle.ksm_tree.proofs.Names.{[], All, All-filter, AllPairs-filter, AreIndexed, arith, Bool, bytes_eq, change_at, change_items, content_of, Dup, dup_at, dup_of, DupRow, dups_seen, DupsState, eqb-true, false, false≢true, filter, find, find_nothing, find_passes, get, Group, group_places, GuestPage, if◌then◌else◌, in_group, Index, InPlaceOrder, is_some, items_in, IsRegrouped, length, List, None, not, number_of, Option, option_map, pairs_head, pairs_tail, place_of, places_of, refl, row_place, rows_of, SlotsState, Some, stands_at, sym, Tells, true, without, without_place, ℕ, ◌&&◌, ◌<◌, ◌==◌, ◌∙◌, ◌∷◌, ◌≡◌, LeadTheSame, has_number, rules, find_none}
 use Rattle.ksm_tree.proofs.Alike.{change_none, chosen, find_alike}
 use Rattle.ksm_tree.proofs.Grouped.{chains_kept, dups_kept, more_there, totals_moved, totals_tell}
 use Rattle.ksm_tree.proofs.Keys.{own_group, self_group}
@@ -17,7 +17,8 @@ placed_found q dups rise is = grind (arith, find_alike, one_dup, row_placed)
 
 -- where no place of a number is told, a change of the number's items changes no dup
 pub unplaced_changed : (q : ℕ) {dups : List Dup} → None ≡ option_map (λ d. d.row.place) (dup_of q dups) → (f : List GuestPage → List GuestPage) → dups ≡ change_items q f dups
-unplaced_changed q {dups} none f = grind (arith, change_none (has_number q) (λ d. record d { items = f d.items }) dups, find_none (has_number q) dups)
+unplaced_changed q {dups} none f =
+    grind (arith, change_none (has_number q) (λ d. record d { items = f d.items }) dups, find_none (has_number q) dups)
 
 module _ {s : SlotsState} {next : ℕ} {index : Index} (h : AreIndexed s next index) where
   -- the index gives for each number the place of its dup
@@ -29,7 +30,17 @@ module _ {s : SlotsState} {next : ℕ} {index : Index} (h : AreIndexed s next in
   stays_indexed p f ready =
       let same = rows_changed p f s.dups in
       let law = h.lawful in
-      record { few = h.few; counted = rw same h.counted; lawful = record { in_place_order = rw same law.in_place_order; places_below = rw same law.places_below; numbers_below = rw same law.numbers_below }; numbered = λ q. rw same (h.numbered q); grouped = λ t b. rw same (h.grouped t b) }
+      record {
+        few = h.few;
+        counted = rw same h.counted;
+        lawful = record {
+          in_place_order = rw same law.in_place_order;
+          places_below = rw same law.places_below;
+          numbers_below = rw same law.numbers_below;
+        };
+        numbered = λ q. rw same (h.numbered q);
+        grouped = λ t b. rw same (h.grouped t b);
+      }
 
 -- whether room for one more dup is taken tells nothing of the index
 pub room_indexed : {s t : SlotsState} {next : ℕ} {index : Index} → t ≡ record s { ready = t.ready } → AreIndexed s next index → AreIndexed t next index
@@ -52,7 +63,7 @@ module _ (q : ℕ) {p : ℕ} {s : SlotsState} {next : ℕ} {index : Index} {seen
 
   -- a dup stands at that place
   pub told_there : is_some (dup_at p s.dups) ≡ true
-  told_there = grind (arith, placed_found q s.dups h.lawful.in_place_order is_inside, is_inside)
+  told_there = grind (arith, placed_found q s.dups h.lawful.in_place_order is_inside)
 
   -- the items at that place are those of the number
   pub told_items : items_in (dup_at p s.dups) ≡ items_in (dup_of q seen.dups)
@@ -60,7 +71,11 @@ module _ (q : ℕ) {p : ℕ} {s : SlotsState} {next : ℕ} {index : Index} {seen
 
   -- a change of the items at that place is seen as a change of the number's items
   pub told_changed : (f : List GuestPage → List GuestPage) (ready : Bool) → dups_seen (record { places = s.places; dups = change_at p f s.dups; ready = ready }) next index ≡ record seen { dups = change_items q f seen.dups }
-  told_changed f ready = grind (arith, nat_tests, agree_changed (has_number q) (stands_at p) f s.dups (one_dup q _ h.lawful.in_place_order (row_placed q _ ∙ sym is_inside)))
+  told_changed f ready = grind (
+    arith,
+    agree_changed (has_number q) (stands_at p) f s.dups
+        (one_dup q _ h.lawful.in_place_order (row_placed q _ ∙ sym is_inside)),
+  )
 
 -- the group under the number of a tree and bytes is of these, and has the places of their dups
 module _ {s : SlotsState} {next : ℕ} {index : Index} (h : AreIndexed s next index) (tree : ℕ) (bytes : List ℕ) where
@@ -103,22 +118,25 @@ gone_indexed {s} {next} {index} {new} p d ready h found at numbers groups regrou
     let b = d.row.bytes in
     let law = h.lawful in
     let test = λ (r : DupRow). not (r.place == p) in
-    let rise = AllPairs-filter (λ a b. (a.place < b.place) × ((a.number == b.number) ≡ false)) test rows law.in_place_order in
+    let rise = AllPairs-filter (λ a b. (a.place < b.place) × ((a.number == b.number) ≡ false)) test rows
+    law.in_place_order in
     let at_p = row_at_place p s.dups found in
     let grouped : (t : ℕ) (b : List ℕ) → places_of t b new ≡ group_places t b (filter test rows) = λ t b.
-    let unlike = λ (outside : in_group t b d.row ≡ false). group_unlike p t b rows (not_in_group p t b s.dups law.in_place_order found outside) in
-    grind (arith, groups t b, own_group t b d.row, h.grouped t b, chosen (λ (r : DupRow). r.place) (in_group t b) (λ q. not (q == p)) rows) in
+    let unlike = λ (outside : in_group t b d.row ≡ false). group_unlike p t b rows
+    (not_in_group p t b s.dups law.in_place_order found outside) in
+    grind (arith, own_group t b d.row, chosen (λ (r : DupRow). r.place) (in_group t b) (λ q. not (q == p)) rows) in
     let more = more_there p rows d.row law.in_place_order at_p in
     let own = self_group d.row in
     record {
       few = h.few;
-      counted = rw left (totals_moved t b law.in_place_order rise (sym (dups_kept t b more own)) (sym (chains_kept t b more own)) (grind (arith, h.grouped t b, grouped t b)) h.counted);
+      counted = rw left (totals_moved t b law.in_place_order rise (sym (dups_kept t b more own))
+          (sym (chains_kept t b more own)) (grind arith) h.counted);
       lawful = record {
         in_place_order = rw left rise;
         places_below = rw left (All-filter test (λ r. r.place < s.places) rows law.places_below);
         numbers_below = rw left (All-filter test (λ r. r.number < next) rows law.numbers_below);
       };
-      numbered = λ q. grind (arith, numbers q, h.numbered q, place_gone p q rows law.in_place_order at_p);
+      numbered = λ q. grind (arith, place_gone p q rows law.in_place_order at_p);
       grouped = λ t b. rw left (grouped t b);
     }
 
@@ -129,7 +147,8 @@ found_stands dups found = search (eqb-true, find_passes)
 -- the dup found at a place is the one that has its number
 pub stands_numbered : (p q : ℕ) (dups : List Dup) (d : Dup) → InPlaceOrder (rows_of dups) → dup_at p dups ≡ Some d → d.row.number ≡ q → Some p ≡ option_map (λ d. d.row.place) (dup_of q dups)
 stands_numbered p q dups d rise found is =
-    let one = all_rows (λ r. (r.place == p) ≡ (r.number == q)) dups (λ k e lt. grind (arith, only_one p _ _ rise (row_at_place p _ found) k e lt)) in
+    let one = all_rows (λ r. (r.place == p) ≡ (r.number == q)) dups
+    (λ k e lt. grind (arith, only_one p _ _ rise (row_at_place p _ found) k e lt)) in
     grind (arith, found_stands dups found, find_alike (stands_at p) (has_number q) dups one)
 
 -- where nothing stands, nothing that passes a test stands
@@ -146,4 +165,9 @@ passing test (Some d) = if test d then Some d else None
 pub found_passing : (p : ℕ) (test : Dup → Bool) (dups : List Dup) → InPlaceOrder (rows_of dups) → find (λ d. stands_at p d && test d) dups ≡ passing test (dup_at p dups)
 found_passing p test [] rise = refl
 found_passing p test (d ∷ dups) rise =
-    grind (arith, nat_tests, find_nothing (λ e. stands_at p e && test e) dups, all_rows (λ r. d.row.place < r.place) dups (λ k e lt. (pairs_head Lower d.row (rows_of dups) rise k e lt).0), found_passing p test dups (pairs_tail Lower d.row (rows_of dups) rise))
+    grind (
+      arith,
+      find_nothing (λ e. stands_at p e && test e) dups,
+      all_rows (λ r. d.row.place < r.place) dups (λ k e lt. (pairs_head Lower d.row (rows_of dups) rise k e lt).0),
+      found_passing p test dups (pairs_tail Lower d.row (rows_of dups) rise),
+    )

@@ -1,8 +1,8 @@
 -- The index once a new dup has taken its place.
-use Rattle.ksm_tree.proofs.Names.{All, AllPairs-filter, ap, AreIndexed, AreTotals, arith, Bool, bytes_eq, cases_Bool, Dup, dup_at, DupRow, dups_seen, DupsState, false, filter, filter_all, find_all, find_none, find_nothing, group_places, if◌then◌else◌, in_group, Index, inl, InPlaceOrder, inr, IsCounted, IsCountedAnew, IsEntered, IsRegrouped, length, List, nat_tests, ne_eqb, None, not, place_of, places_of, row_place, rows_of, SameWaits, SlotsState, Some, subst, sym, true, with_dup, with_new, without, ℕ, ◌&&◌, ◌+◌, ◌<◌, ◌==◌, ◌≡◌}
+use Rattle.ksm_tree.proofs.Names.{All, AllPairs-filter, ap, AreIndexed, AreTotals, arith, Bool, bytes_eq, cases_Bool, Dup, dup_at, DupRow, dups_seen, DupsState, false, filter, filter_all, find_all, find_none, find_nothing, group_places, if◌then◌else◌, in_group, Index, inl, InPlaceOrder, inr, IsCounted, IsCountedAnew, IsEntered, IsRegrouped, length, List, nat_tests, None, not, place_of, places_of, row_place, rows_of, SameWaits, SlotsState, Some, subst, sym, true, with_dup, with_new, without, ℕ, ◌&&◌, ◌+◌, ◌<◌, ◌==◌, ◌≡◌}
 use Rattle.ksm_tree.proofs.Changes.{rows_new}
 use Rattle.ksm_tree.proofs.Grouped.{IsMore, chains_kept, dups_kept, more_with, more_there, places_size, totals_apart, totals_between, totals_few, totals_moved, totals_same}
-use Rattle.ksm_tree.proofs.Keys.{own_bytes, own_group, own_tree, self_group}
+use Rattle.ksm_tree.proofs.Keys.{own_bytes, own_group, self_group}
 use Rattle.ksm_tree.proofs.Indexed.{row_at_place, not_in_group, found_stands, told}
 use Rattle.ksm_base.proofs.Orders.{all_with_dup, dups_with}
 use Rattle.ksm_tree.proofs.Rows.{place_new, place_kept, place_gone, group_joined, group_passed, group_unlike}
@@ -36,7 +36,7 @@ module _ {s : SlotsState} {next : ℕ} {index : Index} (new : Index) (dup : Dup)
           in_place_order = rw is new_rise;
           places_below = rw is (all_with_dup (λ r. r.place < s.places) _ _ within h.lawful.places_below);
           numbers_below = rw is (all_with_dup (λ r. r.number < next + 1) dup.row rows (omega arith)
-              (λ k d lt. omega (arith, h.lawful.numbers_below k d lt)));
+              (λ k d lt. omega arith));
         };
         numbered = λ q. rw is (numbered q);
         grouped = λ t b. rw is (grouped t b);
@@ -50,15 +50,15 @@ module _ {s : SlotsState} {next : ℕ} {index : Index} (new : Index) (dup : Dup)
       let apart = find_none (λ r. r.place == p) rows (row_at_place p s.dups (sym none)) in
       let kept : filter (λ r. not (r.place == p)) rows ≡ rows = filter_all _ rows (λ k d lt. ap not (apart k d lt)) in
       let grouped : (t : ℕ) (b : List ℕ) → places_of t b new ≡ group_places t b all = λ t b.
-      let unlike = group_unlike p t b rows (λ k d lt. grind (arith, apart k d lt)) in
-      grind (arith, entered.groups t b, own_group t b dup.row, h.grouped t b, group_joined t b dup.row rows, group_passed t b dup.row rows rise) in
+      let unlike = group_unlike p t b rows (λ k d lt. grind arith) in
+      grind (arith, own_group t b dup.row, group_joined t b dup.row rows, group_passed t b dup.row rows rise) in
       let t = dup.row.tree in
       let b = dup.row.bytes in
       let more = subst (λ l. IsMore dup.row l all) kept (more_with rows rise) in
       let own = self_group dup.row in
       made ready (totals_moved t b rise new_rise (dups_kept t b more own) (chains_kept t b more own)
-      (grind (arith, h.grouped t b, grouped t b)) h.counted)
-      (λ q. grind (arith, nat_tests, entered.numbers q, h.numbered q, place_new dup.row rows fresh, place_kept q dup.row rows rise)) grouped
+      (grind arith) h.counted)
+      (λ q. grind (arith, place_new dup.row rows fresh, place_kept q dup.row rows rise)) grouped
 
   -- the rows as they were, those that stay, and those that are there then
   record Swapped (old : Dup) : Type 0 where
@@ -91,7 +91,7 @@ module _ {s : SlotsState} {next : ℕ} {index : Index} (new : Index) (dup : Dup)
       let b = old.row.bytes in
       let swap = swapped found in
       let size : length (places_of t b mid) ≡ length (places_of t b index) =
-      grind (arith, h.grouped t b, places_size t b, self_group old.row, joined_in entered t b, entered.groups t b, own_group t b r) in
+      grind (arith, places_size t b, self_group old.row, joined_in entered t b, own_group t b r) in
       let few = totals_few s.places h.few h.lawful.places_below rise h.counted in
       rw size (totals_between swap.there swap.here rise swap.less_rise new_rise
       (rw (← h.grouped r.tree r.bytes, ← joined_own entered) entered.totals) _ few.0 few.1 (told h _ _))
@@ -112,7 +112,13 @@ module _ {s : SlotsState} {next : ℕ} {index : Index} (new : Index) (dup : Dup)
       let grouped : (t : ℕ) (b : List ℕ) → places_of t b new ≡ group_places t b all = λ t b.
       let outside = λ (out : in_group t b old.row ≡ false). group_unlike p t b rows
       (not_in_group p t b s.dups rise (sym found) out) in
-      grind (arith, left_groups t b, entered.groups t b, own_group t b dup.row, own_group t b old.row, h.grouped t b, group_joined t b dup.row rows, group_passed t b dup.row rows rise) in
+      grind (
+        arith,
+        own_group t b dup.row,
+        own_group t b old.row,
+        group_joined t b dup.row rows,
+        group_passed t b dup.row rows rise,
+      ) in
       let swap = swapped found in
       let r = dup.row in
       let o = old.row in
@@ -122,13 +128,20 @@ module _ {s : SlotsState} {next : ℕ} {index : Index} (new : Index) (dup : Dup)
         | inl same ↦
             let second : IsRegrouped (length (places_of r.tree r.bytes mid)) (length (group_places r.tree r.bytes all))
             mid.groups.totals new.groups.totals =
-            grind (arith, grouped r.tree r.bytes, own_tree r.bytes o same, own_bytes r.tree o same) in
+            grind (arith, own_bytes r.tree o same) in
             totals_same swap.there swap.here rise swap.less_rise new_rise same first second h.counted
-        | inr other ↦ totals_apart swap.there swap.here rise swap.less_rise new_rise mid.groups.totals other (rw (← joined_own entered) first)
-            (grind (arith, entered.groups o.tree o.bytes, h.grouped o.tree o.bytes, grouped o.tree o.bytes)) h.counted
+        | inr other ↦ totals_apart swap.there swap.here rise swap.less_rise new_rise mid.groups.totals other
+            (rw (← joined_own entered) first)
+            (grind arith) h.counted
       ] in
       made ready counted
-      (λ q. grind (arith, nat_tests, left_numbers q, entered.numbers q, h.numbered q, place_gone p q rows rise row_found, place_new dup.row rows fresh, place_kept q dup.row rows rise)) grouped
+      (λ q. grind (
+        arith,
+        nat_tests,
+        place_gone p q rows rise row_found,
+        place_new dup.row rows fresh,
+        place_kept q dup.row rows rise,
+      )) grouped
 
 -- once a dup is made, callers see that dup among the others, and the next number one higher
 pub seen_made : (s : SlotsState) (next : ℕ) (index new : Index) (dup : ℕ → Dup) (ready : Bool) {old : DupsState} → dups_seen s next index ≡ old → SameWaits index.groups new.groups
@@ -137,4 +150,4 @@ seen_made s next index new dup ready view same = grind arith
 
 -- the next number is that of no dup
 pub next_unused : {s : SlotsState} {next : ℕ} {index : Index} → AreIndexed s next index → place_of next index ≡ None
-next_unused {s} {next} h = grind (arith, find_nothing, ne_eqb)
+next_unused {s} {next} h = grind (arith, find_nothing)

@@ -1,37 +1,29 @@
 -- What the words of a set, and their summary, say of its numbers.
-use Rattle.ksm_tree.proofs.Names.{AreSummed, arith, Bool, bit_at, bit_at-zero, bit_at_clear_other, bit_at_clear_same, bit_at_ones, bit_at_set_other, bit_at_set_same, bit_and, bit_or, false, get_or, get_or-set_other, get_or-set_same, get_or_past, get_or-replicate, has, HasNoBit, HasNone, IsLeast, IsLowestBit, IsSummed, length, length-set, List, Marks, MatchOption, nat_tests, not, Option, replicate, set, shr-shr, true, w64, ℕ, ◌%◌, ◌*◌, ◌+◌, ◌-◌, ◌/◌, ◌<◌, ◌==◌, ◌^◌, ◌≡◌, ◌≢◌, ◌≤◌}
+use Rattle.ksm_tree.proofs.Names.{AreSummed, arith, Bool, bit_at, bit_at_clear_other, bit_at_clear_same, bit_at_ones, bit_at_set_other, bit_at_set_same, bit_and, bit_or, false, get_or, get_or-set_other, get_or-set_same, get_or_past, get_or-replicate, has, HasNoBit, HasNone, IsLeast, IsLowestBit, IsSummed, length, length-set, List, Marks, MatchOption, nat_tests, not, Option, replicate, set, shr-shr, true, w64, ℕ, ◌%◌, ◌*◌, ◌+◌, ◌-◌, ◌/◌, ◌<◌, ◌==◌, ◌^◌, ◌≡◌, ◌≢◌, ◌≤◌}
 use Rattle.std.proofs.lemmas.List.{length-replicate}
 
 module _ (words : List ℕ) where
-  -- none of the numbers of words that are 0 is in the set
-  none_in_zeros : (low high : ℕ) → ((w : ℕ) → low ≤ w → w < high → get_or words w 0 ≡ 0) → HasNone words (low * 64) (high * 64)
-  none_in_zeros low high zeros n from below = grind (arith, nat_tests)
-
   -- what the words behind one answer holds from a number of that word on, where the word has no bit from there on
   pub further : (from : ℕ) {w : ℕ} → w ≡ from / 64 → HasNoBit (get_or words w 0) (from % 64) → (found : Option ℕ)
       → MatchOption found (HasNone words ((w + 1) * 64) (64 * length words)) (IsLeast words ((w + 1) * 64) (64 * length words))
       → MatchOption found (HasNone words from (64 * length words)) (IsLeast words from (64 * length words))
-  further from at none found h = grind (arith, nat_tests)
+  further from at none found h = grind arith
 
   module _ {upper : List ℕ} (h : IsSummed words upper) where
-    -- a word whose number is not in the upper set is 0
-    word_clear : (w : ℕ) → w < 64 * length upper → has upper w ≡ false → get_or words w 0 ≡ 0
-    word_clear w low clear = grind (arith, nat_tests)
-
     -- a word whose number is in the upper set is not 0, and stands among the words
     word_set : (w : ℕ) → w < 64 * length upper → has upper w ≡ true → get_or words w 0 ≢ 0
-    word_set w low one zero = grind (arith, nat_tests)
+    word_set w low one zero = grind arith
 
     word_within : (w : ℕ) → get_or words w 0 ≢ 0 → w < length words
     word_within w some = grind (arith, get_or_past)
 
     -- the least number of the upper set behind a word's is that of the word of the least number behind that word
     pub found_behind : (at : ℕ) {next bit : ℕ} → IsLeast upper (at + 1) (64 * length upper) next → IsLowestBit (get_or words next 0) 0 bit → IsLeast words ((at + 1) * 64) (64 * length words) (next * 64 + bit)
-    found_behind at {next} {bit} named found = grind (arith, none_in_zeros, word_clear, word_within, word_set)
+    found_behind at {next} {bit} named found = grind (arith, word_within)
 
     -- the least number of the upper set from one on is that of a word that is there
     pub within_named : {low next : ℕ} → IsLeast upper low (64 * length upper) next → next < length words
-    within_named named = grind (arith, word_within, word_set)
+    within_named named = grind (arith, word_within)
 
     -- the upper set is right once a word is put, if it says of that whether it is 0, and of the others what it did
     pub summed_put : {w : ℕ} (word : ℕ) {upper' : List ℕ} {there : Bool} → w < length words → there ≡ not (word == 0) → Marks upper upper' w there → IsSummed (set words w word) upper'
@@ -48,19 +40,19 @@ module _ {most : ℕ} {words upper : List ℕ} (h : AreSummed most words upper) 
 
   -- they stay right where a word is put that is not 0, as the word before it
   pub stay_some : (w word : ℕ) → w < length words → word ≢ 0 → get_or words w 0 ≢ 0 → AreSummed most (set words w word) upper
-  stay_some w word within some before = grind (arith, nat_tests, length-set, get_or-set_same, get_or-set_other)
+  stay_some w word within some before = grind (arith, length-set, get_or-set_same, get_or-set_other)
 
 -- words with all bits have all numbers for which there is room
 pub all_there : (k n : ℕ) → n < 64 * k → has (replicate k 18446744073709551615) n ≡ true
-all_there k n low = grind (arith, nat_tests, get_or-replicate, bit_at_ones 64)
+all_there k n low = grind (arith, get_or-replicate, bit_at_ones 64)
 
 -- words that are 0 have no number
 pub none_there : (k n : ℕ) → has (replicate k 0) n ≡ false
-none_there k n = grind (arith, nat_tests, get_or-replicate, get_or_past, length-replicate, bit_at-zero)
+none_there k n = grind (arith, get_or-replicate, get_or_past, length-replicate)
 
 -- a word that has a number's bit as it is to be, and keeps its other bits, marks that number
 marks_put : {words : List ℕ} {number : ℕ} (word bit : ℕ) → number < 64 * length words → bit_at word (number % 64) ≡ bit → ((i : ℕ) → i < 64 → i ≢ number % 64 → bit_at word i ≡ bit_at (get_or words (number / 64) 0) i) → Marks words (set words (number / 64) word) number (bit == 1)
-marks_put word bit room here others = grind (arith, nat_tests, length-set, get_or-set_same, get_or-set_other)
+marks_put word bit room here others = grind (arith, length-set, get_or-set_same, get_or-set_other)
 
 module _ (words : List ℕ) (number : ℕ) (room : number < 64 * length words) where
   -- a number's bit that is set marks it as there

@@ -1,9 +1,13 @@
 -- What one content more, and one less, makes of the numbers.
-use Rattle.ksm_tree.proofs.Names.{arith, nat_tests, ap, AreNumbered, BTreeMap, Content, content_order, Equal-is, exact_bytes, exact_pairs, exact_unsigned, is_at, is_some, None, number_of, Numbers, Option, Some, sym, true, true≢false, Updates, ℕ, ◌∙◌, ◌≡◌, ◌≢◌}
+use Rattle.ksm_tree.proofs.Names.{arith, ap, AreNumbered, BTreeMap, Content, content_order, Equal-is, exact_bytes, exact_pairs, exact_unsigned, is_at, is_some, None, number_of, Numbers, Option, Some, sym, true, true≢false, Updates, ℕ, ◌∙◌, ◌≡◌, ◌≢◌}
 
 -- contents that the order does not tell apart are one
 pub same_content : {p q : Content} → is_at (content_order p) q ≡ true → p ≡ q
-same_content {p} {q} same = grind (arith, exact_pairs _ _ exact_unsigned exact_bytes (p.tree, p.bytes) (q.tree, q.bytes) ((Equal-is (content_order p q)).0 same))
+same_content {p} {q} same = grind (
+  arith,
+  exact_pairs _ _ exact_unsigned exact_bytes (p.tree, p.bytes)
+      (q.tree, q.bytes) ((Equal-is (content_order p q)).0 same),
+)
 
 -- a slot is not both empty and full
 pub full : {X : Type 0} (x : X) (slot : Option X) → slot ≡ None → slot ≡ Some x → ⊥
@@ -23,10 +27,10 @@ module _ (old new : BTreeMap Content ℕ) (kept later : ℕ → Option Content) 
   pub entered : {key : ℕ} → its_number k old.entries ≡ None → kept key ≡ None → Updates content_order old new k (Some key) → Stands kept later key (Some k) → AreNumbered new.entries later
   entered {key} none vacant updates fills q n =
       let same : is_at (content_order k) q ≡ true → k ≡ q = same_content in
-      grind (arith, updates.0 q, fills.others n, are q n)
+      grind arith
 
   -- the numbers are right once a content lost its number, and nothing stands under that
   pub forgotten : {number : ℕ} → kept number ≡ Some k → Updates content_order old new k None → Stands kept later number None → AreNumbered new.entries later
   forgotten {number} stood updates fills q n =
       let same : is_at (content_order k) q ≡ true → k ≡ q = same_content in
-      grind (arith, nat_tests, updates.0 q, fills.others n, are q n, are k number)
+      grind arith

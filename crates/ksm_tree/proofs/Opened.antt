@@ -1,5 +1,5 @@
 -- Slots that are all empty.
-use Rattle.ksm_tree.proofs.Names.{[], ArePlaced, AreSlots, arith, Bool, cond, count_by, count_in, count_more, CountedSet, Dup, false, get_or-replicate, has, IsSetOf, length, List, map, MOST_FRAMES, None, Option, present, refl, replicate, ShelfState, slots_seen, suc, suc-mul, sym, true, zero, zero-mul, ℕ, ◌*◌, ◌<◌, ◌∙◌, ◌≡◌, ◌≤◌}
+use Rattle.ksm_tree.proofs.Names.{[], ArePlaced, AreSlots, arith, Bool, cond, count_by, count_in, count_more, CountedSet, Dup, false, get_or-replicate, has, IsSetOf, length, List, map, MOST_FRAMES, None, Option, present, refl, replicate, ShelfState, slots_seen, suc, sym, true, zero, zero-mul, ℕ, ◌*◌, ◌<◌, ◌∙◌, ◌≡◌, ◌≤◌}
 use Rattle.std.proofs.lemmas.List.{length-replicate}
 
 -- a list of n empty slots
@@ -17,7 +17,7 @@ none_placed k (suc n) = none_placed _ n
 
 none_passes : (test : Option Dup → Bool) (n : ℕ) → count_by test (none_of n) ≡ n * cond (test None) 1 0
 none_passes test zero = sym (zero-mul (cond (test None) 1 0))
-none_passes test (suc n) = grind (arith, none_passes test n, count_more, suc-mul)
+none_passes test (suc n) = grind (arith, none_passes test n, count_more)
 
 -- a set that has all of so many places, or none, is that of the empty slots that pass a test
 none_set : {test : Option Dup → Bool} (n : ℕ) {places : CountedSet} → n ≤ 64 * length places.set → ((p : ℕ) → p < n → has places.set p ≡ test None) → places.count ≡ n * cond (test None) 1 0 → IsSetOf test (none_of n) places

@@ -6,10 +6,6 @@ use Rattle.ksm_tree.proofs.Names.{[], All, ap, AreCounted, AreTied, arith, Bool,
 abbrev pub page_of : Row → GuestPage
 page_of r = r.page
 
--- the pages of the rows that pass a test
-abbrev pub pages_that : (Row → Bool) → List Row → List GuestPage
-pages_that test rows = map page_of (filter test rows)
-
 module _ (page : GuestPage) where
   -- a row whose page comes before the page
   abbrev pub ahead : Row → Bool
@@ -25,7 +21,16 @@ module _ (page : GuestPage) where
     where
       go : (o : Option Row) → row_at page rows ≡ o → change_row page (λ _. new) rows ≡ filter ahead rows ++ new ∷ filter behind rows
       go None none = grind arith
-      go (Some r) found = grind (arith, map-append, found_parts pages_ordered page_of page rows r rise found, find_passes (λ s. same_page s.page page) rows r found, change_none (λ s. same_page s.page page) (λ _. new) (filter ahead rows) (none_same_low pages_ordered page_of _ (filter ahead rows) (filter_passes ahead rows)), change_none (λ s. same_page s.page page) (λ _. new) (filter behind rows) (none_same pages_ordered page_of page (filter behind rows) (filter_passes behind rows)))
+      go (Some r) found = grind (
+        arith,
+        map-append,
+        found_parts pages_ordered page_of page rows r rise,
+        find_passes (λ s. same_page s.page page) rows,
+        change_none (λ s. same_page s.page page) (λ _. new) (filter ahead rows)
+            (none_same_low pages_ordered page_of _ _ (filter_passes ahead rows)),
+        change_none (λ s. same_page s.page page) (λ _. new) (filter behind rows)
+            (none_same pages_ordered page_of page _ (filter_passes behind rows)),
+      )
 
   -- in the order of pages, the rows of pages other than one are those ahead of that page, then those behind
   pub without_splits : (rows : List Row) → InPageOrder rows → without_page page rows ≡ filter ahead rows ++ filter behind rows
@@ -35,7 +40,8 @@ module _ (page : GuestPage) where
       go None none = sym (absent_kept pages_ordered _ page _ none) ∙ absent_parts pages_ordered _ page _ rise none
       go (Some r) found =
           ap (without_page page) (found_parts pages_ordered page_of page rows r rise found)
-          ∙ without_between pages_ordered page_of page _ (r ∷ []) _ (filter_passes ahead rows) (filter_passes behind rows)
+          ∙ without_between pages_ordered page_of page _ (r ∷ []) _ (filter_passes ahead rows)
+          (filter_passes behind rows)
           ∙ rw (find_passes _ rows r found) refl
 
 module _ (rows : List Row) (d : DupRow) (rise : InPageOrder rows) (page : GuestPage) where
@@ -52,7 +58,8 @@ module _ (rows : List Row) (d : DupRow) (rise : InPageOrder rows) (page : GuestP
 
   -- the items of a dup are without the page once the page's row is not merged into it
   pub items_left : (new : Row) → is_some (row_at page rows) ≡ true → merged new ≡ false → items_of (change_row page (λ _. new) rows) d ≡ without_item page (items_of rows d)
-  items_left new there fails = grind (arith, change_splits page new rows rise there, kept_append, without_splits page rows rise, items_dropped)
+  items_left new there fails =
+      grind (arith, change_splits page new rows rise there, kept_append, without_splits page rows rise, items_dropped)
 
 -- the items of a dup stay where each row changes but for its page and its dup
 pub items_kept : (rows : List Row) (d : DupRow) (f : Row → Row) → All (λ r. ((f r).page ≡ r.page) × (merged_into d.number (f r).state ≡ merged_into d.number r.state)) rows → items_of (map f rows) d ≡ items_of rows d
@@ -61,4 +68,4 @@ items_kept (r ∷ rows) d f same = grind (arith, same 0 r, items_kept rows d f (
 
 -- where each dup's items are the pages of the rows merged into the dup, there are as many items as such rows
 pub tied_counted : (rows : List Row) (dups : List Dup) → AreTied rows dups → AreCounted rows dups
-tied_counted rows dups tied k d lt = grind (arith, tied k d lt, length-map, length-filter)
+tied_counted rows dups tied k d lt = grind (arith, length-map, length-filter)

@@ -1,5 +1,5 @@
 -- The items of each dup stay the pages of the rows merged into it: the dups after a change of one row, and after a change of all.
-use Rattle.ksm_tree.proofs.Names.{[], absent_kept, All, All-append, All-cons, All-filter, All-map, ap, AreTied, arith, change_items, change_row, Dup, dup_of, DupRow, each_at_page, eqb-true, false, filter_all, filter_none, find_all, find_none, find_passes, GuestPage, has_item, InPageOrder, is_some, item_count, items_in, items_of, length, let_out, List, map, Merged, merged_into, merged_state, nat_tests, None, none_found, not, not_an_item, Option, ordered_map, pages_ordered, PageState, Private, refl, Row, row_at, rows_of, same_page, Some, sym, true, Waiting, with_item, with_new, with_row, without_item, without_page, without_place, Zero, ℕ, if◌then◌else◌, ◌<◌, ◌==◌, ◌∷◌, ◌≡◌, suc}
+use Rattle.ksm_tree.proofs.Names.{[], absent_kept, All, All-append, All-cons, All-filter, All-map, ap, AreTied, arith, change_items, change_row, Dup, dup_of, DupRow, each_at_page, eqb-true, false, filter_all, filter_none, find_all, find_none, find_passes, GuestPage, has_item, InPageOrder, is_some, item_count, items_in, items_of, length, let_out, List, map, Merged, merged_into, merged_state, None, none_found, not, Option, ordered_map, pages_ordered, PageState, Private, refl, Row, row_at, rows_of, same_page, Some, sym, true, Waiting, with_item, with_new, with_row, without_item, without_page, without_place, Zero, ℕ, if◌then◌else◌, ◌<◌, ◌==◌, ◌∷◌, ◌≡◌, suc}
 use Rattle.ksm_tree.specs.Dups.{items_of as items_numbered}
 use Rattle.ksm_tree.proofs.Alike.{kept_append}
 use Rattle.ksm_tree.proofs.Changes.{all_rows}
@@ -11,7 +11,7 @@ IsTied rows d = d.items ≡ items_of rows d.row
 -- a page whose rows are no items of a dup is no item of it
 no_item : (page : GuestPage) (d : DupRow) (rows : List Row) → All (λ r. same_page r.page page ≡ true → merged_into d.number r.state ≡ false) rows → has_item page (items_of rows d) ≡ false
 no_item page d [] none = refl
-no_item page d (r ∷ rows) none = grind (arith, nat_tests, none 0 r, no_item page d rows (λ k e lt. none (suc k) e (omega arith)))
+no_item page d (r ∷ rows) none = grind (arith, none 0 r, no_item page d rows (λ k e lt. none (suc k) e (omega arith)))
 
 module _ (rows : List Row) (page : GuestPage) (old : Row) (rise : InPageOrder rows) (found : row_at page rows ≡ Some old) where
   -- a page is an item of no dup but that of its row
@@ -23,10 +23,10 @@ module _ (rows : List Row) (page : GuestPage) (old : Row) (rise : InPageOrder ro
 
   -- where the page is no item any more
   out_of : (state : PageState) → old.state ≡ state → (new : List Row) (dups : List Dup) → ((d : DupRow) → items_of new d ≡ without_item page (items_of rows d)) → AreTied rows dups → AreTied new (let_out state page dups)
-  out_of (Merged n) is new dups less tied = All-map (IsTied new) _ dups (λ k e lt. grind (arith, tied k e lt, unlike))
-  out_of Private is new dups less tied = λ k d lt. grind (arith, tied k d lt, unlike)
-  out_of Waiting is new dups less tied = λ k d lt. grind (arith, tied k d lt, unlike)
-  out_of Zero is new dups less tied = λ k d lt. grind (arith, tied k d lt, unlike)
+  out_of (Merged n) is new dups less tied = All-map (IsTied new) _ dups (λ k e lt. grind (arith, unlike))
+  out_of Private is new dups less tied = λ k d lt. grind (arith, unlike)
+  out_of Waiting is new dups less tied = λ k d lt. grind (arith, unlike)
+  out_of Zero is new dups less tied = λ k d lt. grind (arith, unlike)
 
   -- rows and dups stay tied where a row goes and its page leaves its dup
   pub tied_dropped : (dups : List Dup) → AreTied rows dups → AreTied (without_page page rows) (let_out old.state page dups)
@@ -34,16 +34,18 @@ module _ (rows : List Row) (page : GuestPage) (old : Row) (rise : InPageOrder ro
 
   -- rows and dups stay tied where a row becomes one that is not merged and its page leaves its dup
   pub tied_left : (row : Row) (dups : List Dup) → merged_state row.state ≡ false → AreTied rows dups → AreTied (change_row page (λ _. row) rows) (let_out old.state page dups)
-  tied_left row dups alone tied = out_of _ refl (change_row page (λ _. row) rows) _ (λ d. grind (arith, items_left rows d rise page row, not_an_item)) tied
+  tied_left row dups alone tied =
+      out_of _ refl (change_row page (λ _. row) rows) _ (λ d. grind (arith, items_left rows d rise page row)) tied
 
   -- rows and dups stay tied where a row that was not merged is merged, and its page becomes an item
   pub tied_joined : (row : Row) (number : ℕ) (dups : List Dup) → merged_state old.state ≡ false → row.page ≡ page → row.state ≡ Merged number → AreTied rows dups → AreTied (change_row page (λ _. row) rows) (change_items number (with_item page) dups)
-  tied_joined row number dups alone at is tied = All-map (IsTied (change_row page (λ _. row) rows)) _ dups (λ k e lt. grind (arith, nat_tests, tied k e lt, not_an_item, unlike, items_joined, items_left))
+  tied_joined row number dups alone at is tied = All-map (IsTied (change_row page (λ _. row) rows)) _ dups
+      (λ k e lt. grind (arith, unlike, items_joined, items_left))
 
   -- a page whose row is not merged is an item of none
   absent_in : (number : ℕ) (dups : List Dup) (o : Option Dup) → merged_state old.state ≡ false → AreTied rows dups → dup_of number dups ≡ o → has_item page (items_in o) ≡ false
   absent_in number dups None alone tied is = refl
-  absent_in number dups (Some d) alone tied is = grind (arith, find_all _ (IsTied rows) _ d is tied, not_item, not_an_item)
+  absent_in number dups (Some d) alone tied is = grind (arith, find_all _ (IsTied rows) _ d is tied, not_item)
 
   -- a page whose row is not merged is an item of no dup
   pub tied_absent : (number : ℕ) (dups : List Dup) → merged_state old.state ≡ false → AreTied rows dups → has_item page (items_numbered number dups) ≡ false
@@ -83,32 +85,43 @@ module _ (rows : List Row) (first second : Row) (row : DupRow) (rise : InPageOrd
   whole = change_row second.page (λ _. second_in) half
 
   keeps_page : (r : Row) → (if same_page r.page first.page then first_in else r).page ≡ r.page
-  keeps_page r = grind (arith, nat_tests)
+  keeps_page r = grind arith
 
   half_rises : InPageOrder half
   half_rises = ordered_map _ _ keeps_page rise
 
   there : is_some (row_at second.page half) ≡ true
-  there = grind (arith, row_stays, keeps_page)
+  there = grind (arith, row_stays)
 
   -- the items of another dup
   others : (d : DupRow) → (row.number == d.number) ≡ false → items_of whole d ≡ items_of rows d
-  others d fails = grind (arith, items_left rows d rise first.page first_in, items_left half d half_rises second.page second_in there, unlike rows first.page first rise found d, unlike rows second.page second rise also d, not_an_item)
+  others d fails = grind (
+    arith,
+    items_left rows d rise first.page first_in,
+    items_left half d half_rises second.page second_in there,
+    unlike rows first.page first rise found d,
+    unlike rows second.page second rise also d,
+  )
 
   -- the items of the new dup are the two pages
   both_in : items_of whole row ≡ with_item second.page (first.page ∷ [])
-  both_in = grind (arith, nat_tests, filter_none (λ r. merged_into row.number r.state) rows none, items_joined half row half_rises second.page second_in refl there, items_joined rows row rise first.page first_in refl)
+  both_in = grind (
+    arith,
+    filter_none (λ r. merged_into row.number r.state) rows none,
+    items_joined half row half_rises second.page second_in refl there,
+    items_joined rows row rise first.page first_in refl,
+  )
 
   -- rows and dups stay tied where two pages make a dup whose number is above all others
   pub tied_made : (dups : List Dup) → All (λ r. r.number < row.number) (rows_of dups) → AreTied rows dups → AreTied whole (with_new (record { row = row; items = with_item second.page (first.page ∷ []) }) dups)
   tied_made dups fresh tied = all_with_new (IsTied whole) _ dups
-      (λ k e lt. grind (arith, nat_tests, tied k e lt, others, all_rows (λ r. r.number < row.number) dups fresh k e lt)) (sym both_in)
+      (λ k e lt. grind (arith, others, all_rows (λ r. r.number < row.number) dups fresh k e lt)) (sym both_in)
 
 -- rows and dups stay tied where a row that is not merged comes
 pub tied_inserted : (rows : List Row) (row : Row) (dups : List Dup) → InPageOrder rows → row_at row.page rows ≡ None → merged_state row.state ≡ false → AreTied rows dups → AreTied (with_row row rows) dups
 tied_inserted rows row dups rise absent alone tied k d lt =
     let same : without_page row.page rows ≡ rows = filter_all _ _ (λ k e lt. ap not (find_none _ _ absent k e lt)) in
-    grind (arith, tied k d lt, not_an_item, kept_append, without_splits row.page rows rise)
+    grind (arith, kept_append, without_splits row.page rows rise)
 
 -- rows and dups stay tied where each row changes but for its page and its dup
 pub tied_mapped : (f : Row → Row) (rows : List Row) (dups : List Dup) → All (λ r. ((f r).page ≡ r.page) × ((number : ℕ) → merged_into number (f r).state ≡ merged_into number r.state)) rows → AreTied rows dups → AreTied (map f rows) dups

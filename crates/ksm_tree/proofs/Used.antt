@@ -26,7 +26,7 @@ one_more old new tree bytes key none was long updates = (
   grind arith,
   λ t b has apart. elim (cases_Bool (is_at (content_order (content_of tree bytes)) (content_of t b))) [
     | inl here ↦ grind (arith, are_one t _ b _ (sym (same_content here)))
-    | inr other ↦ grind (arith, updates.2 (content_of t b) other)
+    | inr other ↦ grind arith
   ],
 )
 

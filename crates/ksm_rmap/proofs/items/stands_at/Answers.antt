@@ -1,5 +1,4 @@
 use Rattle.std.proofs.Common.{arith, refl, ◌∙◌, sym}
-use Rattle.std.proofs.lemmas.Bool.{le-ltb}
 use Rattle.ksm_rmap.proofs.Ordered.{absent_past, any_found, found_by}
 use Rattle.ksm_rmap.proofs.Pages.{pages_ordered}
 use Rattle.ksm_rmap.proofs.items.stands_at.Goals as goal
@@ -11,4 +10,9 @@ returns-then-at-pages-clause-found c =
 
 pub returns-else-at-pages-clause-found : goal.returns-else-at-pages-clause-found
 returns-else-at-pages-clause-found c =
-    grind (arith, absent_past pages_ordered (λ p. p) c.args.page c.args.pages.now c.requires.order refl refl c.requires.place c.if-at-pages.false, le-ltb _ _ c.if-at-pages.false, any_found)
+    grind (
+      arith,
+      absent_past pages_ordered (λ p. p) c.args.page c.args.pages.now
+          c.requires.order refl refl c.requires.place c.if-at-pages.false,
+      any_found,
+    )

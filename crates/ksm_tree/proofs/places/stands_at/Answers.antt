@@ -4,8 +4,15 @@ use Rattle.ksm_tree.proofs.places.stands_at.Goals as goal
 
 pub returns-then-at-places-clause-found : goal.returns-then-at-places-clause-found
 returns-then-at-places-clause-found c =
-    sym (any_found _ c.args.places.now ∙ found_by places_ordered (λ p. p) _ _ c.requires.order refl refl c.requires.index 0 c.if-at-places.true)
+    sym (any_found _ c.args.places.now ∙ found_by places_ordered (λ p. p) _ _ c.requires.order refl refl
+    c.requires.index 0 c.if-at-places.true)
 
 pub returns-else-at-places-clause-found : goal.returns-else-at-places-clause-found
 returns-else-at-places-clause-found c =
-    grind (arith, absent_past places_ordered (λ p. p) c.args.place c.args.places.now c.requires.order refl refl c.requires.index c.if-at-places.false, le-ltb _ _ c.if-at-places.false, any_found)
+    grind (
+      arith,
+      absent_past places_ordered (λ p. p) c.args.place c.args.places.now
+          c.requires.order refl refl c.requires.index c.if-at-places.false,
+      le-ltb _ _ c.if-at-places.false,
+      any_found,
+    )

@@ -15,7 +15,7 @@ added c =
 pub invariant_of-self-2 : goal.invariant_of-self-2
 invariant_of-self-2 c = (
   rw (added c) (with_rises pages_ordered (λ p. p) c.args.page _ _ refl c.self.invariant.0),
-  omega (arith, c.in_ok-insert.ensures.len, ap length c.self.view_is, c.requires.fewer),
+  omega (arith, c.in_ok-insert.ensures.len, ap length c.self.view_is),
 )
 
 pub returns-clause-added : goal.returns-clause-added

@@ -4,7 +4,8 @@ use Rattle.ksm_tree.proofs.NumberBits.{marks_less, stay_less, stay_some}
 use Rattle.ksm_tree.proofs.bits.WordsBits.remove.Goals as goal
 
 pub invariant_of-self : goal.invariant_of-self
-invariant_of-self g c = stay_less c.self.invariant _ (grind arith) c.if-left-eq0.true c.if-this-gt1.true c.remove.ensures
+invariant_of-self g c =
+    stay_less c.self.invariant _ (grind arith) c.if-left-eq0.true c.if-this-gt1.true c.remove.ensures
 
 pub invariant_of-self-else-left-eq0 : goal.invariant_of-self-else-left-eq0
 invariant_of-self-else-left-eq0 g c = grind (arith, stay_some c.self.invariant, get_or_default, and_le_l)
@@ -16,4 +17,5 @@ pub returns-then-left-eq0 : goal.returns-then-left-eq0
 returns-then-left-eq0 g c = grind (arith, get_or_default, marks_less)
 
 pub returns-else-this-gt1 : goal.returns-else-this-gt1
-returns-else-this-gt1 g c = grind (arith, get_or_default c.self.inside.words.items, marks_less c.args.self.now c.args.number)
+returns-else-this-gt1 g c =
+    grind (arith, get_or_default c.self.inside.words.items, marks_less c.args.self.now c.args.number)

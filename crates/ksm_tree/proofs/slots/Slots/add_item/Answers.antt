@@ -22,14 +22,19 @@ pub invariant_of-self-then-count-eq1 : goal.invariant_of-self-then-count-eq1
 invariant_of-self-then-count-eq1 c =
     let held = holds_dup c.args.place c.self.inside.dups c.self.view_is c.self.invariant.placed c.requires.known in
     rw (c.in_ok-count.ensures.added ∙ changed_dup _ (with_item c.args.page) _ held.1.filled, c.set.ensures)
-    (slots_marked _ _ _ _ _ held.0 (with_item c.args.page) held.1.within c.self.invariant held.1.filled _ (grind arith) (grown_not_stale _ held.0.items) c.remove.ensures)
+    (slots_marked _ _ _ _ _ held.0 (with_item c.args.page) held.1.within c.self.invariant held.1.filled _ (grind arith)
+    (grown_not_stale _ held.0.items) c.remove.ensures)
 
 pub invariant_of-self-else-count-eq1 : goal.invariant_of-self-else-count-eq1
 invariant_of-self-else-count-eq1 c =
     let held = holds_dup c.args.place c.self.inside.dups c.self.view_is c.self.invariant.placed c.requires.known in
     let count : c.in_ok-count.count ≡ length (with_item c.args.page held.0.items) = grind arith in
     rw (c.in_ok-count.ensures.added ∙ changed_dup _ _ c.self.inside.dups.slots held.1.filled, c.set.ensures)
-    (slots_kept _ _ _ _ _ held.0 (with_item c.args.page) held.1.within c.self.invariant held.1.filled count (grind (arith, grown_not_stale c.args.page held.0.items, was_live c.args.page held.0.items)))
+    (slots_kept _ _ _ _ _ held.0 (with_item c.args.page) held.1.within c.self.invariant held.1.filled count (grind (
+      arith,
+      grown_not_stale c.args.page held.0.items,
+      was_live c.args.page held.0.items,
+    )))
 
 pub returns-then-count-eq1-clause-added : goal.returns-then-count-eq1-clause-added
 returns-then-count-eq1-clause-added c = grind (arith, view_changed, holds_dup)

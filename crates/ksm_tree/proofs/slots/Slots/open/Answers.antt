@@ -4,7 +4,8 @@ use Rattle.ksm_tree.proofs.slots.Slots.open.Goals as goal
 
 pub invariant_of-result : goal.invariant_of-result
 invariant_of-result c =
-    rw c.in_ok-open.ensures.empty (none_slots c.args.places c.requires c.in_ok-open-2.ensures.none c.in_ok-full.ensures.wide c.in_ok-full.ensures.all refl
+    rw c.in_ok-open.ensures.empty (none_slots c.args.places c.requires c.in_ok-open-2.ensures.none
+    c.in_ok-full.ensures.wide c.in_ok-full.ensures.all refl
     c.in_ok-empty.ensures.wide c.in_ok-empty.ensures.none refl)
 
 pub returns-clause-opened : goal.returns-clause-opened

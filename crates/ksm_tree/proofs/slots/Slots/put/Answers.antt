@@ -10,7 +10,9 @@ pub remove-requires-2 : goal.remove-requires-2
 remove-requires-2 c = grind (arith, may_be_marked)
 
 pub invariant_of-self : goal.invariant_of-self
-invariant_of-self c = rw (c.put.ensures, c.set.ensures) (slots_put _ _ (grind arith) c.len.ensures.count c.requires.live c.self.invariant c.remove.ensures c.remove-2.ensures)
+invariant_of-self c = rw (c.put.ensures, c.set.ensures)
+    (slots_put _ _ (grind arith) c.len.ensures.count c.requires.live c.self.invariant c.remove.ensures
+    c.remove-2.ensures)
 
 pub returns : goal.returns
 returns c = grind (arith, seen_put)

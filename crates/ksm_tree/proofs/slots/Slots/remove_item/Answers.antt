@@ -10,20 +10,27 @@ invariant_of-self c =
     let held = holds_dup c.args.place c.self.inside.dups c.self.view_is c.self.invariant.placed c.requires in
     let count : c.in-Some.left ≡ length (without_item c.args.page held.0.items) = grind (arith, nat_tests) in
     rw (c.in-Some.ensures.removed ∙ changed_dup _ (without_item c.args.page) _ held.1.filled, c.set.ensures)
-    (slots_marked _ _ _ _ _ held.0 (without_item c.args.page) held.1.within c.self.invariant held.1.filled _ count (grind arith) c.add.ensures)
+    (slots_marked _ _ _ _ _ held.0 (without_item c.args.page) held.1.within c.self.invariant held.1.filled _ count
+    (grind arith) c.add.ensures)
 
 pub invariant_of-self-else-left-eq0 : goal.invariant_of-self-else-left-eq0
 invariant_of-self-else-left-eq0 c =
     let held = holds_dup c.args.place c.self.inside.dups c.self.view_is c.self.invariant.placed c.requires in
-    let told : (true ≡ has_item c.args.page held.0.items) × (c.in-Some.left ≡ length (without_item c.args.page held.0.items)) = grind (arith, nat_tests) in
+    let told : (true ≡ has_item c.args.page held.0.items) ×
+    (c.in-Some.left ≡ length (without_item c.args.page held.0.items)) = grind (arith, nat_tests) in
     rw (c.in-Some.ensures.removed ∙ changed_dup _ (without_item c.args.page) _ held.1.filled, c.set.ensures)
-    (slots_kept _ _ _ _ _ held.0 (without_item c.args.page) held.1.within c.self.invariant held.1.filled told.1 (grind (arith, nat_tests, had_item c.args.page held.0 told.0)))
+    (slots_kept _ _ _ _ _ held.0 (without_item c.args.page) held.1.within c.self.invariant held.1.filled told.1 (grind (
+      arith,
+      nat_tests,
+      had_item c.args.page held.0 told.0,
+    )))
 
 pub invariant_of-self-in-None : goal.invariant_of-self-in-None
 invariant_of-self-in-None c =
     let held = holds_dup c.args.place c.self.inside.dups c.self.view_is c.self.invariant.placed c.requires in
     rw (c.in-None.ensures.removed ∙ changed_dup _ (without_item c.args.page) _ held.1.filled)
-    (slots_same _ _ _ _ _ held.0 (without_item c.args.page) held.1.within c.self.invariant held.1.filled (not_taken _ (grind (arith, nat_tests))))
+    (slots_same _ _ _ _ _ held.0 (without_item c.args.page) held.1.within c.self.invariant held.1.filled
+    (not_taken _ (grind (arith, nat_tests))))
 
 pub returns-then-left-eq0 : goal.returns-then-left-eq0
 returns-then-left-eq0 c = grind (arith, view_changed, holds_dup)
