@@ -1,61 +1,55 @@
 -- A list that is made of another, element by element: what is searched, kept and counted in it.
-use Rattle.ksm_tree.proofs.Names.{[], All, All-head, All-map, All-tail, AllPairs, AllPairs-cons, ap, arith, Bool, cond, count_by, count_more, false, filter, filter-append, find, get_or, if◌then◌else◌, List, map, map-append, option_map, pairs_head, pairs_tail, refl, suc, sym, ◌++◌, ◌+◌, ◌∙◌, ◌∷◌, ◌≡◌}
+use Rattle.ksm_tree.proofs.Names.{[], All, All-head, All-map, All-tail, AllPairs, AllPairs-cons, arith, Bool, count_by, count_more, false, filter, filter-append, find, get_or, if◌then◌else◌, List, map, map-append, option_map, pairs_head, pairs_tail, refl, suc, ◌++◌, ◌∙◌, ◌∷◌, ◌≡◌}
 use Rattle.std.proofs.Common.{ap₂}
-use Rattle.std.proofs.lemmas.Iterator.Adapters.{option_map_id}
 use Rattle.std.proofs.lemmas.List.{map-id}
 
 -- two changes that agree at each element of a list make one list of it
 pub map_alike : {X Y : Type 0} (f g : X → Y) (xs : List X) → All (λ x. f x ≡ g x) xs → map f xs ≡ map g xs
 map_alike f g [] same = refl
-map_alike f g (x ∷ xs) same = ap₂ (λ y ys. y ∷ ys) (All-head (λ z. f z ≡ g z) x xs same) (map_alike f g xs (All-tail (λ z. f z ≡ g z) x xs same))
+map_alike f g (x ∷ xs) same =
+    grind (arith, All-head (λ z. f z ≡ g z) x xs same, map_alike f g xs (All-tail (λ z. f z ≡ g z) x xs same))
 
 -- where h is f after g at each element, a map by g and then by f makes the list that h makes
 pub map_mapped : {X Y Z : Type 0} (f : Y → Z) (g : X → Y) (h : X → Z) (xs : List X) → All (λ x. f (g x) ≡ h x) xs → map f (map g xs) ≡ map h xs
 map_mapped f g h [] same = refl
-map_mapped f g h (x ∷ xs) same = ap₂ (λ y ys. y ∷ ys) (All-head (λ z. f (g z) ≡ h z) x xs same) (map_mapped f g h xs (All-tail (λ z. f (g z) ≡ h z) x xs same))
+map_mapped f g h (x ∷ xs) same = ap₂ (λ y ys. y ∷ ys) (All-head (λ z. f (g z) ≡ h z) x xs same)
+    (map_mapped f g h xs (All-tail (λ z. f (g z) ≡ h z) x xs same))
 
 module _ {X Y : Type 0} (g : X → Y) (p : Y → Bool) (q : X → Bool) where
   -- where two tests agree across a map, a search in the mapped list finds the image of what is found before
   pub find_mapped : (xs : List X) → All (λ x. p (g x) ≡ q x) xs → find p (map g xs) ≡ option_map g (find q xs)
   find_mapped [] same = refl
   find_mapped (x ∷ xs) same =
-      let here = All-head (λ z. p (g z) ≡ q z) x xs same in
-      let rest = find_mapped xs (All-tail (λ z. p (g z) ≡ q z) x xs same) in
-      grind (arith, here, rest)
+      let rest = find_mapped xs (λ k d lt. same (suc k) d (omega arith)) in grind (arith, same 0 x)
 
   -- where two tests agree across a map, those kept of the mapped list are the images of those kept before
   pub filter_mapped : (xs : List X) → All (λ x. p (g x) ≡ q x) xs → filter p (map g xs) ≡ map g (filter q xs)
   filter_mapped [] same = refl
   filter_mapped (x ∷ xs) same =
-      let here = All-head (λ z. p (g z) ≡ q z) x xs same in
-      let rest = filter_mapped xs (All-tail (λ z. p (g z) ≡ q z) x xs same) in
-      grind (arith, here, rest)
+      let rest = filter_mapped xs (λ k d lt. same (suc k) d (omega arith)) in grind (arith, same 0 x)
 
   -- where two tests agree across a map, as many pass in the mapped list as before
   pub count_mapped : (xs : List X) → All (λ x. p (g x) ≡ q x) xs → count_by p (map g xs) ≡ count_by q xs
   count_mapped [] same = refl
   count_mapped (x ∷ xs) same =
-      let here = All-head (λ z. p (g z) ≡ q z) x xs same in
-      let rest = count_mapped xs (All-tail (λ z. p (g z) ≡ q z) x xs same) in
-      let more = count_more p _ (map g xs) in
-      let also = count_more q x xs in
-      more ∙ ap₂ (λ b n. cond b 1 0 + n) here rest ∙ sym also
+      let rest = count_mapped xs (λ k d lt. same (suc k) d (omega arith)) in grind (arith, same 0 x, count_more)
 
 -- a map that takes related elements to related ones makes a list in order of a list in order
 pub pairs_mapped : {X Y : Type 0} (S : X → X → Type 0) (R : Y → Y → Type 0) (P : X → Type 0) (g : X → Y) → ((a b : X) → P a → P b → S a b → R (g a) (g b)) → (xs : List X) → All P xs → AllPairs S xs → AllPairs R (map g xs)
 pairs_mapped S R P g step [] all rise = λ i j d less lt. absurd (omega arith)
 pairs_mapped S R P g step (x ∷ xs) all rise =
     AllPairs-cons R _ _
-    (All-map (R (g x)) g xs (λ k d lt. step x (get_or xs k d) (All-head P x xs all) (all (suc k) d (omega arith)) (pairs_head S x xs rise k d lt)))
+    (All-map (R (g x)) g xs (λ k d lt. step x (get_or xs k d) (All-head P x xs all) (all (suc k) d (omega arith))
+    (pairs_head S x xs rise k d lt)))
     (pairs_mapped S R P g step xs (All-tail P x xs all) (pairs_tail S x xs rise))
 
 -- two tests that agree at each element of a list find the same element
 pub find_alike : {X : Type 0} (p q : X → Bool) (xs : List X) → All (λ x. p x ≡ q x) xs → find p xs ≡ find q xs
-find_alike p q xs same = ap (find p) (sym (map-id xs)) ∙ find_mapped _ p q xs same ∙ option_map_id _
+find_alike p q xs same = grind (arith, find_mapped (λ x. x) p q xs same, map-id)
 
 -- two tests that agree at each element of a list count alike
 pub count_alike : {X : Type 0} (p q : X → Bool) (xs : List X) → All (λ x. p x ≡ q x) xs → count_by p xs ≡ count_by q xs
-count_alike p q xs same = ap (count_by p) (sym (map-id xs)) ∙ count_mapped _ p q xs same
+count_alike p q xs same = grind (arith, count_mapped (λ x. x) p q xs same, map-id)
 
 -- where no element passes a test, a change of those that pass changes nothing
 pub change_none : {X : Type 0} (test : X → Bool) (f : X → X) (xs : List X) → All (λ x. test x ≡ false) xs
@@ -68,9 +62,9 @@ change_none test f xs none =
 pub chosen : {X Y : Type 0} (f : X → Y) (test : X → Bool) (by : Y → Bool) (xs : List X)
     → map f (filter test (filter (λ x. by (f x)) xs)) ≡ filter by (map f (filter test xs))
 chosen f test by [] = refl
-chosen f test by (x ∷ xs) = let rest = chosen f test by xs in grind (arith, rest)
+chosen f test by (x ∷ xs) = let rest = chosen f test by xs in grind arith
 
 -- what a map makes of those kept of two lists in a row is what it makes of those of the first, then of the second
 pub kept_append : {X Y : Type 0} (f : X → Y) (test : X → Bool) (xs ys : List X)
     → map f (filter test (xs ++ ys)) ≡ map f (filter test xs) ++ map f (filter test ys)
-kept_append f test xs ys = ap (map f) (filter-append _ xs ys) ∙ map-append f _ _
+kept_append f test xs ys = grind (arith, filter-append, map-append)

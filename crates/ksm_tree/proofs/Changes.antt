@@ -1,26 +1,19 @@
 -- Dups and their rows: what a dup that comes or goes and a change of items changes of the rows, and where a dup is found.
-use Rattle.ksm_tree.proofs.Names.{[], All, All-cons, All-head, All-tail, ap, arith, Bool, change_at, change_items, cond_both, Dup, dup_at, dup_of, DupRow, filter, find, find_none, get_or, GuestPage, has_number, InPlaceOrder, let_out, List, map, map-append, Merged, None, none-some, not, Option, option_map, PageState, Private, refl, row_place, rows_of, same_Some, Some, stands_at, sym, Waiting, with_dup, with_new, without_place, Zero, ℕ, if◌then◌else◌, ◌++◌, ◌==◌, ◌∙◌, ◌∷◌, ◌≡◌}
-use Rattle.std.proofs.Common.{ap₂}
-use Rattle.ksm_tree.proofs.Alike.{change_none, filter_mapped, find_alike, find_mapped, map_alike, map_mapped}
+use Rattle.ksm_tree.proofs.Names.{[], All, arith, Bool, change_at, change_items, Dup, DupRow, filter, find, GuestPage, has_number, InPlaceOrder, let_out, List, map, map-append, Merged, None, not, Option, option_map, PageState, Private, refl, row_place, rows_of, same_Some, Some, stands_at, Waiting, with_dup, with_new, without_place, Zero, ℕ, if◌then◌else◌, ◌==◌, ◌∷◌, ◌≡◌, subst, get_or-map, length-map}
+use Rattle.ksm_tree.proofs.Alike.{filter_mapped, find_mapped, map_alike}
 use Rattle.ksm_tree.proofs.Rows.{only_number}
 
 -- the row of a new dup is added to the rows
 pub rows_new : (dup : Dup) (dups : List Dup) → rows_of (with_new dup dups) ≡ with_dup dup.row (rows_of dups)
-rows_new dup dups =
-    map-append (λ d. d.row) _ _
-    ∙ ap₂ (λ front back. front ++ dup.row ∷ back) (filtered _) (filtered _)
-  where
-    filtered : (by : DupRow → Bool) → rows_of (filter (λ d. by d.row) dups) ≡ filter by (rows_of dups)
-    filtered by = sym (filter_mapped _ by (λ d. by d.row) dups (λ k d lt. refl))
+rows_new dup dups = grind (arith, filter_mapped, map-append)
 
 -- a place that is dropped takes its row out of the rows
 pub rows_without : (p : ℕ) (dups : List Dup) → rows_of (without_place p dups) ≡ filter (λ r. not (r.place == p)) (rows_of dups)
-rows_without p dups = sym (filter_mapped _ _ _ dups (λ k d lt. refl))
+rows_without p dups = grind (arith, filter_mapped)
 
 rows_same : (test : Dup → Bool) (f : List GuestPage → List GuestPage) (dups : List Dup) → rows_of (map (λ d. if test d then record d { items = f d.items } else d) dups) ≡ rows_of dups
-rows_same test f dups =
-    map_mapped (λ (d : Dup). d.row) (λ d. if test d then record d { items = f d.items } else d) (λ d. d.row) dups
-    (λ k e lt. let d = get_or dups k e in cond_both _ _ d (λ x. x.row ≡ d.row) (λ _. refl) (λ _. refl))
+rows_same test f [] = refl
+rows_same test f (d ∷ dups) = let rest = rows_same test f dups in grind arith
 
 -- other items at a place change no row
 pub rows_changed : (p : ℕ) (f : List GuestPage → List GuestPage) (dups : List Dup) → rows_of (change_at p f dups) ≡ rows_of dups
@@ -39,39 +32,25 @@ rows_out (Merged number) page dups = rows_items _ _ _
 
 -- a dup is found where its row is
 pub row_found : (test : Dup → Bool) (by : DupRow → Bool) → ((d : Dup) → test d ≡ by d.row) → (dups : List Dup) → option_map (λ d. d.row) (find test dups) ≡ find by (rows_of dups)
-row_found test by same dups = sym (find_mapped _ by test dups (λ k d lt. sym (same (get_or dups k d))))
+row_found test by same dups = grind (arith, find_mapped)
 
 -- the row of a number that has a place
 row_there : {p : ℕ} (r : Option DupRow) → option_map (λ s. s.place) r ≡ Some p → (e : DupRow) × (r ≡ Some e) × (e.place ≡ p)
-row_there {p} None is = absurd (none-some p is)
+row_there {p} None is = grind arith
 row_there {p} (Some e) is = (e, refl, same_Some _ p is)
 
 -- two tests that agree on each dup change one dup
-agree_changed : (test by : Dup → Bool) (f : List GuestPage → List GuestPage) (dups : List Dup) → All (λ d. test d ≡ by d) dups → map {B = Dup} (λ d. if test d then record d { items = f d.items } else d) dups ≡ map (λ d. if by d then record d { items = f d.items } else d) dups
-agree_changed test by f dups same =
-    map_alike (λ d. if test d then record d { items = f d.items } else d) (λ d. if by d then record d { items = f d.items } else d) dups
-    (λ k e lt. let d = get_or dups k e in (λ i. if same k e lt i then record d { items = f d.items } else d))
+pub agree_changed : (test by : Dup → Bool) (f : List GuestPage → List GuestPage) (dups : List Dup) → All (λ d. test d ≡ by d) dups → map {B = Dup} (λ d. if test d then record d { items = f d.items } else d) dups ≡ map (λ d. if by d then record d { items = f d.items } else d) dups
+agree_changed test by f dups same = grind (arith, map_alike)
 
 -- what holds of all rows holds of each dup's row
 pub all_rows : (P : DupRow → Type 0) (dups : List Dup) → All P (rows_of dups) → All (λ d. P d.row) dups
-all_rows P [] each = λ k d lt. absurd (omega arith)
-all_rows P (e ∷ dups) each = All-cons (λ d. P d.row) e _ (All-head P _ _ each) (all_rows P dups (All-tail P _ _ each))
+all_rows P dups each k d lt =
+    subst P (get_or-map (λ (d : Dup). d.row) dups k d) (each k d.row (rw (length-map dups (λ d. d.row)) lt))
 
 -- number and place tell one dup
-one_dup : (q : ℕ) {p : ℕ} (dups : List Dup) → InPlaceOrder (rows_of dups) → row_place q (rows_of dups) ≡ Some p → All (λ d. has_number q d ≡ stands_at p d) dups
+pub one_dup : (q : ℕ) {p : ℕ} (dups : List Dup) → InPlaceOrder (rows_of dups) → row_place q (rows_of dups) ≡ Some p → All (λ d. has_number q d ≡ stands_at p d) dups
 one_dup q {p} dups rise is =
     let there = row_there _ is in
-    let only = only_number q _ rise there.1 in
-    all_rows (λ r. (r.number == q) ≡ (r.place == p)) _ (λ k d lt. only k d lt ∙ ap (λ n. (get_or (rows_of dups) k d).place == n) there.2)
-
--- a dup found by its number is the one at its place
-pub number_place_found : (q : ℕ) {p : ℕ} (dups : List Dup) → InPlaceOrder (rows_of dups) → row_place q (rows_of dups) ≡ Some p → dup_of q dups ≡ dup_at p dups
-number_place_found q {p} dups rise is = find_alike _ _ _ (one_dup q _ rise is)
-
--- items changed by a dup's number are those at its place
-pub number_place_changed : (q : ℕ) {p : ℕ} (f : List GuestPage → List GuestPage) (dups : List Dup) → InPlaceOrder (rows_of dups) → row_place q (rows_of dups) ≡ Some p → change_items q f dups ≡ change_at p f dups
-number_place_changed q {p} f dups rise is = agree_changed _ _ f _ (one_dup q _ rise is)
-
--- to change the items of a number that no dup has changes nothing
-pub unchanged_items : (q : ℕ) (f : List GuestPage → List GuestPage) {dups : List Dup} → dup_of q dups ≡ None → dups ≡ change_items q f dups
-unchanged_items q f {dups} is = sym (change_none _ (λ d. record d { items = f d.items }) _ (find_none _ _ is))
+    all_rows (λ r. (r.number == q) ≡ (r.place == p)) _
+    (λ k d lt. grind (arith, only_number q _ rise there.1 k d lt))

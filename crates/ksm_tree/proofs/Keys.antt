@@ -1,24 +1,17 @@
 -- The dups of a tree and bytes: those whose tree and bytes are equal to these.
-use Rattle.ksm_tree.proofs.Names.{[], and_parts, arith, bytes_eq, bytes_eq-Decides, DupRow, in_group, List, nat_tests, refl, true, ℕ, ◌&&◌, ◌==◌, ◌∷◌, ◌≡◌}
+use Rattle.ksm_tree.proofs.Names.{and_parts, arith, bytes_eq, bytes_eq-Decides, DupRow, in_group, List, true, ℕ, ◌&&◌, ◌==◌, ◌≡◌}
 
 -- a comparison of bytes is the same in either order
 pub eq_bytes : (xs ys : List ℕ) → bytes_eq xs ys ≡ bytes_eq ys xs
-eq_bytes [] [] = refl
-eq_bytes [] (y ∷ ys) = refl
-eq_bytes (x ∷ xs) [] = refl
-eq_bytes (x ∷ xs) (y ∷ ys) = let rest = eq_bytes xs ys in grind (arith, nat_tests, rest)
+eq_bytes xs ys = grind (arith, bytes_eq-Decides)
 
 -- a row is in the group of a tree and bytes exactly where its tree and its bytes are equal to these
 pub own_group : (t : ℕ) (b : List ℕ) (row : DupRow) → in_group t b row ≡ (t == row.tree && bytes_eq b row.bytes)
-own_group t b row = let swapped = eq_bytes row.bytes b in grind (arith, nat_tests, swapped)
+own_group t b row = grind (arith, eq_bytes row.bytes b)
 
 -- a dup is in the group of its own tree and bytes
 pub self_group : (row : DupRow) → in_group row.tree row.bytes row ≡ true
-self_group row = let bytes = (bytes_eq-Decides _ row.bytes).1 refl in grind (arith, nat_tests, bytes)
-
--- a row of a group has the tree of that group
-pub own_tree : {t : ℕ} (b : List ℕ) (row : DupRow) → in_group t b row ≡ true → row.tree ≡ t
-own_tree b row inside = grind (arith, nat_tests)
+self_group row = grind (arith, bytes_eq-Decides row.bytes)
 
 -- a dup of a group has the group's bytes
 pub own_bytes : (t : ℕ) {b : List ℕ} (row : DupRow) → in_group t b row ≡ true → row.bytes ≡ b

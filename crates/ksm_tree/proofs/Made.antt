@@ -1,125 +1,100 @@
 -- The index once a new dup has taken its place.
-use Rattle.ksm_tree.proofs.Names.{All, All-weaker, AllPairs-filter, ap, AreDups, AreIndexed, AreTotals, arith, Bool, bytes_eq, cases_Bool, Dup, dup_at, DupRow, dups_seen, DupsState, eqb-true, false, filter, filter_all, find_all, find_none, find_nothing, group_places, if◌then◌else◌, in_group, Index, inl, InPlaceOrder, inr, IsCounted, IsCountedAnew, IsEntered, IsRegrouped, length, List, nat_tests, ne_eqb, None, not, Option, option_map, place_of, places_of, refl, row_place, rows_of, SameWaits, SlotsState, Some, subst, sym, true, with_dup, with_new, with_place, without, ℕ, ◌&&◌, ◌+◌, ◌<◌, ◌==◌, ◌∙◌, ◌≡◌}
+use Rattle.ksm_tree.proofs.Names.{All, AllPairs-filter, ap, AreIndexed, AreTotals, arith, Bool, bytes_eq, cases_Bool, Dup, dup_at, DupRow, dups_seen, DupsState, false, filter, filter_all, find_all, find_none, find_nothing, group_places, if◌then◌else◌, in_group, Index, inl, InPlaceOrder, inr, IsCounted, IsCountedAnew, IsEntered, IsRegrouped, length, List, nat_tests, None, not, place_of, places_of, row_place, rows_of, SameWaits, SlotsState, Some, subst, sym, true, with_dup, with_new, without, ℕ, ◌&&◌, ◌+◌, ◌<◌, ◌==◌, ◌≡◌}
 use Rattle.ksm_tree.proofs.Changes.{rows_new}
 use Rattle.ksm_tree.proofs.Grouped.{IsMore, chains_kept, dups_kept, more_with, more_there, places_size, totals_apart, totals_between, totals_few, totals_moved, totals_same}
-use Rattle.ksm_tree.proofs.Keys.{own_bytes, own_group, own_tree, self_group}
-use Rattle.ksm_tree.proofs.Indexed.{row_at_place, not_in_group, cond_if, found_stands, told}
+use Rattle.ksm_tree.proofs.Keys.{own_bytes, own_group, self_group}
+use Rattle.ksm_tree.proofs.Indexed.{row_at_place, not_in_group, found_stands, told}
 use Rattle.ksm_base.proofs.Orders.{all_with_dup, dups_with}
 use Rattle.ksm_tree.proofs.Rows.{place_new, place_kept, place_gone, group_joined, group_passed, group_unlike}
 
--- the place of a number, and the places of a group, with a new row
-place_with : (q : ℕ) (row : DupRow) (rows : List DupRow) → InPlaceOrder rows → All (λ r. r.number < row.number) rows → row_place q (with_dup row rows) ≡ (if q == row.number then Some row.place else row_place q (filter (λ r. not (r.place == row.place)) rows))
-place_with q row rows rise fresh =
-    cond_if _ _ _ _
-    (λ this. ap (λ n. row_place n (with_dup row rows)) (eqb-true q _ this) ∙ place_new row _ fresh)
-    (λ other. place_kept q row _ rise other)
-
-group_with : (t : ℕ) (b : List ℕ) (row : DupRow) (rows : List DupRow) → InPlaceOrder rows → group_places t b (with_dup row rows) ≡ (if in_group t b row then with_place row.place (group_places t b rows) else without row.place (group_places t b rows))
-group_with t b row rows rise =
-    cond_if _ _ _ _
-    (group_joined t b row _) (group_passed t b row _ rise)
-
 module _ {s : SlotsState} {next : ℕ} {index : Index} (new : Index) (dup : Dup) (h : AreIndexed s next index) (number : dup.row.number ≡ next) (within : dup.row.place < s.places) where
-  fresh : All (λ r. r.number < dup.row.number) (rows_of s.dups)
-  fresh = rw number h.lawful.numbers_below
+  abbrev rows : List DupRow
+  rows = rows_of s.dups
 
-  lawful_new : (ready : Bool) → AreDups (dups_seen (record { places = s.places; dups = with_new dup s.dups; ready = ready }) (next + 1) new)
-  lawful_new ready =
-      let rows = rows_of s.dups in
+  -- the rows with the new one
+  abbrev all : List DupRow
+  all = with_dup dup.row rows
+
+  rise : InPlaceOrder rows
+  rise = grind arith
+
+  fresh : All (λ r. r.number < dup.row.number) rows
+  fresh = grind arith
+
+  new_rise : InPlaceOrder all
+  new_rise = dups_with _ _ rise fresh
+
+  -- the index is right once a new dup stands among the others, if it is right by their rows
+  made : (ready : Bool) → AreTotals all new.groups.totals → ((q : ℕ) → place_of q new ≡ row_place q all) → ((t : ℕ) (b : List ℕ) → places_of t b new ≡ group_places t b all)
+      → AreIndexed (record { places = s.places; dups = with_new dup s.dups; ready = ready }) (next + 1) new
+  made ready counted numbered grouped =
       let is = rows_new dup s.dups in
       record {
-        in_place_order = rw is (dups_with _ _ h.lawful.in_place_order fresh);
-        places_below = rw is (all_with_dup (λ r. r.place < s.places) _ _ within h.lawful.places_below);
-        numbers_below = rw is (all_with_dup (λ r. r.number < next + 1) dup.row rows (omega (arith, number))
-            (All-weaker (λ r. r.number < next) (λ r. r.number < next + 1) (λ r below. omega arith) rows h.lawful.numbers_below));
+        few = h.few;
+        counted = rw is counted;
+        lawful = record {
+          in_place_order = rw is new_rise;
+          places_below = rw is (all_with_dup (λ r. r.place < s.places) _ _ within h.lawful.places_below);
+          numbers_below = rw is (all_with_dup (λ r. r.number < next + 1) dup.row rows (omega arith)
+              (λ k d lt. omega arith));
+        };
+        numbered = λ q. rw is (numbered q);
+        grouped = λ t b. rw is (grouped t b);
       }
 
   -- the index is right once a new dup stands at a place that was empty
   pub fresh_indexed : (ready : Bool) → None ≡ dup_at dup.row.place s.dups → IsEntered dup.row index new
       → AreIndexed (record { places = s.places; dups = with_new dup s.dups; ready = ready }) (next + 1) new
   fresh_indexed ready none entered =
-      let rows = rows_of s.dups in
       let p = dup.row.place in
       let apart = find_none (λ r. r.place == p) rows (row_at_place p s.dups (sym none)) in
-      let kept = filter_all (λ r. not (r.place == p)) rows (All-weaker (λ r. (r.place == p) ≡ false) (λ r. not (r.place == p) ≡ true) (λ r e. ap not e) rows apart) in
-      let grouped : (t : ℕ) (b : List ℕ) → places_of t b new ≡ group_places t b (with_dup dup.row rows) = λ t b.
-      let unlike = group_unlike p t b rows (All-weaker (λ r. (r.place == p) ≡ false) (λ r. (r.place == p && in_group t b r) ≡ false) (λ r e. grind (arith, e)) rows apart) in
-      entered.groups t b
-      ∙ (λ i. if sym (own_group t b dup.row) i then with_place p (h.grouped t b i) else (h.grouped t b ∙ sym unlike) i)
-      ∙ sym (group_with t b dup.row rows h.lawful.in_place_order) in
+      let kept : filter (λ r. not (r.place == p)) rows ≡ rows = filter_all _ rows (λ k d lt. ap not (apart k d lt)) in
+      let grouped : (t : ℕ) (b : List ℕ) → places_of t b new ≡ group_places t b all = λ t b.
+      let unlike = group_unlike p t b rows (λ k d lt. grind arith) in
+      grind (arith, own_group t b dup.row, group_joined t b dup.row rows, group_passed t b dup.row rows rise) in
       let t = dup.row.tree in
       let b = dup.row.bytes in
-      let more = subst (λ l. IsMore dup.row l (with_dup dup.row rows)) kept (more_with rows h.lawful.in_place_order) in
+      let more = subst (λ l. IsMore dup.row l all) kept (more_with rows rise) in
       let own = self_group dup.row in
-      let counted = totals_moved t b h.lawful.in_place_order (dups_with dup.row rows h.lawful.in_place_order fresh)
-      (dups_kept t b more own) (chains_kept t b more own) (rw (← h.grouped t b, ← grouped t b) entered.totals) h.counted in
-      record {
-        few = h.few;
-        counted = subst (λ l. AreTotals l new.groups.totals) (sym (rows_new dup s.dups)) counted;
-        lawful = lawful_new ready;
-        numbered = λ q.
-            entered.numbers q
-            ∙ ap (λ v. if q == dup.row.number then Some p else v) (h.numbered q ∙ ap (row_place q) (sym kept))
-            ∙ sym (place_with q dup.row rows h.lawful.in_place_order fresh)
-            ∙ ap (row_place q) (sym (rows_new dup s.dups));
-        grouped = λ t b. grouped t b ∙ ap (group_places t b) (sym (rows_new dup s.dups));
-      }
-
-  swap_tests : (q m n : ℕ) (x y z : Option ℕ) → (m == n) ≡ false → (if q == m then x else (if q == n then y else z)) ≡ (if q == n then y else (if q == m then x else z))
-  swap_tests q m n x y z apart = grind (arith, nat_tests, apart)
-
-  group_swap : (old_group new_group : Bool) (p : ℕ) (group : List ℕ) → (old_group ≡ false → without p group ≡ group) → (let mid = if new_group then with_place p group else group in if old_group && not new_group then without p mid else mid) ≡ (if new_group then with_place p group else without p group)
-  group_swap old_group new_group p group unlike = grind (arith, nat_tests, unlike)
+      made ready (totals_moved t b rise new_rise (dups_kept t b more own) (chains_kept t b more own)
+      (grind arith) h.counted)
+      (λ q. grind (arith, place_new dup.row rows fresh, place_kept q dup.row rows rise)) grouped
 
   -- the rows as they were, those that stay, and those that are there then
   record Swapped (old : Dup) : Type 0 where
     less : List DupRow
-    there : IsMore old.row less (rows_of s.dups)
-    here : IsMore dup.row less (with_dup dup.row (rows_of s.dups))
+    there : IsMore old.row less rows
+    here : IsMore dup.row less all
     less_rise : InPlaceOrder less
-    new_rise : InPlaceOrder (with_dup dup.row (rows_of s.dups))
 
   swapped : {old : Dup} → Some old ≡ dup_at dup.row.place s.dups → Swapped old
   swapped {old} found = record {
-    less = filter (λ r. not (r.place == dup.row.place)) (rows_of s.dups);
-    there = more_there dup.row.place (rows_of s.dups) old.row h.lawful.in_place_order (row_at_place dup.row.place s.dups (sym found));
-    here = more_with (rows_of s.dups) h.lawful.in_place_order;
-    less_rise = AllPairs-filter (λ a b. (a.place < b.place) × ((a.number == b.number) ≡ false)) (λ r. not (r.place == dup.row.place)) (rows_of s.dups) h.lawful.in_place_order;
-    new_rise = dups_with dup.row (rows_of s.dups) h.lawful.in_place_order fresh;
+    less = filter (λ r. not (r.place == dup.row.place)) rows;
+    there = more_there dup.row.place _ old.row rise (row_at_place _ s.dups (sym found));
+    here = more_with _ rise;
+    less_rise = AllPairs-filter (λ a b. (a.place < b.place) × ((a.number == b.number) ≡ false)) _ rows rise;
   }
 
   -- the index between: the new dup is in, and the old one not yet out
-  joined_in : {mid : Index} → IsEntered dup.row index mid → (t : ℕ) (b : List ℕ) → in_group t b dup.row ≡ true → places_of t b mid ≡ group_places t b (with_dup dup.row (rows_of s.dups))
-  joined_in entered t b inside =
-      entered.groups t b
-      ∙ (λ i. if (sym (own_group t b dup.row) ∙ inside) i then with_place dup.row.place (h.grouped t b i) else h.grouped t b i)
-      ∙ sym (group_joined t b _ _ inside)
+  joined_in : {mid : Index} → IsEntered dup.row index mid → (t : ℕ) (b : List ℕ) → in_group t b dup.row ≡ true → places_of t b mid ≡ group_places t b all
+  joined_in entered t b inside = grind (arith, own_group, group_joined)
 
-  joined_own : {mid : Index} → IsEntered dup.row index mid → places_of dup.row.tree dup.row.bytes mid ≡ group_places dup.row.tree dup.row.bytes (with_dup dup.row (rows_of s.dups))
-  joined_own {mid} entered = joined_in entered _ _ (self_group dup.row)
-
-  -- the old one's group has as many places as before
-  left_size : {mid : Index} {old : Dup} → Swapped old → IsEntered dup.row index mid → length (places_of old.row.tree old.row.bytes mid) ≡ length (places_of old.row.tree old.row.bytes index)
-  left_size {mid} {old} swap entered =
-      let t = old.row.tree in
-      let b = old.row.bytes in
-      let own = self_group old.row in
-      let was = ap length (h.grouped t b) ∙ places_size t b (rows_of s.dups) in
-      elim (cases_Bool (in_group t b dup.row)) [
-        | inl inside ↦
-            let now = ap length (joined_in entered t b inside) ∙ places_size t b (with_dup dup.row (rows_of s.dups)) in
-            grind (arith, was, now, own, inside)
-        | inr outside ↦ ap length (entered.groups t b ∙ rw (sym (own_group t b dup.row) ∙ outside) refl)
-      ]
+  joined_own : {mid : Index} → IsEntered dup.row index mid → places_of dup.row.tree dup.row.bytes mid ≡ group_places dup.row.tree dup.row.bytes all
+  joined_own entered = grind (arith, joined_in, self_group)
 
   -- once the new dup is entered beside the old one at its place, the totals are right for the group of the old one
   pub told_between : {mid : Index} (old : Dup) → Some old ≡ dup_at dup.row.place s.dups → IsEntered dup.row index mid
       → IsCounted old.row.tree old.row.bytes mid.groups
   told_between {mid} old found entered =
       let r = dup.row in
+      let t = old.row.tree in
+      let b = old.row.bytes in
       let swap = swapped found in
-      let few = totals_few s.places h.few h.lawful.places_below h.lawful.in_place_order h.counted in
-      rw (left_size swap entered) (totals_between swap.there swap.here h.lawful.in_place_order swap.less_rise swap.new_rise (rw (← h.grouped r.tree r.bytes, ← joined_own entered) entered.totals) (length (places_of old.row.tree old.row.bytes index)) few.0 few.1 (told h old.row.tree old.row.bytes))
+      let size : length (places_of t b mid) ≡ length (places_of t b index) =
+      grind (arith, places_size t b, self_group old.row, joined_in entered t b, own_group t b r) in
+      let few = totals_few s.places h.few h.lawful.places_below rise h.counted in
+      rw size (totals_between swap.there swap.here rise swap.less_rise new_rise
+      (rw (← h.grouped r.tree r.bytes, ← joined_own entered) entered.totals) _ few.0 few.1 (told h _ _))
 
   -- the index is right once a new dup stands at the place of a dup that goes
   pub taken_indexed : (ready : Bool) {mid : Index} (old : Dup) → Some old ≡ dup_at dup.row.place s.dups
@@ -129,62 +104,50 @@ module _ {s : SlotsState} {next : ℕ} {index : Index} (new : Index) (dup : Dup)
       → IsCountedAnew old.row.tree old.row.bytes mid.groups new.groups
       → AreIndexed (record { places = s.places; dups = with_new dup s.dups; ready = ready }) (next + 1) new
   taken_indexed ready {mid} old found entered left_numbers left_groups left =
-      let rows = rows_of s.dups in
       let p = dup.row.place in
       let at = found_stands s.dups (sym found) in
       let row_found = row_at_place p s.dups (sym found) in
-      let older : old.row.number < dup.row.number = find_all (λ r. r.place == p) (λ r. r.number < dup.row.number) rows old.row row_found fresh in
-      let apart : (old.row.number == dup.row.number) ≡ false = ne_eqb old.row.number dup.row.number (λ e. omega (arith, older, e)) in
-      let grouped : (t : ℕ) (b : List ℕ) → places_of t b new ≡ group_places t b (with_dup dup.row rows) = λ t b.
-      let g = group_places t b rows in
-      let old_group = in_group t b old.row in
-      let new_group = in_group t b dup.row in
-      left_groups t b
-      ∙ (λ i.
-      let mid_group : List ℕ = (entered.groups t b ∙ (λ j. if sym (own_group t b dup.row) j then with_place p (h.grouped t b j) else h.grouped t b j)) i in
-      if sym (own_group t b old.row) i && not (sym (own_group t b dup.row) i) then without (at i) mid_group else mid_group)
-      ∙ group_swap old_group new_group p g (λ outside. group_unlike p t b rows (not_in_group p t b s.dups h.lawful.in_place_order (sym found) outside))
-      ∙ sym (group_with t b dup.row rows h.lawful.in_place_order) in
+      let older : old.row.number < dup.row.number = find_all (λ r. r.place == p) (λ r. r.number < dup.row.number) rows
+      old.row row_found fresh in
+      let grouped : (t : ℕ) (b : List ℕ) → places_of t b new ≡ group_places t b all = λ t b.
+      let outside = λ (out : in_group t b old.row ≡ false). group_unlike p t b rows
+      (not_in_group p t b s.dups rise (sym found) out) in
+      grind (
+        arith,
+        own_group t b dup.row,
+        own_group t b old.row,
+        group_joined t b dup.row rows,
+        group_passed t b dup.row rows rise,
+      ) in
       let swap = swapped found in
       let r = dup.row in
-      let all = with_dup r rows in
-      let first : IsRegrouped (length (group_places r.tree r.bytes rows)) (length (places_of r.tree r.bytes mid)) index.groups.totals mid.groups.totals = rw (← h.grouped r.tree r.bytes) entered.totals in
-      let counted : AreTotals all new.groups.totals = elim (cases_Bool (in_group r.tree r.bytes old.row)) [
+      let o = old.row in
+      let first : IsRegrouped (length (group_places r.tree r.bytes rows)) (length (places_of r.tree r.bytes mid))
+      index.groups.totals mid.groups.totals = rw (← h.grouped r.tree r.bytes) entered.totals in
+      let counted : AreTotals all new.groups.totals = elim (cases_Bool (in_group r.tree r.bytes o)) [
         | inl same ↦
-            let tree : old.row.tree ≡ r.tree = own_tree r.bytes old.row same in
-            let bytes : old.row.bytes ≡ r.bytes = own_bytes r.tree old.row same in
-            let second : IsRegrouped (length (places_of r.tree r.bytes mid)) (length (group_places r.tree r.bytes all)) mid.groups.totals new.groups.totals =
-            rw (← grouped r.tree r.bytes) (subst (λ x. IsRegrouped (length (places_of x r.bytes mid)) (length (places_of x r.bytes new)) mid.groups.totals new.groups.totals) tree
-            (subst (λ x. IsRegrouped (length (places_of old.row.tree x mid)) (length (places_of old.row.tree x new)) mid.groups.totals new.groups.totals) bytes left)) in
-            totals_same swap.there swap.here h.lawful.in_place_order swap.less_rise swap.new_rise same first second h.counted
-        | inr other ↦
-            let at_r : length (places_of r.tree r.bytes mid) ≡ length (group_places r.tree r.bytes all) = ap length (joined_own entered) in
-            let at_old : length (places_of old.row.tree old.row.bytes mid) ≡ length (group_places old.row.tree old.row.bytes rows) =
-            ap length (entered.groups old.row.tree old.row.bytes ∙ rw other refl ∙ h.grouped old.row.tree old.row.bytes) in
-            totals_apart swap.there swap.here h.lawful.in_place_order swap.less_rise swap.new_rise mid.groups.totals other
-            (rw (← at_r) first) (rw (← at_old, ← grouped old.row.tree old.row.bytes) left) h.counted
+            let second : IsRegrouped (length (places_of r.tree r.bytes mid)) (length (group_places r.tree r.bytes all))
+            mid.groups.totals new.groups.totals =
+            grind (arith, own_bytes r.tree o same) in
+            totals_same swap.there swap.here rise swap.less_rise new_rise same first second h.counted
+        | inr other ↦ totals_apart swap.there swap.here rise swap.less_rise new_rise mid.groups.totals other
+            (rw (← joined_own entered) first)
+            (grind arith) h.counted
       ] in
-      record {
-        few = h.few;
-        counted = subst (λ l. AreTotals l new.groups.totals) (sym (rows_new dup s.dups)) counted;
-        lawful = lawful_new ready;
-        numbered = λ q.
-            left_numbers q
-            ∙ ap (λ v. if q == old.row.number then None else v) (entered.numbers q ∙ ap (λ v. if q == dup.row.number then Some p else v) (h.numbered q))
-            ∙ swap_tests q old.row.number dup.row.number None (Some p) (row_place q rows) apart
-            ∙ ap (λ v. if q == dup.row.number then Some p else v) (sym (place_gone p q rows h.lawful.in_place_order row_found))
-            ∙ sym (place_with q dup.row rows h.lawful.in_place_order fresh)
-            ∙ ap (row_place q) (sym (rows_new dup s.dups));
-        grouped = λ t b. grouped t b ∙ ap (group_places t b) (sym (rows_new dup s.dups));
-      }
+      made ready counted
+      (λ q. grind (
+        arith,
+        nat_tests,
+        place_gone p q rows rise row_found,
+        place_new dup.row rows fresh,
+        place_kept q dup.row rows rise,
+      )) grouped
 
 -- once a dup is made, callers see that dup among the others, and the next number one higher
 pub seen_made : (s : SlotsState) (next : ℕ) (index new : Index) (dup : ℕ → Dup) (ready : Bool) {old : DupsState} → dups_seen s next index ≡ old → SameWaits index.groups new.groups
     → dups_seen (record { places = s.places; dups = with_new (dup next) s.dups; ready = ready }) (next + 1) new ≡ record old { dups = with_new (dup old.next) old.dups; next = old.next + 1 }
-seen_made s next index new dup ready view same =
-    grind (arith, nat_tests, view, same)
+seen_made s next index new dup ready view same = grind arith
 
 -- the next number is that of no dup
 pub next_unused : {s : SlotsState} {next : ℕ} {index : Index} → AreIndexed s next index → place_of next index ≡ None
-next_unused {s} {next} h =
-    h.numbered next ∙ ap (option_map (λ r. r.place)) (find_nothing _ _ (All-weaker (λ r. r.number < next) _ (λ r below. ne_eqb r.number next (λ e. omega (arith, below, e))) (rows_of s.dups) h.lawful.numbers_below))
+next_unused {s} {next} h = grind (arith, find_nothing)

@@ -3,7 +3,7 @@ use Rattle.ksm_tree.proofs.Names.{arith, Err, IsOk, IsOrder, nat_lt, nat_tests, 
 
 -- what is promised where a result is `Ok` holds where the result is `Ok`
 pub at_ok : {T E : Type 0} {P : Type 0} (r : Result T E) → IsOk r → OnOk r P → P
-at_ok r good holds = grind (arith, nat_tests, good, holds)
+at_ok r good holds = grind arith
 
 -- what holds anyway may be promised where a result is an error
 pub on_err : {T E : Type 0} {P : Type 0} (r : Result T E) → P → OnErr r P
@@ -12,12 +12,4 @@ on_err (Err e) holds = holds
 
 -- places have the order of numbers
 pub places_ordered : IsOrder nat_lt (λ p q. p == q)
-places_ordered = record {
-  trans = λ p q r first second. grind (arith, nat_tests);
-  apart = λ p q before. grind (arith, nat_tests);
-  apart_back = λ p q before. grind (arith, nat_tests);
-  asym = λ p q before. grind (arith, nat_tests);
-  total = λ p q differ later. grind (arith, nat_tests);
-  same_refl = λ p. grind (arith, nat_tests);
-  same_eq = λ p q same. grind (arith, nat_tests);
-}
+places_ordered = grind (arith, nat_tests)

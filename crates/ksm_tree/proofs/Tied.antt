@@ -1,14 +1,10 @@
 -- The pages of the rows merged into a dup, after a change of one row.
-use Rattle.ksm_tree.proofs.Alike.{change_none, chosen, filter_mapped, kept_append, map_mapped}
+use Rattle.ksm_tree.proofs.Alike.{change_none, chosen, kept_append}
 use Rattle.ksm_rmap.proofs.Ordered.{absent_parts, found_parts, none_same, none_same_low, without_between}
-use Rattle.ksm_tree.proofs.Names.{[], All, All-filter, All-weaker, ap, AreCounted, AreTied, arith, Bool, change_row, comes_before, Dup, DupRow, false, false≢true, filter, filter_passes, find_passes, if◌then◌else◌, None, Option, Some, map-append, absent_kept, GuestPage, InPageOrder, is_some, item_count, items_of, length, length-filter, length-map, List, map, merged_into, not, pages_ordered, refl, Row, row_at, same_page, sym, true, with_item, without_item, without_page, ◌++◌, ◌∙◌, ◌∷◌, ◌≡◌}
+use Rattle.ksm_tree.proofs.Names.{[], All, ap, AreCounted, AreTied, arith, Bool, change_row, comes_before, Dup, DupRow, false, filter, filter_passes, find_passes, None, Option, Some, map-append, absent_kept, GuestPage, InPageOrder, is_some, items_of, length-filter, length-map, List, map, merged_into, not, pages_ordered, refl, Row, row_at, same_page, sym, true, with_item, without_item, without_page, ◌++◌, ◌∙◌, ◌∷◌, ◌≡◌, suc}
 
 abbrev pub page_of : Row → GuestPage
 page_of r = r.page
-
--- the pages of the rows that pass a test
-abbrev pub pages_that : (Row → Bool) → List Row → List GuestPage
-pages_that test rows = map page_of (filter test rows)
 
 module _ (page : GuestPage) where
   -- a row whose page comes before the page
@@ -24,16 +20,17 @@ module _ (page : GuestPage) where
   change_splits new rows rise there = go _ refl
     where
       go : (o : Option Row) → row_at page rows ≡ o → change_row page (λ _. new) rows ≡ filter ahead rows ++ new ∷ filter behind rows
-      go None none = absurd (false≢true (ap is_some (sym none) ∙ there))
-      go (Some r) found =
-          let write = λ (s : Row). if same_page s.page page then new else s in
-          let still = λ (rows : List Row). change_none (λ s. same_page s.page page) (λ _. new) rows in
-          let front = still (filter ahead rows) (none_same_low pages_ordered page_of _ (filter ahead rows) (filter_passes ahead rows)) in
-          let back = still (filter behind rows) (none_same pages_ordered page_of page (filter behind rows) (filter_passes behind rows)) in
-          let here : write r ≡ new = rw (find_passes (λ s. same_page s.page page) rows r found) refl in
-          ap (map write) (found_parts pages_ordered page_of page rows r rise found)
-          ∙ map-append write (filter ahead rows) (r ∷ filter behind rows)
-          ∙ (λ i. front i ++ here i ∷ back i)
+      go None none = grind arith
+      go (Some r) found = grind (
+        arith,
+        map-append,
+        found_parts pages_ordered page_of page rows r rise,
+        find_passes (λ s. same_page s.page page) rows,
+        change_none (λ s. same_page s.page page) (λ _. new) (filter ahead rows)
+            (none_same_low pages_ordered page_of _ _ (filter_passes ahead rows)),
+        change_none (λ s. same_page s.page page) (λ _. new) (filter behind rows)
+            (none_same pages_ordered page_of page _ (filter_passes behind rows)),
+      )
 
   -- in the order of pages, the rows of pages other than one are those ahead of that page, then those behind
   pub without_splits : (rows : List Row) → InPageOrder rows → without_page page rows ≡ filter ahead rows ++ filter behind rows
@@ -42,10 +39,10 @@ module _ (page : GuestPage) where
       go : (o : Option Row) → row_at page rows ≡ o → without_page page rows ≡ filter ahead rows ++ filter behind rows
       go None none = sym (absent_kept pages_ordered _ page _ none) ∙ absent_parts pages_ordered _ page _ rise none
       go (Some r) found =
-          let here : filter (λ s. not (same_page s.page page)) (r ∷ []) ≡ [] = rw (find_passes _ rows r found) refl in
           ap (without_page page) (found_parts pages_ordered page_of page rows r rise found)
-          ∙ without_between pages_ordered page_of page (filter ahead rows) (r ∷ []) (filter behind rows) (filter_passes ahead rows) (filter_passes behind rows)
-          ∙ ap (λ mid. filter ahead rows ++ (mid ++ filter behind rows)) here
+          ∙ without_between pages_ordered page_of page _ (r ∷ []) _ (filter_passes ahead rows)
+          (filter_passes behind rows)
+          ∙ rw (find_passes _ rows r found) refl
 
 module _ (rows : List Row) (d : DupRow) (rise : InPageOrder rows) (page : GuestPage) where
   abbrev merged : Row → Bool
@@ -57,32 +54,18 @@ module _ (rows : List Row) (d : DupRow) (rise : InPageOrder rows) (page : GuestP
 
   -- the items of a dup have the page once the page's row is merged into it
   pub items_joined : (new : Row) → new.page ≡ page → is_some (row_at page rows) ≡ true → merged new ≡ true → items_of (change_row page (λ _. new) rows) d ≡ with_item page (items_of rows d)
-  items_joined new at there passes =
-      let first : pages_that merged (new ∷ filter (behind page) rows) ≡ page ∷ pages_that merged (filter (behind page) rows) = grind (arith, passes, at) in
-      ap (pages_that merged) (change_splits _ new _ rise there)
-      ∙ kept_append _ _ (filter (ahead page) rows) _
-      ∙ (λ i. chosen page_of merged (λ p. comes_before p page) rows i ++ (first ∙ ap (λ ps. page ∷ ps) (chosen page_of merged (λ p. comes_before page p) rows)) i)
+  items_joined new at there passes = grind (arith, change_splits page new rows rise, kept_append, chosen page_of merged)
 
   -- the items of a dup are without the page once the page's row is not merged into it
   pub items_left : (new : Row) → is_some (row_at page rows) ≡ true → merged new ≡ false → items_of (change_row page (λ _. new) rows) d ≡ without_item page (items_of rows d)
   items_left new there fails =
-      let first : pages_that merged (new ∷ filter (behind page) rows) ≡ pages_that merged (filter (behind page) rows) = grind (arith, fails) in
-      ap (pages_that merged) (change_splits _ new _ rise there)
-      ∙ kept_append _ _ (filter (ahead page) rows) _
-      ∙ ap (λ ps. pages_that merged (filter (ahead page) rows) ++ ps) first
-      ∙ sym (kept_append _ merged (filter (ahead page) rows) (filter (behind page) rows))
-      ∙ ap (pages_that merged) (sym (without_splits page rows rise))
-      ∙ items_dropped
+      grind (arith, change_splits page new rows rise there, kept_append, without_splits page rows rise, items_dropped)
 
 -- the items of a dup stay where each row changes but for its page and its dup
 pub items_kept : (rows : List Row) (d : DupRow) (f : Row → Row) → All (λ r. ((f r).page ≡ r.page) × (merged_into d.number (f r).state ≡ merged_into d.number r.state)) rows → items_of (map f rows) d ≡ items_of rows d
-items_kept rows d f same =
-    let m = λ (r : Row). merged_into d.number r.state in
-    ap (map page_of) (filter_mapped f m m _ (λ k e lt. (same k e lt).1))
-    ∙ map_mapped _ f _ _ (All-filter m (λ r. (f r).page ≡ r.page) _ (λ k e lt. (same k e lt).0))
+items_kept [] d f same = refl
+items_kept (r ∷ rows) d f same = grind (arith, same 0 r, items_kept rows d f (λ k e lt. same (suc k) e (omega arith)))
 
 -- where each dup's items are the pages of the rows merged into the dup, there are as many items as such rows
 pub tied_counted : (rows : List Row) (dups : List Dup) → AreTied rows dups → AreCounted rows dups
-tied_counted rows dups tied =
-    All-weaker _ (λ d. length d.items ≡ item_count rows d.row)
-    (λ d e. ap length e ∙ length-map (filter (λ r. merged_into d.row.number r.state) rows) (λ r. r.page) ∙ length-filter _ rows) _ tied
+tied_counted rows dups tied k d lt = grind (arith, length-map, length-filter)

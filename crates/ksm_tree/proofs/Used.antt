@@ -1,42 +1,19 @@
 -- The contents that are in use: what is left once those are gone that are not.
-use Rattle.ksm_tree.proofs.Names.{[], ap, AreGroups, BTreeMap, bytes_eq, cases_Bool, cases_lt, Content, content_in, content_of, content_order, false, get, get_or_past, Group, Groups, if◌then◌else◌, inl, inr, is_at, is_occupied, is_some, is_used_in, IsAsWas, IsSwept, length, nat_lt, None, number_of, Option, option_map, places_in, Slab, Some, sym, true, true≢false, under, Updates, ℕ, ◌&&◌, ◌+◌, ◌<◌, ◌==◌, ◌||◌, ◌∙◌, ◌≡◌, List, refl}
+use Rattle.ksm_tree.proofs.Names.{AreGroups, BTreeMap, bytes_eq, cases_Bool, Content, content_of, content_order, false, get, get_or_past, Group, Groups, if◌then◌else◌, inl, inr, is_at, is_occupied, is_some, is_used_in, IsAsWas, IsSwept, length, None, number_of, Option, Slab, Some, sym, true, Updates, ℕ, ◌&&◌, ◌+◌, ◌<◌, ◌==◌, ◌≡◌, List, arith}
 use Rattle.ksm_tree.proofs.Numbering.{same_content}
 use Rattle.ksm_tree.specs.Reserve.{KeepsReserve}
 use Rattle.std.specs.Prelude.{◌⊎◌}
-use Rattle.ksm_tree.proofs.Standing.{are_one, page_in, waiting_found}
-
--- a change of a value leaves whether there is one
-some_of_map : {X Y : Type 0} (f : X → Y) (x : Option X) → is_some (option_map f x) ≡ is_some x
-some_of_map f None = refl
-some_of_map f (Some x) = refl
-
--- a slot with a content has a group
-has_group : (slot : Option Group) {k : Content} → content_in slot ≡ Some k → is_some slot ≡ true
-has_group slot is = sym (some_of_map _ _) ∙ ap is_some is
+use Rattle.ksm_tree.proofs.Standing.{are_one, waiting_found}
 
 -- a slot with a group is one of the slots
 pub within_slots : (groups : Slab Group) (n : ℕ) → is_some (get groups n) ≡ true → n < length groups.slots
-within_slots groups n has = elim (cases_lt n (length groups.slots)) [
-  | inl inside ↦ inside
-  | inr past ↦ absurd (true≢false (sym has ∙ ap is_some (get_or_past _ n _ past)))
-]
+within_slots groups n has = grind (arith, get_or_past)
 
 -- where something stands in each group, each content with a number is in use
 pub all_used : (g : Groups) → AreGroups g.numbers.entries g.groups g.pass
     → ((n : ℕ) → is_some (get g.groups n) ≡ true → is_occupied g.pass (get g.groups n) ≡ true)
     → (t : ℕ) (b : List ℕ) → is_some (number_of t b g.numbers.entries) ≡ true → is_used_in g t b ≡ true
-all_used g are occupied t b has = by (number_of t b g.numbers.entries) refl
-  where
-    by : (o : Option ℕ) → number_of t b g.numbers.entries ≡ o → is_used_in g t b ≡ true
-    by None absent = absurd (true≢false (sym has ∙ ap is_some absent))
-    by (Some n) found =
-        let chain = ap (under [] (λ m. places_in (get g.groups m))) found in
-        let page = waiting_found are t b
-        ∙ ap (under None (λ m. page_in g.pass (get g.groups m))) found in
-        let waits =
-        ap is_some page ∙ some_of_map _ _ in
-        let here = has_group _ ((are.numbered (content_of t b) n).0 found) in
-        (λ i. nat_lt 0 (length (chain i)) || waits i) ∙ occupied n here
+all_used g are occupied t b has = grind (arith, waiting_found are t b, are.numbered (content_of t b))
 
 -- a content that had no number gets one: there is one more, and no other content got one
 pub one_more : (old new : BTreeMap Content ℕ) (tree : ℕ) (bytes : List ℕ) (key : ℕ) {before : Option ℕ}
@@ -45,17 +22,15 @@ pub one_more : (old new : BTreeMap Content ℕ) (tree : ℕ) (bytes : List ℕ) 
     → Updates content_order old new (content_of tree bytes) (Some key)
     → (length new.entries ≡ length old.entries + 1)
     × ((t : ℕ) (b : List ℕ) → is_some (number_of t b new.entries) ≡ true → (t == tree && bytes_eq b bytes) ≡ false → is_some (number_of t b old.entries) ≡ true)
-one_more old new tree bytes key none was long updates = (long ∙ ap (λ o. length old.entries + (if is_some o then 0 else 1)) (was ∙ none), others)
-  where
-    others : (t : ℕ) (b : List ℕ) → is_some (number_of t b new.entries) ≡ true → (t == tree && bytes_eq b bytes) ≡ false → is_some (number_of t b old.entries) ≡ true
-    others t b has apart = elim (cases_Bool (is_at (content_order (content_of tree bytes)) (content_of t b))) [
-      | inl here ↦ absurd (true≢false (sym (are_one t _ b _ (sym (same_content here))) ∙ apart))
-      | inr other ↦ ap is_some (sym (updates.2 (content_of t b) other)) ∙ has
-    ]
+one_more old new tree bytes key none was long updates = (
+  grind arith,
+  λ t b has apart. elim (cases_Bool (is_at (content_order (content_of tree bytes)) (content_of t b))) [
+    | inl here ↦ grind (arith, are_one t _ b _ (sym (same_content here)))
+    | inr other ↦ grind arith
+  ],
+)
 
 -- where the others lost their numbers, or nothing happened, and no content got one, the reserve is kept
 pub reserve_left : (old : Groups) {g : Groups} {tree : ℕ} {bytes : List ℕ} → (IsSwept g ⊎ IsAsWas old g)
     → KeepsReserve (is_used_in g) tree bytes old.numbers.entries g.numbers.entries old.most g.most
-reserve_left old (inl swept) =
-    record { many = inr swept.least; limit = inr (record { used = λ t b has apart. swept.used t b has; limit = swept.most }) }
-reserve_left old (inr same) = record { many = inl same.0; limit = inl same.1 }
+reserve_left old is = grind (arith)

@@ -7,8 +7,7 @@ use Rattle.ksm_rmap.proofs.items.place_of.Goals as goal
 
 pub returns-clause-count : goal.returns-clause-count
 returns-clause-count c =
-    let page = c.args.page in
-    let pages = c.args.pages.now in
-    let split = parted pages_ordered (λ p. p) page pages c.requires in
-    let point = IsPartitionPoint-from_clause (λ p. comes_before p page) pages _ c.partition_point.ensures.partitioned split (λ a r q k. search rules) in
-    point_is_count (λ p. comes_before p page) pages _ c.partition_point.ensures.bound point.0 point.1
+    let split = parted pages_ordered (λ p. p) _ _ c.requires in
+    let point = IsPartitionPoint-from_clause (λ p. comes_before p c.args.page) _ _
+    c.partition_point.ensures.partitioned split (λ a r q k. search rules) in
+    point_is_count _ _ _ c.partition_point.ensures.bound point.0 point.1

@@ -1,9 +1,14 @@
-use Rattle.ksm_tree.proofs.Names.{arith}
-use Rattle.ksm_tree.proofs.NumberBits.{lowest_behind, none_from}
+use Rattle.ksm_tree.proofs.Names.{arith, bit_at-zero, bit_at_above}
+use Rattle.ksm_tree.proofs.NumberBits.{bit_of_rest, bit_behind}
 use Rattle.ksm_tree.proofs.bits.lowest_from.Goals as goal
 
 pub returns-then-rest-eq0 : goal.returns-then-rest-eq0
-returns-then-rest-eq0 c = none_from c.args.word _ c.if-rest-eq0.true
+returns-then-rest-eq0 c = grind (arith, bit_behind c.args.word c.args.from, bit_at-zero)
 
 pub returns-else-rest-eq0 : goal.returns-else-rest-eq0
-returns-else-rest-eq0 c = lowest_behind (omega (arith, c.ranges.word)) c.lowest.ensures
+returns-else-rest-eq0 c = grind (
+  arith,
+  bit_of_rest c.args.word c.args.from c.lowest.result,
+  bit_at_above c.args.word 64,
+  bit_behind c.args.word c.args.from,
+)

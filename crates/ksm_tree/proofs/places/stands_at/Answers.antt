@@ -1,14 +1,18 @@
-use Rattle.ksm_tree.proofs.Names.{absent_past, any_found, ap, found_by, is_some, le-ltb, refl, sym, ◌∙◌}
+use Rattle.ksm_tree.proofs.Names.{absent_past, any_found, found_by, le-ltb, refl, sym, ◌∙◌, arith}
 use Rattle.ksm_tree.proofs.Numbers.{places_ordered}
 use Rattle.ksm_tree.proofs.places.stands_at.Goals as goal
 
 pub returns-then-at-places-clause-found : goal.returns-then-at-places-clause-found
 returns-then-at-places-clause-found c =
-    let places = c.args.places.now in
-    sym (any_found _ places
-    ∙ found_by places_ordered (λ p. p) c.args.place places c.requires.order refl refl c.requires.index 0 c.if-at-places.true)
+    sym (any_found _ c.args.places.now ∙ found_by places_ordered (λ p. p) _ _ c.requires.order refl refl
+    c.requires.index 0 c.if-at-places.true)
 
 pub returns-else-at-places-clause-found : goal.returns-else-at-places-clause-found
 returns-else-at-places-clause-found c =
-    let absent = absent_past places_ordered _ _ _ c.requires.order refl refl c.requires.index c.if-at-places.false in
-    le-ltb _ _ c.if-at-places.false ∙ sym (any_found _ c.args.places.now ∙ ap is_some absent)
+    grind (
+      arith,
+      absent_past places_ordered (λ p. p) c.args.place c.args.places.now
+          c.requires.order refl refl c.requires.index c.if-at-places.false,
+      le-ltb _ _ c.if-at-places.false,
+      any_found,
+    )

@@ -1,7 +1,6 @@
-use Rattle.std.proofs.Common.{◌≡◌, ◌∙◌, refl, sym, ap, arith}
+use Rattle.std.proofs.Common.{◌≡◌, ◌∙◌, refl, arith}
 use Rattle.ksm_base.specs.declared.page.GuestPage.{GuestPage}
-use Rattle.ksm_base.specs.Rows.{same_page}
-use Rattle.ksm_rmap.specs.Items.{has_item, without_item}
+use Rattle.ksm_rmap.specs.Items.{without_item}
 use Rattle.ksm_rmap.proofs.Ordered.{remove_at, absent_kept, none_found, without_rises}
 use Rattle.ksm_rmap.proofs.Pages.{pages_ordered}
 use Rattle.ksm_rmap.proofs.items.Items.remove.Goals as goal
@@ -11,19 +10,20 @@ removed : (c : goal.After-remove) → c.remove.new.self.items ≡ without_item c
 removed c =
     let d : GuestPage = record { guest = 0; page = 0 } in
     c.remove.ensures.items
-    ∙ remove_at pages_ordered (λ p. p) c.args.page c.self.inside.pages.items c.self.invariant.0 c.as_slice.ensures c.as_slice-2.ensures c.place_of-at.ensures.count d
+    ∙ remove_at pages_ordered (λ p. p) c.args.page _ c.self.invariant.0 c.as_slice.ensures c.as_slice-2.ensures
+    c.place_of-at.ensures.count d
     (c.if-found.ensures.within refl) (c.if-found.ensures.here refl d)
 
 pub invariant_of-self : goal.invariant_of-self
-invariant_of-self c =
-    let rises = without_rises pages_ordered (λ p. p) c.args.page c.self.inside.pages.items c.self.invariant.0 in
-    (rw (removed c) rises, omega (arith, c.remove.ensures.len, c.self.invariant.1))
+invariant_of-self c = (
+  rw (removed c) (without_rises pages_ordered (λ p. p) c.args.page _ c.self.invariant.0),
+  omega arith,
+)
 
 pub returns-then-found-clause-removed : goal.returns-then-found-clause-removed
-returns-then-found-clause-removed c = rw (← c.self.view_is) (removed c)
+returns-then-found-clause-removed c = grind (arith, removed)
 
 pub returns-else-found-clause-removed : goal.returns-else-found-clause-removed
 returns-else-found-clause-removed c =
-    let seen = c.as_slice-2.ensures ∙ c.self.view_is in
-    absent_kept pages_ordered (λ p. p) c.args.page c.args.self.now
-    (none_found (λ p. same_page p c.args.page) c.args.self.now (ap (λ ps. has_item c.args.page ps) (sym seen) ∙ sym c.if-found.ensures.found))
+    absent_kept pages_ordered (λ p. p) c.args.page _
+    (none_found _ c.args.self.now (grind arith))

@@ -1,16 +1,13 @@
-use Rattle.ksm_tree.proofs.Names.{ap, arith, get_or_default, IsLowestBit, length, subst, sym, ◌∙◌, ℕ}
-use Rattle.ksm_tree.proofs.NumberBits.{alone_behind, found_behind, within_named}
+use Rattle.ksm_tree.proofs.Names.{arith, get_or_default, sym, ◌∙◌, nat_tests}
+use Rattle.ksm_tree.proofs.NumberBits.{found_behind, within_named}
 use Rattle.ksm_tree.proofs.bits.Words.first_behind.Goals as goal
 
 pub returns-then-this-le1 : goal.returns-then-this-le1
-returns-then-this-le1 g c =
-    rw (← c.self.view_is)
-    (alone_behind _ _ _ (omega (arith, c.if-this-le1.true)) c.self.invariant.few (omega (arith, c.requires, ap length c.self.view_is)))
+returns-then-this-le1 g c = grind (arith, nat_tests)
 
 pub returns : goal.returns
 returns g c =
-    let summed = c.self.invariant.summed (omega (arith, c.if-this-le1.false)) in
-    let within = within_named _ summed c.in_ok-next.ensures in
-    let read = get_or_default _ c.in_ok-next.next 0 _ within ∙ sym c.index.ensures in
-    let lowest = subst (λ (word : ℕ). IsLowestBit word 0 c.lowest.result) (sym read) c.lowest.ensures in
-    rw (← c.self.view_is) (found_behind _ summed _ c.in_ok-next.ensures lowest)
+    let summed = c.self.invariant.summed (omega arith) in
+    let read = get_or_default _ c.in_ok-next.next 0 _ (within_named _ summed c.in_ok-next.ensures)
+    ∙ sym c.index.ensures in
+    rw (← c.self.view_is) (found_behind _ summed _ c.in_ok-next.ensures (rw read c.lowest.ensures))

@@ -1,32 +1,21 @@
-use Rattle.ksm_tree.proofs.Names.{ap, AreSummed, arith, bit_or, get_or_default, length, set, subst, sym, ◌%◌, ◌*◌, ◌<◌, ◌^◌, ◌∙◌, ℕ}
-use Rattle.ksm_tree.proofs.NumberBits.{marks_more, stay_alone, stay_more}
+use Rattle.ksm_tree.proofs.Names.{arith, get_or_default, length, ◌%◌, ◌<◌, length-set}
+use Rattle.ksm_tree.proofs.NumberBits.{marks_more, stay_more}
 use Rattle.ksm_tree.proofs.bits.WordsBits.add.Goals as goal
 
 pub invariant_of-self : goal.invariant_of-self
 invariant_of-self g c =
-    let words = c.self.inside.words.items in
-    let at = c.word_of-at.result in
-    let within : at < length words = omega (arith, c.word_of-at.ensures, c.requires, ap length c.self.view_is) in
-    let read = get_or_default _ at 0 _ within ∙ sym c.index_mut.ensures.value in
-    subst (λ (word : ℕ). AreSummed g.row.MOST (set words at (bit_or word (1 * 2 ^ (c.args.number % 64) % 18446744073709551616))) (g.S.Bits.words c.add.new.self)) read
-    (stay_more c.self.invariant (c.args.number % 64) within (omega arith) c.if-this-gt1.true c.add.ensures)
+    let within : c.word_of-at.result < length c.self.inside.words.items = grind arith in
+    grind (
+      arith,
+      get_or_default,
+      stay_more c.self.invariant (c.args.number % 64) within (omega arith) c.if-this-gt1.true c.add.ensures,
+    )
 
 pub invariant_of-self-else-this-gt1 : goal.invariant_of-self-else-this-gt1
-invariant_of-self-else-this-gt1 g c =
-    stay_alone c.self.invariant c.word_of-at.result _ c.if-this-gt1.false
+invariant_of-self-else-this-gt1 g c = grind (arith, length-set)
 
 pub returns-then-this-gt1 : goal.returns-then-this-gt1
-returns-then-this-gt1 g c =
-    let words = c.self.inside.words.items in
-    let at = c.word_of-at.result in
-    let within : at < length words = omega (arith, c.word_of-at.ensures, c.requires, ap length c.self.view_is) in
-    let read = get_or_default _ at 0 _ within ∙ sym c.index_mut.ensures.value in
-    rw (← read, ← c.self.view_is, c.word_of-at.ensures) (marks_more _ _ (omega (arith, c.requires, ap length c.self.view_is)))
+returns-then-this-gt1 g c = grind (arith, get_or_default, marks_more)
 
 pub returns-else-this-gt1 : goal.returns-else-this-gt1
-returns-else-this-gt1 g c =
-    let words = c.self.inside.words.items in
-    let at = c.word_of-at.result in
-    let within : at < length words = omega (arith, c.word_of-at.ensures, c.requires, ap length c.self.view_is) in
-    let read = get_or_default _ at 0 _ within ∙ sym c.index_mut.ensures.value in
-    rw (← read, ← c.self.view_is, c.word_of-at.ensures) (marks_more _ _ (omega (arith, c.requires, ap length c.self.view_is)))
+returns-else-this-gt1 g c = grind (arith, get_or_default, marks_more c.args.self.now c.args.number)

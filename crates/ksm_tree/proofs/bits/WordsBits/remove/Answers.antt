@@ -1,46 +1,21 @@
-use Rattle.ksm_tree.proofs.Names.{ap, arith, bit_and, get_or, get_or_default, length, nat_tests, sym, ◌%◌, ◌*◌, ◌-◌, ◌<◌, ◌^◌, ◌∙◌, ◌≢◌, ◌≤◌, ℕ}
+use Rattle.ksm_tree.proofs.Names.{arith, get_or_default, length-set}
 use Rattle.std.proofs.lemmas.Nat.{and_le_l}
-use Rattle.ksm_tree.proofs.NumberBits.{marks_less, stay_alone, stay_less, stay_some}
+use Rattle.ksm_tree.proofs.NumberBits.{marks_less, stay_less, stay_some}
 use Rattle.ksm_tree.proofs.bits.WordsBits.remove.Goals as goal
-use Rattle.ksm_tree.proofs.bits.WordsBits.remove.Goals.{else-this-gt1-via-then-this-gt1+else-left-eq0, else-this-gt1-via-else-this-gt1}
 
 pub invariant_of-self : goal.invariant_of-self
 invariant_of-self g c =
-    let within : c.word_of-at.result < length c.self.inside.words.items = omega (arith, c.word_of-at.ensures, c.requires, ap length c.self.view_is) in
-    stay_less c.self.invariant _
-    within c.if-left-eq0.true c.if-this-gt1.true c.remove.ensures
+    stay_less c.self.invariant _ (grind arith) c.if-left-eq0.true c.if-this-gt1.true c.remove.ensures
 
 pub invariant_of-self-else-left-eq0 : goal.invariant_of-self-else-left-eq0
-invariant_of-self-else-left-eq0 g c =
-    let words = c.self.inside.words.items in
-    let at = c.word_of-at.result in
-    let within : at < length words = omega (arith, c.word_of-at.ensures, c.requires, ap length c.self.view_is) in
-    let read = get_or_default words at 0 c.index.result.now within ∙ sym c.index.ensures in
-    let left : ℕ = bit_and c.index.result.now (18446744073709551615 - 1 * 2 ^ (c.args.number % 64) % 18446744073709551616) in
-    let some : left ≢ 0 = λ zero. grind (arith, nat_tests, zero, c.if-left-eq0.false) in
-    let less : left ≤ c.index.result.now = and_le_l c.index.result.now (18446744073709551615 - 1 * 2 ^ (c.args.number % 64) % 18446744073709551616) in
-    let before : get_or words at 0 ≢ 0 = λ zero. some (omega (arith, zero, read, less)) in
-    stay_some c.self.invariant at _ within some before
+invariant_of-self-else-left-eq0 g c = grind (arith, stay_some c.self.invariant, get_or_default, and_le_l)
 
 pub invariant_of-self-else-this-gt1 : goal.invariant_of-self-else-this-gt1
-invariant_of-self-else-this-gt1 g c =
-    stay_alone c.self.invariant _ _ c.if-this-gt1.false
+invariant_of-self-else-this-gt1 g c = grind (arith, length-set)
 
 pub returns-then-left-eq0 : goal.returns-then-left-eq0
-returns-then-left-eq0 g c =
-    let at = c.word_of-at.result in
-    let within : at < length c.self.inside.words.items = omega (arith, c.word_of-at.ensures, c.requires, ap length c.self.view_is) in
-    let read = get_or_default _ at 0 _ within ∙ sym c.index.ensures in
-    rw (← read, ← c.self.view_is, c.word_of-at.ensures) (marks_less _ _ (omega (arith, c.requires, ap length c.self.view_is)))
+returns-then-left-eq0 g c = grind (arith, get_or_default, marks_less)
 
 pub returns-else-this-gt1 : goal.returns-else-this-gt1
 returns-else-this-gt1 g c =
-    let at = c.word_of-at.result in
-    let within : at < length c.self.inside.words.items = omega (arith, c.word_of-at.ensures, c.requires, ap length c.self.view_is) in
-    let read = get_or_default _ at 0 _ within ∙ sym c.index.ensures in
-    elim c.else-this-gt1.branch [
-      | else-this-gt1-via-then-this-gt1+else-left-eq0 w ↦
-          rw (w.self-is, ← read, ← c.self.view_is, c.word_of-at.ensures) (marks_less _ _ (omega (arith, c.requires, ap length c.self.view_is)))
-      | else-this-gt1-via-else-this-gt1 w ↦
-          rw (w.self-is, ← read, ← c.self.view_is, c.word_of-at.ensures) (marks_less _ _ (omega (arith, c.requires, ap length c.self.view_is)))
-    ]
+    grind (arith, get_or_default c.self.inside.words.items, marks_less c.args.self.now c.args.number)

@@ -1,6 +1,6 @@
-use Rattle.ksm_tree.proofs.Names.{ap, has, ◌∙◌}
+use Rattle.ksm_tree.proofs.Names.{arith}
 use Rattle.ksm_tree.proofs.NumberBits.{none_there}
 use Rattle.ksm_tree.proofs.number_set.NumberSet.empty.Goals as goal
 
 pub returns-clause-none : goal.returns-clause-none
-returns-clause-none c n = ap (λ set. has set n) c.in_ok-empty.ensures.none ∙ none_there c.words_for-words.result n
+returns-clause-none c n = grind (arith, none_there)

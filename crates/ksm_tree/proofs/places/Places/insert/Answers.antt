@@ -1,25 +1,24 @@
-use Rattle.ksm_tree.proofs.Names.{ap, insert_at, list_any, none_found, refl, sym, with_found, with_place, with_rises, ◌==◌, ◌∙◌, ◌≡◌}
+use Rattle.ksm_tree.proofs.Names.{insert_at, none_found, refl, sym, with_found, with_place, with_rises, ◌∙◌, ◌≡◌, arith}
 use Rattle.ksm_tree.proofs.Numbers.{places_ordered, at_ok}
 use Rattle.ksm_tree.proofs.places.Places.insert.Goals as goal
 use Rattle.ksm_tree.proofs.places.Places.insert.Goals.{After-insert-there_is_room}
 
 inserted : (c : After-insert-there_is_room) → c.insert-there_is_room.new.self.items ≡ with_place c.args.place c.args.self.now.list.items
 inserted c =
-    let places = c.args.self.now.list.items in
-    let absent = none_found (λ p. p == c.args.place) c.as_slice-places.result.now (sym c.if-not-stands_at.ensures.found) in
     at_ok _ (c.insert-there_is_room.ensures.succeeds c.requires) c.insert-there_is_room.ensures.ok
-    ∙ insert_at places_ordered (λ p. p) c.args.place places c.args.self.now.ascending c.as_slice-places.ensures c.as_slice-places.ensures c.place_in-at.ensures.count
-    c.args.place absent
+    ∙ insert_at places_ordered (λ p. p) c.args.place _ c.args.self.now.ascending c.as_slice-places.ensures
+    c.as_slice-places.ensures c.place_in-at.ensures.count c.args.place
+    (none_found _ c.as_slice-places.result.now (sym c.if-not-stands_at.ensures.found))
 
 pub invariant_of-self : goal.invariant_of-self
-invariant_of-self c =
-    let is = inserted (goal.at.invariant_of-self c).After-insert-there_is_room in
-    record { ascending = rw is (with_rises places_ordered (λ p. p) c.args.place c.args.place c.args.self.now.list.items refl c.args.self.now.ascending) }
+invariant_of-self c = record {
+  ascending = rw (inserted (goal.at.invariant_of-self c).After-insert-there_is_room)
+      (with_rises places_ordered (λ p. p) c.args.place _ _ refl c.args.self.now.ascending);
+}
 
 pub returns-then-not-stands_at-clause-with : goal.returns-then-not-stands_at-clause-with
-returns-then-not-stands_at-clause-with c = inserted (goal.at.returns-then-not-stands_at-clause-with c).After-insert-there_is_room
+returns-then-not-stands_at-clause-with c = grind (arith, inserted)
 
 pub returns-else-not-stands_at-clause-with : goal.returns-else-not-stands_at-clause-with
-returns-else-not-stands_at-clause-with c =
-    with_found places_ordered _ _ c.args.self.now.ascending
-    (sym (c.if-not-stands_at.ensures.found ∙ ap (λ ps. list_any (λ p. p == c.args.place) ps) c.as_slice-places.ensures))
+returns-else-not-stands_at-clause-with c = with_found places_ordered _ _ c.args.self.now.ascending
+    (rw (← c.as_slice-places.ensures) (sym c.if-not-stands_at.ensures.found))

@@ -1,26 +1,25 @@
-use Rattle.ksm_tree.proofs.Names.{absent_kept, ap, list_any, none_found, refl, remove_at, sym, without, without_rises, ◌==◌, ◌∙◌, ◌≡◌}
+use Rattle.ksm_tree.proofs.Names.{absent_kept, none_found, refl, remove_at, sym, without, without_rises, ◌∙◌, ◌≡◌, arith}
 use Rattle.ksm_tree.proofs.Numbers.{places_ordered}
 use Rattle.ksm_tree.proofs.places.Places.remove.Goals as goal
 use Rattle.ksm_tree.proofs.places.Places.remove.Goals.{After-remove}
 
 taken : (c : After-remove) → c.remove.new.self.items ≡ without c.args.place c.args.self.now.list.items
 taken c =
-    let seen = c.as_slice-places.ensures in
     c.remove.ensures.items
-    ∙ remove_at places_ordered (λ p. p) c.args.place _ c.args.self.now.ascending seen seen c.place_in-at.ensures.count 0
+    ∙ remove_at places_ordered (λ p. p) c.args.place _ c.args.self.now.ascending c.as_slice-places.ensures
+    c.as_slice-places.ensures c.place_in-at.ensures.count 0
     (c.if-stands_at.ensures.within refl) (c.if-stands_at.ensures.here refl 0)
 
 pub invariant_of-self : goal.invariant_of-self
-invariant_of-self c =
-    let is = taken (goal.at.invariant_of-self c).After-remove in
-    record { ascending = rw is (without_rises places_ordered (λ p. p) c.args.place _ c.args.self.now.ascending) }
+invariant_of-self c = record {
+  ascending = rw (taken (goal.at.invariant_of-self c).After-remove)
+      (without_rises places_ordered (λ p. p) c.args.place _ c.args.self.now.ascending);
+}
 
 pub returns-then-stands_at-clause-without : goal.returns-then-stands_at-clause-without
-returns-then-stands_at-clause-without c = taken (goal.at.returns-then-stands_at-clause-without c).After-remove
+returns-then-stands_at-clause-without c = grind (arith, taken)
 
 pub returns-else-stands_at-clause-without : goal.returns-else-stands_at-clause-without
 returns-else-stands_at-clause-without c =
-    let place = c.args.place in
-    let places = c.args.self.now.list.items in
-    let absent = c.if-stands_at.ensures.found ∙ ap (λ ps. list_any (λ p. p == place) ps) c.as_slice-places.ensures in
-    absent_kept places_ordered (λ p. p) place places (none_found (λ p. p == place) places (sym absent))
+    absent_kept places_ordered (λ p. p) c.args.place _
+    (none_found _ c.args.self.now.list.items (rw (← c.as_slice-places.ensures) (sym c.if-stands_at.ensures.found)))
