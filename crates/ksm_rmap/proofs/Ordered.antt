@@ -1,6 +1,5 @@
 -- Lists in the order of their keys: where a key stands or would stand, and what an insert or a removal there leaves.
-use Rattle.std.proofs.Common.{◌≡◌, ℕ, zero, suc, ◌<◌, ◌≤◌, Bool, true, false, List, [], ◌∷◌, ◌++◌, length, get_or, refl, sym, ap, ◌∙◌, arith}
-use Rattle.std.proofs.Common.{◌-◌, Option, None, Some, is_some, length-append}
+use Rattle.std.proofs.Common.{◌≡◌, ℕ, zero, suc, ◌<◌, ◌≤◌, Bool, true, false, List, [], ◌∷◌, ◌++◌, length, get_or, refl, sym, ap, ◌∙◌, arith, ◌-◌, Option, None, Some, is_some, length-append}
 use Rattle.std.specs.Prelude.{find, not, All, AllPairs, filter, insert, remove}
 use Rattle.std.specs.List.{AllWithin, list_any}
 use Rattle.std.specs.List.Sorted.{IsPartitionedBy}
