@@ -1,5 +1,5 @@
 -- What is read of the rows along their order.
-use Rattle.ksm_pages.proofs.Names.{after_cursor, Ahead, ahead_of, All, All-filter, ap, ap₂, AreAscending, AreFiled, arith, At, Bool, comes_before, ComesTo, count_by, End, Entry, filter, find, find_all, get, GuestPage, held_in, held_under, last_or, length-map, List, map, Named, None, Option, option_map, option_or, pages_ahead, passed_to, Reaches, refl, Row, rows_of, Slab, slice_get, slice_get-map, Some, sym, ℕ, ◌&&◌, ◌-◌, ◌∙◌, ◌≡◌}
+use Rattle.ksm_pages.proofs.Names.{after_cursor, Ahead, ahead_of, All, All-filter, ap, ap₂, AreAscending, AreFiled, arith, At, Bool, ComesTo, count_by, End, Entry, find, find_all, get, GuestPage, held_in, held_under, last_or, length-map, List, map, Named, None, Option, option_map, pages_ahead, Reaches, refl, Row, rows_of, Slab, slice_get-map, Some, sym, ℕ, ◌&&◌, ◌∙◌, ◌≡◌}
 use Rattle.ksm_pages.specs.Ordered.{last_or as last_named}
 use Rattle.ksm_tree.proofs.Alike.{count_mapped, filter_mapped, find_mapped, map_mapped}
 use Rattle.ksm_pages.proofs.Filing.{all_stand, flag_under, page_under}
@@ -14,9 +14,7 @@ reached ahead visits (End made) comes = (comes.0 ∙ sym (length-map ahead page_
 
 -- the last page of named pages, or the cursor, is the last of their pages, or the cursor
 pub last_mapped : (cursor : Option GuestPage) (named : List Named) → last_named cursor named ≡ last_or cursor (map page_of named)
-last_mapped cursor named =
-    ap (λ o. option_or o cursor) (sym (slice_get-map page_of named _))
-    ∙ ap (λ n. option_or (slice_get (map page_of named) (n - 1)) cursor) (sym (length-map named page_of))
+last_mapped cursor named = grind (arith, slice_get-map, length-map)
 
 module _ (pass : ℕ) (slab : Slab Entry) (order : List Named) (rise : AreAscending order) (filed : AreFiled slab order) where
   abbrev row_by : Named → Row
@@ -53,7 +51,3 @@ module _ (pass : ℕ) (slab : Slab Entry) (order : List Named) (rise : AreAscend
       ap (pages_ahead cursor) rows_by
       ∙ ap (map (λ (r : Row). r.page)) (filter_mapped _ _ _ _ (λ k d lt. ap₂ (λ b p. b && after_cursor cursor p) (all_flags k d lt) (all_pages k d lt)))
       ∙ map_mapped _ _ _ _ (All-filter _ (λ n. (row_by n).page ≡ n.page) _ all_pages)
-
-  -- the pages that a scan has behind a cursor and before a page are the same in the rows and in the order
-  pub between_by : (cursor : Option GuestPage) (page : GuestPage) → filter (λ p. comes_before p page) (pages_ahead cursor (rows_of (held_in pass slab order))) ≡ map page_of (passed_to cursor page order)
-  between_by cursor page = grind (arith, ahead_by, filter_mapped)
