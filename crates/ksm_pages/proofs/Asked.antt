@@ -1,17 +1,12 @@
 -- What is asked of the pages: the place of a page's dup, and the first page after a cursor.
-use Rattle.ksm_pages.proofs.Names.{[], after_cursor, All-cons, ap, arith, Bool, cases_Bool, comes_before, DupRow, each_at_page, Entry, false, find, find_all, find_none, find_nothing, find_passes, get_or, GuestPage, held_at, held_of, inl, InPageOrder, inr, Inside, is_next, IsHeld, Kind, List, None, none-some, of_guest, Option, option_map, PagesValue, pairs_head, pairs_tail, place_of, Row, row_at, rows_of, rules, same_page, same_page_eq, seen, Some, state_of, subst, sym, true, true≢false, ℕ, ◌&&◌, ◌∙◌, ◌∷◌, ◌≡◌, ◌≤◌}
+use Rattle.ksm_pages.proofs.Names.{[], after_cursor, All-cons, ap, arith, Bool, cases_Bool, comes_before, each_at_page, Entry, false, find, find_all, find_none, find_nothing, find_passes, get_or, GuestPage, held_at, held_of, inl, InPageOrder, inr, Inside, is_next, IsHeld, Kind, List, None, none-some, of_guest, Option, option_map, PagesValue, pairs_head, pairs_tail, place_of, Row, row_at, rows_of, same_page, same_page_eq, seen, Some, state_of, subst, sym, true, ℕ, ◌∙◌, ◌∷◌, ◌≡◌, ◌≤◌}
 use Rattle.ksm_pages.proofs.Options.{mapped_some, none_mapped}
 use Rattle.std.specs.Prelude.{IfSome, MatchOption, option_and_then}
 use Rattle.ksm_tree.specs.Dups.{rows_of as dup_rows}
 use Rattle.ksm_pages.specs.declared.pages.Held.{Held as Told}
-use Rattle.ksm_pages.specs.declared.row.Kind.TheVariants as kinds
 use Rattle.ksm_pages.proofs.Leaving.{AreLawful, row_seen, view_of}
 
 -- ---------------------------------------------------------------- the place of a page's dup
-
--- a row with a frame of its own is in no dup
-pub placed_own : (number pass : ℕ) (dups : List DupRow) → None ≡ place_of (state_of kinds.Own number pass) dups
-placed_own number pass dups = grind arith
 
 -- the place of the dup of a page is what the state of its entry says
 pub ticket_told : (s : Inside) {p : PagesValue} → view_of s ≡ p → {page known : GuestPage} → known ≡ page → (e : Entry)
@@ -25,12 +20,7 @@ ticket_told s {p} seen_as {page} at e found is = grind (arith, row_seen)
 find_narrower : {X : Type 0} (p q : X → Bool) → ((x : X) → q x ≡ true → p x ≡ true) → (xs : List X) (x : X) → find p xs ≡ Some x
     → q x ≡ true → find q xs ≡ Some x
 find_narrower p q less [] x is passes = is
-find_narrower p q less (y ∷ ys) x is passes = elim (cases_Bool (p y)) [
-  | inl first ↦
-      let same : y ≡ x = grind arith in
-      grind arith
-  | inr out ↦ grind (arith, (find_narrower p q less ys x (grind arith) passes))
-]
+find_narrower p q less (y ∷ ys) x is passes = grind (arith, less y, find_narrower p q less ys x)
 
 -- where no row in front of a page passes, and that of the page does, that is the first that passes, if it is there
 pub first_at : (next : Row → Bool) (page : GuestPage) → ((r : Row) → r.page ≡ page → next r ≡ true)
@@ -77,25 +67,13 @@ module _ (p : PagesValue) (guest : Option ℕ) (cursor : Option GuestPage) where
     rise : InPageOrder p.rows
     rise = rw (← seen_as) are.order
 
-    first_page : option_map (λ (r : Row). r.page) (find behind (rows_of s.rows.held)) ≡ option_map (λ (r : Row). r.page) (find behind p.rows)
-    first_page = grind arith
-
     less : (r : Row) → next r ≡ true → behind r ≡ true
-    less r is = elim (cases_Bool _) [
-      | inl own ↦ let at = same r own in grind (arith, own, at, is)
-      | inr other ↦ absurd (grind (arith, other, is))
-    ]
-
-    not_next : (r : Row) → behind r ≡ false → next r ≡ false
-    not_next r out = elim (cases_Bool _) [
-      | inl is ↦ absurd (true≢false (sym (less r is) ∙ out))
-      | inr is ↦ is
-    ]
+    less r is = grind (arith, cases_Bool)
 
     -- where no row is behind the start, none comes next
     pub next_none : None ≡ option_map (λ (r : Row). r.page) (find behind (rows_of s.rows.held)) → {told : Option Told} → told ≡ None
         → IsNext told
-    next_none none is = search (rules, find_nothing, not_next, find_none, none_mapped, first_page)
+    next_none none is = grind (arith, find_nothing, find_none, none_mapped, cases_Bool, less)
 
     module _ (page : GuestPage) (first : Some page ≡ option_map (λ (r : Row). r.page) (find behind (rows_of s.rows.held))) where
       there : (r : Row) × (find behind p.rows ≡ Some r) × (page ≡ r.page)
@@ -129,7 +107,4 @@ module _ (p : PagesValue) (guest : Option ℕ) (cursor : Option GuestPage) where
       -- where the first row behind the start is of the guest, what is told of that row is what comes next
       pub next_told : ((x : Row) → x.page ≡ page → of_guest guest x ≡ true) → (told : Option Told)
           → MatchOption told (row_at page p.rows ≡ None) (IsHeld (seen p) page) → IsNext told
-      next_told own told is =
-          let of_it = own r (sym there.2) in
-          let passes = ap (λ b. b && after_cursor cursor r.page) of_it ∙ sym (same r of_it) ∙ find_passes behind p.rows r there.1 in
-          told_next rise (ap (option_map (λ (x : Row). x.page)) (find_narrower _ _ less _ r there.1 passes) ∙ ap Some (sym there.2)) _ is
+      next_told own told is = grind (arith, find_passes, told_next, rise, find_narrower, less, there.2, there.1)

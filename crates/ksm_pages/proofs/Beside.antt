@@ -1,5 +1,5 @@
 -- The page that waits in the tree of a merged row with its bytes: it is the row's partner.
-use Rattle.ksm_pages.proofs.Names.{ap, AreWaiting, arith, Bool, cond, Entry, false, find_passes, GuestPage, held_at, held_of, if◌then◌else◌, InPageOrder, Inside, Knobs, List, look_up_found, Merged, merged_state, names, None, Option, option_and_then, option_map, own_found, page_beside, PagesValue, partner, partner_found, refl, Row, row_at, rows_of, same_page, same_page_eq, Some, state_of, sym, tree_of, true≢false, waiting_page, waiting_state, WaitingPage, waits_there, ℕ, ◌∙◌, ◌≡◌}
+use Rattle.ksm_pages.proofs.Names.{ap, AreWaiting, arith, Bool, cond, Entry, false, find_passes, GuestPage, held_at, held_of, if◌then◌else◌, InPageOrder, Inside, Knobs, List, look_up_found, merged_state, names, None, Option, option_and_then, option_map, own_found, page_beside, PagesValue, partner, partner_found, refl, Row, row_at, rows_of, same_page, same_page_eq, Some, state_of, sym, tree_of, true≢false, waiting_page, waiting_state, WaitingPage, waits_there, ℕ, ◌∙◌, ◌≡◌}
 use Rattle.ksm_pages.specs.declared.row.Kind.TheVariants as kinds
 use Rattle.ksm_pages.proofs.Leaving.{AreLawful, of_page, row_seen, row_there, view_of}
 
@@ -58,7 +58,6 @@ module _ (s : Inside) (are : AreLawful s) (p : PagesValue) (seen_as : view_of s 
       → waiting_page tree e.bytes s.dups.waiting ≡ page_beside p.knobs p.rows (row_at page p.rows)
   merged_beside is in_tree =
       let merged = ap (λ k. state_of k e.number s.rows.pass) is in
-      let h = held_of s.rows.pass e in
       let there =
       ap (λ q. row_at q (rows_of s.rows.held)) (of_page s are _ found) ∙ row_there s are _ found in
       ap (λ t. waiting_page t e.bytes s.dups.waiting) (in_tree row refl)

@@ -1,5 +1,5 @@
 -- The rows of what is held, once that of one page came, went or changed.
-use Rattle.ksm_pages.proofs.Names.{[], ap₂, arith, Bool, change_held, change_row, comes_before, Entry, filter, GuestPage, Held, held_at, held_in, List, map-append, marked, Named, None, option_map, refl, Row, row_at, rows_of, rules, Slab, sym, with_held, with_row, without_held, without_page, ℕ, ◌++◌, ◌∙◌, ◌∷◌, ◌≡◌, Option}
+use Rattle.ksm_pages.proofs.Names.{[], arith, Bool, change_held, change_row, Entry, GuestPage, Held, held_at, held_in, List, map-append, marked, Named, None, option_map, refl, Row, row_at, rows_of, rules, Slab, sym, with_held, with_row, without_held, without_page, ℕ, ◌∙◌, ◌∷◌, ◌≡◌, Option}
 use Rattle.ksm_pages.proofs.Options.{none_mapped}
 use Rattle.ksm_tree.proofs.Alike.{filter_mapped, find_mapped, map_mapped}
 
@@ -26,11 +26,7 @@ rows_without page held = grind (arith, filter_mapped)
 
 -- what is held with one row more has the rows with that row
 pub rows_with : (h : Held) (held : List Held) → rows_of (with_held h held) ≡ with_row h.row (rows_of held)
-rows_with h held =
-    map-append (λ (g : Held). g.row) (filter (λ g. comes_before g.row.page h.row.page) held) (h ∷ filter (λ g. comes_before h.row.page g.row.page) held)
-    ∙ ap₂ (λ front back. front ++ h.row ∷ back)
-    (sym (filter_mapped (λ (g : Held). g.row) (λ r. comes_before r.page h.row.page) (λ g. comes_before g.row.page h.row.page) _ (λ k d lt. refl)))
-    (sym (filter_mapped (λ (g : Held). g.row) (λ r. comes_before h.row.page r.page) (λ g. comes_before h.row.page g.row.page) _ (λ k d lt. refl)))
+rows_with h held = search (rules, map-append, filter_mapped)
 
 -- whether the order says that a scan visits a page makes no difference to what is held
 pub marked_same : (pass : ℕ) (slab : Slab Entry) (page : GuestPage) (m : Bool) (order : List Named) → held_in pass slab (marked page m order) ≡ held_in pass slab order

@@ -1,5 +1,5 @@
 -- The pages once the stale dup at a place went.
-use Rattle.ksm_pages.proofs.Names.{[], All, All-head, All-tail, all_rows, ap, AreTied, arith, Bool, cases_Bool, Dup, dup_at, dup_numbered, DupRow, elsewhere, eq-eqb, eqb-true, false, filter, find, find_all, find_nothing, find_passes, frame_of, frame_seen, get_or, GuestPage, Held, inl, inr, is_live, is_some, is_stale, IsVacant, item_count, length, List, list_any, lodging, lodgings_of, Merged, merged_into, nat_lt, None, none_counted, not, Option, option_and_then, option_map, PageState, refl, Row, row_at, rows_of, slice_get, Some, stands_at, sym, tied_counted, true, true≢false, ℕ, ◌&&◌, ◌==◌, ◌∙◌, ◌∷◌, ◌≡◌, filter_all, find_none}
+use Rattle.ksm_pages.proofs.Names.{[], All, All-head, All-tail, all_rows, ap, AreTied, arith, Bool, Dup, dup_at, dup_numbered, DupRow, elsewhere, eq-eqb, eqb-true, false, filter, find, find_all, find_nothing, find_passes, frame_of, frame_seen, get_or, GuestPage, Held, is_live, is_some, is_stale, IsVacant, item_count, length, List, list_any, lodging, lodgings_of, Merged, merged_into, nat_lt, nat_tests, None, none_counted, not, Option, option_and_then, option_map, PageState, refl, Row, row_at, rows_of, slice_get, Some, stands_at, sym, tied_counted, true, ℕ, ◌&&◌, ◌==◌, ◌∙◌, ◌∷◌, ◌≡◌, filter_all, find_none}
 use Rattle.ksm_tree.specs.Dups.{rows_of as dup_rows}
 use Rattle.ksm_pages.proofs.Changing.{row_found}
 use Rattle.ksm_pages.proofs.Found.{find_kept}
@@ -48,16 +48,11 @@ none_live rows dups tied vacant =
 pub not_vacant : (rows : List Row) (dups : List DupRow) {place n : ℕ} (page : GuestPage) {r : Row} → IsVacant place rows dups
     → row_at page rows ≡ Some r → r.state ≡ Merged n
     → (e : DupRow) → dup_numbered n dups ≡ Some e → (e.place == place) ≡ false
-not_vacant rows dups {place} {n} page vacant there merged e found =
-    let number = eqb-true e.number n (find_passes (λ d. d.number == n) dups e found) in
-    elim (cases_Bool _) [
-      | inl here ↦
-          let none = find_all (λ d. d.number == n) (λ d. d.place ≡ place → item_count rows d ≡ 0) dups e found vacant
-          (eqb-true e.place place here) in
-          absurd (true≢false (sym (eq-eqb n n refl) ∙ ap (λ m. n == m) (sym number) ∙ ap (merged_into e.number) (sym merged)
-          ∙ find_all _ (λ x. merged_into e.number x.state ≡ false) rows _ there (none_counted _ rows none)))
-      | inr away ↦ away
-    ]
+not_vacant rows dups {place} {n} page {r} vacant there merged e found =
+    let none = find_all (λ d. d.number == n) (λ d. d.place ≡ place → item_count rows d ≡ 0) dups e found vacant in
+    let left : e.place ≡ place → merged_into e.number r.state ≡ false =
+    λ at. find_all _ (λ x. merged_into e.number x.state ≡ false) rows _ there (none_counted _ rows (none at)) in
+    grind (arith, nat_tests, left, merged, find_passes (λ d. d.number == n) dups e found)
 
 -- pages lie where they lay where the dups into which rows are merged keep their frames
 pub lodged_alike : {of to : ℕ → Option ℕ} (held : List Held)

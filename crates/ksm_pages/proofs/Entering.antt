@@ -37,7 +37,6 @@ module _ (s : Inside) (are : AreLawful s) {p : PagesValue} (seen_as : view_of s 
         restless = rows.restless;
       })
   entered apart still rows put =
-      let before = rows_of s.rows.held in
       let now = ap rows_of put ∙ rows_with h _ in
       let lain =
       ap (λ held. frame_of (lodgings_of (of_dup s) held)) put

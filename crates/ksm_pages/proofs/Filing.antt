@@ -1,5 +1,5 @@
 -- Entries under keys and the order of their pages: what is found, and what one entry that came, went or changed leaves.
-use Rattle.ksm_pages.proofs.Names.{All, All-append, All-cons, All-filter, All-map, ap, ap₂, AreAscending, AreFiled, arith, Bool, cases_Bool, change_held, comes_before, Decides-eqb, Entry, false, filter, filter_passes, find, find_all, find_passes, get, get_or, GuestPage, Held, held_at, held_in, held_of, held_under, if◌then◌else◌, inl, InPageOrder, inr, is_of, IsUnder, key_in, List, map, map-append, marked, Named, named_of, None, not, option_map, refl, rows_of, rules, same_page, same_page_eq, same_page_refl, same_page_sym, same_Some, Slab, Some, sym, true, true≢false, with_held, with_named, without_held, without_named, ℕ, ◌++◌, ◌==◌, ◌∙◌, ◌∷◌, ◌≡◌, ◌≢◌}
+use Rattle.ksm_pages.proofs.Names.{All, All-append, All-cons, All-filter, ap, ap₂, AreAscending, AreFiled, arith, Bool, cases_Bool, change_held, comes_before, Decides-eqb, Entry, false, filter, filter_passes, find, find_all, find_passes, get, get_or, GuestPage, Held, held_at, held_in, held_of, held_under, if◌then◌else◌, inl, InPageOrder, inr, is_of, IsUnder, key_in, List, map, map-append, marked, Named, named_of, None, not, option_map, refl, rows_of, rules, same_page, same_page_eq, same_page_refl, same_page_sym, same_Some, Slab, Some, sym, true, true≢false, with_held, with_named, without_held, without_named, ℕ, ◌++◌, ◌==◌, ◌∙◌, ◌∷◌, ◌≡◌, ◌≢◌}
 use Rattle.ksm_pages.proofs.Options.{mapped_some, none_mapped}
 use Rattle.slab.specs.Slab.{Updates as Fills}
 use Rattle.ksm_tree.proofs.Numbering.{full}
@@ -46,12 +46,7 @@ filed_by slab order stand named n = (
 -- what holds of the entry that a slab was given, and of all others that stood, holds of all that stand now
 pub all_filled : {slab later : Slab Entry} {key : ℕ} {e : Entry} → Fills slab later key (Some e) → {P : ℕ → Entry → Type 0} → P key e
     → ((k : ℕ) (f : Entry) → get slab k ≡ Some f → k ≢ key → P k f) → (k : ℕ) (f : Entry) → get later k ≡ Some f → P k f
-all_filled {slab} {later} {key} {e} fills {P} new others k f stands = elim (cases_Bool _) [
-  | inl here ↦
-      let at = (Decides-eqb k _).0 here in
-      rw (← same_Some e f (sym (ap (get later) at ∙ fills.changed) ∙ stands)) (rw at new)
-  | inr other ↦ let apart = differ_by other in others k f (sym (fills.others k apart) ∙ stands) apart
-]
+all_filled {slab} {later} {key} {e} fills {P} new others k f stands = search (rules, cases_Bool, Decides-eqb, differ_by)
 
 module _ (slab : Slab Entry) (order : List Named) (filed : AreFiled slab order) where
   -- an entry that stands under a key is found in the order, by its page, under that key
@@ -71,10 +66,6 @@ module _ (slab : Slab Entry) (order : List Named) (filed : AreFiled slab order) 
       let u = under_named slab _ ((filed at.0).0 (ap (λ p. find (is_of p) order) of_it ∙ at.1)) in
       record { entry = u.entry; stands = ap (get slab) (sym at.2) ∙ u.stands; of_page = u.of_page ∙ of_it }
 
-  -- a page whose entry stands under a key has that key in the order
-  pub key_under : {page : GuestPage} {key : ℕ} → IsUnder slab page key → key_in order page ≡ Some key
-  key_under u = grind (arith, named_under)
-
 module _ (slab : Slab Entry) (order : List Named) (rise : AreAscending order) (filed : AreFiled slab order) where
   -- each page that the order names stands under its key
   pub all_stand : All (Stands slab) order
@@ -85,17 +76,9 @@ module _ (slab : Slab Entry) (order : List Named) (rise : AreAscending order) (f
     pub held_found : (page : GuestPage) → held_at page (held_in pass slab order) ≡ option_map (held_by pass slab) (find (is_of page) order)
     held_found page = grind (arith, find_mapped, page_under, all_stand)
 
-    -- what is held of a page is what its entry says
-    pub held_there : {page : GuestPage} (key : ℕ) {e : Entry} → get slab key ≡ Some e → e.page ≡ page → held_at page (held_in pass slab order) ≡ Some (held_of pass e)
-    held_there key stands of_page = grind (arith, held_found, named_under)
-
     -- a page that has no key in the order has no row
     pub held_nowhere : (page : GuestPage) → key_in order page ≡ None → held_at page (held_in pass slab order) ≡ None
     held_nowhere page told = search (rules, held_found, none_mapped)
-
-    -- a page that has no row has no name in the order
-    pub key_nowhere : (page : GuestPage) → held_at page (held_in pass slab order) ≡ None → find (is_of page) order ≡ None
-    key_nowhere page told = none_mapped _ _ (sym (held_found _) ∙ told)
 
     -- the rows are in the order of their pages
     pub rows_rise : InPageOrder (rows_of (held_in pass slab order))
@@ -114,17 +97,11 @@ module _ (slab : Slab Entry) (order : List Named) (rise : AreAscending order) (f
       | inr other ↦ other
     ]
 
-    named_elsewhere : {n : Named} → Stands slab n → n.key ≢ key → same_page n.page e.page ≡ false
-    named_elsewhere stands apart = grind (arith, under_named, elsewhere)
-
-    -- under the key stands the entry of its page
-    same_entry : (n : Named) → Stands slab n → n.key ≡ key → n.page ≡ e.page
-    same_entry n stands at = grind arith
-
     module _ {later : Slab Entry} {e' : Entry} (fills : Fills slab later key (Some e')) (same : e'.page ≡ e.page) where
       -- where one entry is written anew, the row of its page is changed, and no other
       pub written : (pass : ℕ) (f : Held → Held) → held_of pass e' ≡ f (held_of pass e) → held_in pass later order ≡ change_held e.page f (held_in pass slab order)
-      written pass f is = grind (arith, map_mapped, all_stand, cases_Bool, Decides-eqb, same_page_refl, differ_by, page_under, named_elsewhere)
+      written pass f is =
+          grind (arith, map_mapped, all_stand, cases_Bool, Decides-eqb, same_page_refl, differ_by, page_under, under_named, elsewhere)
 
       -- where one entry is written anew and its mergeable flag stays, pages are named as their entries say
       pub filed_kept : e'.mergeable ≡ e.mergeable → AreFiled later order
@@ -138,38 +115,7 @@ module _ (slab : Slab Entry) (order : List Named) (rise : AreAscending order) (f
 
       -- where one entry is written anew and its page marked with its flag, pages are named as their entries say
       pub filed_marked : AreFiled later (marked e.page e'.mergeable order)
-      filed_marked =
-          filed_by later _ (All-map (Stands later) _ _ (λ k d lt. stands_later (all_stand k d lt))) (all_filled fills
-          (ap (λ p. find (is_of p) (marked e.page e'.mergeable order)) same ∙ find_marked _ ∙ ap (option_map mark) (named_under slab _ filed _ e stood) ∙ ap Some (marked_here ∙ sym here_named))
-          (λ k f was apart. find_marked _ ∙ ap (option_map mark) (named_under slab _ filed k f was) ∙ ap Some (marked_other (elsewhere was apart))))
-        where
-          here_named : named_of key e' ≡ record (named_of key e) { mergeable = e'.mergeable }
-          here_named = ap (λ p. record { page = p; key = key; mergeable = e'.mergeable }) same
-
-          marked_here : mark (named_of key e) ≡ record (named_of key e) { mergeable = e'.mergeable }
-          marked_here = grind arith
-
-          marked_other : {m : Named} → same_page m.page e.page ≡ false → mark m ≡ m
-          marked_other differ = grind arith
-
-          -- a page that stands in the order is named as its entry says later
-          stands_later : {m : Named} → option_map (named_of m.key) (get slab m.key) ≡ Some m → option_map (named_of (mark m).key) (get later (mark m).key) ≡ Some (mark m)
-          stands_later {m} stands = elim (cases_Bool _) [
-            | inl here ↦
-                let is_key = (Decides-eqb _ _).0 here in
-                let is = same_Some _ _ (sym (ap (λ k. option_map (named_of k) (get slab k)) is_key ∙ ap (option_map (named_of key)) stood) ∙ stands) in
-                (λ i. option_map (named_of (mark (sym is i)).key) (get later (mark (sym is i)).key))
-                ∙ ap (λ (x : Named). option_map (named_of x.key) (get later x.key)) marked_here
-                ∙ ap (option_map (named_of key)) fills.changed
-                ∙ ap Some (here_named ∙ sym marked_here ∙ ap mark is)
-            | inr other ↦
-                let apart = differ_by other in
-                let kept = marked_other (named_elsewhere stands apart) in
-                (λ i. option_map (named_of (kept i).key) (get later (kept i).key))
-                ∙ ap (option_map (named_of m.key)) (fills.others m.key apart)
-                ∙ stands
-                ∙ ap Some (sym kept)
-          ]
+      filed_marked n = grind (arith, find_marked, fills, filed n, elsewhere, named_under slab order filed, same_page_eq)
 
     -- ---------------------------------------------------------------- one entry gone
 
@@ -177,10 +123,9 @@ module _ (slab : Slab Entry) (order : List Named) (rise : AreAscending order) (f
       -- the other pages stand under other keys
       away : All (λ n. Stands slab n × (n.key ≢ key)) (without_named e.page order)
       away k d lt =
-          let n = get_or (without_named e.page order) k d in
           let stands = All-filter _ (Stands slab) _ all_stand k d lt in
           let passes = filter_passes _ order k d lt in
-          (stands, λ at. true≢false (sym passes ∙ ap not (ap (λ p. same_page p e.page) (same_entry n stands at) ∙ same_page_refl e.page)))
+          (stands, λ at. true≢false (sym passes ∙ ap not (ap (λ p. same_page p e.page) (grind arith) ∙ same_page_refl e.page)))
 
       -- where one entry is gone with the name of its page, the row of that page is gone, and no other
       pub taken : (pass : ℕ) → held_in pass later (without_named e.page order) ≡ without_held e.page (held_in pass slab order)
@@ -231,7 +176,4 @@ module _ (slab : Slab Entry) (order : List Named) (rise : AreAscending order) (f
             (λ k d lt. let n = get_or order k d in ap (option_map (named_of n.key)) (fills.others n.key (taken_key (all_stand k d lt))) ∙ all_stand k d lt)
 
         differ : (k : ℕ) (f : Entry) → get slab k ≡ Some f → same_page e.page f.page ≡ false
-        differ k f was = elim (cases_Bool _) [
-          | inl same ↦ absurd (full _ _ (ap (λ p. find (is_of p) order) (sym (same_page_eq _ _ same)) ∙ absent) (named_under slab _ filed k f was))
-          | inr other ↦ other
-        ]
+        differ k f was = grind (arith, absent, named_under, same_page_eq)

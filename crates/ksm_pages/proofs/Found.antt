@@ -1,5 +1,5 @@
 -- Lists in the order of their pages: what a search finds once one came, went or changed.
-use Rattle.ksm_pages.proofs.Names.{[], All, All-cons, AllPairs, ap, arith, Bool, cases_Bool, comes_before, cond, false, filter, filter_passes, find, find-append, find_nothing, find_over, get_or, GuestPage, if◌then◌else◌, inl, inr, List, map, None, not, pages_ordered, pairs_head, pairs_tail, refl, same_page, same_page_eq, same_page_refl, Some, sym, true, ◌++◌, ◌∙◌, ◌∷◌, ◌≡◌, Option, find_passes, option_map, same_page_sym}
+use Rattle.ksm_pages.proofs.Names.{[], All, All-cons, AllPairs, ap, arith, Bool, comes_before, cond, false, filter, filter_passes, find, find-append, find_nothing, find_over, get_or, GuestPage, if◌then◌else◌, List, map, None, not, pages_ordered, pairs_head, pairs_tail, refl, same_page, same_page_eq, same_page_refl, Some, sym, true, ◌++◌, ◌∙◌, ◌∷◌, ◌≡◌, Option, find_passes, option_map, same_page_sym}
 use Rattle.ksm_rmap.proofs.Ordered.{absent_parts}
 use Rattle.ksm_tree.proofs.Alike.{find_mapped}
 
@@ -7,16 +7,7 @@ use Rattle.ksm_tree.proofs.Alike.{find_mapped}
 pub find_kept : {X : Type 0} (test keep : X → Bool) (xs : List X) (o : Option X) → find test xs ≡ o
     → ((x : X) → o ≡ Some x → keep x ≡ true) → find test (filter keep xs) ≡ o
 find_kept test keep [] o is kept = is
-find_kept test keep (x ∷ xs) o is kept =
-    elim (cases_Bool (test x)) [
-      | inl passes ↦
-          let here : o ≡ Some x = grind arith in
-          let stays = kept x here in
-          grind arith
-      | inr fails ↦
-          let rest = find_kept test keep xs o (grind arith) kept in
-          grind arith
-    ]
+find_kept test keep (x ∷ xs) o is kept = grind (arith, find_kept test keep xs o, kept x)
 
 module _ {X : Type 0} (key : X → GuestPage) where
   abbrev Before : X → X → Type 0

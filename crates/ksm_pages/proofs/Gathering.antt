@@ -1,15 +1,12 @@
 -- A walk along the order that lists the pages that a visit may change.
-use Rattle.ksm_pages.proofs.Names.{[], after_cursor, All, All-cons, All-map, ap, AreAllListed, AreAscending, AreFiled, AreListed, arith, before_irrefl, Bool, cases_Bool, comes_before, Entry, false, filter, find, find_all, find_none, find_passes, get, get_or, GuestPage, has_item, Held, held_in, held_under, inl, inr, is_of, is_own, is_restless, is_some, IsAddedTo, IsUnder, Kind, length, List, Listing, Named, named_of, None, not, Option, option_map, pairs_head, pairs_tail, rows_of, same_page, same_page_refl, same_Some, shared_state, Slab, Some, state_of, sym, true, ℕ, ◌&&◌, ◌<◌, ◌∙◌, ◌∷◌, ◌≡◌, ◌≤◌, ◌⊎◌, held_of}
+use Rattle.ksm_pages.proofs.Names.{[], after_cursor, All, All-cons, All-map, ap, AreAllListed, AreAscending, AreFiled, AreListed, arith, before_irrefl, Bool, cases_Bool, comes_before, Entry, false, filter, find, find_all, find_none, find_passes, get, get_or, GuestPage, has_item, Held, held_in, held_of, held_under, inl, inr, is_of, is_restless, is_some, IsAddedTo, IsUnder, length, List, Listing, Named, named_of, None, not, Option, option_map, pairs_head, pairs_tail, rows_of, rules, same_page_refl, same_Some, shared_state, Slab, Some, sym, true, ℕ, ◌&&◌, ◌<◌, ◌∙◌, ◌∷◌, ◌≡◌, ◌≤◌, ◌⊎◌}
 use Rattle.ksm_pages.specs.Paged.{is_restless as may_change}
 use Rattle.ksm_pages.proofs.Filing.{all_stand, named_under, one_key, under_named}
 use Rattle.ksm_pages.proofs.Listings.{with_has}
 
-own_by : (kind : Kind) (number pass : ℕ) → not (shared_state (state_of kind number pass)) ≡ is_own kind
-own_by kind number pass = grind arith
-
 -- a visit may change a row exactly where it may change its entry
 pub restless_as : (pass : ℕ) (e : Entry) → may_change (held_of pass e).row ≡ is_restless e
-restless_as pass e = ap (λ b. e.mergeable && b) (own_by _ _ _)
+restless_as pass e = ap (λ b. e.mergeable && b) (grind arith)
 
 -- of the pages up to a cursor those that a visit may change are listed
 abbrev pub AreListedUpTo : Slab Entry → Option GuestPage → Listing → Type 0
@@ -24,17 +21,7 @@ filter_least p q (z ∷ zs) less = grind (arith, filter_least p q zs less)
 filter_fewer : {X : Type 0} (p q : X → Bool) (xs : List X) (x : X) → find p xs ≡ Some x → q x ≡ false → ((y : X) → q y ≡ true → p y ≡ true) → length (filter q xs) < length (filter p xs)
 filter_fewer p q [] x found out less = cc
 filter_fewer p q (y ∷ ys) x found out less =
-    elim (cases_Bool (p y)) [
-      | inl passes ↦
-          let same : y ≡ x = grind arith in
-          let none = ap q same ∙ out in
-          let few = filter_least p q ys less in
-          grind arith
-      | inr fails ↦
-          let none : q y ≡ false = grind arith in
-          let few = filter_fewer p q ys x (grind arith) out less in
-          grind arith
-    ]
+    grind (arith, found, out, less y, filter_fewer p q ys x, filter_least p q ys less)
 
 -- what a search finds first comes before all others that pass
 first_found : (p : Named → Bool) (order : List Named) (n : Named) → AreAscending order → find p order ≡ Some n → All (λ m. p m ≡ true → (m.page ≡ n.page) ⊎ (comes_before n.page m.page ≡ true)) order
@@ -73,15 +60,7 @@ module _ (slab : Slab Entry) (order : List Named) (rise : AreAscending order) (f
     module _ {old new : Listing} (listed : AreListedUpTo slab last old) where
       -- where the next page is added, the pages up to that page are listed that a visit may change
       pub one_added : IsAddedTo n.page old new → AreListedUpTo slab (Some n.page) new
-      one_added added known key e stands may not_behind = elim added [
-        | inl is ↦
-            (λ i. has_item e.page (is i).pages)
-            ∙ with_has _ n.page _ (elim (passed _ stands not_behind) [
-              | inl same ↦ inl (ap (same_page n.page) same ∙ same_page_refl n.page)
-              | inr before ↦ inr (listed ((λ i. (sym is i).known) ∙ known) key e stands may before)
-            ])
-        | inr is ↦ absurd (grind arith)
-      ]
+      one_added added known key e stands may not_behind = search (rules, with_has, passed, same_page_refl, listed)
 
       -- where no visit changes the next page, the list has all up to that page that a visit may change
       pub one_passed : {e : Entry} → get slab n.key ≡ Some e → is_restless e ≡ false → new ≡ old → AreListedUpTo slab (Some n.page) new

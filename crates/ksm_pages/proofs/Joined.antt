@@ -49,7 +49,6 @@ item_seat of number merged o is = grind arith
 pub item_lies : (of : ℕ → Option ℕ) (held : List Held) → InPageOrder (rows_of held) → (number : ℕ)
     → All (λ r. merged_into number r.state ≡ true → frame_of (lodgings_of of held) r.page ≡ of number) (rows_of held)
 item_lies of held rise number k d lt merged =
-    let r = get_or (rows_of held) k d in
     frame_by of held _ ∙ item_seat of _ merged _ (sym (found_rows _ held) ∙ each_at_page _ rise k d lt)
 
 -- a page with a frame of its own lies on that frame
@@ -75,7 +74,6 @@ module _ (s : Inside) (are : AreLawful s) (page : GuestPage) {h : Held} (found :
   pub lawful_joined : (rows : RowsView) → rows.held ≡ change_held page (mapped (Merged number) None) s.rows.held
       → AreKept s.shape s.knobs (rows_of rows.held) later s.frames.items
   lawful_joined rows turned =
-      let item = record h.row { state = Merged number } in
       let at = of_page s are _ found in
       lawful_turned s are _ found (mapped (Merged number) None) (λ r. record r { state = Merged number }) (λ x. refl)
       (λ r. refl) rows turned ((λ i. (out i).places) ∙ (λ i. (into i).places))

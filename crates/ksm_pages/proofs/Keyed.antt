@@ -1,5 +1,5 @@
 -- Lists in the order of their pages: where a page stands or would stand, and what an insert, a removal or a write there leaves.
-use Rattle.ksm_pages.proofs.Names.{[], All, AllPairs, ap, ap₂, arith, Bool, both_ways, cases_Bool, cases_lt, comes_before, cond, count_by-le-length, false, filter, filter_passes, find, find_none, get_or, GuestPage, if◌then◌else◌, inl, inr, IsPartitionedBy, length, length-filter, length-insert, List, map, map-append, None, not, not-true, pages_ordered, refl, same_page, set, set-append_seam, suc, sym, true, ℕ, ◌++◌, ◌+◌, ◌<◌, ◌∙◌, ◌∷◌, ◌≡◌, ◌≤◌}
+use Rattle.ksm_pages.proofs.Names.{[], All, AllPairs, ap, ap₂, arith, Bool, both_ways, cases_Bool, cases_lt, comes_before, cond, count_by-le-length, false, filter, filter_passes, find, find_none, get_or, GuestPage, if◌then◌else◌, IsPartitionedBy, length, length-filter, length-insert, List, map, map-append, None, not, not-true, pages_ordered, refl, rules, same_page, set, set-append_seam, suc, sym, true, ℕ, ◌++◌, ◌+◌, ◌<◌, ◌∙◌, ◌∷◌, ◌≡◌, ◌≤◌}
 use Rattle.ksm_rmap.proofs.Ordered.{found_at, found_parts, insert_at, none_same, none_same_low}
 use Rattle.ksm_tree.proofs.Alike.{pairs_mapped}
 
@@ -23,13 +23,7 @@ module _ {X : Type 0} (key : X → GuestPage) where
     -- in a list in order, those not behind the page stand before all others
     pub parted_behind : (xs : List X) → AllPairs Before xs → IsPartitionedBy (λ y. not (high y)) xs
     parted_behind xs rise i j d le lt later =
-        elim (cases_lt i j) [
-          | inl less ↦ elim (cases_Bool _) [
-            | inl first ↦ absurd (both_ways (high (get_or xs j d)) (not-true _ later) (pages_ordered.trans page (key (get_or xs i d)) (key (get_or xs j d)) first (rise i j d less lt)))
-            | inr fine ↦ ap not fine
-          ]
-          | inr no_less ↦ let e : j ≡ i = omega arith in rw (← e) later
-        ]
+        grind (arith, cases_lt, cases_Bool, both_ways, not-true, pages_ordered.trans)
 
     -- a change of the page leaves a list as it is that does not have the page
     pub kept_all : (f : X → X) (ys : List X) → All (λ z. is_it z ≡ false) ys → map (λ y. if is_it y then f y else y) ys ≡ ys
@@ -66,11 +60,7 @@ module _ {X : Type 0} (key : X → GuestPage) where
     -- a list in order stays in order where the element of a page is changed, but for its page
     pub write_rises : (f : X → X) → ((y : X) → key (f y) ≡ key y) → (xs : List X) → AllPairs Before xs → AllPairs Before (map (λ y. if is_it y then f y else y) xs)
     write_rises f same xs rise =
-        pairs_mapped Before Before (λ y. key (if is_it y then f y else y) ≡ key y) (λ y. if is_it y then f y else y) (λ a b p q less. ap₂ comes_before p q ∙ less) xs
-        (λ k d lt. elim (is_it (get_or xs k d)) as (λ b. key (if b then f (get_or xs k d) else get_or xs k d) ≡ key (get_or xs k d)) [
-          | true ↦ same (get_or xs k d)
-          | false ↦ refl
-        ]) rise
+        search (rules, pairs_mapped Before Before (λ y. key (if is_it y then f y else y) ≡ key y))
 
     -- with an element of a page that was not there, a list is one longer
     pub length_with : (x : X) (xs : List X) → AllPairs Before xs → find is_it xs ≡ None → length (filter low xs ++ x ∷ filter high xs) ≡ length xs + 1

@@ -1,7 +1,6 @@
 -- The pages once the row of one page changed, or went: they are lawful still, and what is seen of them is changed so.
-use Rattle.ksm_pages.proofs.Names.{ap, ap₂, AreKept, AreTied, AreWaiting, arith, change_held, change_row, DupsState, false, find_passes, frame_of, Frames, GuestPage, Held, held_at, if◌then◌else◌, InPageOrder, Inside, is_some, IsAlone, IsKnown, IsStopped, let_out, lies_on, List, lodging, lodgings_of, MatchOption, merged_state, None, Option, option_map, ordered_map, ordered_without, PagesValue, Row, row_at, row_dropped, row_stopped, rows_of, rows_out, RowsView, same_page, same_page_eq, seen, shared_state, Some, subst, sym, tied_dropped, tied_left, true, waiting_state, without_held, without_page, ℕ, ◌∙◌, ◌≡◌}
+use Rattle.ksm_pages.proofs.Names.{ap, ap₂, AreKept, AreTied, AreWaiting, arith, change_held, change_row, DupsState, false, find_passes, frame_of, Frames, GuestPage, Held, held_at, if◌then◌else◌, InPageOrder, Inside, is_some, IsAlone, IsKnown, IsStopped, let_out, lies_on, lodging, lodgings_of, MatchOption, merged_state, None, Option, option_map, ordered_map, ordered_without, PagesValue, Row, row_at, row_dropped, row_stopped, rows_of, rows_out, RowsView, same_page, same_page_eq, seen, shared_state, Some, subst, sym, tied_dropped, tied_left, true, waiting_state, without_held, without_page, ℕ, ◌∙◌, ◌≡◌}
 use Rattle.ksm_tree.specs.Dups.{rows_of as dup_rows}
-use Rattle.ksm_tree.proofs.Alike.{map_mapped}
 use Rattle.ksm_pages.proofs.Changing.{row_told, rows_changed, rows_without}
 use Rattle.ksm_pages.proofs.Lodgings.{changed_to, frame_by, lodged_changed, lodged_gone, seat}
 
@@ -24,10 +23,6 @@ view_of s = record {
 -- the pages inside are lawful
 abbrev pub AreLawful : Inside → Type 0
 AreLawful s = AreKept s.shape s.knobs (rows_of s.rows.held) s.dups s.frames.items
-
--- two changes of what is held of a page, one after the other, are one change
-pub held_twice : (page : GuestPage) (f g : Held → Held) → ((h : Held) → (f h).row.page ≡ h.row.page) → (held : List Held) → change_held page g (change_held page f held) ≡ change_held page (λ h. g (f h)) held
-held_twice page f g same held = grind (arith, map_mapped)
 
 -- a page that comes to lie where it lay does not move
 pub lies_same : (page : GuestPage) {frames : Frames} → lies_on page (frames page) frames ≡ frames
@@ -142,7 +137,6 @@ module _ (s : Inside) (are : AreLawful s) (page : GuestPage) {h : Held} (found :
       -- once a page was let out and its row is gone, the pages are lawful
       pub lawful_gone : AreKept s.shape s.knobs (rows_of rows.held) later s.frames.items
       lawful_gone =
-          let before = rows_of s.rows.held in
           let to = sym rows_gone in
           record {
             small = are.small;

@@ -1,9 +1,9 @@
 -- The pages that a visit may change, once a page is listed, or is not any more.
-use Rattle.ksm_pages.proofs.Names.{any-filter_same, ap, ap₂, arith, Bool, cases_Bool, comes_before, filter, GuestPage, has_item, inl, inr, List, list_any-append, not, one_before, same_page, same_page_eq, true, with_item, ◌&&◌, ◌||◌, ◌∙◌, ◌∷◌, ◌≡◌, ◌⊎◌}
+use Rattle.ksm_pages.proofs.Names.{any-filter_same, ap₂, arith, Bool, cases_Bool, comes_before, filter, GuestPage, has_item, inl, inr, List, list_any-append, one_before, rules, same_page, true, with_item, ◌&&◌, ◌||◌, ◌∙◌, ◌∷◌, ◌≡◌, ◌⊎◌}
 
 -- what a search for a page finds of a part of a list
 part_has : (test : GuestPage → Bool) (p : GuestPage) (pages : List GuestPage) → has_item p (filter test pages) ≡ (test p && has_item p pages)
-part_has test p pages = any-filter_same (λ q. same_page q p) test (test p) (λ q same. ap test (same_page_eq q p same)) pages
+part_has test p pages = search (rules, any-filter_same (λ q. same_page q p))
 
 -- a list with one page more has that page, and all pages that the list had
 pub with_has : (p q : GuestPage) (pages : List GuestPage) → (same_page q p ≡ true) ⊎ (has_item p pages ≡ true) → has_item p (with_item q pages) ≡ true

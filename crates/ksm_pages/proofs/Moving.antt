@@ -1,18 +1,15 @@
 -- The pages once the items of a dup went to another frame.
-use Rattle.ksm_pages.proofs.Names.{[], All, All-head, All-tail, ap, arith, cases_Bool, dup_numbered, DupRow, each_has_number, eq-eqb, eqb-true, false, find_all, find_passes, frame_of, frame_seen, Held, held_at, if◌then◌else◌, inl, InPlaceOrder, inr, is_item, items_on, length, List, list_any, lodging, lodgings_of, Merged, merged_into, None, one_of_each_place, Option, option_and_then, option_map, PageState, Private, refl, rows_of, set, slice_get, Some, sym, true, Waiting, Zero, ℕ, ◌<◌, ◌==◌, ◌∙◌, ◌∷◌, ◌≡◌}
+use Rattle.ksm_pages.proofs.Names.{[], All, All-head, All-tail, ap, arith, dup_numbered, DupRow, each_has_number, eqb-true, false, find_all, find_passes, frame_of, frame_seen, Held, held_at, if◌then◌else◌, InPlaceOrder, is_item, items_on, length, List, list_any, lodging, lodgings_of, Merged, merged_into, nat_tests, None, one_of_each_place, Option, option_and_then, option_map, PageState, Private, refl, rows_of, set, slice_get, Some, sym, true, Waiting, Zero, ℕ, ◌<◌, ◌==◌, ◌∙◌, ◌∷◌, ◌≡◌}
 use Rattle.ksm_tree.proofs.Indexed.{cond_if}
 use Rattle.ksm_pages.proofs.Changing.{row_found}
-use Rattle.ksm_pages.proofs.Filing.{differ_by}
 use Rattle.ksm_pages.proofs.Lodgings.{frame_by, seat}
 use Rattle.ksm_pages.proofs.Paired.{set_away, set_there}
 
 -- a place where a dup stands is below the bound of all places
 pub any_below : (place n : ℕ) (dups : List DupRow) → All (λ d. d.place < n) dups → list_any (λ d. d.place == place) dups ≡ true → place < n
 any_below place n [] below there = cc
-any_below place n (d ∷ dups) below there = elim (cases_Bool _) [
-  | inl here ↦ rw (← eqb-true d.place place here) (All-head (λ e. e.place < n) d _ below)
-  | inr away ↦ any_below _ n dups (All-tail (λ e. e.place < n) d dups below) (grind arith)
-]
+any_below place n (d ∷ dups) below there =
+    grind (arith, nat_tests, All-head (λ e. e.place < n) d _ below, any_below place n dups (All-tail (λ e. e.place < n) d dups below))
 
 module _ (dups : List DupRow) (rise : InPlaceOrder dups) (frames : List ℕ) (place frame : ℕ) (inside : place < length frames) where
   abbrev of : ℕ → Option ℕ
@@ -32,11 +29,7 @@ module _ (dups : List DupRow) (rise : InPlaceOrder dups) (frames : List ℕ) (pl
         go : (o : Option DupRow) → dup_numbered n dups ≡ o
             → option_and_then (λ e. slice_get (set frames place frame) e.place) o ≡ option_and_then (λ e. slice_get frames e.place) o
         go None is = refl
-        go (Some e) is =
-            set_away _ _ _ _ (λ same. differ_by other (sym (eqb-true e.number n (find_passes (λ x. x.number == n) _ e is))
-            ∙ ap (λ (x : DupRow). x.number)
-            (find_all (λ x. x.number == n) (λ x. (x.place == d.place) ≡ true → x ≡ d) dups e is one
-            (eq-eqb e.place d.place (same ∙ sym at)))))
+        go (Some e) is = grind (arith, nat_tests, is, at, other, set_away, find_passes, find_all (λ x. x.number == n) (λ x. (x.place == d.place) ≡ true → x ≡ d) dups e is one)
 
     -- a row merged into the dup lies on the new frame, and any other where it lay
     seats : (o : Option Held) → seat of_now o ≡ (if is_item d.number (option_map (λ h. h.row) o) then Some frame else seat of o)

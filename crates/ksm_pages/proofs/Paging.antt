@@ -1,27 +1,15 @@
 -- What is read of the pages: rows and dups found by their pages, places and numbers.
-use Rattle.ksm_pages.proofs.Names.{All, ap, AreDups, AreTied, AreWaiting, arith, Bool, cases_Bool, cond, Dup, dup_at, dup_numbered, dup_of, DupRow, DupsState, each_has_number, false, find, find_all, found_passing, get_or, GuestPage, has_items, Held, held_at, inl, InPageOrder, InPlaceOrder, inr, is_live, is_some, is_stale, items_in, items_of, Kind, Knobs, length, List, list_any, live_placed, lodging, lodgings_of, merged_into, None, not, Option, option_and_then, option_map, passing, refl, Row, row_at, rows_of, shared_state, slice_get, slice_get-get_or, Some, stale_alike, stands_at, stands_numbered, state_of, sym, tied_counted, true, unwrap_or-slice_get, waiting_state, WaitingPage, waits_there, ℕ, ◌&&◌, ◌<◌, ◌==◌, ◌∙◌, ◌≡◌}
+use Rattle.ksm_pages.proofs.Names.{All, ap, AreDups, AreTied, AreWaiting, arith, cases_Bool, cond, Dup, dup_at, dup_numbered, dup_of, DupRow, DupsState, each_has_number, false, find, find_all, found_passing, has_items, Held, inl, InPageOrder, InPlaceOrder, inr, is_live, is_some, is_stale, items_in, items_of, Knobs, length, List, list_any, live_placed, lodging, lodgings_of, merged_into, None, Option, option_and_then, option_map, passing, refl, Row, row_at, rows_of, slice_get, slice_get-get_or, Some, stale_alike, stands_at, stands_numbered, sym, tied_counted, true, unwrap_or-slice_get, waiting_state, WaitingPage, waits_there, ℕ, ◌&&◌, ◌<◌, ◌==◌, ◌∙◌, ◌≡◌}
 use Rattle.std.proofs.Common.{unwrap_or}
 use Rattle.ksm_base.specs.Rows.{is_stale as is_stale_row}
 use Rattle.ksm_tree.specs.Dups.{rows_of as dup_rows}
 use Rattle.ksm_tree.proofs.Changes.{row_found as dup_row_found}
-use Rattle.ksm_pages.specs.Held.{frame_of}
 use Rattle.ksm_pages.specs.Paged.{frame_of as lies_at}
 use Rattle.ksm_rmap.proofs.Ordered.{any_found}
-use Rattle.ksm_pages.proofs.Changing.{nothing_held, row_found}
 use Rattle.ksm_pages.proofs.Joined.{item_lies}
 use Rattle.ksm_pages.proofs.Options.{mapped_some, mapped_twice, some_mapped}
-use Rattle.ksm_pages.proofs.Lodgings.{frame_by, seat}
 
 -- ---------------------------------------------------------------- rows
-
--- a page has a row among the rows exactly where something is held of it
-pub row_known : (page : GuestPage) (held : List Held) → is_some (held_at page held) ≡ is_some (row_at page (rows_of held))
-row_known page held = grind (arith, some_mapped, row_found)
-
--- a row is shared exactly where it has no frame of its own
-pub shared_by : {b : Bool} (kind : Kind) (number pass at : ℕ) → not b ≡ is_some (frame_of kind at)
-    → b ≡ shared_state (state_of kind number pass)
-shared_by kind number pass at is = grind arith
 
 -- where no row waits, the waiting pages are right for any knobs
 pub knobs_free : (knobs tuned : Knobs) (rows : List Row) (w : List WaitingPage) → AreWaiting knobs rows w → All (λ r. waiting_state r.state ≡ false) rows → AreWaiting tuned rows w
@@ -68,18 +56,12 @@ kept_at_place frames (Some d) = refl
 
 -- ---------------------------------------------------------------- the row of a page
 
--- a page without a row lies on no frame
-pub lies_nowhere : (of_dup : ℕ → Option ℕ) (held : List Held) (page : GuestPage) → row_at page (rows_of held) ≡ None → lies_at (lodgings_of of_dup held) page ≡ None
-lies_nowhere of_dup held page gone = frame_by _ held _ ∙ ap (seat of_dup) (nothing_held page held gone)
-
 -- ---------------------------------------------------------------- the dups at their places
 
 -- the items of a dup lie on the frame that is kept at its place
 pub items_lodge : (held : List Held) {s : DupsState} (frames : List ℕ) → InPageOrder (rows_of held) → AreDups s → s.places ≡ length frames → {place : ℕ} {frame : ℕ} → frame ≡ unwrap_or (slice_get frames place) 0
     → All (λ d. d.place ≡ place → All (λ r. merged_into d.number r.state ≡ true → lies_at (lodgings_of (lodging (dup_rows s.dups) frames) held) r.page ≡ Some frame) (rows_of held)) (dup_rows s.dups)
 items_lodge held {s} frames rise lawful as_many {frame} is k e lt at i f lt_row merged =
-    let of_dup = lodging (dup_rows s.dups) frames in
-    let d = get_or (dup_rows s.dups) k e in
     let lodges =
     ap (option_and_then (λ (x : DupRow). slice_get frames x.place)) (each_has_number _ lawful.in_place_order k e lt)
     ∙ ap (slice_get frames) at

@@ -288,5 +288,4 @@ module _ {s : Inside} {p : PagesValue} {place : ℕ} {first second : GuestPage} 
     pub told_paired : let now = seen (view_of (record s { rows = rows; dups = later; frames = with_frame s.frames place frame })) in
         IsOfBoth (λ r t. now ≡ paired place r t (seen p)) (row_at first p.rows) (row_at second p.rows)
     told_paired =
-        let now = seen (view_of (record s { rows = rows; dups = later; frames = with_frame s.frames place frame })) in
         rw (row_seen s it.seen_as _ it.found) (rw (row_seen s it.seen_as _ it.also) (told ∙ ap (λ v. paired place a.row b.row (seen v)) it.seen_as))

@@ -1,5 +1,5 @@
 -- The pages in order as the items that are kept for them: what stands before a key, what comes behind it, and in between.
-use Rattle.ksm_pages.proofs.Names.{[], after_cursor, All, All-cons, All-head, All-tail, ap, ap₂, arith, Bool, cases_Bool, cases_lt, comes_before, count_by, drop, eqb-true, false, filter, filter_all, filter_none, find, get_or, GuestPage, if◌then◌else◌, inl, inr, is_of, is_some, key_of, last_of, length, length-filter, length-map, List, map, map-append, marked, Named, named_by, nat_lt, None, none-some, not, Option, option_map, page_of, pages_behind, pages_between, pairs_head, pairs_tail, refl, same_Some, slice_get, slice_get-map, slice_get_past, Some, suc, sym, take, true, visited, with_named, without_named, zero, ℕ, ◌&&◌, ◌++◌, ◌+◌, ◌-◌, ◌<◌, ◌^◌, ◌∙◌, ◌∷◌, ◌≡◌, ◌≤◌}
+use Rattle.ksm_pages.proofs.Names.{[], after_cursor, All, All-head, All-tail, ap, arith, Bool, comes_before, count_by, count_none, drop, false, filter, filter_all, find, get_or, GuestPage, if◌then◌else◌, is_of, is_some, key_of, last_of, length, length-filter, length-map, List, map, marked, Named, named_by, nat_lt, nat_tests, None, none-some, not, Option, option_map, page_of, pages_behind, pages_between, pairs_head, pairs_tail, refl, rules, same_Some, slice_get, slice_get-map, slice_get_past, Some, suc, sym, take, true, visited, with_named, zero, ℕ, ◌&&◌, ◌+◌, ◌-◌, ◌<◌, ◌^◌, ◌∙◌, ◌∷◌, ◌≡◌, ◌≤◌}
 use Rattle.std.proofs.lemmas.List.{drop-map, length-drop, length-take-le, nil_from_length, take-map}
 use Rattle.std.proofs.lemmas.List.Kept.{AllPairs-filter}
 use Rattle.ksm_base.proofs.Edits.{count_more}
@@ -22,9 +22,6 @@ module _ (page : GuestPage) (few : page.page < 2 ^ 32) where
   pub behind_its : (x : Item) → comes_before page (named_by x).page ≡ nat_lt (key_of page) x.key
   behind_its x = grind arith
 
-  pub page_is : page_of (key_of page) ≡ page
-  page_is = grind arith
-
 -- ---------------------------------------------------------------- all pages and all items
 
 abbrev Less : Item → Item → Type 0
@@ -34,24 +31,6 @@ Less x y = x.key < y.key
 pub found_by : (page : GuestPage) → page.page < 2 ^ 32 → (items : List Item)
     → find (is_of page) (map named_by items) ≡ option_map named_by (find (is_at (key_of page)) items)
 found_by page few items = grind (arith, find_mapped, is_its)
-
-pub absent_by : (page : GuestPage) → page.page < 2 ^ 32 → (items : List Item) → find (is_of page) (map named_by items) ≡ None
-    → find (is_at (key_of page)) items ≡ None
-absent_by page few items absent = grind (arith, found_by)
-
-pub with_by : {page : GuestPage} → page.page < 2 ^ 32 → (x : Item) → x.key ≡ key_of page → {n : Named} → named_by x ≡ n → n.page ≡ page → (items : List Item)
-    → with_named n (map named_by items) ≡ map named_by (with_item x items)
-with_by few x at is of items =
-    let lows = filter_mapped named_by _ _ items
-    (λ k d lt. ap (comes_before (named_by (get_or items k d)).page) of ∙ before_its _ few (get_or items k d) ∙ ap (nat_lt (get_or items k d).key) (sym at)) in
-    let highs = filter_mapped named_by _ _ items
-    (λ k d lt. ap (λ p. comes_before p (named_by (get_or items k d)).page) of ∙ behind_its _ few (get_or items k d) ∙ ap (λ key. nat_lt key (get_or items k d).key) (sym at)) in
-    ap₂ (λ front back. front ++ back) lows (ap₂ (λ m ms. m ∷ ms) (sym is) highs)
-    ∙ sym (map-append named_by (filter (λ y. nat_lt y.key x.key) items) (x ∷ filter (λ y. nat_lt x.key y.key) items))
-
-pub without_by : (page : GuestPage) → page.page < 2 ^ 32 → (items : List Item)
-    → without_named page (map named_by items) ≡ map named_by (without (key_of page) items)
-without_by page few items = grind (arith, filter_mapped, is_its)
 
 pub marked_by : (page : GuestPage) → page.page < 2 ^ 32 → (mark : Bool) → (items : List Item)
     → marked page mark (map named_by items) ≡ map named_by (with_mark (key_of page) mark items)
@@ -74,6 +53,11 @@ page_by x = page_of x.key
 pub visited_by : (items : List Item) → visited (map named_by items) ≡ map page_by (kept_marked items)
 visited_by items = ap (map (λ (n : Named). n.page)) (filter_mapped named_by _ (λ x. x.marked) items (λ k d lt. refl)) ∙ map_mapped _ _ _ _ (λ k d lt. refl)
 
+-- one more is counted where it passes
+count_suc : (p : Item → Bool) (x : Item) (xs : List Item)
+    → count_by p (x ∷ xs) ≡ (if p x then suc (count_by p xs) else count_by p xs)
+count_suc p x xs = grind (arith, count_more p x xs)
+
 -- where items are in order, those that come before a key stand first, and those that do not behind them
 module _ (key : ℕ) where
   abbrev below : Item → Bool
@@ -83,49 +67,21 @@ module _ (key : ℕ) where
   pub counted_marked : (xs : List Item) → up_to key xs ≡ count_by below (kept_marked xs)
   counted_marked [] = refl
   counted_marked (x ∷ xs) =
-      let rest = counted_marked xs in
-      let counts = count_more (λ y. y.marked && nat_lt y.key key) x xs in
-      elim (cases_Bool x.marked) [
-        | inl is ↦
-            let all : kept_marked (x ∷ xs) ≡ x ∷ kept_marked xs = grind arith in
-            let same : (x.marked && nat_lt x.key key) ≡ below x = grind arith in
-            counts ∙ ap₂ (λ b m. (if b then 1 else 0) + m) same rest ∙ sym (ap (count_by below) all ∙ count_more below x (kept_marked xs))
-        | inr other ↦
-            let all : kept_marked (x ∷ xs) ≡ kept_marked xs = grind arith in
-            let n : up_to key (x ∷ xs) ≡ up_to key xs = grind arith in
-            n ∙ rest ∙ sym (ap (count_by below) all)
-      ]
+      grind (arith, counted_marked xs, count_more (λ y. y.marked && nat_lt y.key key) x xs, count_more below x (kept_marked xs))
 
-  nothing_below : (x : Item) (xs : List Item) → AreAscending (x ∷ xs) → key ≤ x.key → All (λ y. below y ≡ false) xs
-  nothing_below x xs rise more k d lt = grind (arith, pairs_head Less x _ rise k d lt)
+  none_below : (x : Item) (xs : List Item) → AreAscending (x ∷ xs) → key ≤ x.key → count_by below xs ≡ 0
+  none_below x xs rise more = count_none below xs (λ k d lt. grind (arith, pairs_head Less x _ rise k d lt))
 
   -- where items are in order, those before a key stand first
   kept_first : (xs : List Item) → AreAscending xs → filter below xs ≡ take (count_by below xs) xs
   kept_first [] rise = refl
   kept_first (x ∷ xs) rise =
-      elim (cases_lt x.key key) [
-        | inl less ↦
-            let n : count_by below (x ∷ xs) ≡ suc (count_by below xs) = grind (arith, less, count_more below x xs) in
-            let kept : filter below (x ∷ xs) ≡ x ∷ filter below xs = grind arith in
-            kept ∙ ap (λ ys. x ∷ ys) (kept_first xs (pairs_tail Less x xs rise)) ∙ sym (ap (λ m. take m (x ∷ xs)) n)
-        | inr more ↦
-            let none = filter_none below (x ∷ xs) (All-cons (λ y. below y ≡ false) x xs (grind arith) (nothing_below x _ rise more)) in
-            none ∙ sym (ap (λ m. take m (x ∷ xs)) (sym (length-filter below (x ∷ xs)) ∙ ap length none))
-      ]
+      rw (count_suc below x xs) (grind (arith, nat_tests, kept_first xs (pairs_tail Less x xs rise), none_below x xs rise))
 
   kept_from : (xs : List Item) → AreAscending xs → filter (is_from key) xs ≡ drop (count_by below xs) xs
   kept_from [] rise = refl
   kept_from (x ∷ xs) rise =
-      elim (cases_lt x.key key) [
-        | inl less ↦
-            let n : count_by below (x ∷ xs) ≡ suc (count_by below xs) = grind (arith, less, count_more below x xs) in
-            let kept : filter (is_from key) (x ∷ xs) ≡ filter (is_from key) xs = grind arith in
-            kept ∙ kept_from xs (pairs_tail Less x xs rise) ∙ sym (ap (λ m. drop m (x ∷ xs)) n)
-        | inr more ↦
-            let low : All (λ y. below y ≡ false) (x ∷ xs) = All-cons (λ y. below y ≡ false) x xs (grind arith) (nothing_below x _ rise more) in
-            let all : filter (is_from key) (x ∷ xs) ≡ x ∷ xs = filter_all (is_from key) (x ∷ xs) (λ k d lt. ap not (low k d lt)) in
-            all ∙ ap (λ m. drop m (x ∷ xs)) (sym (ap length (filter_none below (x ∷ xs) low)) ∙ length-filter below (x ∷ xs))
-      ]
+      rw (count_suc below x xs) (grind (arith, nat_tests, kept_from xs (pairs_tail Less x xs rise), none_below x xs rise))
 
   abbrev nothing : List Item
   nothing = []
@@ -139,20 +95,12 @@ module _ (key : ℕ) where
   kept_between zero xs rise = kept_first _ rise ∙ ap (λ m. take m xs) (omega arith)
   kept_between (suc n) [] rise = take_none _
   kept_between (suc n) (x ∷ xs) rise =
-      let counts = count_more below x xs in
-      let same : count_by below (x ∷ xs) - suc n ≡ count_by below xs - n = elim (cases_lt x.key key) [
-        | inl less ↦ let m : count_by below (x ∷ xs) ≡ 1 + count_by below xs = grind arith in omega arith
-        | inr more ↦
-            let m : count_by below (x ∷ xs) ≡ count_by below xs = grind arith in
-            omega (arith, sym (length-filter below xs) ∙ ap length (filter_none below _ (nothing_below x _ rise more)))
-      ] in
-      kept_between n xs (pairs_tail Less x _ rise) ∙ ap (λ m. take m (drop n xs)) (sym same)
+      grind (arith, nat_tests, kept_between n xs (pairs_tail Less x xs rise), count_more below x xs, none_below x xs rise)
 
 -- the pages of items in order are in order
 pub rises_by : (items : List Item) → AreAscending items → AreInOrder (map named_by items)
 rises_by items rise =
-    pairs_mapped Less (λ (m n : Named). comes_before m.page n.page ≡ true) (λ (x : Item). x.key ≡ x.key) _
-    (λ a b _ _ less. grind arith) items (λ k d lt. refl) rise
+    search (rules, pairs_mapped Less (λ (m n : Named). comes_before m.page n.page ≡ true) (λ (x : Item). x.key ≡ x.key))
 
 -- one item more
 pub longer_by : (n : Named) (x : Item) (items : List Item) → AreAscending items → find (is_of n.page) (map named_by items) ≡ None
@@ -188,17 +136,11 @@ small_at P (x ∷ xs) (suc n) all is = small_at P xs n (All-tail (λ y. P y.key)
 -- without an item that is there, the list has one fewer
 pub gone_one : (key : ℕ) (xs : List Item) → AreAscending xs → is_some (find (is_at key) xs) ≡ true → length (without key xs) + 1 ≡ length xs
 gone_one key [] rise there = absurd (grind arith)
-gone_one key (x ∷ xs) rise there = elim (cases_Bool _) [
-  | inl is ↦
-      let at = eqb-true x.key key is in
-      let others = filter_all (λ y. not (is_at key y)) xs (λ k d lt. let up = pairs_head Less x xs rise k d lt in grind (arith, up, at)) in
-      let kept : without key (x ∷ xs) ≡ without key xs = grind arith in
-      omega (arith, ap length kept, ap length others)
-  | inr other ↦
-      let later : is_some (find (is_at key) xs) ≡ true = grind arith in
-      let kept : without key (x ∷ xs) ≡ x ∷ without key xs = grind arith in
-      omega (arith, ap length kept, gone_one key xs (pairs_tail Less x _ rise) later)
-]
+gone_one key (x ∷ xs) rise there =
+    grind (arith, gone_one key xs (pairs_tail Less x xs rise), others x xs rise)
+  where
+    others : (x : Item) (xs : List Item) → AreAscending (x ∷ xs) → without x.key xs ≡ xs
+    others x xs rise = filter_all _ xs (λ k d lt. let up = pairs_head Less x xs rise k d lt in grind (arith, up))
 
 -- the last of a beginning is the page at its end
 pub last_of_take : (pages : List GuestPage) (n : ℕ) (cursor : Option GuestPage) {page : GuestPage} → slice_get pages n ≡ Some page

@@ -1,7 +1,5 @@
 -- Rows that wait no more, and the row of a page that has one.
-use Rattle.ksm_pages.proofs.Names.{All, arith, bytes_eq, false, frame_seen, GuestPage, Held, held_at, Inside, IsKnown, let_go, List, map, Merged, merged_into, None, Option, PageState, PagesValue, Private, private_state, refl, Row, settled, settled_state, shared_state, Some, stored, true, true≢false, unshared, Waiting, waiting_state, Zero, ℕ, ◌&&◌, ◌≡◌}
-use Rattle.ksm_tree.proofs.Alike.{map_alike}
-use Rattle.ksm_pages.proofs.Leaving.{known_there, view_of}
+use Rattle.ksm_pages.proofs.Names.{arith, bytes_eq, false, frame_seen, let_go, List, Merged, Option, PageState, Private, refl, Row, settled, settled_state, shared_state, stored, Waiting, waiting_state, Zero, ℕ, ◌&&◌, ◌≡◌}
 
 -- two readings of a state, the first of it settled, agree where they do at each kind of state
 pub settled_by : {X : Type 0} (p q : PageState → X) → p Private ≡ q Private → p Private ≡ q Waiting → ((n : ℕ) → p (Merged n) ≡ q (Merged n))
@@ -25,11 +23,6 @@ stored_settled bytes r alone = grind arith
 pub went : (r : Row) → shared_state r.state ≡ false → record (settled r) { unchanged = false; mergeable = false } ≡ let_go r
 went r alone = grind arith
 
--- where a page lies does not hang on whether it waits
-pub lies_settled : (of_dup : ℕ → Option ℕ) (state : PageState) (own : Option ℕ)
-    → frame_seen of_dup (settled_state state) own ≡ frame_seen of_dup state own
-lies_settled of_dup state own = grind arith
-
 -- a state that is settled twice is the state settled once
 pub settled_again : (state : PageState) → settled_state (settled_state state) ≡ settled_state state
 settled_again = settled_by settled_state _ refl refl (λ n. refl) refl
@@ -38,29 +31,7 @@ settled_again = settled_by settled_state _ refl refl (λ n. refl) refl
 pub settled_still : (state : PageState) → waiting_state (settled_state state) ≡ false
 settled_still = settled_by waiting_state _ refl refl (λ n. refl) refl
 
--- two states that settle to one are merged into the same dups
-pub item_alike : (number : ℕ) (a b : PageState) → settled_state a ≡ settled_state b → merged_into number a ≡ merged_into number b
-item_alike number a b like = grind arith
-
 -- a page in two states that settle to one lies on the same frame
 pub lies_alike : (of_dup : ℕ → Option ℕ) (a b : PageState) (own : Option ℕ) → settled_state a ≡ settled_state b
     → frame_seen of_dup a own ≡ frame_seen of_dup b own
 lies_alike of_dup a b own like = grind arith
-
--- rows with frames of their own are unshared where they are settled and not unchanged
-pub all_unshared : (rows : List Row) → All (λ r. shared_state r.state ≡ false) rows
-    → map (λ r. record (settled r) { unchanged = false }) rows ≡ map unshared rows
-all_unshared rows alone = grind (arith, map_alike, rests)
-
--- a Private state is not Waiting
-pub private_still : (state : PageState) → private_state state ≡ true → waiting_state state ≡ false
-private_still state is = grind arith
-
-module _ (s : Inside) {p : PagesValue} (seen_as : view_of s ≡ p) (page : GuestPage) where
-  -- a page that is known has a row that is held
-  pub known_row : IsKnown page p.rows → (h : Held) × (held_at page s.rows.held ≡ Some h)
-  known_row known = go _ refl
-    where
-      go : (o : Option Held) → held_at page s.rows.held ≡ o → (h : Held) × (held_at page s.rows.held ≡ Some h)
-      go None is = absurd (true≢false (known_there s seen_as _ is known))
-      go (Some h) is = (h, is)

@@ -1,5 +1,5 @@
 -- The rows once each entry was changed, or the next pass began.
-use Rattle.ksm_pages.proofs.Names.{[], ap, ap₂, AreFiled, AreListed, arith, Bool, CalledAt, cond, count_by, count_none, Entry, false, forgotten, get, get_or, has_item, Held, held_in, held_of, held_under, is_restless, IsRows, IsTally, List, Listing, map, Merged, MutBor, Named, named_of, None, on_row, Option, option_map, PageState, Private, refl, RetainsFrom, rows_of, rules, settled, Slab, Some, subst, sym, Tally, true, Waiting, Zero, ℕ, ◌+◌, ◌∙◌, ◌∷◌, ◌≡◌, ◌≤◌, holds}
+use Rattle.ksm_pages.proofs.Names.{[], ap, ap₂, AreFiled, AreListed, arith, Bool, CalledAt, cond, count_by, count_none, Entry, false, forgotten, get, get_or, Held, held_in, held_of, IsRows, IsTally, List, Listing, map, Merged, MutBor, Named, None, on_row, Option, option_map, PageState, Private, refl, RetainsFrom, rows_of, rules, settled, Slab, Some, subst, sym, Tally, true, Waiting, Zero, ℕ, ◌+◌, ◌∙◌, ◌∷◌, ◌≡◌, ◌≤◌, holds}
 use Rattle.ksm_pages.proofs.Options.{mapped_some}
 use Rattle.std.proofs.Math.ListN.{get_or-map}
 use Rattle.ksm_pages.specs.declared.row.Kind.TheVariants as kinds
@@ -64,19 +64,11 @@ module _ {slab : Slab Entry} {order : List Named} {restless : Listing} {tally : 
 
   -- once each entry is changed, the pages that a visit may change are listed still
   pub all_listed : restless.known ≡ true → AreListed later restless.pages
-  all_listed known =
-      all_from _
-      (λ k e stands may. ap (λ p. has_item p restless.pages) (same e) ∙ are.listed known k e stands (sym (restless_same e) ∙ may))
-    where
-      restless_same : (e : Entry) → is_restless (g e) ≡ is_restless e
-      restless_same e = grind arith
+  all_listed known = search (rules, all_from)
 
   -- once each entry is changed so that its row is changed by f, all rows are changed by f
   pub all_seen : (f : Held → Held) → ((k : ℕ) (e : Entry) → get slab k ≡ Some e → held_of after (g e) ≡ f (held_of pass e)) → held_in after later order ≡ map f (held_in pass slab order)
-  all_seen f is = sym (map_mapped _ _ _ _ (λ k d lt. at _ (all_stand slab _ are.ascending are.filed k d lt)))
-    where
-      at : (n : Named) → option_map (named_of n.key) (get slab n.key) ≡ Some n → f (held_under pass (get slab n.key)) ≡ held_under after (get later n.key)
-      at n stands = grind arith
+  all_seen f is = search (rules, map_mapped, all_stand)
 
   -- once each entry is changed so that its row is settled, the rows are lawful, and none waits
   pub all_settled : ((k : ℕ) (e : Entry) → get slab k ≡ Some e → held_of after (g e) ≡ on_row settled (held_of pass e)) → ((k : ℕ) (e : Entry) → get slab k ≡ Some e → (g e).kind ≡ kinds.Own → (g e).number ≤ after) → 1 ≤ after

@@ -1,5 +1,5 @@
 -- Spots in the order of their pages: the pages of them, once one was put in, written or taken away.
-use Rattle.ksm_pages.proofs.Names.{[], add-one, ap, append-nil, append_assoc, ap₂, AreInOrder, arith, Bool, cases_Bool, comes_before, drop, drop_all, Entry, false, filter, find, find_filter, find_passes, get, get_or, get_or_default, GuestPage, has_item, if◌then◌else◌, inl, inr, insert, is_of, is_restless, is_some, is_useless, IsInVain, length, length-append, length-map, length-take-le, List, Listing, map, map-append, Named, None, not, not-true, Option, pages_of, pages_ordered, point_is_count, refl, same_page, same_page_eq, set, Slab, Some, Spot, subst, sym, take, true, true≢false, with_item, ℕ, ◌++◌, ◌+◌, ◌-◌, ◌<◌, ◌∙◌, ◌∷◌, ◌≡◌, ◌≤◌, ◌⊎◌}
+use Rattle.ksm_pages.proofs.Names.{[], add-one, ap, append-nil, append_assoc, ap₂, AreInOrder, arith, Bool, cases_Bool, comes_before, drop, drop_all, Entry, false, filter, find, find_filter, find_passes, get, get_or, get_or_default, GuestPage, has_item, if◌then◌else◌, insert, is_some, is_useless, IsInVain, length, length-append, length-map, length-take-le, List, Listing, map, Named, None, not, not-true, Option, pages_of, pages_ordered, point_is_count, refl, rules, same_page, same_page_eq, set, Slab, Some, Spot, sym, take, true, true≢false, ℕ, ◌++◌, ◌+◌, ◌-◌, ◌<◌, ◌∙◌, ◌∷◌, ◌≡◌, ◌≤◌, ◌⊎◌}
 use Rattle.std.specs.List.{copy_within}
 use Rattle.std.specs.Option.{is_none}
 use Rattle.std.proofs.Math.Seq.{take-append_seam, take-suc}
@@ -36,9 +36,7 @@ listed_found page spots =
 -- a page that no search finds among the spots is not in the list that is seen of them
 pub unlisted : (page : GuestPage) (spots : List Spot) {read : List Spot} → read ≡ spots → false ≡ is_some (find (λ s. same_page s.page page) read)
     → {known : Bool} {l : Listing} → record { pages = pages_of spots; known = known } ≡ l → has_item page l.pages ≡ true → ⊥
-unlisted page spots read none is has = true≢false
-    (sym has ∙ ap (λ (l : Listing). has_item page l.pages) (sym is) ∙ listed_found page spots
-    ∙ ap (λ ss. is_some (find (λ (s : Spot). same_page s.page page) ss)) (sym read) ∙ sym none)
+unlisted page spots read none is has = search (rules, listed_found)
 
 module _ (spot : Spot) (spots : List Spot) (rise : AreInOrder spots) where
   abbrev before : Spot → Bool
@@ -46,12 +44,6 @@ module _ (spot : Spot) (spots : List Spot) (rise : AreInOrder spots) where
 
   abbrev put_in : List Spot
   put_in = filter before spots ++ spot ∷ filter (λ s. comes_before spot.page s.page) spots
-
-  -- with a spot put in at its place, the pages are those with the page of that spot
-  pub put_pages : pages_of put_in ≡ with_item spot.page (pages_of spots)
-  put_pages =
-      map-append page_of (filter before spots) (spot ∷ filter (λ s. comes_before spot.page s.page) spots)
-      ∙ ap₂ (λ front back. front ++ spot.page ∷ back) (sym (pages_kept (λ p. comes_before p spot.page) spots)) (sym (pages_kept (comes_before spot.page) spots))
 
   -- spots in order stay in order with a spot put in at its place
   pub put_rises : AreInOrder put_in
@@ -70,43 +62,13 @@ no_value (Some x) is = absurd (true≢false (sym is))
 
 -- a page that is swept out of the list is there in vain
 vain_of : {entries : Slab Entry} (order : List Named) (s : Spot) → is_useless order s (get entries s.key) ≡ true → IsInVain entries order s.page
-vain_of {entries} order s useless = go _ refl useless
-  where
-    unnamed : is_none (find (is_of s.page) order) ≡ true → IsInVain entries order s.page
-    unnamed none = inl (no_value _ none)
-
-    go : (o : Option Entry) → get entries s.key ≡ o → is_useless order s o ≡ true → IsInVain entries order s.page
-    go None is none = unnamed none
-    go (Some e) is useless =
-        let either : Bool → Bool = λ same. if same then not (is_restless e) else is_none (find (is_of s.page) order) in
-        elim (cases_Bool (same_page e.page s.page)) [
-          | inl same ↦ inr (record {
-            key = s.key;
-            entry = e;
-            stands = is;
-            of_page = same_page_eq _ _ same;
-            calm = not-true (is_restless e) (sym (ap either same) ∙ useless);
-          })
-          | inr other ↦ unnamed (sym (ap either other) ∙ useless)
-        ]
+vain_of {entries} order s useless = search (rules, no_value, same_page_eq, not-true)
 
 -- a page of the spots stays once useless spots are swept out, or is there in vain
 pub swept : {entries : Slab Entry} (order : List Named) (spots : List Spot) {page : GuestPage} → has_item page (pages_of spots) ≡ true
     → (has_item page (pages_of (filter (λ s. not (is_useless order s (get entries s.key))) spots)) ≡ true) ⊎ IsInVain entries order page
-swept {entries} order spots {page} has = go _ refl (sym (listed_found page _) ∙ has)
-  where
-    it : Spot → Bool
-    it s = same_page s.page page
-
-    keeps : Spot → Bool
-    keeps s = not (is_useless order s (get entries s.key))
-
-    go : (o : Option Spot) → find it spots ≡ o → is_some o ≡ true → (has_item page (pages_of (filter keeps spots)) ≡ true) ⊎ IsInVain entries order page
-    go None is none = absurd (true≢false (sym none))
-    go (Some s) is some = elim (cases_Bool (is_useless order s (get entries s.key))) [
-      | inl useless ↦ inr (subst (IsInVain entries order) (same_page_eq s.page page (find_passes it spots s is)) (vain_of order _ useless))
-      | inr kept ↦ inl (listed_found _ (filter keeps spots) ∙ ap is_some (find_filter _ _ spots s is (ap not kept)))
-    ]
+swept {entries} order spots {page} has =
+    search (rules, listed_found, cases_Bool, same_page_eq, find_passes, vain_of, find_filter)
 
 -- one more behind a list, the elements from an index on moved up by one, and that one written there: it is put in
 pub moved_up : {X : Type 0} (xs : List X) (at : ℕ) (x : X) → at ≤ length xs → set (copy_within (xs ++ x ∷ []) at (length xs) (at + 1)) at x ≡ insert xs at x

@@ -36,11 +36,7 @@ module _ {rows : List Row} (rise : InPageOrder rows) (page : GuestPage) {old : R
 
     -- a tally moved from a row's old state to its new one counts the rows with that row changed
     pub tally_changed : IsMoved old.state new.state tally later → IsTally changed later
-    tally_changed moved = record {
-      merged = meets _ are.merged moved.merged;
-      waiting = meets _ are.waiting moved.waiting;
-      zero = meets _ are.zero moved.zero;
-    }
+    tally_changed moved = search (rules, meets)
 
   -- the row of a page went
   left : (p : Row → Bool) {n m : ℕ} → n ≡ count_by p rows → m + one_if (p old) ≡ n + 0 → m ≡ count_by p (without_page page rows)
@@ -48,11 +44,7 @@ module _ {rows : List Row} (rise : InPageOrder rows) (page : GuestPage) {old : R
 
   -- a tally moved from a row's state to Private counts the rows without that row
   pub tally_gone : IsMoved old.state Private tally later → IsTally (without_page page rows) later
-  tally_gone moved = record {
-    merged = left _ are.merged moved.merged;
-    waiting = left _ are.waiting moved.waiting;
-    zero = left _ are.zero moved.zero;
-  }
+  tally_gone moved = search (rules, left)
 
 -- a Private row that comes leaves the tally as it is
 pub tally_put : {rows : List Row} (row : Row) {tally : Tally} → row_at row.page rows ≡ None → row.state ≡ Private → IsTally rows tally → IsTally (with_row row rows) tally

@@ -1,10 +1,10 @@
 -- The pages once a call changed the row of one page: they are lawful, and what is seen of them changed so.
-use Rattle.ksm_pages.proofs.Names.{[], All-map, ap, AreKept, AreTied, AreWaiting, arith, at_mapped, cases_Bool, change_held, change_row, cond, cond_both, DupsState, false, find_passes, frame_of, frame_seen, get_or, GuestPage, Held, held_at, holds, if◌then◌else◌, inl, inr, Inside, IsAlone, IsKnown, IsLeft, lies_on, List, Listing, lodging, lodgings_of, map, mapped, MatchOption, merged_state, None, none_waiting, on_row, Option, option_map, ordered_map, PageState, PagesValue, PagesView, Private, refl, Row, row_at, rows_of, RowsView, rules, same_page, same_page_eq, seen, settled_state, shared_state, Some, subst, sym, tied_mapped, true≢false, waiting_state, waits_there, without_held, without_page, ℕ, ⊤, ◌∙◌, ◌≡◌}
+use Rattle.ksm_pages.proofs.Names.{[], All-map, ap, AreKept, AreTied, AreWaiting, arith, at_mapped, change_held, change_row, cond_both, DupsState, false, find_passes, frame_of, frame_seen, get_or, GuestPage, Held, held_at, holds, if◌then◌else◌, Inside, IsAlone, IsKnown, IsLeft, lies_on, List, Listing, lodging, lodgings_of, map, mapped, MatchOption, merged_state, None, none_waiting, on_row, Option, option_map, ordered_map, PageState, PagesValue, PagesView, Private, refl, Row, row_at, rows_of, RowsView, rules, same_page, same_page_eq, seen, settled_state, shared_state, Some, subst, sym, tied_mapped, true≢false, waiting_state, waits_there, without_held, without_page, ℕ, ⊤, ◌∙◌, ◌≡◌}
 use Rattle.std.proofs.lemmas.Bool.{some_since}
 use Rattle.ksm_tree.specs.Dups.{rows_of as dup_rows}
 use Rattle.ksm_tree.proofs.Alike.{map_alike, map_mapped}
-use Rattle.ksm_pages.proofs.Leaving.{AreLawful, alone_found, held_twice, lawful_gone, lawful_left, lies, of_dup, same_dups, told, told_gone, told_still, view_of}
-use Rattle.ksm_pages.proofs.Resting.{item_alike, known_row, lies_alike, lies_settled, rests, settled_again, settled_still}
+use Rattle.ksm_pages.proofs.Leaving.{AreLawful, alone_found, known_there, lawful_gone, lawful_left, lies, of_dup, same_dups, told, told_gone, told_still, view_of}
+use Rattle.ksm_pages.proofs.Resting.{lies_alike, rests, settled_again, settled_still}
 
 -- the pages with other rows and dups are lawful, and are seen as the new view says
 pub record Comes (s : Inside) (rows : RowsView) (later : DupsState) (new : PagesView) : Type 0 where
@@ -19,7 +19,7 @@ held_as same = λ i. (same i).held
 pub and_then : (page : GuestPage) (f g : Row → Row) → ((r : Row) → (f r).page ≡ r.page) → (old : List Held) {first second : List Held}
     → first ≡ change_held page (on_row f) old → second ≡ change_held page (on_row g) first
     → second ≡ change_held page (on_row (λ r. g (f r))) old
-and_then page f g same old first second = grind (arith, held_twice)
+and_then page f g same old first second = grind (arith, map_mapped)
 
 -- ---------------------------------------------------------------- a page that leaves what it is in
 
@@ -40,7 +40,7 @@ module _ {s : Inside} {p : PagesValue} {page : GuestPage} {later : DupsState} {f
   -- a page that is known, and which was let out, has left
   pub known_left : AreLawful s → view_of s ≡ p → IsKnown page p.rows
       → MatchOption (held_at page s.rows.held) ⊤ (IsLeft s.knobs frames s.dups later lone) → HasLeft s p page later frames lone
-  known_left are seen_as known left = search (rules, known_row)
+  known_left are seen_as known left = grind (arith, known_there, seen_as)
 
   -- a page with a frame of its own, which was let out, has left
   pub alone_left : AreLawful s → view_of s ≡ p → IsAlone page p.rows
@@ -89,7 +89,7 @@ module _ {s : Inside} {p : PagesValue} {page : GuestPage} {later : DupsState} {f
           let alone = alone_found s it.seen_as _ it.found alone_seen in
           let private = (λ i. (agree alone i).state) ∙ rest it.held.row in
           let stays = ap (λ st. frame_seen (of_dup s) st it.held.frame) (private ∙ sym (rests _ alone))
-          ∙ lies_settled (of_dup s) _ it.held.frame in
+          ∙ (grind arith) in
           record {
             lawful = lawful_left s it.lawful _ it.found it.left.dups it.left.waiting _ g
                 (λ x. refl) same rows turned (ap merged_state private) (ap waiting_state private);
@@ -106,10 +106,7 @@ module _ {s : Inside} {p : PagesValue} {page : GuestPage} {later : DupsState} {f
           frame = lies_on page None (frame_of p.lodgings);
           restless = rows.restless;
         })
-    parted rows gone = record {
-      lawful = lawful_gone s it.lawful _ it.found it.left.dups it.left.waiting rows gone;
-      told_as = told_gone s it.lawful _ it.found it.left.dups it.left.waiting rows gone it.seen_as;
-    }
+    parted rows gone = search (rules, lawful_gone, told_gone)
 
 -- ---------------------------------------------------------------- rows that change where they lie
 
@@ -123,26 +120,27 @@ module _ (s : Inside) (are : AreLawful s) {p : PagesValue} (seen_as : view_of s 
       → {restless : Listing} → rows.restless ≡ restless → (later : DupsState) → later ≡ record s.dups { waiting = later.waiting }
       → AreWaiting s.knobs (map f before) later.waiting
       → Comes s rows later (record (seen p) { rows = map f p.rows; restless = restless })
-  still f pages like rows turned {restless = restless} listed later rest waits = record {
-    lawful = record {
-      small = are.small;
-      order = rw changed (ordered_map f _ pages are.order);
-      tied = subst (λ rs. AreTied rs later.dups) (sym changed) (subst (AreTied (map f before)) (λ i. (sym rest i).dups)
-          (tied_mapped f _ _ (λ k d lt. let r = get_or before k d in (pages r, λ number. item_alike _ _ _ (like r))) are.tied));
-      places = (λ i. (rest i).places) ∙ are.places;
-      waits = rw changed waits;
-      room = are.room;
-    };
-    told_as =
-        (λ i. record (seen (view_of (record s { rows = rows; dups = later }))) {
-          rows = changed i;
-          frame = lain i;
-          dups = dups i;
-          next = ap (λ (d : DupsState). d.next) rest i;
-          restless = listed i;
-        })
-        ∙ (λ i. record (seen (seen_as i)) { rows = map f (seen_as i).rows; restless = restless });
-  }
+  still f pages like rows turned {restless = restless} listed later rest waits =
+      record {
+        lawful = record {
+          small = are.small;
+          order = rw changed (ordered_map f _ pages are.order);
+          tied = subst (λ rs. AreTied rs later.dups) (sym changed) (subst (AreTied (map f before)) (λ i. (sym rest i).dups)
+              (tied_mapped f _ _ (λ k d lt. let r = get_or before k d in (pages r, λ number. (grind arith))) are.tied));
+          places = (λ i. (rest i).places) ∙ are.places;
+          waits = rw changed waits;
+          room = are.room;
+        };
+        told_as =
+            (λ i. record (seen (view_of (record s { rows = rows; dups = later }))) {
+              rows = changed i;
+              frame = lain i;
+              dups = dups i;
+              next = ap (λ (d : DupsState). d.next) rest i;
+              restless = listed i;
+            })
+            ∙ (λ i. record (seen (seen_as i)) { rows = map f (seen_as i).rows; restless = restless });
+      }
     where
       changed : rows_of rows.held ≡ map f before
       changed =
@@ -175,31 +173,19 @@ module _ (s : Inside) (are : AreLawful s) {p : PagesValue} (seen_as : view_of s 
       → (rows : RowsView) → rows.held ≡ change_held page (on_row g) s.rows.held
       → Comes s rows s.dups (record (seen p) { rows = change_row page g p.rows; restless = rows.restless })
   stays page g same states alike rows turned =
-      still f keeps (λ r. by r (λ x. settled_state x.state ≡ settled_state r.state) (ap settled_state (states r)) refl) rows
+      still f (λ r. grind (arith, same r)) (λ r. grind (arith, states r)) rows
       (turned ∙ map_alike _ _ _ (λ k d lt. each _)) refl _ refl waiting
     where
       f : Row → Row
       f r = if same_page r.page page then g r else r
 
-      by : (r : Row) (P : Row → Type 0) → P (g r) → P r → P (f r)
-      by r P there away = cond_both _ _ _ P (λ _. there) (λ _. away)
-
-      keeps : (r : Row) → (f r).page ≡ r.page
-      keeps r = by r (λ x. x.page ≡ r.page) (same r) refl
-
-      change : Held → Held
-      change h = if holds page h then on_row g h else h
-
-      each : (h : Held) → change h ≡ on_row f h
-      each h = elim (cases_Bool _) [
-        | inl yes_it ↦ ap (λ b. cond b (on_row g h) h) yes_it ∙ ap (λ b. record h { row = cond b (g h.row) h.row }) (sym yes_it)
-        | inr not_it ↦ ap (λ b. cond b (on_row g h) h) not_it ∙ ap (λ b. record h { row = cond b (g h.row) h.row }) (sym not_it)
-      ]
+      each : (h : Held) → (if holds page h then on_row g h else h) ≡ on_row f h
+      each h = grind arith
 
       waiting : AreWaiting s.knobs (map f before) s.dups.waiting
       waiting t b q =
           are.waits t b q ∙ go _ refl
-          ∙ ap (waits_there s.knobs t b) (sym (at_mapped f q before (λ k d lt. keeps _)))
+          ∙ ap (waits_there s.knobs t b) (sym (at_mapped f q before (λ k d lt. grind (arith, same (get_or before k d)))))
         where
           go : (o : Option Row) → row_at q before ≡ o → waits_there s.knobs t b o ≡ waits_there s.knobs t b (option_map f o)
           go None is = refl

@@ -1,5 +1,5 @@
 -- What a visit finds of a row that it may change, and the pages once the row waits.
-use Rattle.ksm_pages.proofs.Names.{all_zero, ap, AreKept, AreTied, AreWaiting, arith, Best, best_dup, best_found, best_of, Bool, change_held, change_row, Dup, DupRow, DupsState, Entry, false, Find, Finds, FindsAt, found_at, GuestPage, Held, held_at, held_of, Inside, is_for_zero, IsAdded, IsAlone, List, MatchOption, None, not, number_of, on_row, Option, option_map, PagesValue, PagesView, partner, Private, refl, Row, row_at, rows_of, RowsView, rules, same_page, seen, shared_state, Some, subst, sym, tied_counted, tied_left, tree_of, true, unwrap_or, Waiting, waiting_page, ℕ, ◌&&◌, ◌==◌, ◌∙◌, ◌≡◌, and_parts, not-true}
+use Rattle.ksm_pages.proofs.Names.{all_zero, ap, AreKept, AreTied, AreWaiting, arith, Best, best_dup, best_found, best_of, Bool, change_held, change_row, Dup, DupsState, Entry, false, Find, Finds, FindsAt, found_at, GuestPage, Held, held_at, held_of, Inside, is_for_zero, IsAdded, IsAlone, List, MatchOption, None, not, number_of, on_row, Option, option_map, PagesValue, PagesView, partner, Private, refl, Row, row_at, rows_of, RowsView, rules, same_page, seen, shared_state, Some, subst, sym, tied_counted, tied_left, tree_of, true, unwrap_or, Waiting, waiting_page, ℕ, ◌&&◌, ◌==◌, ◌∙◌, ◌≡◌, and_parts, not-true}
 use Rattle.ksm_pages.proofs.Options.{none_mapped}
 use Rattle.std.specs.Option.{is_some}
 use Rattle.ksm_tree.specs.Dups.{rows_of as dup_rows}
@@ -17,8 +17,7 @@ use Rattle.ksm_pages.proofs.Resting.{lies_alike, rests}
 module _ (s : Inside) {later : DupsState} (kept : later ≡ record s.dups { numbers = later.numbers; most = later.most }) where
   -- groups that got other numbers leave the pages lawful
   pub lawful_numbered : AreLawful s → AreLawful (record s { dups = later })
-  lawful_numbered are =
-      rw kept (record { small = are.small; order = are.order; tied = are.tied; places = are.places; waits = are.waits; room = are.room })
+  lawful_numbered are = search rules
 
   -- groups that got other numbers leave what is seen of the pages as it was
   pub seen_numbered : view_of (record s { dups = later }) ≡ view_of s
@@ -28,11 +27,6 @@ module _ (s : Inside) {later : DupsState} (kept : later ≡ record s.dups { numb
 
 not_shared : (a : Bool) {b : Bool} → (a && not b) ≡ true → b ≡ false
 not_shared a {b} is = not-true b (and_parts _ _ is).1
-
--- a page without a row is found gone
-pub finds_none : (s : Inside) {p : PagesValue} → view_of s ≡ p → (page : GuestPage) → held_at page s.rows.held ≡ None
-    → Finds (seen p) (seen p) page finds.Gone
-finds_none s {p} seen_as page gone = search (rules, row_seen)
 
 finds_row : (s : Inside) {p : PagesValue} → view_of s ≡ p → (page : GuestPage) {h : Held} → held_at page s.rows.held ≡ Some h
     → (new : PagesView) (what : Find) → FindsAt (seen p) new h.row what → Finds (seen p) new page what
@@ -48,11 +42,6 @@ finds_gone s seen_as page e found calm = finds_row s seen_as _ found _ _ (restle
 pub is_alone : (s : Inside) → AreLawful s → (page : GuestPage) (e : Entry) → held_at page s.rows.held ≡ Some (held_of s.rows.pass e)
     → is_restless_entry e ≡ true → IsAlone page (rows_of s.rows.held)
 is_alone s are page e found restless = search (rules, row_there, not_shared, restless_as)
-
--- an entry that a visit may change is seen as a row that a visit may change
-pub is_seen_restless : (s : Inside) {p : PagesValue} → view_of s ≡ p → (page : GuestPage) (e : Entry) → held_at page s.rows.held ≡ Some (held_of s.rows.pass e)
-    → is_restless_entry e ≡ true → MatchOption (row_at page p.rows) (true ≡ false) (λ r. is_restless r ≡ true)
-is_seen_restless s {p} seen_as page e found restless = grind (arith, row_seen, restless_as)
 
 -- ---------------------------------------------------------------- a row whose group has a number
 
@@ -118,14 +107,7 @@ module _ {s : Inside} {p : PagesValue} {page : GuestPage} {e : Entry} {group : �
   -- where the group of an asked row has a best dup, the visit finds that dup
   pub finds_dup : (b : Best) → IsOfGroup (λ tree bytes. Some b ≡ option_map found_at (best tree bytes))
       → Finds (seen p) (seen (view_of s)) page (finds.Dup b)
-  finds_dup b is =
-      let joins = subst (λ o. MatchOption o (true ≡ false) (λ (d : DupRow). (b.number ≡ d.number) × (b.place ≡ d.place)))
-      (sym best_is) (go _ (is (tree_of s.knobs row) row.bytes it.numbered)) in
-      finds_at _ _ (may, joins, ap seen it.seen_as)
-    where
-      go : (o : Option Dup) → Some b ≡ option_map found_at o
-          → MatchOption (option_map (λ d. d.row) o) (true ≡ false) (λ (d : DupRow). (b.number ≡ d.number) × (b.place ≡ d.place))
-      go o no_it = grind arith
+  finds_dup b is = search (rules, best_is, finds_at)
 
   module _ (none : IsOfGroup (λ tree bytes. None ≡ option_map found_at (best tree bytes))) where
     no_best : best_dup p.knobs p.rows p.dups row ≡ None

@@ -1,18 +1,23 @@
 -- What each change of one row, found under its key, leaves: rows still, and what is seen of them.
-use Rattle.ksm_pages.proofs.Names.{ap, ap₂, AreBegun, AreListed, arith, Bool, CanMove, change_held, Entry, false, find, forgotten, get, GuestPage, has_item, Held, held_at, held_in, held_of, held_under, IfSome, inl, InPageOrder, inr, is_of, is_own, is_restless, is_some, IsAddedTo, IsInVain, IsMoved, IsRows, IsTally, IsUnder, key_in, Kind, length, length-map, List, Listing, marked, Named, named_of, ne_eqb, None, number_left, on_row, option_map, own_state, pages_ordered, PageState, Private, refl, Row, row_at, rows_of, RowsView, rules, same_page, same_page_refl, same_Some, settled, settled_state, shared_state, Slab, Some, state_of, sym, Tally, true, true≢false, Updates-with_value, Waiting, with_held, with_named, with_value, without_held, without_named, ℕ, ◌&&◌, ◌<◌, ◌^◌, ◌∙◌, ◌≡◌, ◌≢◌, ◌≤◌, ◌⊎◌}
+use Rattle.ksm_pages.proofs.Options.{none_mapped}
+use Rattle.ksm_pages.proofs.Names.{ap, ap₂, AreBegun, AreListed, arith, Bool, CanMove, change_held, Entry, false, find, forgotten, get, GuestPage, has_item, Held, held_at, held_in, held_of, held_under, IfSome, inl, InPageOrder, inr, is_of, is_own, is_restless, is_some, IsAddedTo, IsInVain, IsMoved, IsRows, IsTally, IsUnder, key_in, Kind, length, length-map, List, Listing, marked, Named, named_of, ne_eqb, None, number_left, on_row, option_map, own_state, pages_ordered, PageState, Private, refl, Row, row_at, rows_of, RowsView, rules, same_page_refl, same_Some, settled, shared_state, Slab, Some, state_of, sym, Tally, true, true≢false, Updates-with_value, Waiting, with_held, with_named, with_value, without_held, without_named, ℕ, ◌&&◌, ◌<◌, ◌^◌, ◌∙◌, ◌≡◌, ◌≢◌, ◌≤◌, ◌⊎◌}
 use Rattle.slab.specs.Slab.{Updates as Fills}
 use Rattle.ksm_pages.specs.declared.row.Kind.TheVariants as kinds
 use Rattle.ksm_pages.specs.declared.rows.Rows.TheInside.{Inside}
 use Rattle.ksm_pages.proofs.Changing.{marked_same, row_told, rows_changed, rows_with, rows_without}
-use Rattle.ksm_pages.proofs.Filing.{all_filled, elsewhere, filed_kept, filed_marked, filed_put, filed_taken, held_nowhere, held_there, key_nowhere, one_key, put, rows_rise, taken, written}
+use Rattle.ksm_pages.proofs.Filing.{all_filled, filed_kept, filed_marked, filed_put, filed_taken, held_found, held_nowhere, named_under, one_key, put, rows_rise, taken, written}
 use Rattle.ksm_pages.proofs.Keyed.{absent_unchanged, write_rises}
 use Rattle.ksm_rmap.proofs.Ordered.{absent_kept, with_rises, without_rises}
 use Rattle.ksm_pages.proofs.Listings.{with_has}
 use Rattle.ksm_pages.proofs.Tallying.{can_move, tally_changed, tally_gone, tally_put}
 
+-- what is seen of entries in an order, with a list, in a pass
+abbrev pub view : ℕ → Slab Entry → List Named → Listing → RowsView
+view pass entries order restless = record { held = held_in pass entries order; restless = restless; pass = pass }
+
 -- what is seen of the rows inside
 abbrev pub view_of : Inside → RowsView
-view_of s = record { held = held_in s.pass s.entries s.order; restless = s.restless; pass = s.pass }
+view_of s = view s.pass s.entries s.order s.restless
 
 -- the rows inside are lawful
 abbrev pub AreRows : Inside → Type 0
@@ -22,10 +27,6 @@ AreRows s = IsRows s.entries s.order s.restless s.tally s.pass
 pub never : {P : Type 0} (b : Bool) → (b && false) ≡ true → P
 never true both = absurd (grind arith)
 never false both = absurd (grind arith)
-
--- a row that is not shared has a frame of its own
-pub own_kind : (kind : Kind) (number pass : ℕ) → shared_state (state_of kind number pass) ≡ false → kind ≡ kinds.Own
-own_kind kind number pass alone = grind arith
 
 -- a row with a frame of its own waits where its number is that of the pass
 pub waits_now : {kind : Kind} (pass : ℕ) → kind ≡ kinds.Own → state_of kind pass pass ≡ Waiting
@@ -38,11 +39,6 @@ rests_apart {number} pass apart = ap own_state (ne_eqb number pass apart)
 -- a row with a frame of its own and number 0 is Private in any pass from 1 on
 pub rests_now : (pass : ℕ) → 1 ≤ pass → state_of kinds.Own 0 pass ≡ Private
 rests_now pass counting = rests_apart _ (λ same. absurd (omega arith))
-
--- an entry that has forgotten its pass is settled in any pass from 1 on
-pub rest_of : (kind : Kind) (number pass after : ℕ) → 1 ≤ after
-    → state_of kind (number_left kind number) after ≡ settled_state (state_of kind number pass)
-rest_of kind number pass after counting = grind arith
 
 -- an entry with a frame of its own that has forgotten its pass has a number not beyond any pass
 pub left_fits : (kind : Kind) (number pass : ℕ) → kind ≡ kinds.Own → number_left kind number ≤ pass
@@ -74,7 +70,7 @@ module _ (s : Inside) (are : AreRows s) where
 
     -- a page with an entry under its key has the row that the entry says
     pub row_there : held_at page held ≡ Some (held_of s.pass e)
-    row_there = held_there s.entries _ are.ascending are.filed _ _ stood of_page
+    row_there = grind (arith, held_found, named_under)
 
     found_row : row_at page (rows_of held) ≡ Some (held_of s.pass e).row
     found_row = row_told page held row_there
@@ -82,7 +78,7 @@ module _ (s : Inside) (are : AreRows s) where
     -- the entry of a page whose row is not shared is of the kind with frames of their own
     pub own_there : {v : RowsView} → view_of s ≡ v → IfSome (held_at page v.held) (λ h. shared_state h.row.state ≡ false)
         → e.kind ≡ kinds.Own
-    own_there seen_as alone = grind (arith, own_kind, row_there)
+    own_there seen_as alone = grind (arith, row_there)
 
     -- the tally can take the row of an entry from its state to any other
     pub can_be : {from : PageState} → from ≡ state_of e.kind e.number s.pass → {state : PageState} → length s.order < 2 ^ 64
@@ -91,9 +87,6 @@ module _ (s : Inside) (are : AreRows s) where
         let many : length (rows_of held) < 2 ^ 64 =
         omega (arith, length-map held (λ (h : Held). h.row), length-map s.order (λ (n : Named). held_under s.pass (get s.entries n.key)), few) in
         rw is (can_move rise _ found_row s.tally are.counted (record (held_of s.pass e).row { state = state }) many)
-
-    other_page : {k : ℕ} {f : Entry} → get s.entries k ≡ Some f → k ≢ key → same_page f.page page ≡ false
-    other_page {f} stands apart = ap (same_page f.page) (sym of_page) ∙ elsewhere s.entries _ are.ascending are.filed stood stands apart
 
     -- ---------------------------------------------------------------- the entry changed
 
@@ -110,7 +103,6 @@ module _ (s : Inside) (are : AreRows s) where
       module _ {from to : PageState} {tally : Tally} (was : from ≡ state_of e.kind e.number s.pass) (is : to ≡ state_of e'.kind e'.number s.pass) (moved : IsMoved from to s.tally tally) where
         tallied : IsTally (rows_of (held_in s.pass later s.order)) tally
         tallied =
-            let new = (held_of s.pass e').row in
             rw (ap rows_of (held_later _ refl) ∙ rows_changed _ (λ _. held_of s.pass e') _ _ (λ h. refl))
             (tally_changed rise _ found_row _ are.counted _ (rw (← was) (rw (← is) moved)))
 
@@ -124,13 +116,7 @@ module _ (s : Inside) (are : AreRows s) where
 
       -- where a page is added to the list, the list is right for any new entry of that page
       pub listed_now : {now : Listing} → IsAddedTo page s.restless now → now.known ≡ true → AreListed later now.pages
-      listed_now added known = elim added [
-        | inl is ↦
-            rw is (listed_still _
-            (λ k f stands apart may. with_has _ page _ (inr (are.listed (listed_known s.restless _ is known) k f stands may)))
-            (λ may. with_has page page _ (inl (same_page_refl page))))
-        | inr is ↦ absurd (grind arith)
-      ]
+      listed_now added known = search (rules, listed_still, with_has, listed_known, same_page_refl)
 
       -- the list as it was is right for a new entry that no visit changes
       pub listed_calm : is_restless e' ≡ false → {now : Listing} → now ≡ s.restless → now.known ≡ true → AreListed later now.pages
@@ -141,14 +127,7 @@ module _ (s : Inside) (are : AreRows s) where
           → (now.known ≡ true → AreListed later now.pages)
           → {from to : PageState} {tally : Tally} → from ≡ state_of e.kind e.number s.pass → to ≡ state_of e'.kind e'.number s.pass
           → IsMoved from to s.tally tally → IsRows later s.order now tally s.pass
-      still flag fits listed was is moved = record {
-        ascending = are.ascending;
-        filed = filed_kept _ _ are.ascending are.filed stood fills same flag;
-        listed = listed;
-        counted = tallied was is moved;
-        begun = begun_still fits;
-        counting = are.counting;
-      }
+      still flag fits listed was is moved = search (rules, filed_kept, fills, tallied, begun_still)
 
       -- rows with an entry written anew are lawful under the old list where no visit may change what none could before
       pub kept : e'.mergeable ≡ e.mergeable → (e'.kind ≡ kinds.Own → e'.number ≤ s.pass) → (is_restless e' ≡ true → is_restless e ≡ true)
@@ -187,13 +166,13 @@ module _ (s : Inside) (are : AreRows s) where
 
       -- with an entry written anew whose row is changed by f, the rows are seen with f at that page, and the new list
       pub viewed : (f : Held → Held) → held_of s.pass e' ≡ f (held_of s.pass e) → (now : Listing) {v : RowsView} → view_of s ≡ v
-          → record { held = held_in s.pass later s.order; restless = now; pass = s.pass } ≡ record v { held = change_held page f v.held; restless = now }
+          → view s.pass later s.order now ≡ record v { held = change_held page f v.held; restless = now }
       viewed f is now seen_as = grind (arith, held_later)
 
       -- with an entry written anew whose row is changed by f, the rows are seen with f at that page
       pub viewed_same : (f : Held → Held) → held_of s.pass e' ≡ f (held_of s.pass e) → {now : Listing} → now ≡ s.restless → {v : RowsView}
           → view_of s ≡ v
-          → record { held = held_in s.pass later s.order; restless = now; pass = s.pass } ≡ record v { held = change_held page f v.held }
+          → view s.pass later s.order now ≡ record v { held = change_held page f v.held }
       viewed_same f is same_list {v} seen_as =
           viewed f is _ seen_as
           ∙ ap (λ l. record v { held = change_held page f v.held; restless = l }) (same_list ∙ (λ i. (seen_as i).restless))
@@ -201,7 +180,7 @@ module _ (s : Inside) (are : AreRows s) where
       -- with an entry written anew and its page marked, the rows are seen with f at that page, and the new list
       pub viewed_marked : (f : Held → Held) → held_of s.pass e' ≡ f (held_of s.pass e) → (m : Bool) (now : Listing) {v : RowsView}
           → view_of s ≡ v
-          → record { held = held_in s.pass later (marked page m s.order); restless = now; pass = s.pass } ≡ record v { held = change_held page f v.held; restless = now }
+          → view s.pass later (marked page m s.order) now ≡ record v { held = change_held page f v.held; restless = now }
       viewed_marked f is m now seen_as = search (rules, marked_same, viewed)
 
     -- ---------------------------------------------------------------- the entry changed, and then forgot its pass
@@ -217,8 +196,8 @@ module _ (s : Inside) (are : AreRows s) where
     -- the row of an entry that is changed, and then forgets its pass, is seen changed and settled
     pub viewed_forgotten : (e' : Entry) {now : Entry} → now ≡ forgotten e' → e'.page ≡ e.page → (f : Row → Row)
         → on_row settled (held_of s.pass e') ≡ on_row f (held_of s.pass e) → {v : RowsView} → view_of s ≡ v
-        → record { held = held_in s.pass (with_value s.entries key now) s.order; restless = s.restless; pass = s.pass } ≡ record v { held = change_held page (on_row f) v.held }
-    viewed_forgotten e' is same f told seen_as = grind (arith, viewed_same, rest_of)
+        → view s.pass (with_value s.entries key now) s.order s.restless ≡ record v { held = change_held page (on_row f) v.held }
+    viewed_forgotten e' is same f told seen_as = grind (arith, viewed_same)
 
     -- ---------------------------------------------------------------- the entry went
 
@@ -244,13 +223,8 @@ module _ (s : Inside) (are : AreRows s) where
 
       -- once the entry of a page is gone with the page's name, the rows are seen without that page
       pub viewed_gone : {v : RowsView} → view_of s ≡ v
-          → record { held = held_in s.pass later (without_named page s.order); restless = s.restless; pass = s.pass } ≡ record v { held = without_held page v.held }
-      viewed_gone seen_as =
-          ap (λ held. record { held = held; restless = s.restless; pass = s.pass }) held_gone ∙ (λ i. record (seen_as i) { held = without_held page (seen_as i).held })
-
--- where a page has no row, none is seen
-pub nowhere_seen : (s : Inside) → AreRows s → (page : GuestPage) → None ≡ key_in s.order page → {v : RowsView} → view_of s ≡ v → held_at page v.held ≡ None
-nowhere_seen s are page told is = grind (arith, held_nowhere)
+          → view s.pass later (without_named page s.order) s.restless ≡ record v { held = without_held page v.held }
+      viewed_gone seen_as = grind (arith, held_gone)
 
 -- where a page has no row, the rows without that page are seen as before
 pub nothing_gone : (s : Inside) → AreRows s → (page : GuestPage) → None ≡ key_in s.order page → {v : RowsView} → view_of s ≡ v → v ≡ record v { held = without_held page v.held }
@@ -273,7 +247,7 @@ seen_with_room s seen_as is = ap (λ slab. view_of (record s { entries = slab })
 
 -- a page that is seen without a row has no name in the order
 pub no_name : (s : Inside) → AreRows s → (page : GuestPage) {v : RowsView} → view_of s ≡ v → held_at page v.held ≡ None → find (is_of page) s.order ≡ None
-no_name s are page seen_as absent = grind (arith, key_nowhere)
+no_name s are page seen_as absent = grind (arith, none_mapped, held_found)
 
 -- the row of a page came, with a frame of its own, under a key where nothing stood
 module _ (s : Inside) (are : AreRows s) {v : RowsView} (seen_as : view_of s ≡ v) {key : ℕ} {e : Entry} {later : Slab Entry} (vacant : get s.entries key ≡ None)
@@ -308,7 +282,7 @@ module _ (s : Inside) (are : AreRows s) {v : RowsView} (seen_as : view_of s ≡ 
   }
 
   -- once an entry came under a vacant key with a name, the rows are seen with its row, and the new list
-  pub viewed_put : (now : Listing) → record { held = held_in s.pass later (with_named (named_of key e) s.order); restless = now; pass = s.pass } ≡ record v { held = with_held (held_of s.pass e) v.held; restless = now }
+  pub viewed_put : (now : Listing) → view s.pass later (with_named (named_of key e) s.order) now ≡ record v { held = with_held (held_of s.pass e) v.held; restless = now }
   viewed_put now = grind (arith, held_put)
 
 -- rows are lawful under another list that has all pages that a visit may change

@@ -1,4 +1,4 @@
-use Rattle.ksm_pages.proofs.Names.{ap, held_of, Some, sym, ◌∙◌}
+use Rattle.ksm_pages.proofs.Names.{ap, held_of, rules, Some, sym, ◌∙◌}
 use Rattle.ksm_pages.proofs.left.leave.Goals as goal
 
 pub returns-in-Merged : goal.returns-in-Merged
@@ -7,5 +7,4 @@ returns-in-Merged c =
     rw found (c.left_dup.ensures c.args.knobs.now c.pass-pass.result (sym c.in-Merged.ensures))
 
 pub returns-in_default : goal.returns-in_default
-returns-in_default c =
-    rw (c.in_ok-entry.ensures ∙ ap (λ n. Some (held_of n c.in_ok-entry.entry.now)) (sym c.pass-pass.ensures)) c.left_by_any.ensures
+returns-in_default c = search rules

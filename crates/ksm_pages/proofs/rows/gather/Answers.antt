@@ -12,8 +12,6 @@ loop-named-smaller c = fewer_behind c.args.entries.now _ c.requires.ascending c.
 pub loop-named-preserved : goal.loop-named-preserved
 loop-named-preserved c =
     let slab = c.args.entries.now in
-    let order = c.args.order.now in
-    let n = c.in-Some.named in
     elim c.if-is_restless.branch [
       | then-is_restless w ↦
           one_added slab _ c.requires.ascending c.requires.filed _ (sym c.in-Some.ensures) c.loop-named.invariant

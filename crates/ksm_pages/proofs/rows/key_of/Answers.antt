@@ -1,5 +1,5 @@
-use Rattle.ksm_pages.proofs.Names.{IfSome, IsUnder, None, Option, refl, same_page_eq, Some, sym, ℕ, ◌∙◌, ◌≡◌}
-use Rattle.ksm_pages.proofs.Filing.{key_under, under}
+use Rattle.ksm_pages.proofs.Names.{arith, IfSome, IsUnder, None, Option, refl, same_page_eq, Some, sym, ℕ, ◌∙◌, ◌≡◌}
+use Rattle.ksm_pages.proofs.Filing.{named_under, under}
 use Rattle.ksm_pages.proofs.rows.key_of.Goals as goal
 
 pub returns-then-eq : goal.returns-then-eq
@@ -10,7 +10,7 @@ returns-then-eq c =
       stands = stands;
       of_page = same_page_eq _ _ (sym c.if-eq.ensures);
     } in
-    record { told = sym (key_under _ _ c.requires here); there = here; few = rw (← c.len.ensures) c.len.type_inv }
+    record { told = sym (grind (arith, named_under)); there = here; few = rw (← c.len.ensures) c.len.type_inv }
 
 -- a key that is told is that of an entry of the page
 there_if : (c : goal.After-search) (o : Option ℕ) → c.search.result ≡ o → IfSome o (IsUnder c.args.entries.now c.args.spot.page)

@@ -1,15 +1,11 @@
-use Rattle.ksm_pages.proofs.Names.{after_cursor, ap, find, find_all, get_or, named_by, option_map, Some, sym, ◌<◌, ◌^◌, ◌∙◌, ◌≡◌}
+use Rattle.ksm_pages.proofs.Names.{after_cursor, ap, find, find_all, named_by, option_map, rules, Some, sym, ◌<◌, ◌^◌, ◌∙◌, ◌≡◌}
 use Rattle.ksm_tree.proofs.Alike.{find_mapped}
 use Rattle.ksm_order.specs.declared.item.Item.{Item}
 use Rattle.ksm_pages.proofs.order.Order.after.Goals as goal
 use Rattle.ksm_pages.proofs.order.Order.after.Goals.{After-first_from}
 
 found : (c : After-first_from) → option_map named_by c.first_from.result ≡ find (λ n. after_cursor c.args.cursor n.page) c.args.self.now
-found c =
-    let items = c.self.inside.pages in
-    ap (option_map named_by) c.first_from.ensures
-    ∙ sym (find_mapped named_by (λ n. after_cursor c.args.cursor n.page) _ items (λ k d lt. c.from_of.ensures (get_or items k d).key))
-    ∙ ap (find (λ n. after_cursor c.args.cursor n.page)) c.self.view_is
+found c = search (rules, find_mapped)
 
 pub named_by-requires : goal.named_by-requires
 named_by-requires c = find_all _ (λ (x : Item). x.key < 2 ^ 48) _ _ (sym c.first_from.ensures ∙ c.in-Some.is) c.self.invariant.small

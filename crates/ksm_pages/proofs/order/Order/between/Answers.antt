@@ -11,8 +11,7 @@ before c = c.up_to-before.ensures ∙ ap (λ n. up_to n c.self.inside.pages) c.k
 
 -- so many come in between
 many : (c : After-up_to-before) → length (pages_between c.args.cursor c.args.page (visited c.args.self.now)) ≡ c.up_to-before.result - c.passed-passed.result
-many c =
-    passed_many _ c.self.view_is _ _ c.key_of.ensures.few c.self.invariant.ascending _ c.passed-passed.ensures.ahead (before c)
+many c = search (rules, passed_many)
 
 pub returns-then-before-passed-clause-count : goal.returns-then-before-passed-clause-count
 returns-then-before-passed-clause-count c = search (rules, many)

@@ -1,15 +1,11 @@
-use Rattle.ksm_pages.proofs.Names.{ap, find, find_all, is_of, named_by, option_map, Some, sym, ◌<◌, ◌^◌, ◌∙◌, ◌≡◌}
+use Rattle.ksm_pages.proofs.Names.{ap, find, find_all, is_of, named_by, option_map, rules, Some, sym, ◌<◌, ◌^◌, ◌∙◌, ◌≡◌}
 use Rattle.ksm_order.specs.declared.item.Item.{Item}
-use Rattle.ksm_order.specs.Listed.{is_at}
 use Rattle.ksm_pages.proofs.Ranked.{found_by}
 use Rattle.ksm_pages.proofs.order.Order.find.Goals as goal
 use Rattle.ksm_pages.proofs.order.Order.find.Goals.{After-find}
 
 found : (c : After-find) → option_map named_by c.find.result ≡ find (is_of c.args.page) c.args.self.now
-found c =
-    ap (option_map named_by) (c.find.ensures ∙ ap (λ key. find (is_at key) c.self.inside.pages) c.key_of.ensures.key)
-    ∙ sym (found_by _ c.key_of.ensures.few _)
-    ∙ ap (find (is_of c.args.page)) c.self.view_is
+found c = search (rules, found_by)
 
 pub named_by-requires : goal.named_by-requires
 named_by-requires c = find_all _ (λ (x : Item). x.key < 2 ^ 48) _ _ (sym c.find.ensures ∙ c.in-Some.is) c.self.invariant.small

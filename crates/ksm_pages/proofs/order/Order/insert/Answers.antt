@@ -1,8 +1,9 @@
-use Rattle.ksm_pages.proofs.Names.{All-append, All-cons, All-filter, ap, arith, find, GuestPage, is_of, length, map, Named, named_by, None, page_of, rules, true, with_named, ◌+◌, ◌<◌, ◌^◌, ◌∙◌, ◌≡◌}
+use Rattle.ksm_tree.proofs.Alike.{filter_mapped}
+use Rattle.ksm_pages.proofs.Names.{All-append, All-cons, All-filter, ap, arith, find, is_of, length, map, map-append, Named, named_by, None, rules, true, with_named, ◌+◌, ◌<◌, ◌^◌, ◌∙◌, ◌≡◌}
 use Rattle.ksm_order.specs.declared.item.Item.{Item}
-use Rattle.ksm_order.specs.Listed.{is_at, with_item}
+use Rattle.ksm_order.specs.Listed.{with_item}
 use Rattle.ksm_order.proofs.Changes.{with_rises}
-use Rattle.ksm_pages.proofs.Ranked.{absent_by, longer_by, page_is, with_by}
+use Rattle.ksm_pages.proofs.Ranked.{before_its, behind_its, found_by, longer_by}
 use Rattle.ksm_pages.proofs.order.Order.insert.Goals as goal
 use Rattle.ksm_pages.proofs.order.Order.insert.Goals.{After-key_of}
 
@@ -16,16 +17,10 @@ absent : (c : After-key_of) → find (is_of c.args.page) (map named_by c.self.in
 absent c = ap (find (is_of c.args.page)) c.self.view_is ∙ c.requires.absent
 
 put : (c : After-key_of) → with_named (named c) (map named_by c.self.inside.pages) ≡ map named_by (with_item (item c) c.self.inside.pages)
-put c =
-    let at : GuestPage → Named = λ p. record { page = p; key = c.args.key; mergeable = true } in
-    let is = ap at (ap page_of c.key_of.ensures.key ∙ page_is _ c.key_of.ensures.few) in
-    with_by c.key_of.ensures.few _ c.key_of.ensures.key is (λ i. c.args.page) _
+put c = grind (arith, filter_mapped, before_its, behind_its, map-append)
 
 pub insert-requires : goal.insert-requires
-insert-requires c = record {
-  absent = ap (λ key. find (is_at key) c.self.inside.pages) c.key_of.ensures.key
-      ∙ absent_by _ c.key_of.ensures.few _ (absent (goal.at.insert-requires c).After-key_of);
-}
+insert-requires c = grind (arith, found_by)
 
 pub invariant_of-self-2 : goal.invariant_of-self-2
 invariant_of-self-2 c =

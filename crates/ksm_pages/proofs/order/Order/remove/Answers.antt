@@ -1,14 +1,14 @@
-use Rattle.ksm_pages.proofs.Names.{All-filter, ap, arith, find, is_of, is_some, key_of, length, rules, sym, ◌<◌, ◌^◌, ◌∙◌}
+use Rattle.ksm_tree.proofs.Alike.{filter_mapped}
+use Rattle.ksm_pages.proofs.Names.{All-filter, ap, arith, find, is_of, is_some, length, sym, ◌<◌, ◌^◌, ◌∙◌}
 use Rattle.std.proofs.lemmas.List.Kept.{AllPairs-filter}
 use Rattle.ksm_order.specs.declared.item.Item.{Item}
 use Rattle.ksm_order.specs.Listed.{is_at}
 use Rattle.ksm_pages.proofs.Options.{some_mapped}
-use Rattle.ksm_pages.proofs.Ranked.{found_by, gone_one, without_by}
+use Rattle.ksm_pages.proofs.Ranked.{found_by, gone_one, is_its}
 use Rattle.ksm_pages.proofs.order.Order.remove.Goals as goal
 
 pub invariant_of-self : goal.invariant_of-self
 invariant_of-self c =
-    let key = c.key_of.result in
     let there =
     ap (λ n. is_some (find (is_at n) c.self.inside.pages)) c.key_of.ensures.key
     ∙ sym (some_mapped _ _)
@@ -21,4 +21,4 @@ invariant_of-self c =
     }
 
 pub returns : goal.returns
-returns c = search (rules, without_by)
+returns c = grind (arith, filter_mapped, is_its)

@@ -4,6 +4,5 @@ use Rattle.ksm_pages.proofs.pages.Pages.count_shared.Goals as goal
 pub returns : goal.returns
 returns c =
     let rows = rows_of c.self.inside.rows.held in
-    let dups = c.self.inside.dups.dups in
     c.count_shared.ensures ∙ live_count rows _ (tied_counted rows _ c.self.invariant.tied)
     ∙ ap (λ (v : PagesValue). shared_count v.rows v.dups) c.self.view_is

@@ -1,4 +1,4 @@
-use Rattle.ksm_pages.proofs.Names.{ap, DupRow, DupsState, elsewhere, filter, frame_of, is_some, IsVacant, List, lodging, lodgings_of, PagesValue, rows_of, rows_without, rules, seen, subst, sym, tied_pruned, ◌∙◌}
+use Rattle.ksm_pages.proofs.Names.{ap, DupRow, DupsState, elsewhere, filter, frame_of, IsVacant, List, lodging, lodgings_of, PagesValue, rows_of, rows_without, rules, seen, subst, sym, tied_pruned, ◌∙◌}
 use Rattle.ksm_tree.specs.Dups.{rows_of as dup_rows}
 use Rattle.ksm_pages.proofs.Dropping.{all_elsewhere, lodged_dropped, stale_there}
 use Rattle.ksm_pages.proofs.Paging.{any_at}
@@ -7,9 +7,7 @@ use Rattle.ksm_pages.proofs.pages.Pages.drop_stale.Goals as goal
 
 pub drop_stale-requires : goal.drop_stale-requires
 drop_stale-requires c =
-    stale_there (rows_of c.self.inside.rows.held) _ c.self.invariant.tied
-    (subst (λ (v : PagesValue). IsVacant c.args.place v.rows v.dups) (sym c.self.view_is) c.requires)
-    (sym (c.is_some.ensures ∙ ap is_some c.at.ensures.number) ∙ c.if-is_some.true)
+    search (rules, stale_there (rows_of c.self.inside.rows.held) _ c.self.invariant.tied (subst (λ (v : PagesValue). IsVacant c.args.place v.rows v.dups) (sym c.self.view_is) c.requires))
 
 pub invariant_of-self : goal.invariant_of-self
 invariant_of-self c = search (rules, tied_pruned)
@@ -18,7 +16,6 @@ pub returns-then-is_some : goal.returns-then-is_some
 returns-then-is_some c =
     let s = c.self.inside in
     let place = c.args.place in
-    let left = dup_rows s.dups.dups in
     let dropped = (λ i. dup_rows (c.drop_stale.ensures i).dups) ∙ rows_without place _ in
     let lain =
     ap (λ (ds : List DupRow). frame_of (lodgings_of (lodging ds s.frames.items) s.rows.held)) dropped

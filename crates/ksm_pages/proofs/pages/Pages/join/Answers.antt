@@ -17,8 +17,6 @@ join_at-requires-clause-fewer c =
 pub join_at-requires-clause-absent : goal.join_at-requires-clause-absent
 join_at-requires-clause-absent c =
     let s = c.self.inside in
-    let page = c.args.spot.page in
-    let h = held_of s.rows.pass c.in-Some.entry.now in
     tied_absent _ _ _ c.self.invariant.order (row_there s c.self.invariant _ c.in-Some.ensures) _ _
     (own_not_merged _ (alone_found s c.self.view_is _ c.in-Some.ensures c.requires.alone)) c.self.invariant.tied
 

@@ -10,7 +10,6 @@ as_gone r = record (settled r) { unchanged = false; mergeable = false }
 turned : (c : goal.After-set_mergeable) → c.set_mergeable.new.self.held
     ≡ change_held c.args.spot.page (on_row as_gone) c.self.inside.rows.held
 turned c =
-    let held = c.self.inside.rows.held in
     let first = and_then _ _ _ (λ r. refl) _ (held_as c.stop_waiting.ensures) (held_as c.forget_unchanged.ensures) in
     and_then _ _ _ (λ r. refl) _ first (held_as c.set_mergeable.ensures)
 

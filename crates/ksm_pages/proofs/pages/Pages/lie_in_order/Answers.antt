@@ -1,6 +1,7 @@
-use Rattle.ksm_pages.proofs.Names.{rules}
-use Rattle.ksm_pages.proofs.Paging.{lies_nowhere}
+use Rattle.ksm_pages.proofs.Lodgings.{frame_by}
+use Rattle.ksm_pages.proofs.Changing.{nothing_held}
+use Rattle.ksm_pages.proofs.Names.{arith}
 use Rattle.ksm_pages.proofs.pages.Pages.lie_in_order.Goals as goal
 
 pub returns : goal.returns
-returns c = search (rules, lies_nowhere)
+returns c = grind (arith, frame_by, nothing_held)

@@ -4,6 +4,5 @@ use Rattle.ksm_pages.proofs.pages.Pages.live_at.Goals as goal
 pub returns : goal.returns
 returns c =
     let rows = rows_of c.self.inside.rows.held in
-    let dups = c.self.inside.dups.dups in
     c.live_at.ensures ∙ live_placed rows _ _ (tied_counted rows _ c.self.invariant.tied)
     ∙ ap (λ (v : PagesValue). find (λ d. d.place == c.args.place && has_items v.rows d) v.dups) c.self.view_is

@@ -1,4 +1,4 @@
-use Rattle.ksm_pages.proofs.Names.{ap, change_held, held_of, mapped, Merged, None, RowsView, Some, sym, true≢false, ◌∙◌, ◌≡◌}
+use Rattle.ksm_pages.proofs.Names.{ap, held_of, rules, Some, sym, true≢false, ◌∙◌, ◌≡◌}
 use Rattle.ksm_pages.proofs.Paired.{CanPair, are_apart, both_merged, can_pair, first_there, is_free, lawful_paired, lay_first, lay_second, second_there, told_paired}
 use Rattle.ksm_pages.proofs.pages.Pages.pair.Goals as goal
 use Rattle.ksm_pages.proofs.pages.Pages.pair.Goals.{in_default-via-in-Some+in_default, in_default-via-in_default}
@@ -34,11 +34,7 @@ pairs c = can_pair c.self.invariant c.self.view_is c.requires.first
 turned : (c : goal.After-self-1)
     → c.merge-2.new.self ≡ record c.self.inside.rows
     { held = both_merged c.in_ok-number.number c.args.first.page c.args.second.page c.self.inside.rows.held }
-turned c = c.merge-2.ensures
-    ∙ ap (λ (r : RowsView). record r {
-      held = change_held c.args.second.page
-          (mapped (Merged c.in_ok-number.number) None) r.held;
-    }) c.merge.ensures
+turned c = search rules
 
 pub invariant_of-self-2 : goal.invariant_of-self-2
 invariant_of-self-2 c =

@@ -1,6 +1,4 @@
-use Rattle.ksm_pages.proofs.Names.{false, List, private_state, refl, Row, row_at, rules, Some, subst, true, waits_there, ℕ, ◌≡◌}
-use Rattle.std.specs.Prelude.{MatchOption}
-use Rattle.ksm_pages.proofs.Resting.{private_still}
+use Rattle.ksm_pages.proofs.Names.{arith, List, refl, Row, row_at, rules, Some, waits_there, ℕ, ◌≡◌}
 use Rattle.ksm_pages.proofs.Turning.{held_as, stays}
 use Rattle.ksm_pages.proofs.pages.Pages.set_home.Goals as goal
 
@@ -10,7 +8,7 @@ moved node r = record r { home = node }
 -- it waits at no home
 alike : (c : goal.After-set_home) (r : Row) → row_at c.args.spot.page c.args.self.now.rows ≡ Some r → (t : ℕ) (b : List ℕ)
     → waits_there c.self.inside.knobs t b (Some (moved c.args.node r)) ≡ waits_there c.self.inside.knobs t b (Some r)
-alike c r is t b = rw (private_still _ (subst (λ o. MatchOption o (true ≡ false) (λ r. private_state r.state ≡ true)) is c.requires)) refl
+alike c r is t b = grind arith
 
 pub invariant_of-self : goal.invariant_of-self
 invariant_of-self c =

@@ -1,12 +1,10 @@
-use Rattle.ksm_pages.proofs.Names.{All, false, inl, inr, knobs_tuned, PagesValue, rows_of, seen, subst, sym, waiting_state, ◌∙◌, ◌≡◌}
-use Rattle.ksm_pages.proofs.Leaving.{view_of}
+use Rattle.ksm_pages.proofs.Names.{All, false, inl, inr, knobs_tuned, PagesValue, rules, subst, sym, waiting_state, ◌∙◌, ◌≡◌}
 use Rattle.ksm_pages.proofs.Paging.{knobs_free}
 use Rattle.ksm_pages.proofs.pages.Pages.set_knobs.Goals as goal
 
 pub invariant_of-self : goal.invariant_of-self
 invariant_of-self c =
     let s = c.self.inside in
-    let rows = rows_of s.rows.held in
     rw c.set_limit.ensures
     (record {
       small = c.self.invariant.small;
@@ -23,6 +21,4 @@ invariant_of-self c =
     })
 
 pub returns : goal.returns
-returns c =
-    (λ i. record (seen (view_of (record c.self.inside { dups = (c.set_limit.ensures i) }))) { knobs = c.args.knobs })
-    ∙ (λ i. record (seen (c.self.view_is i)) { knobs = c.args.knobs })
+returns c = rw (← c.self.view_is) (search rules)

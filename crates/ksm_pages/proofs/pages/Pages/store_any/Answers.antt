@@ -1,7 +1,7 @@
-use Rattle.ksm_pages.proofs.Names.{ap, change_row, held_of, refl, rules, seen, settled, Some, stored, sym, ◌∙◌}
+use Rattle.ksm_pages.proofs.Names.{change_row, refl, rules, seen, settled, stored}
 use Rattle.ksm_pages.proofs.Leaving.{alone_there}
 use Rattle.ksm_pages.proofs.Resting.{put_bytes, stored_settled}
-use Rattle.ksm_pages.proofs.Turning.{Comes, HasLeft, and_then, found_left, held_as, rested}
+use Rattle.ksm_pages.proofs.Turning.{Comes, HasLeft, and_then, held_as, rested}
 use Rattle.ksm_pages.proofs.pages.Pages.store_any.Goals as goal
 
 pub returns-in_default : goal.returns-in_default
@@ -9,9 +9,7 @@ returns-in_default c = search (rules, alone_there)
 
 left : (c : goal.After-store)
     → HasLeft c.self.inside c.args.self.now c.args.spot.page c.left_by_any.new.dups c.deref.result.now c.left_by_any.result
-left c =
-    found_left c.self.invariant c.self.view_is
-    (c.in-Some.ensures ∙ ap (λ n. Some (held_of n c.in-Some.entry.now)) (sym c.pass-pass.ensures)) c.left_by_any.ensures
+left c = search rules
 
 -- a page that waited does so no more, and gets its bytes
 settled_too : (c : goal.After-store) → Comes c.self.inside c.store.new.self c.left_by_any.new.dups (record (seen c.args.self.now) {

@@ -1,5 +1,5 @@
-use Rattle.ksm_pages.proofs.Names.{arith, place_of, refl, ◌∙◌}
-use Rattle.ksm_pages.proofs.Asked.{placed_own, ticket_told}
+use Rattle.ksm_pages.proofs.Names.{arith, refl, ◌∙◌}
+use Rattle.ksm_pages.proofs.Asked.{ticket_told}
 use Rattle.ksm_pages.proofs.Leaving.{row_seen}
 use Rattle.ksm_pages.proofs.pages.Pages.ticket.Goals as goal
 
@@ -13,7 +13,7 @@ returns-in-Merged c =
 
 pub returns-in-Own : goal.returns-in-Own
 returns-in-Own c =
-    placed_own _ _ _
+    (grind arith)
     ∙ ticket_told c.self.inside c.self.view_is refl c.in_ok-entry.entry.now c.in_ok-entry.ensures c.in-Own.is
 
 pub returns-in-Zero : goal.returns-in-Zero

@@ -1,8 +1,7 @@
-use Rattle.ksm_pages.proofs.Names.{ap, ap₂, held_of, is_some, List, lodging, refl, rules, Some, sym, ℕ, ◌∙◌}
+use Rattle.ksm_pages.proofs.Names.{ap, ap₂, arith, held_of, List, lodging, refl, rules, Some, sym, ℕ, ◌∙◌}
 use Rattle.ksm_tree.specs.Dups.{rows_of as dup_rows}
 use Rattle.ksm_pages.proofs.Lodgings.{frame_by, seat}
 use Rattle.ksm_pages.proofs.Changing.{row_told}
-use Rattle.ksm_pages.proofs.Paging.{shared_by}
 use Rattle.ksm_pages.proofs.pages.Pages.told.Goals as goal
 
 pub returns-in_err-spot : goal.returns-in_err-spot
@@ -20,7 +19,7 @@ returns c =
       found = row_told page _ c.in_ok-spot.ensures.1;
       spot = c.in_ok-spot.ensures.0;
       home = refl;
-      shared = shared_by _ _ _ _ (sym c.is_none.ensures ∙ ap is_some c.own_frame.ensures);
+      shared = grind arith;
       frame = c.frame_of.ensures
           ∙ ap₂ (λ (frames : List ℕ) pass. seat (lodging (dup_rows s.dups.dups) frames) (Some (held_of pass e))) c.deref.ensures.value c.pass.ensures
           ∙ ap (seat of_dup) (sym c.in_ok-spot.ensures.1)

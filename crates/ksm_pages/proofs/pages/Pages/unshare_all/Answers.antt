@@ -1,5 +1,6 @@
-use Rattle.ksm_pages.proofs.Names.{ap, refl, seen, ◌∙◌}
-use Rattle.ksm_pages.proofs.Resting.{all_unshared}
+use Rattle.ksm_pages.proofs.Resting.{rests}
+use Rattle.ksm_tree.proofs.Alike.{map_alike}
+use Rattle.ksm_pages.proofs.Names.{ap, arith, refl, seen, ◌∙◌}
 use Rattle.ksm_pages.proofs.Turning.{held_as, rest_all}
 use Rattle.ksm_pages.proofs.pages.Pages.unshare_all.Goals as goal
 
@@ -12,4 +13,4 @@ pub returns : goal.returns
 returns c =
     (rest_all c.self.inside c.self.invariant c.self.view_is _ (λ r. refl) (λ r. refl) c.unshare_all.new.self
     (held_as c.unshare_all.ensures) refl c.clear_waiting.ensures).told_as
-    ∙ ap (λ rows. record (seen c.args.self.now) { rows = rows; restless = c.unshare_all.new.self.restless }) (all_unshared _ c.requires)
+    ∙ ap (λ rows. record (seen c.args.self.now) { rows = rows; restless = c.unshare_all.new.self.restless }) (grind (arith, map_alike, rests))

@@ -1,15 +1,16 @@
-use Rattle.ksm_pages.proofs.Names.{ap, held_of, Private, refl, Row, rules, seen, settled, Some, sym, true, ◌∙◌}
+use Rattle.ksm_pages.proofs.Gathering.{restless_as}
+use Rattle.ksm_pages.proofs.Names.{ap, arith, held_of, Private, refl, Row, rules, seen, settled, Some, sym, true, ◌∙◌}
 use Rattle.ksm_pages.specs.Paged.{visited}
-use Rattle.ksm_pages.proofs.Leaving.{view_of}
+use Rattle.ksm_pages.proofs.Leaving.{row_seen, view_of}
 use Rattle.ksm_pages.proofs.Resting.{rests}
 use Rattle.ksm_pages.proofs.Turning.{Comes, found_left, held_as, rested}
 use Rattle.ksm_tree.proofs.Numbers.{on_err}
-use Rattle.ksm_pages.proofs.Visiting.{IsAsked, asked, finds_changed, finds_dup, finds_gone, finds_none, finds_partner, finds_waits, finds_zero, is_alone, is_seen_restless, lawful_waits}
+use Rattle.ksm_pages.proofs.Visiting.{IsAsked, asked, finds_changed, finds_dup, finds_gone, finds_partner, finds_waits, finds_zero, is_alone, lawful_waits}
 use Rattle.ksm_pages.proofs.pages.Pages.visit.Goals as goal
 use Rattle.ksm_pages.proofs.pages.Pages.visit.Goals.{After-best_of}
 
 pub returns-in_default-clause-found : goal.returns-in_default-clause-found
-returns-in_default-clause-found c = search (rules, finds_none)
+returns-in_default-clause-found c = grind (arith, row_seen)
 
 pub returns-then-not-is_restless-clause-found : goal.returns-then-not-is_restless-clause-found
 returns-then-not-is_restless-clause-found c = search (rules, finds_gone)
@@ -17,9 +18,7 @@ returns-then-not-is_restless-clause-found c = search (rules, finds_gone)
 -- a visit may change the row, and its group has a number
 known : (c : After-best_of)
     → IsAsked (record c.self.inside { dups = c.group.new.self }) c.args.self.now c.args.spot.page c.in-Some.entry.now c.in_ok-group.group
-known c =
-    asked c.self.invariant c.self.view_is c.in-Some.ensures (sym c.if-not-is_restless.ensures)
-    c.group.ensures.kept c.tree_in.ensures c.in_ok-group.ensures.numbered
+known c = search (rules, asked)
 
 pub returns-in-Some-best_of-clause-found : goal.returns-in-Some-best_of-clause-found
 returns-in-Some-best_of-clause-found c =
@@ -55,7 +54,7 @@ returns-then-not-entry-clause-found c =
 
 pub returns-then-is_for_zero-clause-found : goal.returns-then-is_for_zero-clause-found
 returns-then-is_for_zero-clause-found c =
-    finds_zero (known (goal.at.returns-then-is_for_zero-clause-found c).After-best_of) c.in_default-best_of.ensures.best c.if-not-entry.false (sym c.if-is_for_zero.ensures)
+    search (rules, finds_zero (known (goal.at.returns-then-is_for_zero-clause-found c).After-best_of))
 
 pub invariant_of-self-then-eq : goal.invariant_of-self-then-eq
 invariant_of-self-then-eq c =
@@ -75,4 +74,4 @@ returns-clause-found c =
     (sym c.if-is_for_zero.ensures) c.meet-other.ensures.met c.meet-other.ensures.again (sym c.if-eq.ensures)
 
 pub returns-in_err-group-clause-restless : goal.returns-in_err-group-clause-restless
-returns-in_err-group-clause-restless c = search (rules, on_err, is_seen_restless)
+returns-in_err-group-clause-restless c = grind (arith, on_err, row_seen, restless_as)

@@ -1,4 +1,4 @@
-use Rattle.ksm_pages.proofs.Names.{ap, arith, Bool, false, MatchOption, row_at, rules, state_of, waiting_state, ◌∙◌, ◌≡◌}
+use Rattle.ksm_pages.proofs.Names.{arith, Bool, false, MatchOption, row_at, rules, waiting_state, ◌≡◌}
 use Rattle.ksm_pages.proofs.Leaving.{row_seen}
 use Rattle.ksm_pages.proofs.pages.Pages.waits.Goals as goal
 use Rattle.ksm_pages.proofs.pages.Pages.waits.Goals.{After-state}
@@ -6,10 +6,7 @@ use Rattle.ksm_pages.proofs.pages.Pages.waits.Goals.{After-state}
 -- whether the row waits is told by its state
 told : (c : After-state) (b : Bool) → b ≡ waiting_state c.state.result
     → MatchOption (row_at c.args.spot.page c.args.self.now.rows) (b ≡ false) (λ r. b ≡ waiting_state r.state)
-told c b is =
-    let e = c.in-Some.entry.now in
-    rw (row_seen c.self.inside c.self.view_is _ c.in-Some.ensures)
-    (is ∙ ap waiting_state (c.state.ensures ∙ ap (state_of e.kind e.number) c.pass.ensures))
+told c b is = grind (arith, row_seen, c.self.view_is, c.in-Some.ensures, c.state.ensures, c.pass.ensures)
 
 pub returns-in-Waiting : goal.returns-in-Waiting
 returns-in-Waiting c = search (rules, told)

@@ -1,7 +1,7 @@
-use Rattle.ksm_pages.proofs.Names.{ap, comes_before, filter, find, inl, is_some, Listing, pages_of, pages_ordered, refl, rules, same_page, Spot, sym, with_found, with_item, ◌++◌, ◌∙◌, ◌∷◌, ◌≡◌}
+use Rattle.ksm_pages.proofs.Names.{ap, comes_before, filter, find, inl, is_some, Listing, map-append, pages_of, pages_ordered, refl, rules, same_page, Spot, sym, with_found, with_item, ◌++◌, ◌∙◌, ◌∷◌, ◌≡◌}
 use Rattle.ksm_pages.proofs.Keyed.{write_at}
 use Rattle.ksm_rmap.proofs.Ordered.{insert_at, none_of}
-use Rattle.ksm_pages.proofs.Spots.{listed_found, page_of, pages_rise, put_pages, put_rises, same_pages, unlisted}
+use Rattle.ksm_pages.proofs.Spots.{listed_found, page_of, pages_kept, pages_rise, put_rises, same_pages, unlisted}
 use Rattle.ksm_pages.proofs.restless.Restless.add.Goals as goal
 use Rattle.ksm_pages.proofs.restless.Restless.add.Goals.{In-Ok}
 
@@ -34,7 +34,7 @@ invariant_of-self-in-Ok c = search (rules, put, put_rises)
 pub returns-in-Ok-clause-added : goal.returns-in-Ok-clause-added
 returns-in-Ok-clause-added c =
     inl (ap (λ ss. record { pages = pages_of ss; known = c.self.inside.known }) (put c)
-    ∙ ap (λ ps. record { pages = ps; known = c.self.inside.known }) (put_pages c.args.spot _ c.self.invariant)
+    ∙ ap (λ ps. record { pages = ps; known = c.self.inside.known }) (search (rules, map-append, pages_kept))
     ∙ ap (λ (l : Listing). record l { pages = with_item c.args.spot.page l.pages }) c.self.view_is)
 
 -- a page that is not found is not listed

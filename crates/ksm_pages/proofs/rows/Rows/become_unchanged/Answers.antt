@@ -1,4 +1,4 @@
-use Rattle.ksm_pages.proofs.Names.{Entry, refl, rules, true, ℕ}
+use Rattle.ksm_pages.proofs.Names.{Entry, rules, true, ℕ}
 use Rattle.ksm_pages.proofs.Writing.{can_be, kept_forgotten, nothing, viewed_forgotten}
 use Rattle.ksm_pages.proofs.rows.Rows.become_unchanged.Goals as goal
 
@@ -10,15 +10,10 @@ pub returns-in_default : goal.returns-in_default
 returns-in_default c = search (rules, nothing)
 
 pub change-requires : goal.change-requires
-change-requires c =
-    can_be c.self.inside c.self.invariant c.in-Some.ensures.there c.index_mut-entry.ensures.value c.state-old.ensures c.in-Some.ensures.few
+change-requires c = search (rules, can_be c.self.inside c.self.invariant c.in-Some.ensures.there)
 
 pub invariant_of-self : goal.invariant_of-self
-invariant_of-self c =
-    kept_forgotten c.self.inside c.self.invariant c.in-Some.ensures.there c.index_mut-entry.ensures.value _
-    c.forget_pass.ensures refl refl refl c.state-old.ensures c.state-new.ensures c.change.ensures
+invariant_of-self c = search (rules, kept_forgotten c.self.inside c.self.invariant c.in-Some.ensures.there)
 
 pub returns : goal.returns
-returns c =
-    viewed_forgotten c.self.inside c.self.invariant c.in-Some.ensures.there c.index_mut-entry.ensures.value _
-    c.forget_pass.ensures refl _ refl c.self.view_is
+returns c = search (rules, viewed_forgotten c.self.inside c.self.invariant c.in-Some.ensures.there)

@@ -1,4 +1,4 @@
-use Rattle.ksm_pages.proofs.Names.{refl, rules}
+use Rattle.ksm_pages.proofs.Names.{rules}
 use Rattle.ksm_pages.proofs.Writing.{nothing, untouched, viewed_same}
 use Rattle.ksm_pages.proofs.rows.Rows.forget_unchanged.Goals as goal
 
@@ -6,8 +6,7 @@ pub returns-in_default : goal.returns-in_default
 returns-in_default c = search (rules, nothing)
 
 pub invariant_of-self : goal.invariant_of-self
-invariant_of-self c = untouched c.self.inside c.self.invariant c.in-Some.ensures.there c.index_mut.ensures.value _ refl refl refl refl
+invariant_of-self c = search (rules, untouched c.self.inside c.self.invariant c.in-Some.ensures.there)
 
 pub returns : goal.returns
-returns c =
-    viewed_same c.self.inside c.self.invariant c.in-Some.ensures.there c.index_mut.ensures.value _ refl _ refl refl c.self.view_is
+returns c = search (rules, viewed_same c.self.inside c.self.invariant c.in-Some.ensures.there)

@@ -6,12 +6,10 @@ pub returns-in_default : goal.returns-in_default
 returns-in_default c = search (rules, nothing)
 
 pub change-requires : goal.change-requires
-change-requires c =
-    can_be c.self.inside c.self.invariant c.in-Some.ensures.there c.index_mut-entry.ensures.value c.state-old.ensures c.in-Some.ensures.few
+change-requires c = search (rules, can_be c.self.inside c.self.invariant c.in-Some.ensures.there)
 
 pub invariant_of-self : goal.invariant_of-self
 invariant_of-self c =
-    let e = c.index_mut-entry.result.now in
     kept c.self.inside c.self.invariant c.in-Some.ensures.there c.index_mut-entry.ensures.value _ refl
     refl (λ is. cc) (λ may. never _ may) _ c.let_be.ensures c.state-old.ensures refl c.change.ensures
 

@@ -1,9 +1,9 @@
-use Rattle.ksm_pages.proofs.Names.{[], ap, ap₂, Bool, change_held, cond, false, GuestPage, Held, List, refl, true, ◌∙◌, ◌∷◌, ◌≡◌}
+use Rattle.ksm_pages.proofs.Names.{[], ap, ap₂, Bool, change_held, cond, false, GuestPage, Held, List, refl, rules, true, ◌∙◌, ◌∷◌, ◌≡◌}
 use Rattle.ksm_pages.proofs.Writing.{untouched, viewed_same}
 use Rattle.ksm_pages.proofs.rows.Rows.remember.Goals as goal
 
 pub invariant_of-self : goal.invariant_of-self
-invariant_of-self c = untouched c.self.inside c.self.invariant c.in-Some.ensures.there c.index_mut.ensures.value _ refl refl refl refl
+invariant_of-self c = search (rules, untouched c.self.inside c.self.invariant c.in-Some.ensures.there)
 
 either : (b : Bool) (h : Held) → cond b h h ≡ h
 either true h = refl

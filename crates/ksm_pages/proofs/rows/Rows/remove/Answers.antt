@@ -1,4 +1,4 @@
-use Rattle.ksm_pages.proofs.Names.{ap, held_in, is_some, rules, sym, ◌∙◌}
+use Rattle.ksm_pages.proofs.Names.{ap, is_some, rules, sym, ◌∙◌}
 use Rattle.ksm_pages.proofs.Writing.{can_be, nothing_gone, still_gone, viewed_gone}
 use Rattle.ksm_pages.proofs.Options.{some_mapped}
 use Rattle.ksm_pages.proofs.rows.Rows.remove.Goals as goal
@@ -7,8 +7,7 @@ pub returns-in_default : goal.returns-in_default
 returns-in_default c = search (rules, nothing_gone)
 
 pub change-requires : goal.change-requires
-change-requires c =
-    can_be c.self.inside c.self.invariant c.in-Some.ensures.there c.remove-gone.ensures.value c.state.ensures c.in-Some.ensures.few
+change-requires c = search (rules, can_be c.self.inside c.self.invariant c.in-Some.ensures.there)
 
 pub remove-requires : goal.remove-requires
 remove-requires c = record {
@@ -21,8 +20,4 @@ invariant_of-self c =
     c.remove-gone.ensures.updates c.state.ensures c.change.ensures))
 
 pub returns : goal.returns
-returns c =
-    let s = c.self.inside in
-    ap (λ list. record { held = held_in s.pass c.remove-gone.new.self c.remove.new.self; restless = list; pass = s.pass }) c.lose_row.ensures
-    ∙ ap (λ order. record { held = held_in s.pass c.remove-gone.new.self order; restless = s.restless; pass = s.pass }) c.remove.ensures
-    ∙ viewed_gone s c.self.invariant c.in-Some.ensures.there c.remove-gone.ensures.value c.remove-gone.ensures.updates c.self.view_is
+returns c = search (rules, viewed_gone)

@@ -8,20 +8,16 @@ returns-in_default c = search (rules, nothing)
 -- the flag is what it was
 pub invariant_of-self : goal.invariant_of-self
 invariant_of-self c =
-    let e' = record c.index_mut-entry.result.now { mergeable = c.args.mergeable } in
     untouched c.self.inside c.self.invariant c.in-Some.ensures.there c.index_mut-entry.ensures.value _ refl refl refl (grind arith)
 
 pub returns-then-was-mergeable : goal.returns-then-was-mergeable
-returns-then-was-mergeable c =
-    let e' = record c.index_mut-entry.result.now { mergeable = c.args.mergeable } in
-    viewed c.self.inside c.self.invariant c.in-Some.ensures.there c.index_mut-entry.ensures.value _ refl _ refl _ c.self.view_is
+returns-then-was-mergeable c = search (rules, viewed c.self.inside c.self.invariant c.in-Some.ensures.there)
 
 pub invariant_of-self-then-restless : goal.invariant_of-self-then-restless
 invariant_of-self-then-restless c =
     let s = c.self.inside in
     let there = c.in-Some.ensures.there in
     let stood = c.index_mut-entry.ensures.value in
-    let e' = record c.index_mut-entry.result.now { mergeable = c.args.mergeable } in
     rw c.mark.ensures
     (still_marked s c.self.invariant there stood _ refl refl refl (listed_now s c.self.invariant there stood _ refl c.add.ensures.added))
 
@@ -30,7 +26,6 @@ invariant_of-self-else-restless c =
     let s = c.self.inside in
     let there = c.in-Some.ensures.there in
     let stood = c.index_mut-entry.ensures.value in
-    let e' = record c.index_mut-entry.result.now { mergeable = c.args.mergeable } in
     rw c.mark.ensures
     (still_marked s c.self.invariant there stood _ refl refl refl (listed_calm s c.self.invariant there stood _ refl (sym c.is_restless-restless.ensures ∙ c.if-restless.false) c.let_be.ensures))
 

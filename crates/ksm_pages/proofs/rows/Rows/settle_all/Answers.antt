@@ -4,12 +4,10 @@ use Rattle.ksm_pages.proofs.rows.Rows.settle_all.Goals as goal
 
 pub invariant_of-self : goal.invariant_of-self
 invariant_of-self c =
-    let s = c.self.inside in
     rw c.in-Some.ensures.1 (next_rows c.self.invariant)
 
 pub invariant_of-self-in-None : goal.invariant_of-self-in-None
 invariant_of-self-in-None c =
-    let s = c.self.inside in
     anew_rows c.self.invariant _ (retained_all _ _ (λ f k old keep new next t. search rules) _ _ _ _ c.retain.ensures.retained)
 
 pub returns-in-Some : goal.returns-in-Some

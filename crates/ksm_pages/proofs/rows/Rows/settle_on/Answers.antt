@@ -1,5 +1,4 @@
 use Rattle.ksm_pages.proofs.Names.{ap, arith, held_of, mapped, refl, rules, Some, sym}
-use Rattle.ksm_pages.specs.declared.row.Kind.TheVariants as kinds
 use Rattle.ksm_pages.proofs.Writing.{can_be, kept, listed_now, nothing, rests_now, still, viewed}
 use Rattle.ksm_pages.proofs.rows.Rows.settle_on.Goals as goal
 
@@ -7,21 +6,18 @@ pub returns-in_default : goal.returns-in_default
 returns-in_default c = search (rules, nothing)
 
 pub change-requires : goal.change-requires
-change-requires c =
-    can_be c.self.inside c.self.invariant c.in-Some.ensures.there c.index_mut-entry.ensures.value c.state-old.ensures c.in-Some.ensures.few
+change-requires c = search (rules, can_be c.self.inside c.self.invariant c.in-Some.ensures.there)
 
 pub invariant_of-self : goal.invariant_of-self
 invariant_of-self c =
     let s = c.self.inside in
     let there = c.in-Some.ensures.there in
     let stood = c.index_mut-entry.ensures.value in
-    let e' = record c.index_mut-entry.result.now { number = 0; at = c.args.frame; kind = kinds.Own } in
     still s c.self.invariant there stood _ refl refl (λ own. omega arith) (listed_now s c.self.invariant there stood _ refl c.add.ensures.added)
     c.state-old.ensures (sym (rests_now _ c.self.invariant.counting)) c.change.ensures
 
 pub invariant_of-self-else-restless-was_restless : goal.invariant_of-self-else-restless-was_restless
 invariant_of-self-else-restless-was_restless c =
-    let e = c.index_mut-entry.result.now in
     kept c.self.inside c.self.invariant c.in-Some.ensures.there c.index_mut-entry.ensures.value _ refl refl (λ own. omega arith)
     (λ may. grind arith) _ refl c.state-old.ensures (sym (rests_now _ c.self.invariant.counting)) c.change.ensures
 

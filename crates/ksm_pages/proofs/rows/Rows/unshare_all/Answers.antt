@@ -5,7 +5,6 @@ use Rattle.ksm_pages.proofs.rows.Rows.unshare_all.Goals as goal
 
 pub invariant_of-self : goal.invariant_of-self
 invariant_of-self c =
-    let s = c.self.inside in
     plain_rows c.self.invariant _ (retained_all _ _ (λ f k old keep new next t. search rules) _ _ _ _ c.retain.ensures.retained)
 
 pub returns : goal.returns

@@ -9,13 +9,11 @@ pub state_alone-old-requires : goal.state_alone-old-requires
 state_alone-old-requires c = search (rules, own_there)
 
 pub change-requires : goal.change-requires
-change-requires c =
-    can_be c.self.inside c.self.invariant c.in-Some.ensures.there c.index_mut-entry.ensures.value c.state_alone-old.ensures c.in-Some.ensures.few
+change-requires c = search (rules, can_be c.self.inside c.self.invariant c.in-Some.ensures.there)
 
 pub invariant_of-self : goal.invariant_of-self
 invariant_of-self c =
     let s = c.self.inside in
-    let e = c.index_mut-entry.result.now in
     let waits = waits_now _ (own_there s c.self.invariant c.in-Some.ensures.there c.index_mut-entry.ensures.value c.self.view_is c.requires.own) in
     kept s c.self.invariant c.in-Some.ensures.there c.index_mut-entry.ensures.value _ refl
     refl (λ own. omega arith) (λ may. may) _ refl c.state_alone-old.ensures (sym waits) c.change.ensures
