@@ -1,31 +1,20 @@
 -- What a change of one group makes of the chains and of the pages that wait.
-use Rattle.ksm_tree.proofs.Names.{[], and_parts, ap, AreGroups, AreNumbered, arith, Bool, BTreeMap, bytes_eq, bytes_eq-Decides, cases_Bool, chain_in, cond, Content, content_in, content_of, content_order, Decides-eqb, false, filter_map, ForSome, get, get_or, Group, Groups, GuestPage, if◌then◌else◌, inl, inr, is_at, is_some, IsIdle, IsUnused, List, ne_eqb, None, number_of, Numbers, Option, option_map, places_in, refl, same_Some, Slab, Some, subst, suc, sym, then_some, true, true≢false, under, Updates, Updates-with_value, waiting_in, waiting_page, waits_in, with_value, zero, ℕ, ◌&&◌, ◌==◌, ◌↔◌, ◌∙◌, ◌∷◌, ◌≡◌, ◌≢◌, ◌≤◌}
+use Rattle.ksm_tree.proofs.Names.{[], ap, AreGroups, AreNumbered, arith, BTreeMap, bytes_eq, bytes_eq-Decides, cases_Bool, chain_in, Content, content_in, content_of, content_order, filter_map, ForSome, get, get_or, Group, Groups, GuestPage, if◌then◌else◌, inl, inr, is_at, is_some, IsIdle, IsUnused, List, nat_tests, None, number_of, Numbers, Option, option_map, places_in, refl, same_Some, Slab, Some, subst, suc, sym, then_some, true, under, Updates, Updates-with_value, waiting_in, waiting_page, waits_in, with_value, zero, ℕ, ◌&&◌, ◌==◌, ◌↔◌, ◌∙◌, ◌∷◌, ◌≡◌, ◌≢◌, ◌≤◌}
 use Rattle.slab.specs.Slab.{Updates as Fills}
-use Rattle.std.proofs.lemmas.Bool.{eqb-false, false_from_ne_true}
 use Rattle.ksm_tree.proofs.Numbering.{Stands, entered, forgotten, full, its_number, same_content}
 
 -- ---------------------------------------------------------------- what stands under the number of each content
 
-cond_same : {X : Type 0} (s : Bool) (x : X) → (if s then x else x) ≡ x
-cond_same true x = refl
-cond_same false x = refl
-
 -- where the same stands under each number as before, the same stands under an optional number
 pub same_under : {X : Type 0} (none : X) (old new : ℕ → X) → ((n : ℕ) → new n ≡ old n) → (o : Option ℕ) → under none new o ≡ under none old o
-same_under none old new same None = refl
-same_under none old new same (Some n) = same n
+same_under none old new same o = grind (arith, same)
 
 -- whether two contents are one
 is_one : (t u : ℕ) (b c : List ℕ) → (t == u && bytes_eq b c) ≡ true → content_of t b ≡ content_of u c
-is_one t u b c same =
-    let parts = and_parts _ _ same in
-    λ i. content_of ((Decides-eqb t u).0 parts.0 i) ((bytes_eq-Decides b c).0 parts.1 i)
+is_one t u b c same = grind (arith, nat_tests, (bytes_eq-Decides b c).0)
 
 pub are_one : (t u : ℕ) (b c : List ℕ) → content_of t b ≡ content_of u c → (t == u && bytes_eq b c) ≡ true
-are_one t u b c same =
-    let tree : (t == u) ≡ true = (Decides-eqb t u).1 (ap (λ k. k.tree) same) in
-    let bytes : bytes_eq b c ≡ true = (bytes_eq-Decides b c).1 (ap (λ k. k.bytes) same) in
-    rw (tree, bytes) refl
+are_one t u b c same = grind (arith, nat_tests, (bytes_eq-Decides b c).1)
 
 -- where what stands under the number of a content has changed, it has changed at that content alone
 module _ {X : Type 0} (none : X) (numbers : Numbers) (stands : ℕ → Option Content) (are : AreNumbered numbers stands) (old : ℕ → X) (tree : ℕ) (bytes : List ℕ) (change : X → X) where
@@ -35,31 +24,16 @@ module _ {X : Type 0} (none : X) (numbers : Numbers) (stands : ℕ → Option Co
   under_moved new {number} is moved t b = by (number_of t b numbers) refl
     where
       by : (o : Option ℕ) → number_of t b numbers ≡ o → under none new o ≡ (if t == tree && bytes_eq b bytes then change (under none old o) else under none old o)
-      by None absent =
-          let apart = false_from_ne_true _ (λ same.
-          full number (number_of t b numbers) absent (ap (λ k. its_number k numbers) (is_one t _ b _ same) ∙ is)) in
-          rw apart refl
-      by (Some n) found = elim (cases_Bool (t == tree && bytes_eq b bytes)) [
-        | inl same ↦
-            let here = same_Some n _ (sym found ∙ ap (λ k. its_number k numbers) (is_one t _ b _ same) ∙ is) in
-            moved n ∙ rw (same, (Decides-eqb n _).1 here) refl
-        | inr differ ↦
-            let apart = false_from_ne_true _ (λ same.
-            let one =
-            same_Some _ _ (sym ((are (content_of t b) n).0 found) ∙ ap stands ((Decides-eqb n _).0 same) ∙ (are (content_of tree bytes) number).0 is) in
-            true≢false (sym (are_one t _ b _ one) ∙ differ)) in
-            moved n ∙ rw (differ, apart) refl
-      ]
+      by None absent = grind (arith, is_one t tree b bytes)
+      by (Some n) found =
+          let here = (are (content_of t b) n).0 found in
+          let there = (are (content_of tree bytes) number).0 is in
+          grind (arith, nat_tests, moved n, is_one t tree b bytes, are_one t tree b bytes, here, there)
 
   -- where a content has no number and the change of nothing is nothing, no content changes
   pub under_absent : number_of tree bytes numbers ≡ None → none ≡ change none
       → (t : ℕ) (b : List ℕ) → under none old (number_of t b numbers) ≡ (if t == tree && bytes_eq b bytes then change (under none old (number_of t b numbers)) else under none old (number_of t b numbers))
-  under_absent absent stays t b = elim (cases_Bool (t == tree && bytes_eq b bytes)) [
-    | inl same ↦
-        let nothing = ap (λ k. under none old (its_number k numbers)) (is_one t _ b _ same) ∙ ap (under none old) absent in
-        rw same (nothing ∙ stays ∙ ap change (sym nothing))
-    | inr differ ↦ rw differ refl
-  ]
+  under_absent absent stays t b = grind (arith, is_one t tree b bytes)
 
 -- ---------------------------------------------------------------- the list of the pages that wait
 
@@ -67,14 +41,11 @@ module _ {X : Type 0} (none : X) (numbers : Numbers) (stands : ℕ → Option Co
 pub given_same : {X Y : Type 0} (f g : Option X → Option Y) → f None ≡ None → g None ≡ None → (xs ys : List (Option X)) → ((n : ℕ) → f (get_or xs n None) ≡ g (get_or ys n None)) → filter_map f xs ≡ filter_map g ys
 given_same f g f_none g_none [] [] same = refl
 given_same f g f_none g_none [] (y ∷ ys) same =
-    let here = sym (same 0) ∙ f_none in
-    rw here (given_same f g f_none g_none [] ys (λ n. same (suc n)))
+    rw (sym (same 0) ∙ f_none) (given_same f g f_none g_none [] ys (λ n. same (suc n)))
 given_same f g f_none g_none (x ∷ xs) [] same =
-    let here = same 0 ∙ g_none in
-    rw here (given_same f g f_none g_none xs [] (λ n. same (suc n)))
+    rw (same 0 ∙ g_none) (given_same f g f_none g_none xs [] (λ n. same (suc n)))
 given_same f g f_none g_none (x ∷ xs) (y ∷ ys) same =
-    let rest = given_same f g f_none g_none xs ys (λ n. same (suc n)) in
-    rw (same 0, rest) refl
+    rw (same 0, given_same f g f_none g_none xs ys (λ n. same (suc n))) refl
 
 abbrev pub page_in : ℕ → Option Group → Option GuestPage
 page_in pass slot = option_map (λ w. w.page) (waits_in pass slot)
@@ -85,26 +56,20 @@ module _ (t : ℕ) (b : List ℕ) (pass : ℕ) where
   none_waits [] apart = refl
   none_waits (None ∷ slots) apart = none_waits slots (λ n. apart (suc n))
   none_waits (Some g ∷ slots) apart =
-      let rest = none_waits slots (λ n. apart (suc n)) in
-      let other : (g.content.tree == t && bytes_eq g.content.bytes b) ≡ false =
-      false_from_ne_true _ (λ same. apart 0 (ap Some (is_one _ t _ b same))) in
-      grind (arith, rest, other)
+      grind (arith, none_waits slots (λ n. apart (suc n)), apart 0, is_one g.content.tree t g.content.bytes b)
 
   -- where one group is, its page waits, if one does there
   one_waits : (slots : List (Option Group)) (n : ℕ) → content_in (get_or slots n None) ≡ Some (content_of t b) → ((m : ℕ) → content_in (get_or slots m None) ≡ Some (content_of t b) → m ≡ n)
       → waiting_page t b (filter_map (waits_in pass) slots) ≡ page_in pass (get_or slots n None)
   one_waits [] n here only = refl
-  one_waits (None ∷ slots) zero here only = absurd (full (content_of t b) None refl here)
-  one_waits (None ∷ slots) (suc n) here only = one_waits slots n here (λ m is. let e = only (suc m) is in omega (arith, e))
+  one_waits (None ∷ slots) zero here only = grind arith
+  one_waits (None ∷ slots) (suc n) here only = one_waits slots n here (λ m is. omega (arith, only (suc m) is))
   one_waits (Some g ∷ slots) zero here only =
-      let rest = none_waits _ (λ m is. let e = only (suc m) is in omega (arith, e)) in
-      let same = are_one _ t _ b (same_Some _ _ here) in
-      grind (arith, same, rest)
+      let rest = none_waits slots (λ m is. omega (arith, only (suc m) is)) in
+      grind (arith, are_one g.content.tree t g.content.bytes b, rest)
   one_waits (Some g ∷ slots) (suc n) here only =
-      let rest = one_waits slots n here (λ m is. let e = only (suc m) is in omega (arith, e)) in
-      let other : (g.content.tree == t && bytes_eq g.content.bytes b) ≡ false =
-      false_from_ne_true _ (λ same. let e = only 0 (ap Some (is_one g.content.tree t g.content.bytes b same)) in omega (arith, e)) in
-      grind (arith, rest, other)
+      let rest = one_waits slots n here (λ m is. omega (arith, only (suc m) is)) in
+      grind (arith, is_one g.content.tree t g.content.bytes b, only 0, rest)
 
 -- the page that waits for a tree and bytes is the one that waits in their group
 pub waiting_found : {numbers : Numbers} {groups : Slab Group} {pass : ℕ} → AreGroups numbers groups pass → (t : ℕ) (b : List ℕ)
@@ -128,31 +93,29 @@ none_here g t b none = waiting_found g.lawful t b ∙ ap (under None (λ n. page
 
 -- under the number of a tree and bytes a group stands
 pub stands_under : (g : Groups) (t : ℕ) (b : List ℕ) {n : ℕ} → number_of t b g.numbers.entries ≡ Some n → None ≡ get g.groups n → ⊥
-stands_under g t b {n} is none = full (content_of t b) (content_in (get g.groups n)) (ap content_in (sym none)) ((g.lawful.numbered (content_of t b) n).0 is)
+stands_under g t b {n} is none = grind (arith, (g.lawful.numbered (content_of t b) n).0 is)
 
 -- a group that stands under a number has it
 pub not_unused : (g : Groups) (n : ℕ) {group : Group} → Some group ≡ get g.groups n → IsUnused n g.numbers.entries → ⊥
-not_unused g n {group} stands unused =
-    unused group.content.tree group.content.bytes ((g.lawful.numbered group.content n).1 (ap content_in (sym stands)))
+not_unused g n {group} stands unused = unused _ _ ((g.lawful.numbered group.content n).1 (ap content_in (sym stands)))
 
 -- a guess that leads to the group of a tree and bytes is the number of that tree and bytes
 pub guessed : (g : Groups) {guess : ℕ} {group : Group} {tree : ℕ} (bytes : List ℕ) → Some group ≡ get g.groups guess → group.content.tree ≡ tree → true ≡ bytes_eq group.content.bytes bytes → Some guess ≡ number_of tree bytes g.numbers.entries
 guessed g {guess} {group} {tree} bytes stands same_tree same_bytes =
-    let bytes_is = (bytes_eq-Decides _ _).0 (sym same_bytes) in
-    let is : group.content ≡ content_of tree bytes = (λ i. content_of (same_tree i) (bytes_is i)) in
-    sym ((g.lawful.numbered (content_of tree bytes) guess).1 (ap content_in (sym stands) ∙ ap Some is))
+    let same = (bytes_eq-Decides group.content.bytes bytes).0 in
+    sym ((g.lawful.numbered (content_of tree bytes) guess).1 (grind (arith, same)))
 
 -- the page of a group whose pass is the present one waits
 pub page_waits : (g : Group) {pass : ℕ} → g.pass ≡ pass → page_in pass (Some g) ≡ Some g.page
-page_waits g same = rw ((Decides-eqb _ _).1 same) refl
+page_waits g same = grind (arith, nat_tests)
 
 -- in a group whose pass is not the present one nothing waits
 pub waits_still : (g : Group) (pass : ℕ) → g.pass ≢ pass → waits_in pass (Some g) ≡ None
-waits_still g pass apart = rw (ne_eqb _ _ apart) refl
+waits_still g pass apart = grind (arith, nat_tests)
 
 -- in a group whose pass is not the present one no page waits
 pub page_still : (g : Group) (pass : ℕ) → g.pass ≢ pass → page_in pass (Some g) ≡ None
-page_still g pass apart = ap (option_map (λ w. w.page)) (waits_still g _ apart)
+page_still g pass apart = grind (arith, nat_tests)
 
 -- the page of a group waits exactly where the group's pass is the present one
 pub page_so : (g : Group) (pass : ℕ) → page_in pass (Some g) ≡ then_some (g.pass == pass) g.page
@@ -160,11 +123,8 @@ page_so g pass = grind arith
 
 -- where no group's pass is the present one, no page waits
 pub none_waiting : (pass : ℕ) (groups : Slab Group) → ((n : ℕ) → ForSome (get groups n) (λ g. g.pass ≢ pass)) → filter_map (waits_in pass) groups.slots ≡ []
-none_waiting pass groups apart = given_same _ (waits_in pass) refl refl groups.slots [] (λ n. by (get groups n) (apart n))
-  where
-    by : (o : Option Group) → ForSome o (λ g. g.pass ≢ pass) → waits_in pass o ≡ None
-    by None none = refl
-    by (Some g) differs = waits_still g _ (differs g refl)
+none_waiting pass groups apart =
+    given_same _ (waits_in pass) refl refl groups.slots [] (λ n. grind (arith, nat_tests, apart n))
 
 -- ---------------------------------------------------------------- one group is written
 
@@ -178,25 +138,17 @@ module _ (g : Groups) (number : ℕ) (was now : Group) (stood : Some was ≡ get
 
   written_moved : {X : Type 0} (at : Option Group → X) (change : X → X) → at (Some now) ≡ change (at (Some was)) → (n : ℕ)
       → at (get new n) ≡ (if n == number then change (at (get g.groups n)) else at (get g.groups n))
-  written_moved at change is n = elim (cases_Bool (n == number)) [
-    | inl same ↦
-        let here = (Decides-eqb n _).0 same in
-        ap (λ n. at (get new n)) here ∙ ap at fills.changed ∙ is ∙ sym (rw same (ap (λ n. change (at (get g.groups n))) here ∙ ap (λ o. change (at o)) (sym stood)))
-    | inr differ ↦ ap at (fills.others n (eqb-false n _ differ)) ∙ sym (rw differ refl)
-  ]
+  written_moved at change is n = grind (arith, nat_tests, fills)
 
   written_same : {X : Type 0} (at : Option Group → X) → at (Some now) ≡ at (Some was) → (n : ℕ) → at (get new n) ≡ at (get g.groups n)
-  written_same at is n = written_moved at (λ x. x) is n ∙ cond_same _ _
+  written_same at is n = grind (arith, nat_tests, fills)
 
   -- the groups keep their numbers where one of them is written anew with its content
   pub rewritten : now.pass ≤ g.pass → AreGroups g.numbers.entries new g.pass
   rewritten within = record {
     numbered = λ content_now n. subst (λ o. (its_number content_now g.numbers.entries ≡ Some n) ↔ (o ≡ Some content_now))
         (sym (written_same content_in (ap Some content) n)) (g.lawful.numbered content_now n);
-    passes = λ n. elim (cases_Bool (n == number)) [
-      | inl same ↦ λ h is. subst (λ h. h.pass ≤ g.pass) (same_Some now h (sym fills.changed ∙ ap (get new) (sym ((Decides-eqb n _).0 same)) ∙ is)) within
-      | inr differ ↦ subst (λ o. ForSome o (λ h. h.pass ≤ g.pass)) (sym (fills.others n (eqb-false n _ differ))) (g.lawful.passes n)
-    ];
+    passes = λ n h is. grind (arith, nat_tests, fills, g.lawful.passes n);
     begun = g.lawful.begun;
   }
 
@@ -223,10 +175,7 @@ module _ (g : Groups) (number : ℕ) (was now : Group) (stood : Some was ≡ get
 -- a content without a number has no page that could stop to wait
 pub none_removed : (g : Groups) (tree : ℕ) (bytes : List ℕ) → number_of tree bytes g.numbers.entries ≡ None → (t : ℕ) (b : List ℕ) → waiting_page t b (waiting_in g) ≡ (if t == tree && bytes_eq b bytes then None else waiting_page t b (waiting_in g))
 none_removed g tree bytes none t b =
-    let found = waiting_found g.lawful t b in
-    found
-    ∙ under_absent _ _ _ g.lawful.numbered _ _ _ (λ _. None) none refl t b
-    ∙ ap (λ o. if t == tree && bytes_eq b bytes then None else o) (sym found)
+    grind (arith, waiting_found g.lawful t b, is_one t tree b bytes)
 
 -- ---------------------------------------------------------------- a group comes, and one goes
 
@@ -234,10 +183,7 @@ none_removed g tree bytes none t b =
 module _ (numbers_old numbers_new : BTreeMap Content ℕ) {pass : ℕ} {old new : Slab Group} (are : AreGroups numbers_old.entries old pass) (k : Content) {number : ℕ} (named : Option ℕ) {slot : Option Group}
     (updates : Updates content_order numbers_old numbers_new k named) (fills : Fills old new number slot) (was : IsIdle pass (get old number)) (now : IsIdle pass slot) where
   idle_same : {X : Type 0} (at : Option Group → X) → at slot ≡ at (get old number) → (n : ℕ) → at (get new n) ≡ at (get old n)
-  idle_same at same n = elim (cases_Bool (n == number)) [
-    | inl here ↦ let is = (Decides-eqb n _).0 here in ap (λ n. at (get new n)) is ∙ ap at fills.changed ∙ same ∙ ap (λ n. at (get old n)) (sym is)
-    | inr other ↦ ap at (fills.others n (eqb-false n _ other))
-  ]
+  idle_same at same n = grind (arith, nat_tests, fills)
 
   -- where a group in which nothing waits comes or goes, all that waits is as it was
   pub idle_waiting : filter_map (waits_in pass) new.slots ≡ filter_map (waits_in pass) old.slots
@@ -247,16 +193,12 @@ module _ (numbers_old numbers_new : BTreeMap Content ℕ) {pass : ℕ} {old new 
   pub idle_chains : under [] (λ n. places_in (get new n)) named ≡ under [] (λ n. places_in (get old n)) (its_number k numbers_old.entries)
       → (t : ℕ) (b : List ℕ) → under [] (λ n. places_in (get new n)) (number_of t b numbers_new.entries) ≡ under [] (λ n. places_in (get old n)) (number_of t b numbers_old.entries)
   idle_chains here t b =
-      let at = λ (o : Option ℕ). under [] (λ n. places_in (get new n)) o in
-      let before = λ (o : Option ℕ). under [] (λ n. places_in (get old n)) o in
-      let told = updates.0 (content_of t b) in
       elim (cases_Bool (is_at (content_order k) (content_of t b))) [
-        | inl is ↦
-            ap at (told ∙ ap (λ s. cond s named (number_of t b numbers_old.entries)) is)
-            ∙ here ∙ ap (λ k. before (its_number k numbers_old.entries)) (same_content is)
+        | inl is ↦ grind (arith, updates.0 (content_of t b), here, same_content {p = k} {q = content_of t b} is)
         | inr other ↦
-            ap at (told ∙ ap (λ s. cond s named (number_of t b numbers_old.entries)) other)
-            ∙ same_under [] _ _ (idle_same places_in (now.0 ∙ sym was.0)) _
+            let same = same_under [] _ _ (idle_same places_in (now.0 ∙ sym was.0))
+            (number_of t b numbers_old.entries) in
+            grind (arith, updates.0 (content_of t b), same)
       ]
 
   idle_stands : Stands (λ n. content_in (get old n)) (λ n. content_in (get new n)) number (content_in slot)
