@@ -1,13 +1,9 @@
 -- What a change of one group makes of the chains and of the pages that wait.
-use Rattle.ksm_tree.proofs.Names.{[], ap, AreGroups, AreNumbered, arith, BTreeMap, bytes_eq, bytes_eq-Decides, cases_Bool, chain_in, Content, content_in, content_of, content_order, filter_map, ForSome, get, get_or, Group, Groups, GuestPage, if◌then◌else◌, inl, inr, is_at, is_some, IsIdle, IsUnused, List, nat_tests, None, number_of, Numbers, Option, option_map, places_in, refl, same_Some, Slab, Some, subst, suc, sym, then_some, true, under, Updates, Updates-with_value, waiting_in, waiting_page, waits_in, with_value, zero, ℕ, ◌&&◌, ◌==◌, ◌↔◌, ◌∙◌, ◌∷◌, ◌≡◌, ◌≢◌, ◌≤◌}
+use Rattle.ksm_tree.proofs.Names.{[], ap, AreGroups, AreNumbered, arith, BTreeMap, bytes_eq, bytes_eq-Decides, cases_Bool, chain_in, Content, content_in, content_of, content_order, filter_map, ForSome, get, get_or, Group, Groups, GuestPage, if◌then◌else◌, inl, inr, is_at, is_some, IsIdle, IsUnused, List, nat_tests, None, number_of, Numbers, Option, option_map, places_in, refl, Slab, Some, suc, sym, then_some, true, under, Updates, Updates-with_value, waiting_in, waiting_page, waits_in, with_value, zero, ℕ, ◌&&◌, ◌==◌, ◌∙◌, ◌∷◌, ◌≡◌, ◌≢◌, ◌≤◌}
 use Rattle.slab.specs.Slab.{Updates as Fills}
 use Rattle.ksm_tree.proofs.Numbering.{Stands, entered, forgotten, full, its_number, same_content}
 
 -- ---------------------------------------------------------------- what stands under the number of each content
-
--- where the same stands under each number as before, the same stands under an optional number
-pub same_under : {X : Type 0} (none : X) (old new : ℕ → X) → ((n : ℕ) → new n ≡ old n) → (o : Option ℕ) → under none new o ≡ under none old o
-same_under none old new same o = grind (arith, same)
 
 -- whether two contents are one
 is_one : (t u : ℕ) (b c : List ℕ) → (t == u && bytes_eq b c) ≡ true → content_of t b ≡ content_of u c
@@ -80,16 +76,15 @@ waiting_found {numbers} {groups} {pass} are t b = by (number_of t b numbers) ref
     by None absent = none_waits t b _ _ (λ n is. full n (number_of t b numbers) absent ((are.numbered (content_of t b) n).1 is))
     by (Some n) found =
         one_waits t b _ _ n ((are.numbered (content_of t b) n).0 found)
-        (λ m is. same_Some m n (sym ((are.numbered (content_of t b) m).1 is) ∙ found))
+        (λ m is. grind (arith, (are.numbered (content_of t b) m).1 is))
 
 -- the page that waits for a tree and bytes is the one in the group under their number
 pub waits_here : (g : Groups) (t : ℕ) (b : List ℕ) {n : ℕ} {slot : Option Group} → number_of t b g.numbers.entries ≡ Some n → slot ≡ get g.groups n → waiting_page t b (waiting_in g) ≡ page_in g.pass slot
-waits_here g t b {n} is at =
-    waiting_found g.lawful t b ∙ ap (under None (λ n. page_in g.pass (get g.groups n))) is ∙ ap (page_in g.pass) (sym at)
+waits_here g t b is at = grind (arith, waiting_found g.lawful t b)
 
 -- no page waits for a tree and bytes that have no number
 pub none_here : (g : Groups) (t : ℕ) (b : List ℕ) → number_of t b g.numbers.entries ≡ None → waiting_page t b (waiting_in g) ≡ None
-none_here g t b none = waiting_found g.lawful t b ∙ ap (under None (λ n. page_in g.pass (get g.groups n))) none
+none_here g t b none = grind (arith, waiting_found g.lawful t b)
 
 -- under the number of a tree and bytes a group stands
 pub stands_under : (g : Groups) (t : ℕ) (b : List ℕ) {n : ℕ} → number_of t b g.numbers.entries ≡ Some n → None ≡ get g.groups n → ⊥
@@ -146,8 +141,7 @@ module _ (g : Groups) (number : ℕ) (was now : Group) (stood : Some was ≡ get
   -- the groups keep their numbers where one of them is written anew with its content
   pub rewritten : now.pass ≤ g.pass → AreGroups g.numbers.entries new g.pass
   rewritten within = record {
-    numbered = λ content_now n. subst (λ o. (its_number content_now g.numbers.entries ≡ Some n) ↔ (o ≡ Some content_now))
-        (sym (written_same content_in (ap Some content) n)) (g.lawful.numbered content_now n);
+    numbered = λ k n. rw (written_same content_in (ap Some content) n) (g.lawful.numbered k n);
     passes = λ n h is. grind (arith, nat_tests, fills, g.lawful.passes n);
     begun = g.lawful.begun;
   }
@@ -163,10 +157,9 @@ module _ (g : Groups) (number : ℕ) (was now : Group) (stood : Some was ≡ get
   pub repaged : now.pass ≤ g.pass → (tree : ℕ) (bytes : List ℕ) → number_of tree bytes g.numbers.entries ≡ Some number
       → (t : ℕ) (b : List ℕ) → waiting_page t b (filter_map (waits_in g.pass) new.slots) ≡ (if t == tree && bytes_eq b bytes then page_in g.pass (Some now) else waiting_page t b (waiting_in g))
   repaged within tree bytes named t b =
-      waiting_found (rewritten within) t b
-      ∙ under_moved _ _ _ g.lawful.numbered _ _ _
-      (λ _. page_in g.pass (Some now)) _ named (written_moved (page_in g.pass) (λ _. page_in g.pass (Some now)) refl) t b
-      ∙ ap (λ o. if t == tree && bytes_eq b bytes then page_in g.pass (Some now) else o) (sym (waiting_found g.lawful t b))
+      let moved = written_moved (page_in g.pass) (λ _. page_in g.pass (Some now)) refl in
+      rw (waiting_found (rewritten within) t b, waiting_found g.lawful t b)
+      (under_moved _ _ _ g.lawful.numbered _ _ _ (λ _. page_in g.pass (Some now)) _ named moved t b)
 
   -- where a group written anew has what waited in it, all that waits is as it was
   pub same_waiting : waits_in g.pass (Some now) ≡ waits_in g.pass (Some was) → filter_map (waits_in g.pass) new.slots ≡ waiting_in g
@@ -195,14 +188,11 @@ module _ (numbers_old numbers_new : BTreeMap Content ℕ) {pass : ℕ} {old new 
   idle_chains here t b =
       elim (cases_Bool (is_at (content_order k) (content_of t b))) [
         | inl is ↦ grind (arith, updates.0 (content_of t b), here, same_content {p = k} {q = content_of t b} is)
-        | inr other ↦
-            let same = same_under [] _ _ (idle_same places_in (now.0 ∙ sym was.0))
-            (number_of t b numbers_old.entries) in
-            grind (arith, updates.0 (content_of t b), same)
+        | inr other ↦ grind (arith, updates.0 (content_of t b), idle_same places_in (now.0 ∙ sym was.0))
       ]
 
   idle_stands : Stands (λ n. content_in (get old n)) (λ n. content_in (get new n)) number (content_in slot)
-  idle_stands = record { changed = ap content_in fills.changed; others = λ n apart. ap content_in (fills.others n apart) }
+  idle_stands = grind (arith, fills)
 
   idle_passes : ForSome slot (λ g. g.pass ≤ pass) → (n : ℕ) → ForSome (get new n) (λ g. g.pass ≤ pass)
   idle_passes here n = grind (arith, here)
@@ -210,18 +200,18 @@ module _ (numbers_old numbers_new : BTreeMap Content ℕ) {pass : ℕ} {old new 
   -- the groups are right once one came with a content that had no number
   pub came_groups : {g : Group} → slot ≡ Some g → g.content ≡ k → g.pass ≤ pass → named ≡ Some number → its_number k numbers_old.entries ≡ None → get old number ≡ None → AreGroups numbers_new.entries new pass
   came_groups {g} is content within name none vacant = record {
-    numbered = entered numbers_old numbers_new _ _ k are.numbered none (ap content_in vacant)
-        (subst (Updates content_order numbers_old numbers_new k) name updates) (subst (Stands (λ n. content_in (get old n)) (λ n. content_in (get new n)) number) (ap content_in is ∙ ap Some content) idle_stands);
-    passes = idle_passes (λ h at. subst (λ h. h.pass ≤ pass) (same_Some g h (sym is ∙ at)) within);
+    numbered = entered numbers_old numbers_new _ _ k are.numbered none (ap content_in vacant) (rw (← name) updates)
+        (rw (← ap content_in is ∙ ap Some content) idle_stands);
+    passes = idle_passes (λ h at. grind arith);
     begun = are.begun;
   }
 
   -- the groups are right once one went and its content lost its number
   pub gone_groups : {g : Group} → Some g ≡ get old number → g.content ≡ k → slot ≡ None → named ≡ None → AreGroups numbers_new.entries new pass
   gone_groups stood content is name = record {
-    numbered = forgotten numbers_old numbers_new (λ n. content_in (get old n)) (λ n. content_in (get new n)) k are.numbered (ap content_in (sym stood) ∙ ap Some content)
-        (subst (Updates content_order numbers_old numbers_new k) name updates) (subst (Stands (λ n. content_in (get old n)) (λ n. content_in (get new n)) number) (ap content_in is) idle_stands);
-    passes = idle_passes (λ h at. absurd (full h None refl (sym is ∙ at)));
+    numbered = forgotten numbers_old numbers_new _ _ k are.numbered (ap content_in (sym stood) ∙ ap Some content)
+        (rw (← name) updates) (rw (← ap content_in is) idle_stands);
+    passes = idle_passes (λ h at. grind arith);
     begun = are.begun;
   }
 
@@ -234,13 +224,13 @@ pub record Entered (g : Groups) (later : Slab Group) (numbers : BTreeMap Content
 module _ (g : Groups) {kept later : Slab Group} (numbers : BTreeMap Content ℕ) {k : Content} {number : ℕ} (fresh : Group) (room : kept ≡ record g.groups { capacity = kept.capacity }) (none : its_number k g.numbers.entries ≡ None)
     (vacant : get kept number ≡ None) (updates : Updates content_order g.numbers numbers k (Some number)) (fills : Fills kept later number (Some fresh)) (content : fresh.content ≡ k) (idle : fresh.pass ≡ 0) (empty : fresh.places.list.items ≡ []) where
   are_kept : AreGroups g.numbers.entries kept g.pass
-  are_kept = subst (λ s. AreGroups g.numbers.entries s g.pass) (sym room) (record { numbered = g.lawful.numbered; passes = g.lawful.passes; begun = g.lawful.begun })
+  are_kept = grind (arith, g.lawful)
 
   was_idle : IsIdle g.pass (get kept number)
-  was_idle = (ap places_in vacant, ap (waits_in g.pass) vacant)
+  was_idle = grind arith
 
   now_idle : IsIdle g.pass (Some fresh)
-  now_idle = (empty, waits_still fresh _ (λ same. omega (arith, idle, same)))
+  now_idle = (empty, waits_still fresh _ (λ same. omega arith))
 
   -- a group in which nothing stands comes into the room that was made for it
   pub entered_fresh : Entered g later numbers
