@@ -106,11 +106,6 @@ abbrev pub or_else : Option Dup → Option Dup → Option Dup
 or_else acc None = acc
 or_else acc (Some d) = Some d
 
--- a dup with room that has as many items as the best so far, or more, is the better of the two, but where it is no more and the number is greater
-better_is : (limit : ℕ) (acc : Option Dup) (d : Dup) {least : ℕ} → least ≡ least_of acc → 1 ≤ least → least ≤ length d.items → length d.items < limit
-    → joined limit acc (Some d) ≡ or_else acc (unless_behind (if length d.items == least then acc else None) (Some d))
-better_is limit acc d is one above below = grind (arith, nat_tests)
-
 -- the dup at a place is taken where it is the better one
 pub stepped_to : (t : ℕ) (b : List ℕ) (limit : ℕ) (acc slot : Option Dup) {items least : ℕ} → items ≡ length (items_in slot) → least ≡ least_of acc → 1 ≤ least → least ≤ items → items < limit
     → joined limit acc (of_group t b slot) ≡ or_else acc (unless_behind (if items == least then acc else None) (of_group t b slot))

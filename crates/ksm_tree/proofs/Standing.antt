@@ -1,5 +1,5 @@
 -- What a change of one group makes of the chains and of the pages that wait.
-use Rattle.ksm_tree.proofs.Names.{[], ap, AreGroups, AreNumbered, arith, BTreeMap, bytes_eq, bytes_eq-Decides, cases_Bool, chain_in, Content, content_in, content_of, content_order, filter_map, ForSome, get, get_or, Group, Groups, GuestPage, if◌then◌else◌, inl, inr, is_at, is_some, IsIdle, IsUnused, List, nat_tests, None, number_of, Numbers, Option, option_map, places_in, refl, Slab, Some, suc, sym, then_some, true, under, Updates, Updates-with_value, waiting_in, waiting_page, waits_in, with_value, zero, ℕ, ◌&&◌, ◌==◌, ◌∙◌, ◌∷◌, ◌≡◌, ◌≢◌, ◌≤◌}
+use Rattle.ksm_tree.proofs.Names.{[], ap, AreGroups, AreNumbered, arith, BTreeMap, bytes_eq, bytes_eq-Decides, cases_Bool, chain_in, Content, content_in, content_of, content_order, filter_map, ForSome, get, get_or, Group, Groups, GuestPage, if◌then◌else◌, inl, inr, is_at, is_some, IsIdle, IsUnused, List, nat_tests, None, number_of, Numbers, Option, option_map, places_in, refl, Slab, Some, suc, sym, true, under, Updates, Updates-with_value, waiting_in, waiting_page, waits_in, with_value, zero, ℕ, ◌&&◌, ◌==◌, ◌∙◌, ◌∷◌, ◌≡◌, ◌≢◌, ◌≤◌}
 use Rattle.slab.specs.Slab.{Updates as Fills}
 use Rattle.ksm_tree.proofs.Numbering.{Stands, entered, forgotten, full, its_number, same_content}
 
@@ -25,11 +25,6 @@ module _ {X : Type 0} (none : X) (numbers : Numbers) (stands : ℕ → Option Co
           let here = (are (content_of t b) n).0 found in
           let there = (are (content_of tree bytes) number).0 is in
           grind (arith, nat_tests, moved n, is_one t tree b bytes, are_one t tree b bytes, here, there)
-
-  -- where a content has no number and the change of nothing is nothing, no content changes
-  pub under_absent : number_of tree bytes numbers ≡ None → none ≡ change none
-      → (t : ℕ) (b : List ℕ) → under none old (number_of t b numbers) ≡ (if t == tree && bytes_eq b bytes then change (under none old (number_of t b numbers)) else under none old (number_of t b numbers))
-  under_absent absent stays t b = grind (arith, is_one t tree b bytes)
 
 -- ---------------------------------------------------------------- the list of the pages that wait
 
@@ -111,10 +106,6 @@ waits_still g pass apart = grind (arith, nat_tests)
 -- in a group whose pass is not the present one no page waits
 pub page_still : (g : Group) (pass : ℕ) → g.pass ≢ pass → page_in pass (Some g) ≡ None
 page_still g pass apart = grind (arith, nat_tests)
-
--- the page of a group waits exactly where the group's pass is the present one
-pub page_so : (g : Group) (pass : ℕ) → page_in pass (Some g) ≡ then_some (g.pass == pass) g.page
-page_so g pass = grind arith
 
 -- where no group's pass is the present one, no page waits
 pub none_waiting : (pass : ℕ) (groups : Slab Group) → ((n : ℕ) → ForSome (get groups n) (λ g. g.pass ≢ pass)) → filter_map (waits_in pass) groups.slots ≡ []

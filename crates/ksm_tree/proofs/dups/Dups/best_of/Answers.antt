@@ -1,4 +1,4 @@
-use Rattle.ksm_tree.proofs.Names.{[], ap, arith, best_of, content_in, found_at, group_places, IsUnused, length, List, nat_tests, number_of, option_map, refl, rows_of, subst, sym, true, ℕ, ◌==◌, ◌∙◌, ◌∷◌, ◌≡◌}
+use Rattle.ksm_tree.proofs.Names.{[], ap, arith, best_of, content_in, found_at, group_places, IsUnused, length, List, nat_tests, number_of, option_map, refl, rows_of, subst, sym, true, ℕ, ◌==◌, ◌∙◌, ◌∷◌, ◌≡◌, rules}
 use Rattle.ksm_tree.proofs.Indexed.{content_here, group_here}
 use Rattle.ksm_tree.proofs.Joining.{none_best}
 use Rattle.ksm_tree.proofs.Standing.{not_unused, stands_under}
@@ -10,8 +10,7 @@ none_of [] none = refl
 none_of (x ∷ xs) none = grind (arith, nat_tests, none)
 
 pub returns-in_err-found-clause-best : goal.returns-in_err-found-clause-best
-returns-in_err-found-clause-best c tree bytes is =
-    absurd (stands_under c.self.inside.index.groups tree bytes (ap (λ s. number_of tree bytes s.numbers) c.self.view_is ∙ is) c.in_err-found.ensures)
+returns-in_err-found-clause-best c tree bytes is = search (rules, stands_under)
 
 pub returns-then-is_empty-clause-best : goal.returns-then-is_empty-clause-best
 returns-then-is_empty-clause-best c tree bytes is =

@@ -1,4 +1,4 @@
-use Rattle.ksm_tree.proofs.Names.{ap, dup_at, is_stale, sym, ◌∙◌}
+use Rattle.ksm_tree.proofs.Names.{ap, dup_at, is_stale, sym, ◌∙◌, rules}
 use Rattle.ksm_tree.proofs.Indexed.{gone_indexed, found_stands, none_there, told}
 use Rattle.ksm_tree.proofs.dups.Dups.drop_stale.Goals as goal
 
@@ -12,4 +12,4 @@ invariant_of-self c =
     rw c.clear.ensures (gone_indexed c.args.place c.in-Some.dup.now _ c.self.invariant found at c.remove.ensures.numbers c.remove.ensures.groups c.remove.ensures.totals)
 
 pub remove-requires : goal.remove-requires
-remove-requires c = told c.self.invariant c.in-Some.dup.now.row.tree c.in-Some.dup.now.row.bytes
+remove-requires c = search (rules, told)

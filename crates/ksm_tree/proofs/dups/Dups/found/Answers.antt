@@ -1,4 +1,4 @@
-use Rattle.ksm_tree.proofs.Names.{[], AreIndexed, ap, arith, Dup, dups_seen, refl, SameWaits, with_item, ℕ, ◌<◌, ◌∙◌, ◌∷◌, ◌≡◌}
+use Rattle.ksm_tree.proofs.Names.{[], AreIndexed, ap, arith, Dup, dups_seen, refl, SameWaits, with_item, ℕ, ◌<◌, ◌∙◌, ◌∷◌, ◌≡◌, rules}
 use Rattle.ksm_tree.proofs.Indexed.{led_indexed, room_indexed, told}
 use Rattle.ksm_tree.proofs.Made.{fresh_indexed, seen_made, taken_indexed, next_unused, told_between}
 use Rattle.ksm_tree.proofs.dups.Dups.found.Goals as goal
@@ -15,19 +15,16 @@ within : (c : After-reserve) → c.args.place < c.reserve.new.self.places
 within c = omega (arith, ap (λ t. t.places) (seen c), c.requires.may.below)
 
 pub invariant_of-self : goal.invariant_of-self
-invariant_of-self c = roomy (goal.at.invariant_of-self c).After-reserve
+invariant_of-self c = search (rules, roomy)
 
 pub invariant_of-self-in_err-add : goal.invariant_of-self-in_err-add
-invariant_of-self-in_err-add c =
-    led_indexed c.in_err-add.ensures.kept
-    (roomy (goal.at.invariant_of-self-in_err-add c).After-reserve)
+invariant_of-self-in_err-add c = search (rules, led_indexed, roomy)
 
 pub add-requires-clause-fresh : goal.add-requires-clause-fresh
-add-requires-clause-fresh c = next_unused (roomy (goal.at.add-requires-clause-fresh c).After-reserve)
+add-requires-clause-fresh c = search (rules, next_unused, roomy)
 
 pub add-requires-clause-counted : goal.add-requires-clause-counted
-add-requires-clause-counted c =
-    told (roomy (goal.at.add-requires-clause-counted c).After-reserve) c.args.tree c.args.bytes.now
+add-requires-clause-counted c = search (rules, roomy, told)
 
 pub replace-requires : goal.replace-requires
 replace-requires c =

@@ -1,4 +1,4 @@
-use Rattle.ksm_tree.proofs.Names.{ap, dups_seen, without_item, ◌∙◌}
+use Rattle.ksm_tree.proofs.Names.{ap, dups_seen, without_item, ◌∙◌, rules}
 use Rattle.ksm_tree.proofs.Indexed.{stays_indexed, told_changed, told_there, unplaced_changed}
 use Rattle.ksm_tree.proofs.dups.Dups.leave_at.Goals as goal
 
@@ -17,5 +17,4 @@ returns-clause-left c =
     ∙ told_changed c.args.dup c.self.invariant c.self.view_is c.in_ok-place.ensures (without_item c.args.page) c.remove_item.new.self.ready
 
 pub returns-in_err-place-clause-left : goal.returns-in_err-place-clause-left
-returns-in_err-place-clause-left c =
-    ap (λ dups. record c.args.self.now { dups = dups }) (unplaced_changed c.args.dup c.in_err-place.ensures _)
+returns-in_err-place-clause-left c = search (rules, unplaced_changed)

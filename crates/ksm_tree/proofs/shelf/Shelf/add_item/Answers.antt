@@ -1,11 +1,10 @@
-use Rattle.ksm_tree.proofs.Names.{ap, arith, get_or, Kept, length, sym, Updates-with_value, with_item, ◌∙◌, ◌≡◌, None, items_in, rules}
+use Rattle.ksm_tree.proofs.Names.{ap, get_or, Kept, length, sym, Updates-with_value, with_item, ◌∙◌, ◌≡◌, None, items_in, rules}
 use Rattle.ksm_tree.proofs.Shelved.{changed, filled_key, items_there, key_read, not_none}
 use Rattle.ksm_tree.proofs.shelf.Shelf.add_item.Goals as goal
 use Rattle.ksm_tree.proofs.shelf.Shelf.add_item.Goals.{In-Some}
 
 pub index-key-requires : goal.index-key-requires
-index-key-requires c =
-    omega (arith, filled_key _ _ _ c.self.view_is c.requires.known, c.self.inside.keys.ok.0)
+index-key-requires c = search (rules, filled_key)
 
 pub unreachable-requires : goal.unreachable-requires
 unreachable-requires c =

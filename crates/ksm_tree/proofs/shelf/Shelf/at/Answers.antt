@@ -1,12 +1,10 @@
-use Rattle.ksm_tree.proofs.Names.{ap, arith, get, get_or, kept_at, length, nat_tests, None, option_copied, sym, ◌<◌, ◌∙◌, ◌≡◌, ◌≤◌}
+use Rattle.ksm_tree.proofs.Names.{ap, arith, get, get_or, kept_at, length, None, option_copied, sym, ◌<◌, ◌∙◌, ◌≡◌, rules}
 use Rattle.ksm_tree.proofs.Shelved.{at_here, at_other, seen_by, seen_past}
 use Rattle.ksm_tree.proofs.shelf.Shelf.at.Goals as goal
 use Rattle.ksm_tree.proofs.shelf.Shelf.at.Goals.{In_ok-key}
 
 pub returns-in_err-key : goal.returns-in_err-key
-returns-in_err-key c =
-    let past : length c.self.inside.keys.items ≤ c.args.place = grind (arith, nat_tests, c.deref.ensures.value) in
-    ap option_copied c.from_residual.ensures ∙ seen_past _ _ _ c.self.view_is past
+returns-in_err-key c = search (rules, seen_past)
 
 -- what is at the place lies under its key
 seen : (c : In_ok-key) → kept_at c.args.place (get c.self.inside.dups c.in_ok-key.field-0.now) ≡ get_or c.args.self.now.slots c.args.place None
