@@ -1,5 +1,5 @@
 -- The waiting pages beside the rows that wait: what a look-up tells, and what a change of rows does.
-use Rattle.ksm_tree.proofs.Names.{[], All, All-head, All-tail, ap, AreWaiting, arith, Bool, bytes_eq, bytes_eq-Decides, cases_Bool, change_row, change_rows, comes_before, cond_both, each_at_page, false, filter, find-append, find_all, find_nothing, get_or, GuestPage, if◌then◌else◌, inl, InPageOrder, inr, is_some, IsAdded, IsAlike, IsStopped, Knobs, List, map, names, nat_tests, None, not, Option, option_and_then, option_map, partner, refl, Row, row_at, same_page, same_page_eq, same_page_refl, Some, sym, tree_of, true, Waiting, waiting_page, waiting_state, WaitingPage, waits_there, with_row, without_page, ℕ, ◌&&◌, ◌==◌, ◌∙◌, ◌∷◌, ◌≡◌}
+use Rattle.ksm_tree.proofs.Names.{[], All, All-head, All-tail, ap, AreWaiting, arith, Bool, bytes_eq-Decides, cases_Bool, change_row, change_rows, comes_before, cond_both, each_at_page, false, filter, find-append, find_all, find_nothing, get_or, GuestPage, if◌then◌else◌, inl, InPageOrder, inr, is_some, IsAdded, IsAlike, IsStopped, Knobs, List, map, names, nat_tests, None, not, Option, option_and_then, option_map, partner, refl, Row, row_at, same_page, same_page_eq, same_page_refl, Some, sym, tree_of, true, Waiting, waiting_page, waiting_state, WaitingPage, waits_there, with_row, without_page, ℕ, ◌&&◌, ◌∙◌, ◌∷◌, ◌≡◌}
 use Rattle.ksm_base.specs.Visit.{waits_for}
 use Rattle.ksm_tree.proofs.Alike.{find_alike}
 use Rattle.ksm_tree.proofs.Keys.{eq_bytes}
@@ -31,7 +31,7 @@ at_without page q rows = at_chosen _ q rows ∙ grind arith
 pub at_inserted : (row : Row) (rows : List Row) (q : GuestPage) → row_at q (with_row row rows) ≡ (if same_page row.page q then Some row else row_at q rows)
 at_inserted row rows q =
     find-append _ (filter (λ r. comes_before r.page row.page) rows) _
-    ∙ grind (arith, nat_tests, at_chosen (λ p. comes_before p row.page) q rows, at_chosen (comes_before row.page) q rows)
+    ∙ grind (arith, nat_tests, at_chosen (λ p. comes_before p row.page) q rows, at_chosen (comes_before row.page) q)
 
 -- a change that keeps each row's page finds at a page the changed row that was found there
 pub at_mapped : (f : Row → Row) (q : GuestPage) (rows : List Row) → All (λ r. (f r).page ≡ r.page) rows → row_at q (map f rows) ≡ option_map f (row_at q rows)
@@ -84,10 +84,6 @@ module _ (knobs : Knobs) (rows : List Row) (w : List WaitingPage) (row : Row) (r
           ]
 
 -- ---------------------------------------------------------------- one row
-
--- the tree and bytes are a row's
-abbrev is_content_of : Knobs → Row → ℕ → List ℕ → Bool
-is_content_of knobs row t b = t == tree_of knobs row && bytes_eq b row.bytes
 
 -- a change of one page's row, by which the others stay
 edited : (knobs : Knobs) (page : GuestPage) (now : Option Row) (rows changed : List Row) (w new : List WaitingPage)

@@ -1,5 +1,5 @@
-use Rattle.ksm_tree.proofs.Names.{All, ap, arith, best_of, drop_of_length-le, Dup, dup_at, found_at, get_or, if◌then◌else◌, InPlaceOrder, items_in, length, None, of_group, Option, option_copied, option_map, refl, rows_of, Some, sym, unless_behind, ◌%◌, ◌+◌, ◌-◌, ◌<◌, ◌==◌, ◌^◌, ◌∙◌, ◌≡◌, ◌≤◌}
-use Rattle.ksm_tree.proofs.Joining.{candidate_is, joined, folded, folded_best, above_least, or_else, out_of_room, stepped_over, stepped_to, passed_over_so, stepped, candidates_within, taken_so}
+use Rattle.ksm_tree.proofs.Names.{All, ap, arith, best_of, drop_of_length-le, Dup, dup_at, get_or, if◌then◌else◌, InPlaceOrder, items_in, length, None, of_group, Option, option_copied, refl, rows_of, Some, sym, unless_behind, ◌%◌, ◌+◌, ◌-◌, ◌<◌, ◌==◌, ◌^◌, ◌∙◌, ◌≡◌, ◌≤◌}
+use Rattle.ksm_tree.proofs.Joining.{candidate_is, joined, folded_best, above_least, or_else, out_of_room, stepped_over, stepped_to, passed_over_so, stepped, candidates_within, taken_so}
 use Rattle.ksm_tree.proofs.dups.Dups.best_in.Goals as goal
 use Rattle.ksm_tree.proofs.dups.Dups.best_in.Goals.{After-loop-place, then-items-least+in-Some, then-items-least+in_default, else-items-least}
 
@@ -63,14 +63,11 @@ ended : (c : After-loop-place) → option_copied c.loop-place.best ≡ best_of c
 ended c =
     let over = drop_of_length-le c.places_to_join-is_chain.result.0.now {i = c.loop-place.place-index} (omega arith) in
     let rise : InPlaceOrder (rows_of c.args.self.now.dups) = rw (← c.self.view_is) c.self.invariant.lawful.in_place_order in
-    ap (folded c.args.tree c.args.bytes.now c.args.limit c.args.self.now.dups (option_copied c.loop-place.best)) (sym over)
-    ∙ c.loop-place.invariant.3
-    ∙ folded_best _ _ _ _ _ _ rise
-    (rw c.requires at c.places_to_join-is_chain.ensures)
+    let best = folded_best _ _ _ _ _ _ rise (rw c.requires at c.places_to_join-is_chain.ensures) in
+    grind (arith, over, best, c.loop-place.invariant.3)
 
 pub returns-in-Some-best : goal.returns-in-Some-best
-returns-in-Some-best c =
-    ap (λ b. option_map found_at (option_copied b)) (sym c.in-Some-best.is) ∙ ap (option_map found_at) (ended (goal.at.returns-in-Some-best c).After-loop-place)
+returns-in-Some-best c = grind (arith, ended (goal.at.returns-in-Some-best c).After-loop-place)
 
 pub returns-in-None : goal.returns-in-None
-returns-in-None c = ap (λ b. option_map found_at (option_copied b)) (sym c.in-None.is) ∙ ap (option_map found_at) (ended (goal.at.returns-in-None c).After-loop-place)
+returns-in-None c = grind (arith, ended (goal.at.returns-in-None c).After-loop-place)

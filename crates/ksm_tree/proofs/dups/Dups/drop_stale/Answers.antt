@@ -1,9 +1,10 @@
-use Rattle.ksm_tree.proofs.Names.{ap, dup_at, is_stale, sym, ◌∙◌, rules}
+use Rattle.ksm_tree.proofs.Names.{is_stale, sym, rules}
 use Rattle.ksm_tree.proofs.Indexed.{gone_indexed, found_stands, none_there, told}
 use Rattle.ksm_tree.proofs.dups.Dups.drop_stale.Goals as goal
 
 pub unreachable-requires : goal.unreachable-requires
-unreachable-requires c = none_there c.args.place is_stale c.args.self.now.dups (c.in-None.ensures ∙ ap (λ s. dup_at c.args.place s.dups) c.self.view_is) c.requires
+unreachable-requires c =
+    none_there c.args.place is_stale c.args.self.now.dups (rw (← c.self.view_is) c.in-None.ensures) c.requires
 
 pub invariant_of-self : goal.invariant_of-self
 invariant_of-self c =

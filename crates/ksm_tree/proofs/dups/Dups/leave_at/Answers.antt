@@ -3,9 +3,7 @@ use Rattle.ksm_tree.proofs.Indexed.{stays_indexed, told_changed, told_there, unp
 use Rattle.ksm_tree.proofs.dups.Dups.leave_at.Goals as goal
 
 pub remove_item-requires : goal.remove_item-requires
-remove_item-requires c =
-    let s = c.self.inside in
-    told_there c.args.dup c.self.invariant c.self.view_is c.in_ok-place.ensures
+remove_item-requires c = told_there c.args.dup c.self.invariant c.self.view_is c.in_ok-place.ensures
 
 pub invariant_of-self : goal.invariant_of-self
 invariant_of-self c = rw c.remove_item.ensures (stays_indexed c.self.invariant c.in_ok-place.place _ _)

@@ -15,4 +15,5 @@ returns-in-Some-get_mut-clause-removed c =
 
 pub returns-in-Some-get_mut-clause-waits : goal.returns-in-Some-get_mut-clause-waits
 returns-in-Some-get_mut-clause-waits c =
-    record { waiting = same_waiting c.args.self.now _ _ _ c.in-Some-get_mut.ensures.value refl refl; numbers = refl; most = refl }
+    let stood = c.in-Some-get_mut.ensures.value in
+    record { waiting = same_waiting c.args.self.now _ _ _ stood refl refl; numbers = refl; most = refl }
