@@ -109,7 +109,8 @@ module _ (t : ℕ) (b : List ℕ) where
       omega (arith, own, count_parts of_it (in_chain rows) rows, count_where of_it (nat_lt 1 (size rows)) rows)
 
   -- the chains are that of a group, if it is one, and those of the other groups
-  pub chains_parted : (rows : List DupRow) → InPlaceOrder rows → count_by (leads rows) rows ≡ chains_of (size rows) + chains_apart rows
+  pub chains_parted : (rows : List DupRow) → InPlaceOrder rows
+      → count_by (leads rows) rows ≡ chains_of (size rows) + chains_apart rows
   chains_parted rows rise =
       let own = count_alike (λ d. of_it d && leads rows d) (λ d. (of_it d && leads_group rows d) && nat_lt 1 (size rows)) rows
       (λ k e lt. grind (arith, own_size rows (get_or rows k e))) in

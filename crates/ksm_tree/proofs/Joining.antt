@@ -1,5 +1,5 @@
 -- The best dup to join: a walk over a group, keeping the better of two, ends at the one that the definition chooses of all.
-use Rattle.ksm_tree.proofs.Names.{[], add-one, All, All-filter, All-head, All-map, All-tail, ap, ArePlacesToJoin, arith, best_of, Bool, cases_Bool, cond, drop, drop-cons, Dup, dup_at, DupRow, false, filter, find, get_or, group_places, if◌then◌else◌, in_group, inl, InPlaceOrder, inr, is_no_worse, is_open, items_in, length, List, list_all, map, may_join, nat_le, nat_lt, nat_tests, None, not, of_group, Option, pairs_head, pairs_tail, places_open, refl, rows_of, Some, suc, sym, true, unless_behind, zero, ℕ, ◌%◌, ◌&&◌, ◌+◌, ◌-◌, ◌<◌, ◌==◌, ◌^◌, ◌||◌, ◌∙◌, ◌∷◌, ◌≡◌, ◌≤◌}
+use Rattle.ksm_tree.proofs.Names.{[], add-one, All, All-filter, All-map, ap, ArePlacesToJoin, arith, best_of, Bool, cases_Bool, cond, drop, drop-cons, Dup, dup_at, DupRow, false, filter, find, get_or, group_places, if◌then◌else◌, in_group, inl, InPlaceOrder, inr, is_no_worse, is_open, items_in, length, List, list_all, map, may_join, nat_le, nat_lt, nat_tests, None, not, of_group, Option, pairs_head, pairs_tail, refl, rows_of, Some, suc, sym, true, unless_behind, zero, ℕ, ◌%◌, ◌&&◌, ◌+◌, ◌-◌, ◌<◌, ◌==◌, ◌^◌, ◌||◌, ◌∙◌, ◌∷◌, ◌≡◌, ◌≤◌}
 use Rattle.ksm_tree.proofs.Alike.{filter_mapped, map_mapped}
 use Rattle.ksm_tree.proofs.Changes.{all_rows}
 use Rattle.ksm_base.proofs.Orders.{Lower}
@@ -35,15 +35,13 @@ module _ (may : Dup → Bool) where
   walk_from : (b : Dup) (dups : List Dup) → may b ≡ true → walked (Some b) dups ≡ find (top (b ∷ dups)) (b ∷ dups)
   walk_from b [] first = grind arith
   walk_from b (d ∷ dups) first =
-      elim (cases_Bool (may d)) [
-        | inl passes ↦ elim (cases_Bool (is_no_worse b d)) [
-          | inl above ↦ grind (arith, walk_from b dups first) ∙ passed_by b d _ first (grind arith)
-          | inr worse ↦
-              let over = λ (e : Dup). through e d b passes in
-              let same : (e : Dup) → top (d ∷ dups) e ≡ top (b ∷ d ∷ dups) e = λ e. grind (arith, nat_tests, over e) in
-              grind (arith, walk_from d dups passes) ∙ (λ i. find (λ e. same e i) (d ∷ dups)) ∙ grind arith
-        ]
-        | inr fails ↦ grind (arith, walk_from b dups first) ∙ passed_by b d dups first (grind arith)
+      elim (cases_Bool (rival b d)) [
+        | inl above ↦ grind (arith, walk_from b dups first) ∙ passed_by b d _ first above
+        | inr worse ↦
+            let passes : may d ≡ true = grind arith in
+            let over = λ (e : Dup). through e d b passes in
+            let same : (e : Dup) → top (d ∷ dups) e ≡ top (b ∷ d ∷ dups) e = λ e. grind (arith, nat_tests, over e) in
+            grind (arith, walk_from d dups passes) ∙ (λ i. find (λ e. same e i) (d ∷ dups)) ∙ grind arith
       ]
 
   -- a walk that keeps the better of two dups ends at the first that may be joined and to which none is better
@@ -130,31 +128,25 @@ pub places_within : (t : ℕ) (b : List ℕ) (places : ℕ) (rows : List DupRow)
 places_within t b places rows below =
     All-map (λ p. p < places) _ _ (All-filter _ (λ r. r.place < places) _ below)
 
--- the places of the open dups are places of the table
-open_within : (limit places : ℕ) (dups : List Dup) → All (λ r. r.place < places) (rows_of dups) → All (λ p. p < places) (places_open limit dups)
-open_within limit places dups below =
-    All-map (λ p. p < places) _ _
-    (All-filter _ (λ d. d.row.place < places) _ (all_rows (λ r. r.place < places) dups below))
-
 -- the places of dups to join are places of the tree
 pub candidates_within : (t : ℕ) (b : List ℕ) (limit places : ℕ) (dups : List Dup) (found : List ℕ) (is_chain : Bool) → All (λ r. r.place < places) (rows_of dups) → ArePlacesToJoin (group_places t b (rows_of dups)) limit dups found is_chain → All (λ p. p < places) found
 candidates_within t b limit places dups found true below group = rw group (places_within t b _ _ below)
-candidates_within t b limit places dups found false below opens = rw opens (open_within _ _ _ below)
+candidates_within t b limit places dups found false below opens = rw opens (All-map (λ p. p < places) _ _
+    (All-filter _ (λ d. d.row.place < places) _ (all_rows (λ r. r.place < places) dups below)))
 
 -- at each place of a group stands a dup of it
 group_found : (t : ℕ) (b : List ℕ) (all dups : List Dup) → All (λ d. dup_at d.row.place all ≡ Some d) dups → All (λ p. of_group t b (dup_at p all) ≡ dup_at p all) (group_places t b (rows_of dups))
 group_found t b all [] found = λ k d lt. absurd (omega arith)
 group_found t b all (d ∷ dups) found =
-    let here = All-head (λ e. dup_at e.row.place all ≡ Some e) d _ found in
-    let rest = group_found t b all dups (All-tail (λ e. dup_at e.row.place all ≡ Some e) d _ found) in
-    grind (arith, nat_tests, here, rest)
+    let rest = group_found t b all dups (λ k e lt. found (suc k) e (omega arith)) in
+    grind (arith, nat_tests, found 0 d (omega arith), rest)
 
 -- a dup of the chain needs no comparison: its place is one of the group
 pub candidate_is : (t : ℕ) (b : List ℕ) (limit : ℕ) (dups : List Dup) (found : List ℕ) (is_chain : Bool) (i : ℕ) → InPlaceOrder (rows_of dups) → ArePlacesToJoin (group_places t b (rows_of dups)) limit dups found is_chain → i < length found
     → (if is_chain then dup_at (get_or found i 0) dups else of_group t b (dup_at (get_or found i 0) dups)) ≡ of_group t b (dup_at (get_or found i 0) dups)
 candidate_is t b limit dups found true i rise group within =
-    let each : All (λ p. of_group t b (dup_at p dups) ≡ dup_at p dups) found = rw group (group_found t b _ _ (found_self _ rise)) in
-    sym (each i 0 within)
+    let each = group_found t b _ _ (found_self _ rise) in
+    rw group (sym (each i 0 (rw (← group) within)))
 candidate_is t b limit dups found false i rise opens within = refl
 
 kept_so : (t : ℕ) (b : List ℕ) (limit : ℕ) (acc : Option Dup) (d : Dup) → joined limit acc (of_group t b (Some d)) ≡ kept (may_join t b limit) acc d
@@ -168,9 +160,8 @@ module _ (t : ℕ) (b : List ℕ) (limit : ℕ) (test : Dup → Bool) (passes : 
   fold_passing : (all dups : List Dup) (acc : Option Dup) → All (λ d. dup_at d.row.place all ≡ Some d) dups → folded t b limit all acc (map (λ d. d.row.place) (filter test dups)) ≡ walked (may_join t b limit) acc dups
   fold_passing all [] acc found = refl
   fold_passing all (d ∷ dups) acc found =
-      let here = All-head (λ e. dup_at e.row.place all ≡ Some e) d _ found in
-      let rest = fold_passing all dups (kept (may_join t b limit) acc d)
-      (All-tail (λ e. dup_at e.row.place all ≡ Some e) d _ found) in
+      let here = found 0 d (omega arith) in
+      let rest = fold_passing all dups (kept (may_join t b limit) acc d) (λ k e lt. found (suc k) e (omega arith)) in
       grind (arith, here, rest, kept_so t b limit acc d, passed_group t b limit acc d, passes d)
 
 group_of_dups : (t : ℕ) (b : List ℕ) (dups : List Dup) → group_places t b (rows_of dups) ≡ map (λ d. d.row.place) (filter (λ d. in_group t b d.row) dups)
@@ -193,8 +184,7 @@ folded_best t b limit dups found false rise opens =
 none_folded : (t : ℕ) (b : List ℕ) (limit : ℕ) (dups : List Dup) (places : List ℕ) → All (λ p. is_open limit (length (items_in (dup_at p dups))) ≡ false) places → folded t b limit dups None places ≡ None
 none_folded t b limit dups [] closed = refl
 none_folded t b limit dups (p ∷ places) closed =
-    let rest = none_folded t b limit dups places
-    (All-tail (λ q. is_open limit (length (items_in (dup_at q dups))) ≡ false) p places closed) in
+    let rest = none_folded t b limit dups places (λ k q lt. closed (suc k) q (omega arith)) in
     grind (arith, nat_tests, closed 0 0 (omega arith), rest)
 
 -- where none of the dups at the places of a tree and bytes is open, none is best

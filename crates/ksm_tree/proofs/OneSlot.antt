@@ -1,5 +1,5 @@
 -- What a change of one slot does to the dups and to the places whose slots pass a test.
-use Rattle.ksm_tree.proofs.Names.{[], absent_kept, All, ap, ArePlaced, AreSlots, arith, Bool, change_at, change_items_of, change_slot, comes_before, count_in, Dup, dup_at, empty_from, empty_place, false, filter, filter_all, filter_none, find, find_nothing, find_passes, get_or, get_or-map, get_or_past, GuestPage, has_item, if◌then◌else◌, is_empty_slot, is_live, is_some, is_stale, is_stale_slot, items_in, length, length-append, length-map, length-set, List, map, map-set, nat_lt, nat_tests, None, none-some, none_found, not, Option, option_map, pages_ordered, present, refl, rows_of, set, set-get_or, ShelfState, slots_seen, SlotsState, Some, stands_at, suc, sym, true, with_item, with_new, without_item, without_place, zero, ℕ, ◌+◌, ◌<◌, ◌==◌, ◌∙◌, ◌∷◌, ◌≡◌, ◌≤◌, CountedSet, HasNone, IsLeast, IsMarked, IsSetOf, MatchOption}
+use Rattle.ksm_tree.proofs.Names.{[], absent_kept, All, ap, ArePlaced, AreSlots, arith, Bool, change_at, change_items_of, change_slot, comes_before, count_in, Dup, dup_at, empty_from, empty_place, false, filter, filter_all, filter_none, find, find_nothing, find_passes, get_or, get_or-map, get_or_past, GuestPage, has_item, if◌then◌else◌, is_empty_slot, is_live, is_some, is_stale, is_stale_slot, items_in, length, length-append, length-map, length-set, List, map, map-set, nat_lt, nat_tests, None, none_found, not, Option, option_map, pages_ordered, present, refl, rows_of, set, set-get_or, ShelfState, slots_seen, SlotsState, Some, stands_at, suc, sym, true, with_item, with_new, without_item, without_place, zero, ℕ, ◌+◌, ◌<◌, ◌==◌, ◌∙◌, ◌∷◌, ◌≡◌, ◌≤◌, CountedSet, HasNone, IsLeast, IsMarked, IsSetOf, MatchOption}
 use Rattle.ksm_tree.proofs.Alike.{change_none}
 use Rattle.ksm_tree.proofs.PlaceSets.{set_kept, set_marked}
 
@@ -9,6 +9,11 @@ placed_above k [] placed i d lt = absurd (omega arith)
 placed_above k (None ∷ slots) placed i d lt = omega (arith, placed_above _ slots placed i d lt)
 placed_above k (Some e ∷ slots) placed zero d lt = omega (arith, placed.0)
 placed_above k (Some e ∷ slots) placed (suc i) d lt = omega (arith, placed_above _ slots placed.1 i d (omega arith))
+
+-- the dups of the slots behind the first stand behind it
+behind : (k : ℕ) (s : Option Dup) (slots : List (Option Dup)) → ArePlaced k (s ∷ slots) → ArePlaced (suc k) slots
+behind k None slots placed = placed
+behind k (Some d) slots placed = placed.1
 
 none_at : (k p : ℕ) (slots : List (Option Dup)) → p < k → ArePlaced k slots → All (λ d. (d.row.place == p) ≡ false) (present slots)
 none_at k p slots below placed i d lt = grind (arith, nat_tests, placed_above)
@@ -25,63 +30,57 @@ put_first k slots dup below placed =
     grind (arith, none, each)
 
 -- the dup found at a place is what the slot of that place holds
-pub slot_found : (k p i : ℕ) (slots : List (Option Dup)) → p ≡ k + i → ArePlaced k slots → dup_at p (present slots) ≡ get_or slots i None
+pub slot_found : (k p i : ℕ) (slots : List (Option Dup)) → p ≡ k + i → ArePlaced k slots
+    → dup_at p (present slots) ≡ get_or slots i None
 slot_found k p i [] is placed = refl
-slot_found k p zero (None ∷ slots) is placed = find_nothing _ _ (none_at _ p slots (omega arith) placed)
-slot_found k p (suc i) (None ∷ slots) is placed = slot_found _ p i slots (omega arith) placed
-slot_found k p zero (Some d ∷ slots) is placed = grind (arith, nat_tests)
-slot_found k p (suc i) (Some d ∷ slots) is placed =
-    grind (arith, nat_tests, slot_found (suc k) p i slots (omega arith) placed.1)
+slot_found k p zero (s ∷ slots) is placed =
+    let none = none_at (suc k) p slots (omega arith) (behind k s slots placed) in
+    grind (arith, nat_tests, find_nothing (stands_at p) _ none)
+slot_found k p (suc i) (s ∷ slots) is placed =
+    grind (arith, nat_tests, slot_found (suc k) p i slots (omega arith) (behind k s slots placed))
 
 -- a dup put into its slot is seen among the dups, in place of one that stood there
-pub slot_put : (k p i : ℕ) (slots : List (Option Dup)) (dup : Dup) → p ≡ k + i → dup.row.place ≡ p → i < length slots → ArePlaced k slots → present (set slots i (Some dup)) ≡ with_new dup (present slots)
+pub slot_put : (k p i : ℕ) (slots : List (Option Dup)) (dup : Dup) → p ≡ k + i → dup.row.place ≡ p → i < length slots
+    → ArePlaced k slots → present (set slots i (Some dup)) ≡ with_new dup (present slots)
 slot_put k p i [] dup is at within placed = absurd (omega arith)
-slot_put k p zero (None ∷ slots) dup is at within placed = sym (put_first (suc k) slots dup (omega arith) placed)
-slot_put k p (suc i) (None ∷ slots) dup is at within placed = slot_put (suc k) p i slots dup (omega arith) at (omega arith) placed
-slot_put k p zero (Some d ∷ slots) dup is at within placed =
-    grind (arith, nat_tests, put_first (suc k) slots dup (omega arith) placed.1)
-slot_put k p (suc i) (Some d ∷ slots) dup is at within placed =
-    grind (arith, nat_tests, slot_put (suc k) p i slots dup (omega arith) at (omega arith) placed.1)
+slot_put k p zero (s ∷ slots) dup is at within placed =
+    grind (arith, nat_tests, put_first (suc k) slots dup (omega arith) (behind k s slots placed))
+slot_put k p (suc i) (s ∷ slots) dup is at within placed =
+    grind (arith, nat_tests, slot_put (suc k) p i slots dup (omega arith) at (omega arith) (behind k s slots placed))
 
 -- a slot that is emptied takes the dup of its place out of those that are seen
-pub slot_emptied : (k p i : ℕ) (slots : List (Option Dup)) → p ≡ k + i → ArePlaced k slots → present (set slots i None) ≡ without_place p (present slots)
+pub slot_emptied : (k p i : ℕ) (slots : List (Option Dup)) → p ≡ k + i → ArePlaced k slots
+    → present (set slots i None) ≡ without_place p (present slots)
 slot_emptied k p i [] is placed = refl
-slot_emptied k p zero (None ∷ slots) is placed =
-    sym (filter_all _ _ (λ j d lt. ap not (none_at _ p slots (omega arith) placed j d lt)))
-slot_emptied k p (suc i) (None ∷ slots) is placed = slot_emptied _ p i slots (omega arith) placed
-slot_emptied k p zero (Some d ∷ slots) is placed =
-    let each = filter_all (λ d. not (stands_at p d)) _
-    (λ j d lt. ap not (none_at (suc k) p slots (omega arith) placed.1 j d lt)) in
-    grind (arith, nat_tests, each)
-slot_emptied k p (suc i) (Some d ∷ slots) is placed =
-    grind (arith, nat_tests, slot_emptied (suc k) p i slots (omega arith) placed.1)
+slot_emptied k p zero (s ∷ slots) is placed =
+    let none = none_at (suc k) p slots (omega arith) (behind k s slots placed) in
+    grind (arith, nat_tests, filter_all (λ d. not (stands_at p d)) _ (λ j d lt. ap not (none j d lt)))
+slot_emptied k p (suc i) (s ∷ slots) is placed =
+    grind (arith, nat_tests, slot_emptied (suc k) p i slots (omega arith) (behind k s slots placed))
 
 -- a change of the items of a slot's dup is seen as that change of the dup at its place
-pub slot_changed : (k p i : ℕ) (slots : List (Option Dup)) {dup : Dup} (f : List GuestPage → List GuestPage) → p ≡ k + i → get_or slots i None ≡ Some dup → ArePlaced k slots → present (set slots i (Some (record dup { items = f dup.items }))) ≡ change_at p f (present slots)
-slot_changed k p i [] f is here placed = absurd (none-some _ here)
-slot_changed k p zero (None ∷ slots) f is here placed = absurd (none-some _ here)
-slot_changed k p (suc i) (None ∷ slots) f is here placed = slot_changed _ p i slots f (omega arith) here placed
-slot_changed k p zero (Some d ∷ slots) f is here placed =
-    let none = change_none (stands_at p) (λ e. record e { items = f e.items }) _
-    (none_at (suc k) p slots (omega arith) placed.1) in
-    grind (arith, nat_tests, none)
-slot_changed k p (suc i) (Some d ∷ slots) f is here placed =
-    grind (arith, nat_tests, slot_changed (suc k) p i slots f (omega arith) here placed.1)
+pub slot_changed : (k p i : ℕ) (slots : List (Option Dup)) {dup : Dup} (f : List GuestPage → List GuestPage) → p ≡ k + i
+    → get_or slots i None ≡ Some dup → ArePlaced k slots → present (set slots i (Some (record dup { items = f dup.items }))) ≡ change_at p f (present slots)
+slot_changed k p i [] f is here placed = grind arith
+slot_changed k p zero (s ∷ slots) f is here placed =
+    let none = none_at (suc k) p slots (omega arith) (behind k s slots placed) in
+    grind (arith, nat_tests, change_none (stands_at p) (λ e. record e { items = f e.items }) _ none)
+slot_changed k p (suc i) (s ∷ slots) f is here placed =
+    grind (arith, nat_tests, slot_changed (suc k) p i slots f (omega arith) here (behind k s slots placed))
 
 -- dups stand at the places of their slots once a dup is put into the slot of its place
-pub placed_put : (k p i : ℕ) (slots : List (Option Dup)) (dup : Dup) → p ≡ k + i → dup.row.place ≡ p → ArePlaced k slots → ArePlaced k (set slots i (Some dup))
+pub placed_put : (k p i : ℕ) (slots : List (Option Dup)) (dup : Dup) → p ≡ k + i → dup.row.place ≡ p → ArePlaced k slots
+    → ArePlaced k (set slots i (Some dup))
 placed_put k p i [] dup is at placed = tt
-placed_put k p zero (None ∷ slots) dup is at placed = (omega arith, placed)
+placed_put k p zero (s ∷ slots) dup is at placed = (omega arith, behind k s slots placed)
 placed_put k p (suc i) (None ∷ slots) dup is at placed = placed_put _ p i slots dup (omega arith) at placed
-placed_put k p zero (Some d ∷ slots) dup is at placed = (omega arith, placed.1)
 placed_put k p (suc i) (Some d ∷ slots) dup is at placed = (placed.0, placed_put _ p i slots dup (omega arith) at placed.1)
 
 -- dups stand at the places of their slots once one slot is emptied
 pub placed_emptied : (k i : ℕ) (slots : List (Option Dup)) → ArePlaced k slots → ArePlaced k (set slots i None)
 placed_emptied k i [] placed = tt
-placed_emptied k zero (None ∷ slots) placed = placed
+placed_emptied k zero (s ∷ slots) placed = behind k s slots placed
 placed_emptied k (suc i) (None ∷ slots) placed = placed_emptied _ i slots placed
-placed_emptied k zero (Some d ∷ slots) placed = placed.1
 placed_emptied k (suc i) (Some d ∷ slots) placed = (placed.0, placed_emptied _ i slots placed.1)
 
 -- the dups that are found where no slot below place k + i passes
@@ -91,43 +90,39 @@ NoneBefore test slots i = (j : ℕ) → j < i → test (get_or slots j None) ≡
 -- where the slot of a place is the first one with a stale dup, the first stale dup stands there
 stale_at : (k i : ℕ) (slots : List (Option Dup)) → ArePlaced k slots → NoneBefore is_stale_slot slots i → is_stale_slot (get_or slots i None) ≡ true → option_map (λ d. d.row.place) (find is_stale (present slots)) ≡ Some (k + i)
 stale_at k i [] placed before here = grind arith
-stale_at k zero (None ∷ slots) placed before here = grind arith
-stale_at k (suc i) (None ∷ slots) placed before here =
-    stale_at _ i slots placed (λ j less. before (suc j) (omega arith)) here ∙ ap Some (omega arith)
-stale_at k zero (Some d ∷ slots) placed before here = grind (arith, here)
-stale_at k (suc i) (Some d ∷ slots) placed before here =
-    let rest = stale_at (suc k) i slots placed.1 (λ j less. before (suc j) (omega arith)) here in
+stale_at k zero (s ∷ slots) placed before here = grind arith
+stale_at k (suc i) (s ∷ slots) placed before here =
+    let rest = stale_at (suc k) i slots (behind k s slots placed) (λ j less. before (suc j) (omega arith)) here in
     grind (arith, before 0 (omega arith), rest)
 
 -- where no slot has a stale dup, there is none
 stale_nowhere : (slots : List (Option Dup)) → NoneBefore is_stale_slot slots (length slots) → find is_stale (present slots) ≡ None
 stale_nowhere [] none = refl
-stale_nowhere (None ∷ slots) none = stale_nowhere slots (λ j less. none (suc j) (omega arith))
-stale_nowhere (Some d ∷ slots) none =
+stale_nowhere (s ∷ slots) none =
     grind (arith, none 0 (omega arith), stale_nowhere slots (λ j less. none (suc j) (omega arith)))
 
 -- where the dups stand behind place j, it is the least that no dup has
 empty_before : (j k : ℕ) (slots : List (Option Dup)) → j < k → ArePlaced k slots → empty_from j (rows_of (present slots)) ≡ j
 empty_before j k [] before placed = refl
-empty_before j k (None ∷ slots) before placed = empty_before j _ slots (omega arith) placed
-empty_before j k (Some d ∷ slots) before placed = grind (arith, nat_tests)
+empty_before j k (s ∷ slots) before placed =
+    grind (arith, nat_tests, empty_before j (suc k) slots (omega arith) (behind k s slots placed))
 
 -- the first empty slot is that of the least place that no dup has
 empty_at : (k i : ℕ) (slots : List (Option Dup)) → ArePlaced k slots → NoneBefore is_empty_slot slots i → is_empty_slot (get_or slots i None) ≡ true → i < length slots → empty_from k (rows_of (present slots)) ≡ k + i
 empty_at k i [] placed before here within = absurd (omega arith)
-empty_at k zero (None ∷ slots) placed before here within = empty_before k _ slots (omega arith) placed ∙ omega arith
-empty_at k (suc i) (None ∷ slots) placed before here within = grind (arith, before 0 (omega arith))
-empty_at k zero (Some d ∷ slots) placed before here within = grind arith
-empty_at k (suc i) (Some d ∷ slots) placed before here within =
-    let rest = empty_at (suc k) i slots placed.1 (λ j less. before (suc j) (omega arith)) here (omega arith) in
-    grind (arith, nat_tests, rest)
+empty_at k zero (s ∷ slots) placed before here within =
+    grind (arith, empty_before k (suc k) slots (omega arith) (behind k s slots placed))
+empty_at k (suc i) (s ∷ slots) placed before here within =
+    let rest = empty_at (suc k) i slots (behind k s slots placed)
+    (λ j less. before (suc j) (omega arith)) here (omega arith) in
+    grind (arith, nat_tests, before 0 (omega arith), rest)
 
 -- where no slot is empty, no dup has the place behind them
 empty_nowhere : (k : ℕ) (slots : List (Option Dup)) → ArePlaced k slots → NoneBefore is_empty_slot slots (length slots) → empty_from k (rows_of (present slots)) ≡ k + length slots
 empty_nowhere k [] placed none = omega arith
-empty_nowhere k (None ∷ slots) placed none = grind (arith, none 0 (omega arith))
-empty_nowhere k (Some d ∷ slots) placed none =
-    grind (arith, nat_tests, empty_nowhere _ slots placed.1 (λ j less. none (suc j) (omega arith)))
+empty_nowhere k (s ∷ slots) placed none =
+    let rest = empty_nowhere (suc k) slots (behind k s slots placed) (λ j less. none (suc j) (omega arith)) in
+    grind (arith, nat_tests, none 0 (omega arith), rest)
 
 -- what the least place of a set may be
 abbrev FoundLeast : CountedSet → List (Option Dup) → Option ℕ → Type 0
@@ -211,18 +206,17 @@ module _ (p : ℕ) (slots : List (Option Dup)) (counts : List ℕ) (empty stale 
 
   -- the slots are right once the items of one dup changed, and its place is marked as stale or not
   pub slots_marked : (n : ℕ) {stale' : CountedSet} {b : Bool} → n ≡ length (change d.items) → (length (change d.items) == 0) ≡ b → IsMarked stale stale' p b → AreSlots (set slots p (Some changed)) (set counts p n) empty stale'
-  slots_marked n {stale'} is here marked =
-      slots_changed is (set_marked _ _ p _ within (rw here marked) h.stales)
+  slots_marked n is here marked = slots_changed is (set_marked _ _ p _ within (rw here marked) h.stales)
 
   -- the slots are right once the items of one dup changed, which is stale if it was
   pub slots_kept : {n : ℕ} → n ≡ length (change d.items) → (length (change d.items) == 0) ≡ is_stale d → AreSlots (set slots p (Some changed)) (set counts p n) empty stale
-  slots_kept {n} is same =
-      slots_changed is (set_kept _ _ p _ within (same ∙ sym (ap is_stale_slot filled)) h.stales)
+  slots_kept is same = slots_changed is (set_kept _ _ p _ within (grind arith) h.stales)
 
   -- a change that leaves the items as they are leaves the slots so
   pub slots_same : change d.items ≡ d.items → AreSlots (set slots p (Some changed)) counts empty stale
   slots_same same =
-      rw (ap (set slots p) ((λ i. Some (record d { items = same i })) ∙ sym filled) ∙ set-get_or slots p _) h
+      let whole : set slots p (Some changed) ≡ slots = grind (arith, set-get_or slots p None) in
+      rw whole h
 
 -- a dup that got an item is not stale
 pub grown_not_stale : (page : GuestPage) (pages : List GuestPage) → (length (with_item page pages) == 0) ≡ false

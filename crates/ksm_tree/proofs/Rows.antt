@@ -1,5 +1,5 @@
 -- Dup rows in the order of their places: what a new row and a row that goes change of what is found.
-use Rattle.ksm_tree.proofs.Names.{[], All, All-filter, All-tail, ap, arith, Bool, DupRow, false, filter, find, find-append, find_all, find_nothing, find_over, find_passes, get_or, group_places, if◌then◌else◌, in_group, InPlaceOrder, List, nat_lt, nat_tests, None, not, option_map, refl, row_place, Some, sym, true, with_dup, with_place, without, ℕ, ◌&&◌, ◌<◌, ◌==◌, ◌∙◌, ◌∷◌, ◌≡◌}
+use Rattle.ksm_tree.proofs.Names.{[], All, All-filter, ap, arith, Bool, DupRow, false, filter, find, find-append, find_all, find_nothing, find_over, find_passes, get_or, group_places, if◌then◌else◌, in_group, InPlaceOrder, List, nat_lt, nat_tests, None, not, option_map, refl, row_place, Some, suc, sym, true, with_dup, with_place, without, ℕ, ◌&&◌, ◌<◌, ◌==◌, ◌∙◌, ◌∷◌, ◌≡◌}
 use Rattle.ksm_tree.proofs.Alike.{chosen, kept_append}
 use Rattle.ksm_base.proofs.Orders.{above, below, dups_parted, elsewhere, Lower, one_of_each, one_of_each_place}
 
@@ -10,8 +10,7 @@ numbered q r = r.number == q
 pub group_unlike : (p : ℕ) (t : ℕ) (b : List ℕ) (rows : List DupRow) → All (λ r. (r.place == p && in_group t b r) ≡ false) rows → without p (group_places t b rows) ≡ group_places t b rows
 group_unlike p t b [] none = refl
 group_unlike p t b (r ∷ rows) none =
-    let rest = group_unlike p t b rows (All-tail (λ s. (s.place == p && in_group t b s) ≡ false) r _ none) in
-    grind (arith, none 0 r (omega arith), rest)
+    grind (arith, none 0 r (omega arith), group_unlike p t b rows (λ k d lt. none (suc k) d (omega arith)))
 
 -- a new row of a group adds its place to the places of the group
 pub group_joined : (t : ℕ) (b : List ℕ) (row : DupRow) (rows : List DupRow) → in_group t b row ≡ true → group_places t b (with_dup row rows) ≡ with_place row.place (group_places t b rows)
@@ -67,7 +66,7 @@ only_one p rows e rise found k d lt =
     let at = find_passes (λ r. r.place == p) rows e found in
     let alone = found_alone (λ r. r.place == p) rows e rise found in
     let is : (r.place == p) ≡ true → r ≡ e = λ here. alone.0 k d lt (grind (arith, nat_tests, at, here)) in
-    grind (arith, nat_tests, lt, at, alone, is)
+    grind (arith, nat_tests, at, alone, is)
 
 -- the row of a number is the only one of its number, and the only one at its place
 abbrev pub IsThat : ℕ → DupRow → DupRow → Type 0
@@ -84,7 +83,7 @@ only_number q rows {e} rise found k d lt =
 left : (p q : ℕ) (e : DupRow) (rows : List DupRow) → All (IsOne p e) rows → row_place q (filter (elsewhere p) rows) ≡ (if q == e.number then None else row_place q rows)
 left p q e [] only = grind arith
 left p q e (r ∷ rows) only =
-    grind (arith, nat_tests, (only 0 r (omega arith)).0, left p q e rows (All-tail (IsOne p e) r _ only))
+    grind (arith, nat_tests, (only 0 r (omega arith)).0, left p q e rows (λ k d lt. only (suc k) d (omega arith)))
 
 -- once the dup at a place goes, its number has no place, and each other number has the place it had
 pub place_gone : (p q : ℕ) (rows : List DupRow) {e : DupRow} → InPlaceOrder rows → find (λ r. r.place == p) rows ≡ Some e → row_place q (filter (elsewhere p) rows) ≡ (if q == e.number then None else row_place q rows)

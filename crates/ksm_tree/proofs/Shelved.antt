@@ -13,13 +13,6 @@ read_by k p i [] dups is within = absurd (omega arith)
 read_by k p zero (key ∷ keys) dups is within = ap (λ q. kept_at q (get dups key)) (omega arith)
 read_by k p (suc i) (key ∷ keys) dups is within = read_by _ p i keys _ (omega arith) (omega arith)
 
--- a dup is at the place that its row tells, and at no other
-pub at_here : {p : ℕ} (kept : Kept) → kept.dup.row.place ≡ p → kept_at p (Some kept) ≡ Some kept.dup
-at_here kept is = grind (arith, nat_tests)
-
-pub at_other : (p : ℕ) (kept : Kept) → (kept.dup.row.place ≡ p → ⊥) → kept_at p (Some kept) ≡ None
-at_other p kept apart = grind (arith, nat_tests)
-
 -- what is at a place by its key, where one key changed what lies under it, and that is of no other place
 one_by : (q n : ℕ) {key : ℕ} {old new : Slab Kept} {slot : Option Kept} → Fills old new key slot → kept_at q slot ≡ kept_at q (get old key) → kept_at q (get new n) ≡ kept_at q (get old n)
 one_by q n {key} {old} {new} fills same = grind (arith, fills, same)
@@ -61,7 +54,8 @@ module _ (p : ℕ) (keys : List ℕ) (dups : Slab Kept) {s : ShelfState} (view :
   filled_key filled = grind (arith, seen_past)
 
   -- the dup under the key of a place that holds one is of that place
-  pub lies_there : {key : ℕ} → key ≡ get_or keys p 0 → is_some (get_or s.slots p None) ≡ true → (kept : Kept) × (get dups key ≡ Some kept) × (kept.dup.row.place ≡ p)
+  pub lies_there : {key : ℕ} → key ≡ get_or keys p 0 → is_some (get_or s.slots p None) ≡ true
+      → (kept : Kept) × (get dups key ≡ Some kept) × (kept.dup.row.place ≡ p)
   lies_there {key} read filled = there p _ (ap is_some (seen_by (filled_key filled) read) ∙ filled)
 
   -- a key read of a place that holds a dup

@@ -1,7 +1,7 @@
 -- What a change of one group makes of the chains and of the pages that wait.
 use Rattle.ksm_tree.proofs.Names.{[], ap, AreGroups, AreNumbered, arith, BTreeMap, bytes_eq, bytes_eq-Decides, cases_Bool, chain_in, Content, content_in, content_of, content_order, filter_map, ForSome, get, get_or, Group, Groups, GuestPage, if◌then◌else◌, inl, inr, is_at, is_some, IsIdle, IsUnused, List, nat_tests, None, number_of, Numbers, Option, option_map, places_in, refl, Slab, Some, suc, sym, true, under, Updates, Updates-with_value, waiting_in, waiting_page, waits_in, with_value, zero, ℕ, ◌&&◌, ◌==◌, ◌∙◌, ◌∷◌, ◌≡◌, ◌≢◌, ◌≤◌}
 use Rattle.slab.specs.Slab.{Updates as Fills}
-use Rattle.ksm_tree.proofs.Numbering.{Stands, entered, forgotten, full, its_number, same_content}
+use Rattle.ksm_tree.proofs.Numbering.{Stands, entered, forgotten, its_number, same_content}
 
 -- ---------------------------------------------------------------- what stands under the number of each content
 
@@ -15,21 +15,19 @@ are_one t u b c same = grind (arith, nat_tests, (bytes_eq-Decides b c).1)
 -- where what stands under the number of a content has changed, it has changed at that content alone
 module _ {X : Type 0} (none : X) (numbers : Numbers) (stands : ℕ → Option Content) (are : AreNumbered numbers stands) (old : ℕ → X) (tree : ℕ) (bytes : List ℕ) (change : X → X) where
   -- a change of what stands under a content's number changes what stands under that content alone
-  pub under_moved : (new : ℕ → X) {number : ℕ} → number_of tree bytes numbers ≡ Some number → ((n : ℕ) → new n ≡ (if n == number then change (old n) else old n))
+  pub under_moved : (new : ℕ → X) {number : ℕ} → number_of tree bytes numbers ≡ Some number
+      → ((n : ℕ) → new n ≡ (if n == number then change (old n) else old n))
       → (t : ℕ) (b : List ℕ) → under none new (number_of t b numbers) ≡ (if t == tree && bytes_eq b bytes then change (under none old (number_of t b numbers)) else under none old (number_of t b numbers))
-  under_moved new {number} is moved t b = by (number_of t b numbers) refl
-    where
-      by : (o : Option ℕ) → number_of t b numbers ≡ o → under none new o ≡ (if t == tree && bytes_eq b bytes then change (under none old o) else under none old o)
-      by None absent = grind (arith, is_one t tree b bytes)
-      by (Some n) found =
-          let here = (are (content_of t b) n).0 found in
-          let there = (are (content_of tree bytes) number).0 is in
-          grind (arith, nat_tests, moved n, is_one t tree b bytes, are_one t tree b bytes, here, there)
+  under_moved new {number} is moved t b =
+      let here = λ (n : ℕ). (are (content_of t b) n).0 in
+      let there = (are (content_of tree bytes) number).0 is in
+      grind (arith, nat_tests, moved, is_one t tree b bytes, are_one t tree b bytes, here, there)
 
 -- ---------------------------------------------------------------- the list of the pages that wait
 
 -- two lists whose elements give the same under two maps give the same lists
-pub given_same : {X Y : Type 0} (f g : Option X → Option Y) → f None ≡ None → g None ≡ None → (xs ys : List (Option X)) → ((n : ℕ) → f (get_or xs n None) ≡ g (get_or ys n None)) → filter_map f xs ≡ filter_map g ys
+pub given_same : {X Y : Type 0} (f g : Option X → Option Y) → f None ≡ None → g None ≡ None → (xs ys : List (Option X))
+    → ((n : ℕ) → f (get_or xs n None) ≡ g (get_or ys n None)) → filter_map f xs ≡ filter_map g ys
 given_same f g f_none g_none [] [] same = refl
 given_same f g f_none g_none [] (y ∷ ys) same =
     rw (sym (same 0) ∙ f_none) (given_same f g f_none g_none [] ys (λ n. same (suc n)))
@@ -45,22 +43,16 @@ module _ (t : ℕ) (b : List ℕ) (pass : ℕ) where
   -- where no group is of a content, no page waits for it
   none_waits : (slots : List (Option Group)) → ((n : ℕ) → content_in (get_or slots n None) ≢ Some (content_of t b)) → waiting_page t b (filter_map (waits_in pass) slots) ≡ None
   none_waits [] apart = refl
-  none_waits (None ∷ slots) apart = none_waits slots (λ n. apart (suc n))
-  none_waits (Some g ∷ slots) apart =
-      grind (arith, none_waits slots (λ n. apart (suc n)), apart 0, is_one g.content.tree t g.content.bytes b)
+  none_waits (s ∷ slots) apart = grind (arith, none_waits slots (λ n. apart (suc n)), apart 0, is_one)
 
   -- where one group is, its page waits, if one does there
   one_waits : (slots : List (Option Group)) (n : ℕ) → content_in (get_or slots n None) ≡ Some (content_of t b) → ((m : ℕ) → content_in (get_or slots m None) ≡ Some (content_of t b) → m ≡ n)
       → waiting_page t b (filter_map (waits_in pass) slots) ≡ page_in pass (get_or slots n None)
   one_waits [] n here only = refl
-  one_waits (None ∷ slots) zero here only = grind arith
-  one_waits (None ∷ slots) (suc n) here only = one_waits slots n here (λ m is. omega (arith, only (suc m) is))
-  one_waits (Some g ∷ slots) zero here only =
-      let rest = none_waits slots (λ m is. omega (arith, only (suc m) is)) in
-      grind (arith, are_one g.content.tree t g.content.bytes b, rest)
-  one_waits (Some g ∷ slots) (suc n) here only =
-      let rest = one_waits slots n here (λ m is. omega (arith, only (suc m) is)) in
-      grind (arith, is_one g.content.tree t g.content.bytes b, only 0, rest)
+  one_waits (s ∷ slots) zero here only =
+      grind (arith, are_one, none_waits slots (λ m is. omega (arith, only (suc m) is)))
+  one_waits (s ∷ slots) (suc n) here only =
+      grind (arith, is_one, only 0, one_waits slots n here (λ m is. omega (arith, only (suc m) is)))
 
 -- the page that waits for a tree and bytes is the one that waits in their group
 pub waiting_found : {numbers : Numbers} {groups : Slab Group} {pass : ℕ} → AreGroups numbers groups pass → (t : ℕ) (b : List ℕ)
@@ -68,7 +60,7 @@ pub waiting_found : {numbers : Numbers} {groups : Slab Group} {pass : ℕ} → A
 waiting_found {numbers} {groups} {pass} are t b = by (number_of t b numbers) refl
   where
     by : (o : Option ℕ) → number_of t b numbers ≡ o → waiting_page t b (filter_map (waits_in pass) groups.slots) ≡ under None (λ n. page_in pass (get groups n)) o
-    by None absent = none_waits t b _ _ (λ n is. full n (number_of t b numbers) absent ((are.numbered (content_of t b) n).1 is))
+    by None absent = none_waits t b _ _ (λ n is. grind (arith, (are.numbered (content_of t b) n).1 is))
     by (Some n) found =
         one_waits t b _ _ n ((are.numbered (content_of t b) n).0 found)
         (λ m is. grind (arith, (are.numbered (content_of t b) m).1 is))
@@ -189,7 +181,8 @@ module _ (numbers_old numbers_new : BTreeMap Content ℕ) {pass : ℕ} {old new 
   idle_passes here n = grind (arith, here)
 
   -- the groups are right once one came with a content that had no number
-  pub came_groups : {g : Group} → slot ≡ Some g → g.content ≡ k → g.pass ≤ pass → named ≡ Some number → its_number k numbers_old.entries ≡ None → get old number ≡ None → AreGroups numbers_new.entries new pass
+  pub came_groups : {g : Group} → slot ≡ Some g → g.content ≡ k → g.pass ≤ pass → named ≡ Some number
+      → its_number k numbers_old.entries ≡ None → get old number ≡ None → AreGroups numbers_new.entries new pass
   came_groups {g} is content within name none vacant = record {
     numbered = entered numbers_old numbers_new _ _ k are.numbered none (ap content_in vacant) (rw (← name) updates)
         (rw (← ap content_in is ∙ ap Some content) idle_stands);
@@ -210,7 +203,8 @@ module _ (numbers_old numbers_new : BTreeMap Content ℕ) {pass : ℕ} {old new 
 pub record Entered (g : Groups) (later : Slab Group) (numbers : BTreeMap Content ℕ) : Type 0 where
   pub lawful : AreGroups numbers.entries later g.pass
   pub waiting : filter_map (waits_in g.pass) later.slots ≡ waiting_in g
-  pub chains : (t : ℕ) (b : List ℕ) → under [] (λ n. places_in (get later n)) (number_of t b numbers.entries) ≡ chain_in t b g
+  pub chains : (t : ℕ) (b : List ℕ)
+      → under [] (λ n. places_in (get later n)) (number_of t b numbers.entries) ≡ chain_in t b g
 
 module _ (g : Groups) {kept later : Slab Group} (numbers : BTreeMap Content ℕ) {k : Content} {number : ℕ} (fresh : Group) (room : kept ≡ record g.groups { capacity = kept.capacity }) (none : its_number k g.numbers.entries ≡ None)
     (vacant : get kept number ≡ None) (updates : Updates content_order g.numbers numbers k (Some number)) (fills : Fills kept later number (Some fresh)) (content : fresh.content ≡ k) (idle : fresh.pass ≡ 0) (empty : fresh.places.list.items ≡ []) where

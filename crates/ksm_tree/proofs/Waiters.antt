@@ -1,5 +1,5 @@
 -- The waiting pages beside the rows that wait: what a look-up tells, and what a change of rows does.
-use Rattle.ksm_tree.proofs.Names.{[], All, All-head, All-tail, ap, AreWaiting, arith, Bool, bytes_eq-Decides, cases_Bool, change_row, change_rows, comes_before, cond_both, each_at_page, false, filter, find-append, find_all, find_nothing, get_or, GuestPage, if◌then◌else◌, inl, InPageOrder, inr, is_some, IsAdded, IsAlike, IsStopped, Knobs, List, map, names, nat_tests, None, not, Option, option_and_then, option_map, partner, refl, Row, row_at, same_page, same_page_eq, same_page_refl, Some, sym, tree_of, true, Waiting, waiting_page, waiting_state, WaitingPage, waits_there, with_row, without_page, ℕ, ◌&&◌, ◌∙◌, ◌∷◌, ◌≡◌}
+use Rattle.ksm_tree.proofs.Names.{[], All, ap, AreWaiting, arith, Bool, bytes_eq-Decides, cases_Bool, change_row, change_rows, comes_before, cond_both, each_at_page, false, filter, find-append, find_all, find_nothing, get_or, GuestPage, if◌then◌else◌, inl, InPageOrder, inr, is_some, IsAdded, IsAlike, IsStopped, Knobs, List, map, names, nat_tests, None, not, Option, option_and_then, option_map, partner, refl, Row, row_at, same_page, same_page_eq, same_page_refl, Some, suc, sym, tree_of, true, Waiting, waiting_page, waiting_state, WaitingPage, waits_there, with_row, without_page, ℕ, ◌&&◌, ◌∙◌, ◌∷◌, ◌≡◌}
 use Rattle.ksm_base.specs.Visit.{waits_for}
 use Rattle.ksm_tree.proofs.Alike.{find_alike}
 use Rattle.ksm_tree.proofs.Keys.{eq_bytes}
@@ -28,7 +28,8 @@ at_without : (page q : GuestPage) (rows : List Row) → row_at q (without_page p
 at_without page q rows = at_chosen _ q rows ∙ grind arith
 
 -- a row inserted is found at its page, and other pages as before
-pub at_inserted : (row : Row) (rows : List Row) (q : GuestPage) → row_at q (with_row row rows) ≡ (if same_page row.page q then Some row else row_at q rows)
+pub at_inserted : (row : Row) (rows : List Row) (q : GuestPage)
+    → row_at q (with_row row rows) ≡ (if same_page row.page q then Some row else row_at q rows)
 at_inserted row rows q =
     find-append _ (filter (λ r. comes_before r.page row.page) rows) _
     ∙ grind (arith, nat_tests, at_chosen (λ p. comes_before p row.page) q rows, at_chosen (comes_before row.page) q)
@@ -37,8 +38,7 @@ at_inserted row rows q =
 pub at_mapped : (f : Row → Row) (q : GuestPage) (rows : List Row) → All (λ r. (f r).page ≡ r.page) rows → row_at q (map f rows) ≡ option_map f (row_at q rows)
 at_mapped f q [] keeps = refl
 at_mapped f q (r ∷ rs) keeps =
-    let rest = at_mapped f q rs (All-tail (λ s. (f s).page ≡ s.page) r rs keeps) in
-    grind (arith, All-head (λ s. (f s).page ≡ s.page) r rs keeps, rest)
+    grind (arith, keeps 0 r (omega arith), at_mapped f q rs (λ k d lt. keeps (suc k) d (omega arith)))
 
 -- ---------------------------------------------------------------- what a look-up tells
 
@@ -150,11 +150,9 @@ module _ (knobs : Knobs) (rows : List Row) (w : List WaitingPage) (are : AreWait
   -- where each row changes into one that waits alike, no waiting page changes
   pub rows_mapped : (f : Row → Row) → All (λ r. IsAlike r (f r)) rows → AreWaiting knobs (map f rows) w
   rows_mapped f alike t b q =
-      are t b q ∙ go _ refl ∙ ap (waits_there knobs t b) (sym (at_mapped f q _ (λ k d lt. (alike k d lt).0)))
-    where
-      go : (o : Option Row) → row_at q rows ≡ o → waits_there knobs t b o ≡ waits_there knobs t b (option_map f o)
-      go None found = refl
-      go (Some r) found = sym (alike_waits knobs t b r (f r) (find_all _ (λ s. IsAlike s (f s)) _ r found alike))
+      let each = λ (r : Row) (found : row_at q rows ≡ Some r). find_all (λ s. same_page s.page q)
+      (λ s. IsAlike s (f s)) _ r found alike in
+      grind (arith, are t b q, each, alike_waits, at_mapped f q rows (λ k d lt. (alike k d lt).0))
 
   -- where some rows change, each into one that waits alike, no waiting page changes
   pub rows_changed : (test : Row → Bool) (f : Row → Row) → All (λ r. test r ≡ true → IsAlike r (f r)) rows → AreWaiting knobs (change_rows test f rows) w
@@ -168,8 +166,7 @@ module _ (knobs : Knobs) (rows : List Row) (w : List WaitingPage) (are : AreWait
 
 -- where no row waits, no page does
 pub none_waiting : (knobs : Knobs) (rows : List Row) → All (λ r. waiting_state r.state ≡ false) rows → AreWaiting knobs rows []
-none_waiting knobs rows none t b q = go _ refl
-  where
-    go : (o : Option Row) → row_at q rows ≡ o → false ≡ waits_there knobs t b o
-    go None found = refl
-    go (Some r) found = rw (find_all _ (λ s. waiting_state s.state ≡ false) _ r found none) refl
+none_waiting knobs rows none t b q =
+    let each = λ (r : Row) (found : row_at q rows ≡ Some r). find_all (λ s. same_page s.page q)
+    (λ s. waiting_state s.state ≡ false) _ r found none in
+    grind (arith, each)
