@@ -60,7 +60,8 @@ slot_emptied k p (suc i) (s ∷ slots) is placed =
 
 -- a change of the items of a slot's dup is seen as that change of the dup at its place
 pub slot_changed : (k p i : ℕ) (slots : List (Option Dup)) {dup : Dup} (f : List GuestPage → List GuestPage) → p ≡ k + i
-    → get_or slots i None ≡ Some dup → ArePlaced k slots → present (set slots i (Some (record dup { items = f dup.items }))) ≡ change_at p f (present slots)
+    → get_or slots i None ≡ Some dup → ArePlaced k slots
+    → present (set slots i (Some (record dup { items = f dup.items }))) ≡ change_at p f (present slots)
 slot_changed k p i [] f is here placed = grind arith
 slot_changed k p zero (s ∷ slots) f is here placed =
     let none = none_at (suc k) p slots (omega arith) (behind k s slots placed) in
@@ -135,31 +136,38 @@ module _ {slots : List (Option Dup)} {counts : List ℕ} {empty stale : CountedS
       let all = empty_nowhere 0 _ h.placed (λ j less. sym (h.empties.each j less) ∙ none j (omega arith) less) in
       grind (arith, nat_tests, all)
   first_empty (Some p) least =
-      let before = λ (j : ℕ) (less : j < p). sym (h.empties.each j (omega (arith, less, least.high_is))) ∙ least.least j (omega arith) less in
+      let before : NoneBefore is_empty_slot slots p =
+      λ j less. grind (arith, least.high_is, h.empties.each j, least.least j) in
       let first = empty_at 0 p _ h.placed before (sym (h.empties.each p least.high_is) ∙ least.there) least.high_is in
       grind (arith, nat_tests, first)
 
   -- the least place in the set of the stale ones is that of the first stale dup
   pub first_stale : (found : Option ℕ) → FoundLeast stale slots found → found ≡ option_map (λ d. d.row.place) (find is_stale (present slots))
   first_stale None none =
-      grind (arith, stale_nowhere _ (λ j less. sym (h.stales.each j less) ∙ none j (omega arith) less))
+      grind (arith, stale_nowhere slots (λ j less. grind (arith, h.stales.each j, none j)))
   first_stale (Some p) least =
-      let before = λ (j : ℕ) (less : j < p). sym (h.stales.each j (omega (arith, less, least.high_is))) ∙ least.least j (omega arith) less in
+      let before : NoneBefore is_stale_slot slots p =
+      λ j less. grind (arith, least.high_is, h.stales.each j, least.least j) in
       sym (stale_at 0 p _ h.placed before (sym (h.stales.each p least.high_is) ∙ least.there) ∙ ap Some (omega arith))
 
--- the counts once a slot changes and its count with it
-counted_set : (p : ℕ) {n : ℕ} (slots : List (Option Dup)) {counts : List ℕ} (s : Option Dup) → counts ≡ map count_in slots → n ≡ count_in s → set counts p n ≡ map count_in (set slots p s)
-counted_set p slots s counted is = grind (arith, map-set)
+-- the slots are right once one changes, its count with it, and the sets follow
+slots_set : (p : ℕ) {n : ℕ} (s : Option Dup) {slots : List (Option Dup)} {counts : List ℕ}
+    {empty stale empty' stale' : CountedSet} → AreSlots slots counts empty stale → n ≡ count_in s
+    → ArePlaced 0 (set slots p s) → IsSetOf is_empty_slot (set slots p s) empty'
+    → IsSetOf is_stale_slot (set slots p s) stale' → AreSlots (set slots p s) (set counts p n) empty' stale'
+slots_set p s h is placed empties stales = record {
+  few = rw length-set h.few;
+  placed = placed;
+  counted = grind (arith, map-set, h.counted);
+  empties = empties;
+  stales = stales;
+}
 
 -- the slots are right once a dup with items is put into one
 pub slots_put : {slots : List (Option Dup)} {counts : List ℕ} {empty stale empty' stale' : CountedSet} (dup : Dup) (n : ℕ) → dup.row.place < length slots → n ≡ length dup.items → is_live dup ≡ true → AreSlots slots counts empty stale → IsMarked empty empty' dup.row.place false → IsMarked stale stale' dup.row.place false → AreSlots (set slots dup.row.place (Some dup)) (set counts dup.row.place n) empty' stale'
-slots_put {slots} dup n within is live h no_more not_stale_now = record {
-  few = rw length-set h.few;
-  placed = placed_put 0 dup.row.place _ slots dup (omega arith) refl h.placed;
-  counted = counted_set _ _ _ h.counted is;
-  empties = set_marked _ _ _ _ within no_more h.empties;
-  stales = set_marked _ _ _ _ within (grind (arith, nat_tests, not_stale_now)) h.stales;
-}
+slots_put {slots} dup n within is live h no_more left =
+    slots_set _ _ h is (placed_put 0 dup.row.place _ slots dup (omega arith) refl h.placed)
+    (set_marked _ _ _ _ within no_more h.empties) (set_marked _ _ _ _ within (grind (arith, nat_tests, left)) h.stales)
 
 -- a dup put into its slot is seen among the others
 pub seen_put : (old new : ShelfState) {state : SlotsState} (dup : Dup) → slots_seen old ≡ state → dup.row.place < state.places → ArePlaced 0 old.slots → new.slots ≡ set old.slots dup.row.place (Some dup) → slots_seen new ≡ record state { dups = with_new dup state.dups; ready = new.ready }
@@ -182,27 +190,19 @@ count_read p slots placed counted read =
 
 -- the slots are right once one is emptied
 pub slots_cleared : {p : ℕ} {slots : List (Option Dup)} {counts : List ℕ} {empty stale empty' stale' : CountedSet} → p < length slots → AreSlots slots counts empty stale → IsMarked empty empty' p true → IsMarked stale stale' p false → AreSlots (set slots p None) (set counts p 0) empty' stale'
-slots_cleared {p} {slots} within h more left = record {
-  few = rw length-set h.few;
-  placed = placed_emptied 0 p slots h.placed;
-  counted = counted_set _ _ _ h.counted refl;
-  empties = set_marked _ _ _ _ within more h.empties;
-  stales = set_marked _ _ _ _ within left h.stales;
-}
+slots_cleared {p} {slots} within h more left =
+    slots_set p None h refl (placed_emptied 0 p slots h.placed)
+    (set_marked _ _ _ _ within more h.empties) (set_marked _ _ _ _ within left h.stales)
 
 module _ (p : ℕ) (slots : List (Option Dup)) (counts : List ℕ) (empty stale : CountedSet) (d : Dup) (change : List GuestPage → List GuestPage) (within : p < length slots) (h : AreSlots slots counts empty stale) (filled : get_or slots p None ≡ Some d) where
   abbrev changed : Dup
   changed = record d { items = change d.items }
 
   slots_changed : {n : ℕ} {stale' : CountedSet} → n ≡ length (change d.items) → IsSetOf is_stale_slot (set slots p (Some changed)) stale' → AreSlots (set slots p (Some changed)) (set counts p n) empty stale'
-  slots_changed {n} is stales = record {
-    few = rw length-set h.few;
-    placed = (let at = find_passes (stands_at p) _ d (slot_found 0 p p slots (omega arith) h.placed ∙ filled) in
-        placed_put 0 p p _ _ (omega arith) (grind (arith, nat_tests, at)) h.placed);
-    counted = counted_set p _ _ h.counted is;
-    empties = set_kept _ _ p _ within (sym (ap is_empty_slot filled)) h.empties;
-    stales = stales;
-  }
+  slots_changed is stales =
+      let at = find_passes (stands_at p) _ d (slot_found 0 p p slots (omega arith) h.placed ∙ filled) in
+      let placed = placed_put 0 p p _ changed (omega arith) (grind (arith, nat_tests, at)) h.placed in
+      slots_set p _ h is placed (set_kept _ _ p _ within (sym (ap is_empty_slot filled)) h.empties) stales
 
   -- the slots are right once the items of one dup changed, and its place is marked as stale or not
   pub slots_marked : (n : ℕ) {stale' : CountedSet} {b : Bool} → n ≡ length (change d.items) → (length (change d.items) == 0) ≡ b → IsMarked stale stale' p b → AreSlots (set slots p (Some changed)) (set counts p n) empty stale'

@@ -91,10 +91,6 @@ guessed g {guess} {group} {tree} bytes stands same_tree same_bytes =
 pub page_waits : (g : Group) {pass : ℕ} → g.pass ≡ pass → page_in pass (Some g) ≡ Some g.page
 page_waits g same = grind (arith, nat_tests)
 
--- in a group whose pass is not the present one nothing waits
-pub waits_still : (g : Group) (pass : ℕ) → g.pass ≢ pass → waits_in pass (Some g) ≡ None
-waits_still g pass apart = grind (arith, nat_tests)
-
 -- in a group whose pass is not the present one no page waits
 pub page_still : (g : Group) (pass : ℕ) → g.pass ≢ pass → page_in pass (Some g) ≡ None
 page_still g pass apart = grind (arith, nat_tests)
@@ -133,8 +129,7 @@ module _ (g : Groups) (number : ℕ) (was now : Group) (stood : Some was ≡ get
   pub rechained : (change : List ℕ → List ℕ) → now.places.list.items ≡ change was.places.list.items → (tree : ℕ) (bytes : List ℕ) → number_of tree bytes g.numbers.entries ≡ Some number
       → (t : ℕ) (b : List ℕ) → under [] (λ n. places_in (get new n)) (number_of t b g.numbers.entries) ≡ (if t == tree && bytes_eq b bytes then change (chain_in t b g) else chain_in t b g)
   rechained change is tree bytes named =
-      under_moved [] _ _ g.lawful.numbered _ _ _ change
-      _ named (written_moved places_in change is)
+      under_moved [] _ _ g.lawful.numbered _ _ _ change _ named (written_moved places_in change is)
 
   -- a group written anew tells what waits for its content, and what waits elsewhere stays
   pub repaged : now.pass ≤ g.pass → (tree : ℕ) (bytes : List ℕ) → number_of tree bytes g.numbers.entries ≡ Some number
@@ -150,8 +145,7 @@ module _ (g : Groups) (number : ℕ) (was now : Group) (stood : Some was ≡ get
 
 -- a content without a number has no page that could stop to wait
 pub none_removed : (g : Groups) (tree : ℕ) (bytes : List ℕ) → number_of tree bytes g.numbers.entries ≡ None → (t : ℕ) (b : List ℕ) → waiting_page t b (waiting_in g) ≡ (if t == tree && bytes_eq b bytes then None else waiting_page t b (waiting_in g))
-none_removed g tree bytes none t b =
-    grind (arith, waiting_found g.lawful t b, is_one t tree b bytes)
+none_removed g tree bytes none t b = grind (arith, waiting_found g.lawful t b, is_one t tree b bytes)
 
 -- ---------------------------------------------------------------- a group comes, and one goes
 
@@ -177,16 +171,13 @@ module _ (numbers_old numbers_new : BTreeMap Content ℕ) {pass : ℕ} {old new 
   idle_stands : Stands (λ n. content_in (get old n)) (λ n. content_in (get new n)) number (content_in slot)
   idle_stands = grind (arith, fills)
 
-  idle_passes : ForSome slot (λ g. g.pass ≤ pass) → (n : ℕ) → ForSome (get new n) (λ g. g.pass ≤ pass)
-  idle_passes here n = grind (arith, here)
-
   -- the groups are right once one came with a content that had no number
   pub came_groups : {g : Group} → slot ≡ Some g → g.content ≡ k → g.pass ≤ pass → named ≡ Some number
       → its_number k numbers_old.entries ≡ None → get old number ≡ None → AreGroups numbers_new.entries new pass
   came_groups {g} is content within name none vacant = record {
     numbered = entered numbers_old numbers_new _ _ k are.numbered none (ap content_in vacant) (rw (← name) updates)
         (rw (← ap content_in is ∙ ap Some content) idle_stands);
-    passes = idle_passes (λ h at. grind arith);
+    passes = λ n. grind (arith, fills, are.passes n);
     begun = are.begun;
   }
 
@@ -195,7 +186,7 @@ module _ (numbers_old numbers_new : BTreeMap Content ℕ) {pass : ℕ} {old new 
   gone_groups stood content is name = record {
     numbered = forgotten numbers_old numbers_new _ _ k are.numbered (ap content_in (sym stood) ∙ ap Some content)
         (rw (← name) updates) (rw (← ap content_in is) idle_stands);
-    passes = idle_passes (λ h at. grind arith);
+    passes = λ n. grind (arith, fills, are.passes n);
     begun = are.begun;
   }
 
@@ -215,7 +206,7 @@ module _ (g : Groups) {kept later : Slab Group} (numbers : BTreeMap Content ℕ)
   was_idle = grind arith
 
   now_idle : IsIdle g.pass (Some fresh)
-  now_idle = (empty, waits_still fresh _ (λ same. omega arith))
+  now_idle = grind (arith, nat_tests, g.lawful.begun)
 
   -- a group in which nothing stands comes into the room that was made for it
   pub entered_fresh : Entered g later numbers
@@ -226,6 +217,6 @@ module _ (g : Groups) {kept later : Slab Group} (numbers : BTreeMap Content ℕ)
         ∙ ap (λ s. filter_map (waits_in g.pass) s.slots) room;
     chains = λ t b.
         idle_chains g.numbers numbers are_kept k (Some number) updates fills was_idle now_idle
-        (ap places_in fills.changed ∙ empty ∙ sym (ap (under [] (λ n. places_in (get kept n))) none)) t b
+        (grind (arith, fills.changed)) t b
         ∙ ap (λ s. under [] (λ n. places_in (get s n)) (number_of t b g.numbers.entries)) room;
   }

@@ -1,5 +1,5 @@
 -- The waiting pages beside the rows that wait: what a look-up tells, and what a change of rows does.
-use Rattle.ksm_tree.proofs.Names.{[], All, ap, AreWaiting, arith, Bool, bytes_eq-Decides, cases_Bool, change_row, change_rows, comes_before, cond_both, each_at_page, false, filter, find-append, find_all, find_nothing, get_or, GuestPage, if◌then◌else◌, inl, InPageOrder, inr, is_some, IsAdded, IsAlike, IsStopped, Knobs, List, map, names, nat_tests, None, not, Option, option_and_then, option_map, partner, refl, Row, row_at, same_page, same_page_eq, same_page_refl, Some, suc, sym, tree_of, true, Waiting, waiting_page, waiting_state, WaitingPage, waits_there, with_row, without_page, ℕ, ◌&&◌, ◌∙◌, ◌∷◌, ◌≡◌}
+use Rattle.ksm_tree.proofs.Names.{[], All, AreWaiting, arith, Bool, bytes_eq-Decides, cases_Bool, change_row, change_rows, comes_before, each_at_page, false, filter, find-append, find_all, find_nothing, get_or, GuestPage, if◌then◌else◌, inl, InPageOrder, inr, is_some, IsAdded, IsAlike, IsStopped, Knobs, List, map, names, nat_tests, None, not, Option, option_and_then, option_map, partner, refl, Row, row_at, same_page, same_page_eq, same_page_refl, Some, suc, tree_of, true, Waiting, waiting_page, waiting_state, WaitingPage, waits_there, with_row, without_page, ℕ, ◌&&◌, ◌∙◌, ◌∷◌, ◌≡◌}
 use Rattle.ksm_base.specs.Visit.{waits_for}
 use Rattle.ksm_tree.proofs.Alike.{find_alike}
 use Rattle.ksm_tree.proofs.Keys.{eq_bytes}
@@ -42,10 +42,6 @@ at_mapped f q (r ∷ rs) keeps =
 
 -- ---------------------------------------------------------------- what a look-up tells
 
--- a page that is named is that page alone
-only_one : (o : Option GuestPage) (p q : GuestPage) → names p o ≡ true → same_page p q ≡ false → names q o ≡ false
-only_one o p q here other = grind (arith, nat_tests)
-
 -- a page that a look-up of a tree and bytes finds has a row that waits there
 pub look_up_found : (knobs : Knobs) (rows : List Row) (w : List WaitingPage) (t : ℕ) (b : List ℕ) (page : GuestPage) → AreWaiting knobs rows w
     → waiting_page t b w ≡ Some page → waits_there knobs t b (row_at page rows) ≡ true
@@ -83,69 +79,41 @@ module _ (knobs : Knobs) (rows : List Row) (w : List WaitingPage) (row : Row) (r
             | inr other ↦ rw other (find_alike _ _ _ (λ k d lt. each_waits is k d lt ∙ grind (arith, nat_tests)))
           ]
 
--- ---------------------------------------------------------------- one row
-
--- a change of one page's row, by which the others stay
-edited : (knobs : Knobs) (page : GuestPage) (now : Option Row) (rows changed : List Row) (w new : List WaitingPage)
-    → ((q : GuestPage) → row_at q changed ≡ (if same_page page q then now else row_at q rows))
-    → ((t : ℕ) (b : List ℕ) → names page (waiting_page t b new) ≡ waits_there knobs t b now)
-    → ((t : ℕ) (b : List ℕ) (q : GuestPage) → same_page page q ≡ false → names q (waiting_page t b new) ≡ names q (waiting_page t b w))
-    → AreWaiting knobs rows w → AreWaiting knobs changed new
-edited knobs page now rows changed w new at here others are t b q =
-    grind (arith, nat_tests, at, here, others, are)
-
-module _ (knobs : Knobs) (rows : List Row) (w : List WaitingPage) (are : AreWaiting knobs rows w) where
-  -- whether the page of a row is named is whether it waits there
-  named : (page : GuestPage) {old : Option Row} → row_at page rows ≡ old → (t : ℕ) (b : List ℕ) → names page (waiting_page t b w) ≡ waits_there knobs t b old
-  named page found t b = are t b page ∙ ap (waits_there knobs t b) found
-
-  module _ (new : List WaitingPage) (page : GuestPage) (old : Row) (found : row_at page rows ≡ Some old) (stopped : IsStopped knobs old w new) where
-    stopped_here : (t : ℕ) (b : List ℕ) → names page (waiting_page t b new) ≡ false
-    stopped_here t b = grind (arith, stopped t b)
-
-    stopped_others : (t : ℕ) (b : List ℕ) (q : GuestPage) → same_page page q ≡ false → names q (waiting_page t b new) ≡ names q (waiting_page t b w)
-    stopped_others t b q other =
-        grind (arith, stopped t b, only_one (waiting_page t b w) page q, named page found t b)
-
-    -- the waiting pages are those of the rows, once the row of a page is gone and the page has stopped waiting
-    pub row_dropped : AreWaiting knobs (without_page page rows) new
-    row_dropped = edited knobs _ _ _ _ w new (λ q. at_without _ q _) stopped_here stopped_others are
-
-  -- the waiting pages are those of the rows, once a row waits no more and its page has stopped
-  pub row_stopped : (new : List WaitingPage) (row old : Row) → row_at row.page rows ≡ Some old → waiting_state row.state ≡ false → IsStopped knobs old w new
-      → AreWaiting knobs (change_row row.page (λ _. row) rows) new
-  row_stopped new row old found still stopped =
-      edited knobs _ _ _ _ w new (at_changed row _ found)
-      (λ t b. stopped_here new _ old found stopped t b ∙ rw still refl) (stopped_others new _ old found stopped) are
-
-  -- the waiting pages are those of the rows, once a row waits that did not and its page was added
-  pub row_begun : (new : List WaitingPage) (row old : Row) → row_at row.page rows ≡ Some old → waiting_state old.state ≡ false → row.state ≡ Waiting
-      → waiting_page (tree_of knobs row) row.bytes w ≡ None → IsAdded (tree_of knobs row) row.bytes row.page w new → AreWaiting knobs (change_row row.page (λ _. row) rows) new
-  row_begun new row old found still waits none added =
-      edited knobs _ _ _ _ w new (at_changed row _ found) here others are
-    where
-      here : (t : ℕ) (b : List ℕ) → names row.page (waiting_page t b new) ≡ waits_there knobs t b (Some row)
-      here t b = grind (arith, nat_tests, added t b, same_page_refl row.page, named row.page found t b)
-
-      others : (t : ℕ) (b : List ℕ) (q : GuestPage) → same_page row.page q ≡ false → names q (waiting_page t b new) ≡ names q (waiting_page t b w)
-      others t b q other = grind (arith, nat_tests, added t b, (bytes_eq-Decides b row.bytes).0)
-
-  -- a new row that does not wait changes no waiting page
-  pub row_inserted : (row : Row) → row_at row.page rows ≡ None → waiting_state row.state ≡ false → AreWaiting knobs (with_row row rows) w
-  row_inserted row absent still =
-      edited knobs _ _ _ _ w w (at_inserted row _) (λ t b. named row.page absent t b ∙ rw still refl) (λ t b q other. refl) are
-
--- ---------------------------------------------------------------- all rows
+-- ---------------------------------------------------------------- one row, or all
 
 alike_waits : (knobs : Knobs) (t : ℕ) (b : List ℕ) (old new : Row) → IsAlike old new → waits_there knobs t b (Some new) ≡ waits_there knobs t b (Some old)
 alike_waits knobs t b old new alike = grind (arith, nat_tests)
 
 module _ (knobs : Knobs) (rows : List Row) (w : List WaitingPage) (are : AreWaiting knobs rows w) where
+  -- the waiting pages are those of the rows, once the row of a page is gone and the page has stopped waiting
+  pub row_dropped : (new : List WaitingPage) (page : GuestPage) (old : Row) → row_at page rows ≡ Some old
+      → IsStopped knobs old w new → AreWaiting knobs (without_page page rows) new
+  row_dropped new page old found stopped t b q =
+      grind (arith, nat_tests, at_without page q rows, stopped t b, are t b q, are t b page)
+
+  -- the waiting pages are those of the rows, once a row waits no more and its page has stopped
+  pub row_stopped : (new : List WaitingPage) (row old : Row) → row_at row.page rows ≡ Some old → waiting_state row.state ≡ false → IsStopped knobs old w new
+      → AreWaiting knobs (change_row row.page (λ _. row) rows) new
+  row_stopped new row old found still stopped t b q =
+      grind (arith, nat_tests, at_changed row rows found q, stopped t b, are t b q, are t b row.page)
+
+  -- the waiting pages are those of the rows, once a row waits that did not and its page was added
+  pub row_begun : (new : List WaitingPage) (row old : Row) → row_at row.page rows ≡ Some old → waiting_state old.state ≡ false → row.state ≡ Waiting
+      → waiting_page (tree_of knobs row) row.bytes w ≡ None → IsAdded (tree_of knobs row) row.bytes row.page w new → AreWaiting knobs (change_row row.page (λ _. row) rows) new
+  row_begun new row old found still waits none added t b q =
+      let bytes = (bytes_eq-Decides b row.bytes).0 in
+      let changed = at_changed row rows found q in
+      grind (arith, nat_tests, changed, added t b, bytes, same_page_refl row.page, are t b q, are t b row.page)
+
+  -- a new row that does not wait changes no waiting page
+  pub row_inserted : (row : Row) → row_at row.page rows ≡ None → waiting_state row.state ≡ false → AreWaiting knobs (with_row row rows) w
+  row_inserted row absent still t b q = grind (arith, nat_tests, at_inserted row rows q, are t b q, are t b row.page)
+
   -- a row that changes into one that waits alike changes no waiting page
   pub row_kept : (row old : Row) → row_at row.page rows ≡ Some old → IsAlike old row → AreWaiting knobs (change_row row.page (λ _. row) rows) w
-  row_kept row old found alike =
-      edited knobs _ _ _ _ w w (at_changed row _ found)
-      (λ t b. named knobs rows w are row.page found t b ∙ sym (alike_waits knobs t b old row alike)) (λ t b q other. refl) are
+  row_kept row old found alike t b q =
+      let same = alike_waits knobs t b old row alike in
+      grind (arith, nat_tests, at_changed row rows found q, are t b q, are t b row.page, same)
 
   -- where each row changes into one that waits alike, no waiting page changes
   pub rows_mapped : (f : Row → Row) → All (λ r. IsAlike r (f r)) rows → AreWaiting knobs (map f rows) w
@@ -158,7 +126,7 @@ module _ (knobs : Knobs) (rows : List Row) (w : List WaitingPage) (are : AreWait
   pub rows_changed : (test : Row → Bool) (f : Row → Row) → All (λ r. test r ≡ true → IsAlike r (f r)) rows → AreWaiting knobs (change_rows test f rows) w
   rows_changed test f alike =
       rows_mapped _
-      (λ k d lt. let r = get_or rows k d in cond_both _ _ r (IsAlike r) (alike k d lt) (λ _. (refl, refl, refl, refl)))
+      (λ k d lt. grind (arith, alike k d lt))
 
   -- knobs with the same merge_across_nodes leave the waiting pages those of the rows
   pub knobs_tuned : (tuned : Knobs) → tuned.merge_across_nodes ≡ knobs.merge_across_nodes → AreWaiting tuned rows w
