@@ -60,7 +60,7 @@ pub waiting_found : {numbers : Numbers} {groups : Slab Group} {pass : ℕ} → A
 waiting_found {numbers} {groups} {pass} are t b = by (number_of t b numbers) refl
   where
     by : (o : Option ℕ) → number_of t b numbers ≡ o → waiting_page t b (filter_map (waits_in pass) groups.slots) ≡ under None (λ n. page_in pass (get groups n)) o
-    by None absent = none_waits t b _ _ (λ n is. grind (arith, (are.numbered (content_of t b) n).1 is))
+    by None absent = none_waits t b pass groups.slots (λ n is. grind (arith, (are.numbered (content_of t b) n).1 is))
     by (Some n) found =
         one_waits t b _ _ n ((are.numbered (content_of t b) n).0 found)
         (λ m is. grind (arith, (are.numbered (content_of t b) m).1 is))

@@ -24,7 +24,7 @@ pub add-requires-clause-fresh : goal.add-requires-clause-fresh
 add-requires-clause-fresh c = search (rules, next_unused, roomy)
 
 pub add-requires-clause-counted : goal.add-requires-clause-counted
-add-requires-clause-counted c = search (rules, roomy, told)
+add-requires-clause-counted c = search (rules, told)
 
 pub replace-requires : goal.replace-requires
 replace-requires c =
@@ -35,13 +35,9 @@ replace-requires c =
 pub invariant_of-self-2 : goal.invariant_of-self-2
 invariant_of-self-2 c =
     let here = (goal.at.invariant_of-self-2 c).After-reserve in
-    let s = c.reserve.new.self in
-    let next = c.self.inside.next in
-    let index = c.self.inside.index in
-    let dup : Dup = record { row = record { number = next; place = c.args.place; tree = c.args.tree; bytes = c.args.bytes.now }; items = c.in_ok-items.items } in
     elim c.match-old.branch [
-      | in-Some w ↦ rw (c.put.ensures, w.self-inside-is) (taken_indexed w.replace.new.self dup (roomy here) refl (within here) _ w.in-Some.old.now w.in-Some.ensures c.in_ok-add.ensures.entered w.replace.ensures.numbers w.replace.ensures.groups w.replace.ensures.totals)
-      | in-None w ↦ rw (c.put.ensures, w.self-inside-is) (fresh_indexed c.add.new.self dup (roomy here) refl (within here) _ w.in-None.ensures c.in_ok-add.ensures.entered)
+      | in-Some w ↦ rw (c.put.ensures, w.self-inside-is) (taken_indexed _ _ (roomy here) refl (within here) _ _ w.in-Some.ensures c.in_ok-add.ensures.entered w.replace.ensures.numbers w.replace.ensures.groups w.replace.ensures.totals)
+      | in-None w ↦ rw (c.put.ensures, w.self-inside-is) (fresh_indexed _ _ (roomy here) refl (within here) _ w.in-None.ensures c.in_ok-add.ensures.entered)
     ]
 
 pub returns-clause-made : goal.returns-clause-made

@@ -1,5 +1,5 @@
-use Rattle.ksm_tree.proofs.Names.{arith, Group, if◌then◌else◌, refl, rules, sym}
-use Rattle.ksm_tree.proofs.Standing.{not_unused, page_still, page_waits, repaged, rewritten, stands_under, waits_here}
+use Rattle.ksm_tree.proofs.Names.{arith, Group, nat_tests, refl, rules, sym}
+use Rattle.ksm_tree.proofs.Standing.{not_unused, page_waits, repaged, rewritten, stands_under, waits_here}
 use Rattle.ksm_tree.proofs.groups.Groups.meet.Goals as goal
 
 pub returns-then-group-self-clause-met : goal.returns-then-group-self-clause-met
@@ -20,8 +20,7 @@ invariant_of-self-in-Some c =
     record { lawful = rewritten s _ _ _ c.in-Some.ensures.value refl (omega arith); bounded = s.bounded }
 
 pub returns-else-group-self-clause-met : goal.returns-else-group-self-clause-met
-returns-else-group-self-clause-met c t b is =
-    grind (arith, waits_here c.args.self.now t b is c.in-Some.ensures.value, page_still c.in-Some.group.now _ c.if-group-self.false)
+returns-else-group-self-clause-met c t b is = grind (arith, nat_tests, waits_here c.args.self.now t b is c.in-Some.ensures.value)
 
 pub returns-else-group-self-clause-added : goal.returns-else-group-self-clause-added
 returns-else-group-self-clause-added c t b is t' b' =
@@ -32,7 +31,7 @@ returns-else-group-self-clause-added c t b is t' b' =
 
 pub returns-else-group-self-clause-kept : goal.returns-else-group-self-clause-kept
 returns-else-group-self-clause-kept c t b is waits =
-    grind (arith, waits_here c.args.self.now t b is c.in-Some.ensures.value, page_still c.in-Some.group.now _ c.if-group-self.false)
+    grind (arith, nat_tests, waits_here c.args.self.now t b is c.in-Some.ensures.value)
 
 pub returns-in-None-clause-met : goal.returns-in-None-clause-met
 returns-in-None-clause-met c t b is = absurd (search (rules, stands_under))
