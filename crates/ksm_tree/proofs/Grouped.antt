@@ -1,5 +1,5 @@
 -- The dups of one group, and all others: what each makes of the totals, and what a dup that comes or goes changes of them.
-use Rattle.ksm_tree.proofs.Names.{[], All, All-head, All-tail, All-weaker, and_parts, ap, AreTotals, arith, Bool, bytes_eq, bytes_eq-Decides, cases_Bool, chained_of, chains_of, count-append, count_by, count_by-le-length, count_more, count_none, DupRow, false, filter, filter_all, find, get_or, group_places, group_size, if◌then◌else◌, in_chain, in_group, inl, InPlaceOrder, inr, IsRegrouped, leads_group, length, length-filter, length-map, List, list_all, list_all-append, list_all-from_AllPass, MOST_FRAMES, nat_le, nat_lt, nat_tests, none-some, not, pairs_head, pairs_tail, refl, same_group, same_Some, Some, suc, sym, Tells, Totals, true, with_dup, ℕ, ◌&&◌, ◌++◌, ◌+◌, ◌<◌, ◌==◌, ◌||◌, ◌∙◌, ◌∷◌, ◌≡◌, ◌≤◌}
+use Rattle.ksm_tree.proofs.Names.{[], All, All-head, All-tail, ap, AreTotals, arith, Bool, bytes_eq-Decides, cases_Bool, chained_of, chains_of, count-append, count_by, count_by-le-length, count_more, count_none, DupRow, false, filter, filter_all, find, get_or, group_places, group_size, if◌then◌else◌, in_chain, in_group, inl, InPlaceOrder, inr, IsRegrouped, leads_group, length, length-filter, length-map, List, list_all, list_all-append, list_all-from_AllPass, MOST_FRAMES, nat_le, nat_lt, nat_tests, none-some, not, pairs_head, pairs_tail, refl, same_group, Some, suc, sym, Tells, Totals, true, with_dup, ℕ, ◌&&◌, ◌++◌, ◌+◌, ◌<◌, ◌==◌, ◌||◌, ◌∙◌, ◌∷◌, ◌≡◌, ◌≤◌}
 use Rattle.ksm_tree.proofs.Alike.{count_alike}
 use Rattle.ksm_tree.proofs.Keys.{own_group, self_group}
 use Rattle.ksm_base.proofs.Orders.{dups_parted as rows_parted, Lower}
@@ -13,57 +13,38 @@ pub record IsMore (r : DupRow) (less more : List DupRow) : Type 0 where
 
 more_between : {r : DupRow} (xs ys : List DupRow) → IsMore r (xs ++ ys) (xs ++ r ∷ ys)
 more_between {r} xs ys = record {
-  counts = λ p. (let first = count-append p xs (r ∷ ys) in
-      let second = count-append p xs ys in
-      let more = count_more p r ys in
-      omega (arith, first, second, more));
-  all = λ p. (let first = list_all-append p xs (r ∷ ys) in
-      let second = list_all-append p xs ys in
-      grind (arith, first, second));
+  counts = λ p. omega (arith, count-append p xs (r ∷ ys), count-append p xs ys, count_more p r ys);
+  all = λ p. grind (arith, list_all-append p xs);
 }
 
 -- a new row is one row more than those at other places
 pub more_with : {r : DupRow} (rows : List DupRow) → InPlaceOrder rows → IsMore r (filter (λ e. not (e.place == r.place)) rows) (with_dup r rows)
-more_with {r} rows rise =
-    rw (rows_parted r.place rows rise) (more_between _ _)
+more_with {r} rows rise = rw (rows_parted r.place rows rise) (more_between _ _)
 
 -- the row at a place is one row more than those at other places
 pub more_there : (p : ℕ) (rows : List DupRow) (e : DupRow) → InPlaceOrder rows → find (λ r. r.place == p) rows ≡ Some e → IsMore e (filter (λ r. not (r.place == p)) rows) rows
 more_there p [] e rise found = absurd (none-some e found)
-more_there p (r ∷ rows) e rise found =
-    let first = pairs_head Lower r _ rise in
-    elim (cases_Bool (r.place == p)) [
-      | inl here ↦
-          let same : r ≡ e = same_Some r e (grind (arith, here, found)) in
-          let kept = filter_all (λ s. not (s.place == p)) rows (All-weaker (Lower r) (λ s. not (s.place == p) ≡ true) (λ s h. grind (arith, nat_tests, here)) rows first) in
-          record {
-            counts = λ q. (let more = count_more q r rows in grind (arith, here, kept, same, more));
-            all = λ q. grind (arith, here, kept, same);
-          }
-      | inr away ↦
-          let rest = more_there p rows e (pairs_tail Lower r rows rise) (grind (arith, away, found)) in
-          record {
-            counts = λ q. (let more = count_more q r rows in let less = count_more q r (filter (λ s. not (s.place == p)) rows) in grind (arith, away, more, less));
-            all = λ q. (grind (arith, away));
-          }
-    ]
+more_there p (r ∷ rows) e rise found = elim (cases_Bool (r.place == p)) [
+  | inl here ↦
+      let kept = filter_all (λ s. not (s.place == p)) rows
+      (λ k d lt. grind (arith, nat_tests, pairs_head Lower r _ rise k d lt)) in
+      record { counts = λ q. grind (arith, kept, count_more q r rows); all = λ q. grind (arith, kept) }
+  | inr away ↦
+      let rest = more_there p rows e (pairs_tail Lower r rows rise) (grind arith) in
+      record { counts = λ q. grind (arith, rest.counts q, count_more q r); all = λ q. grind (arith, rest.all q) }
+]
 
 -- ---------------------------------------------------------------- counts by two tests
 
 count_parts : (s p : DupRow → Bool) (rows : List DupRow) → count_by p rows ≡ count_by (λ d. s d && p d) rows + count_by (λ d. not (s d) && p d) rows
 count_parts s p [] = refl
 count_parts s p (r ∷ rows) =
-    let rest = count_parts s p rows in
-    let all = count_more p r rows in
-    let first = count_more (λ d. s d && p d) r rows in
-    let second = count_more (λ d. not (s d) && p d) r rows in
-    grind (arith, rest, all, first, second)
+    let both = count_more (λ d. s d && p d) r rows in
+    grind (arith, count_parts s p rows, count_more p r rows, both, count_more (λ d. not (s d) && p d) r rows)
 
 count_where : (s : DupRow → Bool) (b : Bool) (rows : List DupRow) → count_by (λ d. s d && b) rows ≡ (if b then count_by s rows else 0)
 count_where s b [] = grind arith
-count_where s b (r ∷ rows) =
-    let rest = count_where s b rows in
-    grind (arith, rest)
+count_where s b (r ∷ rows) = grind (arith, count_where s b rows)
 
 -- ---------------------------------------------------------------- one group
 
@@ -73,18 +54,10 @@ module _ (t : ℕ) (b : List ℕ) where
 
   -- a dup of the group has just the group's dups beside it, and another none of them
   group_own : (d e : DupRow) → of_it d ≡ true → same_group d e ≡ of_it e
-  group_own d e inside =
-      let parts = and_parts _ (bytes_eq d.bytes b) inside in
-      let tree : d.tree ≡ t = grind (arith, nat_tests, parts.0) in
-      let bytes : d.bytes ≡ b = (bytes_eq-Decides _ b).0 parts.1 in
-      (λ i. tree i == e.tree && bytes_eq (bytes i) e.bytes) ∙ sym (own_group t b e)
+  group_own d e inside = grind (arith, nat_tests, (bytes_eq-Decides d.bytes b).0, own_group t b e)
 
   group_apart : (d e : DupRow) → of_it d ≡ false → of_it e ≡ true → same_group d e ≡ false
-  group_apart d e outside inside =
-      let parts = and_parts _ (bytes_eq e.bytes b) inside in
-      let tree : e.tree ≡ t = grind (arith, nat_tests, parts.0) in
-      let bytes : e.bytes ≡ b = (bytes_eq-Decides _ b).0 parts.1 in
-      (λ i. d.tree == tree i && bytes_eq d.bytes (bytes i)) ∙ outside
+  group_apart d e outside inside = grind (arith, nat_tests, (bytes_eq-Decides e.bytes b).0)
 
   -- how many dups the group has
   abbrev pub size : List DupRow → ℕ
@@ -118,78 +91,51 @@ module _ (t : ℕ) (b : List ℕ) where
       elim (cases_Bool (of_it r)) [
         | inl inside ↦
             let none = count_none (λ d. of_it d && leads_group (r ∷ rows) d) rows
-            (All-weaker (Lower r) (λ d. (of_it d && leads_group (r ∷ rows) d) ≡ false) (λ d h. let later = h.0 in
-            elim (cases_Bool (of_it d)) [
-              | inl too ↦ let own : same_group d r ≡ true = group_own d r too ∙ inside in grind (arith, nat_tests, own, later)
-              | inr apart ↦ grind (arith, apart)
-            ]) rows first) in
+            (λ k d lt. grind (arith, nat_tests, (first k d lt).0, group_own (get_or rows k d) r)) in
             let behind = list_all-from_AllPass (λ e. not (same_group r e) || nat_le r.place e.place) rows
-            (All-weaker (Lower r) (λ e. (not (same_group r e) || nat_le r.place e.place) ≡ true) (λ e h. let later = h.0 in grind (arith, nat_tests, later)) rows first) in
-            let leader : leads_group (r ∷ rows) r ≡ true = grind (arith, nat_tests, behind) in
-            grind (arith, nat_tests, inside, more, also, none, leader)
+            (λ k d lt. grind (arith, nat_tests, (first k d lt).0)) in
+            grind (arith, nat_tests, more, also, none, behind)
         | inr outside ↦
             let alike = count_alike (λ d. of_it d && leads_group (r ∷ rows) d) (λ d. of_it d && leads_group rows d) rows
-            (λ k e lt. let d = get_or rows k e in elim (cases_Bool (of_it d)) [
-              | inl too ↦ let apart : same_group d r ≡ false = group_own d r too ∙ outside in grind (arith, too, apart)
-              | inr apart ↦ grind (arith, apart)
-            ]) in
-            let rest = one_leads rows (pairs_tail Lower r rows rise) in
-            grind (arith, nat_tests, outside, more, also, alike, rest)
+            (λ k e lt. grind (arith, group_own (get_or rows k e) r)) in
+            grind (arith, nat_tests, more, also, alike, one_leads rows (pairs_tail Lower r rows rise))
       ]
 
   -- the dups in chains are those of a group, if it is a chain, and those of the other groups
   pub dups_parted : (rows : List DupRow) → count_by (in_chain rows) rows ≡ chained_of (size rows) + dups_apart rows
   dups_parted rows =
-      let parts = count_parts of_it (in_chain rows) rows in
       let own = count_alike (λ d. of_it d && in_chain rows d) (λ d. of_it d && nat_lt 1 (size rows)) rows
-      (λ k e lt. let d = get_or rows k e in elim (cases_Bool (of_it d)) [
-        | inl inside ↦ ap (λ n. of_it d && nat_lt 1 n) (own_size rows d inside)
-        | inr outside ↦ grind (arith, outside)
-      ]) in
-      let all = count_where of_it (nat_lt 1 (size rows)) rows in
-      omega (arith, parts, own, all)
+      (λ k e lt. grind (arith, own_size rows (get_or rows k e))) in
+      omega (arith, own, count_parts of_it (in_chain rows) rows, count_where of_it (nat_lt 1 (size rows)) rows)
 
   -- the chains are that of a group, if it is one, and those of the other groups
-  pub chains_parted : (rows : List DupRow) → InPlaceOrder rows → count_by (leads rows) rows ≡ chains_of (size rows) + chains_apart rows
+  pub chains_parted : (rows : List DupRow) → InPlaceOrder rows
+      → count_by (leads rows) rows ≡ chains_of (size rows) + chains_apart rows
   chains_parted rows rise =
-      let parts = count_parts of_it (leads rows) rows in
       let own = count_alike (λ d. of_it d && leads rows d) (λ d. (of_it d && leads_group rows d) && nat_lt 1 (size rows)) rows
-      (λ k e lt. let d = get_or rows k e in elim (cases_Bool (of_it d)) [
-        | inl inside ↦ let n = own_size rows d inside in grind (arith, inside, n)
-        | inr outside ↦ grind (arith, outside)
-      ]) in
+      (λ k e lt. grind (arith, own_size rows (get_or rows k e))) in
       let all = count_where (λ d. of_it d && leads_group rows d) (nat_lt 1 (size rows)) rows in
-      let one = one_leads rows rise in
-      grind (arith, nat_tests, parts, own, all, one)
+      grind (arith, nat_tests, own, all, count_parts of_it (leads rows) rows, one_leads rows rise)
 
   -- another group's row changes nothing of what the others make
   module _ {r : DupRow} {less more : List DupRow} (h : IsMore r less more) (inside : of_it r ≡ true) where
     same_size : (d : DupRow) → of_it d ≡ false → group_size more d ≡ group_size less d
-    same_size d outside = let apart = group_apart d r outside inside in grind (arith, apart)
+    same_size d outside = grind (arith, group_apart d r outside inside)
 
     -- one dup row more in the group changes nothing of the number of other groups' dups that are in chains
     pub dups_kept : dups_apart more ≡ dups_apart less
     dups_kept =
         let alike = count_alike (λ d. not (of_it d) && in_chain more d) (λ d. not (of_it d) && in_chain less d) less
-        (λ k e lt. let d = get_or less k e in elim (cases_Bool (of_it d)) [
-          | inl too ↦ grind (arith, too)
-          | inr outside ↦ ap (λ n. not (of_it d) && nat_lt 1 n) (same_size d outside)
-        ]) in
-        grind (arith, alike, inside)
+        (λ k e lt. grind (arith, same_size (get_or less k e))) in
+        grind (arith, alike)
 
     -- one dup row more in the group changes nothing of the number of other groups' chains
     pub chains_kept : chains_apart more ≡ chains_apart less
     chains_kept =
         let alike = count_alike (λ d. not (of_it d) && leads more d) (λ d. not (of_it d) && leads less d) less
-        (λ k e lt. let d = get_or less k e in elim (cases_Bool (of_it d)) [
-          | inl too ↦ grind (arith, too)
-          | inr outside ↦
-              let n = same_size d outside in
-              let apart = group_apart d r outside inside in
-              let every = h.all (λ e. not (same_group d e) || nat_le d.place e.place) in
-              grind (arith, outside, n, apart, every)
-        ]) in
-        grind (arith, alike, inside)
+        (λ k e lt. let d = get_or less k e in
+        grind (arith, same_size d, group_apart d r, h.all (λ e. not (same_group d e) || nat_le d.place e.place))) in
+        grind (arith, alike)
 
 -- ---------------------------------------------------------------- the totals
 
@@ -197,54 +143,45 @@ module _ (t : ℕ) (b : List ℕ) where
 rows_fit : (k p : ℕ) (rows : List DupRow) → k ≤ p → All (λ r. k ≤ r.place) rows → All (λ r. r.place < p) rows → InPlaceOrder rows → length rows + k ≤ p
 rows_fit k p [] least above below rise = omega arith
 rows_fit k p (r ∷ rows) least above below rise =
-    let here = All-head (λ e. k ≤ e.place) r _ above in
     let under = All-head (λ e. e.place < p) r _ below in
-    let first = pairs_head Lower r _ rise in
-    let rest = rows_fit (suc r.place) p rows (omega (arith, under)) (All-weaker (Lower r) (λ e. suc r.place ≤ e.place) (λ e h. let later = h.0 in omega (arith, later)) rows first) (All-tail (λ e. e.place < p) r rows below) (pairs_tail Lower r rows rise) in
-    omega (arith, rest, here)
+    let rest = rows_fit (suc r.place) p rows
+    (omega arith) (λ k d lt. omega (arith, (pairs_head Lower r _ rise k d lt).0))
+    (All-tail (λ e. e.place < p) r rows below) (pairs_tail Lower r rows rise) in
+    omega (arith, All-head (λ e. k ≤ e.place) r _ above, rest)
 
 -- there are at most as many chains as frames, and as many dups in them
 pub totals_few : (p : ℕ) {rows : List DupRow} {totals : Totals} → p ≤ MOST_FRAMES → All (λ r. r.place < p) rows → InPlaceOrder rows → AreTotals rows totals → (totals.chains ≤ MOST_FRAMES) × (totals.dups ≤ MOST_FRAMES)
 totals_few p {rows} few below rise are =
     let fit = rows_fit 0 p _ (omega arith) (λ k d lt. omega arith) below rise in
-    let dups = count_by-le-length (in_chain rows) rows in
     let chains = count_by-le-length (λ d. in_chain rows d && leads_group rows d) rows in
-    (omega (arith, chains, fit, few), omega (arith, dups, fit, few))
+    (omega (arith, fit, chains), omega (arith, fit, count_by-le-length (in_chain rows) rows))
 
 -- the totals have room for each group as it is
 pub totals_tell : (t : ℕ) (b : List ℕ) (p : ℕ) {rows : List DupRow} {totals : Totals} → p ≤ MOST_FRAMES → All (λ r. r.place < p) rows → InPlaceOrder rows → AreTotals rows totals → Tells (length (group_places t b rows)) totals
 totals_tell t b p {rows} {totals} few below rise are =
-    let n = places_size t b rows in
-    let dups = dups_parted t b rows in
-    let chains = chains_parted t b _ rise in
     let small = totals_few p few below rise are in
     record {
-      chains = rw n (omega (arith, chains));
-      dups = rw n (omega (arith, dups));
+      chains = rw (places_size t b rows) (omega (arith, chains_parted t b _ rise));
+      dups = rw (places_size t b rows) (omega (arith, dups_parted t b rows));
       few = omega (arith, small.0);
       small = omega (arith, small.1);
     }
+
+-- a group's places are regrouped as its dups are
+in_sizes : (t : ℕ) (b : List ℕ) (rows new : List DupRow) {old_totals new_totals : Totals}
+    → IsRegrouped (length (group_places t b rows)) (length (group_places t b new)) old_totals new_totals
+    → IsRegrouped (size t b rows) (size t b new) old_totals new_totals
+in_sizes t b rows new regrouped = rw (← places_size t b rows, ← places_size t b new) regrouped
 
 -- the totals are right once one group alone has changed
 pub totals_moved : (t : ℕ) (b : List ℕ) {rows new : List DupRow} {old_totals new_totals : Totals} → InPlaceOrder rows → InPlaceOrder new → dups_apart t b new ≡ dups_apart t b rows → chains_apart t b new ≡ chains_apart t b rows
     → IsRegrouped (length (group_places t b rows)) (length (group_places t b new)) old_totals new_totals → AreTotals rows old_totals → AreTotals new new_totals
 totals_moved t b {rows} {new} {old_totals} {new_totals} rise new_rise dups chains regrouped are =
-    let r : IsRegrouped (size t b rows) (size t b new) old_totals new_totals = rw (← places_size t b rows, ← places_size t b new) regrouped in
-    let d_old = dups_parted t b rows in
-    let d_new = dups_parted t b new in
-    let c_old = chains_parted t b rows rise in
-    let c_new = chains_parted t b new new_rise in
+    let r = in_sizes t b rows new regrouped in
     record {
-      chains = omega (arith, r.chains, are.chains, c_old, c_new, chains);
-      dups = omega (arith, r.dups, are.dups, d_old, d_new, dups);
+      chains = omega (arith, r.chains, are.chains, chains_parted t b rows rise, chains_parted t b new new_rise);
+      dups = omega (arith, r.dups, are.dups, dups_parted t b rows, dups_parted t b new);
     }
-
--- twice in one group
-regrouped_twice : {a b c : ℕ} {t u v : Totals} → IsRegrouped a b t u → IsRegrouped b c u v → IsRegrouped a c t v
-regrouped_twice first second = record {
-  chains = omega (arith, first.chains, second.chains);
-  dups = omega (arith, first.dups, second.dups);
-}
 
 -- a row in the stead of another: first the one comes, then the other goes
 module _ {old r : DupRow} {less rows new : List DupRow} (there : IsMore old less rows) (here : IsMore r less new)
@@ -257,7 +194,8 @@ module _ {old r : DupRow} {less rows new : List DupRow} (there : IsMore old less
       totals_moved _ _ rise new_rise
       (dups_kept r.tree r.bytes here own ∙ sym (dups_kept r.tree r.bytes there same))
       (chains_kept r.tree r.bytes here own ∙ sym (chains_kept r.tree r.bytes there same))
-      (regrouped_twice first second) are
+      (record { chains = omega (arith, first.chains, second.chains); dups = omega (arith, first.dups, second.dups) })
+      are
 
   -- the totals are right once a dup of another group stands in the stead of one that goes
   pub totals_apart : {t : Totals} (u : Totals) {v : Totals} → in_group r.tree r.bytes old ≡ false
@@ -265,41 +203,52 @@ module _ {old r : DupRow} {less rows new : List DupRow} (there : IsMore old less
       → IsRegrouped (length (group_places old.tree old.bytes rows)) (length (group_places old.tree old.bytes new)) u v → AreTotals rows t → AreTotals new v
   totals_apart {t} u {v} other first second are =
       let also : in_group old.tree old.bytes r ≡ false = sym (own_group r.tree r.bytes old) ∙ other in
-      let from : IsRegrouped (size r.tree r.bytes rows) (size r.tree r.bytes new) t u = rw (← places_size r.tree r.bytes rows, ← places_size r.tree r.bytes new) first in
-      let to : IsRegrouped (size old.tree old.bytes rows) (size old.tree old.bytes new) u v = rw (← places_size old.tree old.bytes rows, ← places_size old.tree old.bytes new) second in
-      let one : size r.tree r.bytes rows ≡ size r.tree r.bytes less = (let h = there.counts (in_group r.tree r.bytes) in grind (arith, h, other)) in
-      let two : size old.tree old.bytes new ≡ size old.tree old.bytes less = (grind (arith, also)) in
-      let d1 = dups_parted old.tree old.bytes rows in
-      let d2 = dups_parted old.tree old.bytes less in
-      let d3 = dups_parted r.tree r.bytes less in
-      let d4 = dups_parted r.tree r.bytes new in
-      let dk = dups_kept old.tree old.bytes there (self_group old) in
-      let dm = dups_kept r.tree r.bytes here (self_group r) in
-      let c1 = chains_parted old.tree old.bytes rows rise in
-      let c2 = chains_parted old.tree old.bytes less less_rise in
-      let c3 = chains_parted r.tree r.bytes less less_rise in
-      let c4 = chains_parted r.tree r.bytes new new_rise in
-      let ck = chains_kept old.tree old.bytes there (self_group old) in
-      let cm = chains_kept r.tree r.bytes here (self_group r) in
-      let same_d1 = ap chained_of one in
-      let same_d2 = ap chained_of two in
-      let same_c1 = ap chains_of one in
-      let same_c2 = ap chains_of two in
+      let from = in_sizes r.tree r.bytes rows new first in
+      let to = in_sizes old.tree old.bytes rows new second in
+      let gone = there.counts (in_group r.tree r.bytes) in
+      let one : size r.tree r.bytes rows ≡ size r.tree r.bytes less = grind (arith, gone) in
+      let two : size old.tree old.bytes new ≡ size old.tree old.bytes less = grind arith in
       record {
-        chains = omega (arith, from.chains, to.chains, are.chains, c1, c2, c3, c4, ck, cm, same_c1, same_c2);
-        dups = omega (arith, from.dups, to.dups, are.dups, d1, d2, d3, d4, dk, dm, same_d1, same_d2);
+        chains = omega (
+          arith,
+          from.chains,
+          to.chains,
+          are.chains,
+          ap chains_of one,
+          ap chains_of two,
+          chains_parted old.tree old.bytes rows rise,
+          chains_parted old.tree old.bytes less less_rise,
+          chains_parted r.tree r.bytes less less_rise,
+          chains_parted r.tree r.bytes new new_rise,
+          chains_kept old.tree old.bytes there (self_group old),
+          chains_kept r.tree r.bytes here (self_group r),
+        );
+        dups = omega (
+          arith,
+          from.dups,
+          to.dups,
+          are.dups,
+          ap chained_of one,
+          ap chained_of two,
+          dups_parted old.tree old.bytes rows,
+          dups_parted old.tree old.bytes less,
+          dups_parted r.tree r.bytes less,
+          dups_parted r.tree r.bytes new,
+          dups_kept old.tree old.bytes there (self_group old),
+          dups_kept r.tree r.bytes here (self_group r),
+        );
       }
 
   -- after a dup came and before another went, the totals tell of a group of any size that they told of
   pub totals_between : {t u : Totals} → IsRegrouped (length (group_places r.tree r.bytes rows)) (length (group_places r.tree r.bytes new)) t u → (n : ℕ) → t.chains ≤ MOST_FRAMES → t.dups ≤ MOST_FRAMES → Tells n t → Tells n u
   totals_between {t} {u} first n few small tells =
-      let from : IsRegrouped (size r.tree r.bytes rows) (size r.tree r.bytes new) t u = rw (← places_size _ _ rows, ← places_size _ _ new) first in
+      let from = in_sizes r.tree r.bytes rows new first in
       let one = there.counts (in_group r.tree r.bytes) in
       let two = here.counts (in_group r.tree r.bytes) in
       let own = self_group r in
       record {
         chains = grind (arith, nat_tests, from.chains, one, two, own, tells.chains);
         dups = grind (arith, nat_tests, from.dups, one, two, own, tells.dups);
-        few = grind (arith, nat_tests, from.chains, few);
-        small = grind (arith, nat_tests, from.dups, one, two, own, small);
+        few = grind (arith, nat_tests, from.chains);
+        small = grind (arith, nat_tests, from.dups, one, two, own);
       }

@@ -1,14 +1,8 @@
 -- The best dup to join: a walk over a group, keeping the better of two, ends at the one that the definition chooses of all.
-use Rattle.ksm_tree.proofs.Names.{[], add-one, All, All-cons, All-filter, All-head, All-map, All-tail, All-weaker, ap, ArePlacesToJoin, arith, best_of, Bool, cases_Bool, cond, drop, drop-cons, Dup, dup_at, DupRow, false, filter, find, get_or, group_places, if◌then◌else◌, in_group, inl, InPlaceOrder, inr, is_no_worse, is_open, items_in, length, List, list_all, map, may_join, nat_le, nat_lt, nat_tests, None, not, of_group, Option, pairs_head, pairs_tail, places_open, refl, rows_of, Some, sym, true, unless_behind, ℕ, ◌%◌, ◌&&◌, ◌+◌, ◌-◌, ◌<◌, ◌==◌, ◌^◌, ◌||◌, ◌∙◌, ◌∷◌, ◌≡◌, ◌≤◌}
+use Rattle.ksm_tree.proofs.Names.{[], add-one, All, All-filter, All-map, ap, ArePlacesToJoin, arith, best_of, Bool, cases_Bool, cond, drop, drop-cons, Dup, dup_at, DupRow, false, filter, find, get_or, group_places, if◌then◌else◌, in_group, inl, InPlaceOrder, inr, is_no_worse, is_open, items_in, length, List, list_all, map, may_join, nat_le, nat_lt, nat_tests, None, not, of_group, Option, pairs_head, pairs_tail, refl, rows_of, Some, suc, sym, true, unless_behind, zero, ℕ, ◌%◌, ◌&&◌, ◌+◌, ◌-◌, ◌<◌, ◌==◌, ◌^◌, ◌||◌, ◌∙◌, ◌∷◌, ◌≡◌, ◌≤◌}
 use Rattle.ksm_tree.proofs.Alike.{filter_mapped, map_mapped}
 use Rattle.ksm_tree.proofs.Changes.{all_rows}
-
--- the order of dups to join
-worse_refl : (d : Dup) → is_no_worse d d ≡ true
-worse_refl d = grind (arith, nat_tests)
-
-worse_total : (d e : Dup) → is_no_worse d e ≡ false → is_no_worse e d ≡ true
-worse_total d e not_first = grind (arith, nat_tests)
+use Rattle.ksm_base.proofs.Orders.{Lower}
 
 -- a walk that keeps the better of two, over dups that pass a test
 module _ (may : Dup → Bool) where
@@ -28,57 +22,26 @@ module _ (may : Dup → Bool) where
 
   -- what a dup is no worse than, another is not that is no worse than that
   through : (e b d : Dup) → may b ≡ true → rival e b ≡ true → rival b d ≡ true → rival e d ≡ true
-  through e b d passes above r = grind (arith, nat_tests, passes, above, r)
-
-  -- of three tests in a row, one that another implies does not matter
-  skip_second : (m a b all : Bool) → (a ≡ true → b ≡ true) → (m && (a && (b && all))) ≡ (m && (a && all))
-  skip_second m a b all implied = grind (arith, implied)
-
-  skip_first : (m a b all : Bool) → (b ≡ true → a ≡ true) → (m && (a && (b && all))) ≡ (m && (b && all))
-  skip_first m a b all implied = grind (arith, implied)
-
-  -- where b is not at the top, no dup is that b is no worse than
-  below : (b d : Dup) (dups : List Dup) → may b ≡ true → rival b d ≡ true → top (b ∷ dups) b ≡ false → top (b ∷ dups) d ≡ false
-  below b d dups first r other =
-      grind (arith, nat_tests, first, r, other)
+  through e b d passes above r = grind (arith, nat_tests)
 
   -- a dup that b is no worse than changes nothing behind b
   passed_by : (b d : Dup) (dups : List Dup) → may b ≡ true → rival b d ≡ true → find (top (b ∷ dups)) (b ∷ dups) ≡ find (top (b ∷ d ∷ dups)) (b ∷ d ∷ dups)
   passed_by b d dups first r =
-      let same : (e : Dup) → top (b ∷ dups) e ≡ top (b ∷ d ∷ dups) e =
-      λ e. sym (skip_second _ _ _ _ (λ above. through e b d first above r)) in
-      let t = top (b ∷ dups) in
-      elim (cases_Bool (t b)) [
-        | inl best ↦ ap (λ c. cond c (Some b) (find t dups)) best ∙ sym (ap (λ c. cond c (Some b) (find t (d ∷ dups))) best)
-        | inr other ↦
-            ap (λ c. cond c (Some b) (find t dups)) other
-            ∙ sym (ap (λ c. cond c (Some b) (find t (d ∷ dups))) other ∙ ap (λ c. cond c (Some d) (find t dups)) (below b d dups first r other))
-      ]
-      ∙ (λ i. find (λ e. same e i) (b ∷ d ∷ dups))
+      let same : (e : Dup) → top (b ∷ dups) e ≡ top (b ∷ d ∷ dups) e = λ e. grind (arith, through e b d first) in
+      let other : top (b ∷ dups) b ≡ false → top (b ∷ dups) d ≡ false = λ fails. grind (arith, nat_tests) in
+      grind (arith, other) ∙ (λ i. find (λ e. same e i) (b ∷ d ∷ dups))
 
   -- a walk from a dup on ends at the best of it and the others
   walk_from : (b : Dup) (dups : List Dup) → may b ≡ true → walked (Some b) dups ≡ find (top (b ∷ dups)) (b ∷ dups)
-  walk_from b [] first = grind (arith, first)
+  walk_from b [] first = grind arith
   walk_from b (d ∷ dups) first =
-      elim (cases_Bool (may d)) [
-        | inl passes ↦ elim (cases_Bool (is_no_worse b d)) [
-          | inl above ↦
-              let stays : kept (Some b) d ≡ Some b = rw (passes, above) refl in
-              ap (λ acc. walked acc dups) stays ∙ walk_from b dups first ∙ passed_by b d _ first (grind (arith, above))
-          | inr worse ↦
-              let goes : kept (Some b) d ≡ Some d = rw (passes, worse) refl in
-              let over : rival d b ≡ true = grind (arith) in
-              let lost : top (b ∷ d ∷ dups) b ≡ false = grind (arith, passes, worse) in
-              let same : (e : Dup) → top (d ∷ dups) e ≡ top (b ∷ d ∷ dups) e =
-              λ e. sym (skip_first _ _ _ _ (λ above. through e d b passes above over)) in
-              ap (λ acc. walked acc dups) goes
-              ∙ walk_from d dups passes
-              ∙ (λ i. find (λ e. same e i) (d ∷ dups))
-              ∙ sym (ap (λ c. cond c (Some b) (find (top (b ∷ d ∷ dups)) (d ∷ dups))) lost)
-        ]
-        | inr fails ↦
-            let stays : kept (Some b) d ≡ Some b = rw fails refl in
-            ap (λ acc. walked acc dups) stays ∙ walk_from b dups first ∙ passed_by b d dups first (grind (arith, fails))
+      elim (cases_Bool (rival b d)) [
+        | inl above ↦ grind (arith, walk_from b dups first) ∙ passed_by b d _ first above
+        | inr worse ↦
+            let passes : may d ≡ true = grind arith in
+            let over = λ (e : Dup). through e d b passes in
+            let same : (e : Dup) → top (d ∷ dups) e ≡ top (b ∷ d ∷ dups) e = λ e. grind (arith, nat_tests, over e) in
+            grind (arith, walk_from d dups passes) ∙ (λ i. find (λ e. same e i) (d ∷ dups)) ∙ grind arith
       ]
 
   -- a walk that keeps the better of two dups ends at the first that may be joined and to which none is better
@@ -88,21 +51,17 @@ module _ (may : Dup → Bool) where
       elim (cases_Bool (may d)) [
         | inl passes ↦ ap (λ b. walked (cond b (Some d) None) dups) passes ∙ walk_from d _ passes
         | inr fails ↦
-            let same : (e : Dup) → top dups e ≡ top (d ∷ dups) e = λ e. sym (ap (λ m. may e && ((not m || is_no_worse e d) && list_all (rival e) dups)) fails) in
-            ap (λ b. walked (cond b (Some d) None) dups) fails
-            ∙ walk_top dups
-            ∙ (λ i. find (λ e. same e i) dups)
-            ∙ sym (ap (λ m. cond (m && list_all (rival d) (d ∷ dups)) (Some d) (find (top (d ∷ dups)) dups)) fails)
+            let same : (e : Dup) → top dups e ≡ top (d ∷ dups) e = λ e. grind arith in
+            grind (arith, walk_top dups) ∙ (λ i. find (λ e. same e i) dups) ∙ grind arith
       ]
 
 -- in dups in order, each dup is what is found at its place
 pub found_self : (dups : List Dup) → InPlaceOrder (rows_of dups) → All (λ d. dup_at d.row.place dups ≡ Some d) dups
-found_self [] rise = λ k d lt. absurd (omega arith)
-found_self (d ∷ dups) rise =
-    let first = pairs_head (λ a b. (a.place < b.place) × ((a.number == b.number) ≡ false)) _ _ rise in
-    let rest = found_self dups (pairs_tail (λ a b. (a.place < b.place) × ((a.number == b.number) ≡ false)) d.row (rows_of dups) rise) in
-    All-cons (λ e. dup_at e.row.place (d ∷ dups) ≡ Some e) d dups (grind (arith, nat_tests))
-    (λ k e lt. let behind = (all_rows (λ r. d.row.place < r.place) dups (All-weaker (λ r. (d.row.place < r.place) × ((d.row.number == r.number) ≡ false)) (λ r. d.row.place < r.place) (λ r h. h.0) (rows_of dups) first)) k e lt in grind (arith, nat_tests, behind))
+found_self [] rise k e lt = absurd (omega arith)
+found_self (d ∷ dups) rise zero e lt = grind (arith, nat_tests)
+found_self (d ∷ dups) rise (suc k) e lt =
+    let behind = all_rows (Lower d.row) dups (pairs_head Lower _ _ rise) k e (omega arith) in
+    grind (arith, nat_tests, behind.0, found_self dups (pairs_tail Lower d.row (rows_of dups) rise) k e (omega arith))
 
 -- a dup that may be joined: it has an item, and fewer than the limit
 abbrev has_room : ℕ → Dup → Bool
@@ -138,92 +97,72 @@ out_of_room items least limit above fits least_fits limit_fits is outside = grin
 
 -- a dup with fewer items than the least, or with the limit or more, leaves the best so far
 pub stepped_over : (limit : ℕ) (acc slot : Option Dup) → (nat_lt (length (items_in slot)) (least_of acc) || nat_le limit (length (items_in slot))) ≡ true → joined limit acc slot ≡ acc
-stepped_over limit acc slot outside = grind (arith, nat_tests, outside)
+stepped_over limit acc slot outside = grind (arith, nat_tests)
 
 -- the dup that is taken, or where there is none the best so far
 abbrev pub or_else : Option Dup → Option Dup → Option Dup
 or_else acc None = acc
 or_else acc (Some d) = Some d
 
--- a dup with room that has as many items as the best so far, or more, is the better of the two, but where it is no more and the number is greater
-better_is : (limit : ℕ) (acc : Option Dup) (d : Dup) {least : ℕ} → least ≡ least_of acc → 1 ≤ least → least ≤ length d.items → length d.items < limit
-    → joined limit acc (Some d) ≡ or_else acc (unless_behind (if length d.items == least then acc else None) (Some d))
-better_is limit acc d is one above below = grind (arith, nat_tests, is, one, above, below)
-
 -- the dup at a place is taken where it is the better one
 pub stepped_to : (t : ℕ) (b : List ℕ) (limit : ℕ) (acc slot : Option Dup) {items least : ℕ} → items ≡ length (items_in slot) → least ≡ least_of acc → 1 ≤ least → least ≤ items → items < limit
     → joined limit acc (of_group t b slot) ≡ or_else acc (unless_behind (if items == least then acc else None) (of_group t b slot))
-stepped_to t b limit acc slot has is one above below = grind (arith, nat_tests, has, is, one, above, below)
+stepped_to t b limit acc slot has is one above below = grind (arith, nat_tests)
 
 -- a dup taken from a slot is the dup in that slot
 pub taken_so : (t : ℕ) (b : List ℕ) (rival slot : Option Dup) {d : Dup} → Some d ≡ unless_behind rival (of_group t b slot) → Some d ≡ slot
-taken_so t b rival slot is = grind (arith, nat_tests, is)
+taken_so t b rival slot is = grind (arith, nat_tests)
 
 -- one place looked at is one step of the fold over places
 pub stepped : (t : ℕ) (b : List ℕ) (limit : ℕ) (dups : List Dup) (acc next : Option Dup) (places : List ℕ) (i : ℕ) → i < length places → joined limit acc (of_group t b (dup_at (get_or places i 0) dups)) ≡ next → folded t b limit dups next (drop (i + 1) places) ≡ folded t b limit dups acc (drop i places)
 stepped t b limit dups acc next places i within is =
     let rest : drop i places ≡ get_or places i 0 ∷ drop (i + 1) places = rw (add-one, drop-cons places i 0) in
-    grind (arith, nat_tests, within, is, rest)
+    grind (arith, nat_tests, rest)
 
 -- a slot that cannot be joined leaves the best as it is
 pub passed_over_so : (t : ℕ) (b : List ℕ) (limit : ℕ) {acc : Option Dup} (slot : Option Dup) → joined limit acc slot ≡ acc → joined limit acc (of_group t b slot) ≡ acc
-passed_over_so t b limit slot over = grind (arith, nat_tests, over)
+passed_over_so t b limit slot over = grind (arith, nat_tests)
 
 -- the places of a group lie below how many there are
 pub places_within : (t : ℕ) (b : List ℕ) (places : ℕ) (rows : List DupRow) → All (λ r. r.place < places) rows → All (λ p. p < places) (group_places t b rows)
 places_within t b places rows below =
     All-map (λ p. p < places) _ _ (All-filter _ (λ r. r.place < places) _ below)
 
--- the places of the open dups are places of the table
-open_within : (limit places : ℕ) (dups : List Dup) → All (λ r. r.place < places) (rows_of dups) → All (λ p. p < places) (places_open limit dups)
-open_within limit places dups below =
-    All-map (λ p. p < places) _ _
-    (All-filter _ (λ d. d.row.place < places) _ (all_rows (λ r. r.place < places) dups below))
-
 -- the places of dups to join are places of the tree
 pub candidates_within : (t : ℕ) (b : List ℕ) (limit places : ℕ) (dups : List Dup) (found : List ℕ) (is_chain : Bool) → All (λ r. r.place < places) (rows_of dups) → ArePlacesToJoin (group_places t b (rows_of dups)) limit dups found is_chain → All (λ p. p < places) found
 candidates_within t b limit places dups found true below group = rw group (places_within t b _ _ below)
-candidates_within t b limit places dups found false below opens = rw opens (open_within _ _ _ below)
+candidates_within t b limit places dups found false below opens = rw opens (All-map (λ p. p < places) _ _
+    (All-filter _ (λ d. d.row.place < places) _ (all_rows (λ r. r.place < places) dups below)))
 
 -- at each place of a group stands a dup of it
 group_found : (t : ℕ) (b : List ℕ) (all dups : List Dup) → All (λ d. dup_at d.row.place all ≡ Some d) dups → All (λ p. of_group t b (dup_at p all) ≡ dup_at p all) (group_places t b (rows_of dups))
 group_found t b all [] found = λ k d lt. absurd (omega arith)
 group_found t b all (d ∷ dups) found =
-    let here = All-head (λ e. dup_at e.row.place all ≡ Some e) d _ found in
-    let rest = group_found t b all dups (All-tail (λ e. dup_at e.row.place all ≡ Some e) d _ found) in
-    grind (arith, nat_tests, found, here, rest)
+    let rest = group_found t b all dups (λ k e lt. found (suc k) e (omega arith)) in
+    grind (arith, nat_tests, found 0 d (omega arith), rest)
 
 -- a dup of the chain needs no comparison: its place is one of the group
 pub candidate_is : (t : ℕ) (b : List ℕ) (limit : ℕ) (dups : List Dup) (found : List ℕ) (is_chain : Bool) (i : ℕ) → InPlaceOrder (rows_of dups) → ArePlacesToJoin (group_places t b (rows_of dups)) limit dups found is_chain → i < length found
     → (if is_chain then dup_at (get_or found i 0) dups else of_group t b (dup_at (get_or found i 0) dups)) ≡ of_group t b (dup_at (get_or found i 0) dups)
 candidate_is t b limit dups found true i rise group within =
-    let each : All (λ p. of_group t b (dup_at p dups) ≡ dup_at p dups) found = rw group (group_found t b _ _ (found_self _ rise)) in
-    sym (each i 0 within)
+    let each = group_found t b _ _ (found_self _ rise) in
+    rw group (sym (each i 0 (rw (← group) within)))
 candidate_is t b limit dups found false i rise opens within = refl
 
 kept_so : (t : ℕ) (b : List ℕ) (limit : ℕ) (acc : Option Dup) (d : Dup) → joined limit acc (of_group t b (Some d)) ≡ kept (may_join t b limit) acc d
 kept_so t b limit acc d = grind (arith, nat_tests)
 
 passed_group : (t : ℕ) (b : List ℕ) (limit : ℕ) (acc : Option Dup) (d : Dup) → may_join t b limit d ≡ false → acc ≡ kept (may_join t b limit) acc d
-passed_group t b limit acc d fails = grind (arith, nat_tests, fails)
+passed_group t b limit acc d fails = grind (arith, nat_tests)
 
 -- a walk over the places of those dups that pass a test, which all that may be joined pass
 module _ (t : ℕ) (b : List ℕ) (limit : ℕ) (test : Dup → Bool) (passes : (d : Dup) → test d ≡ false → may_join t b limit d ≡ false) where
   fold_passing : (all dups : List Dup) (acc : Option Dup) → All (λ d. dup_at d.row.place all ≡ Some d) dups → folded t b limit all acc (map (λ d. d.row.place) (filter test dups)) ≡ walked (may_join t b limit) acc dups
   fold_passing all [] acc found = refl
   fold_passing all (d ∷ dups) acc found =
-      let here = All-head (λ e. dup_at e.row.place all ≡ Some e) d _ found in
-      let rest = All-tail (λ e. dup_at e.row.place all ≡ Some e) d _ found in
-      let left = map (λ d. d.row.place) (filter test dups) in
-      elim (cases_Bool (test d)) [
-        | inl inside ↦
-            rw inside (ap (λ v. folded t b limit all (joined limit acc (of_group t b v)) left) here
-            ∙ ap (λ v. folded t b limit all v left) (kept_so t b _ acc d)
-            ∙ fold_passing all dups (kept (may_join t b limit) acc d) rest)
-        | inr outside ↦
-            rw outside (ap (λ v. folded t b limit all v left) (passed_group t b limit acc d (passes d outside))
-            ∙ fold_passing all dups (kept (may_join t b limit) acc d) rest)
-      ]
+      let here = found 0 d (omega arith) in
+      let rest = fold_passing all dups (kept (may_join t b limit) acc d) (λ k e lt. found (suc k) e (omega arith)) in
+      grind (arith, here, rest, kept_so t b limit acc d, passed_group t b limit acc d, passes d)
 
 group_of_dups : (t : ℕ) (b : List ℕ) (dups : List Dup) → group_places t b (rows_of dups) ≡ map (λ d. d.row.place) (filter (λ d. in_group t b d.row) dups)
 group_of_dups t b dups =
@@ -242,15 +181,11 @@ folded_best t b limit dups found false rise opens =
     ∙ walk_top (may_join t b limit) dups
 
 -- where none of the dups at some places is open, a walk over these finds none
-not_joined : (limit : ℕ) (slot : Option Dup) → is_open limit (length (items_in slot)) ≡ false → joined limit None slot ≡ None
-not_joined limit slot closed = grind (arith, nat_tests, closed)
-
 none_folded : (t : ℕ) (b : List ℕ) (limit : ℕ) (dups : List Dup) (places : List ℕ) → All (λ p. is_open limit (length (items_in (dup_at p dups))) ≡ false) places → folded t b limit dups None places ≡ None
 none_folded t b limit dups [] closed = refl
 none_folded t b limit dups (p ∷ places) closed =
-    let here = not_joined _ (dup_at p dups) (closed 0 0 (omega arith)) in
-    ap (λ acc. folded t b limit dups acc places) (passed_over_so t b _ _ here)
-    ∙ none_folded t b _ _ places (All-tail (λ q. is_open limit (length (items_in (dup_at q dups))) ≡ false) p places closed)
+    let rest = none_folded t b limit dups places (λ k q lt. closed (suc k) q (omega arith)) in
+    grind (arith, nat_tests, closed 0 0 (omega arith), rest)
 
 -- where none of the dups at the places of a tree and bytes is open, none is best
 pub closed_best : (t : ℕ) (b : List ℕ) (limit : ℕ) (dups : List Dup) {places : List ℕ} → InPlaceOrder (rows_of dups) → places ≡ group_places t b (rows_of dups) → All (λ p. is_open limit (length (items_in (dup_at p dups))) ≡ false) places → best_of t b limit dups ≡ None

@@ -1,5 +1,5 @@
 -- Dup rows in the order of their places: what a new row and a row that goes change of what is found.
-use Rattle.ksm_tree.proofs.Names.{[], All, All-filter, All-head, All-tail, All-weaker, ap, arith, Bool, cond, DupRow, false, filter, find, find-append, find_all, find_nothing, find_over, find_passes, get_or, group_places, if◌then◌else◌, in_group, InPlaceOrder, List, nat_lt, nat_tests, ne_eqb, None, not, option_map, option_or, refl, row_place, Some, sym, true, with_dup, with_place, without, ℕ, ◌&&◌, ◌++◌, ◌<◌, ◌==◌, ◌∙◌, ◌∷◌, ◌≡◌}
+use Rattle.ksm_tree.proofs.Names.{[], All, All-filter, ap, arith, Bool, DupRow, false, filter, find, find-append, find_all, find_nothing, find_over, find_passes, get_or, group_places, if◌then◌else◌, in_group, InPlaceOrder, List, nat_lt, nat_tests, None, not, option_map, refl, row_place, Some, suc, sym, true, with_dup, with_place, without, ℕ, ◌&&◌, ◌<◌, ◌==◌, ◌∙◌, ◌∷◌, ◌≡◌}
 use Rattle.ksm_tree.proofs.Alike.{chosen, kept_append}
 use Rattle.ksm_base.proofs.Orders.{above, below, dups_parted, elsewhere, Lower, one_of_each, one_of_each_place}
 
@@ -10,52 +10,38 @@ numbered q r = r.number == q
 pub group_unlike : (p : ℕ) (t : ℕ) (b : List ℕ) (rows : List DupRow) → All (λ r. (r.place == p && in_group t b r) ≡ false) rows → without p (group_places t b rows) ≡ group_places t b rows
 group_unlike p t b [] none = refl
 group_unlike p t b (r ∷ rows) none =
-    let rest = group_unlike p t b rows (All-tail (λ s. (s.place == p && in_group t b s) ≡ false) r _ none) in
-    let here = All-head (λ s. (s.place == p && in_group t b s) ≡ false) r _ none in
-    grind (arith, here, rest)
+    grind (arith, none 0 r (omega arith), group_unlike p t b rows (λ k d lt. none (suc k) d (omega arith)))
 
 -- a new row of a group adds its place to the places of the group
 pub group_joined : (t : ℕ) (b : List ℕ) (row : DupRow) (rows : List DupRow) → in_group t b row ≡ true → group_places t b (with_dup row rows) ≡ with_place row.place (group_places t b rows)
 group_joined t b row rows inside =
-    let lower = filter (below row.place) rows in
-    let higher = filter (above row.place) rows in
-    let front = kept_append (λ (r : DupRow). r.place) (in_group t b) lower (row ∷ higher) in
     let low = chosen (λ (r : DupRow). r.place) (in_group t b) (λ q. nat_lt q row.place) rows in
     let high = chosen (λ (r : DupRow). r.place) (in_group t b) (nat_lt row.place) rows in
-    let first : group_places t b (row ∷ higher) ≡ row.place ∷ group_places t b higher = grind (arith, inside) in
-    front ∙ (λ i. low i ++ (first ∙ ap (λ ps. row.place ∷ ps) high) i)
+    kept_append _ _ (filter (below row.place) rows) _ ∙ grind (arith, low, high)
 
 -- a new dup of another group takes its place out of a group, if the group had that place
 pub group_passed : (t : ℕ) (b : List ℕ) (row : DupRow) (rows : List DupRow) → InPlaceOrder rows → in_group t b row ≡ false → group_places t b (with_dup row rows) ≡ without row.place (group_places t b rows)
 group_passed t b row rows rise outside =
     let lower = filter (below row.place) rows in
-    let higher = filter (above row.place) rows in
-    let first : group_places t b (row ∷ higher) ≡ group_places t b higher = grind (arith, outside) in
     kept_append _ _ lower _
-    ∙ (λ i. group_places t b lower ++ first i)
-    ∙ sym (kept_append _ _ lower higher)
+    ∙ grind (arith, kept_append (λ (r : DupRow). r.place) (in_group t b) lower (filter (above row.place) rows))
     ∙ ap (group_places t b) (sym (dups_parted row.place rows rise))
     ∙ chosen (λ (r : DupRow). r.place) (in_group t b) (λ q. not (q == row.place)) rows
 
 -- the number of a new row has the place of the row
 pub place_new : (row : DupRow) (rows : List DupRow) → All (λ r. r.number < row.number) rows → row_place row.number (with_dup row rows) ≡ Some row.place
 place_new row rows fresh =
-    let F : DupRow → Type 0 = λ r. r.number < row.number in
     let lower = filter (below row.place) rows in
-    let none = All-weaker F (λ r. numbered row.number r ≡ false) (λ r h. ne_eqb r.number row.number (λ e. omega (arith, h, e))) lower (All-filter (below row.place) F rows fresh) in
-    let higher = filter (above row.place) rows in
-    let here : numbered row.number row ≡ true = grind (arith, nat_tests) in
-    ap (option_map (λ r. r.place))
-    (find-append _ lower _
-    ∙ ap (λ o. option_or o (find (numbered row.number) (row ∷ higher))) (find_nothing _ _ none)
-    ∙ ap (λ b. cond b (Some row) (find (numbered row.number) higher)) here)
+    let less = All-filter (below row.place) (λ r. r.number < row.number) rows fresh in
+    let none = find_nothing (numbered row.number) lower (λ k d lt. grind (arith, nat_tests, less k d lt)) in
+    grind (arith, nat_tests, find-append (numbered row.number) lower (row ∷ filter (above row.place) rows), none)
 
 -- a new dup changes the place of no other number that stays
 pub place_kept : (q : ℕ) (row : DupRow) (rows : List DupRow) → InPlaceOrder rows → (q == row.number) ≡ false → row_place q (with_dup row rows) ≡ row_place q (filter (elsewhere row.place) rows)
 place_kept q row rows rise other =
     let lower = filter (below row.place) rows in
-    let fails : numbered q row ≡ false = grind (arith, nat_tests, other) in
-    ap (option_map (λ r. r.place)) (find_over _ lower _ row fails ∙ ap (find (numbered q)) (sym (dups_parted _ _ rise)))
+    ap (option_map (λ r. r.place))
+    (find_over _ lower _ row (grind (arith, nat_tests)) ∙ ap (find (numbered q)) (sym (dups_parted _ _ rise)))
 
 -- the row that stands at a place is the only one there, and the only one of its number
 abbrev pub IsOne : ℕ → DupRow → DupRow → Type 0
@@ -80,7 +66,7 @@ only_one p rows e rise found k d lt =
     let at = find_passes (λ r. r.place == p) rows e found in
     let alone = found_alone (λ r. r.place == p) rows e rise found in
     let is : (r.place == p) ≡ true → r ≡ e = λ here. alone.0 k d lt (grind (arith, nat_tests, at, here)) in
-    grind (arith, nat_tests, lt, at, alone, is)
+    grind (arith, nat_tests, at, alone, is)
 
 -- the row of a number is the only one of its number, and the only one at its place
 abbrev pub IsThat : ℕ → DupRow → DupRow → Type 0
@@ -97,9 +83,7 @@ only_number q rows {e} rise found k d lt =
 left : (p q : ℕ) (e : DupRow) (rows : List DupRow) → All (IsOne p e) rows → row_place q (filter (elsewhere p) rows) ≡ (if q == e.number then None else row_place q rows)
 left p q e [] only = grind arith
 left p q e (r ∷ rows) only =
-    let rest = left p q e rows (All-tail (IsOne p e) r _ only) in
-    let here = (only 0 r (omega arith)).0 in
-    grind (arith, nat_tests, here, rest)
+    grind (arith, nat_tests, (only 0 r (omega arith)).0, left p q e rows (λ k d lt. only (suc k) d (omega arith)))
 
 -- once the dup at a place goes, its number has no place, and each other number has the place it had
 pub place_gone : (p q : ℕ) (rows : List DupRow) {e : DupRow} → InPlaceOrder rows → find (λ r. r.place == p) rows ≡ Some e → row_place q (filter (elsewhere p) rows) ≡ (if q == e.number then None else row_place q rows)

@@ -1,5 +1,5 @@
 -- What a change of one key, or of what lies under it, does to the slots of a shelf.
-use Rattle.ksm_tree.proofs.Names.{[], ap, arith, cases_lt, change_items_of, change_slot, get, get_or, get_or_default, GuestPage, has_room, inl, inr, items_in, Kept, kept_at, length, List, None, none-some, ne_eqb, eq-eqb, Option, option_map, refl, replicate, same_Some, set, set-get_or, ShelfState, Slab, slots_by, Some, suc, sym, true, false≢true, is_some, zero, ℕ, ◌+◌, ◌<◌, ◌≤◌, ◌∙◌, ◌∷◌, ◌≡◌, ◌≢◌}
+use Rattle.ksm_tree.proofs.Names.{[], ap, arith, change_items_of, change_slot, get, get_or, get_or_default, get_or_past, GuestPage, has_room, items_in, Kept, kept_at, length, List, None, none-some, nat_tests, Option, refl, replicate, set, set-get_or, ShelfState, Slab, slots_by, Some, suc, sym, true, is_some, zero, ℕ, ◌+◌, ◌<◌, ◌≤◌, ◌∙◌, ◌∷◌, ◌≡◌, ◌≢◌}
 use Rattle.slab.specs.Slab.{Updates as Fills}
 
 -- there are as many slots as keys
@@ -13,22 +13,6 @@ read_by k p i [] dups is within = absurd (omega arith)
 read_by k p zero (key ∷ keys) dups is within = ap (λ q. kept_at q (get dups key)) (omega arith)
 read_by k p (suc i) (key ∷ keys) dups is within = read_by _ p i keys _ (omega arith) (omega arith)
 
--- behind the keys nothing is read
-read_past : (k i : ℕ) (keys : List ℕ) (dups : Slab Kept) → length keys ≤ i → None ≡ get_or (slots_by k keys dups) i None
-read_past k i [] dups past = refl
-read_past k zero (key ∷ keys) dups past = absurd (omega arith)
-read_past k (suc i) (key ∷ keys) dups past = read_past _ i keys _ (omega arith)
-
--- a dup is at the place that its row tells, and at no other
-pub at_here : {p : ℕ} (kept : Kept) → kept.dup.row.place ≡ p → kept_at p (Some kept) ≡ Some kept.dup
-at_here {p} kept is = let here = eq-eqb _ p is in rw here refl
-
-pub at_other : (p : ℕ) (kept : Kept) → (kept.dup.row.place ≡ p → ⊥) → kept_at p (Some kept) ≡ None
-at_other p kept apart = let other = ne_eqb _ p apart in rw other refl
-
-elsewhere : {p : ℕ} (q : ℕ) (kept : Kept) → kept.dup.row.place ≡ p → q ≢ p → kept_at q (Some kept) ≡ None
-elsewhere q kept is apart = at_other q kept (λ same. apart (sym same ∙ is))
-
 -- what is at a place by its key, where one key changed what lies under it, and that is of no other place
 one_by : (q n : ℕ) {key : ℕ} {old new : Slab Kept} {slot : Option Kept} → Fills old new key slot → kept_at q slot ≡ kept_at q (get old key) → kept_at q (get new n) ≡ kept_at q (get old n)
 one_by q n {key} {old} {new} fills same = grind (arith, fills, same)
@@ -37,27 +21,20 @@ one_by q n {key} {old} {new} fills same = grind (arith, fills, same)
 same_by : (k : ℕ) {key : ℕ} (keys : List ℕ) {old new : Slab Kept} {slot : Option Kept} → Fills old new key slot → ((q : ℕ) → k ≤ q → kept_at q slot ≡ kept_at q (get old key)) → slots_by k keys new ≡ slots_by k keys old
 same_by k [] fills same = refl
 same_by k {key} (n ∷ keys) {old} {new} {slot} fills same =
-    let first = one_by k n fills (same k (omega arith)) in
-    let rest = same_by _ keys fills (λ q above. same q (omega (arith, above))) in
-    λ i. first i ∷ rest i
+    grind (arith, one_by k n fills (same k (omega arith)), same_by (suc k) keys fills (λ q above. same q (omega arith)))
 
 -- a key is put at a place, with what lies under it from then on, which is of that place as what lay there was
 moved_by : (k p i : ℕ) {key : ℕ} (keys : List ℕ) {old new : Slab Kept} {slot : Option Kept} → p ≡ k + i → i < length keys → Fills old new key slot → ((q : ℕ) → q ≢ p → kept_at q slot ≡ kept_at q (get old key)) → slots_by k (set keys i key) new ≡ set (slots_by k keys old) i (kept_at p slot)
 moved_by k p i [] is within fills same = absurd (omega arith)
 moved_by k p zero {key} (n ∷ keys) {old} {new} {slot} is within fills same =
-    let at : k ≡ p = omega (arith, is) in
-    let first = ap (λ q. kept_at q (get new key)) at ∙ ap (kept_at p) fills.changed in
-    let rest = same_by _ _ fills (λ q above. same q (λ e. omega (arith, above, is, e))) in
-    λ j. first j ∷ rest j
+    grind (arith, fills.changed, same_by (suc k) keys fills (λ q above. same q (λ e. omega arith)))
 moved_by k p (suc i) {key} (n ∷ keys) {old} {new} {slot} is within fills same =
-    let first = one_by k n fills (same k (λ e. omega (arith, is, e))) in
     let rest = moved_by (suc k) p i keys (omega arith) (omega arith) fills same in
-    λ j. first j ∷ rest j
+    grind (arith, one_by k n fills (same k (λ e. omega arith)), rest)
 
 -- what is at a place lies under its key, and is of that place
 there : (p : ℕ) (o : Option Kept) → is_some (kept_at p o) ≡ true → (kept : Kept) × (o ≡ Some kept) × (kept.dup.row.place ≡ p)
-there p None none = absurd (false≢true none)
-there p (Some kept) some = grind (arith, some)
+there p o some = grind arith
 
 module _ (p : ℕ) (keys : List ℕ) (dups : Slab Kept) {s : ShelfState} (view : record { slots = slots_by 0 keys dups; ready = has_room dups } ≡ s) where
   -- there is a slot for each key
@@ -67,23 +44,19 @@ module _ (p : ℕ) (keys : List ℕ) (dups : Slab Kept) {s : ShelfState} (view :
   -- what a place holds is read by its key
   pub seen_by : {key : ℕ} → p < length keys → key ≡ get_or keys p 0 → kept_at p (get dups key) ≡ get_or s.slots p None
   seen_by within read =
-      ap (λ n. kept_at p (get dups n)) read ∙ read_by 0 p p _ _ (omega arith) within ∙ ap (λ t. get_or t.slots p None) view
+      grind (arith, read_by 0 p p keys dups (omega arith) within)
 
   pub seen_past : length keys ≤ p → None ≡ get_or s.slots p None
-  seen_past past = read_past 0 p _ _ past ∙ ap (λ t. get_or t.slots p None) view
+  seen_past past = grind (arith, many, get_or_past)
 
   -- a place that holds a dup has a key
   pub filled_key : is_some (get_or s.slots p None) ≡ true → p < length keys
-  filled_key filled = elim (cases_lt p (length keys)) [
-    | inl below ↦ below
-    | inr past ↦ absurd (false≢true (ap is_some (seen_past (omega (arith, past))) ∙ filled))
-  ]
+  filled_key filled = grind (arith, seen_past)
 
   -- the dup under the key of a place that holds one is of that place
-  pub lies_there : {key : ℕ} → key ≡ get_or keys p 0 → is_some (get_or s.slots p None) ≡ true → (kept : Kept) × (get dups key ≡ Some kept) × (kept.dup.row.place ≡ p)
-  lies_there {key} read filled =
-      let seen = seen_by (filled_key filled) read in
-      there p _ (ap is_some seen ∙ filled)
+  pub lies_there : {key : ℕ} → key ≡ get_or keys p 0 → is_some (get_or s.slots p None) ≡ true
+      → (kept : Kept) × (get dups key ≡ Some kept) × (kept.dup.row.place ≡ p)
+  lies_there {key} read filled = there p _ (ap is_some (seen_by (filled_key filled) read) ∙ filled)
 
   -- a key read of a place that holds a dup
   pub key_read : {key : ℕ} → key ≡ get_or keys p key → is_some (get_or s.slots p None) ≡ true → key ≡ get_or keys p 0
@@ -91,23 +64,16 @@ module _ (p : ℕ) (keys : List ℕ) (dups : Slab Kept) {s : ShelfState} (view :
 
   -- the items of a place are those of the dup under its key
   pub items_there : {key : ℕ} {kept : Kept} → key ≡ get_or keys p 0 → is_some (get_or s.slots p None) ≡ true → Some kept ≡ get dups key → items_in (get_or s.slots p None) ≡ kept.dup.items
-  items_there {key} {kept} read filled stood =
-      let it = lies_there read filled in
-      let same = same_Some _ _ (sym it.1 ∙ sym stood) in
-      let place = ap (λ k. k.dup.row.place) (sym same) ∙ it.2 in
-      ap items_in (sym (seen_by (filled_key filled) read) ∙ ap (kept_at p) (sym stood) ∙ at_here kept place)
+  items_there read filled stood = grind (arith, seen_by (filled_key filled) read)
 
   -- under the key of a place that holds a dup lies one
   pub not_none : {key : ℕ} → key ≡ get_or keys p 0 → is_some (get_or s.slots p None) ≡ true → None ≡ get dups key → ⊥
-  not_none {key} read filled none = let it = lies_there read filled in none-some _ (none ∙ it.1)
+  not_none read filled none = none-some _ (none ∙ (lies_there read filled).1)
 
 -- where every key leads to nothing, each place is empty
 pub none_by : (k n : ℕ) (dups : Slab Kept) → dups.slots ≡ [] → slots_by k (replicate n 0) dups ≡ replicate n None
 none_by k zero dups none = refl
-none_by k (suc n) dups none =
-    let first = ap (λ l. kept_at k (get_or l 0 None)) none in
-    let rest = none_by _ n _ none in
-    λ i. first i ∷ rest i
+none_by k (suc n) dups none = grind (arith, none_by (suc k) n dups none)
 
 -- more room changes no slot
 pub same_slots : (keys : List ℕ) (old : Slab Kept) {new : Slab Kept} {s : ShelfState} → record { slots = slots_by 0 keys old; ready = has_room old } ≡ s → new ≡ record old { capacity = new.capacity } → slots_by 0 keys new ≡ s.slots
@@ -119,20 +85,16 @@ pub emptied : (p : ℕ) {key : ℕ} (keys : List ℕ) {old new : Slab Kept} (s :
     → key ≡ get_or keys p 0 → is_some (get_or s.slots p None) ≡ true → Fills old new key None → slots_by 0 keys new ≡ set s.slots p None
 emptied p {key} keys {old} {new} s view read filled fills =
     let it = lies_there p _ old view read filled in
-    let alone : (q : ℕ) → q ≢ p → kept_at q None ≡ kept_at q (get old key) = λ q apart. sym (ap (kept_at q) it.1 ∙ elsewhere q it.0 it.2 apart) in
-    let whole = ap (set keys p) read ∙ set-get_or keys p 0 in
-    ap (λ l. slots_by 0 l new) (sym whole)
-    ∙ moved_by 0 p p _ (omega arith) (filled_key p _ old view filled) fills alone
-    ∙ ap (λ t. set t.slots p None) view
+    let within = filled_key p _ old view filled in
+    let moved = moved_by 0 p p keys (omega arith) within fills (λ q apart. grind (arith, nat_tests, it)) in
+    grind (arith, set-get_or keys p 0, moved)
 
 -- a dup of a place is put under a key that was vacant, and the place gets that key
 pub filled : (p key : ℕ) (keys : List ℕ) (old new : Slab Kept) (s : ShelfState) (view : record { slots = slots_by 0 keys old; ready = has_room old } ≡ s) (kept : Kept)
     → kept.dup.row.place ≡ p → p < length keys → get old key ≡ None → Fills old new key (Some kept) → slots_by 0 (set keys p key) new ≡ set s.slots p (Some kept.dup)
 filled p key keys old new s view kept is within vacant fills =
-    let alone : (q : ℕ) → q ≢ p → kept_at q (Some kept) ≡ kept_at q (get old key) = λ q apart. elsewhere q kept is apart ∙ sym (ap (kept_at q) vacant) in
-    moved_by 0 p p _ (omega arith) within fills alone
-    ∙ ap (set (slots_by 0 keys old) p) (at_here kept is)
-    ∙ ap (λ t. set t.slots p (Some kept.dup)) view
+    let moved = moved_by 0 p p keys (omega arith) within fills (λ q apart. grind (arith, nat_tests)) in
+    grind (arith, nat_tests, moved)
 
 -- a dup that changes under its key, and stays at its place, changes in its slot
 pub changed : (p key : ℕ) (keys : List ℕ) (old new : Slab Kept) (s : ShelfState) (view : record { slots = slots_by 0 keys old; ready = has_room old } ≡ s) (was kept : Kept) (f : List GuestPage → List GuestPage)
@@ -140,16 +102,6 @@ pub changed : (p key : ℕ) (keys : List ℕ) (old new : Slab Kept) (s : ShelfSt
     → slots_by 0 keys new ≡ change_slot p f s.slots
 changed p key keys old new s view was kept f read filled stood now fills =
     let it = lies_there p _ old view read filled in
-    let same = same_Some _ was (sym it.1 ∙ stood) in
-    let place = ap (λ k. k.dup.row.place) (sym same) ∙ it.2 in
-    let place_now = ap (λ d. d.row.place) now ∙ place in
-    let alone : (q : ℕ) → q ≢ p → kept_at q (Some kept) ≡ kept_at q (get old key) = λ q apart.
-    elsewhere q kept place_now apart ∙ sym (ap (kept_at q) stood ∙ elsewhere q was place apart) in
-    let whole = ap (set keys p) read ∙ set-get_or keys p 0 in
     let within = filled_key p _ old view filled in
-    let here = sym (seen_by p _ old view within read) ∙ ap (kept_at p) stood ∙ at_here was place in
-    ap (λ l. slots_by 0 l new) (sym whole)
-    ∙ moved_by 0 p p _ (omega arith) within fills alone
-    ∙ ap (set (slots_by 0 keys old) p) (at_here kept place_now ∙ ap Some now)
-    ∙ ap (λ t. set t.slots p (Some (change_items_of f was.dup))) view
-    ∙ ap (set s.slots p) (ap (option_map (change_items_of f)) (sym here))
+    let moved = moved_by 0 p p keys (omega arith) within fills (λ q apart. grind (arith, nat_tests, it.1, it.2)) in
+    grind (arith, nat_tests, it.1, it.2, set-get_or keys p 0, seen_by p _ old view within read, moved)

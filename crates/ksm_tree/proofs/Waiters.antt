@@ -1,86 +1,61 @@
 -- The waiting pages beside the rows that wait: what a look-up tells, and what a change of rows does.
-use Rattle.ksm_tree.proofs.Names.{[], All, All-head, All-tail, ap, AreWaiting, arith, Bool, bytes_eq, bytes_eq-Decides, cases_Bool, change_row, change_rows, comes_before, cond_both, each_at_page, eq-eqb, false, filter, find-append, find_all, find_nothing, get_or, GuestPage, if◌then◌else◌, inl, InPageOrder, inr, is_some, IsAdded, IsAlike, IsStopped, Knobs, List, map, names, nat_tests, None, not, Option, option_and_then, option_map, option_or, partner, refl, Row, row_at, same_page, same_page_eq, same_page_refl, Some, subst, sym, tree_of, true, Waiting, waiting_page, waiting_state, WaitingPage, waits_there, with_row, without_page, ℕ, ◌&&◌, ◌==◌, ◌∙◌, ◌∷◌, ◌≡◌}
+use Rattle.ksm_tree.proofs.Names.{[], All, AreWaiting, arith, Bool, bytes_eq-Decides, cases_Bool, change_row, change_rows, comes_before, each_at_page, false, filter, find-append, find_all, find_nothing, get_or, GuestPage, if◌then◌else◌, inl, InPageOrder, inr, is_some, IsAdded, IsAlike, IsStopped, Knobs, List, map, names, nat_tests, None, not, Option, option_and_then, option_map, partner, refl, Row, row_at, same_page, same_page_eq, same_page_refl, Some, suc, tree_of, true, Waiting, waiting_page, waiting_state, WaitingPage, waits_there, with_row, without_page, ℕ, ◌&&◌, ◌∙◌, ◌∷◌, ◌≡◌}
 use Rattle.ksm_base.specs.Visit.{waits_for}
 use Rattle.ksm_tree.proofs.Alike.{find_alike}
 use Rattle.ksm_tree.proofs.Keys.{eq_bytes}
 
 -- ---------------------------------------------------------------- the row of a page after a change
 
--- of three pages, of which the first two are one
-same_alike : (p q x : GuestPage) → same_page p q ≡ true → same_page p x ≡ same_page q x
-same_alike p q x same = grind (arith, nat_tests, same)
-
 -- a write of the row of one page leaves the rows of other pages as they were
 pub at_others : (row : Row) (q : GuestPage) (rows : List Row) → same_page row.page q ≡ false → row_at q (change_row row.page (λ _. row) rows) ≡ row_at q rows
 at_others row q [] other = refl
-at_others row q (r ∷ rs) other = let rest = at_others row q rs other in grind (arith, nat_tests, other, rest)
+at_others row q (r ∷ rs) other = grind (arith, nat_tests, at_others row q rs other)
 
 at_page : (row : Row) (rows : List Row) → row_at row.page (change_row row.page (λ _. row) rows) ≡ (if is_some (row_at row.page rows) then Some row else None)
 at_page row [] = refl
-at_page row (r ∷ rs) = let rest = at_page row rs in grind (arith, rest)
+at_page row (r ∷ rs) = grind (arith, at_page row rs)
 
 at_changed : (row : Row) {old : Row} (rows : List Row) → row_at row.page rows ≡ Some old → (q : GuestPage) → row_at q (change_row row.page (λ _. row) rows) ≡ (if same_page row.page q then Some row else row_at q rows)
 at_changed row rows found q =
-    elim (cases_Bool (same_page row.page q)) [
-      | inl same ↦ rw same (subst (λ (p : GuestPage). row_at p (change_row row.page (λ _. row) rows) ≡ Some row) (same_page_eq _ q same) (at_page row _ ∙ ap (λ o. if is_some o then Some row else None) found))
-      | inr other ↦ rw other (at_others row q _ other)
-    ]
+    grind (arith, at_page row rows, at_others row q rows, same_page_eq row.page q)
 
 -- a choice of rows by page
 at_chosen : (by : GuestPage → Bool) (q : GuestPage) (rows : List Row) → row_at q (filter (λ r. by r.page) rows) ≡ (if by q then row_at q rows else None)
-at_chosen by q [] = cond_both _ _ _ (λ o. None ≡ o) (λ _. refl) (λ _. refl)
-at_chosen by q (r ∷ rs) =
-    let rest = at_chosen by q rs in
-    grind (arith, nat_tests, rest)
+at_chosen by q [] = grind arith
+at_chosen by q (r ∷ rs) = grind (arith, nat_tests, at_chosen by q rs)
 
 at_without : (page q : GuestPage) (rows : List Row) → row_at q (without_page page rows) ≡ (if same_page page q then None else row_at q rows)
-at_without page q rows =
-    at_chosen _ q rows ∙ grind (arith)
-
-or_nothing : (o : Option Row) → option_or o None ≡ o
-or_nothing None = refl
-or_nothing (Some r) = refl
+at_without page q rows = at_chosen _ q rows ∙ grind arith
 
 -- a row inserted is found at its page, and other pages as before
-pub at_inserted : (row : Row) (rows : List Row) (q : GuestPage) → row_at q (with_row row rows) ≡ (if same_page row.page q then Some row else row_at q rows)
+pub at_inserted : (row : Row) (rows : List Row) (q : GuestPage)
+    → row_at q (with_row row rows) ≡ (if same_page row.page q then Some row else row_at q rows)
 at_inserted row rows q =
-    let ahead = at_chosen (λ p. comes_before p row.page) q _ in
-    let behind = at_chosen (λ p. comes_before row.page p) q _ in
     find-append _ (filter (λ r. comes_before r.page row.page) rows) _
-    ∙ (λ i. option_or (ahead i) (if same_page row.page q then Some row else behind i))
-    ∙ (grind (arith, nat_tests))
+    ∙ grind (arith, nat_tests, at_chosen (λ p. comes_before p row.page) q rows, at_chosen (comes_before row.page) q)
 
 -- a change that keeps each row's page finds at a page the changed row that was found there
 pub at_mapped : (f : Row → Row) (q : GuestPage) (rows : List Row) → All (λ r. (f r).page ≡ r.page) rows → row_at q (map f rows) ≡ option_map f (row_at q rows)
 at_mapped f q [] keeps = refl
 at_mapped f q (r ∷ rs) keeps =
-    let rest = at_mapped f q rs (All-tail (λ s. (f s).page ≡ s.page) r rs keeps) in
-    let here : same_page (f r).page q ≡ same_page r.page q = ap (λ (p : GuestPage). same_page p q) (All-head (λ s. (f s).page ≡ s.page) r rs keeps) in
-    grind (arith, here, rest)
+    grind (arith, keeps 0 r (omega arith), at_mapped f q rs (λ k d lt. keeps (suc k) d (omega arith)))
 
 -- ---------------------------------------------------------------- what a look-up tells
-
--- a page that is named is that page alone
-only_one : (o : Option GuestPage) (p q : GuestPage) → names p o ≡ true → same_page p q ≡ false → names q o ≡ false
-only_one o p q here other = grind (arith, nat_tests, here, other)
 
 -- a page that a look-up of a tree and bytes finds has a row that waits there
 pub look_up_found : (knobs : Knobs) (rows : List Row) (w : List WaitingPage) (t : ℕ) (b : List ℕ) (page : GuestPage) → AreWaiting knobs rows w
     → waiting_page t b w ≡ Some page → waits_there knobs t b (row_at page rows) ≡ true
-look_up_found knobs rows w t b page are is = grind (arith, nat_tests, are, is)
+look_up_found knobs rows w t b page are is = grind (arith, nat_tests, are)
 
 -- a look-up of a row's tree and bytes finds the row's own page exactly where the row waits
 pub own_found : (knobs : Knobs) (rows : List Row) (w : List WaitingPage) (row : Row) → row_at row.page rows ≡ Some row → AreWaiting knobs rows w
     → names row.page (waiting_page (tree_of knobs row) row.bytes w) ≡ waiting_state row.state
 own_found knobs rows w row found are =
-    let t = tree_of knobs row in
-    let tree = eq-eqb t t refl in
-    let bytes : bytes_eq row.bytes row.bytes ≡ true = (bytes_eq-Decides _ row.bytes).1 refl in
-    grind (arith, nat_tests, found, are, tree, bytes)
+    grind (arith, nat_tests, are, (bytes_eq-Decides row.bytes row.bytes).1 refl)
 
 -- another row waits for a row where it is a waiting row of its tree and bytes
 waits_apart : (knobs : Knobs) (row r : Row) → waits_for knobs row r ≡ (waits_there knobs (tree_of knobs row) row.bytes (Some r) && not (same_page r.page row.page))
-waits_apart knobs row r = let bytes = eq_bytes r.bytes row.bytes in grind (arith, nat_tests, bytes)
+waits_apart knobs row r = grind (arith, nat_tests, eq_bytes r.bytes row.bytes)
 
 module _ (knobs : Knobs) (rows : List Row) (w : List WaitingPage) (row : Row) (rise : InPageOrder rows) (are : AreWaiting knobs rows w) where
   abbrev looked_up : Option GuestPage
@@ -90,9 +65,7 @@ module _ (knobs : Knobs) (rows : List Row) (w : List WaitingPage) (row : Row) (r
   each_waits : {o : Option GuestPage} → looked_up ≡ o → All (λ r. waits_for knobs row r ≡ (names r.page o && not (same_page r.page row.page))) rows
   each_waits {o} is k d lt =
       let r = get_or rows k d in
-      let there =
-      ap (waits_there knobs (tree_of knobs row) row.bytes) (sym (each_at_page _ rise k d lt)) ∙ sym (are (tree_of knobs row) row.bytes r.page) ∙ ap (names r.page) is in
-      waits_apart knobs row r ∙ ap (λ t. t && not (same_page r.page row.page)) there
+      waits_apart knobs row r ∙ grind (arith, each_at_page _ rise k d lt, are (tree_of knobs row) row.bytes r.page)
 
   -- a look-up of a row's tree and bytes finds its partner, but where it finds the row itself
   pub partner_found : partner knobs rows row ≡ option_and_then (λ page. if same_page page row.page then None else row_at page rows) looked_up
@@ -102,130 +75,66 @@ module _ (knobs : Knobs) (rows : List Row) (w : List WaitingPage) (row : Row) (r
       go None is = find_nothing _ _ (each_waits is)
       go (Some page) is =
           elim (cases_Bool (same_page page row.page)) [
-            | inl own ↦ rw own (find_nothing _ _ (λ k d lt. each_waits is k d lt ∙ elsewhere (get_or rows k d).page own))
-            | inr other ↦ rw other (find_alike _ _ _ (λ k d lt. each_waits is k d lt ∙ alone (get_or rows k d).page other))
+            | inl own ↦ rw own (find_nothing _ _ (λ k d lt. each_waits is k d lt ∙ grind (arith, nat_tests)))
+            | inr other ↦ rw other (find_alike _ _ _ (λ k d lt. each_waits is k d lt ∙ grind (arith, nat_tests)))
           ]
-        where
-          elsewhere : (q : GuestPage) → same_page page row.page ≡ true → (same_page page q && not (same_page q row.page)) ≡ false
-          elsewhere q own = grind (arith, nat_tests, own)
 
-          alone : (q : GuestPage) → same_page page row.page ≡ false → (same_page page q && not (same_page q row.page)) ≡ same_page q page
-          alone q other = grind (arith, nat_tests, other)
+-- ---------------------------------------------------------------- one row, or all
 
--- ---------------------------------------------------------------- one row
-
--- the tree and bytes are a row's
-abbrev is_content_of : Knobs → Row → ℕ → List ℕ → Bool
-is_content_of knobs row t b = t == tree_of knobs row && bytes_eq b row.bytes
-
--- a change of one page's row, by which the others stay
-edited : (knobs : Knobs) (page : GuestPage) (now : Option Row) (rows changed : List Row) (w new : List WaitingPage)
-    → ((q : GuestPage) → row_at q changed ≡ (if same_page page q then now else row_at q rows))
-    → ((t : ℕ) (b : List ℕ) → names page (waiting_page t b new) ≡ waits_there knobs t b now)
-    → ((t : ℕ) (b : List ℕ) (q : GuestPage) → same_page page q ≡ false → names q (waiting_page t b new) ≡ names q (waiting_page t b w))
-    → AreWaiting knobs rows w → AreWaiting knobs changed new
-edited knobs page now rows changed w new at here others are t b q =
-    grind (arith, nat_tests, at, here, others, are)
+alike_waits : (knobs : Knobs) (t : ℕ) (b : List ℕ) (old new : Row) → IsAlike old new → waits_there knobs t b (Some new) ≡ waits_there knobs t b (Some old)
+alike_waits knobs t b old new alike = grind (arith, nat_tests)
 
 module _ (knobs : Knobs) (rows : List Row) (w : List WaitingPage) (are : AreWaiting knobs rows w) where
-  -- whether the page of a row is named is whether it waits there
-  named : (page : GuestPage) {old : Option Row} → row_at page rows ≡ old → (t : ℕ) (b : List ℕ) → names page (waiting_page t b w) ≡ waits_there knobs t b old
-  named page found t b = are t b page ∙ ap (waits_there knobs t b) found
-
-  module _ (new : List WaitingPage) (page : GuestPage) (old : Row) (found : row_at page rows ≡ Some old) (stopped : IsStopped knobs old w new) where
-    stopped_here : (t : ℕ) (b : List ℕ) → names page (waiting_page t b new) ≡ false
-    stopped_here t b =
-        ap (names page) (stopped t b) ∙ grind (arith)
-
-    stopped_others : (t : ℕ) (b : List ℕ) (q : GuestPage) → same_page page q ≡ false → names q (waiting_page t b new) ≡ names q (waiting_page t b w)
-    stopped_others t b q other =
-        let waits = waits_there knobs t b (Some old) in
-        ap (names q) (stopped t b) ∙ elim (cases_Bool waits) [
-          | inl gone ↦ rw gone (sym (only_one _ _ q (named page found t b ∙ gone) other))
-          | inr never ↦ rw never refl
-        ]
-
-    -- the waiting pages are those of the rows, once the row of a page is gone and the page has stopped waiting
-    pub row_dropped : AreWaiting knobs (without_page page rows) new
-    row_dropped = edited knobs _ _ _ _ w new (λ q. at_without _ q _) stopped_here stopped_others are
+  -- the waiting pages are those of the rows, once the row of a page is gone and the page has stopped waiting
+  pub row_dropped : (new : List WaitingPage) (page : GuestPage) (old : Row) → row_at page rows ≡ Some old
+      → IsStopped knobs old w new → AreWaiting knobs (without_page page rows) new
+  row_dropped new page old found stopped t b q =
+      grind (arith, nat_tests, at_without page q rows, stopped t b, are t b q, are t b page)
 
   -- the waiting pages are those of the rows, once a row waits no more and its page has stopped
   pub row_stopped : (new : List WaitingPage) (row old : Row) → row_at row.page rows ≡ Some old → waiting_state row.state ≡ false → IsStopped knobs old w new
       → AreWaiting knobs (change_row row.page (λ _. row) rows) new
-  row_stopped new row old found still stopped =
-      edited knobs _ _ _ _ w new (at_changed row _ found)
-      (λ t b. stopped_here new _ old found stopped t b ∙ rw still refl) (stopped_others new _ old found stopped) are
+  row_stopped new row old found still stopped t b q =
+      grind (arith, nat_tests, at_changed row rows found q, stopped t b, are t b q, are t b row.page)
 
   -- the waiting pages are those of the rows, once a row waits that did not and its page was added
   pub row_begun : (new : List WaitingPage) (row old : Row) → row_at row.page rows ≡ Some old → waiting_state old.state ≡ false → row.state ≡ Waiting
       → waiting_page (tree_of knobs row) row.bytes w ≡ None → IsAdded (tree_of knobs row) row.bytes row.page w new → AreWaiting knobs (change_row row.page (λ _. row) rows) new
-  row_begun new row old found still waits none added =
-      edited knobs _ _ _ _ w new (at_changed row _ found) here others are
-    where
-      here : (t : ℕ) (b : List ℕ) → names row.page (waiting_page t b new) ≡ waits_there knobs t b (Some row)
-      here t b =
-          ap (names row.page) (added t b) ∙ elim (cases_Bool (is_content_of knobs row t b)) [
-            | inl is ↦ rw (waits, is) (same_page_refl row.page)
-            | inr away ↦ rw (waits, away) (named row.page found t b ∙ rw still refl)
-          ]
-
-      nothing : (t : ℕ) (b : List ℕ) → is_content_of knobs row t b ≡ true → waiting_page t b w ≡ None
-      nothing t b is =
-          let tree : t ≡ tree_of knobs row = grind (arith, nat_tests, is) in
-          let bytes : b ≡ row.bytes = (bytes_eq-Decides b _).0 (grind (arith, is)) in
-          (λ i. waiting_page (tree i) (bytes i) w) ∙ none
-
-      others : (t : ℕ) (b : List ℕ) (q : GuestPage) → same_page row.page q ≡ false → names q (waiting_page t b new) ≡ names q (waiting_page t b w)
-      others t b q other =
-          ap (names q) (added t b) ∙ elim (cases_Bool (is_content_of knobs row t b)) [
-            | inl is ↦ rw is (other ∙ ap (names q) (sym (nothing t b is)))
-            | inr away ↦ rw away refl
-          ]
+  row_begun new row old found still waits none added t b q =
+      let bytes = (bytes_eq-Decides b row.bytes).0 in
+      let changed = at_changed row rows found q in
+      grind (arith, nat_tests, changed, added t b, bytes, same_page_refl row.page, are t b q, are t b row.page)
 
   -- a new row that does not wait changes no waiting page
   pub row_inserted : (row : Row) → row_at row.page rows ≡ None → waiting_state row.state ≡ false → AreWaiting knobs (with_row row rows) w
-  row_inserted row absent still =
-      edited knobs _ _ _ _ w w (at_inserted row _) (λ t b. named row.page absent t b ∙ rw still refl) (λ t b q other. refl) are
+  row_inserted row absent still t b q = grind (arith, nat_tests, at_inserted row rows q, are t b q, are t b row.page)
 
--- ---------------------------------------------------------------- all rows
-
-alike_waits : (knobs : Knobs) (t : ℕ) (b : List ℕ) (old new : Row) → IsAlike old new → waits_there knobs t b (Some new) ≡ waits_there knobs t b (Some old)
-alike_waits knobs t b old new alike = grind (arith, nat_tests, alike)
-
-module _ (knobs : Knobs) (rows : List Row) (w : List WaitingPage) (are : AreWaiting knobs rows w) where
   -- a row that changes into one that waits alike changes no waiting page
   pub row_kept : (row old : Row) → row_at row.page rows ≡ Some old → IsAlike old row → AreWaiting knobs (change_row row.page (λ _. row) rows) w
-  row_kept row old found alike =
-      edited knobs _ _ _ _ w w (at_changed row _ found)
-      (λ t b. named knobs rows w are row.page found t b ∙ sym (alike_waits knobs t b old row alike)) (λ t b q other. refl) are
+  row_kept row old found alike t b q =
+      let same = alike_waits knobs t b old row alike in
+      grind (arith, nat_tests, at_changed row rows found q, are t b q, are t b row.page, same)
 
   -- where each row changes into one that waits alike, no waiting page changes
   pub rows_mapped : (f : Row → Row) → All (λ r. IsAlike r (f r)) rows → AreWaiting knobs (map f rows) w
   rows_mapped f alike t b q =
-      are t b q ∙ go _ refl ∙ ap (waits_there knobs t b) (sym (at_mapped f q _ (λ k d lt. (alike k d lt).0)))
-    where
-      go : (o : Option Row) → row_at q rows ≡ o → waits_there knobs t b o ≡ waits_there knobs t b (option_map f o)
-      go None found = refl
-      go (Some r) found = sym (alike_waits knobs t b r (f r) (find_all _ (λ s. IsAlike s (f s)) _ r found alike))
+      let each = λ (r : Row) (found : row_at q rows ≡ Some r). find_all (λ s. same_page s.page q)
+      (λ s. IsAlike s (f s)) _ r found alike in
+      grind (arith, are t b q, each, alike_waits, at_mapped f q rows (λ k d lt. (alike k d lt).0))
 
   -- where some rows change, each into one that waits alike, no waiting page changes
   pub rows_changed : (test : Row → Bool) (f : Row → Row) → All (λ r. test r ≡ true → IsAlike r (f r)) rows → AreWaiting knobs (change_rows test f rows) w
   rows_changed test f alike =
       rows_mapped _
-      (λ k d lt. let r = get_or rows k d in cond_both _ _ r (IsAlike r) (alike k d lt) (λ _. (refl, refl, refl, refl)))
+      (λ k d lt. grind (arith, alike k d lt))
 
   -- knobs with the same merge_across_nodes leave the waiting pages those of the rows
   pub knobs_tuned : (tuned : Knobs) → tuned.merge_across_nodes ≡ knobs.merge_across_nodes → AreWaiting tuned rows w
-  knobs_tuned tuned same t b q = are t b q ∙ go _
-    where
-      go : (o : Option Row) → waits_there knobs t b o ≡ waits_there tuned t b o
-      go None = refl
-      go (Some r) = λ i. waiting_state r.state && (t == (if sym same i == 1 then 0 else r.home) && bytes_eq b r.bytes)
+  knobs_tuned tuned same t b q = grind (arith, are t b q)
 
 -- where no row waits, no page does
 pub none_waiting : (knobs : Knobs) (rows : List Row) → All (λ r. waiting_state r.state ≡ false) rows → AreWaiting knobs rows []
-none_waiting knobs rows none t b q = go _ refl
-  where
-    go : (o : Option Row) → row_at q rows ≡ o → false ≡ waits_there knobs t b o
-    go None found = refl
-    go (Some r) found = let still = find_all _ (λ s. waiting_state s.state ≡ false) _ r found none in rw still refl
+none_waiting knobs rows none t b q =
+    let each = λ (r : Row) (found : row_at q rows ≡ Some r). find_all (λ s. same_page s.page q)
+    (λ s. waiting_state s.state ≡ false) _ r found none in
+    grind (arith, each)

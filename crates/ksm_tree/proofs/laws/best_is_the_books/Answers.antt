@@ -1,5 +1,6 @@
+use Rattle.ksm_tree.proofs.Names.{rules}
 use Rattle.ksm_tree.proofs.Bridge.{best_found}
 use Rattle.ksm_tree.proofs.laws.best_is_the_books.Goals as goal
 
 pub returns : goal.returns
-returns c knobs rows dups row counted = best_found rows knobs row _ counted
+returns c = search (rules, best_found)

@@ -1,8 +1,9 @@
+use Rattle.ksm_tree.proofs.Names.{rules}
 use Rattle.ksm_tree.proofs.Bridge.{choice_alike, choice_exists}
 use Rattle.ksm_tree.proofs.laws.choice_is_the_books.Goals as goal
 
 pub returns-clause-place : goal.returns-clause-place
-returns-clause-place c rows s choice counted is = choice_alike rows s _ counted is
+returns-clause-place c = search (rules, choice_alike)
 
 pub returns-clause-room : goal.returns-clause-room
-returns-clause-room c rows s counted inside = choice_exists rows s counted inside
+returns-clause-room c = search (rules, choice_exists)

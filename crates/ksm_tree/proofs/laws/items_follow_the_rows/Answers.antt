@@ -1,15 +1,15 @@
-use Rattle.ksm_tree.proofs.Names.{refl}
+use Rattle.ksm_tree.proofs.Names.{rules}
 use Rattle.ksm_tree.proofs.Tied.{items_dropped, items_joined, items_left, items_kept}
 use Rattle.ksm_tree.proofs.laws.items_follow_the_rows.Goals as goal
 
 pub returns-clause-dropped : goal.returns-clause-dropped
-returns-clause-dropped c rows dup page rise = items_dropped _ dup rise _
+returns-clause-dropped c = search (rules, items_dropped)
 
 pub returns-clause-joined : goal.returns-clause-joined
-returns-clause-joined c rows dup row rise there passes = items_joined _ dup rise _ row refl there passes
+returns-clause-joined c = search (rules, items_joined)
 
 pub returns-clause-left : goal.returns-clause-left
-returns-clause-left c rows dup row rise there fails = items_left _ dup rise _ row there fails
+returns-clause-left c = search (rules, items_left)
 
 pub returns-clause-kept : goal.returns-clause-kept
-returns-clause-kept c rows dup change same = items_kept _ dup _ same
+returns-clause-kept c = search (rules, items_kept)

@@ -1,5 +1,6 @@
+use Rattle.ksm_tree.proofs.Names.{rules}
 use Rattle.ksm_tree.proofs.Changes.{rows_new}
 use Rattle.ksm_tree.proofs.laws.new_row_is_the_books.Goals as goal
 
 pub returns : goal.returns
-returns c dup dups = rows_new dup _
+returns c = search (rules, rows_new)

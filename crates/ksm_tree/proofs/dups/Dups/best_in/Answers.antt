@@ -1,5 +1,5 @@
-use Rattle.ksm_tree.proofs.Names.{All, ap, arith, best_of, drop_of_length-le, Dup, dup_at, found_at, get_or, if◌then◌else◌, InPlaceOrder, items_in, length, None, of_group, Option, option_copied, option_map, refl, rows_of, Some, sym, unless_behind, ◌%◌, ◌+◌, ◌-◌, ◌<◌, ◌==◌, ◌^◌, ◌∙◌, ◌≡◌, ◌≤◌}
-use Rattle.ksm_tree.proofs.Joining.{candidate_is, joined, folded, folded_best, above_least, or_else, out_of_room, stepped_over, stepped_to, passed_over_so, stepped, candidates_within, taken_so}
+use Rattle.ksm_tree.proofs.Names.{All, ap, arith, best_of, drop_of_length-le, dup_at, get_or, InPlaceOrder, items_in, length, None, of_group, option_copied, refl, rows_of, Some, unless_behind, ◌%◌, ◌+◌, ◌-◌, ◌<◌, ◌^◌, ◌∙◌, ◌≡◌}
+use Rattle.ksm_tree.proofs.Joining.{candidate_is, joined, folded_best, above_least, out_of_room, stepped_over, stepped_to, passed_over_so, stepped, candidates_within, taken_so}
 use Rattle.ksm_tree.proofs.dups.Dups.best_in.Goals as goal
 use Rattle.ksm_tree.proofs.dups.Dups.best_in.Goals.{After-loop-place, then-items-least+in-Some, then-items-least+in_default, else-items-least}
 
@@ -32,25 +32,25 @@ loop-place-preserved c =
     let within = c.loop-place-test.true in
     let rise : InPlaceOrder (rows_of dups) = rw (← c.self.view_is) c.self.invariant.lawful.in_place_order in
     let is = candidate_is tree bytes limit dups places c.places_to_join-is_chain.result.1 at rise (rw c.requires at c.places_to_join-is_chain.ensures) within in
-    let taken : (rival : Option Dup) → rival ≡ (if items == least then best else None) → (found : Option Dup) → found ≡ unless_behind rival (of_group tree bytes slot) → items < limit → least ≤ items → joined limit best (of_group tree bytes slot) ≡ or_else best found =
-    λ rival tied found is below above.
-    stepped_to tree bytes limit best slot count was.1 was.0 above below
-    ∙ ap (λ r. or_else best (unless_behind r (of_group tree bytes slot))) (sym tied)
-    ∙ ap (or_else best) (sym is) in
+    let taken = stepped_to tree bytes limit best slot count was.1 was.0 in
     elim c.if-items-least.branch [
       | then-items-least+in-Some w ↦
           let dup = w.in-Some.dup.now in
           let rival = option_copied w.rival_of-rival.result in
           let here : Some dup ≡ unless_behind rival (of_group tree bytes slot) = w.in-Some.ensures ∙ ap (unless_behind rival) is in
           let more = above_least items least limit above fits least_fits limit_fits refl (rw (← was.2) w.if-items-least.true) in
-          let next = taken rival w.rival_of-rival.ensures (Some dup) here (omega (arith, more, was.2, w.if-items-least.true)) (omega (arith, more)) in
-          let has : items ≡ length dup.items = count ∙ sym (ap (λ slot. length (items_in slot)) (taken_so tree bytes rival slot here)) in
+          let next : joined limit best (of_group tree bytes slot) ≡ Some dup =
+          taken (omega (arith, more)) (omega (arith, more, was.2, w.if-items-least.true))
+          ∙ grind (arith, here, w.rival_of-rival.ensures) in
+          let has : items ≡ length dup.items = grind (arith, count, taken_so tree bytes rival slot here) in
           rw (w.least-is, w.room-is, w.best-is) (omega (arith, more, was.0), has, refl, stepped tree bytes limit dups best (Some dup) places at within next ∙ was.3)
       | then-items-least+in_default w ↦
           let rival = option_copied w.rival_of-rival.result in
           let here : None ≡ unless_behind rival (of_group tree bytes slot) = w.in_default.ensures ∙ ap (unless_behind rival) is in
           let more = above_least items least limit above fits least_fits limit_fits refl (rw (← was.2) w.if-items-least.true) in
-          let next = taken rival w.rival_of-rival.ensures None here (omega (arith, more, was.2, w.if-items-least.true)) (omega (arith, more)) in
+          let next : joined limit best (of_group tree bytes slot) ≡ best =
+          taken (omega (arith, more)) (omega (arith, more, was.2, w.if-items-least.true))
+          ∙ grind (arith, here, w.rival_of-rival.ensures) in
           rw (w.least-is, w.room-is, w.best-is) (was.0, was.1, was.2, stepped tree bytes limit dups best best places at within next ∙ was.3)
       | else-items-least w ↦
           let outside = out_of_room items least limit above fits least_fits limit_fits refl (rw (← was.2) w.if-items-least.false) in
@@ -63,14 +63,11 @@ ended : (c : After-loop-place) → option_copied c.loop-place.best ≡ best_of c
 ended c =
     let over = drop_of_length-le c.places_to_join-is_chain.result.0.now {i = c.loop-place.place-index} (omega arith) in
     let rise : InPlaceOrder (rows_of c.args.self.now.dups) = rw (← c.self.view_is) c.self.invariant.lawful.in_place_order in
-    ap (folded c.args.tree c.args.bytes.now c.args.limit c.args.self.now.dups (option_copied c.loop-place.best)) (sym over)
-    ∙ c.loop-place.invariant.3
-    ∙ folded_best _ _ _ _ _ _ rise
-    (rw c.requires at c.places_to_join-is_chain.ensures)
+    let best = folded_best _ _ _ _ _ _ rise (rw c.requires at c.places_to_join-is_chain.ensures) in
+    grind (arith, over, best, c.loop-place.invariant.3)
 
 pub returns-in-Some-best : goal.returns-in-Some-best
-returns-in-Some-best c =
-    ap (λ b. option_map found_at (option_copied b)) (sym c.in-Some-best.is) ∙ ap (option_map found_at) (ended (goal.at.returns-in-Some-best c).After-loop-place)
+returns-in-Some-best c = grind (arith, ended (goal.at.returns-in-Some-best c).After-loop-place)
 
 pub returns-in-None : goal.returns-in-None
-returns-in-None c = ap (λ b. option_map found_at (option_copied b)) (sym c.in-None.is) ∙ ap (option_map found_at) (ended (goal.at.returns-in-None c).After-loop-place)
+returns-in-None c = grind (arith, ended (goal.at.returns-in-None c).After-loop-place)

@@ -1,4 +1,4 @@
-use Rattle.ksm_tree.proofs.Names.{[], ap, arith, best_of, content_in, found_at, group_places, IsUnused, length, List, nat_tests, number_of, option_map, refl, rows_of, subst, sym, true, ℕ, ◌==◌, ◌∙◌, ◌∷◌, ◌≡◌}
+use Rattle.ksm_tree.proofs.Names.{[], ap, arith, content_in, found_at, length, List, nat_tests, number_of, option_map, refl, sym, true, ℕ, ◌==◌, ◌∙◌, ◌∷◌, ◌≡◌, rules}
 use Rattle.ksm_tree.proofs.Indexed.{content_here, group_here}
 use Rattle.ksm_tree.proofs.Joining.{none_best}
 use Rattle.ksm_tree.proofs.Standing.{not_unused, stands_under}
@@ -7,34 +7,31 @@ use Rattle.ksm_tree.proofs.dups.Dups.best_of.Goals as goal
 -- a list of length 0
 none_of : (xs : List ℕ) → true ≡ (length xs == 0) → [] ≡ xs
 none_of [] none = refl
-none_of (x ∷ xs) none = grind (arith, nat_tests, none)
+none_of (x ∷ xs) none = grind (arith, nat_tests)
 
 pub returns-in_err-found-clause-best : goal.returns-in_err-found-clause-best
-returns-in_err-found-clause-best c tree bytes is =
-    absurd (stands_under c.self.inside.index.groups tree bytes (ap (λ s. number_of tree bytes s.numbers) c.self.view_is ∙ is) c.in_err-found.ensures)
+returns-in_err-found-clause-best c tree bytes is = search (rules, stands_under)
 
 pub returns-then-is_empty-clause-best : goal.returns-then-is_empty-clause-best
 returns-then-is_empty-clause-best c tree bytes is =
     let s = c.self.inside in
     let chain = group_here c.self.invariant _ _ (ap (λ s. number_of tree bytes s.numbers) c.self.view_is ∙ is) c.in_ok-found.ensures in
-    ap (option_map found_at) (none_best _ _ _ _ c.self.invariant.lawful.in_place_order (none_of _ c.if-is_empty.ensures ∙ c.as_slice-chain.ensures ∙ chain))
-    ∙ ap (λ s. option_map found_at (best_of tree bytes c.args.limit s.dups)) c.self.view_is
+    let none = none_of _ c.if-is_empty.ensures ∙ c.as_slice-chain.ensures ∙ chain in
+    rw (← c.self.view_is) (ap (option_map found_at) (none_best _ _ _ _ c.self.invariant.lawful.in_place_order none))
 
 pub best_in-requires : goal.best_in-requires
 best_in-requires c =
     let s = c.self.inside in
     let g = c.in_ok-found.found.now in
     let own = (s.index.groups.lawful.numbered g.content c.args.group).1 (ap content_in (sym c.in_ok-found.ensures)) in
-    c.as_slice-chain.ensures ∙ group_here c.self.invariant _ _ own c.in_ok-found.ensures
-    ∙ ap (λ s. group_places g.content.tree g.content.bytes (rows_of s.dups)) c.self.view_is
+    rw (← c.self.view_is) (c.as_slice-chain.ensures ∙ group_here c.self.invariant _ _ own c.in_ok-found.ensures)
 
 pub returns-clause-best : goal.returns-clause-best
 returns-clause-best c tree bytes is =
     let s = c.self.inside in
     let one = content_here c.self.invariant _ _ (ap (λ s. number_of tree bytes s.numbers) c.self.view_is ∙ is) c.in_ok-found.ensures in
-    c.best_in.ensures ∙ ap (λ k. option_map found_at (best_of k.tree k.bytes c.args.limit c.args.self.now.dups)) one
+    grind (arith, c.best_in.ensures, one)
 
 pub returns-clause-none : goal.returns-clause-none
 returns-clause-none c unused =
-    let none = subst (IsUnused c.args.group) (sym (ap (λ v. v.numbers) c.self.view_is)) unused in
-    absurd (not_unused c.self.inside.index.groups c.args.group c.in_ok-found.ensures none)
+    absurd (not_unused c.self.inside.index.groups _ c.in_ok-found.ensures (rw (ap (λ v. v.numbers) c.self.view_is) unused))

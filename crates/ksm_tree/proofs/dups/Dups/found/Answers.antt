@@ -1,4 +1,4 @@
-use Rattle.ksm_tree.proofs.Names.{[], AreIndexed, ap, arith, Dup, dups_seen, refl, SameWaits, with_item, ℕ, ◌<◌, ◌∙◌, ◌∷◌, ◌≡◌}
+use Rattle.ksm_tree.proofs.Names.{[], AreIndexed, ap, arith, Dup, dups_seen, refl, SameWaits, with_item, ℕ, ◌<◌, ◌∙◌, ◌∷◌, ◌≡◌, rules}
 use Rattle.ksm_tree.proofs.Indexed.{led_indexed, room_indexed, told}
 use Rattle.ksm_tree.proofs.Made.{fresh_indexed, seen_made, taken_indexed, next_unused, told_between}
 use Rattle.ksm_tree.proofs.dups.Dups.found.Goals as goal
@@ -15,19 +15,16 @@ within : (c : After-reserve) → c.args.place < c.reserve.new.self.places
 within c = omega (arith, ap (λ t. t.places) (seen c), c.requires.may.below)
 
 pub invariant_of-self : goal.invariant_of-self
-invariant_of-self c = roomy (goal.at.invariant_of-self c).After-reserve
+invariant_of-self c = search (rules, roomy)
 
 pub invariant_of-self-in_err-add : goal.invariant_of-self-in_err-add
-invariant_of-self-in_err-add c =
-    led_indexed c.in_err-add.ensures.kept
-    (roomy (goal.at.invariant_of-self-in_err-add c).After-reserve)
+invariant_of-self-in_err-add c = search (rules, led_indexed, roomy)
 
 pub add-requires-clause-fresh : goal.add-requires-clause-fresh
-add-requires-clause-fresh c = next_unused (roomy (goal.at.add-requires-clause-fresh c).After-reserve)
+add-requires-clause-fresh c = search (rules, next_unused, roomy)
 
 pub add-requires-clause-counted : goal.add-requires-clause-counted
-add-requires-clause-counted c =
-    told (roomy (goal.at.add-requires-clause-counted c).After-reserve) c.args.tree c.args.bytes.now
+add-requires-clause-counted c = search (rules, told)
 
 pub replace-requires : goal.replace-requires
 replace-requires c =
@@ -38,13 +35,9 @@ replace-requires c =
 pub invariant_of-self-2 : goal.invariant_of-self-2
 invariant_of-self-2 c =
     let here = (goal.at.invariant_of-self-2 c).After-reserve in
-    let s = c.reserve.new.self in
-    let next = c.self.inside.next in
-    let index = c.self.inside.index in
-    let dup : Dup = record { row = record { number = next; place = c.args.place; tree = c.args.tree; bytes = c.args.bytes.now }; items = c.in_ok-items.items } in
     elim c.match-old.branch [
-      | in-Some w ↦ rw (c.put.ensures, w.self-inside-is) (taken_indexed w.replace.new.self dup (roomy here) refl (within here) _ w.in-Some.old.now w.in-Some.ensures c.in_ok-add.ensures.entered w.replace.ensures.numbers w.replace.ensures.groups w.replace.ensures.totals)
-      | in-None w ↦ rw (c.put.ensures, w.self-inside-is) (fresh_indexed c.add.new.self dup (roomy here) refl (within here) _ w.in-None.ensures c.in_ok-add.ensures.entered)
+      | in-Some w ↦ rw (c.put.ensures, w.self-inside-is) (taken_indexed _ _ (roomy here) refl (within here) _ _ w.in-Some.ensures c.in_ok-add.ensures.entered w.replace.ensures.numbers w.replace.ensures.groups w.replace.ensures.totals)
+      | in-None w ↦ rw (c.put.ensures, w.self-inside-is) (fresh_indexed _ _ (roomy here) refl (within here) _ w.in-None.ensures c.in_ok-add.ensures.entered)
     ]
 
 pub returns-clause-made : goal.returns-clause-made

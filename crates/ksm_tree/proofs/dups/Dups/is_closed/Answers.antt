@@ -1,4 +1,4 @@
-use Rattle.ksm_tree.proofs.Names.{All, All-weaker, AllPass-from_list_all, ap, arith, best_of, Bool, content_in, dup_at, false, false≢true, get_or, is_open, items_in, length, not, number_of, refl, rows_of, sym, true, ◌<◌, ◌∙◌, ◌≡◌}
+use Rattle.ksm_tree.proofs.Names.{All, AllPass-from_list_all, ap, arith, Bool, content_in, false, false≢true, get_or, is_open, not, number_of, refl, sym, true, ◌<◌, ◌∙◌, ◌≡◌}
 use Rattle.ksm_tree.proofs.Indexed.{group_here}
 use Rattle.ksm_tree.proofs.Joining.{closed_best, places_within}
 use Rattle.ksm_tree.proofs.dups.Dups.is_closed.Goals as goal
@@ -8,10 +8,9 @@ none_open-requires c k d within =
     let s = c.self.inside in
     let g = c.in-Some.found.now in
     let own = (s.index.groups.lawful.numbered g.content c.args.group).1 (ap content_in (sym c.in-Some.ensures)) in
-    let chain = c.as_slice-chain.ensures
-    ∙ group_here c.self.invariant g.content.tree g.content.bytes own c.in-Some.ensures in
+    let chain = c.as_slice-chain.ensures ∙ group_here c.self.invariant _ _ own c.in-Some.ensures in
     let below : All (λ p. p < s.slots.places) c.as_slice-chain.result.now =
-    rw chain (places_within g.content.tree g.content.bytes s.slots.places (rows_of s.slots.dups) c.self.invariant.lawful.places_below) in
+    rw chain (places_within _ _ _ _ c.self.invariant.lawful.places_below) in
     omega (arith, below k d within, c.counts.ensures.places)
 
 not_open : (b : Bool) → not b ≡ true → b ≡ false
@@ -27,7 +26,5 @@ returns-then-chain-le-SHORT_CHAIN c closed t b is =
     let chain = c.as_slice-chain.ensures
     ∙ group_here c.self.invariant t b (ap (λ v. number_of t b v.numbers) c.self.view_is ∙ is) c.in-Some.ensures in
     let each = AllPass-from_list_all (λ p. not (is_open limit (get_or counts p 0))) places (sym c.none_open.ensures ∙ closed) in
-    let none = All-weaker (λ p. not (is_open limit (get_or counts p 0)) ≡ true) (λ p. is_open limit (length (items_in (dup_at p s.slots.dups))) ≡ false)
-    (λ p h. ap (is_open limit) (sym (c.counts.ensures.each p)) ∙ not_open _ h) places each in
-    sym (ap (λ v. best_of t b limit v.dups) c.self.view_is)
-    ∙ closed_best t b limit s.slots.dups c.self.invariant.lawful.in_place_order chain none
+    rw (← c.self.view_is) (closed_best t b limit s.slots.dups c.self.invariant.lawful.in_place_order chain
+    (λ k d lt. grind (arith, c.counts.ensures.each (get_or places k d), each k d lt)))

@@ -1,36 +1,31 @@
-use Rattle.ksm_tree.proofs.Names.{ap, Group, refl, sym, with_place, ◌∙◌}
+use Rattle.ksm_tree.proofs.Names.{ap, refl, rules, sym, with_place, ◌∙◌}
 use Rattle.ksm_tree.proofs.Standing.{rechained, rewritten, same_waiting, stands_under}
 use Rattle.ksm_tree.proofs.groups.Groups.add.Goals as goal
 
 pub unreachable-requires-in_default-get_mut : goal.unreachable-requires-in_default-get_mut
-unreachable-requires-in_default-get_mut c = stands_under c.args.self.now _ _ (sym c.in-Some.ensures) c.in_default-get_mut.ensures.value
+unreachable-requires-in_default-get_mut c = search (rules, stands_under)
 
 pub invariant_of-self : goal.invariant_of-self
 invariant_of-self c =
     let s = c.args.self.now in
-    let now : Group = record c.in-Some-get_mut.group.now { places = c.reserve.new.self } in
     let stood = c.in-Some-get_mut.ensures.value in
-    record { lawful = rewritten s c.in-Some.number _ now stood refl (s.lawful.passes c.in-Some.number _ (sym stood)); bounded = s.bounded }
+    record { lawful = rewritten s _ _ _ stood refl (s.lawful.passes _ _ (sym stood)); bounded = s.bounded }
 
 pub returns-in_err-reserve-clause-waits : goal.returns-in_err-reserve-clause-waits
 returns-in_err-reserve-clause-waits c =
-    let now : Group = record c.in-Some-get_mut.group.now { places = c.reserve.new.self } in
-    record { waiting = same_waiting c.args.self.now _ _ now c.in-Some-get_mut.ensures.value refl refl; numbers = refl; most = refl }
+    record { waiting = same_waiting c.args.self.now _ _ _ c.in-Some-get_mut.ensures.value refl refl; numbers = refl; most = refl }
 
 pub invariant_of-self-2 : goal.invariant_of-self-2
 invariant_of-self-2 c =
     let s = c.args.self.now in
-    let now : Group = record c.in-Some-get_mut.group.now { places = c.insert.new.self } in
     let stood = c.in-Some-get_mut.ensures.value in
-    record { lawful = rewritten s c.in-Some.number _ now stood refl (s.lawful.passes c.in-Some.number _ (sym stood)); bounded = s.bounded }
+    record { lawful = rewritten s _ _ _ stood refl (s.lawful.passes _ _ (sym stood)); bounded = s.bounded }
 
 pub returns-clause-added : goal.returns-clause-added
 returns-clause-added c =
-    let now : Group = record c.in-Some-get_mut.group.now { places = c.insert.new.self } in
-    rechained c.args.self.now c.in-Some.number _ now c.in-Some-get_mut.ensures.value refl
-    (with_place c.args.place) (c.insert.ensures.with ∙ ap (with_place c.args.place) c.reserve.ensures.kept) c.args.tree c.args.bytes.now (sym c.in-Some.ensures)
+    rechained c.args.self.now _ _ _ c.in-Some-get_mut.ensures.value refl (with_place c.args.place)
+    (c.insert.ensures.with ∙ ap (with_place c.args.place) c.reserve.ensures.kept) _ _ (sym c.in-Some.ensures)
 
 pub returns-clause-waits : goal.returns-clause-waits
 returns-clause-waits c =
-    let now : Group = record c.in-Some-get_mut.group.now { places = c.insert.new.self } in
-    record { waiting = same_waiting c.args.self.now _ _ now c.in-Some-get_mut.ensures.value refl refl; numbers = refl; most = refl }
+    record { waiting = same_waiting c.args.self.now _ _ _ c.in-Some-get_mut.ensures.value refl refl; numbers = refl; most = refl }

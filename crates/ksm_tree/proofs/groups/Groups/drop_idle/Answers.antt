@@ -17,11 +17,9 @@ returns-in-Some-clause-chains c =
     let k = c.in-Some.group.content in
     let was = c.if-not-is_idle.ensures.idle refl in
     let named = (s.lawful.numbered k c.args.number).1 (ap content_in (sym c.in-Some.ensures.value)) in
-    record {
-      chains = idle_chains s.numbers c.remove.new.self s.lawful k _ c.remove.ensures.updates c.try_remove.ensures.updates was (refl, refl)
-          (sym (ap (under [] (λ n. places_in (get s.groups n))) named ∙ was.0));
-      totals = refl;
-    }
+    let none = sym (ap (under [] (λ n. places_in (get s.groups n))) named ∙ was.0) in
+    let gone = c.try_remove.ensures.updates in
+    record { chains = idle_chains s.numbers c.remove.new.self s.lawful k _ c.remove.ensures.updates gone was (refl, refl) none; totals = refl }
 
 pub returns-in-Some-clause-waiting : goal.returns-in-Some-clause-waiting
 returns-in-Some-clause-waiting c =

@@ -7,13 +7,13 @@ use Rattle.ksm_tree.proofs.groups.Groups.enter.Goals as goal
 use Rattle.ksm_tree.proofs.groups.Groups.enter.Goals.{After-insert_reserved}
 
 pub returns-in_err-reserve_one-clause-absent : goal.returns-in_err-reserve_one-clause-absent
-returns-in_err-reserve_one-clause-absent c = on_err _ (none_here c.args.self.now _ _ c.requires)
+returns-in_err-reserve_one-clause-absent c = search (rules, on_err, none_here)
 
 pub returns-in_default-clause-absent : goal.returns-in_default-clause-absent
-returns-in_default-clause-absent c = none_here c.args.self.now _ _ c.requires
+returns-in_default-clause-absent c = search (rules, none_here)
 
 pub returns-in_err-insert-clause-absent : goal.returns-in_err-insert-clause-absent
-returns-in_err-insert-clause-absent c = on_err _ (none_here c.args.self.now _ _ c.requires)
+returns-in_err-insert-clause-absent c = search (rules, on_err, none_here)
 
 entered : (c : After-insert_reserved) → Entered c.args.self.now c.insert_reserved.new.self c.insert.new.self
 entered c =

@@ -1,15 +1,13 @@
-use Rattle.ksm_tree.proofs.Names.{ap, sym, waiting_page, ◌∙◌}
+use Rattle.ksm_tree.proofs.Names.{rules}
 use Rattle.ksm_tree.proofs.Standing.{none_here}
 use Rattle.ksm_tree.proofs.Used.{reserve_left}
 use Rattle.ksm_tree.proofs.groups.Groups.search_or_enter.Goals as goal
 
 pub returns-in-Some-clause-reserve : goal.returns-in-Some-clause-reserve
-returns-in-Some-clause-reserve c = reserve_left c.args.self.now c.make_room.ensures.room
+returns-in-Some-clause-reserve c = search (rules, reserve_left)
 
 pub returns-in-None-2-clause-reserve : goal.returns-in-None-2-clause-reserve
-returns-in-None-2-clause-reserve c = reserve_left c.args.self.now c.make_room.ensures.room
+returns-in-None-2-clause-reserve c = search (rules, reserve_left)
 
 pub returns-in-None-2-clause-absent : goal.returns-in-None-2-clause-absent
-returns-in-None-2-clause-absent c =
-    ap (waiting_page c.args.tree c.args.bytes.now) (sym c.make_room.ensures.waiting)
-    ∙ none_here c.make_room.new.self c.args.tree c.args.bytes.now (sym c.search.ensures ∙ c.in-None-2.is)
+returns-in-None-2-clause-absent c = search (rules, none_here)

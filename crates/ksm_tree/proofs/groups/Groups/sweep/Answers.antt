@@ -1,14 +1,6 @@
-use Rattle.ksm_tree.proofs.Names.{arith}
+use Rattle.ksm_tree.proofs.Names.{rules}
 use Rattle.ksm_tree.proofs.Used.{all_used, within_slots}
 use Rattle.ksm_tree.proofs.groups.Groups.sweep.Goals as goal
 
 pub returns-clause-swept : goal.returns-clause-swept
-returns-clause-swept c =
-    let s = c.loop-number.self in
-    record {
-      used = all_used s s.lawful (λ n has.
-          let inside = within_slots s.groups n has in
-          c.loop-number.invariant.3 n (omega (arith, inside, c.capacity-number-end.ensures.slots, c.loop-number.invariant.2, c.loop-number-test.false)) has);
-      least = omega (arith, s.bounded, c.len.ensures.len, c.saturating_add-self.ensures, c.len.ensures.small);
-      most = omega (arith, s.bounded, c.len.ensures.len, c.saturating_add-self.ensures, c.len.ensures.small);
-    }
+returns-clause-swept c = search (rules, all_used, within_slots)

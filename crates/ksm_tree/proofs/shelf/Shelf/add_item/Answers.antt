@@ -1,11 +1,10 @@
-use Rattle.ksm_tree.proofs.Names.{ap, arith, get_or, Kept, length, sym, Updates-with_value, with_item, ◌∙◌, ◌≡◌, None, items_in, rules}
+use Rattle.ksm_tree.proofs.Names.{ap, get_or, length, sym, Updates-with_value, with_item, ◌∙◌, ◌≡◌, None, items_in, rules}
 use Rattle.ksm_tree.proofs.Shelved.{changed, filled_key, items_there, key_read, not_none}
 use Rattle.ksm_tree.proofs.shelf.Shelf.add_item.Goals as goal
 use Rattle.ksm_tree.proofs.shelf.Shelf.add_item.Goals.{In-Some}
 
 pub index-key-requires : goal.index-key-requires
-index-key-requires c =
-    omega (arith, filled_key _ _ _ c.self.view_is c.requires.known, c.self.inside.keys.ok.0)
+index-key-requires c = search (rules, filled_key)
 
 pub unreachable-requires : goal.unreachable-requires
 unreachable-requires c =
@@ -33,14 +32,12 @@ add-requires-clause-absent c = rw (← items (goal.at.add-requires-clause-absent
 pub returns-clause-added : goal.returns-clause-added
 returns-clause-added c =
     let was = c.in-Some.kept.now in
-    let now : Kept = record { dup = record { row = was.dup.row; items = c.add.new.self }; group = was.group } in
-    let old = c.self.inside.dups in
-    let key = c.index-key.result.now in
-    changed c.args.place key c.self.inside.keys.items old _ c.args.self.now c.self.view_is was now (with_item c.args.page)
+    changed _ _ _ c.self.inside.dups _ _ c.self.view_is was _ (with_item c.args.page)
     (read (goal.at.returns-clause-added c).In-Some) c.requires.known (sym c.in-Some.ensures.value)
     (λ i. record { row = was.dup.row; items = c.in_ok-add-in-Some.ensures.added i })
-    (Updates-with_value old key now (search rules))
+    (Updates-with_value _ _ _ (search rules))
 
 pub returns-clause-count : goal.returns-clause-count
 returns-clause-count c =
-    c.len.ensures.count ∙ ap length c.in_ok-add-in-Some.ensures.added ∙ ap (λ l. length (with_item c.args.page l)) (sym (items (goal.at.returns-clause-count c).In-Some))
+    rw (items (goal.at.returns-clause-count c).In-Some)
+    (c.len.ensures.count ∙ ap length c.in_ok-add-in-Some.ensures.added)

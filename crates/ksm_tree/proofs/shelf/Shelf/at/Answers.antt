@@ -1,12 +1,10 @@
-use Rattle.ksm_tree.proofs.Names.{ap, arith, get, get_or, kept_at, length, nat_tests, None, option_copied, sym, ◌<◌, ◌∙◌, ◌≡◌, ◌≤◌}
-use Rattle.ksm_tree.proofs.Shelved.{at_here, at_other, seen_by, seen_past}
+use Rattle.ksm_tree.proofs.Names.{nat_tests, ap, arith, get, get_or, kept_at, length, None, ◌<◌, ◌∙◌, ◌≡◌, rules}
+use Rattle.ksm_tree.proofs.Shelved.{seen_by, seen_past}
 use Rattle.ksm_tree.proofs.shelf.Shelf.at.Goals as goal
 use Rattle.ksm_tree.proofs.shelf.Shelf.at.Goals.{In_ok-key}
 
 pub returns-in_err-key : goal.returns-in_err-key
-returns-in_err-key c =
-    let past : length c.self.inside.keys.items ≤ c.args.place = grind (arith, nat_tests, c.deref.ensures.value) in
-    ap option_copied c.from_residual.ensures ∙ seen_past _ _ _ c.self.view_is past
+returns-in_err-key c = search (rules, seen_past)
 
 -- what is at the place lies under its key
 seen : (c : In_ok-key) → kept_at c.args.place (get c.self.inside.dups c.in_ok-key.field-0.now) ≡ get_or c.args.self.now.slots c.args.place None
@@ -18,16 +16,12 @@ seen c =
 
 pub returns-in_err-kept : goal.returns-in_err-kept
 returns-in_err-kept c =
-    ap option_copied c.from_residual-in_err-kept.ensures ∙ ap (kept_at c.args.place) c.in_err-kept.ensures ∙ seen (goal.at.returns-in_err-kept c).In_ok-key
+    grind (arith, c.from_residual-in_err-kept.ensures, c.in_err-kept.ensures, seen (goal.at.returns-in_err-kept c).In_ok-key)
 
 pub returns-then-kept-place : goal.returns-then-kept-place
 returns-then-kept-place c =
-    sym (at_here c.in_ok-kept.kept.now c.if-kept-place.true)
-    ∙ ap (kept_at c.args.place) c.in_ok-kept.ensures
-    ∙ seen (goal.at.returns-then-kept-place c).In_ok-key
+    grind (arith, nat_tests, c.in_ok-kept.ensures, seen (goal.at.returns-then-kept-place c).In_ok-key)
 
 pub returns-else-kept-place : goal.returns-else-kept-place
 returns-else-kept-place c =
-    sym (at_other _ c.in_ok-kept.kept.now c.if-kept-place.false)
-    ∙ ap (kept_at c.args.place) c.in_ok-kept.ensures
-    ∙ seen (goal.at.returns-else-kept-place c).In_ok-key
+    grind (arith, nat_tests, c.in_ok-kept.ensures, seen (goal.at.returns-else-kept-place c).In_ok-key)

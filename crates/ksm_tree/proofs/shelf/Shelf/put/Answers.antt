@@ -1,4 +1,4 @@
-use Rattle.ksm_tree.proofs.Names.{ap, arith, Kept, length, length-set, None, refl, set, Some, ◌<◌, ◌∙◌}
+use Rattle.ksm_tree.proofs.Names.{ap, arith, Kept, length, length-set, None, refl, set, Some, ◌<◌, ◌∙◌, rules}
 use Rattle.std.proofs.lemmas.List.{set-set}
 use Rattle.ksm_tree.proofs.Shelved.{filled, many}
 use Rattle.ksm_tree.proofs.shelf.Shelf.put.Goals as goal
@@ -11,7 +11,7 @@ within c =
     omega (arith, c.requires.place, slots, many c.args.dup.row.place c.self.inside.keys.items c.self.inside.dups c.self.view_is)
 
 pub index_mut-requires : goal.index_mut-requires
-index_mut-requires c = omega (arith, within (goal.at.index_mut-requires c).After-insert_reserved-key, c.self.inside.keys.ok.0)
+index_mut-requires c = search (rules, within)
 
 pub returns : goal.returns
 returns c =

@@ -1,11 +1,10 @@
-use Rattle.ksm_tree.proofs.Names.{ap, arith, refl, get_or, Kept, length, sym, Updates-with_value, without_item, ◌∙◌, ◌≡◌, None, items_in, rules}
+use Rattle.ksm_tree.proofs.Names.{ap, refl, get_or, length, sym, Updates-with_value, without_item, ◌∙◌, ◌≡◌, None, items_in, rules}
 use Rattle.ksm_tree.proofs.Shelved.{changed, filled_key, items_there, key_read, not_none}
 use Rattle.ksm_tree.proofs.shelf.Shelf.remove_item.Goals as goal
 use Rattle.ksm_tree.proofs.shelf.Shelf.remove_item.Goals.{In-Some}
 
 pub index-key-requires : goal.index-key-requires
-index-key-requires c =
-    omega (arith, filled_key _ _ _ c.self.view_is c.requires, c.self.inside.keys.ok.0)
+index-key-requires c = search (rules, filled_key)
 
 pub unreachable-requires : goal.unreachable-requires
 unreachable-requires c =
@@ -27,13 +26,10 @@ items c =
 pub returns-then-not-remove-clause-removed : goal.returns-then-not-remove-clause-removed
 returns-then-not-remove-clause-removed c =
     let was = c.in-Some.kept.now in
-    let now : Kept = record { dup = record { row = was.dup.row; items = c.remove.new.self }; group = was.group } in
-    let old = c.self.inside.dups in
-    let key = c.index-key.result.now in
-    changed c.args.place key c.self.inside.keys.items old _ c.args.self.now c.self.view_is was now (without_item c.args.page)
+    changed _ _ _ c.self.inside.dups _ _ c.self.view_is was _ (without_item c.args.page)
     (read (goal.at.returns-then-not-remove-clause-removed c).In-Some) c.requires (sym c.in-Some.ensures.value)
     (λ i. record { row = was.dup.row; items = c.remove.ensures.removed i })
-    (Updates-with_value old key now (search rules))
+    (Updates-with_value _ _ _ (search rules))
 
 pub returns-then-not-remove-clause-count : goal.returns-then-not-remove-clause-count
 returns-then-not-remove-clause-count c =
@@ -42,13 +38,10 @@ returns-then-not-remove-clause-count c =
 pub returns-clause-removed : goal.returns-clause-removed
 returns-clause-removed c =
     let was = c.in-Some.kept.now in
-    let now : Kept = record { dup = record { row = was.dup.row; items = c.remove.new.self }; group = was.group } in
-    let old = c.self.inside.dups in
-    let key = c.index-key.result.now in
-    changed c.args.place key c.self.inside.keys.items old _ c.args.self.now c.self.view_is was now (without_item c.args.page)
+    changed _ _ _ c.self.inside.dups _ _ c.self.view_is was _ (without_item c.args.page)
     (read (goal.at.returns-clause-removed c).In-Some) c.requires (sym c.in-Some.ensures.value)
     (λ i. record { row = was.dup.row; items = c.remove.ensures.removed i })
-    (Updates-with_value old key now (search rules))
+    (Updates-with_value _ _ _ (search rules))
 
 pub returns-clause-count : goal.returns-clause-count
 returns-clause-count c =
