@@ -78,13 +78,13 @@ module _ {asked : Row → Bool} (f : Row → Row) (keeps : (r : Row) → (f r).p
       and_right (asked (changed r)) _ (ap (after_cursor last) (page_kept r) ∙ a.behind k d lt)))
 
   agree : All (λ r. next_of last r ≡ asked r) left
-  agree = λ k d lt. grind (arith, lt)
+  agree = λ k d lt. grind arith
 
   -- where no row asked for comes after the cursor, each row asked for is changed, and those left are not asked for
   pub along_end : find (next_of last) now ≡ None → (now ≡ change_rows asked f rows) × All (λ r. asked r ≡ false) left
   along_end ended =
       let all = find_none _ _ (sym among ∙ ended) in (
-        grind (arith, a.are, change_none, map-append changed done left, a.whole),
+        grind (arith, a.are, change_none, map-append changed done left),
         λ k d lt. sym (agree k d lt) ∙ all k d lt,
       )
 
@@ -99,12 +99,12 @@ module _ {asked : Row → Bool} (f : Row → Row) (keeps : (r : Row) → (f r).p
     rest = cut.1
 
     whole : rows ≡ before ++ r ∷ rest
-    whole = grind (arith, a.whole, cut.2, append_assoc done cut.0 (r ∷ rest))
+    whole = grind (arith, cut.2, append_assoc done cut.0 (r ∷ rest))
 
     now_is : now ≡ map changed before ++ r ∷ rest
     now_is =
         rw (map-append changed done cut.0)
-        (grind (arith, a.are, cut.2, change_none, append_assoc (map changed done) (map changed cut.0) (r ∷ rest)))
+        (grind (arith, cut.2, change_none, append_assoc (map changed done) (map changed cut.0) (r ∷ rest)))
 
     pairs : AllPairs (λ (x y : Row). comes_before x.page y.page ≡ true) (before ++ r ∷ rest)
     pairs = subst InPageOrder whole rise
@@ -131,14 +131,12 @@ module _ {asked : Row → Bool} (f : Row → Row) (keeps : (r : Row) → (f r).p
       before = before;
       rest = rest;
       whole = whole;
-      met = λ t. let u = λ (x : Row). asked x && t x in
-          filter-append u _ _ ∙ ap (λ l. filter u done ++ l) (filter_none u _ (λ k d lt. rw (cut.4 k d lt)))
-          ∙ append-nil (filter u done);
+      met = grind (arith, filter-append, filter_none, append-nil);
       of = cut.3;
       there = ap (row_at r.page) now_is ∙ find_apart _ _ _ apart
           ∙ ap (λ (b : Bool). if b then Some r else row_at r.page rest) (same_page_refl r.page);
       next = record {
-        whole = whole ∙ sym (append_assoc before (r ∷ []) rest);
+        whole = grind (arith, append_assoc);
         are =
             let still = change_none _ f _ apart in
             let here = ap (λ (b : Bool). if b then f r else r) (same_page_refl r.page) in
@@ -148,12 +146,12 @@ module _ {asked : Row → Bool} (f : Row → Row) (keeps : (r : Row) → (f r).p
             ∙ (λ t. still t ++ here t ∷ later t) ∙ sym (one_more _);
         behind = All-append (λ x. comes_before r.page x.page ≡ false) _ _
             (λ k d lt. not_both (get_or before k d).page r.page (first k d lt))
-            (All-cons (λ x. comes_before r.page x.page ≡ false) r [] (before_irrefl r.page) (λ k d lt. absurd (omega arith)));
+            (grind (arith, All-cons));
         ahead = behind;
       };
       stop =
           let test = λ (x : Row). asked x && comes_before x.page r.page in
-          let few = map_alike _ _ _ (λ k d lt. grind (arith, first k d lt, and-true (asked (get_or before k d)))) in
+          let few = map_alike _ _ _ (λ k d lt. grind (arith, first k d lt)) in
           let none = change_none test f _ (All-cons (λ x. test x ≡ false) r _
           (and_right (asked r) _ (before_irrefl r.page)) (λ k d lt. let x = get_or rest k d in
           and_right (asked x) _ (not_both r.page x.page (behind k d lt)))) in
@@ -164,7 +162,7 @@ module _ {asked : Row → Bool} (f : Row → Row) (keeps : (r : Row) → (f r).p
   -- where a search tells a page as the next one asked for after the cursor, the rows are cut at that page
   pub along_cut : InPageOrder rows → (page : GuestPage) → option_map (λ r. r.page) (find (next_of last) now) ≡ Some page
       → IsCut asked f rows now done page
-  along_cut rise page told = grind (arith, (mapped_some _ _ told).2, cut_there)
+  along_cut rise page told = grind (arith, cut_there)
 
 -- ---------------------------------------------------------------- how far the cursor is
 
@@ -181,7 +179,7 @@ FitsPage (Some p) = (p.guest < 65536) × (p.page < 4294967296)
 -- the next page of a guest, or of all, after a cursor that fits has a greater position than the cursor
 pub further : (guest : Option ℕ) (last : Option GuestPage) (rows : List Row) (page : GuestPage) → FitsPage last
     → option_map (λ r. r.page) (find (is_next guest last) rows) ≡ Some page → position last < position (Some page)
-further guest last rows page fits told = grind (arith, mapped_some, find_passes, and_parts)
+further guest last rows page fits told = grind (arith, find_passes, and_parts)
 
 -- the position of a cursor that fits is 2^48 at most
 pub not_far : (last : Option GuestPage) → FitsPage last → position last ≤ 281474976710656

@@ -46,7 +46,7 @@ off_page page o frame p other = rw other
 
 -- the row that is found at a page is of that page
 pub found_page : (page : GuestPage) (rows : List Row) (row : Row) → row_at page rows ≡ Some row → row.page ≡ page
-found_page page rows row found = same_page_eq _ _ (find_passes (λ r. same_page r.page page) rows row found)
+found_page page rows row found = same_page_eq _ _ (grind (arith, find_passes))
 
 -- a page that comes to lie on a frame twice lies on the second
 pub lies_again : (page : GuestPage) (o n : Option ℕ) (frame : Frames) → lies_on page n (lies_on page o frame) ≡ lies_on page n frame
@@ -54,7 +54,7 @@ lies_again page o n frame = same_frames _ _ (λ p. grind arith)
 
 -- a page that lies where it lay changes nothing
 pub lies_still : (page : GuestPage) (o : Option ℕ) (frame : Frames) → frame page ≡ o → lies_on page o frame ≡ frame
-lies_still page o frame there = same_frames _ _ (λ p. grind (arith, same_page_eq p page))
+lies_still page o frame there = same_frames _ _ (λ p. grind arith)
 
 -- ---------------------------------------------------------------- the rows
 
@@ -62,17 +62,14 @@ lies_still page o frame there = same_frames _ _ (λ p. grind (arith, same_page_e
 pub row_of_page : (page : GuestPage) (rows : List Row) (row : Row) → InPageOrder rows → row_at page rows ≡ Some row → All (λ r. same_page r.page page ≡ true → r ≡ row) rows
 row_of_page page rows row rise found =
     let each = find_all (λ r. same_page r.page page) (λ r. All (λ s. same_page s.page r.page ≡ true → s ≡ r) rows) rows row found (one_of_each_page rows rise) in
-    λ i d lt same. each i d lt (grind (arith, found_page page rows row found, same))
+    grind (arith, found_page)
 
 -- where P holds of each row and the row of a page changes, Q holds of each, if P gives Q there and elsewhere
 pub all_changed_row : (P Q : Row → Type 0) (page : GuestPage) (c : Row → Row) (rows : List Row) (row : Row) → InPageOrder rows → row_at page rows ≡ Some row → All P rows
     → ((r : Row) → same_page r.page page ≡ false → P r → Q r) → (P row → Q (c row)) → All Q (change_row page c rows)
 all_changed_row P Q page c rows row rise found all others here =
     let one = row_of_page _ _ row rise found in
-    All-map Q _ _ (λ i d lt.
-    let r = get_or rows i d in
-    cond_both _ (c r) r Q (λ same. subst (λ s. P s → Q (c s)) (sym (one i d lt same)) here (all i d lt))
-    (λ other. others r other (all i d lt)))
+    All-map Q _ _ (grind arith)
 
 -- ---------------------------------------------------------------- how many lie on a frame
 
@@ -90,7 +87,7 @@ module _ (f : ℕ) (page : GuestPage) (o : Option ℕ) (frame : Frames) where
 
   -- where no row is of the page, as many lie on the frame as did
   apart_uses : (rows : List Row) → All (λ r. same_page r.page page ≡ false) rows → uses f (lies_on page o frame) rows ≡ uses f frame rows
-  apart_uses rows apart = grind (arith, apart, count_alike, off_page)
+  apart_uses rows apart = grind (arith, apart, count_alike)
 
   -- where the row of a page goes, one row less lies on the frame if the page lay there, else as many
   pub uses_gone : (rows : List Row) (row : Row) → InPageOrder rows → row_at page rows ≡ Some row → uses f (lies_on page o frame) (without_page page rows) + one_at f (frame page) ≡ uses f frame rows
@@ -128,7 +125,7 @@ uses_some f frame rows = λ i d lt e. counts_one _ _ i d lt (is_it f e)
 -- a change of a page's row, and then another, are one change where the second makes the same of both
 pub change_twice : (page : GuestPage) (c d e : Row → Row) (rows : List Row) → ((r : Row) → (c r).page ≡ r.page) → All (λ r. same_page r.page page ≡ true → d (c r) ≡ e r) rows
     → change_row page d (change_row page c rows) ≡ change_row page e rows
-change_twice page c d e rows keeps same = grind (arith, keeps, same, map_mapped)
+change_twice page c d e rows keeps same = grind (arith, same, map_mapped)
 
 -- where the row of a page changes, the changed row is found at the page
 pub at_changed : (page : GuestPage) (c : Row → Row) (rows : List Row) (row : Row) → ((r : Row) → (c r).page ≡ r.page) → row_at page rows ≡ Some row → row_at page (change_row page c rows) ≡ Some (c row)

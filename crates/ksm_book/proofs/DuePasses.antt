@@ -34,7 +34,7 @@ hidden_rest b sound page pages are = λ t. record b { rows = map_alike f g _ eac
     g r = if not (comes_before r.page page) then settled r else r
 
     each : All (λ r. f r ≡ g r) b.rows
-    each k d lt = grind (arith, mergeable_has, waits_mergeable, has_filter, stays_settled)
+    each k d lt = grind (arith, mergeable_has, has_filter, stays_settled)
 
 -- a book as a pass begins, with what was done
 module _ (s : BookState × Deed) (sound : IsSound s.0) (start : s.0.cursor ≡ None) where
@@ -55,11 +55,11 @@ module _ (s : BookState × Deed) (sound : IsSound s.0) (start : s.0.cursor ≡ N
   -- the visits of the first pages, where the others are hidden
   alike : (done rest : List GuestPage) → all ≡ done ++ rest
       → pages_visited doing (pass_begun s.0, s.1) done ≡ (hidden rest (due_visits doing s done).0, (due_visits doing s done).1)
-  alike done rest is = grind (arith, begun_none, hidden_all s.0 sound, due_alike done rest s sound is)
+  alike done rest is = grind (arith, hidden_all s.0 sound, due_alike done rest s sound is)
 
   -- the visits of all pages
   pub whole_part : due_visits doing s (pages_ahead s.0) ≡ part_visited None s
-  whole_part = grind (arith, ahead_all, hidden_none (due_visits doing s all).0, alike all [] (sym (append-nil all)), begun_all, filter_all)
+  whole_part = grind (arith, ahead_all, hidden_none (due_visits doing s all).0, alike all [] (sym (append-nil all)), begun_all)
 
   -- the visits of the pages before one, once no row from there on waits
   pub before_part : (page : GuestPage) → (
@@ -70,20 +70,16 @@ module _ (s : BookState × Deed) (sound : IsSound s.0) (start : s.0.cursor ≡ N
       let t : GuestPage → Bool = λ p. comes_before p page in
       let done = filter t all in
       let ascends = subst AreAscending ahead_all (ascending_ahead s.0 sound.rows_rise) in
-      let after = due_visits doing s done in
       rw begun_all
       ((λ i. (hidden_from page (due_visits doing s (filter t (ahead_all i))).0, (due_visits doing s (filter t (ahead_all i))).1))
-      ∙ (λ i. (sym (hidden_rest _ (due_visits_sound done s sound) page all (due_goes done s sound).mergeable) i, after.1))
+      ∙ (grind (arith, hidden_rest, due_visits_sound, due_goes))
       ∙ sym (alike done (filter (λ p. not (t p)) all) (parted t (before_down _) all ascends)))
 
 -- ---------------------------------------------------------------- visits of what is due
 
 -- where a page is not behind a cursor, no page before that page is
 cursor_down : (cursor : Option GuestPage) → GoesDown (λ p. not (after_cursor cursor p))
-cursor_down cursor p q before fails = elim (cases_Bool (after_cursor cursor p)) [
-  | inl behind ↦ absurd (both_ways (after_cursor cursor q) (not-true (after_cursor cursor q) fails) (after_later _ p q behind before))
-  | inr is ↦ ap not is
-]
+cursor_down cursor p q before fails = grind (arith, not-true)
 
 -- a page that does not come before one behind the cursor is behind the cursor
 no_earlier : (c : Option GuestPage) (p q : GuestPage) → after_cursor c p ≡ true → comes_before q p ≡ false → after_cursor c q ≡ true
@@ -107,7 +103,7 @@ module _ (s : BookState × Deed) (sound : IsSound s.0) (pages : List GuestPage) 
     stay : (u : GuestPage → Bool) → ((q : GuestPage) → after_cursor cursor q ≡ true → u q ≡ true → has_item q due ≡ false)
         → due_visits doing reached (filter u left) ≡ reached
     stay u none =
-        undue_stay _ _ due (due_visits_sound (filter passed pages) s sound) are
+        undue_stay _ _ due (grind (arith, due_visits_sound)) are
         (λ k d lt. none (get_or (filter u left) k d)
         (not-false (All-filter u (λ q. not (passed q) ≡ true) _ (filter_passes (λ p. not (passed p)) pages) k d lt))
         (filter_passes u _ k d lt))
@@ -155,7 +151,7 @@ module _ (s : BookState × Deed) (sound : IsSound s.0) (pages : List GuestPage) 
             let at = place_of _ _ there in
             let splits = place_splits _ _ _ rise at.1 in
             rw (← before_visited)
-            (grind (arith, splits.1, take_one, splits.0, visits_on (filter low pages) (page ∷ []) s))
+            (grind (arith, take_one, splits.0, visits_on (filter low pages) (page ∷ []) s))
         | inr out ↦
             ap (due_visits doing s) (filter_same _ low _ (λ k d lt. others _ (absent _ _ out k d lt))) ∙ before_visited
             ∙ sym (calm_stays _ _ (calm out))

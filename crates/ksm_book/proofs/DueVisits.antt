@@ -31,5 +31,4 @@ gone_due p q cursor passes page rise is = by _ refl is
 -- where all restless pages are listed, no other is due
 pub listed_due : (b : BookState) (pages : List GuestPage) → InPageOrder b.rows → AreListed b.rows pages → AreDue b pages
 listed_due b pages rise listed k d lt restless out =
-    let r = get_or b.rows k d in
     absurd (true≢false (sym (listed.1 _ (ap restless_row (each_at_page _ rise k d lt) ∙ restless)) ∙ out))

@@ -18,15 +18,13 @@ ahead_ends cursor rows visits ahead comes = rw (← pages_are cursor rows) (by _
     same = length-map (rows_ahead cursor rows) (λ (r : Row). r.page)
 
     by : (ahead : Ahead) → ComesTo (rows_ahead cursor rows) visits ahead → EndsAt (map (λ r. r.page) (rows_ahead cursor rows)) visits ahead
-    by (At page) told = (omega (arith, same, told.0), slice_get-map _ (rows_ahead cursor rows) _ ∙ told.1)
+    by (At page) told = (omega (arith, same), slice_get-map _ (rows_ahead cursor rows) _ ∙ told.1)
     by (End made) told = (told.0 ∙ sym same, told.1)
 
 between_are : (cursor : Option GuestPage) (page : GuestPage) (rows : List Row)
     → map (λ r. r.page) (rows_between cursor page rows)
     ≡ filter (λ p. comes_before p page) (filter (after_cursor cursor) (mergeable_pages rows))
-between_are cursor page rows =
-    sym (filter_mapped (λ (r : Row). r.page) (λ p. comes_before p page) (λ r. comes_before r.page page) (rows_ahead cursor rows) (λ i d lt. refl))
-    ∙ ap (filter (λ p. comes_before p page)) (pages_are cursor rows)
+between_are cursor page rows = grind (arith, filter_mapped, pages_are)
 
 -- the rows that scans visit between the cursor and a page are as many as the pages ahead before that page
 pub between_many : (cursor : Option GuestPage) (page : GuestPage) (rows : List Row)
@@ -43,7 +41,7 @@ last_is cursor (r ∷ rows) = last_is (Some r.page) rows
 pub between_last : (cursor : Option GuestPage) (page : GuestPage) (rows : List Row)
     → last_page cursor (rows_between cursor page rows)
     ≡ last_of cursor (filter (λ p. comes_before p page) (filter (after_cursor cursor) (mergeable_pages rows)))
-between_last cursor page rows = last_is cursor (rows_between cursor page rows) ∙ ap (last_of cursor) (between_are cursor page rows)
+between_last cursor page rows = grind (arith, last_is, between_are)
 
 -- scans visit as many pages as there are mergeable rows
 pub some_pages : (rows : List Row) → length (mergeable_pages rows) ≡ mergeable_count rows
