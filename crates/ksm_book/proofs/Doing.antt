@@ -1,5 +1,5 @@
 -- What visits do to the frames is done beside: nothing by the visit of a shared row, and the same wherever the cursor stands.
-use Rattle.ksm_book.proofs.Names.{ap, append-nil, best_dup, BookState, Deed, doing, DupRow, Frames, GuestPage, handling, idle, IsBeside, next_visited, None, Option, pairing, refl, Row, scanning, shared_state, Some, suc, then_doing, visit_begun, visiting_of, visits_beside, zero, ℕ, ◌≡◌, if◌then◌else◌, arith}
+use Rattle.ksm_book.proofs.Names.{append-nil, BookState, Deed, doing, DupRow, Frames, GuestPage, handling, idle, IsBeside, Option, pairing, refl, Row, scanning, suc, then_doing, visits_beside, zero, ℕ, ◌≡◌, arith}
 use Rattle.ksm_book.proofs.Going.{elsewhere}
 use Rattle.ksm_book.proofs.Folded.{beside_state}
 

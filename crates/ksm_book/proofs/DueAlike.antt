@@ -1,5 +1,5 @@
 -- Visits of pages do what those of the definitions do, where the rows further on that still wait are hidden from these.
-use Rattle.ksm_book.proofs.Names.{[], All, All-cons, All-head, All-map, and_parts, ap, append_assoc, AreAscending, arith, before_irrefl, best_dup, BookState, Bool, cases_Bool, change_row, change_rows, comes_before, comes_later, cond_both, count_mapped, Deed, doing, due_row_visited, due_visited, due_visits, dup_frame, DupRow, each_at_page, empty_from, emptying, false, filter, filter-append, filter_all, filter_none, find, find_all, find_mapped, find_none, find_nothing, find_passes, Frames, get_or, GuestPage, handled, handling, has_item, hidden, if◌then◌else◌, inl, inr, is_for_zero, is_no_rival, is_none, is_restless, IsSound, item_count, Knobs, List, list_all, map_alike, map_mapped, may_join, mergeable_pages, Merged, merged_into, nat_lt, new_place, None, not, not-true, not_both, Option, option_map, page, page_visited, pages_visited, PageState, paired, pairing, pairs_cross, pairs_head, pairs_tail, partner, place_count, place_or, private_state, refl, restless_at, restless_row, Row, row_at, row_visited, same_page, same_page_eq, same_page_refl, same_page_sym, seen, settled, settled_calmer, settled_state, shared_state, Some, sound_changed, sound_row_visited, stayed, staying, subst, sym, taken_over, takes_over, tells_waits, then_doing, tree_of, true, true≢false, visited, Waiting, waiting_not_private, waiting_state, waits_for, waits_tells, with_dup, with_none_waiting, Zero, ℕ, ◌&&◌, ◌++◌, ◌+◌, ◌==◌, ◌||◌, ◌∙◌, ◌∷◌, ◌≡◌}
+use Rattle.ksm_book.proofs.Names.{[], All, All-cons, All-head, All-map, and_parts, ap, append_assoc, AreAscending, arith, before_irrefl, best_dup, BookState, Bool, cases_Bool, change_row, change_rows, comes_before, comes_later, cond_both, count_mapped, Deed, doing, due_row_visited, due_visited, due_visits, dup_frame, DupRow, each_at_page, empty_from, emptying, false, filter, filter-append, filter_all, filter_none, find, find_all, find_mapped, find_none, find_nothing, find_passes, Frames, get_or, GuestPage, handled, handling, has_item, hidden, if◌then◌else◌, inl, inr, is_for_zero, is_no_rival, is_none, is_restless, IsSound, item_count, Knobs, List, list_all, map_alike, map_mapped, may_join, mergeable_pages, Merged, merged_into, nat_lt, new_place, None, not-true, not_both, Option, option_map, page, page_visited, pages_visited, PageState, paired, pairing, pairs_cross, pairs_head, pairs_tail, partner, place_count, place_or, private_state, refl, restless_at, restless_row, Row, row_at, row_visited, same_page, same_page_eq, same_page_refl, same_page_sym, seen, settled, settled_calmer, Some, sound_changed, sound_row_visited, stayed, staying, subst, sym, taken_over, takes_over, then_doing, tree_of, true, true≢false, visited, Waiting, waiting_not_private, waiting_state, waits_for, waits_tells, with_dup, with_none_waiting, Zero, ℕ, ◌&&◌, ◌++◌, ◌+◌, ◌==◌, ◌||◌, ◌∙◌, ◌∷◌, ◌≡◌}
 use Rattle.ksm_base.specs.declared.row.PageState.TheVariants.{Private}
 use Rattle.ksm_book.proofs.ByPage.{found_page, row_of_page}
 use Rattle.ksm_book.proofs.Doing.{then_idle}
@@ -8,18 +8,8 @@ use Rattle.ksm_book.proofs.Going.{change_goes, Goes, goes_on, goes_same}
 use Rattle.ksm_book.proofs.PagesAhead.{Before, filter_out, has_filter}
 use Rattle.ksm_book.proofs.RowVisits.{stayed_is, visited_by}
 use Rattle.std.proofs.lemmas.List.{map-id}
-use Rattle.ksm_pages.proofs.Resting.{settled_again, settled_still}
 
 -- ---------------------------------------------------------------- rows that wait no more
-
-merged_still : (n : ℕ) (s : PageState) → merged_into n (settled_state s) ≡ merged_into n s
-merged_still n s = grind arith
-
-shared_still : (s : PageState) → shared_state (settled_state s) ≡ shared_state s
-shared_still s = grind arith
-
-settled_is : (s : PageState) → waiting_state s ≡ false → settled_state s ≡ s
-settled_is s none = grind arith
 
 -- a row that does not wait stays as it is where it is to wait no more
 pub stays_settled : (r : Row) → waiting_state r.state ≡ false → settled r ≡ r
@@ -28,10 +18,6 @@ stays_settled r none = grind arith
 -- to settle a row twice is to settle it once
 pub settled_once : (r : Row) → settled (settled r) ≡ settled r
 settled_once r = grind arith
-
--- a row that waits no more waits for no row
-waits_not : (knobs : Knobs) (r x : Row) → waits_for knobs r (settled x) ≡ false
-waits_not knobs r x = rw (settled_still _)
 
 -- in a sound book a row that waits is mergeable
 pub waits_mergeable : (b : BookState) → IsSound b → All (λ r. waiting_state r.state ≡ true → r.mergeable ≡ true) b.rows
@@ -69,14 +55,8 @@ hidden_none b = grind (arith, map-id b.rows)
 -- ---------------------------------------------------------------- a book in which some rows wait no more
 
 module _ (test : Row → Bool) where
-  calmed_page : (r : Row) → (calmed test r).page ≡ r.page
-  calmed_page r = grind arith
-
   calmed_merged : (n : ℕ) (r : Row) → merged_into n (calmed test r).state ≡ merged_into n r.state
   calmed_merged n r = grind arith
-
-  calmed_restless : (r : Row) → is_restless (calmed test r) ≡ is_restless r
-  calmed_restless r = grind arith
 
   module _ (rows : List Row) where
     abbrev calm_rows : List Row
@@ -296,11 +276,7 @@ one_waits b r w s found k d lt is =
     let alone =
     find_all (waits_for b.knobs r) (λ y. waiting_state y.state ≡ true → partner b.knobs b.rows y ≡ None) b.rows w found
     s.waiting of_w.state in
-    elim (cases_Bool (same_page x.page w.page)) [
-      | inl same ↦ same_page_eq _ _ same
-      | inr other ↦
-          grind (arith, find_none)
-    ]
+    grind (arith, same_page_eq, find_none)
 
 module _ (b : BookState) (r : Row) where
   abbrev waits : Row → Bool

@@ -1,14 +1,11 @@
 -- A page that is stored to while it is merged or Zero, comes or goes: of the others only one that waits in its tree with its
 -- bytes may come to join its dup by that, so no other page becomes due.
-use Rattle.ksm_book.proofs.Names.{All, All-filter, all_changed, all_with_row, and_parts, Answer, ap, AreDue, arith, BookState, BookView, Bool, both_ways, bytes_eq, bytes_eq-Decides, cases_Bool, change_row, change_rows, count_with_row, count_without_page, Drop, dup_of_item, DupRow, eqb-true, Err, false, find_all, find_none, fresh_row, get_or, GuestPage, has_item, if◌then◌else◌, inl, inr, is_restless, IsAnswerUnless, IsCarried, IsDupOf, IsSound, item_count, List, may_join, merged_into, merged_state, None, not, Ok, Option, option_map, PageState, partner, refl, Register, Reply, Row, row_at, same_page, same_page_refl, same_page_sym, Some, stored, subst, sym, tells_waits, tree_of, true, waiting_state, waits_for, waits_on, with_row, without_page, ℕ, ◌&&◌, ◌+◌, ◌==◌, ◌||◌, ◌∙◌, ◌∷◌, ◌≡◌}
-use Rattle.ksm_base.specs.Answers.{IsAnswerOrMemory}
-use Rattle.ksm_base.specs.Refusals.{refused_if}
-use Rattle.ksm_base.specs.declared.fault.Fault.TheVariants.{UnknownPage}
+use Rattle.ksm_book.proofs.Names.{All, All-filter, all_changed, all_with_row, and_parts, Answer, ap, AreDue, arith, BookState, BookView, Bool, both_ways, bytes_eq, bytes_eq-Decides, cases_Bool, change_row, change_rows, count_with_row, count_without_page, Drop, dup_of_item, DupRow, eqb-true, Err, false, find_all, find_none, fresh_row, get_or, GuestPage, has_item, if◌then◌else◌, inl, inr, is_restless, IsCarried, IsDupOf, IsSound, item_count, List, may_join, merged_into, merged_state, None, Ok, Option, option_map, PageState, partner, refl, Register, Row, row_at, same_page, Some, stored, subst, sym, tells_waits, tree_of, true, waiting_state, waits_for, waits_on, with_row, without_page, ℕ, ◌&&◌, ◌+◌, ◌==◌, ◌||◌, ◌∙◌, ◌∷◌, ◌≡◌}
 use Rattle.ksm_pages.specs.Paged.{IsKnown, page_beside}
 use Rattle.ksm_tree.specs.Waits.{names}
 use Rattle.ksm_book.proofs.ByPage.{found_page, row_of_page}
 use Rattle.ksm_book.proofs.DueAlike.{one_waits}
-use Rattle.ksm_book.proofs.DueKept.{count_kept, itself, joins, more_due, none_is_best, none_to_join, on_tells, one_more, tells_on, AreAmong}
+use Rattle.ksm_book.proofs.DueKept.{count_kept, joins, more_due, none_is_best, none_to_join, AreAmong}
 
 -- ---------------------------------------------------------------- the row of a page leaves its dup
 
@@ -162,15 +159,6 @@ pub known_row : (rows : List Row) (page : GuestPage) → IsKnown page rows → (
 known_row rows page known = grind arith
 
 -- ---------------------------------------------------------------- a command that is answered with a reply
-
--- a page that was registered had no row
-absent_then : (b : BookState) (page : GuestPage) (node : ℕ) (bytes : List ℕ) (reply : Reply) → IsAnswerOrMemory b (Register page node bytes) (Ok reply)
-    → row_at page b.rows ≡ None
-absent_then b page node bytes reply answer = grind arith
-
--- a page that was dropped had a row
-known_then : (b : BookState) (page : GuestPage) (reply : Reply) → IsAnswerOrMemory b (Drop page) (Ok reply) → IsKnown page b.rows
-known_then b page reply answer = grind arith
 
 -- where a page was to be registered, what is due is so after it
 pub registered_due : (v w : BookView) (page : GuestPage) (node : ℕ) (bytes : List ℕ) (answer : Answer) (pages : List GuestPage)

@@ -1,10 +1,10 @@
 -- Passes that visit only the pages that are due: what waits on is left as it is, and what is due stays so.
-use Rattle.ksm_book.proofs.Names.{IsDueNoMore, restless_at, restless_row, All, All-cons, All-head, All-tail, AreDue, BookState, Bool, Contains, Deed, DupRow, Frames, GuestPage, HasStayed, InPageOrder, IsJoined, IsSound, Knobs, List, Merged, None, Option, PageState, Row, Some, Waiting, WaitsFor, Zero, [], all_changed, all_with_dup, and_from, and_parts, and_right, ap, arith, best_dup, best_dup_has_room, both_ways, bytes_eq, bytes_eq-Decides, cases_Bool, change_row, change_rows, comes_later, cond_both, count_by, count_mapped, doing, due_row_visited, due_visited, due_visits, dup_numbered, each_at_page, each_has_number, eq-eqb, eqb-true, false, find, find_all, find_none, find_nothing, find_passes, get_or, handled, has_item, idle, if◌then◌else◌, inl, inr, is_for_zero, is_restless, item_count, list_all, list_all-from_AllPass, made_dup, may_join, merged_into, merged_state, nat_le, nat_lt, ne_eqb, not, not-true, not_an_item, not_from_false, nowhere, one_of_each_page, or_cases, or_parts, ordered_change, paired, partner, refl, row_at, row_visited, row_visiting, same_Some, same_page, same_page_eq, same_page_refl, settled, settled_state, stayed, subst, suc, sym, taken_over, takes_over, tells_waits, tree_of, true, true≢false, visited, waiting_state, waits_for, waits_on, waits_tells, with_dup, ℕ, ◌&&◌, ◌+◌, ◌==◌, ◌||◌, ◌∙◌, ◌∷◌, ◌≡◌, ◌⊎◌}
+use Rattle.ksm_book.proofs.Names.{IsDueNoMore, restless_at, restless_row, All, All-head, All-tail, AreDue, BookState, Bool, Contains, Deed, DupRow, Frames, GuestPage, InPageOrder, IsJoined, IsSound, Knobs, List, Merged, None, Option, PageState, Row, Some, Waiting, WaitsFor, Zero, [], all_changed, all_with_dup, and_from, and_parts, and_right, ap, arith, best_dup, best_dup_has_room, both_ways, bytes_eq, bytes_eq-Decides, cases_Bool, change_row, change_rows, cond_both, count_by, count_mapped, doing, due_row_visited, due_visited, due_visits, dup_numbered, each_at_page, eqb-true, false, find, find_all, find_none, find_nothing, find_passes, get_or, handled, has_item, idle, if◌then◌else◌, inl, inr, is_for_zero, is_restless, item_count, list_all, list_all-from_AllPass, made_dup, may_join, merged_into, merged_state, nat_le, nat_lt, ne_eqb, not, not_an_item, one_of_each_page, or_cases, or_parts, ordered_change, paired, partner, refl, row_at, row_visited, row_visiting, same_Some, same_page, same_page_eq, settled, stayed, subst, suc, sym, taken_over, takes_over, tells_waits, tree_of, true, visited, waiting_state, waits_for, waits_on, waits_tells, with_dup, ℕ, ◌&&◌, ◌+◌, ◌==◌, ◌||◌, ◌∙◌, ◌∷◌, ◌≡◌, ◌⊎◌}
 use Rattle.ksm_base.specs.declared.row.PageState.TheVariants.{Private}
 use Rattle.ksm_book.proofs.ByPage.{at_changed, found_page, row_of_page}
 use Rattle.ksm_book.proofs.Doing.{then_idle}
-use Rattle.ksm_book.proofs.DueAlike.{TakesOver, freed, freed_found, takes_tells, none_is}
-use Rattle.ksm_book.proofs.RowVisits.{restless_own, stayed_is, visited_by}
+use Rattle.ksm_book.proofs.DueAlike.{TakesOver, freed, freed_found, takes_tells}
+use Rattle.ksm_book.proofs.RowVisits.{restless_own}
 use Rattle.ksm_book.proofs.Singles.{change_still}
 use Rattle.ksm_pages.proofs.Joined.{own_not_merged}
 
@@ -21,12 +21,6 @@ module _ {X : Type 0} (p : X → Bool) (better : X → X → Bool) (total : (x y
     passes : p x ≡ true
     there : Contains xs x
     over : All (λ y. p y ≡ true → better x y ≡ true) xs
-
-  with_itself : (x : X) → better x x ≡ true
-  with_itself x = grind arith
-
-  first_tops : (y : X) (ys : List X) → p y ≡ true → All (λ z. p z ≡ true → better y z ≡ true) ys → Tops (y ∷ ys) y
-  first_tops y ys passes over = grind arith
 
   later_tops : (y x : X) (ys : List X) → (p y ≡ true → better x y ≡ true) → Tops ys x → Tops (y ∷ ys) x
   later_tops y x ys first t = record {
@@ -368,13 +362,6 @@ module _ (b : BookState) (frame : Frames) (sound : IsSound b) (row : Row) (found
   on_alone = find_all (λ r. same_page r.page row.page) (λ r. waiting_state r.state ≡ true → partner b.knobs b.rows r ≡ None)
       b.rows row found sound.waiting on.waiting
 
-  -- so it takes over from none
-  on_takes_none : takes_over b row ≡ false
-  on_takes_none = and_right _ _ (ap (comes_later row.page) on_alone)
-
-  on_stayed : HasStayed b false row
-  on_stayed = assumption
-
   -- its visit leaves the book as it is
   on_same : row_visited b row ≡ b
   on_same = grind (arith, on_alone, still)
@@ -469,11 +456,6 @@ module _ (b : BookState) (row w : Row) (sound : IsSound b) (found : row_at row.p
   -- only that row waits for the first
   only_waiter : All (λ r. waits_for b.knobs row r ≡ true → same_page r.page w.page ≡ true) b.rows
   only_waiter k d lt passes = grind (arith, waits_tells, waiter_alone)
-
-  -- a row that waits is not merged, nor is it once it is settled
-  unmerged_settled : (state : PageState) → waiting_state state ≡ true
-      → (merged_state state ≡ false) × (merged_state (settled_state state) ≡ false)
-  unmerged_settled state is = grind arith
 
   freed_single : All (λ r. waits_for b.knobs row r ≡ true → (merged_state r.state ≡ false) × (merged_state (settled r).state ≡ false)) b.rows
   freed_single k d lt passes = grind arith

@@ -1,12 +1,12 @@
 -- A pass over what is due comes to what the pass of the definitions comes to.
-use Rattle.ksm_book.proofs.Names.{[], after_cursor, All, All-filter, ap, append-nil, AreAscending, AreDue, arith, BookState, Bool, both_ways, cases_Bool, comes_before, Deed, doing, due_visited, due_visits, false, filter, filter_all, filter_passes, filter-append, get_or, get_or_from_slice_get, GuestPage, has_item, hidden, hidden_from, inl, inr, IsSound, List, list_any_at, map_alike, mergeable_pages, nat_lt, None, not, not-true, Option, pages_ahead, pages_visited, part_before, part_visited, pass_begun, refl, restless_at, Row, same_page, same_Some, settled, slice_get, slice_get_within, Some, subst, suc, sym, take, true, zero, with_none_waiting, ℕ, ◌++◌, ◌*◌, ◌+◌, ◌-◌, ◌<◌, ◌^◌, ◌∙◌, ◌∷◌, ◌≡◌, if◌then◌else◌}
+use Rattle.ksm_book.proofs.Names.{[], after_cursor, All, All-filter, ap, append-nil, AreAscending, AreDue, arith, BookState, Bool, cases_Bool, comes_before, Deed, doing, due_visited, due_visits, false, filter, filter_all, filter_passes, filter-append, get_or, get_or_from_slice_get, GuestPage, has_item, hidden, hidden_from, inl, inr, IsSound, List, list_any_at, map_alike, mergeable_pages, nat_lt, None, not, not-true, Option, pages_ahead, pages_visited, part_before, part_visited, pass_begun, refl, restless_at, Row, same_page, same_Some, settled, slice_get, slice_get_within, Some, subst, suc, sym, take, true, zero, ℕ, ◌++◌, ◌*◌, ◌+◌, ◌-◌, ◌<◌, ◌^◌, ◌∙◌, ◌∷◌, ◌≡◌, if◌then◌else◌}
 use Rattle.ksm_book.specs.Scanned.{ahead_before}
 use Rattle.ksm_book.proofs.Along.{FitsPage}
-use Rattle.ksm_book.proofs.DueAlike.{due_alike, due_goes, due_visits_sound, hidden_all, hidden_none, mergeable_has, stays_settled, waits_mergeable}
+use Rattle.ksm_book.proofs.DueAlike.{due_alike, due_goes, due_visits_sound, hidden_all, hidden_none, mergeable_has, stays_settled}
 use Rattle.ksm_book.proofs.DueKept.{calm_stays, undue_stay}
 use Rattle.ksm_book.proofs.Dues.{IsFirst}
 use Rattle.ksm_book.proofs.Folded.{ascending_ahead, every_page}
-use Rattle.ksm_book.proofs.PagesAhead.{GoesDown, after_later, before_down, filter_same, has_filter, parted, place_of, place_splits}
+use Rattle.ksm_book.proofs.PagesAhead.{GoesDown, before_down, filter_same, has_filter, parted, place_of, place_splits}
 use Rattle.ksm_book.proofs.Scanned.{begun_ahead}
 
 -- ---------------------------------------------------------------- visits of some pages and of others
@@ -41,9 +41,6 @@ module _ (s : BookState × Deed) (sound : IsSound s.0) (start : s.0.cursor ≡ N
   -- the pages that scans visit
   abbrev all : List GuestPage
   all = mergeable_pages s.0.rows
-
-  begun_none : pass_begun s.0 ≡ with_none_waiting s.0
-  begun_none = rw start
 
   -- all of them are ahead
   pub ahead_all : pages_ahead s.0 ≡ all

@@ -1,8 +1,7 @@
 -- A store to a page with a frame of its own: where the page is due, if it waited, what is due stays so.
-use Rattle.ksm_book.proofs.Names.{and_from, and_parts, AreDue, arith, BookState, Bool, both_ways, cases_Bool, change_row, false, find_all, GuestPage, has_item, inl, InPageOrder, inr, is_restless, IsAlone, List, MatchOption, not_from_false, Option, ordered_change, refl, Row, row_at, same_page, same_page_refl, same_Some, shared_state, Some, stored, subst, sym, true, true≢false, waiting_state, waits_on, ℕ, ◌∙◌, ◌∷◌, ◌≡◌, ◌||◌}
+use Rattle.ksm_book.proofs.Names.{and_from, AreDue, arith, BookState, Bool, cases_Bool, change_row, false, find_all, GuestPage, has_item, inl, InPageOrder, inr, is_restless, IsAlone, List, MatchOption, ordered_change, refl, Row, row_at, same_page, same_Some, shared_state, Some, stored, subst, sym, true, waiting_state, waits_on, ℕ, ◌∙◌, ◌∷◌, ◌≡◌, ◌||◌}
 use Rattle.ksm_book.proofs.ByPage.{at_changed, found_page}
-use Rattle.ksm_book.proofs.DueKept.{changed_due, more_due, on_tells, undue, AreAmong}
-use Rattle.ksm_pages.proofs.Joined.{own_not_merged}
+use Rattle.ksm_book.proofs.DueKept.{changed_due, more_due, undue, AreAmong}
 
 module _ (b : BookState) (page : GuestPage) (bytes : List ℕ) (row : Row) (pages : List GuestPage) (rise : InPageOrder b.rows)
     (found : row_at page b.rows ≡ Some row) (own : shared_state row.state ≡ false) (was : AreDue b pages)

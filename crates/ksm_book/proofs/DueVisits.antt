@@ -1,5 +1,5 @@
 -- What a visit leaves due, by what was found of the page; and what is due where all restless pages are listed.
-use Rattle.ksm_book.proofs.Names.{ap, AreDue, BookState, BookView, each_at_page, false, FindsAt, GuestPage, InPageOrder, IsDueNoMore, KeeperView, List, MatchOption, None, Option, PagesView, refl, restless_row, Row, row_at, Some, state_of, subst, sym, true, true≢false, ℕ, ◌∙◌, ◌∷◌, ◌≡◌, get_or}
+use Rattle.ksm_book.proofs.Names.{ap, AreDue, BookState, BookView, each_at_page, FindsAt, GuestPage, InPageOrder, IsDueNoMore, KeeperView, List, MatchOption, None, Option, PagesView, refl, restless_row, Row, row_at, Some, state_of, subst, sym, true≢false, ℕ, ◌∙◌, ◌∷◌, ◌≡◌}
 use Rattle.ksm_pages.specs.declared.pages.Find.TheVariants as finds
 use Rattle.ksm_pages.specs.Paged.{Finds}
 use Rattle.ksm_book.specs.Scanned.{AreListed}

@@ -1,6 +1,6 @@
 -- What is answered where a dup is to move.
-use Rattle.ksm_book.proofs.Names.{and_parts, Answer, arith, BookState, IsCarried, crosses, Done, DupRow, eqb-true, Err, false, Fault, find, find_passes, GuestPage, has_items, HasRemounted, InUse, IsAnswerUnless, KeeperView, live_dup_at, MayMove, MoveDup, NoFrame, None, Ok, Option, PagesView, refusal, Some, state_of, sym, ℕ, ◌&&◌, ◌==◌, ◌≡◌}
-use Rattle.ksm_book.proofs.Singles.{book, there_is}
+use Rattle.ksm_book.proofs.Names.{Answer, arith, BookState, IsCarried, crosses, Done, DupRow, Err, false, Fault, find, find_passes, GuestPage, has_items, HasRemounted, InUse, KeeperView, live_dup_at, MayMove, MoveDup, NoFrame, Ok, Option, PagesView, Some, state_of, ℕ, ◌&&◌, ◌==◌, ◌≡◌}
+use Rattle.ksm_book.proofs.Singles.{book}
 
 module _ (b : BookState) (place node : ℕ) (dup : DupRow) (found : Some dup ≡ live_dup_at b place) where
   -- the dup that was found stands at the place that was asked for
@@ -24,10 +24,6 @@ module _ (p q : PagesView) (k l : KeeperView) (cursor : Option GuestPage) (passe
 
   abbrev Carries : Answer → Type 0
   Carries = IsCarried (book p k cursor passes) (book q l cursor passes) (MoveDup place node)
-
-  answers : (answer : Answer) → IsAnswerUnless None b (MoveDup place node) answer
-      → IsAnswerUnless (refusal b (MoveDup place node)) b (MoveDup place node) answer
-  answers answer is = grind arith
 
   -- it answers `Done` where the dup moved
   pub done_carried : {X : Type 0} {done : X} → HasRemounted {X = X} p q k l dup node (Ok done) → Carries (Ok Done)

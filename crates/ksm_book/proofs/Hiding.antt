@@ -1,17 +1,11 @@
 -- Rows that wait no more: that of a page with a frame of its own, and those from a page on, one after another.
-use Rattle.ksm_book.proofs.Names.{[], All, ap, BookState, BookValue, Bool, change_row, change_rows, Comes, comes_before, cond_both, every_row, false, find, get_or, GuestPage, InPageOrder, inl, IsAlone, is_next, IsLaid, IsSound, KeeperView, List, MatchOption, None, not, on_its_own, Option, option_map, ordered_change, PageState, PagesValue, PagesView, refl, Row, row_at, same_page, same_page_eq, seen, settled, settled_calmer, settled_state, shared_state, Some, sound_changed, state_of, sym, true, true≢false, ℕ, ◌∙◌, ◌∷◌, ◌++◌, ◌≡◌, ◌⊎◌, if◌then◌else◌, map_alike, arith}
-use Rattle.ksm_pages.proofs.Resting.{rests}
+use Rattle.ksm_book.proofs.Names.{[], All, BookValue, change_row, Comes, comes_before, every_row, false, find, GuestPage, InPageOrder, IsAlone, is_next, IsLaid, IsSound, KeeperView, List, MatchOption, None, not, on_its_own, Option, option_map, ordered_change, PagesValue, PagesView, refl, Row, row_at, same_page, same_page_eq, seen, settled, settled_calmer, shared_state, Some, sound_changed, state_of, sym, true, true≢false, ℕ, ◌∙◌, ◌∷◌, ◌++◌, ◌≡◌, ◌⊎◌, if◌then◌else◌, map_alike, arith}
 use Rattle.ksm_book.specs.Due.{hidden_from}
 use Rattle.ksm_book.proofs.Along.{along_cut, along_end, FitsPage, IsAlong, IsCut}
 use Rattle.ksm_book.proofs.ByPage.{row_of_page}
-use Rattle.ksm_book.proofs.Laying.{laid_mapped, LodgesAs}
+use Rattle.ksm_book.proofs.Laying.{laid_mapped}
 use Rattle.ksm_book.proofs.Reached.{comes_to, value}
-use Rattle.ksm_book.proofs.Sharing.{settled_lodges}
 use Rattle.ksm_book.proofs.Singles.{change_still}
-
--- two changes come to the same where they do so wherever they are made
-one_by : (b : Bool) (x y z : Row) → (b ≡ true → x ≡ y) → (if b then x else z) ≡ (if b then y else z)
-one_by b x y z same = grind arith
 
 -- two changes of the row of a page come to the same where they do at each row of that page
 alike_at : (page : GuestPage) (f g : Row → Row) (rows : List Row)
@@ -60,14 +54,6 @@ hides page r = if not (comes_before r.page page) then settled r else r
 hides_kept : (page : GuestPage) (r : Row) → (hides page r).page ≡ r.page
 hides_kept page r = grind arith
 
--- a shared state is settled
-shared_settled : (state : PageState) → shared_state state ≡ true → settled_state state ≡ state
-shared_settled state is = grind arith
-
--- any other is settled
-behind_settles : (page : GuestPage) (r : Row) → comes_before r.page page ≡ false → settled r ≡ hides page r
-behind_settles page r is = sym (rw is)
-
 -- up to a cursor, no row from a page on waits
 pub record IsHiding (page : GuestPage) (old new : BookValue) (last : Option GuestPage) : Type 0 where
   -- the rows that were looked at
@@ -111,8 +97,7 @@ module _ {page : GuestPage} {old now : BookValue} {last : Option GuestPage} (h :
     hiding_over row found why = record {
       done = cut.before ++ cut.row ∷ [];
       left = cut.rest;
-      along = along_on (sym (change_still at _ _ (λ k d lt same. stays
-          (grind (arith, row_of_page, now_rise)) same why)));
+      along = along_on (sym (change_still at _ _ (grind (arith, row_of_page, now_rise))));
       comes = h.comes;
       own = h.own;
       restless = h.restless;

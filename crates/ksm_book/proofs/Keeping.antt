@@ -1,40 +1,17 @@
 -- The keeper's steps as changes of a placement, and the lives that they spend.
-use Rattle.ksm_book.proofs.Names.{[], Add, added, All, All-filter, All-head, All-tail, arith, blank, Bool, cases_lt, cond, cond_both, count_in, did, DupRow, Dying, dying_kind, dying_on, false, Filling, filter_passes, FitsBase, frame_at, Frames, frames_of, Free, free_kind, GenerationFits, get_or, get_or-range_with_len, get_or_past, IfSome, inr, KeeperView, Kind, leaving, Ledger, ledger_after, length, length-range_with_len, List, MakesSteps, map, May, MayLeave, ne_eqb, None, Note, Option, past_lives, Placed, Private, range_with_len, Reap, reaped, refl, Retired, Row, same_Some, set, Shape, Some, spent, spent_on, Stable, Sub, subst, suc, sum_by, sum_by-cons, sum_by-set, sym, true, with_frame, zero, ℕ, ◌*◌, ◌+◌, ◌-◌, ◌<◌, ◌==◌, ◌∷◌, ◌≡◌, ◌≢◌, ◌≤◌}
-use Rattle.ksm_book.proofs.ByPage.{one_same, one_other}
+use Rattle.ksm_book.proofs.Names.{[], Add, added, All, All-filter, All-head, All-tail, arith, blank, Bool, cond, count_in, did, DupRow, dying_on, false, filter_passes, FitsBase, frame_at, Frames, frames_of, GenerationFits, get_or, get_or-range_with_len, get_or_past, IfSome, KeeperView, Kind, leaving, Ledger, ledger_after, length, length-range_with_len, List, MakesSteps, map, MayLeave, None, Note, Option, past_lives, Placed, range_with_len, Reap, reaped, refl, Row, same_Some, set, Shape, Some, spent, spent_on, Stable, subst, suc, sum_by, sum_by-cons, sum_by-set, true, with_frame, zero, ℕ, ◌*◌, ◌+◌, ◌-◌, ◌<◌, ◌==◌, ◌∷◌, ◌≡◌, ◌≤◌}
+use Rattle.ksm_book.proofs.ByPage.{one_same}
 use Rattle.ksm_book.proofs.Made.{first_made, none_made, step_made}
 use Rattle.ksm_book.proofs.Noted.{noted}
 use Rattle.ksm_book.proofs.Sweeps.{is_dying_kind}
 
 -- ---------------------------------------------------------------- kinds
 
-taken_private : (b : Bool) (kind : Kind) → cond b Dying kind ≡ Private → kind ≡ Private
-taken_private b kind e = grind arith
-
-fits_taken : (kind : Kind) {n : ℕ} → 1 ≤ n → FitsBase kind n → (b : Bool) → (b ≡ (n == 1)) → FitsBase (cond b Dying kind) (n - 1)
-fits_taken kind {n} some fits true e = let t : n ≡ 1 = grind arith in omega arith
-fits_taken Free some fits false e = omega arith
-fits_taken Filling some fits false e = absurd fits
-fits_taken Private some fits false e = absurd (grind arith)
-fits_taken Stable {n} some fits false e = let z : ¬ (n ≡ 1) = λ is. grind arith in omega arith
-fits_taken _ some fits false e = omega arith
-
-lived_taken : (last n base : ℕ) (kind : Kind) (b : Bool) → 1 ≤ base → FitsBase kind base → GenerationFits last kind n → GenerationFits last (cond b Dying kind) n
-lived_taken last n base kind false some fits h = h
-lived_taken last n base Free true some fits h = absurd (omega arith)
-lived_taken last n base _ true some fits h = h
-
 -- ---------------------------------------------------------------- lives
 
 -- a generation that fits a frame's kind is at most the last generation
 pub lives_most : (last n : ℕ) (kind : Kind) → GenerationFits last kind n → n ≤ last
 lives_most last n kind h = grind arith
-
-last_given : (last n : ℕ) (kind : Kind) → n ≡ last → GenerationFits last kind n → 1 ≤ n
-last_given last n kind e h = grind arith
-
-lived_reaped : (last n : ℕ) (kind : Kind) (c : Bool) → c ≡ (n == last) → GenerationFits last kind n → GenerationFits last (cond c Retired Free) n
-lived_reaped last n kind true e h = (last_given _ n _ (grind arith) h, lives_most _ n _ h)
-lived_reaped last n kind false e h = grind arith
 
 -- the lives in which a frame does not hold one page alone are among those that it had
 pub past_le : (kind : Kind) (n : ℕ) → past_lives kind n ≤ n
@@ -67,11 +44,6 @@ held_inside {k = k} {g = g} p =
     let base = p.bases g in
     let some : 1 ≤ (frame_at k g).base = omega arith in
     (omega (arith, held_within k g some), some)
-
--- a frame with a reference is not free
-in_use : (kind : Kind) {n : ℕ} → 1 ≤ n → FitsBase kind n → free_kind kind ≡ false
-in_use Free some fits = absurd (omega arith)
-in_use _ some fits = refl
 
 -- the frame in hand, if there is one, may be left
 pub may_leave : (v : KeeperView) {sh : Shape} → v.table.shape ≡ sh → {across : ℕ} {rows : List Row} {frame : Frames} {dups : List DupRow} (o : Option ℕ)

@@ -1,9 +1,9 @@
 -- What becomes of pages that lie lawfully, where the keeper makes its steps.
-use Rattle.ksm_book.proofs.Names.{[], All, ap, arith, blank, change_row, default_knobs, DupFits, DupRow, false, find_all, first_ledger, frame_at, Frames, frames_of, get_or, GuestPage, holding, Houses, inl, InPageOrder, inr, IsLaid, IsLawful, IsReadable, IsServed, IsShape, KeeperView, Keeps, Kind, kind_for, Knobs, Ledger, length, length-replicate, lies_on, List, Listing, map, MatchOption, Merged, merged_into, None, nowhere, Option, PAGE_WORDS, PageState, PagesView, Placed, Private, refl, replicate, Row, row_at, Shape, shared_state, slice_index_or, Some, spent, subst, suc, sym, HasNewFrame, true, with_frame, with_row, Zero, zero, zero_state, ℕ, ◌∙◌, ◌≡◌, ◌≤◌, ◌⊎◌, cond_both, Stable}
+use Rattle.ksm_book.proofs.Names.{[], All, ap, arith, blank, change_row, default_knobs, DupRow, false, find_all, first_ledger, frame_at, Frames, get_or, GuestPage, holding, Houses, inl, InPageOrder, inr, IsLaid, IsLawful, IsReadable, IsServed, IsShape, KeeperView, Keeps, Kind, kind_for, Knobs, Ledger, length, length-replicate, lies_on, List, Listing, map, MatchOption, Merged, merged_into, None, nowhere, Option, PAGE_WORDS, PageState, PagesView, Placed, Private, refl, replicate, Row, row_at, Shape, shared_state, slice_index_or, Some, spent, subst, suc, sym, HasNewFrame, true, with_frame, with_row, Zero, zero, zero_state, ℕ, ◌∙◌, ◌≡◌, ◌≤◌, ◌⊎◌, cond_both, Stable}
 use Rattle.ksm_base.specs.declared.row.PageState.TheVariants.{Private as OwnPage}
 use Rattle.ksm_book.proofs.ByPage.{found_page, row_of_page}
 use Rattle.ksm_book.proofs.Keeping.{spent_kept}
-use Rattle.ksm_book.proofs.Moves.{Serves, framed, inserted, own_agrees, remapped, swapped, written_in}
+use Rattle.ksm_book.proofs.Moves.{Serves, framed, inserted, remapped, swapped, written_in}
 
 module _ {sh : Shape} {across : ℕ} (v : KeeperView) {rows : List Row} {frame : Frames} {dups : List DupRow} {hand : Option ℕ} (same : v.table.shape ≡ sh) where
   -- a placement by this shape is one by the shape of the keeper's table
@@ -47,10 +47,6 @@ module _ {sh : Shape} {across : ℕ} {v w : KeeperView} {rows : List Row} {frame
 pub own_kind : (s : PageState) → shared_state s ≡ false → kind_for s ≡ Private
 own_kind s e = grind arith
 
--- a page that is not shared is no item of any dup
-pub own_item : (s : PageState) → shared_state s ≡ false → (n : ℕ) → merged_into n s ≡ false
-own_item s e n = grind arith
-
 -- a row that is not shared is not Zero
 pub own_framed : (s : PageState) → shared_state s ≡ false → zero_state s ≡ false
 own_framed s e = grind arith
@@ -67,7 +63,7 @@ module _ {sh : Shape} {across : ℕ} {k : Ledger} {rows : List Row} {frame : Fra
   -- a row that may stand in the stead of another is served by its frame
   module _ (old r : Row) (f : ℕ) (served : Serves sh k dups old f) where
     same_state : r.state ≡ old.state → r.home ≡ old.home → r.bytes ≡ old.bytes → Serves sh k dups r f
-    same_state s home bytes = subst (λ (z : PageState × ℕ × List ℕ). Serves sh k dups (record { page = r.page; home = z.1; bytes = z.2; mergeable = r.mergeable; unchanged = r.unchanged; state = z.0 }) f) (λ t. (sym s t, sym home t, sym bytes t)) (grind arith)
+    same_state s home bytes = subst (λ (z : PageState × ℕ × List ℕ). Serves sh k dups (assumption) f) (λ t. (sym s t, sym home t, sym bytes t)) (grind arith)
 
     both_own : shared_state old.state ≡ false → shared_state r.state ≡ false → r.home ≡ old.home → r.bytes ≡ old.bytes → Serves sh k dups r f
     both_own was now home bytes =

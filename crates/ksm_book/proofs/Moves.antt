@@ -1,5 +1,5 @@
 -- What each step of a command does to a placement.
-use Rattle.ksm_book.proofs.Names.{Agrees, All, All-filter, All-map, All-weaker, all_with_row, ap, arith, both_ways, cases_lt, change_row, cond_both, DupFits, DupRow, eq-eqb, false, filter, filter_passes, find_all, find_none, FitsBase, frame_at, Frames, frames_of, GenerationFits, get_or, get_or-set_other, get_or-set_same, GuestPage, if◌then◌else◌, in_hand, inl, InPageOrder, inr, is_frame, is_some, IsInLife, IsServed, item_count, Kind, kind_for, Ledger, length, length-set, lies_on, Life, life_or, List, lt-ltb, map, Merged, merged_into, named_at, nat_lt, None, not, not-true, Note, Option, ordered_change, PAGE_WORDS, PageState, place_frame, place_life, Placed, Private, refl, Row, row_at, RowFits, same_page, same_page_refl, set, Shape, shared_state, Some, Stable, subst, sym, true, uses, with_dup, with_frame, with_row, without_page, Zero, zero_state, ℕ, ◌+◌, ◌/◌, ◌<◌, ◌∙◌, ◌∷◌, ◌≡◌, ◌≢◌, ◌≤◌, count_alike, Contains, Contains-append_left, Contains-append_right, suc, all_with_dup}
+use Rattle.ksm_book.proofs.Names.{Agrees, All, All-filter, All-map, all_with_row, ap, arith, cases_lt, change_row, cond_both, DupFits, DupRow, false, filter, filter_passes, find_all, find_none, FitsBase, frame_at, Frames, frames_of, GenerationFits, get_or, get_or-set_other, get_or-set_same, GuestPage, if◌then◌else◌, in_hand, inl, InPageOrder, inr, is_frame, IsInLife, IsServed, item_count, kind_for, Ledger, length, length-set, lies_on, List, lt-ltb, map, Merged, merged_into, named_at, nat_lt, None, not, not-true, Note, Option, ordered_change, PAGE_WORDS, place_frame, Placed, Private, refl, Row, row_at, RowFits, same_page, same_page_refl, set, Shape, shared_state, Some, Stable, subst, sym, true, uses, with_dup, with_frame, with_row, without_page, Zero, zero_state, ℕ, ◌+◌, ◌/◌, ◌<◌, ◌∙◌, ◌∷◌, ◌≡◌, ◌≢◌, count_alike, Contains, Contains-append_left, Contains-append_right, suc, all_with_dup}
 use Rattle.ksm_book.proofs.Noted.{by_frame, noted}
 use Rattle.ksm_book.proofs.ByPage.{all_changed_row, at_changed, change_twice, lies_again, lies_still, one_same, row_of_page, uses_some, found_page, off_page, on_page, uses_changed, uses_come, uses_gone, uses_mapped}
 use Rattle.ksm_base.proofs.Changes.{contains_filter}
@@ -39,10 +39,6 @@ all_without P d dups apart h =
             at e (Contains-append_right lower (d ∷ higher) e (suc there.0, (omega arith), there.2))
       ],
     )
-
--- a row in the state of another that is served by a frame, with the frame's bytes, is served by it too
-pub serves_like : (sh : Shape) (k : Ledger) (dups : List DupRow) (s r : Row) (f : ℕ) → Serves sh k dups s f → r.state ≡ s.state → (frame_at k f).content ≡ r.bytes → shared_state r.state ≡ true → Serves sh k dups r f
-serves_like sh k dups s r f h same content merged = grind arith
 
 module _ {sh : Shape} {across : ℕ} {k : Ledger} {rows : List Row} {frame : Frames} {dups : List DupRow} where
   module _ {hand : Option ℕ} (p : Placed sh across k rows frame dups hand) where
@@ -145,10 +141,6 @@ module _ {sh : Shape} {across : ℕ} {k : Ledger} {rows : List Row} {frame : Fra
     -- the row is served by its frame
     fits : Serves sh k dups row g
     fits = subst (IsServed sh k dups row) (ap frame (found_page _ _ row found) ∙ lies) (find_all _ (λ r. IsServed sh k dups r (frame r.page)) _ row found p.each_row)
-
-    -- no place names it in its life
-    not_named : (d : DupRow) → DupFits sh across k d → IsInLife k d.place → place_frame k d.place ≢ g
-    not_named d n l e = n.shown l (rw e own)
 
     abbrev bared : Row → Row
     bared r = record r { state = Zero }

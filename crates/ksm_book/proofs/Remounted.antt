@@ -1,21 +1,13 @@
 -- A dup moves to another frame, with all of its items.
-use Rattle.ksm_book.proofs.Names.{Agrees, All, ap, arith, blank, Bool, cond, count_none, DupFits, DupRow, Dying, eq-eqb, FitsBase, frame_at, Frames, frames_of, Free, GenerationFits, get_or, get_or-set_other, get_or-set_same, GuestPage, instead, is_frame, is_some, IsInLife, IsServed, Kind, kind_for, Ledger, length, length-set, Life, life_or, List, merged_into, named_at, ne_eqb, node_of, None, none_counted, Note, Option, PAGE_WORDS, PageState, place_frame, place_life, Placed, Private, refl, Row, RowFits, same_Some, set, Shape, shared_state, Some, Stable, subst, sym, true, uses, ℕ, ◌+◌, ◌<◌, ◌∙◌, ◌≡◌, ◌≢◌, ◌≤◌, count_alike}
+use Rattle.ksm_book.proofs.Names.{Agrees, All, ap, arith, Bool, cond, count_none, DupFits, DupRow, Dying, eq-eqb, FitsBase, frame_at, Frames, frames_of, Free, GenerationFits, get_or, get_or-set_other, get_or-set_same, GuestPage, instead, is_frame, is_some, IsInLife, IsServed, kind_for, Ledger, length, length-set, Life, life_or, List, named_at, ne_eqb, node_of, None, none_counted, Note, Option, PAGE_WORDS, place_frame, place_life, Placed, Private, refl, Row, RowFits, same_Some, set, Shape, Some, Stable, subst, sym, uses, ℕ, ◌+◌, ◌<◌, ◌∙◌, ◌≡◌, ◌≢◌, ◌≤◌, count_alike}
 use mathlib.Core.Logic.{dite}
 use native.Mathlib.Decide.{ℕ_discrete}
-use Rattle.ksm_book.proofs.ByPage.{frame_cases, not_on, uses_some}
+use Rattle.ksm_book.proofs.ByPage.{frame_cases, not_on}
 use Rattle.ksm_book.proofs.Moves.{Serves}
-use Rattle.ksm_book.proofs.Laying.{number_of_kind}
-
-one_number : (s : PageState) (m n : ℕ) → merged_into m s ≡ true → merged_into n s ≡ true → n ≡ m
-one_number s m n a b = grind arith
 
 -- where frame g comes in the stead of f, a page that lay on f lies on g
 instead_here : (f g : ℕ) (frame : Frames) (page : GuestPage) → frame page ≡ Some f → instead f g frame page ≡ Some g
 instead_here f g frame page e = rw (e, (eq-eqb f f refl))
-
--- where frame g comes in the stead of f, a page that did not lie on f lies where it lay
-pub instead_there : (f g : ℕ) (frame : Frames) (page : GuestPage) → frame page ≢ Some f → instead f g frame page ≡ frame page
-instead_there f g frame page ne = rw (not_on f _ ne)
 
 -- those that lay on f lie on g, and none lies on f any more
 module _ (f g : ℕ) (frame : Frames) (rows : List Row) where

@@ -1,14 +1,14 @@
 -- A dup with items, and where its pages lie before and after it moves.
-use Rattle.ksm_book.proofs.Names.{list_any_at, [], All, and_parts, ap, arith, blank, Bool, count_in, did, dup_frame, dup_numbered, DupFits, DupRow, Dying, each_has_number, eq-eqb, find_all, find_passes, Err, Finds, FindsHeld, FindsNone, HasRemounted, InUse, MayMount, MayMove, NoFrame, Ok, frame_at, frames_of, Free, Freeze, get_or, get_or-set_other, GuestPage, has_items, instead, is_frame, is_item, IsInLife, IsLaid, IsLoose, IsLowestFree, item_count, items_on, KeeperView, Ledger, length, length-set, Life, life_or, List, list_any, lying, MakesSteps, merged_into, mounting, Moves, ne_eqb, None, Note, Option, PagesView, place_frame, Placed, Publish, refl, Row, row_at, same_Some, set, Shape, Some, spent, Stable, subst, sym, true, with_frame, ℕ, ◌&&◌, ◌+◌, ◌<◌, ◌==◌, ◌∙◌, ◌∷◌, ◌≡◌, ◌≢◌, ◌≤◌, if◌then◌else◌, once_mounted, All-contains_itself, Contains}
+use Rattle.ksm_book.proofs.Names.{list_any_at, [], All, ap, arith, Bool, count_in, did, dup_frame, dup_numbered, DupFits, DupRow, Dying, each_has_number, eq-eqb, find_all, find_passes, Err, Finds, FindsHeld, FindsNone, HasRemounted, InUse, MayMount, MayMove, NoFrame, Ok, frame_at, frames_of, Free, Freeze, get_or, get_or-set_other, GuestPage, has_items, instead, is_frame, is_item, IsInLife, IsLaid, IsLoose, IsLowestFree, item_count, items_on, KeeperView, Ledger, length, length-set, Life, life_or, List, list_any, lying, MakesSteps, merged_into, mounting, Moves, ne_eqb, None, Note, Option, PagesView, place_frame, Placed, Publish, refl, Row, row_at, same_Some, set, Shape, Some, spent, Stable, subst, sym, true, with_frame, ℕ, ◌&&◌, ◌+◌, ◌<◌, ◌==◌, ◌∙◌, ◌∷◌, ◌≡◌, ◌≢◌, ◌≤◌, if◌then◌else◌, once_mounted, All-contains_itself, Contains}
 use mathlib.Core.Logic.{dite}
 use native.Mathlib.Decide.{ℕ_discrete}
 use Rattle.ksm_book.proofs.ByPage.{found_page, same_frames}
 use Rattle.ksm_book.proofs.Filling.{at_again, on_node}
-use Rattle.ksm_book.proofs.Keeping.{node_end, searched_placed, searched_spends, past_le, spent_kept}
+use Rattle.ksm_book.proofs.Keeping.{searched_placed, searched_spends, past_le, spent_kept}
 use Rattle.ksm_book.proofs.Laying.{kept, shape_same}
 use Rattle.ksm_book.proofs.Made.{made_one}
 use Rattle.ksm_book.proofs.Moves.{base_is_items, lies_as_item}
-use Rattle.ksm_book.proofs.Remounted.{instead_there, remounted}
+use Rattle.ksm_book.proofs.Remounted.{remounted}
 use Rattle.ksm_book.proofs.Resettled.{turned}
 use Rattle.ksm_book.proofs.Standing.{Lives, lives}
 

@@ -1,6 +1,6 @@
 -- What becomes of the layout where rows change together, join a dup, or make or lose one.
 use Rattle.ksm_base.specs.declared.limits.TheConstants.{MOST_FRAMES, MOST_LIVES, MOST_REFERENCES}
-use Rattle.ksm_book.proofs.Names.{[], Add, All, All-filter, ap, arith, blank, Bool, both_ways, cases_Bool, change_row, Contains, count_by, count_none, did, DupRow, elsewhere, eq-eqb, eqb-true, false, filter, filter_passes, find, find_all, find_none, find_passes, frame_at, Frames, frames_at_most, frames_of, get_or, get_or-set_same, get_or_default, GuestPage, IfSome, if◌then◌else◌, inl, InPageOrder, inr, IsInLife, IsLaid, IsLoose, IsServed, IsVacant, item_count, KeeperView, kind_for, Knobs, leaving, Ledger, ledger_after, length, lies_on, Life, life_or, List, list_any, Listing, MakesSteps, May, MayLeave, Merged, merged_into, merged_state, named_at, nat_lt, None, none_found, not-true, Note, Option, PageState, PagesView, place_frame, Placed, Private, Publish, refl, Row, row_at, RowFits, set, set-get_or, settled, settled_state, Shape, shared_state, Some, spent, spent_on, Stable, subst, sum_by-le, sym, tree_of, true, with_dup, with_frame, Withdraw, withdrawing, ℕ, ◌*◌, ◌++◌, ◌+◌, ◌-◌, ◌<◌, ◌==◌, ◌∙◌, ◌∷◌, ◌≡◌, ◌≢◌, ◌≤◌, ◌⊎◌}
+use Rattle.ksm_book.proofs.Names.{[], Add, All, All-filter, ap, arith, blank, Bool, both_ways, cases_Bool, change_row, Contains, count_by, count_none, did, DupRow, elsewhere, eq-eqb, false, filter, filter_passes, find, find_all, find_none, find_passes, frame_at, Frames, frames_of, get_or, get_or-set_same, get_or_default, GuestPage, IfSome, if◌then◌else◌, inl, InPageOrder, inr, IsInLife, IsLaid, IsLoose, IsServed, IsVacant, item_count, KeeperView, kind_for, Knobs, leaving, Ledger, ledger_after, length, lies_on, Life, life_or, List, list_any, Listing, MakesSteps, May, MayLeave, Merged, merged_into, merged_state, named_at, nat_lt, None, none_found, Note, Option, PageState, PagesView, place_frame, Placed, Private, Publish, refl, Row, row_at, RowFits, set, set-get_or, settled, Shape, shared_state, Some, spent, spent_on, Stable, subst, sum_by-le, sym, tree_of, true, with_dup, with_frame, Withdraw, withdrawing, ℕ, ◌*◌, ◌++◌, ◌+◌, ◌-◌, ◌<◌, ◌==◌, ◌∙◌, ◌∷◌, ◌≡◌, ◌≢◌, ◌≤◌}
 use Rattle.ksm_book.proofs.Moves.{Serves, joined, published, base_is_items, stale_is_loose}
 use Rattle.ksm_book.proofs.Laying.{LodgesAs, laid_rows, own_kind, served_at, shape_same}
 use Rattle.ksm_book.proofs.Keeping.{added_placed, added_spends, left_placed, left_spends, lives_most, may_leave, past_le, spent_set}
@@ -136,9 +136,6 @@ above_elsewhere : (place : ℕ) (ds : List DupRow) → filter (λ d. nat_lt plac
 above_elsewhere place [] = refl
 above_elsewhere place (d ∷ ds) = grind (arith, above_elsewhere place ds)
 
-product_most : (a b m n : ℕ) → a ≤ m → b ≤ n → a * b ≤ m * n
-product_most a b m n le le' = grind arith
-
 -- no more dups were ever made than there are lives of all frames, since each spent one
 pub spent_most : {v : PagesView} {k : KeeperView} → IsLaid v k → v.next ≤ MOST_FRAMES * MOST_LIVES
 spent_most {v} {k} h =
@@ -205,8 +202,7 @@ module _ {p : PagesView} {k : KeeperView} (h : IsLaid p k) (rise : InPageOrder p
       (λ i r lt. rw number (fresh i r lt))
       (All-filter (elsewhere d.place) (λ e. ¬ (e.number ≡ d.number)) p.dups
       (grind arith))
-      (λ n x lt at. let e = get_or (filter (elsewhere d.place) p.dups) n x in
-      both_ways (e.place == d.place) (grind (arith, filter_passes)) (eq-eqb e.place d.place at)) in
+      (grind (arith, filter_passes, eq-eqb)) in
       let ledger : w.ledger ≡ ledger_after w1.table.shape cleared (Publish d.place f) 0 = grind arith in
       let within : f < length k.ledger.frames = (let lt =
       fits.frame in omega arith) in

@@ -1,13 +1,11 @@
 -- The commands on single pages, carried out.
-use Rattle.ksm_book.proofs.Names.{[], absent_parts, All, Answer, ap, arith, BookValue, BookView, Bool, change_row, comes_before, Command, cond, cond_both, Done, Drop, Err, false, filter, filter_passes, find_put, FindsNone, frame_at, Frames, frames_of, fresh_row, GuestPage, HasNewFrame, Held, Houses, IfErr, IfSome, if◌then◌else◌, InPageOrder, is_some, IsAlone, IsCarried, IsHeld, IsLaid, IsReadable, IsServed, IsSound, IsWritable, KeeperView, leaving, length, lies_on, List, lying, MakesSteps, map_fixed, MatchBool, MayLeave, moved, MovePage, nat_le, NoFrame, None, not, Ok, on_its_own, Option, ordered_with, PAGE_WORDS, pages_ordered, PagesView, Performs, Placed, Provides, puts, refl, Register, Resettled, Resettles, Result, rewriting, Row, row_at, same_page, same_page_refl, shared_state, Some, sound_after, state_of, stepped, Store, stored, subst, sym, true, view_of, with_row, without_between, without_page, ℕ, ◌++◌, ◌<◌, ◌==◌, ◌∙◌, ◌∷◌, ◌≡◌}
-use Rattle.std.proofs.lemmas.Bool.{eq-eqb}
+use Rattle.ksm_book.proofs.Names.{[], absent_parts, All, Answer, ap, arith, BookValue, BookView, Bool, change_row, comes_before, Command, cond, Done, Drop, Err, false, filter, filter_passes, find_put, FindsNone, frame_at, Frames, frames_of, fresh_row, GuestPage, HasNewFrame, Held, Houses, IfErr, IfSome, if◌then◌else◌, InPageOrder, is_some, IsAlone, IsCarried, IsHeld, IsLaid, IsReadable, IsServed, IsSound, IsWritable, KeeperView, leaving, length, lies_on, List, lying, MakesSteps, map_fixed, MatchBool, MayLeave, MovePage, nat_le, NoFrame, None, not, Ok, on_its_own, Option, ordered_with, PAGE_WORDS, pages_ordered, PagesView, Performs, Placed, Provides, puts, refl, Register, Resettled, Resettles, Result, rewriting, Row, row_at, same_page, same_page_refl, shared_state, Some, sound_after, state_of, stepped, Store, stored, subst, sym, true, view_of, with_row, without_between, without_page, ℕ, ◌++◌, ◌<◌, ◌==◌, ◌∙◌, ◌∷◌, ◌≡◌}
 use Rattle.ksm_base.specs.declared.row.PageState.TheVariants.{Private}
 use Rattle.ksm_book.proofs.ByPage.{at_changed, change_twice, found_page, lies_again, lies_still, row_of_page}
-use Rattle.ksm_book.proofs.Laying.{come_there, laid_rows, own_kind, readable, served_at, shape_same}
+use Rattle.ksm_book.proofs.Laying.{come_there, laid_rows, served_at}
 use Rattle.ksm_book.proofs.Keeping.{left_placed, left_spends, may_leave, searched_spends}
-use Rattle.ksm_book.proofs.Made.{made_part}
 use Rattle.ksm_book.proofs.Resettled.{turned}
-use Rattle.ksm_book.proofs.Shown.{provides_does, resettles_own}
+use Rattle.ksm_book.proofs.Shown.{provides_does}
 use Rattle.ksm_book.proofs.Moves.{removed}
 
 -- the pages, their keeper, the cursor and the passes as a book

@@ -1,5 +1,5 @@
 -- The frames of dups with items in a lawful placement.
-use Rattle.ksm_book.proofs.Names.{find_passes, [], ap, arith, Bool, DupRow, empty_from, find, find_all, frame_at, Frames, get_or, InPlaceOrder, IsInLife, IsServed, item_count, kind_for, Ledger, length, List, merged_into, None, place_frame, Placed, Row, Shape, Some, Stable, true, zero_state, ℕ, ◌+◌, ◌<◌, ◌∙◌, ◌∷◌, ◌≡◌, ◌≢◌, ◌≤◌}
+use Rattle.ksm_book.proofs.Names.{find_passes, [], ap, arith, Bool, DupRow, empty_from, find, find_all, frame_at, Frames, get_or, InPlaceOrder, IsInLife, IsServed, item_count, Ledger, length, List, merged_into, None, place_frame, Placed, Row, Shape, Some, Stable, true, zero_state, ℕ, ◌+◌, ◌<◌, ◌∷◌, ◌≡◌, ◌≢◌, ◌≤◌}
 use Rattle.ksm_book.proofs.Moves.{framed}
 use Rattle.ksm_book.proofs.Sharing.{first_found, state_of_item}
 
@@ -34,11 +34,6 @@ module _ {sh : Shape} {across : ℕ} {k : Ledger} {rows : List Row} {frame : Fra
       let has = framed sh k _ row _ (ap zero_state state) served in
       let fits = has.2 in
       grind arith
-
-  -- two dups with items on one frame have one number
-  one_number : (n m : ℕ) (d : DupRow) → n < length dups → m < length dups → Lives k dups sh rows frame (get_or dups n d) → Lives k dups sh rows frame (get_or dups m d)
-      → place_frame k (get_or dups n d).place ≡ place_frame k (get_or dups m d).place → (get_or dups m d).number ≡ (get_or dups n d).number
-  one_number n m d lt lt' a b same = grind arith
 
   -- the frames of dups with items differ, and none of them is a page's own
   module _ (rise : InPlaceOrder dups) where

@@ -1,10 +1,9 @@
 -- A page waits in the stead of one further on: what becomes of the book, and which pages are due then.
-use Rattle.ksm_book.proofs.Names.{All, and_from, AreDue, arith, before_differs, BookState, BookValue, both_ways, cases_Bool, change_row, change_rows, Comes, comes_before, cond_both, Deed, doing, due_visited, each_at_page, false, find_all, find_passes, get_or, GuestPage, has_item, idle, inl, inr, is_restless, IsAlone, IsSound, List, map_alike, map_mapped, MatchOption, not, not_both, or_cases, page_visited, PageState, partner, Reached, refl, Row, row_at, same_page, same_page_eq, same_page_refl, same_page_sym, settled, shared_state, Some, StaysBefore, subst, sym, taken_over, takes_over, TakesOverFrom, true, view_of, waiting_state, waits_for, WaitsFor, waits_tells, ◌&&◌, ◌∙◌, ◌∷◌, ◌≡◌, ◌||◌, if◌then◌else◌}
+use Rattle.ksm_book.proofs.Names.{All, AreDue, arith, before_differs, BookState, BookValue, both_ways, cases_Bool, change_row, change_rows, Comes, comes_before, cond_both, Deed, doing, due_visited, each_at_page, false, find_all, find_passes, get_or, GuestPage, has_item, idle, inl, inr, is_restless, IsAlone, IsSound, List, map_alike, map_mapped, MatchOption, not, not_both, page_visited, PageState, partner, Reached, refl, Row, row_at, same_page, same_page_refl, same_page_sym, settled, shared_state, Some, StaysBefore, subst, sym, taken_over, takes_over, TakesOverFrom, true, view_of, waiting_state, waits_for, WaitsFor, waits_tells, ◌&&◌, ◌∙◌, ◌∷◌, ◌≡◌, ◌||◌, if◌then◌else◌}
 use Rattle.ksm_book.proofs.ByPage.{found_page, row_of_page}
-use Rattle.ksm_book.proofs.DueAlike.{freed_found, one_waits, settled_once, taken_is}
+use Rattle.ksm_book.proofs.DueAlike.{freed_found, one_waits, taken_is}
 use Rattle.ksm_book.proofs.DueKept.{more_due, taken_due, AreAmong}
 use Rattle.ksm_book.proofs.Reached.{comes_to}
-use Rattle.ksm_book.proofs.RowVisits.{filled_by}
 
 -- in a sound book the row of a page is to wait in the stead of that of another page
 pub record Takes (b : BookState) (page other : GuestPage) : Type 0 where

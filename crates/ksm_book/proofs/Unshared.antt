@@ -1,20 +1,13 @@
 -- The commands on all pages of a guest, or on all there are, carried out.
-use Rattle.ksm_book.proofs.Names.{All, All-map, and-true, ap, arith, BookState, IsCarried, change_rows, cond_both, Done, Err, every_row, false, Fault, find, get_or, GuestPage, has_guest, Held, inl, inr, is_before, is_next, is_of, is_some, IsHeld, IsLaid, IsStop, IsUnmerged, KeeperView, Knobs, left_by, List, list_any, map, MatchOption, Mergeable, NoFrame, None, of_guest, Ok, Option, option_map, PagesView, refl, Row, SetRun, shared_rows, shared_state, slice_get, slice_get_past, Some, state_of, subst, sym, true, UnknownPage, Unmerge, Unmerged, unshare_stopped, unshared, Unshares, ℕ, ◌&&◌, ◌∙◌, ◌≡◌, none_of, any_found, map_alike, map_mapped}
-use Rattle.ksm_book.proofs.Laying.{LodgesAs, laid_mapped, retuned}
+use Rattle.ksm_book.proofs.Names.{All, All-map, ap, arith, BookState, IsCarried, change_rows, Done, Err, every_row, false, Fault, find, GuestPage, has_guest, Held, inl, inr, is_before, is_next, is_of, is_some, IsHeld, IsLaid, IsStop, KeeperView, Knobs, left_by, List, list_any, map, MatchOption, Mergeable, None, of_guest, Ok, Option, option_map, PagesView, refl, Row, SetRun, shared_rows, shared_state, slice_get, slice_get_past, Some, state_of, subst, sym, true, UnknownPage, Unmerge, Unmerged, unshare_stopped, unshared, Unshares, ℕ, ◌&&◌, ◌∙◌, ◌≡◌, any_found, map_alike, map_mapped}
+use Rattle.ksm_book.proofs.Laying.{laid_mapped, retuned}
 use Rattle.ksm_book.proofs.Singles.{book}
 use Rattle.ksm_book.proofs.Unmerged.{in_scan, unshares_own}
-use Rattle.ksm_pages.proofs.Options.{none_mapped}
 
 -- the row at which there was a stop is the next of the shared ones
 stop_is : (rows : List Row) (k : ℕ) (at : Option Row) → IsStop rows k at → slice_get rows k ≡ at
 stop_is rows k None h = slice_get_past _ k (omega arith)
 stop_is rows k (Some row) h = h
-
--- where there was a stop, the answer says so
-is_unmerged : (rows : List Row) (k : ℕ) (at : Option Row) → IsStop rows k at
-    → IsUnmerged rows (Ok (Unmerged k (option_map (λ r. NoFrame r.home) at)))
-is_unmerged rows k None at = at
-is_unmerged rows k (Some row) at = rw at refl
 
 -- the first row of a guest is told, if it has one
 abbrev pub IsTold : PagesView → ℕ → Option Held → Type 0
@@ -33,11 +26,11 @@ module _ (p : PagesView) {k : KeeperView} {cursor : Option GuestPage} {passes gu
     (has : has_guest (state_of p cursor passes) guest ≡ false) where
   -- `Unmerge` of it is refused, and nothing changes
   pub unmerge_refused : IsCarried (book p k cursor passes) (book p k cursor passes) (Unmerge guest) (Err UnknownPage)
-  unmerge_refused = record { own = refl; answer = rw has refl; state = refl; steps = record { keeper = refl; frame = refl } }
+  unmerge_refused = grind arith
 
   -- and so is `Mergeable`
   pub mergeable_refused : IsCarried (book p k cursor passes) (book p k cursor passes) (Mergeable guest) (Err UnknownPage)
-  mergeable_refused = record { own = refl; answer = rw has refl; state = refl; steps = record { keeper = refl; frame = refl } }
+  mergeable_refused = grind arith
 
 -- `Unmerge` of a guest that has a row is carried out where its shared rows are unshared up to a stop or the end
 pub unmerge_carried : {p q : PagesView} {k l : KeeperView} {cursor : Option GuestPage} {passes : ℕ} {guest count : ℕ} {stop : Option Fault}

@@ -1,5 +1,5 @@
 -- A place is emptied, and the dup that stood there goes.
-use Rattle.ksm_book.proofs.Names.{not-true, both_ways, Agrees, All, All-filter, ap, arith, DupFits, DupRow, elsewhere, eq-eqb, filter, filter_passes, Frames, frames_of, get_or, get_or-set_other, get_or-set_same, is_some, IsInLife, Ledger, length-set, List, named_at, ne_eqb, None, not, Option, place_frame, Placed, refl, Row, set, Shape, subst, sym, true, ℕ, ◌<◌, ◌==◌, ◌∙◌, ◌≡◌, ◌≢◌}
+use Rattle.ksm_book.proofs.Names.{both_ways, Agrees, All, All-filter, ap, arith, DupFits, DupRow, elsewhere, eq-eqb, filter, filter_passes, Frames, frames_of, get_or, get_or-set_other, get_or-set_same, IsInLife, Ledger, length-set, List, named_at, ne_eqb, None, not, Option, place_frame, Placed, refl, Row, set, Shape, subst, sym, true, ℕ, ◌<◌, ◌==◌, ◌∙◌, ◌≡◌, ◌≢◌}
 use mathlib.Core.Logic.{dite}
 use native.Mathlib.Decide.{ℕ_discrete}
 use Rattle.ksm_base.proofs.Changes.{contains_filter}
@@ -31,7 +31,7 @@ module _ {sh : Shape} {across : ℕ} {k : Ledger} {rows : List Row} {frame : Fra
   -- what holds of each dup is said of those that stay
   staying : (P Q : DupRow → Type 0) → ((d : DupRow) → d.place ≢ q → P d → Q d) → All P dups → All Q (filter (elsewhere q) dups)
   staying P Q f h = λ n x lt. let e = get_or (filter (elsewhere q) dups) n x in
-      f e (λ at. both_ways (e.place == q) (grind (arith, filter_passes)) (eq-eqb e.place q at))
+      f e (grind (arith, filter_passes, eq-eqb))
       (All-filter _ P _ h n x lt)
 
   -- rows and dups lie lawfully where the place names nothing and the dup that stood there is gone
