@@ -418,31 +418,28 @@ visited_due s page pages sound due none = by _ refl
 abbrev pub waits_now : BookState → Row → BookState
 waits_now b row = record b { rows = change_row row.page (λ r. record r { state = Waiting }) b.rows }
 
--- a row with a frame of its own that may join no dup, and whose bytes have stayed, waits on once it waits
-pub waits_then : (b : BookState) (row : Row) → row_at row.page b.rows ≡ Some row → is_restless row ≡ true
-    → best_dup b.knobs b.rows b.dups row ≡ None → row.unchanged ≡ true → is_for_zero b.knobs row ≡ false → InPageOrder b.rows
-    → (row_at row.page (waits_now b row).rows ≡ Some (record row { state = Waiting }))
-    × (waits_on (waits_now b row) (record row { state = Waiting }) ≡ true)
-waits_then b row found restless none unchanged zeroes rise =
-    let f : Row → Row = λ r. record r { state = Waiting } in
-    let single_at : All (λ r. same_page r.page row.page ≡ true → (merged_state r.state ≡ false) × (merged_state (f r).state ≡ false)) b.rows =
-    grind (arith, row_of_page) in grind (arith, at_changed, none_is_best, still_none, none_to_join)
+-- a row with a frame of its own that may join no dup, and whose bytes have stayed
+module _ (b : BookState) (row : Row) (found : row_at row.page b.rows ≡ Some row) (restless : is_restless row ≡ true)
+    (none : best_dup b.knobs b.rows b.dups row ≡ None) (unchanged : row.unchanged ≡ true) (zeroes : is_for_zero b.knobs row ≡ false)
+    (rise : InPageOrder b.rows) where
+  abbrev waiting : Row → Row
+  waiting r = record r { state = Waiting }
 
--- such a row is due no longer once it waits
-pub waits_undue : (b : BookState) (row : Row) → row_at row.page b.rows ≡ Some row → is_restless row ≡ true
-    → best_dup b.knobs b.rows b.dups row ≡ None → row.unchanged ≡ true → is_for_zero b.knobs row ≡ false → InPageOrder b.rows
-    → IsDueNoMore row.page b (waits_now b row)
-waits_undue b row found restless none unchanged zeroes rise pages was =
-    undue (waits_now b row) _ _ (ordered_change _ f _ (λ r. refl) rise) on
-    (more_due (waits_now b row) (row.page ∷ row.page ∷ pages) (row.page ∷ pages) (λ p is. grind arith)
-    (changed_due b _ f (row.page ∷ pages) rise (λ r. refl)
-    (grind (arith, same_Some, restless_own)) was))
-  where
-    f : Row → Row
-    f r = record r { state = Waiting }
+  -- it waits on once it waits
+  pub waits_then : (row_at row.page (waits_now b row).rows ≡ Some (waiting row)) × (waits_on (waits_now b row) (waiting row) ≡ true)
+  waits_then =
+      let single_at : All (λ r. same_page r.page row.page ≡ true → (merged_state r.state ≡ false) × (merged_state (waiting r).state ≡ false)) b.rows =
+      grind (arith, row_of_page) in grind (arith, at_changed, none_is_best, still_none, none_to_join)
 
-    on : (r : Row) → row_at row.page (waits_now b row).rows ≡ Some r → is_restless r ≡ true → waits_on (waits_now b row) r ≡ true
-    on r at _ = grind (arith, at, waits_then b row found restless none unchanged zeroes rise)
+  -- it is due no longer once it waits
+  pub waits_undue : IsDueNoMore row.page b (waits_now b row)
+  waits_undue pages was =
+      undue (waits_now b row) _ _ (ordered_change _ waiting _ (λ r. refl) rise) on
+      (more_due (waits_now b row) (row.page ∷ row.page ∷ pages) (row.page ∷ pages) (λ p is. grind arith)
+      (changed_due b _ waiting (row.page ∷ pages) rise (λ r. refl) (grind (arith, same_Some, restless_own)) was))
+    where
+      on : (r : Row) → row_at row.page (waits_now b row).rows ≡ Some r → is_restless r ≡ true → waits_on (waits_now b row) r ≡ true
+      on r at _ = grind (arith, at, waits_then)
 
 -- a page whose row a visit may not change is not due
 pub calm_undue : (b : BookState) (page : GuestPage) → InPageOrder b.rows → restless_at page b.rows ≡ false → IsDueNoMore page b b

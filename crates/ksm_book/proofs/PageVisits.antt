@@ -64,36 +64,33 @@ module _ (b : BookState) (row : Row) (stays : HasStayed b false row) (alone : pa
 
 -- ---------------------------------------------------------------- the row alone changes
 
--- the visit changes the row of a page on its frame, and makes no step
-row_leads : {P : BookState → Row → Type 0} {p : PagesView} {k : KeeperView} {cursor : Option GuestPage} {passes : ℕ} {v : BookView}
-    {page : GuestPage} (at : Meets P p k cursor passes v page) → is_restless at.row ≡ true → (c : Row → Row) →
-    ((r : Row) → (c r).page ≡ r.page)
-    → LodgesAs (c at.row) at.row → row_visited (state_of p cursor passes) at.row ≡ record (state_of p cursor passes)
-    { rows = change_row at.row.page c p.rows }
-    → row_visiting (state_of p cursor passes) p.frame at.row ≡ idle p.frame → {q : PagesView} → q ≡ row_changed at.row.page c p
-    → Leads v q k cursor passes page
-row_leads {k} {cursor} {passes} at restless c keeps lodges becomes rests {q} goes =
-    leads at q k restless
-    (rw goes (laid_changed at.laid _ _ c _ at.sound.rows_rise (there_is at) keeps lodges)) (rw goes (sym becomes))
-    (grind (arith, made_none))
+module _ {p q : PagesView} {k : KeeperView} {cursor : Option GuestPage} {passes : ℕ} {v : BookView} {page : GuestPage} where
+  -- the visit changes the row of a page on its frame, and makes no step
+  row_leads : {P : BookState → Row → Type 0} (at : Meets P p k cursor passes v page) → is_restless at.row ≡ true → (c : Row → Row)
+      → ((r : Row) → (c r).page ≡ r.page) → LodgesAs (c at.row) at.row
+      → row_visited (state_of p cursor passes) at.row ≡ record (state_of p cursor passes) { rows = change_row at.row.page c p.rows }
+      → row_visiting (state_of p cursor passes) p.frame at.row ≡ idle p.frame → q ≡ row_changed at.row.page c p
+      → Leads v q k cursor passes page
+  row_leads at restless c keeps lodges becomes rests goes =
+      leads at q k restless
+      (rw goes (laid_changed at.laid _ _ c _ at.sound.rows_rise (there_is at) keeps lodges)) (rw goes (sym becomes))
+      (grind (arith, made_none))
 
-module _ {p q : PagesView} {k : KeeperView} {cursor : Option GuestPage} {passes : ℕ} {v : BookView} {page : GuestPage}
-    (at : Meets (λ _ r. FindsAt p q r finds.Waits) p k cursor passes v page) where
-  stays : HasStayed (state_of p cursor passes) false at.row
-  stays = grind arith
+  module _ (at : Meets (λ _ r. FindsAt p q r finds.Waits) p k cursor passes v page) where
+    stays : HasStayed (state_of p cursor passes) false at.row
+    stays = grind arith
 
-  -- where a visit found that the page is to wait, and made its row Waiting, the book is what the visit leads to
-  pub waits_leads : Leads v q k cursor passes page
-  waits_leads = row_leads at at.so.0 _ (λ r. refl) (grind arith)
-      (waits_is _ _ stays at.so.4) (waiting_is _ _ stays at.so.4 _) at.so.5
+    -- where a visit found that the page is to wait, and made its row Waiting, the book is what the visit leads to
+    pub waits_leads : Leads v q k cursor passes page
+    waits_leads = row_leads at at.so.0 _ (λ r. refl) (grind arith)
+        (waits_is _ _ stays at.so.4) (waiting_is _ _ stays at.so.4 _) at.so.5
 
-  -- the visit of a page that is to wait changes nothing but which rows wait
-  pub waits_quiet : (deed : Deed) → IsStill (v.state, deed) (page_visited doing (v.state, deed) page)
-  waits_quiet deed = grind (arith, waits_still)
+    -- the visit of a page that is to wait changes nothing but which rows wait
+    pub waits_quiet : (deed : Deed) → IsStill (v.state, deed) (page_visited doing (v.state, deed) page)
+    waits_quiet deed = grind (arith, waits_still)
 
--- where a visit found the page's bytes changed, and marked its row, the book is what the visit leads to
-pub changed_leads : {p q : PagesView} {k : KeeperView} {cursor : Option GuestPage} {passes : ℕ} {v : BookView} {page : GuestPage}
-    → Meets (λ _ r. FindsAt p q r finds.Changed) p k cursor passes v page → Leads v q k cursor passes page
-changed_leads {p} at =
-    let marked = marked_is _ p.frame _ at.so.0 at.so.1 at.so.2 in
-    row_leads at at.so.0 _ (λ r. refl) (grind arith) marked.0 marked.1 at.so.3
+  -- where a visit found the page's bytes changed, and marked its row, the book is what the visit leads to
+  pub changed_leads : Meets (λ _ r. FindsAt p q r finds.Changed) p k cursor passes v page → Leads v q k cursor passes page
+  changed_leads at =
+      let marked = marked_is _ p.frame _ at.so.0 at.so.1 at.so.2 in
+      row_leads at at.so.0 _ (λ r. refl) (grind arith) marked.0 marked.1 at.so.3

@@ -59,12 +59,21 @@ settled_then {p} {m} {q} {k} {l} {page} {node} {bytes} {row} h rise found r d ch
 pub alone_now : (rows : List Row) (page : GuestPage) (row : Row) → row_at page rows ≡ Some row → shared_state row.state ≡ false → IsAlone page rows
 alone_now rows page row found alone = rw found alone
 
--- the frame of a page may be read, and has the page's bytes
-pub may_read : {p : PagesView} {k : KeeperView} → IsLaid p k → (page : GuestPage) (row : Row) → row_at page p.rows ≡ Some row → (g : ℕ) → p.frame page ≡ Some g
-    → (g < frames_of k.table.shape) × IsReadable (frame_at k.ledger g).kind × (length (frame_at k.ledger g).content ≡ PAGE_WORDS) × ((frame_at k.ledger g).content ≡ row.bytes)
-may_read {p} {k} h page row found g lies =
-    let served = subst (IsServed p.shape k.ledger p.dups row) lies (served_at h.placed _ row found) in
-    grind arith
+-- a page with a frame
+module _ {p : PagesView} {k : KeeperView} (h : IsLaid p k) (page : GuestPage) (row : Row) (found : row_at page p.rows ≡ Some row) where
+  -- it may be read, and has the page's bytes
+  pub may_read : (g : ℕ) → p.frame page ≡ Some g
+      → (g < frames_of k.table.shape) × IsReadable (frame_at k.ledger g).kind × (length (frame_at k.ledger g).content ≡ PAGE_WORDS) × ((frame_at k.ledger g).content ≡ row.bytes)
+  may_read g lies =
+      let served = subst (IsServed p.shape k.ledger p.dups row) lies (served_at h.placed _ row found) in
+      grind arith
+
+  -- it may be stored to, where it is the page's own
+  pub own_ready : shared_state row.state ≡ false → (g : ℕ) → p.frame page ≡ Some g
+      → (g < frames_of k.table.shape) × (g < length k.ledger.frames) × IsWritable (frame_at k.ledger g).kind × (length (frame_at k.ledger g).content ≡ PAGE_WORDS)
+  own_ready alone g lies =
+      let served = subst (IsServed p.shape k.ledger p.dups row) lies (served_at h.placed _ row found) in
+      grind arith
 
 -- what is true anyway is true of each error of a result
 pub if_err : {T E : Type 0} (r : Result T E) (P : Type 0) → P → IfErr r (λ _. P)
@@ -78,13 +87,6 @@ found_resettled r found =
     rw r.pages (grind (arith, at_changed))
 
 -- ---------------------------------------------------------------- a store
-
--- the frame of a page with one of its own may be stored to
-pub own_ready : {p : PagesView} {k : KeeperView} → IsLaid p k → (page : GuestPage) (row : Row) → row_at page p.rows ≡ Some row → shared_state row.state ≡ false → (g : ℕ) → p.frame page ≡ Some g
-    → (g < frames_of k.table.shape) × (g < length k.ledger.frames) × IsWritable (frame_at k.ledger g).kind × (length (frame_at k.ledger g).content ≡ PAGE_WORDS)
-own_ready {p} {k} h page row found alone g lies =
-    let served = subst (IsServed p.shape k.ledger p.dups row) lies (served_at h.placed _ row found) in
-    grind arith
 
 module _ (p : PagesView) (k l : KeeperView) (cursor : Option GuestPage) (passes : ℕ) (page : GuestPage) (bytes : List ℕ) (row : Row) (found : row_at page p.rows ≡ Some row) (table : l.table ≡ k.table) where
   module _ (q : PagesView) (state : state_of q cursor passes ≡ record (state_of p cursor passes) { rows = change_row page (stored bytes) p.rows }) where
