@@ -83,7 +83,7 @@ module _ {asked : Row → Bool} (f : Row → Row) (keeps : (r : Row) → (f r).p
   pub along_end : find (next_of last) now ≡ None → (now ≡ change_rows asked f rows) × All (λ r. asked r ≡ false) left
   along_end ended =
       let all = find_none _ _ (sym among ∙ ended) in (
-        grind (arith, a.are, change_none, map-append changed done left),
+        grind (arith, change_none, map-append changed done left),
         λ k d lt. sym (agree k d lt) ∙ all k d lt,
       )
 
@@ -103,7 +103,7 @@ module _ {asked : Row → Bool} (f : Row → Row) (keeps : (r : Row) → (f r).p
     now_is : now ≡ map changed before ++ r ∷ rest
     now_is =
         rw (map-append changed done cut.0)
-        (grind (arith, cut.2, change_none, append_assoc (map changed done) (map changed cut.0) (r ∷ rest)))
+        (grind (arith, change_none, append_assoc (map changed done) (map changed cut.0) (r ∷ rest)))
 
     pairs : AllPairs (λ (x y : Row). comes_before x.page y.page ≡ true) (before ++ r ∷ rest)
     pairs = subst InPageOrder whole rise
@@ -145,7 +145,7 @@ module _ {asked : Row → Bool} (f : Row → Row) (keeps : (r : Row) → (f r).p
             ∙ (λ t. still t ++ here t ∷ later t) ∙ sym (one_more _);
         behind = All-append (λ x. comes_before r.page x.page ≡ false) _ _
             (λ k d lt. not_both (get_or before k d).page r.page (first k d lt))
-            (grind (arith, All-cons));
+            (grind arith);
         ahead = behind;
       };
       stop =
@@ -178,7 +178,7 @@ FitsPage (Some p) = (p.guest < 65536) × (p.page < 4294967296)
 -- the next page of a guest, or of all, after a cursor that fits has a greater position than the cursor
 pub further : (guest : Option ℕ) (last : Option GuestPage) (rows : List Row) (page : GuestPage) → FitsPage last
     → option_map (λ r. r.page) (find (is_next guest last) rows) ≡ Some page → position last < position (Some page)
-further guest last rows page fits told = grind (arith, find_passes, and_parts)
+further guest last rows page fits told = grind (arith, find_passes)
 
 -- the position of a cursor that fits is 2^48 at most
 pub not_far : (last : Option GuestPage) → FitsPage last → position last ≤ 281474976710656

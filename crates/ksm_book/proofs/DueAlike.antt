@@ -46,7 +46,7 @@ hidden_all b s = λ t. record b { rows = map_alike (calmed (is_among pages)) set
     pages = mergeable_pages b.rows
 
     each : All (λ r. calmed (is_among pages) r ≡ settled r) b.rows
-    each k d lt = grind (arith, mergeable_has, stays_settled)
+    each k d lt = grind (arith, mergeable_has)
 
 -- with the rows of no page hidden the book is as it is
 pub hidden_none : (b : BookState) → hidden [] b ≡ b
@@ -200,7 +200,7 @@ module _ (later : List GuestPage) (b : BookState) (r : Row) (fresh : has_item r.
       near_w = found_open near w found
 
       apart : (q : GuestPage) → (same_page q w.page || same_page q r.page) ≡ true → has_item q later ≡ false
-      apart q one = grind (arith, one, same_page_eq q r.page, near_w, fresh)
+      apart q one = grind (arith, same_page_eq q r.page, near_w, fresh)
 
   pairing_alike : (frame : Frames) → NoneCovered
       → pairing (partner b.knobs covered.rows r) covered frame (settled r)
@@ -237,7 +237,7 @@ module _ (later : List GuestPage) (b : BookState) (r : Row) (fresh : has_item r.
       → visited doing (covered, deed) (Some (settled r))
       ≡ (hidden later (visited doing (b, deed) (Some r)).0, (visited doing (b, deed) (Some r)).1)
   visit_alike deed is near =
-      grind (arith, best_kept (is_among pages) b.rows b.knobs r b.dups, visited_by, handled_alike, handling_alike)
+      grind (arith, best_kept (is_among pages) b.rows b.knobs r b.dups, handled_alike, handling_alike)
 
 -- ---------------------------------------------------------------- a row takes over
 
@@ -427,7 +427,7 @@ module _ (b : BookState) (s : IsSound b) where
         let of_w = waits_tells b.knobs r w (grind (arith, find_passes)) in
         let apart = same_page_sym r.page w.page ∙ of_w.other in
         let not_on = ahead w.page ∙ ap (λ z. z && scanned w.page) sooner in
-        λ k d lt is. grind (arith, one_waits b r w s found_w k d lt is, apart)
+        λ k d lt is. grind (arith, one_waits b r w s found_w k d lt is)
 
     -- where it is further on, the same book is hidden whether the rows that wait for it wait or not
     all_covered : (o : Option Row) → partner b.knobs b.rows r ≡ o → comes_later r.page o ≡ true
@@ -464,7 +464,7 @@ module _ (b : BookState) (s : IsSound b) where
           (grind (arith, none_waits)))
       | inr stays ↦
           let due : visited doing (b, deed) (Some r) ≡ due_row_visited doing (b, deed) (Some r) =
-          grind (arith, is) in
+          grind arith in
           rw (← due)
           (visit_alike _ b r fresh _ is
           (grind (arith, none_covered)))

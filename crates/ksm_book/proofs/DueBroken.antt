@@ -37,7 +37,7 @@ module _ (b : BookState) (sound : IsSound b) (page : GuestPage) (row : Row) (fou
 
       by : (o : Option Row) → partner b.knobs b.rows row ≡ o → names r.page beside ≡ true
       by None none = grind (arith, find_none)
-      by (Some w) is = grind (arith, is, one_waits b row w sound is k d lt waits, named)
+      by (Some w) is = grind (arith, one_waits b row w sound is k d lt waits, named)
 
   -- a row that waits, of the tree and content of a dup into which the row is merged, is of that page
   is_of_dup : All (λ r. waiting_state r.state ≡ true → All (λ e. merged_into e.number row.state ≡ true

@@ -5,7 +5,7 @@ use Rattle.ksm_base.specs.declared.row.PageState.TheVariants.{Private}
 use Rattle.ksm_pages.specs.declared.pages.Find.TheVariants as finds
 use Rattle.ksm_pages.specs.Paged.{Finds}
 use Rattle.ksm_book.proofs.DueAlike.{due_sound}
-use Rattle.ksm_book.proofs.DueKept.{calm_undue, changed_due, more_due, visited_due}
+use Rattle.ksm_book.proofs.DueKept.{AreAmong, calm_undue, changed_due, more_due, visited_due}
 use Rattle.ksm_book.proofs.PageVisits.{shared_comes}
 use Rattle.ksm_book.proofs.Reached.{comes_to, first}
 use Rattle.ksm_book.proofs.RowVisits.{filled_by, Meets, page_is, restless_own, stayed_is, there_is, visited_by}
@@ -62,8 +62,7 @@ module _ {P : BookState → Row → Type 0} {p : PagesView} {k : KeeperView} {cu
 abbrev pub Without : GuestPage → List GuestPage → List GuestPage → Type 0
 Without page old new = (p : GuestPage) → has_item p new ≡ (has_item p old && not (same_page page p))
 
-kept : (page : GuestPage) (old new : List GuestPage) → Without page old new
-    → (p : GuestPage) → has_item p old ≡ true → has_item p (page ∷ new) ≡ true
+kept : (page : GuestPage) (old new : List GuestPage) → Without page old new → AreAmong old (page ∷ new)
 kept page old new gone p is = grind arith
 
 -- a page that is due no more need not be among those that are
@@ -152,7 +151,7 @@ module _ {p q : PagesView} {k : KeeperView} {cursor : Option GuestPage} {passes 
     -- a page that meets an earlier one takes over from none
     pub partner_none : comes_before other page ≡ true → takes_over (state_of p cursor passes) at.row ≡ false
     partner_none before = waits_takes_none (state_of p cursor passes) at.row met.1
-        (grind (arith, page_is at, met.2))
+        (grind (arith, page_is at))
 
     -- once it was visited, its row is none that a visit may change
     pub partner_calm : restless_at page (row_visited (state_of p cursor passes) at.row).rows ≡ false
@@ -165,7 +164,7 @@ module _ {p q : PagesView} {k : KeeperView} {cursor : Option GuestPage} {passes 
     pub partner_takes : comes_before other page ≡ false → MatchOption (row_at page p.rows) (true ≡ false) (TakesOverFrom (state_of p cursor passes) other)
     partner_takes none =
         let apart = (waits_tells p.knobs at.row met.0 (find_passes (waits_for p.knobs at.row) p.rows _ met.1)).other in
-        let before = one_before met.0.page at.row.page apart (grind (arith, page_is at, none)) in
+        let before = one_before met.0.page at.row.page apart (grind (arith, page_is at)) in
         rw at.found
         (at.so.0, takes (state_of p cursor passes) at.row stays.none stays.unchanged stays.zeroes _ met.1 before, at.so.4)
 
@@ -186,7 +185,7 @@ module _ {p q : PagesView} {k : KeeperView} {cursor : Option GuestPage} {passes 
       f r = record r { unchanged = true; state = Private }
 
       back : (g : GuestPage) → has_item g (at.row.page ∷ due) ≡ true → has_item g due ≡ true
-      back g is = grind (arith, is, page_is at, or_cases)
+      back g is = grind (arith, page_is at, or_cases)
 
 -- a search that found a page gone changed nothing
 pub gone_same : (p q : PagesView) (page : GuestPage) → Finds p q page finds.Gone → q ≡ p
@@ -196,7 +195,7 @@ gone_same p q page told = grind arith
 
 module _ (v m w : BookValue) (same : view_of m ≡ view_of v) where
   reached_as : (from : BookValue) (s : BookState × Deed) → Reached from v s → Reached from m s
-  reached_as from s before = grind (arith, same)
+  reached_as from s before = grind arith
 
   -- what is reached from a book is reached from one that looks the same
   pub comes_as : {change : BookState × Deed → BookState × Deed} → Comes m w change → Comes v w change

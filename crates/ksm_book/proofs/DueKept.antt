@@ -51,7 +51,7 @@ module _ {X : Type 0} (p : X → Bool) (better : X → X → Bool) (total : (x y
 
   -- where a search for the best finds nothing, none passes the test
   no_top : (xs : List X) → find (is_top xs) xs ≡ None → All (λ x. p x ≡ false) xs
-  no_top xs none = grind (arith, none, top_in xs, find_none, list_all-from_AllPass, no_rival)
+  no_top xs none = grind (arith, top_in xs, find_none, list_all-from_AllPass, no_rival)
 
 -- ---------------------------------------------------------------- the dups that a row may join
 
@@ -88,7 +88,7 @@ on_tells b row is = grind arith
 
 -- a row that waits on passes the test
 pub tells_on : (b : BookState) (row : Row) → WaitsOn b row → waits_on b row ≡ true
-tells_on b row h = grind (arith, h, and_from)
+tells_on b row h = grind (arith, and_from)
 
 -- ---------------------------------------------------------------- which pages are due
 
@@ -136,7 +136,7 @@ module _ (b : BookState) (test : Row → Bool) (f : Row → Row) (dups : List Du
 
   -- a row that waits on, and may join no dup now, waits on
   waits_still : (r : Row) → StillJoinsNone r → waits_on b r ≡ true → waits_on changed r ≡ true
-  waits_still r joins_none is = grind (arith, tells_on, none_is_best, none_to_join)
+  waits_still r joins_none is = grind (arith, none_is_best, none_to_join)
 
   -- what is due after a change: the changed rows that a visit may change, and what was due
   pub change_due : (due more : List GuestPage) → AreAmong due more
@@ -152,9 +152,13 @@ module _ (b : BookState) (test : Row → Bool) (f : Row → Row) (dups : List Du
       let is = rest k d lt restless out in
       waits_still r (others k d lt fails (on_tells b r is)) is)
 
+-- the row is not merged, nor is it once it is changed
+abbrev pub IsSingle : (Row → Row) → Row → Type 0
+IsSingle f r = (merged_state r.state ≡ false) × (merged_state (f r).state ≡ false)
+
 -- the rows that pass a test change, and none of them is merged, before or after
 module _ (b : BookState) (test : Row → Bool) (f : Row → Row)
-    (single : All (λ r. test r ≡ true → (merged_state r.state ≡ false) × (merged_state (f r).state ≡ false)) b.rows) where
+    (single : All (λ r. test r ≡ true → IsSingle f r) b.rows) where
   -- each dup has as many items as it had
   same_items : (d : DupRow) → item_count (change_rows test f b.rows) d ≡ item_count b.rows d
   same_items d = count_kept _ _ f _ (λ k e lt passes.
@@ -184,7 +188,7 @@ itself page pages p same = grind arith
 -- a change of one row that is not merged, before or after, makes that row due
 pub changed_due : (b : BookState) (page : GuestPage) (f : Row → Row) (pages : List GuestPage) → InPageOrder b.rows
     → ((r : Row) → (f r).page ≡ r.page)
-    → ((r : Row) → row_at page b.rows ≡ Some r → (merged_state r.state ≡ false) × (merged_state (f r).state ≡ false))
+    → ((r : Row) → row_at page b.rows ≡ Some r → IsSingle f r)
     → AreDue b pages → AreDue (record b { rows = change_row page f b.rows }) (page ∷ pages)
 changed_due b page f pages rise keeps single was =
     unmerged_due b _ f
@@ -228,7 +232,7 @@ module _ (b : BookState) (sound : IsSound b) (new : List Row) (dup : DupRow) (st
       let e = get_or b.dups k d in
       elim (cases_Bool (e.number == dup.number)) [
         | inl same ↦
-            grind (arith, same_Some, eqb-true, not_of_group)
+            grind (arith, same_Some, not_of_group)
         | inr other ↦ grind arith
       ]
 
@@ -248,7 +252,7 @@ module _ (b : BookState) (sound : IsSound b) (row : Row) (found : row_at row.pag
       → AreDue b (row.page ∷ pages) → AreDue (record b { rows = change_row row.page f b.rows }) (row.page ∷ pages)
   own_due f pages keeps after was =
       unmerged_due b _ f
-      (λ k d lt same. subst (λ r. (merged_state r.state ≡ false) × (merged_state (f r).state ≡ false)) (sym (only k d lt same))
+      (λ k d lt same. subst (IsSingle f) (sym (only k d lt same))
       (unmerged, after))
       (row.page ∷ pages) (row.page ∷ pages) (λ p is. is)
       (grind arith) was
@@ -309,7 +313,7 @@ module _ (b : BookState) (sound : IsSound b) (row : Row) (found : row_at row.pag
 
       of_another : All (λ r. waiting_state r.state ≡ true → same_page r.page w.page ≡ false
           → (new.tree == tree_of b.knobs r && bytes_eq new.bytes r.bytes) ≡ false) b.rows
-      of_another k d lt waiting apart = grind (arith, waiting, waiter_alone, bytes_eq-Decides)
+      of_another k d lt waiting apart = grind (arith, waiter_alone, bytes_eq-Decides)
 
       others : All (λ r. test r ≡ false → WaitsOn b r → StillJoinsNone b test f (with_dup new b.dups) (b.next + 1) r) b.rows
       others k d lt fails h none =
@@ -376,7 +380,7 @@ module _ (b : BookState) (frame : Frames) (sound : IsSound b) (row : Row) (found
 -- the visit of a page that waits on changes nothing
 pub on_stays : (s : BookState × Deed) (page : GuestPage) (r : Row) → IsSound s.0 → row_at page s.0.rows ≡ Some r
     → waits_on s.0 r ≡ true → is_restless r ≡ true → due_visited doing s page ≡ s
-on_stays s page r sound found is restless = grind (arith, found_page, on_same, on_idle, then_idle)
+on_stays s page r sound found is restless = grind (arith, found_page, on_same, then_idle)
 
 -- visits of pages of which none is due change nothing
 pub undue_stay : (pages : List GuestPage) (s : BookState × Deed) (due : List GuestPage) → IsSound s.0 → AreDue s.0 due
@@ -428,7 +432,7 @@ module _ (b : BookState) (row : Row) (found : row_at row.page b.rows ≡ Some ro
   -- it waits on once it waits
   pub waits_then : (row_at row.page (waits_now b row).rows ≡ Some (waiting row)) × (waits_on (waits_now b row) (waiting row) ≡ true)
   waits_then =
-      let single_at : All (λ r. same_page r.page row.page ≡ true → (merged_state r.state ≡ false) × (merged_state (waiting r).state ≡ false)) b.rows =
+      let single_at : All (λ r. same_page r.page row.page ≡ true → IsSingle waiting r) b.rows =
       grind (arith, row_of_page) in grind (arith, at_changed, none_is_best, still_none, none_to_join)
 
   -- it is due no longer once it waits
@@ -436,10 +440,10 @@ module _ (b : BookState) (row : Row) (found : row_at row.page b.rows ≡ Some ro
   waits_undue pages was =
       undue (waits_now b row) _ _ (ordered_change _ waiting _ (λ r. refl) rise) on
       (more_due (waits_now b row) (row.page ∷ row.page ∷ pages) (row.page ∷ pages) (λ p is. grind arith)
-      (changed_due b _ waiting (row.page ∷ pages) rise (λ r. refl) (grind (arith, same_Some, restless_own)) was))
+      (changed_due b _ waiting (row.page ∷ pages) rise (λ r. refl) (grind (arith, restless_own)) was))
     where
       on : (r : Row) → row_at row.page (waits_now b row).rows ≡ Some r → is_restless r ≡ true → waits_on (waits_now b row) r ≡ true
-      on r at _ = grind (arith, at, waits_then)
+      on r at _ = grind (arith, waits_then)
 
 -- a page whose row a visit may not change is not due
 pub calm_undue : (b : BookState) (page : GuestPage) → InPageOrder b.rows → restless_at page b.rows ≡ false → IsDueNoMore page b b
@@ -454,7 +458,7 @@ module _ (b : BookState) (row w : Row) (sound : IsSound b) (found : row_at row.p
   only_waiter : All (λ r. waits_for b.knobs row r ≡ true → same_page r.page w.page ≡ true) b.rows
   only_waiter k d lt passes = grind (arith, waits_tells, waiter_alone)
 
-  freed_single : All (λ r. waits_for b.knobs row r ≡ true → (merged_state r.state ≡ false) × (merged_state (settled r).state ≡ false)) b.rows
+  freed_single : All (λ r. waits_for b.knobs row r ≡ true → IsSingle settled r) b.rows
   freed_single k d lt passes = grind arith
 
   freed_rise : InPageOrder (freed b row).rows

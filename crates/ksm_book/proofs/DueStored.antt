@@ -13,7 +13,7 @@ module _ (b : BookState) (page : GuestPage) (bytes : List ℕ) (row : Row) (page
   -- the page is due beside what was
   beside : AreDue after (page ∷ pages)
   beside = changed_due b _ _ _ rise (λ r. refl)
-      (grind (arith, same_Some)) was
+      (grind arith) was
 
   -- where the page was due nothing is due beside what was
   within : has_item page pages ≡ true → (p : GuestPage) → has_item p (page ∷ pages) ≡ true → has_item p pages ≡ true
@@ -25,7 +25,7 @@ module _ (b : BookState) (page : GuestPage) (bytes : List ℕ) (row : Row) (page
       let is = subst (λ x. is_restless x ≡ true)
       (sym (same_Some _ r (sym (at_changed page (stored bytes) b.rows row (λ x. refl) found) ∙ at))) restless in
       let on = find_all (λ x. same_page x.page page) (λ x. is_restless x ≡ true → has_item x.page pages ≡ false → waits_on b x ≡ true) b.rows row found
-      was (grind (arith, and_from)) (grind (arith, found_page, out)) in
+      was (grind arith) (grind (arith, found_page)) in
       grind arith
 
   -- what is due stays so

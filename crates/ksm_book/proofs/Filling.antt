@@ -6,7 +6,7 @@ use Rattle.ksm_book.proofs.Noted.{noted}
 
 -- a frame between a node's first and its last is on that node
 pub on_node : (node size g : ℕ) → node * size ≤ g → g < node * size + size → g / size ≡ node
-on_node node size g low high = grind (arith, low, high)
+on_node node size g low high = grind (arith, high)
 
 -- ---------------------------------------------------------------- one frame's note
 
@@ -72,7 +72,7 @@ module _ {v w : KeeperView} {node : ℕ} {bytes : List ℕ} {g : ℕ} (less : no
         keeps = λ across rows frame dups p.
             let q = searched_placed _ less h.finds.reaped _ _ _ _ None p in
             rw taken_ledger
-            (noted q g (found_inside v u _ g less l h.finds) own _ (grind arith) (grind (arith, same_Some)));
+            (noted q g (found_inside v u _ g less l h.finds) own _ (grind arith) (grind arith));
         spent = omega arith;
         frame = found_inside v u _ g less l h.finds;
         kind = rw now;

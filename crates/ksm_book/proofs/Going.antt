@@ -16,7 +16,7 @@ module _ (cursor : Option GuestPage) (passes : ℕ) where
   paired_alike w b row = grind arith
 
   stayed_alike : (b : BookState) (row : Row) → stayed (elsewhere b) row ≡ elsewhere (stayed b row)
-  stayed_alike b row = grind (arith, either)
+  stayed_alike b row = grind arith
 
   handled_alike : (d : Option DupRow) (b : BookState) (row : Row) → handled d (elsewhere b) row ≡ elsewhere (handled d b row)
   handled_alike d b row = grind arith

@@ -10,7 +10,7 @@ use Rattle.ksm_book.proofs.Singles.{change_still}
 -- two changes of the row of a page come to the same where they do at each row of that page
 alike_at : (page : GuestPage) (f g : Row → Row) (rows : List Row)
     → All (λ r. same_page r.page page ≡ true → f r ≡ g r) rows → change_row page f rows ≡ change_row page g rows
-alike_at page f g rows same = grind (arith, same, map_alike)
+alike_at page f g rows same = grind (arith, map_alike)
 
 -- ---------------------------------------------------------------- a page with a frame of its own
 
@@ -116,10 +116,10 @@ module _ {page : GuestPage} {old now : BookValue} {last : Option GuestPage} (h :
       done = cut.before ++ cut.row ∷ [];
       left = cut.rest;
       along = along_on (rows ∙ alike_at at _ _ _
-          (grind (arith, same_page_eq)));
+          (grind arith));
       comes = λ from s before.
           let reached = stops from (record s.0 { rows = now.state.rows }, s.1) (h.comes from s before) in
-          (grind (arith, rows), reached.1);
+          (grind arith, reached.1);
       own = own ∙ h.own;
       restless = restless ∙ h.restless;
       fits = fits;

@@ -60,7 +60,7 @@ left_placed None m p = rw (none_made m) p
 left_placed (Some g) m p =
     let in_hand = held_inside p in
     rw (step_made m).1
-    (noted p g in_hand.0 _ None (grind arith) (grind (arith, same_Some)))
+    (noted p g in_hand.0 _ None (grind arith) (grind arith))
 
 -- a reference given back ends no life
 pub left_spends : {v w : KeeperView} (o : Option ℕ) → MakesSteps v w (leaving o) → spent v.ledger ≤ spent w.ledger
@@ -74,7 +74,7 @@ pub added_placed : {v w : KeeperView} {g : ℕ} → MakesSteps v w (Add g ∷ []
     → g < frames_of sh → Placed sh across v.ledger rows frame dups None → Placed sh across w.ledger rows frame dups (Some g)
 added_placed {v} {w} {g} m stable {sh} {across} {rows} {frame} {dups} inside p =
     rw (step_made m).1
-    (noted p g inside _ _ (grind arith) (grind (arith, same_Some)))
+    (noted p g inside _ _ (grind arith) (grind arith))
 
 -- a reference that came ends no life
 pub added_spends : {v w : KeeperView} {g : ℕ} → MakesSteps v w (Add g ∷ []) → spent v.ledger ≤ spent w.ledger

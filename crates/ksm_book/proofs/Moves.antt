@@ -74,7 +74,7 @@ module _ {sh : Shape} {across : ℕ} {k : Ledger} {rows : List Row} {frame : Fra
       → Placed sh across k (with_row row rows) (lies_on row.page o frame) dups None
   inserted o row absent p new =
       let apart = find_none _ _ absent in
-      rehoused p (all_with_row (At sh k dups (lies_on row.page o frame)) row _ (grind (arith, on_page))
+      rehoused p (all_with_row (At sh k dups (lies_on row.page o frame)) row _ (grind arith)
       (λ i d lt. let r = get_or rows i d in subst (IsServed sh k dups r) (sym (off_page row.page o frame r.page (apart i d lt))) (p.each_row i d lt)))
       (λ f. omega (arith, uses_come f o frame row _ absent))
 
@@ -83,7 +83,7 @@ module _ {sh : Shape} {across : ℕ} {k : Ledger} {rows : List Row} {frame : Fra
       → Placed sh across k (without_page page rows) (lies_on page None frame) dups (frame page)
   removed page row rise found p =
       let kept = All-filter (λ r. not (same_page r.page page)) (At sh k dups frame) _ p.each_row in
-      rehoused p (grind (arith, not-true, filter_passes))
+      rehoused p (grind (arith, filter_passes))
       (λ f. omega (arith, uses_gone f _ None frame _ row rise found))
 
   -- a place comes to name the frame in the hand, on which no row lies, and a new dup without items stands there
@@ -108,7 +108,7 @@ module _ {sh : Shape} {across : ℕ} {k : Ledger} {rows : List Row} {frame : Fra
     names_off e ne = grind (arith, named_off)
 
     life_off : (e : DupRow) → e.place ≢ d.place → IsInLife named e.place → IsInLife k e.place
-    life_off e ne l = grind (arith, l, named_off)
+    life_off e ne l = grind (arith, named_off)
 
     named_anew : All (λ e. e.place ≢ d.place) dups → uses g frame rows ≡ 0 → (frame_at k g).content ≡ d.bytes → (across ≡ 0 → g / sh.frames_per_node ≡ d.tree) → All (λ r. merged_into d.number r.state ≡ false) rows
         → Placed sh across named rows frame (with_dup d dups) (Some g)
@@ -124,11 +124,11 @@ module _ {sh : Shape} {across : ℕ} {k : Ledger} {rows : List Row} {frame : Fra
               item = grind arith;
               back = λ _ e. absurd (omega (arith, uses_some g frame rows i x lt (is ∙ ap Some (e ∙ names))));
             })
-            (λ n y l. let e : DupRow = get_or dups n y in let ne = apart n y l in grind (arith, named_off, life_off)),
+            (λ n y l. let e : DupRow = get_or dups n y in let ne = apart n y l in grind (arith, named_off)),
       )) (p.each_row i x lt);
       each_dup = all_with_dup (DupFits sh across named) d dups
           (grind (arith, named_is))
-          (λ n x l. grind (arith, named_off, life_off));
+          (λ n x l. grind (arith, named_off));
       bases = p.bases;
       kinds = p.kinds;
       empty = grind (arith, all_without, named_off);

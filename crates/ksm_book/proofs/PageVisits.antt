@@ -31,7 +31,7 @@ pub shared_comes : {P : BookState → Row → Type 0} {p : PagesView} {k : Keepe
     {page : GuestPage} (at : Meets P p k cursor passes (view_of v) page) → is_restless at.row ≡ true → (q : PagesView) → q ≡ p
     → VisitsPage (book q k cursor passes) (view_of w) page → Comes v w (λ s. page_visited doing s page)
 shared_comes v w at restless q same did =
-    visits_come v w _ (grind (arith, at.is, restless))
+    visits_come v w _ (grind (arith, restless))
     (grind arith)
 
 waiting_settles : (page : GuestPage) (rows : List Row) → All (λ r. same_page r.page page ≡ true → shared_state r.state ≡ false) rows
@@ -53,7 +53,7 @@ module _ (b : BookState) (row : Row) (stays : HasStayed b false row) (alone : pa
       (page_visited doing (b, deed) page)
   waits_still deed page rise found =
       let is = ap (visited doing (b, deed)) found ∙ ap (λ t. if t then (row_visited b row, doing b deed row) else (b, deed)) stays.restless
-      ∙ (grind (arith, waits_is, then_idle)) in
+      ∙ (grind (arith, then_idle)) in
       let at = ap (λ q. row_at q b.rows) (found_page _ _ row found) ∙ found in
       subst (IsStill (b, deed)) (sym is) (record {
         rest = refl;

@@ -28,9 +28,9 @@ behind_first cursor (p ∷ pages) page more rise is =
     let behind = pairs_head Before p _ rise in
     elim (cases_Bool (after_cursor cursor p)) [
       | inl here ↦
-          grind (arith, filter_all, after_later, filter_out)
+          grind (arith, filter_all, after_later)
       | inr before ↦
-          let found = sym (grind (arith, filter_out)) ∙ is in
+          let found = sym (grind arith) ∙ is in
           let later = All-head (Before p) page _ (subst (All (Before p)) found (All-filter _ (Before p) _ behind)) in
           filter_out (after_cursor (Some page)) p pages (not_both p _ later)
           ∙ behind_first cursor pages page more (pairs_tail Before p _ rise) found
@@ -80,7 +80,7 @@ module _ (t : GuestPage → Bool) (down : GoesDown t) where
       elim (cases_Bool (t p)) [
         | inl passes ↦
             ap (λ l. p ∷ l) (parted pages (pairs_tail Before p _ rise))
-            ∙ sym (grind (arith, filter_in))
+            ∙ sym (grind arith)
         | inr fails ↦
             let all = none_pass p _ rise fails in
             sym (ap₂ (λ some more. some ++ more) (filter_none t (p ∷ pages) all) (filter_all fail _ (λ k d lt. ap not (all k d lt))))
@@ -121,7 +121,7 @@ pub place_splits : (pages : List GuestPage) (n : ℕ) (page : GuestPage) → Are
 place_splits [] n page rise at = cc
 place_splits (p ∷ pages) zero page rise at =
     let behind = pairs_head Before p pages rise in
-    grind (arith, same_Some, filter_none, All-cons, not_both, filter_in)
+    grind (arith, filter_none, All-cons, not_both, filter_in)
 place_splits (p ∷ pages) (suc n) page rise at =
     let first = subst (Before p) (get_or_from_slice_get _ n _ page at)
     (pairs_head Before p _ rise n page (slice_get_within _ n _ at)) in
@@ -192,7 +192,7 @@ same_pages (p ∷ ps) (q ∷ qs) rise rise' same =
       | inl is ↦
           rw (← same_page_eq p x is) (not_behind p ps (pairs_head Before p ps rise) ∙ sym (not_behind p qs there))
       | inr differ ↦
-          grind (arith, differ, same x)
+          grind (arith, same x)
     ]) in
     λ t. first t ∷ rest t
 

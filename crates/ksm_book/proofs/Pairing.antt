@@ -100,7 +100,7 @@ module _ (other : GuestPage) {p : PagesView} {k : KeeperView} {cursor : Option G
 
   -- and at the page that was told
   pub waits_one : row_at one p.rows ≡ Some w
-  waits_one = grind (arith, is, waits_at)
+  waits_one = grind (arith, waits_at)
 
   -- the two pages may become the items of a new dup at the place
   pub pair_may : MatchOption (row_at one p.rows) (true ≡ false) (λ r. MatchOption (row_at page p.rows) (true ≡ false) (MayPair p place r))
@@ -188,5 +188,5 @@ module _ (other : GuestPage) {p : PagesView} {k : KeeperView} {cursor : Option G
           pair_leads = leads at q l at.so.0.restless
               (rw q_is
               (laid_joined first_laid first_rise _ row _ row_still item_at f lies refl change (λ r. refl) refl (sym tells.bytes)
-              l p.restless steps)) (rw goes (grind (arith, chosen, met.1)))
+              l p.restless steps)) (rw goes (grind (arith, met.1)))
               (grind (arith, deed_is, all_steps, q_is))

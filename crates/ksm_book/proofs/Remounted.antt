@@ -12,13 +12,13 @@ instead_here f g frame page e = rw (e, (eq-eqb f f refl))
 -- those that lay on f lie on g, and none lies on f any more
 module _ (f g : ℕ) (frame : Frames) (rows : List Row) where
   uses_new : uses g frame rows ≡ 0 → uses g (instead f g frame) rows ≡ uses f frame rows
-  uses_new none = grind (arith, count_alike, frame_cases, instead_here, none_counted, not_on)
+  uses_new none = grind (arith, count_alike, instead_here, none_counted, not_on)
 
   uses_old : g ≢ f → uses f (instead f g frame) rows ≡ 0
-  uses_old ne = grind (arith, count_none, frame_cases, instead_here, not_on, same_Some)
+  uses_old ne = grind (arith, count_none, instead_here, not_on, same_Some)
 
   uses_still : (x : ℕ) → x ≢ f → x ≢ g → uses x (instead f g frame) rows ≡ uses x frame rows
-  uses_still x nf ng = grind (arith, count_alike, frame_cases, instead_here, not_on, same_Some)
+  uses_still x nf ng = grind (arith, frame_cases, instead_here, not_on, same_Some)
 
 -- one of the dups moves from the frame that its place names to another
 module _ {sh : Shape} {across : ℕ} {k : Ledger} {rows : List Row} {frame : Frames} {dups : List DupRow}
@@ -184,7 +184,7 @@ module _ {sh : Shape} {across : ℕ} {k : Ledger} {rows : List Row} {frame : Fra
           (λ _. let below : (frame_at k g).generation < sh.last_generation = grind arith in (omega arith, omega arith))
           (grind arith)
           (λ _ _. p.lives h);
-      each_row = grind (arith, served, unused);
+      each_row = grind (arith, served);
       each_dup = λ m x l. dite (ℕ_discrete (get_or dups m x).place q) (λ same. dup_here (get_or dups m x) same (p.each_dup m x l)) (λ ne. dup_there (get_or dups m x) ne (p.each_dup m x l));
       bases = λ h. at (λ x. x.base ≡ uses h (instead left g frame) rows + 0) h
           (λ e. let new : uses h (instead left g frame) rows ≡ uses left frame rows = rw e (uses_new left g frame rows unused) in let old : (frame_at k left).base ≡ uses left frame rows + 0 = p.bases left in omega arith)

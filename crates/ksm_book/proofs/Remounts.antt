@@ -135,7 +135,7 @@ module _ {v : PagesView} {k : KeeperView} {dup : DupRow} {node g : ℕ} (may : M
     within_g = omega (arith, p.frames_long, inside_g)
 
     apart : f ≢ g
-    apart e = let both : Free ≡ Stable = grind (arith, e, stable) in cc
+    apart e = let both : Free ≡ Stable = grind (arith, stable) in cc
 
     -- the exchange of the old frame's count
     module _ {u : KeeperView} (found : ℕ) (freezes : u ≡ did w (Freeze g) found) where
@@ -248,12 +248,12 @@ module _ {v : PagesView} {k : KeeperView} {dup : DupRow} {node g : ℕ} (may : M
               frames = set (set w.ledger.frames g dead) f full;
               places = set w.ledger.places dup.place (Some life);
             }
-            ledger_is = grind (arith, knows, frozen, at_other f apart, at_g)
+            ledger_is = grind (arith, frozen, at_other f apart, at_g)
 
             laid_moved_dup : IsLaid q x
             laid_moved_dup =
                 let there = remounted p dup among g f on_frame inside lowest.free live.life stable
-                (λ z. grind (arith, on_node, dup_fits.node z, on_frame)) numbers in
+                (λ z. grind (arith, dup_fits.node z, on_frame)) numbers in
                 rw (goes ∙ ap (λ fr. record v { frame = fr }) (items_go f)) (record {
                   small = may.laid.small;
                   same = grind arith;
@@ -262,7 +262,7 @@ module _ {v : PagesView} {k : KeeperView} {dup : DupRow} {node g : ℕ} (may : M
                 })
               where
                 spent_still : v.next ≤ spent x.ledger
-                spent_still = grind (arith, past_le, spent_kept, more_spent)
+                spent_still = grind (arith, spent_kept, more_spent)
 
             -- once the new frame is mounted and the items lie there, the dup has moved to a frame of the node
             pub has_remounted : {X : Type 0} {done : X} → (before : KeeperView) × (x ≡ did before (Publish dup.place f) 0)

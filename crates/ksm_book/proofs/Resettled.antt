@@ -36,10 +36,10 @@ module _ {p : PagesView} {k w : KeeperView} (h : IsLaid p k) (rise : InPageOrder
         let leaves = subst (λ o. MakesSteps w u (leaving o)) was made in
         let lies = ap (λ (x : PagesView). x.frame) goes in
         record {
-          pages = grind (arith, lies);
+          pages = grind arith;
           resettles = grind arith;
           placed = λ change by_this. rw lies (left_placed _ leaves (in_hand by_this));
-          spent = omega (arith, h.spent, left_spends _ leaves);
+          spent = omega (arith, left_spends _ leaves);
         }
 
 -- where no frame of a node was found, pages that lie lawfully are turned away, and no page changed

@@ -44,7 +44,7 @@ stayed_is b frame row zeroes stays = grind arith
 -- what is so of the row of a page is so of the row that was found
 pub at_row : (P : Row → Type 0) (page : GuestPage) (rows : List Row) (row : Row) → row_at page rows ≡ Some row → MatchOption
     (row_at page rows) (true ≡ false) P → P row
-at_row P page rows row found is = grind (arith, is)
+at_row P page rows row found is = grind arith
 
 -- a step of the keeper was made, as its call says
 pub made_by : {v w : KeeperView} {e : KeeperStep} → Did v e w → MakesSteps v w (e ∷ [])
@@ -179,7 +179,7 @@ module _ (best : Best) {p : PagesView} {k : KeeperView} {cursor : Option GuestPa
     change r = record r { state = Merged best.number }
 
     state_is : Merged best.number ≡ item.state
-    state_is = grind (arith, told.2.0)
+    state_is = grind arith
 
     module _ (lone : ℕ) (left : p.frame page ≡ Some lone) where
       -- once a reference came to the dup's frame, the joining page's own frame may be left

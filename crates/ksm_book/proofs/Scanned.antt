@@ -26,7 +26,7 @@ pass_stays b most ahead comes (inl some) = by _ refl
   where
     by : (l : List GuestPage) → pages_ahead b ≡ l → b ≡ pass_ended_at_last b
     by (page ∷ more) is = sym (pass_goes_on b _ _ is)
-    by [] is = grind (arith, is)
+    by [] is = grind arith
 
 settled_ahead : (b : BookState) → pages_ahead (with_none_waiting b) ≡ pages_ahead b
 settled_ahead b = grind (arith, (settled_goes b.rows).mergeable)
@@ -158,10 +158,10 @@ module _ {X : Type 0} (step : BookState → X → Row → X) (beside : IsBeside 
     | inl (new, fresh) ↦
         let all = begins_ahead s.0 new fresh ∙ ap mergeable_pages (sym fresh.1) in
         let whole : after (filter (up_to None) ahead) ≡ pages_visited step (with_none_waiting new, s.1) (mergeable_pages new.rows) =
-        grind (arith, filter_all (up_to None) ahead (λ k d lt. refl), all) in
+        grind (arith, filter_all (up_to None) ahead (λ k d lt. refl)) in
         let again = repeats _ beside (new, s.1) (subst InPageOrder (sym fresh.1) rise) (rw fresh.1 some)
-        (grind (arith, whole, still)) times in
-        (grind arith) ∙ sym again ∙ (grind (arith, all))
+        (grind (arith, still)) times in
+        (grind arith) ∙ sym again ∙ (grind arith)
         ∙ ap (visits_beside step (times * length ahead)) (pass_made (some_ahead s.0 some))
         ∙ sym (grind (arith, beside_on))
   ]

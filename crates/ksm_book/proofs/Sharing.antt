@@ -183,7 +183,7 @@ module _ {p : PagesView} {k : KeeperView} (h : IsLaid p k) (rise : InPageOrder p
         rw (← same) inside,
         rw (← same) fits.frame,
         rw empty own,
-        grind (arith, get_or-set_same k.ledger.places d.place None None (omega arith), tt),
+        grind (arith, get_or-set_same k.ledger.places d.place None None (omega arith)),
       )
 
   -- rows and dups lie lawfully once the row's frame is published at the place of the new dup

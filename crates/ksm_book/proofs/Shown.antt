@@ -187,7 +187,7 @@ lost {v} {rows = rows} dup h =
       found = step.0;
       tried = Contains-push _ (Freeze f, step.0);
       other = subst (λ (z : KeeperView). count_in step.0 ≢ (frame_at z.ledger f).base) (sym step.1)
-          (by _ f (count_in step.0) (count_in step.0 == (frame_at s.ledger f).base) refl (grind (arith, h.kept)));
+          (by _ f (count_in step.0) (count_in step.0 == (frame_at s.ledger f).base) refl (grind arith));
     }
   where
     by : (k : Ledger) (f n : ℕ) (b : Bool) → b ≡ (n == (frame_at k f).base) → (frame_at (cond b (with_frame k f (frozen (frame_at k f))) k) f).kind ≡ Stable

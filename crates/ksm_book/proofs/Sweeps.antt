@@ -37,5 +37,5 @@ module _ (k : Ledger) (low : ℕ) where
         → dying_from k low (to + 1 - low) ≡ dying_from k low (from - low) ++ to ∷ []
     next_reaped to further none there =
         let at : low + (to - low) ≡ to = omega arith in
-        ap (dying_from k low) (omega arith) ∙ dying_more _ true (grind (arith, at, there))
+        ap (dying_from k low) (omega arith) ∙ dying_more _ true (grind (arith, there))
         ∙ (λ i. passed to further none i ++ at i ∷ [])

@@ -83,7 +83,7 @@ module _ (v m w : BookValue) {page other : GuestPage} (at : Takes v.state page o
   pub taken_comes : Comes m w (λ s. page_visited doing s page) → Comes v w (λ s. due_visited doing s page)
   taken_comes visits = λ from s before.
       subst (Reached from w) (
-      grind (arith, before.0, then_is at s.1)) (visits from (once_freed other s) (first from s before))
+      grind (arith, then_is at s.1)) (visits from (once_freed other s) (first from s before))
 
   -- where that visit was refused, nothing changed but which rows from the page on wait
   pub taken_refused : Comes m w (λ s. s) → StaysBefore page v w
@@ -95,10 +95,10 @@ module _ (v m w : BookValue) {page other : GuestPage} (at : Takes v.state page o
       hides r = if not (comes_before r.page page) then settled r else r
 
       behind : (r : Row) → same_page r.page other ≡ true → not (comes_before r.page page) ≡ true
-      behind r same = grind (arith, same, later at, not_both)
+      behind r same = grind (arith, later at, not_both)
 
       again : (r : Row) → same_page r.page other ≡ true → hides (settled r) ≡ hides r
-      again r same = grind (arith, same, behind r same)
+      again r same = grind (arith, behind r same)
 
       still : (rows : List Row)
           → change_rows (λ r. not (comes_before r.page page)) settled (change_row other settled rows)
@@ -117,7 +117,7 @@ module _ (v m w : BookValue) {page other : GuestPage} (at : Takes v.state page o
     same_kept p same = grind (arith, same_page_sym page other, before_differs page other (later at))
 
     other_kept : (p : GuestPage) → has_item p (at.waiter.page ∷ new) ≡ true → has_item p new ≡ true
-    other_kept p is = grind (arith, is, same_kept)
+    other_kept p is = grind (arith, same_kept)
 
     -- the other page is due then, and the first one no longer
     pub taken_leaves : Comes m w (λ s. page_visited doing s page) → AreDue v.state old → AreDue w.state new

@@ -71,7 +71,7 @@ module _ {p : PagesView} {k : KeeperView} (guest : Option ℕ) {page : GuestPage
           row = row;
           found = told.found;
           given = ap length (sym none);
-          pages = grind (arith, goes);
+          pages = grind arith;
           steps = grind arith;
           laid = rw goes (laid_changed h _ row _ _ rise told.found (page_left _) (lodges _));
         }
@@ -109,7 +109,7 @@ module _ {p : PagesView} {k : KeeperView} (guest : Option ℕ) {page : GuestPage
         → ((x : Row) → shared_state x.state ≡ true → d (on_its_own x) ≡ left_by guest x) → (d (on_its_own row)).state ≡ Private
         → (d (on_its_own row)).home ≡ row.home → (d (on_its_own row)).bytes ≡ row.bytes → HasLeft p q k l guest page 1
     left_shared q d goes same state home content =
-        let wrote = same_Some _ _ (grind (arith, are)) in
+        let wrote = same_Some _ _ (grind arith) in
         let got = subst (λ (z : ℕ × List ℕ). Resettled p m k l page z.0 z.1) (λ t. (told.home t, wrote t)) r in
         let all = cond-true _ _ [] shared in
         let to = same row shared in
@@ -138,7 +138,7 @@ module _ {p : PagesView} {k : KeeperView} (guest : Option ℕ) {page : GuestPage
 
 -- rows that are resettled after others
 each_then : (xs ys : List Row) (u v w : Mapped) → ResettlesEach xs u v → ResettlesEach ys v w → ResettlesEach (xs ++ ys) u w
-each_then [] ys u v w idle more = grind (arith, idle.frame, more)
+each_then [] ys u v w idle more = grind (arith, more)
 each_then (x ∷ xs) ys u v w (between, first, others) more = (between, first, each_then xs ys between v w others more)
 
 -- so many pages of the guest, or of all, got frames of their own; the cursor is behind the last page that was looked at
@@ -208,8 +208,8 @@ module _ {p q : PagesView} {k l : KeeperView} {guest : Option ℕ} {count : ℕ}
           left = cut.rest;
           along = rw rows
               cut.next;
-          pages = grind (arith, u.pages, rows);
-          counted = grind (arith, h.given, length-append met (shared_of h.row), more);
+          pages = grind (arith, rows);
+          counted = grind (arith, length-append met (shared_of h.row), more);
           each = grind (arith, each_then);
           laid = h.laid;
           few =
@@ -235,7 +235,7 @@ module _ {p q : PagesView} {k l : KeeperView} {guest : Option ℕ} {count : ℕ}
           at = Some r;
           fault = ap Some (h.says ∙ ap NoFrame home);
           stands = rw all (grind (arith, get_seam));
-          pages = grind (arith, u.pages, cut.stop);
+          pages = grind (arith, cut.stop);
           unmerges = grind arith;
           laid = h.turned.laid;
         }
@@ -288,7 +288,7 @@ module _ {p q : PagesView} {guest : ℕ} {last : Option GuestPage} (u : IsMarkin
           done = at.before ++ at.row ∷ [];
           left = at.rest;
           along = rw rows at.next;
-          pages = grind (arith, goes, rows);
+          pages = grind (arith, rows);
           fits = fits;
         }
 

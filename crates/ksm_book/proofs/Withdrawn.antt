@@ -23,10 +23,10 @@ module _ {sh : Shape} {across : ℕ} {k : Ledger} {rows : List Row} {frame : Fra
   frame_off e ne = grind (arith, named_off)
 
   off : (e : DupRow) → e.place ≢ q → IsInLife emptied e.place → IsInLife k e.place
-  off e ne l = grind (arith, l, named_off)
+  off e ne l = grind (arith, named_off)
 
   on : (e : DupRow) → e.place ≢ q → IsInLife k e.place → IsInLife emptied e.place
-  on e ne l = grind (arith, l, named_off)
+  on e ne l = grind (arith, named_off)
 
   -- what holds of each dup is said of those that stay
   staying : (P Q : DupRow → Type 0) → ((d : DupRow) → d.place ≢ q → P d → Q d) → All P dups → All Q (filter (elsewhere q) dups)
