@@ -6,7 +6,7 @@ use Rattle.ksm_book.proofs.Doing.{then_idle}
 use Rattle.ksm_book.proofs.Folded.{ascending_ahead, every_page, pages_go}
 use Rattle.ksm_book.proofs.Going.{change_goes, Goes, goes_on, goes_same}
 use Rattle.ksm_book.proofs.PagesAhead.{Before, filter_out, has_filter}
-use Rattle.ksm_book.proofs.RowVisits.{stayed_is, visited_by}
+use Rattle.ksm_book.proofs.RowVisits.{stayed_is}
 use Rattle.std.proofs.lemmas.List.{map-id}
 
 -- ---------------------------------------------------------------- rows that wait no more

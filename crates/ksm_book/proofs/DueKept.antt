@@ -1,5 +1,5 @@
 -- Passes that visit only the pages that are due: what waits on is left as it is, and what is due stays so.
-use Rattle.ksm_book.proofs.Names.{IsDueNoMore, restless_at, restless_row, All, All-head, All-tail, AreDue, BookState, Bool, Contains, Deed, DupRow, Frames, GuestPage, InPageOrder, IsJoined, IsSound, Knobs, List, Merged, None, Option, PageState, Row, Some, Waiting, WaitsFor, Zero, [], all_changed, all_with_dup, and_from, and_parts, and_right, ap, arith, best_dup, best_dup_has_room, both_ways, bytes_eq, bytes_eq-Decides, cases_Bool, change_row, change_rows, cond_both, count_by, count_mapped, doing, due_row_visited, due_visited, due_visits, dup_numbered, each_at_page, eqb-true, false, find, find_all, find_none, find_nothing, find_passes, get_or, handled, has_item, idle, if◌then◌else◌, inl, inr, is_for_zero, is_restless, item_count, list_all, list_all-from_AllPass, made_dup, may_join, merged_into, merged_state, nat_le, nat_lt, ne_eqb, not, not_an_item, one_of_each_page, or_cases, or_parts, ordered_change, paired, partner, refl, row_at, row_visited, row_visiting, same_Some, same_page, same_page_eq, settled, stayed, subst, suc, sym, taken_over, takes_over, tells_waits, tree_of, true, visited, waiting_state, waits_for, waits_on, waits_tells, with_dup, ℕ, ◌&&◌, ◌+◌, ◌==◌, ◌||◌, ◌∙◌, ◌∷◌, ◌≡◌, ◌⊎◌}
+use Rattle.ksm_book.proofs.Names.{IsDueNoMore, restless_at, restless_row, All, All-head, All-tail, AreDue, BookState, Bool, Contains, Deed, DupRow, Frames, GuestPage, InPageOrder, IsJoined, IsSound, Knobs, List, Merged, None, Option, PageState, Row, Some, Waiting, WaitsFor, Zero, [], all_changed, all_with_dup, and_parts, and_right, ap, arith, best_dup, best_dup_has_room, both_ways, bytes_eq, bytes_eq-Decides, cases_Bool, change_row, change_rows, cond_both, count_by, count_mapped, doing, due_row_visited, due_visited, due_visits, dup_numbered, each_at_page, false, find, find_all, find_none, find_nothing, find_passes, get_or, handled, has_item, if◌then◌else◌, inl, inr, is_for_zero, is_restless, item_count, list_all, list_all-from_AllPass, made_dup, may_join, merged_into, merged_state, nat_le, nat_lt, ne_eqb, not, not_an_item, one_of_each_page, or_cases, or_parts, ordered_change, paired, partner, refl, row_at, row_visited, same_Some, same_page, same_page_eq, settled, stayed, subst, suc, sym, taken_over, takes_over, tells_waits, tree_of, true, visited, waiting_state, waits_for, waits_on, waits_tells, with_dup, ℕ, ◌&&◌, ◌+◌, ◌==◌, ◌||◌, ◌∙◌, ◌∷◌, ◌≡◌, ◌⊎◌}
 use Rattle.ksm_base.specs.declared.row.PageState.TheVariants.{Private}
 use Rattle.ksm_book.proofs.ByPage.{at_changed, found_page, row_of_page}
 use Rattle.ksm_book.proofs.Doing.{then_idle}
@@ -85,10 +85,6 @@ pub record WaitsOn (b : BookState) (row : Row) : Type 0 where
 -- a row that passes the test waits on
 pub on_tells : (b : BookState) (row : Row) → waits_on b row ≡ true → WaitsOn b row
 on_tells b row is = grind arith
-
--- a row that waits on passes the test
-pub tells_on : (b : BookState) (row : Row) → WaitsOn b row → waits_on b row ≡ true
-tells_on b row h = grind (arith, and_from)
 
 -- ---------------------------------------------------------------- which pages are due
 
@@ -372,10 +368,6 @@ module _ (b : BookState) (frame : Frames) (sound : IsSound b) (row : Row) (found
     where
       still : change_row row.page (λ r. record r { state = Waiting }) b.rows ≡ b.rows
       still = change_still _ _ _ (grind (arith, row_of_page))
-
-  -- and does nothing to the frames
-  on_idle : row_visiting b frame row ≡ idle frame
-  on_idle = grind (arith, on_alone)
 
 -- the visit of a page that waits on changes nothing
 pub on_stays : (s : BookState × Deed) (page : GuestPage) (r : Row) → IsSound s.0 → row_at page s.0.rows ≡ Some r

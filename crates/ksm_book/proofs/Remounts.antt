@@ -3,8 +3,8 @@ use Rattle.ksm_book.proofs.Names.{list_any_at, [], All, ap, arith, Bool, count_i
 use mathlib.Core.Logic.{dite}
 use native.Mathlib.Decide.{ℕ_discrete}
 use Rattle.ksm_book.proofs.ByPage.{found_page, same_frames}
-use Rattle.ksm_book.proofs.Filling.{at_again, on_node}
-use Rattle.ksm_book.proofs.Keeping.{searched_placed, searched_spends, past_le, spent_kept}
+use Rattle.ksm_book.proofs.Filling.{at_again}
+use Rattle.ksm_book.proofs.Keeping.{searched_placed, searched_spends, spent_kept}
 use Rattle.ksm_book.proofs.Laying.{kept, shape_same}
 use Rattle.ksm_book.proofs.Made.{made_one}
 use Rattle.ksm_book.proofs.Moves.{base_is_items, lies_as_item}

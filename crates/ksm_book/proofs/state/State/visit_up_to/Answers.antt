@@ -66,10 +66,10 @@ returns-in-Ok-clause-due c = λ quiet start none.
     let end = c.listed_to-end.ensures.many ∙ ap (λ o. length (filter (up_to o) pages)) none
     ∙ ap length (filter_all (up_to None) _ (λ k d lt. refl)) in
     let was = subst (λ n. AreDue v.state (drop n pages)) (sym first)
-    (listed_due v.state _ c.lies_in_order.ensures.rise (c.lies_in_order.ensures.listed c.requires.known)) in
+    (grind (arith, listed_due)) in
     let now = subst (AreDue c.visit_listed.new.self.state) (ap (λ n. drop n pages) end ∙ drop_all pages)
     (c.in-Ok.ensures.due quiet (omega (arith, first)) was) in
-    rw (comes_to c.visit_listed.new.self c.drop_over.new.self _ c.drop_over.ensures.comes) now
+    grind (arith, comes_to)
   where
     drop_all : (pages : List GuestPage) → drop (length pages) pages ≡ []
     drop_all [] = refl
