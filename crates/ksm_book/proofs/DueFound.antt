@@ -1,11 +1,11 @@
 -- The visit of a page that is due, by what was found of it: it takes over from none, but where a row further on waits
 -- for it; and which pages are due then.
-use Rattle.ksm_book.proofs.Names.{and_from, and_right, ap, AreDue, arith, Best, best_dup, BookState, BookValue, BookView, Bool, change_row, change_rows, Comes, comes_before, comes_later, cond_both, Deed, doing, Dup, due_visited, DupRow, false, find_mapped, find_passes, FindsAt, get_or, GuestPage, has_item, HasStayed, if◌then◌else◌, InPageOrder, is_for_zero, is_none, is_restless, IsDueNoMore, IsSound, KeeperView, List, MatchOption, Merged, None, not, not_both, one_before, Option, option_map, or_cases, page_visited, PagesView, paired, PageState, Partner, partner, Reached, refl, restless_at, restless_row, Row, row_at, row_visited, same_page, same_page_eq, same_page_refl, same_Some, shared_state, Some, state_of, StaysBefore, subst, sym, takes_over, TakesOverFrom, true, view_of, VisitsPage, waits_for, waits_tells, Zero, ℕ, ◌&&◌, ◌||◌, ◌∙◌, ◌∷◌, ◌≡◌}
+use Rattle.ksm_book.proofs.Names.{and_right, ap, AreDue, arith, Best, best_dup, BookState, BookValue, BookView, Bool, change_row, change_rows, Comes, comes_before, comes_later, Deed, doing, Dup, due_visited, DupRow, false, find_mapped, find_passes, FindsAt, GuestPage, has_item, HasStayed, if◌then◌else◌, InPageOrder, is_for_zero, is_none, is_restless, IsDueNoMore, IsSound, KeeperView, List, MatchOption, Merged, None, not, one_before, Option, option_map, or_cases, page_visited, PagesView, paired, PageState, Partner, partner, Reached, refl, restless_at, restless_row, Row, row_at, row_visited, same_page, same_page_refl, same_Some, shared_state, Some, state_of, StaysBefore, subst, sym, takes_over, TakesOverFrom, true, view_of, VisitsPage, waits_for, waits_tells, Zero, ℕ, ◌&&◌, ◌||◌, ◌∙◌, ◌∷◌, ◌≡◌}
 use Rattle.ksm_base.specs.declared.row.PageState.TheVariants.{Private}
 use Rattle.ksm_pages.specs.declared.pages.Find.TheVariants as finds
 use Rattle.ksm_pages.specs.Paged.{Finds}
 use Rattle.ksm_book.proofs.DueAlike.{due_sound}
-use Rattle.ksm_book.proofs.DueKept.{calm_undue, changed_due, more_due, visited_due}
+use Rattle.ksm_book.proofs.DueKept.{AreAmong, calm_undue, changed_due, more_due, visited_due}
 use Rattle.ksm_book.proofs.PageVisits.{shared_comes}
 use Rattle.ksm_book.proofs.Reached.{comes_to, first}
 use Rattle.ksm_book.proofs.RowVisits.{filled_by, Meets, page_is, restless_own, stayed_is, there_is, visited_by}
@@ -28,9 +28,6 @@ module _ (b : BookState) (row : Row) where
   abbrev none : Bool
   none = is_none (best_dup b.knobs b.rows b.dups row)
 
-  abbrev other_bytes : Bool
-  other_bytes = not (is_for_zero b.knobs row)
-
   abbrev later : Bool
   later = comes_later row.page (partner b.knobs b.rows row)
 
@@ -45,20 +42,16 @@ module _ (b : BookState) (row : Row) where
 
   takes : best_dup b.knobs b.rows b.dups row ≡ None → row.unchanged ≡ true → is_for_zero b.knobs row ≡ false
       → (w : Row) → partner b.knobs b.rows row ≡ Some w → comes_before row.page w.page ≡ true → takes_over b row ≡ true
-  takes best is zeroes w waits before = grind (arith, and_from)
-
--- where the row of a page takes over from none, its visit is that of the definitions
-is_visited : (s : BookState × Deed) (page : GuestPage) → TakesNone page s.0 → due_visited doing s page ≡ page_visited doing s page
-is_visited s page none = grind (arith, none)
+  takes best is zeroes w waits before = grind arith
 
 comes_so : (v w : BookValue) (page : GuestPage) → TakesNone page v.state → Comes v w (λ s. page_visited doing s page)
     → Comes v w (λ s. due_visited doing s page)
-comes_so v w page none comes = λ from s before. grind (arith, is_visited, comes from s before)
+comes_so v w page none comes = λ from s before. grind (arith, comes from s before)
 
 module _ {P : BookState → Row → Type 0} {p : PagesView} {k : KeeperView} {cursor : Option GuestPage} {passes : ℕ} {v : BookView}
     {page : GuestPage} (at : Meets P p k cursor passes v page) where
   takes_none : takes_over (state_of p cursor passes) at.row ≡ false → TakesNone page v.state
-  takes_none none = rw (← at.is) (λ r found. rw (← same_Some _ r (sym at.found ∙ found)) none)
+  takes_none none = grind arith
 
   sound_seen : IsSound v.state
   sound_seen = rw (← at.is) at.sound
@@ -69,14 +62,13 @@ module _ {P : BookState → Row → Type 0} {p : PagesView} {k : KeeperView} {cu
 abbrev pub Without : GuestPage → List GuestPage → List GuestPage → Type 0
 Without page old new = (p : GuestPage) → has_item p new ≡ (has_item p old && not (same_page page p))
 
-kept : (page : GuestPage) (old new : List GuestPage) → Without page old new
-    → (p : GuestPage) → has_item p old ≡ true → has_item p (page ∷ new) ≡ true
-kept page old new gone p is = grind (arith, gone p)
+kept : (page : GuestPage) (old new : List GuestPage) → Without page old new → AreAmong old (page ∷ new)
+kept page old new gone p is = grind arith
 
 -- a page that is due no more need not be among those that are
 pub less_due : (page : GuestPage) (b c : BookState) (old new : List GuestPage) → Without page old new → IsDueNoMore page b c
     → AreDue b old → AreDue c new
-less_due page b c old new gone no_more due = no_more new (more_due b old (page ∷ new) (kept _ old new gone) due)
+less_due page b c old new gone no_more due = no_more new (grind arith)
 
 -- the row of a page that shares a frame from now on is none that a visit may change
 calm_then : (page : GuestPage) (rows : List Row) (row : Row) (test : Row → Bool) (state : PageState) → shared_state state ≡ true
@@ -86,8 +78,7 @@ calm_then page rows row test state shared found passes =
     let f : Row → Row = λ r. if test r then record r { state = state } else r in
     ap restless_row (
     find_mapped f (λ r. same_page r.page page) (λ r. same_page r.page page) rows
-    (λ k d lt. let r = get_or rows k d in
-    cond_both (test r) (record r { state = state }) r (λ x. same_page x.page page ≡ same_page r.page page) (λ _. refl) (λ _. refl))
+    (grind arith)
     ∙ ap (option_map f) found ∙ ap (λ z. Some (if z then record row { state = state } else row)) passes)
     ∙ ap (λ z. row.mergeable && not z) shared ∙ and_right _ false refl
 
@@ -155,25 +146,25 @@ module _ {p q : PagesView} {k : KeeperView} {cursor : Option GuestPage} {passes 
     met = filled_by _ at.so.4
 
     stays : HasStayed (state_of p cursor passes) false at.row
-    stays = (let is = at.so in record { restless = is.0; none = is.1; unchanged = is.2; zeroes = is.3 })
+    stays = grind arith
 
     -- a page that meets an earlier one takes over from none
     pub partner_none : comes_before other page ≡ true → takes_over (state_of p cursor passes) at.row ≡ false
     partner_none before = waits_takes_none (state_of p cursor passes) at.row met.1
-        (grind (arith, page_is at, met.2, not_both other page before))
+        (grind (arith, page_is at))
 
     -- once it was visited, its row is none that a visit may change
     pub partner_calm : restless_at page (row_visited (state_of p cursor passes) at.row).rows ≡ false
     partner_calm =
         rw ((stayed_is (state_of p cursor passes) p.frame at.row false stays).0 ∙ ap (λ o. paired o (state_of p cursor passes) at.row) met.1)
         (calm_then page p.rows at.row (λ r. same_page r.page met.0.page || same_page r.page at.row.page) (Merged p.next) refl at.found
-        (grind (arith, same_page_refl at.row.page)))
+        (grind arith))
 
     -- a page that meets no earlier one is to wait in the stead of the other
     pub partner_takes : comes_before other page ≡ false → MatchOption (row_at page p.rows) (true ≡ false) (TakesOverFrom (state_of p cursor passes) other)
     partner_takes none =
         let apart = (waits_tells p.knobs at.row met.0 (find_passes (waits_for p.knobs at.row) p.rows _ met.1)).other in
-        let before = one_before met.0.page at.row.page apart (grind (arith, met.2, page_is at, none)) in
+        let before = one_before met.0.page at.row.page apart (grind (arith, page_is at)) in
         rw at.found
         (at.so.0, takes (state_of p cursor passes) at.row stays.none stays.unchanged stays.zeroes _ met.1 before, at.so.4)
 
@@ -188,13 +179,13 @@ module _ {p q : PagesView} {k : KeeperView} {cursor : Option GuestPage} {passes 
         rw (← same_Some _ r (sym (there_is at) ∙ found)) (own_not_merged _ (restless_own at.row at.so.0)),
         refl,
       ))
-      (subst (λ (x : BookView). AreDue x.state due) (sym at.is) was)))
+      (grind arith)))
     where
       f : Row → Row
       f r = record r { unchanged = true; state = Private }
 
       back : (g : GuestPage) → has_item g (at.row.page ∷ due) ≡ true → has_item g due ≡ true
-      back g is = grind (arith, is, page_is at, or_cases, same_page_eq)
+      back g is = grind (arith, page_is at, or_cases)
 
 -- a search that found a page gone changed nothing
 pub gone_same : (p q : PagesView) (page : GuestPage) → Finds p q page finds.Gone → q ≡ p
@@ -204,7 +195,7 @@ gone_same p q page told = grind arith
 
 module _ (v m w : BookValue) (same : view_of m ≡ view_of v) where
   reached_as : (from : BookValue) (s : BookState × Deed) → Reached from v s → Reached from m s
-  reached_as from s before = grind (arith, same, before)
+  reached_as from s before = grind arith
 
   -- what is reached from a book is reached from one that looks the same
   pub comes_as : {change : BookState × Deed → BookState × Deed} → Comes m w change → Comes v w change

@@ -1,10 +1,10 @@
 -- Passes that visit only the pages that are due: what waits on is left as it is, and what is due stays so.
-use Rattle.ksm_book.proofs.Names.{IsDueNoMore, restless_at, restless_row, All, All-cons, All-head, All-tail, AreDue, BookState, Bool, Contains, Deed, DupRow, Frames, GuestPage, HasStayed, InPageOrder, IsJoined, IsSound, Knobs, List, Merged, None, Option, PageState, Row, Some, Waiting, WaitsFor, Zero, [], all_changed, all_with_dup, and_from, and_parts, and_right, ap, arith, best_dup, best_dup_has_room, both_ways, bytes_eq, bytes_eq-Decides, cases_Bool, change_row, change_rows, comes_later, cond_both, count_by, count_mapped, doing, due_row_visited, due_visited, due_visits, dup_numbered, each_at_page, each_has_number, eq-eqb, eqb-true, false, find, find_all, find_none, find_nothing, find_passes, get_or, handled, has_item, idle, if◌then◌else◌, inl, inr, is_for_zero, is_restless, item_count, list_all, list_all-from_AllPass, made_dup, may_join, merged_into, merged_state, nat_le, nat_lt, ne_eqb, not, not-true, not_an_item, not_from_false, nowhere, one_of_each_page, or_cases, or_parts, ordered_change, paired, partner, refl, row_at, row_visited, row_visiting, same_Some, same_page, same_page_eq, same_page_refl, settled, settled_state, stayed, subst, suc, sym, taken_over, takes_over, tells_waits, tree_of, true, true≢false, visited, waiting_state, waits_for, waits_on, waits_tells, with_dup, ℕ, ◌&&◌, ◌+◌, ◌==◌, ◌||◌, ◌∙◌, ◌∷◌, ◌≡◌, ◌⊎◌}
+use Rattle.ksm_book.proofs.Names.{IsDueNoMore, restless_at, restless_row, All, All-head, All-tail, AreDue, BookState, Bool, Contains, Deed, DupRow, Frames, GuestPage, InPageOrder, IsJoined, IsSound, Knobs, List, Merged, None, Option, PageState, Row, Some, Waiting, WaitsFor, Zero, [], all_changed, all_with_dup, and_parts, and_right, ap, arith, best_dup, best_dup_has_room, both_ways, bytes_eq, bytes_eq-Decides, cases_Bool, change_row, change_rows, cond_both, count_by, count_mapped, doing, due_row_visited, due_visited, due_visits, dup_numbered, each_at_page, false, find, find_all, find_none, find_nothing, find_passes, get_or, handled, has_item, if◌then◌else◌, inl, inr, is_for_zero, is_restless, item_count, list_all, list_all-from_AllPass, made_dup, may_join, merged_into, merged_state, nat_le, nat_lt, ne_eqb, not, not_an_item, one_of_each_page, or_cases, or_parts, ordered_change, paired, partner, refl, row_at, row_visited, same_Some, same_page, same_page_eq, settled, stayed, subst, suc, sym, taken_over, takes_over, tells_waits, tree_of, true, visited, waiting_state, waits_for, waits_on, waits_tells, with_dup, ℕ, ◌&&◌, ◌+◌, ◌==◌, ◌||◌, ◌∙◌, ◌∷◌, ◌≡◌, ◌⊎◌}
 use Rattle.ksm_base.specs.declared.row.PageState.TheVariants.{Private}
 use Rattle.ksm_book.proofs.ByPage.{at_changed, found_page, row_of_page}
 use Rattle.ksm_book.proofs.Doing.{then_idle}
-use Rattle.ksm_book.proofs.DueAlike.{TakesOver, freed, freed_found, takes_tells, none_is}
-use Rattle.ksm_book.proofs.RowVisits.{restless_own, stayed_is, visited_by}
+use Rattle.ksm_book.proofs.DueAlike.{TakesOver, freed, freed_found, takes_tells}
+use Rattle.ksm_book.proofs.RowVisits.{restless_own}
 use Rattle.ksm_book.proofs.Singles.{change_still}
 use Rattle.ksm_pages.proofs.Joined.{own_not_merged}
 
@@ -22,21 +22,11 @@ module _ {X : Type 0} (p : X → Bool) (better : X → X → Bool) (total : (x y
     there : Contains xs x
     over : All (λ y. p y ≡ true → better x y ≡ true) xs
 
-  with_itself : (x : X) → better x x ≡ true
-  with_itself x = grind arith
-
-  first_tops : (y : X) (ys : List X) → p y ≡ true → All (λ z. p z ≡ true → better y z ≡ true) ys → Tops (y ∷ ys) y
-  first_tops y ys passes over = record {
-    passes = passes;
-    there = (0, omega arith, refl);
-    over = All-cons (λ z. p z ≡ true → better y z ≡ true) y ys (λ _. with_itself y) over;
-  }
-
   later_tops : (y x : X) (ys : List X) → (p y ≡ true → better x y ≡ true) → Tops ys x → Tops (y ∷ ys) x
   later_tops y x ys first t = record {
     passes = t.passes;
-    there = (suc t.there.0, omega (arith, t.there.1), t.there.2);
-    over = All-cons (λ z. p z ≡ true → better x z ≡ true) y ys first t.over;
+    there = (suc t.there.0, omega arith, t.there.2);
+    over = grind arith;
   }
 
   -- of a list none passes the test, or one is best
@@ -44,24 +34,24 @@ module _ {X : Type 0} (p : X → Bool) (better : X → X → Bool) (total : (x y
   top_in [] = inl (λ k d lt. absurd (omega arith))
   top_in (y ∷ ys) = elim (cases_Bool (p y)) [
     | inl passes ↦ elim (top_in ys) [
-      | inl none ↦ inr (y, first_tops y ys passes (λ k d lt is. absurd (both_ways (p (get_or ys k d)) (none k d lt) is)))
+      | inl none ↦ grind arith
       | inr t ↦ elim (cases_Bool (better y t.0)) [
-        | inl more ↦ inr (y, first_tops y ys passes (λ k d lt is. on y t.0 (get_or ys k d) more (t.1.over k d lt is)))
+        | inl more ↦ grind arith
         | inr less ↦ inr (t.0, later_tops y t.0 ys (λ _. total y t.0 less) t.1)
       ]
     ]
     | inr fails ↦ elim (top_in ys) [
-      | inl none ↦ inl (All-cons (λ z. p z ≡ false) y ys fails none)
+      | inl none ↦ grind arith
       | inr t ↦ inr (t.0, later_tops y t.0 ys (λ is. absurd (both_ways (p y) fails is)) t.1)
     ]
   ]
 
   no_rival : (x y : X) → (p y ≡ true → better x y ≡ true) → (not (p y) || better x y) ≡ true
-  no_rival x y over = grind (arith, over)
+  no_rival x y over = grind arith
 
   -- where a search for the best finds nothing, none passes the test
   no_top : (xs : List X) → find (is_top xs) xs ≡ None → All (λ x. p x ≡ false) xs
-  no_top xs none = grind (arith, none, top_in xs, find_none, and_from, list_all-from_AllPass, no_rival)
+  no_top xs none = grind (arith, top_in xs, find_none, list_all-from_AllPass, no_rival)
 
 -- ---------------------------------------------------------------- the dups that a row may join
 
@@ -94,32 +84,18 @@ pub record WaitsOn (b : BookState) (row : Row) : Type 0 where
 
 -- a row that passes the test waits on
 pub on_tells : (b : BookState) (row : Row) → waits_on b row ≡ true → WaitsOn b row
-on_tells b row is =
-    let last = and_parts _ _ is in
-    let third = and_parts _ _ last.0 in
-    let first = and_parts _ _ third.0 in
-    record {
-      waiting = first.0;
-      unchanged = first.1;
-      zeroes = not-true (is_for_zero b.knobs row) third.1;
-      none = none_is last.1;
-    }
-
--- a row that waits on passes the test
-pub tells_on : (b : BookState) (row : Row) → WaitsOn b row → waits_on b row ≡ true
-tells_on b row h = grind (arith, h, and_from, not_from_false)
+on_tells b row is = grind arith
 
 -- ---------------------------------------------------------------- which pages are due
 
+-- the pages of one list are among those of another
+abbrev pub AreAmong : List GuestPage → List GuestPage → Type 0
+AreAmong some more = (p : GuestPage) → has_item p some ≡ true → has_item p more ≡ true
+
 -- where some pages are due, more may be
-pub more_due : (b : BookState) (some more : List GuestPage) → ((p : GuestPage) → has_item p some ≡ true → has_item p more ≡ true)
+pub more_due : (b : BookState) (some more : List GuestPage) → AreAmong some more
     → AreDue b some → AreDue b more
-more_due b some more has due = λ k d lt restless out.
-    let r = get_or b.rows k d in
-    due k d lt restless (elim (cases_Bool (has_item r.page some)) [
-      | inl is ↦ absurd (both_ways (has_item r.page more) out (has r.page is))
-      | inr not_there ↦ not_there
-    ])
+more_due b some more has due = grind arith
 
 -- a page whose row waits on, or is none that a visit may change, need not be due
 pub undue : (b : BookState) (page : GuestPage) (pages : List GuestPage) → InPageOrder b.rows
@@ -156,33 +132,29 @@ module _ (b : BookState) (test : Row → Bool) (f : Row → Row) (dups : List Du
 
   -- a row that waits on, and may join no dup now, waits on
   waits_still : (r : Row) → StillJoinsNone r → waits_on b r ≡ true → waits_on changed r ≡ true
-  waits_still r joins_none is =
-      let h = on_tells b r is in
-      tells_on changed r (record {
-        waiting = h.waiting;
-        unchanged = h.unchanged;
-        zeroes = h.zeroes;
-        none = none_is_best b.knobs changed.rows _ r (joins_none (none_to_join b.knobs b.rows _ r h.none));
-      })
+  waits_still r joins_none is = grind (arith, none_is_best, none_to_join)
 
   -- what is due after a change: the changed rows that a visit may change, and what was due
-  pub change_due : (due more : List GuestPage) → ((p : GuestPage) → has_item p due ≡ true → has_item p more ≡ true)
+  pub change_due : (due more : List GuestPage) → AreAmong due more
       → All (λ r. test r ≡ true → is_restless (f r) ≡ true → has_item (f r).page more ≡ true) b.rows
       → All (λ r. test r ≡ false → WaitsOn b r → StillJoinsNone r) b.rows
       → AreDue b due → AreDue changed more
   change_due due more has ours others was =
       let rest = more_due b due more has was in
       all_changed (λ r. is_restless r ≡ true → has_item r.page more ≡ false → waits_on changed r ≡ true) test f b.rows
-      (λ k d lt passes restless out.
-      absurd (both_ways (has_item (f (get_or b.rows k d)).page more) out (ours k d lt passes restless)))
+      (grind arith)
       (λ k d lt fails restless out.
       let r = get_or b.rows k d in
       let is = rest k d lt restless out in
       waits_still r (others k d lt fails (on_tells b r is)) is)
 
+-- the row is not merged, nor is it once it is changed
+abbrev pub IsSingle : (Row → Row) → Row → Type 0
+IsSingle f r = (merged_state r.state ≡ false) × (merged_state (f r).state ≡ false)
+
 -- the rows that pass a test change, and none of them is merged, before or after
 module _ (b : BookState) (test : Row → Bool) (f : Row → Row)
-    (single : All (λ r. test r ≡ true → (merged_state r.state ≡ false) × (merged_state (f r).state ≡ false)) b.rows) where
+    (single : All (λ r. test r ≡ true → IsSingle f r) b.rows) where
   -- each dup has as many items as it had
   same_items : (d : DupRow) → item_count (change_rows test f b.rows) d ≡ item_count b.rows d
   same_items d = count_kept _ _ f _ (λ k e lt passes.
@@ -195,38 +167,37 @@ module _ (b : BookState) (test : Row → Bool) (f : Row → Row)
       let e = get_or b.dups k d in ap (joins b.knobs r e) (same_items e) ∙ none k d lt
 
   -- the changed pages are due, and what was due
-  unmerged_due : (due more : List GuestPage) → ((p : GuestPage) → has_item p due ≡ true → has_item p more ≡ true)
+  unmerged_due : (due more : List GuestPage) → AreAmong due more
       → All (λ r. test r ≡ true → is_restless (f r) ≡ true → has_item (f r).page more ≡ true) b.rows
       → AreDue b due → AreDue (record b { rows = change_rows test f b.rows }) more
   unmerged_due due more has ours was =
       change_due b _ f b.dups b.next due _ has ours (λ k d lt _ _. still_none (get_or b.rows k d)) was
 
 -- what is due is due beside one page more
-pub one_more : (page : GuestPage) (pages : List GuestPage) (p : GuestPage) → has_item p pages ≡ true → has_item p (page ∷ pages) ≡ true
+pub one_more : (page : GuestPage) (pages : List GuestPage) → AreAmong pages (page ∷ pages)
 one_more page pages p is = grind arith
 
 -- a page is among itself and others
 pub itself : (page : GuestPage) (pages : List GuestPage) (p : GuestPage) → same_page p page ≡ true → has_item p (page ∷ pages) ≡ true
-itself page pages p same = rw (ap (same_page page) (same_page_eq p _ same) ∙ same_page_refl page)
+itself page pages p same = grind arith
 
 -- a change of one row that is not merged, before or after, makes that row due
 pub changed_due : (b : BookState) (page : GuestPage) (f : Row → Row) (pages : List GuestPage) → InPageOrder b.rows
     → ((r : Row) → (f r).page ≡ r.page)
-    → ((r : Row) → row_at page b.rows ≡ Some r → (merged_state r.state ≡ false) × (merged_state (f r).state ≡ false))
+    → ((r : Row) → row_at page b.rows ≡ Some r → IsSingle f r)
     → AreDue b pages → AreDue (record b { rows = change_row page f b.rows }) (page ∷ pages)
 changed_due b page f pages rise keeps single was =
     unmerged_due b _ f
     (λ k d lt same. single (get_or b.rows k d) (ap (λ p. row_at p b.rows) (sym (same_page_eq _ _ same)) ∙ each_at_page _ rise k d lt))
     _ (page ∷ pages) (one_more page _)
-    (λ k d lt same _. let r = get_or b.rows k d in
-    ap (λ p. has_item p (page ∷ pages)) (keeps r) ∙ itself page pages r.page same) was
+    (grind arith) was
 
 -- ---------------------------------------------------------------- the visit of a row
 
 -- a row waits for another
 module _ (b : BookState) (sound : IsSound b) (row w : Row) (waits : partner b.knobs b.rows row ≡ Some w) where
   waiter : WaitsFor b.knobs row w
-  waiter = waits_tells _ row w (find_passes (waits_for b.knobs row) b.rows w waits)
+  waiter = waits_tells _ row w (grind (arith, find_passes))
 
   -- each row of the page of the one that waits is that one
   waiter_only : All (λ r. same_page r.page w.page ≡ true → r ≡ w) b.rows
@@ -240,17 +211,12 @@ module _ (b : BookState) (sound : IsSound b) (row w : Row) (waits : partner b.kn
       let none = find_none _ _
       (find_all (waits_for b.knobs row) (λ x. waiting_state x.state ≡ true → partner b.knobs b.rows x ≡ None) b.rows w waits
       sound.waiting waiter.state) in
-      sym (tells_waits b.knobs w (get_or b.rows k d) (record {
-        state = waiting;
-        other = apart;
-        tree = tree ∙ sym waiter.tree;
-        bytes = bytes ∙ sym waiter.bytes;
-      })) ∙ none k d lt
+      sym (tells_waits b.knobs w (get_or b.rows k d) (assumption (tree ∙ sym waiter.tree, bytes ∙ sym waiter.bytes))) ∙ none k d lt
 
 -- what is not to join, though it has an item and room, is of another tree or content
 not_of_group : (group some room more less : Bool) → some ≡ true → room ≡ true → (group && some && room) ≡ false
     → (group && more && less) ≡ false
-not_of_group group some room more less is_some has_room none = grind (arith, none)
+not_of_group group some room more less is_some has_room none = grind arith
 
 -- of other rows each dup but one, which has an item and room for one more, has as many items
 module _ (b : BookState) (sound : IsSound b) (new : List Row) (dup : DupRow) (stands : dup_numbered dup.number b.dups ≡ Some dup)
@@ -262,9 +228,8 @@ module _ (b : BookState) (sound : IsSound b) (new : List Row) (dup : DupRow) (st
       let e = get_or b.dups k d in
       elim (cases_Bool (e.number == dup.number)) [
         | inl same ↦
-            let is = same_Some e dup (grind (arith, each_has_number, eqb-true e.number dup.number same, stands)) in
-            rw is (not_of_group _ _ _ _ _ some room (subst (λ x. may_join b.knobs b.rows r x ≡ false) is (none k d lt)))
-        | inr other ↦ ap (joins b.knobs r e) (same_count e other) ∙ none k d lt
+            grind (arith, same_Some, not_of_group)
+        | inr other ↦ grind arith
       ]
 
 module _ (b : BookState) (sound : IsSound b) (row : Row) (found : row_at row.page b.rows ≡ Some row) (restless : is_restless row ≡ true) where
@@ -283,11 +248,10 @@ module _ (b : BookState) (sound : IsSound b) (row : Row) (found : row_at row.pag
       → AreDue b (row.page ∷ pages) → AreDue (record b { rows = change_row row.page f b.rows }) (row.page ∷ pages)
   own_due f pages keeps after was =
       unmerged_due b _ f
-      (λ k d lt same. subst (λ r. (merged_state r.state ≡ false) × (merged_state (f r).state ≡ false)) (sym (only k d lt same))
+      (λ k d lt same. subst (IsSingle f) (sym (only k d lt same))
       (unmerged, after))
       (row.page ∷ pages) (row.page ∷ pages) (λ p is. is)
-      (λ k d lt same _. let r = get_or b.rows k d in
-      grind (arith, keeps r, itself row.page pages r.page same)) was
+      (grind arith) was
 
   -- the row joins a dup: rows of other pages that wait on are of another tree or content
   joined_due : (dup : DupRow) (pages : List GuestPage) → best_dup b.knobs b.rows b.dups row ≡ Some dup → AreDue b (row.page ∷ pages)
@@ -307,12 +271,12 @@ module _ (b : BookState) (sound : IsSound b) (row : Row) (found : row_at row.pag
       joined = best_dup_has_room b row dup sound best
 
       joins_it : may_join b.knobs b.rows row dup ≡ true
-      joins_it = grind (arith, and_parts, find_passes)
+      joins_it = grind (arith, find_passes)
 
       same_count : (e : DupRow) → (e.number == dup.number) ≡ false → item_count (change_rows of_page f b.rows) e ≡ item_count b.rows e
       same_count e other = count_kept _ _ f _ (λ k d lt same.
           let was_none = subst (λ r. merged_into e.number r.state ≡ false) (sym (only k d lt same)) (not_an_item _ _ unmerged) in
-          ne_eqb dup.number e.number (λ is. absurd (both_ways (e.number == dup.number) other (eq-eqb e.number dup.number (sym is))))
+          ne_eqb dup.number e.number (grind arith)
           ∙ sym was_none)
 
   -- the row makes a dup with the one that waits for it: no other row that waits is of its tree and content
@@ -320,7 +284,7 @@ module _ (b : BookState) (sound : IsSound b) (row : Row) (found : row_at row.pag
       → AreDue (made_dup place b w row) (row.page ∷ pages)
   made_due place w pages waits was =
       change_due b _ f (with_dup new b.dups) (b.next + 1) (row.page ∷ pages) (row.page ∷ pages) (λ p is. is)
-      (λ k d lt _ calm. absurd (both_ways ((get_or b.rows k d).mergeable && false) (and_right _ false refl) calm))
+      (grind arith)
       others was
     where
       test : Row → Bool
@@ -345,7 +309,7 @@ module _ (b : BookState) (sound : IsSound b) (row : Row) (found : row_at row.pag
 
       of_another : All (λ r. waiting_state r.state ≡ true → same_page r.page w.page ≡ false
           → (new.tree == tree_of b.knobs r && bytes_eq new.bytes r.bytes) ≡ false) b.rows
-      of_another k d lt waiting apart = grind (arith, waiting, and_parts, waiter_alone, bytes_eq-Decides)
+      of_another k d lt waiting apart = grind (arith, waiter_alone, bytes_eq-Decides)
 
       others : All (λ r. test r ≡ false → WaitsOn b r → StillJoinsNone b test f (with_dup new b.dups) (b.next + 1) r) b.rows
       others k d lt fails h none =
@@ -354,7 +318,6 @@ module _ (b : BookState) (sound : IsSound b) (row : Row) (found : row_at row.pag
           all_with_dup (λ e. may_join b.knobs (change_rows test f b.rows) r e ≡ false) new _ (rw other)
           (λ j e lt_e.
           let old = get_or b.dups j e in
-          let older = sound.numbers j e lt_e in
           let same = count_kept _ _ f _ (λ i x lt_x passes.
           ne_eqb b.next old.number (λ is. omega arith) ∙ sym (no_items _ i x lt_x passes)) in
           ap (joins b.knobs r old) same ∙ none j e lt_e)
@@ -381,8 +344,7 @@ module _ (b : BookState) (sound : IsSound b) (row : Row) (found : row_at row.pag
 
   -- the visit of a row leaves due what was, and its own page
   row_due : (pages : List GuestPage) → AreDue b (row.page ∷ pages) → AreDue (row_visited b row) (row.page ∷ pages)
-  row_due pages was =
-      subst (λ c. AreDue c (row.page ∷ pages)) (sym (visited_by b nowhere row _ restless refl).0) (handled_due _ _ refl was)
+  row_due pages was = grind (arith, handled_due)
 
 -- ---------------------------------------------------------------- the visit of a page
 
@@ -400,29 +362,17 @@ module _ (b : BookState) (frame : Frames) (sound : IsSound b) (row : Row) (found
   on_alone = find_all (λ r. same_page r.page row.page) (λ r. waiting_state r.state ≡ true → partner b.knobs b.rows r ≡ None)
       b.rows row found sound.waiting on.waiting
 
-  -- so it takes over from none
-  on_takes_none : takes_over b row ≡ false
-  on_takes_none = and_right _ _ (ap (comes_later row.page) on_alone)
-
-  on_stayed : HasStayed b false row
-  on_stayed = record { restless = restless; none = on.none; unchanged = on.unchanged; zeroes = on.zeroes }
-
   -- its visit leaves the book as it is
   on_same : row_visited b row ≡ b
-  on_same = grind (arith, (stayed_is b frame row false on_stayed).0, on_alone, still)
+  on_same = grind (arith, on_alone, still)
     where
       still : change_row row.page (λ r. record r { state = Waiting }) b.rows ≡ b.rows
-      still = change_still _ _ _ (λ k d lt same. rw (row_of_page _ _ row sound.rows_rise found k d lt same)
-          (grind (arith, waits_is)))
-
-  -- and does nothing to the frames
-  on_idle : row_visiting b frame row ≡ idle frame
-  on_idle = grind (arith, on_alone, stayed_is)
+      still = change_still _ _ _ (grind (arith, row_of_page))
 
 -- the visit of a page that waits on changes nothing
 pub on_stays : (s : BookState × Deed) (page : GuestPage) (r : Row) → IsSound s.0 → row_at page s.0.rows ≡ Some r
     → waits_on s.0 r ≡ true → is_restless r ≡ true → due_visited doing s page ≡ s
-on_stays s page r sound found is restless = grind (arith, found_page, on_takes_none, on_same, on_idle, then_idle)
+on_stays s page r sound found is restless = grind (arith, found_page, on_same, then_idle)
 
 -- visits of pages of which none is due change nothing
 pub undue_stay : (pages : List GuestPage) (s : BookState × Deed) (due : List GuestPage) → IsSound s.0 → AreDue s.0 due
@@ -439,7 +389,7 @@ undue_stay (page ∷ pages) s due sound are out =
           (λ x. is_restless x ≡ true → has_item x.page due ≡ false → waits_on s.0 x ≡ true) s.0.rows r found are restless
           (grind (arith, found_page, All-head)) in
           on_stays s _ r sound found on restless
-      | inr calm ↦ calm_stays s _ (ap restless_row found ∙ calm)
+      | inr calm ↦ grind arith
     ]
 
 -- where the row of a page takes over from none, its visit leaves due what was, and that page
@@ -464,46 +414,33 @@ visited_due s page pages sound due none = by _ refl
 abbrev pub waits_now : BookState → Row → BookState
 waits_now b row = record b { rows = change_row row.page (λ r. record r { state = Waiting }) b.rows }
 
--- a row with a frame of its own that may join no dup, and whose bytes have stayed, waits on once it waits
-pub waits_then : (b : BookState) (row : Row) → row_at row.page b.rows ≡ Some row → is_restless row ≡ true
-    → best_dup b.knobs b.rows b.dups row ≡ None → row.unchanged ≡ true → is_for_zero b.knobs row ≡ false → InPageOrder b.rows
-    → (row_at row.page (waits_now b row).rows ≡ Some (record row { state = Waiting }))
-    × (waits_on (waits_now b row) (record row { state = Waiting }) ≡ true)
-waits_then b row found restless none unchanged zeroes rise =
-    let f : Row → Row = λ r. record r { state = Waiting } in
-    let own = own_not_merged _ (restless_own row restless) in
-    let single_at : All (λ r. same_page r.page row.page ≡ true → (merged_state r.state ≡ false) × (merged_state (f r).state ≡ false)) b.rows =
-    λ k d lt same. (rw (row_of_page _ _ row rise found k d lt same) own, refl) in (
-      at_changed row.page f b.rows row (λ r. refl) found,
-      tells_on (waits_now b row) (f row) (record {
-        waiting = refl;
-        unchanged = unchanged;
-        zeroes = zeroes;
-        none = none_is_best b.knobs (waits_now b row).rows _ row
-            (still_none b (λ r. same_page r.page row.page) f single_at row (none_to_join b.knobs b.rows _ row none));
-      }),
-    )
+-- a row with a frame of its own that may join no dup, and whose bytes have stayed
+module _ (b : BookState) (row : Row) (found : row_at row.page b.rows ≡ Some row) (restless : is_restless row ≡ true)
+    (none : best_dup b.knobs b.rows b.dups row ≡ None) (unchanged : row.unchanged ≡ true) (zeroes : is_for_zero b.knobs row ≡ false)
+    (rise : InPageOrder b.rows) where
+  abbrev waiting : Row → Row
+  waiting r = record r { state = Waiting }
 
--- such a row is due no longer once it waits
-pub waits_undue : (b : BookState) (row : Row) → row_at row.page b.rows ≡ Some row → is_restless row ≡ true
-    → best_dup b.knobs b.rows b.dups row ≡ None → row.unchanged ≡ true → is_for_zero b.knobs row ≡ false → InPageOrder b.rows
-    → IsDueNoMore row.page b (waits_now b row)
-waits_undue b row found restless none unchanged zeroes rise pages was =
-    undue (waits_now b row) _ _ (ordered_change _ f _ (λ r. refl) rise) on
-    (more_due (waits_now b row) (row.page ∷ row.page ∷ pages) (row.page ∷ pages) (λ p is. grind arith)
-    (changed_due b _ f (row.page ∷ pages) rise (λ r. refl)
-    (λ r at. (rw (← same_Some row r (sym found ∙ at)) (own_not_merged _ (restless_own row restless)), refl)) was))
-  where
-    f : Row → Row
-    f r = record r { state = Waiting }
+  -- it waits on once it waits
+  pub waits_then : (row_at row.page (waits_now b row).rows ≡ Some (waiting row)) × (waits_on (waits_now b row) (waiting row) ≡ true)
+  waits_then =
+      let single_at : All (λ r. same_page r.page row.page ≡ true → IsSingle waiting r) b.rows =
+      grind (arith, row_of_page) in grind (arith, at_changed, none_is_best, still_none, none_to_join)
 
-    on : (r : Row) → row_at row.page (waits_now b row).rows ≡ Some r → is_restless r ≡ true → waits_on (waits_now b row) r ≡ true
-    on r at _ = grind (arith, at, waits_then b row found restless none unchanged zeroes rise, same_Some)
+  -- it is due no longer once it waits
+  pub waits_undue : IsDueNoMore row.page b (waits_now b row)
+  waits_undue pages was =
+      undue (waits_now b row) _ _ (ordered_change _ waiting _ (λ r. refl) rise) on
+      (more_due (waits_now b row) (row.page ∷ row.page ∷ pages) (row.page ∷ pages) (λ p is. grind arith)
+      (changed_due b _ waiting (row.page ∷ pages) rise (λ r. refl) (grind (arith, restless_own)) was))
+    where
+      on : (r : Row) → row_at row.page (waits_now b row).rows ≡ Some r → is_restless r ≡ true → waits_on (waits_now b row) r ≡ true
+      on r at _ = grind (arith, waits_then)
 
 -- a page whose row a visit may not change is not due
 pub calm_undue : (b : BookState) (page : GuestPage) → InPageOrder b.rows → restless_at page b.rows ≡ false → IsDueNoMore page b b
 calm_undue b page rise calm pages was =
-    undue b _ _ rise (λ r at restless. absurd (true≢false (grind (arith, restless, at, calm)))) was
+    undue b _ _ rise (grind arith) was
 
 -- ---------------------------------------------------------------- a row that waits in the stead of another
 
@@ -511,21 +448,10 @@ module _ (b : BookState) (row w : Row) (sound : IsSound b) (found : row_at row.p
     (takes : takes_over b row ≡ true) (waits : partner b.knobs b.rows row ≡ Some w) where
   -- only that row waits for the first
   only_waiter : All (λ r. waits_for b.knobs row r ≡ true → same_page r.page w.page ≡ true) b.rows
-  only_waiter k d lt passes =
-      let r = get_or b.rows k d in
-      let is = waits_tells b.knobs row r passes in
-      elim (cases_Bool (same_page r.page w.page)) [
-        | inl same ↦ same
-        | inr apart ↦ absurd (true≢false (waiter_alone b sound row w waits k d lt is.state apart is.tree is.bytes))
-      ]
+  only_waiter k d lt passes = grind (arith, waits_tells, waiter_alone)
 
-  -- a row that waits is not merged, nor is it once it is settled
-  unmerged_settled : (state : PageState) → waiting_state state ≡ true
-      → (merged_state state ≡ false) × (merged_state (settled_state state) ≡ false)
-  unmerged_settled state is = grind arith
-
-  freed_single : All (λ r. waits_for b.knobs row r ≡ true → (merged_state r.state ≡ false) × (merged_state (settled r).state ≡ false)) b.rows
-  freed_single k d lt passes = unmerged_settled _ (waits_tells b.knobs row (get_or b.rows k d) passes).state
+  freed_single : All (λ r. waits_for b.knobs row r ≡ true → IsSingle settled r) b.rows
+  freed_single k d lt passes = grind arith
 
   freed_rise : InPageOrder (freed b row).rows
   freed_rise = ordered_change _ _ _ (λ r. refl) sound.rows_rise
@@ -562,7 +488,7 @@ module _ (b : BookState) (row w : Row) (sound : IsSound b) (found : row_at row.p
       on : (r : Row) → row_at row.page (taken_over b row).rows ≡ Some r → is_restless r ≡ true → waits_on (taken_over b row) r ≡ true
       on r at _ =
           let waits_now = waits_then (freed b row) row (freed_found b row found) restless none_freed t.unchanged t.zeroes freed_rise in
-          rw (← same_Some _ r (sym waits_now.0 ∙ at)) waits_now.1
+          grind arith
 
 -- a row that takes over waits on, and the one in whose stead it waits is due
 pub taken_due : (b : BookState) (row w : Row) (pages : List GuestPage) → IsSound b → row_at row.page b.rows ≡ Some row

@@ -1,12 +1,12 @@
 -- A pass over what is due comes to what the pass of the definitions comes to.
-use Rattle.ksm_book.proofs.Names.{[], after_cursor, All, All-filter, ap, append-nil, AreAscending, AreDue, arith, BookState, Bool, both_ways, cases_Bool, comes_before, Deed, doing, due_visited, due_visits, false, filter, filter_all, filter_passes, filter-append, get_or, get_or_from_slice_get, GuestPage, has_item, hidden, hidden_from, inl, inr, IsSound, List, list_any_at, map_alike, mergeable_pages, nat_lt, None, not, not-true, Option, pages_ahead, pages_visited, part_before, part_visited, pass_begun, refl, restless_at, Row, same_page, same_Some, settled, slice_get, slice_get_within, Some, subst, suc, sym, take, true, zero, with_none_waiting, ℕ, ◌++◌, ◌*◌, ◌+◌, ◌-◌, ◌<◌, ◌^◌, ◌∙◌, ◌∷◌, ◌≡◌, if◌then◌else◌}
+use Rattle.ksm_book.proofs.Names.{[], after_cursor, All, All-filter, ap, append-nil, AreAscending, AreDue, arith, BookState, Bool, cases_Bool, comes_before, Deed, doing, due_visited, due_visits, false, filter, filter_all, filter_passes, filter-append, get_or, get_or_from_slice_get, GuestPage, has_item, hidden, hidden_from, inl, inr, IsSound, List, list_any_at, map_alike, mergeable_pages, nat_lt, None, not, not-true, Option, pages_ahead, pages_visited, part_before, part_visited, pass_begun, refl, restless_at, Row, same_page, same_Some, settled, slice_get, slice_get_within, Some, subst, suc, sym, take, true, zero, ℕ, ◌++◌, ◌*◌, ◌+◌, ◌-◌, ◌<◌, ◌^◌, ◌∙◌, ◌∷◌, ◌≡◌, if◌then◌else◌}
 use Rattle.ksm_book.specs.Scanned.{ahead_before}
 use Rattle.ksm_book.proofs.Along.{FitsPage}
-use Rattle.ksm_book.proofs.DueAlike.{due_alike, due_goes, due_visits_sound, hidden_all, hidden_none, mergeable_has, stays_settled, waits_mergeable}
+use Rattle.ksm_book.proofs.DueAlike.{due_alike, due_goes, due_visits_sound, hidden_all, hidden_none, mergeable_has, stays_settled}
 use Rattle.ksm_book.proofs.DueKept.{calm_stays, undue_stay}
 use Rattle.ksm_book.proofs.Dues.{IsFirst}
 use Rattle.ksm_book.proofs.Folded.{ascending_ahead, every_page}
-use Rattle.ksm_book.proofs.PagesAhead.{GoesDown, after_later, before_down, filter_same, has_filter, parted, place_of, place_splits}
+use Rattle.ksm_book.proofs.PagesAhead.{GoesDown, before_down, filter_same, has_filter, parted, place_of, place_splits}
 use Rattle.ksm_book.proofs.Scanned.{begun_ahead}
 
 -- ---------------------------------------------------------------- visits of some pages and of others
@@ -34,16 +34,13 @@ hidden_rest b sound page pages are = λ t. record b { rows = map_alike f g _ eac
     g r = if not (comes_before r.page page) then settled r else r
 
     each : All (λ r. f r ≡ g r) b.rows
-    each k d lt = grind (arith, mergeable_has, waits_mergeable, has_filter, stays_settled)
+    each k d lt = grind (arith, mergeable_has, has_filter, stays_settled)
 
 -- a book as a pass begins, with what was done
 module _ (s : BookState × Deed) (sound : IsSound s.0) (start : s.0.cursor ≡ None) where
   -- the pages that scans visit
   abbrev all : List GuestPage
   all = mergeable_pages s.0.rows
-
-  begun_none : pass_begun s.0 ≡ with_none_waiting s.0
-  begun_none = rw start
 
   -- all of them are ahead
   pub ahead_all : pages_ahead s.0 ≡ all
@@ -55,11 +52,11 @@ module _ (s : BookState × Deed) (sound : IsSound s.0) (start : s.0.cursor ≡ N
   -- the visits of the first pages, where the others are hidden
   alike : (done rest : List GuestPage) → all ≡ done ++ rest
       → pages_visited doing (pass_begun s.0, s.1) done ≡ (hidden rest (due_visits doing s done).0, (due_visits doing s done).1)
-  alike done rest is = grind (arith, begun_none, hidden_all s.0 sound, due_alike done rest s sound is)
+  alike done rest is = grind (arith, hidden_all s.0 sound, due_alike done rest s sound is)
 
   -- the visits of all pages
   pub whole_part : due_visits doing s (pages_ahead s.0) ≡ part_visited None s
-  whole_part = grind (arith, ahead_all, hidden_none (due_visits doing s all).0, alike all [] (sym (append-nil all)), begun_all, filter_all)
+  whole_part = grind (arith, ahead_all, hidden_none (due_visits doing s all).0, alike all [] (sym (append-nil all)), begun_all)
 
   -- the visits of the pages before one, once no row from there on waits
   pub before_part : (page : GuestPage) → (
@@ -70,20 +67,16 @@ module _ (s : BookState × Deed) (sound : IsSound s.0) (start : s.0.cursor ≡ N
       let t : GuestPage → Bool = λ p. comes_before p page in
       let done = filter t all in
       let ascends = subst AreAscending ahead_all (ascending_ahead s.0 sound.rows_rise) in
-      let after = due_visits doing s done in
       rw begun_all
       ((λ i. (hidden_from page (due_visits doing s (filter t (ahead_all i))).0, (due_visits doing s (filter t (ahead_all i))).1))
-      ∙ (λ i. (sym (hidden_rest _ (due_visits_sound done s sound) page all (due_goes done s sound).mergeable) i, after.1))
+      ∙ (grind (arith, hidden_rest, due_visits_sound, due_goes))
       ∙ sym (alike done (filter (λ p. not (t p)) all) (parted t (before_down _) all ascends)))
 
 -- ---------------------------------------------------------------- visits of what is due
 
 -- where a page is not behind a cursor, no page before that page is
 cursor_down : (cursor : Option GuestPage) → GoesDown (λ p. not (after_cursor cursor p))
-cursor_down cursor p q before fails = elim (cases_Bool (after_cursor cursor p)) [
-  | inl behind ↦ absurd (both_ways (after_cursor cursor q) (not-true (after_cursor cursor q) fails) (after_later _ p q behind before))
-  | inr is ↦ ap not is
-]
+cursor_down cursor p q before fails = grind (arith, not-true)
 
 -- a page that does not come before one behind the cursor is behind the cursor
 no_earlier : (c : Option GuestPage) (p q : GuestPage) → after_cursor c p ≡ true → comes_before q p ≡ false → after_cursor c q ≡ true
@@ -107,7 +100,7 @@ module _ (s : BookState × Deed) (sound : IsSound s.0) (pages : List GuestPage) 
     stay : (u : GuestPage → Bool) → ((q : GuestPage) → after_cursor cursor q ≡ true → u q ≡ true → has_item q due ≡ false)
         → due_visits doing reached (filter u left) ≡ reached
     stay u none =
-        undue_stay _ _ due (due_visits_sound (filter passed pages) s sound) are
+        undue_stay _ _ due (grind (arith, due_visits_sound)) are
         (λ k d lt. none (get_or (filter u left) k d)
         (not-false (All-filter u (λ q. not (passed q) ≡ true) _ (filter_passes (λ p. not (passed p)) pages) k d lt))
         (filter_passes u _ k d lt))
@@ -155,7 +148,7 @@ module _ (s : BookState × Deed) (sound : IsSound s.0) (pages : List GuestPage) 
             let at = place_of _ _ there in
             let splits = place_splits _ _ _ rise at.1 in
             rw (← before_visited)
-            (grind (arith, splits.1, take_one, splits.0, visits_on (filter low pages) (page ∷ []) s))
+            (grind (arith, take_one, splits.0, visits_on (filter low pages) (page ∷ []) s))
         | inr out ↦
             ap (due_visits doing s) (filter_same _ low _ (λ k d lt. others _ (absent _ _ out k d lt))) ∙ before_visited
             ∙ sym (calm_stays _ _ (calm out))

@@ -88,7 +88,7 @@ module _ (old : BookValue) (sound : IsSound old.state) (start : old.state.cursor
       subst (IsStill s)
       (sym (undue_stay (pages_ahead s.0) s [] (is_sound from s before) (rw (← before.0) are) (λ k d lt. refl))
       ∙ whole_part s (is_sound from s before) (begins_pass from s before))
-      (record { rest = refl; rows = refl; beside = refl })
+      (assumption)
 
   -- where the visits of what is due stopped before a page, and no row from there on waits any more, so did the pass
   pub part_stops : (mid new : BookValue) (page : GuestPage) → StopsDue old mid page → Comes mid new (λ s. (hidden_from page s.0, s.1))

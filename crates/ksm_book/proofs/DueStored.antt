@@ -1,8 +1,7 @@
 -- A store to a page with a frame of its own: where the page is due, if it waited, what is due stays so.
-use Rattle.ksm_book.proofs.Names.{and_from, and_parts, AreDue, arith, BookState, Bool, both_ways, cases_Bool, change_row, false, find_all, GuestPage, has_item, inl, InPageOrder, inr, is_restless, IsAlone, List, MatchOption, not_from_false, Option, ordered_change, refl, Row, row_at, same_page, same_page_refl, same_Some, shared_state, Some, stored, subst, sym, true, true≢false, waiting_state, waits_on, ℕ, ◌∙◌, ◌∷◌, ◌≡◌, ◌||◌}
+use Rattle.ksm_book.proofs.Names.{AreDue, arith, BookState, Bool, cases_Bool, change_row, false, find_all, GuestPage, has_item, inl, InPageOrder, inr, is_restless, IsAlone, List, MatchOption, ordered_change, refl, Row, row_at, same_page, same_Some, shared_state, Some, stored, subst, sym, true, waiting_state, waits_on, ℕ, ◌∙◌, ◌∷◌, ◌≡◌, ◌||◌}
 use Rattle.ksm_book.proofs.ByPage.{at_changed, found_page}
-use Rattle.ksm_book.proofs.DueKept.{changed_due, more_due, on_tells, undue}
-use Rattle.ksm_pages.proofs.Joined.{own_not_merged}
+use Rattle.ksm_book.proofs.DueKept.{changed_due, more_due, undue, AreAmong}
 
 module _ (b : BookState) (page : GuestPage) (bytes : List ℕ) (row : Row) (pages : List GuestPage) (rise : InPageOrder b.rows)
     (found : row_at page b.rows ≡ Some row) (own : shared_state row.state ≡ false) (was : AreDue b pages)
@@ -14,7 +13,7 @@ module _ (b : BookState) (page : GuestPage) (bytes : List ℕ) (row : Row) (page
   -- the page is due beside what was
   beside : AreDue after (page ∷ pages)
   beside = changed_due b _ _ _ rise (λ r. refl)
-      (λ r at. (rw (← same_Some row r (sym found ∙ at)) (own_not_merged _ own), refl)) was
+      (grind arith) was
 
   -- where the page was due nothing is due beside what was
   within : has_item page pages ≡ true → (p : GuestPage) → has_item p (page ∷ pages) ≡ true → has_item p pages ≡ true
@@ -26,8 +25,8 @@ module _ (b : BookState) (page : GuestPage) (bytes : List ℕ) (row : Row) (page
       let is = subst (λ x. is_restless x ≡ true)
       (sym (same_Some _ r (sym (at_changed page (stored bytes) b.rows row (λ x. refl) found) ∙ at))) restless in
       let on = find_all (λ x. same_page x.page page) (λ x. is_restless x ≡ true → has_item x.page pages ≡ false → waits_on b x ≡ true) b.rows row found
-      was (and_from _ _ (and_parts _ true is).0 (not_from_false _ own)) (grind (arith, found_page, out)) in
-      absurd (both_ways (has_item page pages) out (waits (on_tells b row on).waiting))
+      was (grind arith) (grind (arith, found_page)) in
+      grind arith
 
   -- what is due stays so
   pub stored_due : AreDue after pages
@@ -48,8 +47,7 @@ pub stored_calm : (b : BookState) (page : GuestPage) (pages : List GuestPage) (w
     → (bytes : List ℕ) → AreDue (record b { rows = change_row page (stored bytes) b.rows }) pages
 stored_calm b page pages waits rise alone was told none bytes =
     let at = alone_row b.rows page alone in
-    let is = subst (λ (o : Option Row). MatchOption o (waits ≡ false) (λ r. waits ≡ waiting_state r.state)) at.1 told in
-    stored_due b _ bytes _ _ rise at.1 at.2 was (λ waiting. absurd (true≢false (sym waiting ∙ sym is ∙ none)))
+    stored_due b _ bytes _ _ rise at.1 at.2 was (grind arith)
 
 -- where the page is due beside what was, that is so once bytes are stored to it
 pub stored_added : (b : BookState) (page : GuestPage) (old new : List GuestPage) → InPageOrder b.rows → IsAlone page b.rows
@@ -58,7 +56,7 @@ pub stored_added : (b : BookState) (page : GuestPage) (old new : List GuestPage)
 stored_added b page old new rise alone was added bytes =
     let at = alone_row b.rows page alone in
     stored_due b _ bytes _ new rise at.1 at.2 (more_due b old new (λ p is. more p is) was)
-    (λ _. grind (arith, added page, same_page_refl page))
+    (grind arith)
   where
-    more : (p : GuestPage) → has_item p old ≡ true → has_item p new ≡ true
-    more p is = grind (arith, added p)
+    more : AreAmong old new
+    more p is = grind arith

@@ -1,5 +1,5 @@
 -- The pages that are due, as they are kept: which there are once one came or went, and the first behind a cursor.
-use Rattle.ksm_book.proofs.Names.{[], after_cursor, All, All-cons, All-map, any-filter_same, append-nil, AreDue, arith, BookState, length, before_irrefl, Bool, cases_Bool, comes_before, Err, false, filter, find, get_or, GuestPage, has_item, inl, inr, is_some, List, list_any, map, MatchOption, None, not, not_both, Ok, Option, pages_ordered, pairs_head, pairs_tail, refl, Result, same_page, same_page_eq, same_page_refl, Some, subst, sym, true, true≢false, ◌&&◌, ◌++◌, ◌||◌, ◌==◌, ◌∙◌, ◌∷◌, ◌≡◌, if◌then◌else◌}
+use Rattle.ksm_book.proofs.Names.{[], after_cursor, All, All-cons, All-map, any-filter_same, append-nil, AreDue, arith, BookState, length, before_irrefl, Bool, cases_Bool, comes_before, Err, false, filter, find, get_or, GuestPage, has_item, inl, inr, is_some, List, list_any, map, MatchOption, None, not, not_both, Ok, Option, pages_ordered, pairs_head, pairs_tail, refl, Result, same_page, same_page_refl, Some, subst, sym, true, ◌&&◌, ◌++◌, ◌||◌, ◌==◌, ◌∙◌, ◌∷◌, ◌≡◌, if◌then◌else◌}
 use Rattle.std.proofs.lemmas.List.Folds.{list_any-append}
 use Rattle.std.specs.Prelude.{OnErr, OnOk}
 use Rattle.ksm_pages.specs.Held.{pages_of}
@@ -29,7 +29,7 @@ joined x (m ∷ some) more = grind (arith, joined x some more)
 
 picked : (u : GuestPage → Bool) (x : GuestPage) (order : List Named)
     → has_item x (pages_in (filter (λ m. u m.page) order)) ≡ (u x && has_item x (pages_in order))
-picked u x order = grind (arith, any_named, any-filter_same, same_page_eq)
+picked u x order = grind (arith, any_named, any-filter_same)
 
 -- a page that is put in is there, and the others as before
 pub has_put : (n : Named) (order : List Named) (x : GuestPage)
@@ -87,7 +87,7 @@ none_added known order (s ∷ added) is = absurd (grind arith)
 -- where the same pages are there, the same are due
 pub same_due : (b : BookState) (old new : List GuestPage) → ((x : GuestPage) → has_item x new ≡ has_item x old)
     → AreDue b old → AreDue b new
-same_due b old new same due = λ k d lt restless out. due k d lt restless (sym (same (get_or b.rows k d).page) ∙ out)
+same_due b old new same due = grind arith
 
 -- what is told of the first page behind a cursor
 abbrev pub IsFirst : Option GuestPage → List GuestPage → GuestPage → Type 0
@@ -128,13 +128,8 @@ module _ (cursor : Option GuestPage) where
     -- one that is not behind it is passed over
     over : after_cursor cursor m.page ≡ false → (o : Option Named) → TellsFirst cursor (pages_in order) o
         → TellsFirst cursor (pages_in (m ∷ order)) o
-    over not_yet None none = All-cons (λ p. after_cursor cursor p ≡ false) m.page _ not_yet none
-    over not_yet (Some n) (has, after, first) = (
-      (grind arith),
-      after,
-      All-cons (λ p. after_cursor cursor p ≡ true → comes_before p n.page ≡ false) m.page (pages_in order)
-          (λ is. absurd (true≢false (sym is ∙ not_yet))) first,
-    )
+    over not_yet None none = grind arith
+    over not_yet (Some n) (has, after, first) = grind arith
 
     is_found : (b : Bool) → behind m ≡ b → find behind (m ∷ order) ≡ (if b then Some m else find behind order)
     is_found b is = rw is
@@ -144,7 +139,7 @@ module _ (cursor : Option GuestPage) where
   first_found [] rise = λ k d lt. absurd (omega arith)
   first_found (m ∷ order) rise = elim (cases_Bool (behind m)) [
     | inl is ↦
-        grind (arith, is_found, here)
+        grind (arith, here)
     | inr not_yet ↦
         subst (TellsFirst cursor (pages_in (m ∷ order))) (sym (is_found m _ rise false not_yet))
         (over m _ rise not_yet _ (first_found order (pairs_tail (λ a b. comes_before a.page b.page ≡ true) m _ rise)))

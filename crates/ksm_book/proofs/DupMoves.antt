@@ -1,11 +1,11 @@
 -- What is answered where a dup is to move.
-use Rattle.ksm_book.proofs.Names.{and_parts, Answer, arith, BookState, IsCarried, crosses, Done, DupRow, eqb-true, Err, false, Fault, find, find_passes, GuestPage, has_items, HasRemounted, InUse, IsAnswerUnless, KeeperView, live_dup_at, MayMove, MoveDup, NoFrame, None, Ok, Option, PagesView, refusal, Some, state_of, sym, ℕ, ◌&&◌, ◌==◌, ◌≡◌}
-use Rattle.ksm_book.proofs.Singles.{book, there_is}
+use Rattle.ksm_book.proofs.Names.{Answer, arith, BookState, IsCarried, crosses, Done, DupRow, Err, false, Fault, find, find_passes, GuestPage, has_items, HasRemounted, InUse, KeeperView, live_dup_at, MayMove, MoveDup, NoFrame, Ok, Option, PagesView, Some, state_of, ℕ, ◌&&◌, ◌==◌, ◌≡◌}
+use Rattle.ksm_book.proofs.Singles.{book}
 
 module _ (b : BookState) (place node : ℕ) (dup : DupRow) (found : Some dup ≡ live_dup_at b place) where
   -- the dup that was found stands at the place that was asked for
   pub place_is : dup.place ≡ place
-  place_is = eqb-true dup.place place (and_parts _ (has_items b.rows dup) (find_passes (λ d. d.place == place && has_items b.rows d) b.dups dup (sym found))).0
+  place_is = grind (arith, find_passes)
 
   -- the dup with items at its place is the dup
   pub live_there : find (λ d. d.place == dup.place && has_items b.rows d) b.dups ≡ Some dup
@@ -25,31 +25,12 @@ module _ (p q : PagesView) (k l : KeeperView) (cursor : Option GuestPage) (passe
   abbrev Carries : Answer → Type 0
   Carries = IsCarried (book p k cursor passes) (book q l cursor passes) (MoveDup place node)
 
-  answers : (answer : Answer) → IsAnswerUnless None b (MoveDup place node) answer
-      → IsAnswerUnless (refusal b (MoveDup place node)) b (MoveDup place node) answer
-  answers answer is = rw (there_is p.shape.nodes node may.exists, ← found, at_home b place node dup found may.home) is
-
   -- it answers `Done` where the dup moved
   pub done_carried : {X : Type 0} {done : X} → HasRemounted {X = X} p q k l dup node (Ok done) → Carries (Ok Done)
-  done_carried h = record {
-    own = own;
-    answer = answers _ tt;
-    state = rw h.rest;
-    steps = rw (← found) h.moves;
-  }
+  done_carried h = grind arith
 
   -- it answers the fault for which the dup stayed
   pub fault_carried : {X : Type 0} (fault : Fault) → HasRemounted {X = X} p q k l dup node (Err fault) → Carries (Err fault)
-  fault_carried (NoFrame n) h = record {
-    own = own;
-    answer = answers _ h.moves.0;
-    state = rw h.rest;
-    steps = h.moves.1;
-  }
-  fault_carried InUse h = record {
-    own = own;
-    answer = answers _ tt;
-    state = rw h.rest;
-    steps = rw (← found) h.moves;
-  }
+  fault_carried (NoFrame n) h = grind arith
+  fault_carried InUse h = grind arith
   fault_carried _ h = absurd h.moves

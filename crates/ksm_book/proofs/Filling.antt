@@ -1,13 +1,8 @@
 -- Frames written, read, found and filled, and a dup's place that comes to name another frame.
-use Rattle.ksm_book.proofs.Names.{Add, ap, arith, blank, did, div-mul-add, Dying, Finds, FitsBase, frame_at, frames_of, Free, GenerationFits, get_or-set_other, get_or-set_same, inl, IsLawful, KeeperView, Kind, Ledger, length, length-set, List, loads, MakesSteps, mounting, None, Note, Open, PAGE_WORDS, Placed, Private, Provides, Publish, puts, Raise, raised, refl, replicate, replicate-append-replicate, same_Some, set-get_or, Shape, spent, spent_on, stepped, subst, sym, HasNewFrame, with_frame, ℕ, ◌*◌, ◌+◌, ◌-◌, ◌/◌, ◌<◌, ◌∙◌, ◌≡◌, ◌≢◌, ◌≤◌, set-set}
-use Rattle.ksm_book.proofs.ByPage.{one_same, one_other}
-use Rattle.ksm_book.proofs.Keeping.{node_end, searched_placed, searched_spends, spent_kept}
+use Rattle.ksm_book.proofs.Names.{Add, ap, arith, blank, did, Dying, Finds, frame_at, frames_of, Free, get_or-set_other, get_or-set_same, IsLawful, KeeperView, Kind, Ledger, length, length-set, List, loads, MakesSteps, mounting, None, Note, Open, PAGE_WORDS, Placed, Private, Provides, Publish, puts, Raise, raised, replicate, replicate-append-replicate, set-get_or, Shape, spent, spent_on, stepped, HasNewFrame, with_frame, ℕ, ◌+◌, ◌-◌, ◌<◌, ◌∙◌, ◌≡◌, set-set}
+use Rattle.ksm_book.proofs.Keeping.{searched_placed, searched_spends, spent_kept}
 use Rattle.ksm_book.proofs.Made.{made_one, made_part, made_then}
 use Rattle.ksm_book.proofs.Noted.{noted}
-
--- a frame between a node's first and its last is on that node
-pub on_node : (node size g : ℕ) → node * size ≤ g → g < node * size + size → g / size ≡ node
-on_node node size g low high = grind (arith, low, high, div-mul-add)
 
 -- ---------------------------------------------------------------- one frame's note
 
@@ -40,7 +35,7 @@ module _ (v w : KeeperView) (node g : ℕ) (less : node < v.table.shape.nodes) (
 
   -- the frame found is one of the table
   pub found_inside : g < frames_of sh
-  found_inside = grind (arith, node_end)
+  found_inside = grind arith
 
   -- the frame found is one that the keeper knows
   pub found_within : g < length w.ledger.frames
@@ -49,13 +44,7 @@ module _ (v w : KeeperView) (node g : ℕ) (less : node < v.table.shape.nodes) (
   -- once the frame found is raised it is ready to be filled
   pub raised_ready : (r : KeeperView) (n : ℕ) → r ≡ did w (Raise g) n
       → (g < length r.ledger.frames) × (frame_at r.ledger g ≡ raised (frame_at w.ledger g)) × (length (frame_at r.ledger g).content ≡ PAGE_WORDS)
-  raised_ready r n is =
-      let note = raised (frame_at w.ledger g) in
-      let room = length-set w.ledger.frames g note in
-      let within = found_within in
-      let at = at_again w.ledger g within note in
-      let inside : g < length (with_frame w.ledger g note).frames = omega arith in
-      rw is (inside, at, rw at (found_placed.widths g))
+  raised_ready r n is = grind (arith, length-set, at_again, found_placed)
 
 -- ---------------------------------------------------------------- a frame is taken
 
@@ -72,32 +61,20 @@ module _ {v w : KeeperView} {node : ℕ} {bytes : List ℕ} {g : ℕ} (less : no
       let free = h.finds.lowest.free in
       let now = ap (λ z. frame_at z g) taken_ledger ∙ at_again u.ledger g (found_within v u _ g less l h.finds) own in
       let was = ap (λ (x : Kind). spent_on (record { kind = x; base = (frame_at u.ledger g).base; generation = (frame_at u.ledger g).generation; content = (frame_at u.ledger g).content })) free in
-      let is = (let e : (frame_at u.ledger g).generation + 1 - 1 ≡ (frame_at u.ledger g).generation = omega arith in e) in
       let more = spent_kept u.ledger g own (omega arith) in
       let before = searched_spends _ h.finds.reaped in
       let end = ap spent taken_ledger in
       record {
         keeps = λ across rows frame dups p.
             let q = searched_placed _ less h.finds.reaped _ _ _ _ None p in
-            let one = one_same g refl in
-            let none = subst (λ (x : Kind). FitsBase x (frame_at u.ledger g).base) free (q.kinds g) in
-            let base = q.bases g in
-            let left = subst (λ (x : Kind). GenerationFits v.table.shape.last_generation x (frame_at u.ledger g).generation) free (q.lives g) in
             rw taken_ledger
-            (noted q g (found_inside v u _ g less l h.finds) own _ (record {
-              wide = long;
-              lived = (omega arith, omega arith);
-              base = omega arith;
-              fits = refl;
-              same = λ some. absurd (omega arith);
-              life = inl (omega arith);
-            }) (λ f ne. one_other f (λ e. ne (sym (same_Some g f e)))));
+            (noted q g (found_inside v u _ g less l h.finds) own _ (grind arith) (grind arith));
         spent = omega arith;
         frame = found_inside v u _ g less l h.finds;
         kind = rw now;
         content = rw now;
         given = rw now (omega arith);
-        node = on_node _ _ g h.finds.lowest.low h.finds.lowest.high;
+        node = grind arith;
       }
 
 -- ---------------------------------------------------------------- a place comes to name another frame
@@ -109,9 +86,7 @@ add_more v w w' f n found so_far is = grind (arith, replicate-append-replicate n
 -- the words of a dying frame stay where a free one is raised
 pub words_kept : (v w : KeeperView) (f g found : ℕ) → (frame_at v.ledger g).kind ≡ Free → (frame_at v.ledger f).kind ≡ Dying → w ≡ did v (Raise g) found
     → (frame_at w.ledger f).content ≡ (frame_at v.ledger f).content
-words_kept v w f g found free dying is =
-    let apart : f ≢ g = λ same. (grind (arith, sym free ∙ ap (λ x. (frame_at v.ledger x).kind) (sym same) ∙ dying)) in
-    rw (is, get_or-set_other v.ledger.frames g f (raised (frame_at v.ledger g)) blank apart)
+words_kept v w f g found free dying is = grind (arith, get_or-set_other)
 
 -- a frame is raised, words of another are loaded and stored there, it is opened, references come, and the place names it
 pub mounts : (v a b c d e w : KeeperView) (f g place count found opened' : ℕ) (bytes : List ℕ) → a ≡ did v (Raise g) found → b ≡ stepped a (loads f 0 bytes)

@@ -1,5 +1,5 @@
 -- The visits of a pass are a fold over its pages, only restless pages count, and a quiet pass is repeated by those behind it.
-use Rattle.ksm_book.proofs.Names.{[], after_cursor, All, All-head, All-tail, AllPairs-filter, and_parts, ap, append-nil, AreAscending, arith, begun, BookState, Bool, cases_Bool, comes_before, cond_both, each_at_page, false, filter, filter_all, find_all, find_passes, GuestPage, has_item, inl, InPageOrder, inr, is_none, IsBeside, IsStill, last_of, length, List, map, mergeable_pages, min, next_row, next_visited, None, not-true, Option, option_map, page_visited, pages_ahead, pages_visited, pass_at, pass_ended, pass_ended_at_last, refl, restless_at, Row, row_at, row_visited, rowwise_visits, same_page, same_page_eq, settled, shared_state, slice_get, Some, subst, suc, suc-mul, sym, true, visit, visit_begun, visit_of, visited, visits, visits_beside, with_none_waiting, zero, ℕ, ◌&&◌, ◌*◌, ◌++◌, ◌+◌, ◌-◌, ◌^◌, ◌∙◌, ◌∷◌, ◌≡◌, ◌≤◌, map_mapped, and_right, pairs_mapped, ⊤}
+use Rattle.ksm_book.proofs.Names.{[], after_cursor, All, All-head, All-tail, AllPairs-filter, ap, append-nil, AreAscending, arith, begun, BookState, Bool, cases_Bool, comes_before, cond_both, each_at_page, false, filter, filter_all, find_all, find_passes, GuestPage, has_item, inl, InPageOrder, inr, is_none, IsBeside, IsStill, last_of, length, List, map, mergeable_pages, min, next_row, next_visited, None, not-true, Option, option_map, page_visited, pages_ahead, pages_visited, pass_at, pass_ended, pass_ended_at_last, refl, restless_at, Row, row_at, row_visited, rowwise_visits, same_page_eq, settled, shared_state, slice_get, Some, subst, suc, suc-mul, sym, true, visit, visit_begun, visit_of, visited, visits, visits_beside, with_none_waiting, zero, ℕ, ◌*◌, ◌++◌, ◌+◌, ◌-◌, ◌^◌, ◌∙◌, ◌∷◌, ◌≡◌, ◌≤◌, map_mapped, and_right, pairs_mapped, ⊤}
 use Rattle.ksm_book.proofs.Going.{Goes, begun_goes, elsewhere, goes_on, mergeable_kept, goes_same, settled_goes, visited_goes}
 use Rattle.ksm_book.proofs.PagesAhead.{Before, behind_first, filter_in, filter_out, has_filter, same_pages}
 use Rattle.ksm_pages.proofs.Options.{mapped_some, none_mapped}
@@ -15,7 +15,7 @@ next_first cursor (r ∷ rows) = grind (arith, next_first cursor rows)
 -- the next row, where a page is ahead
 some_next : (c : BookState) {page : GuestPage} {more : List GuestPage} → pages_ahead c ≡ page ∷ more
     → (row : Row) × (next_row c.cursor c.rows ≡ Some row) × (row.page ≡ page)
-some_next c is = mapped_some _ _ (next_first c.cursor c.rows ∙ ap (λ l. slice_get l 0) is)
+some_next c is = mapped_some _ _ (grind (arith, next_first))
 
 -- where no page is ahead there is no next row
 pub none_next : (c : BookState) → pages_ahead c ≡ [] → next_row c.cursor c.rows ≡ None
@@ -63,11 +63,7 @@ every_page rows = filter_all (after_cursor None) _ (λ k d lt. refl)
 
 -- where nothing but which rows wait changed from a first book to a second and to a third, so it is from first to third
 pub still_on : {X : Type 0} (first second third : BookState × X) → IsStill first second → IsStill second third → IsStill first third
-still_on first second third f g = record {
-  rest = grind (arith, g.rest, f.rest);
-  rows = g.rows ∙ f.rows;
-  beside = g.beside ∙ f.beside;
-}
+still_on first second third f g = grind arith
 
 module _ {X : Type 0} (step : BookState → X → Row → X) where
   abbrev one_visit : BookState × X → BookState × X
@@ -118,10 +114,10 @@ module _ {X : Type 0} (step : BookState → X → Row → X) where
       by : (o : Option Row) → row_at page s.0.rows ≡ o → Goes s.0.rows (visited step s o).0.rows
       by None found = goes_same
       by (Some r) found =
-          let of_page = same_page_eq _ _ (find_passes (λ q. same_page q.page page) _ r found) in
+          let of_page = same_page_eq _ _ (grind (arith, find_passes)) in
           cond_both _ (row_visited s.0 r, step s.0 s.1 r) s (λ z. Goes s.0.rows z.0.rows)
           (λ is. visited_goes s.0 r rise (ap (λ p. row_at p s.0.rows) of_page ∙ found)
-          (not-true (shared_state r.state) (and_parts _ _ is).1)) (λ calm. goes_same)
+          (grind (arith, not-true))) (λ calm. goes_same)
 
   -- visits of pages keep the rows in page order and which pages scans visit, and make no page restless
   pub pages_go : (pages : List GuestPage) (s : BookState × X) → InPageOrder s.0.rows → Goes s.0.rows (pages_visited step s pages).0.rows
@@ -160,7 +156,7 @@ module _ {X : Type 0} (step : BookState → X → Row → X) where
       → ((page : GuestPage) → restless_at page s.0.rows ≡ true → has_item page ps ≡ has_item page qs)
       → pages_visited step s ps ≡ pages_visited step s qs
   same_restless ps qs s rise first second same =
-      sym (settled_out t ps s rise (λ k d lt off. off))
+      sym (grind (arith, settled_out))
       ∙ ap (pages_visited step s)
       (same_pages _ _ (AllPairs-filter Before t ps first) (AllPairs-filter Before t qs second) alike)
       ∙ settled_out t qs s rise (λ k d lt off. off)
@@ -169,7 +165,7 @@ module _ {X : Type 0} (step : BookState → X → Row → X) where
       t page = restless_at page s.0.rows
 
       alike : (x : GuestPage) → has_item x (filter t ps) ≡ has_item x (filter t qs)
-      alike x = has_filter t x ps ∙ (grind (arith, same x)) ∙ sym (has_filter t x qs)
+      alike x = grind (arith, has_filter)
 
   module _ (beside : IsBeside step) where
     -- the visit of the next row is that of its page
@@ -184,7 +180,7 @@ module _ {X : Type 0} (step : BookState → X → Row → X) where
         there = find_all _ (λ r. row_at r.page c.rows ≡ Some r) _ row next (each_at_page _ rise)
 
         mergeable : row.mergeable ≡ true
-        mergeable = (and_parts _ _ (find_passes (λ r. r.mergeable && after_cursor c.cursor r.page) c.rows row next)).0
+        mergeable = grind (arith, find_passes)
 
         by : (z : Bool) → shared_state row.state ≡ z → visited step s (Some row) ≡ (row_visited c row, step c s.1 row)
         by true is = grind (arith, mergeable)
@@ -277,8 +273,7 @@ module _ {X : Type 0} (step : BookState → X → Row → X) where
 
       module _ (still : IsStill settled_book after) where
         begins_alike : (passes : ℕ) → begun (ended passes) ≡ (elsewhere None passes (with_none_waiting s.0), s.1)
-        begins_alike passes =
-            λ t. (record (still.rest t) { rows = (still.rows ∙ settled_twice _) t; cursor = None; passes = passes }, s.1)
+        begins_alike passes = grind (arith, settled_twice)
 
         again : (passes : ℕ) → visits_beside step (length all) (ended passes) ≡ ended (min (passes + 1) (2 ^ 64 - 1))
         again passes =

@@ -1,5 +1,5 @@
 -- The visit of a row: it keeps which pages scans visit, makes no page restless, and does the same wherever the cursor stands.
-use Rattle.ksm_book.proofs.Names.{All, ap, arith, best_dup, BookState, Bool, change_row, change_rows, cond_both, DupRow, false, find_all, get_or, GuestPage, handled, InPageOrder, is_for_zero, is_none, is_some, List, map, mergeable_pages, next_row, None, not, one_of_each_page, Option, option_map, ordered_map, PageState, paired, partner, pass_begun, pass_ended, refl, restless_at, restless_row, Row, row_at, row_visited, same_page, settled, settled_state, shared_state, Some, stayed, subst, sym, true, true≢false, visit_begun, Zero, ℕ, ◌&&◌, ◌∙◌, ◌≡◌, if◌then◌else◌, filter_mapped, map_mapped, find_mapped}
+use Rattle.ksm_book.proofs.Names.{All, ap, arith, best_dup, BookState, Bool, change_row, change_rows, cond_both, DupRow, false, find_all, get_or, GuestPage, handled, InPageOrder, is_for_zero, is_none, is_some, List, map, mergeable_pages, next_row, None, not, one_of_each_page, Option, option_map, ordered_map, PageState, paired, partner, pass_begun, pass_ended, refl, restless_at, restless_row, Row, row_at, row_visited, same_page, settled, settled_state, shared_state, Some, stayed, subst, sym, true, visit_begun, Zero, ℕ, ◌&&◌, ◌∙◌, ◌≡◌, if◌then◌else◌, filter_mapped, map_mapped, find_mapped}
 use Rattle.ksm_base.specs.declared.row.PageState.TheVariants.{Private}
 
 -- ---------------------------------------------------------------- wherever the cursor stands
@@ -16,14 +16,10 @@ module _ (cursor : Option GuestPage) (passes : ℕ) where
   paired_alike w b row = grind arith
 
   stayed_alike : (b : BookState) (row : Row) → stayed (elsewhere b) row ≡ elsewhere (stayed b row)
-  stayed_alike b row = grind (arith, paired_alike (partner b.knobs b.rows row) b row, either)
+  stayed_alike b row = grind arith
 
   handled_alike : (d : Option DupRow) (b : BookState) (row : Row) → handled d (elsewhere b) row ≡ elsewhere (handled d b row)
   handled_alike d b row = grind arith
-
-  -- the visit of a row does the same to the book wherever its cursor stands and however many passes have ended
-  pub row_visited_alike : (b : BookState) (row : Row) → row_visited (elsewhere b) row ≡ elsewhere (row_visited b row)
-  row_visited_alike b row = either _ b _ _ _ refl (handled_alike _ b row)
 
 -- ---------------------------------------------------------------- what rows keep
 
@@ -38,15 +34,11 @@ pub record Goes (old new : List Row) : Type 0 where
 
 -- rows that do not change keep their order and which pages scans visit, and no page becomes restless
 pub goes_same : {rows : List Row} → Goes rows rows
-goes_same = record { order = λ rise. rise; mergeable = refl; calm = λ page calm. calm }
+goes_same = grind arith
 
 -- two changes that keep the order and which pages scans visit, and make no page restless, are one such change
 pub goes_on : {first second third : List Row} → Goes first second → Goes second third → Goes first third
-goes_on f g = record {
-  order = λ rise. g.order (f.order rise);
-  mergeable = g.mergeable ∙ f.mergeable;
-  calm = λ page calm. g.calm page (f.calm page calm);
-}
+goes_on f g = grind arith
 
 -- a row keeps its page and whether scans visit it
 abbrev pub KeepsPage : (Row → Row) → Type 0
@@ -62,20 +54,19 @@ module _ (change : Row → Row) (keeps : KeepsPage change) where
   )
 
   row_changed : (page : GuestPage) (rows : List Row) → row_at page (map change rows) ≡ option_map change (row_at page rows)
-  row_changed page rows = find_mapped change (λ r. same_page r.page page) (λ r. same_page r.page page) rows
-      (λ i d lt. rw (keeps (get_or rows i d)).0)
+  row_changed page rows = grind (arith, find_mapped)
 
   -- each row is changed, and a shared one stays shared
   pub change_goes : {rows : List Row} → All (λ r. shared_state r.state ≡ true → shared_state (change r).state ≡ true) rows
       → Goes rows (map change rows)
   change_goes {rows} shared = record {
-    order = λ rise. ordered_map _ _ (λ r. (keeps r).0) rise;
+    order = grind (arith, ordered_map);
     mergeable = mergeable_kept _;
     calm = λ page calm. ap restless_row (row_changed _ _) ∙ by _ _ refl calm;
   }
     where
       at : {m n s t : Bool} → n ≡ m → (s ≡ true → t ≡ true) → (m && not s) ≡ false → (n && not t) ≡ false
-      at same kept calm = grind (arith, calm)
+      at same kept calm = grind arith
 
       by : (page : GuestPage) (o : Option Row) → row_at page rows ≡ o → restless_row o ≡ false → restless_row (option_map change o) ≡ false
       by page None found calm = refl
@@ -90,9 +81,8 @@ some_go : (test : Row → Bool) (f : Row → Row) (rows : List Row) → KeepsPag
     → Goes rows (change_rows test f rows)
 some_go test f rows keeps shared =
     change_goes _
-    (λ r. cond_both _ (f r) r (λ x. (x.page ≡ r.page) × (x.mergeable ≡ r.mergeable)) (λ _. keeps r) (λ _. (refl, refl)))
-    (λ k d lt is. let r = get_or rows k d in cond_both _ (f r) r (λ x. shared_state x.state ≡ true) (λ e. shared k d lt e is)
-    (λ _. is))
+    (grind arith)
+    (grind arith)
 
 -- they become shared
 shares : (test : Row → Bool) (state : PageState) (rows : List Row) → shared_state state ≡ true
@@ -108,7 +98,7 @@ module _ (b : BookState) (row : Row) (rise : InPageOrder b.rows) (found : row_at
   own_changes f keeps own =
       let only = find_all (λ r. same_page r.page row.page) (λ r. All (λ s. same_page s.page r.page ≡ true → s ≡ r) b.rows) b.rows row found
       (one_of_each_page b.rows rise) in
-      some_go _ f _ keeps (λ k d lt here is. absurd (true≢false (grind (arith, is, only k d lt here, own))))
+      some_go _ f _ keeps (grind arith)
 
   paired_goes : (w : Option Row) → shared_state row.state ≡ false → Comes (paired w b row)
   paired_goes (Some w) own = shares _ _ _ refl

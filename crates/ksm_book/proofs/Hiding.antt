@@ -1,22 +1,16 @@
 -- Rows that wait no more: that of a page with a frame of its own, and those from a page on, one after another.
-use Rattle.ksm_book.proofs.Names.{[], All, ap, BookState, BookValue, Bool, change_row, change_rows, Comes, comes_before, cond_both, every_row, false, find, get_or, GuestPage, InPageOrder, inl, IsAlone, is_next, IsLaid, IsSound, KeeperView, List, MatchOption, None, not, on_its_own, Option, option_map, ordered_change, PageState, PagesValue, PagesView, refl, Row, row_at, same_page, same_page_eq, seen, settled, settled_calmer, settled_state, shared_state, Some, sound_changed, state_of, sym, true, true≢false, ℕ, ◌∙◌, ◌∷◌, ◌++◌, ◌≡◌, ◌⊎◌, if◌then◌else◌, map_alike, arith}
-use Rattle.ksm_pages.proofs.Resting.{rests}
+use Rattle.ksm_book.proofs.Names.{[], All, BookValue, change_row, Comes, comes_before, every_row, false, find, GuestPage, InPageOrder, IsAlone, is_next, IsLaid, IsSound, KeeperView, List, MatchOption, None, not, on_its_own, Option, option_map, ordered_change, PagesValue, PagesView, refl, Row, row_at, same_page, seen, settled, settled_calmer, shared_state, Some, sound_changed, state_of, sym, true, true≢false, ℕ, ◌∙◌, ◌∷◌, ◌++◌, ◌≡◌, ◌⊎◌, if◌then◌else◌, map_alike, arith}
 use Rattle.ksm_book.specs.Due.{hidden_from}
 use Rattle.ksm_book.proofs.Along.{along_cut, along_end, FitsPage, IsAlong, IsCut}
 use Rattle.ksm_book.proofs.ByPage.{row_of_page}
-use Rattle.ksm_book.proofs.Laying.{laid_mapped, LodgesAs}
+use Rattle.ksm_book.proofs.Laying.{laid_mapped}
 use Rattle.ksm_book.proofs.Reached.{comes_to, value}
-use Rattle.ksm_book.proofs.Sharing.{settled_lodges}
 use Rattle.ksm_book.proofs.Singles.{change_still}
-
--- two changes come to the same where they do so wherever they are made
-one_by : (b : Bool) (x y z : Row) → (b ≡ true → x ≡ y) → (if b then x else z) ≡ (if b then y else z)
-one_by b x y z same = grind arith
 
 -- two changes of the row of a page come to the same where they do at each row of that page
 alike_at : (page : GuestPage) (f g : Row → Row) (rows : List Row)
     → All (λ r. same_page r.page page ≡ true → f r ≡ g r) rows → change_row page f rows ≡ change_row page g rows
-alike_at page f g rows same = grind (arith, same, map_alike, one_by)
+alike_at page f g rows same = grind (arith, map_alike)
 
 -- ---------------------------------------------------------------- a page with a frame of its own
 
@@ -29,7 +23,7 @@ alone_settled page rows rise alone = by _ refl alone
         → change_row page on_its_own rows ≡ change_row page settled rows
     by None found none = absurd (true≢false none)
     by (Some row) found own =
-        alike_at _ _ _ _ (λ k d lt is. rw (row_of_page _ _ row rise found k d lt is) (grind (arith, rests)))
+        alike_at _ _ _ _ (grind (arith, row_of_page))
 
 module _ {p q : PagesView} (page : GuestPage) (goes : q ≡ record p { rows = change_row page settled p.rows }) where
   -- the book stays sound where a page waits no more
@@ -41,19 +35,15 @@ module _ {p q : PagesView} (page : GuestPage) (goes : q ≡ record p { rows = ch
   pub laid_stopped : {k : KeeperView} → IsLaid p k → IsLaid q k
   laid_stopped laid =
       rw goes
-      (laid_mapped laid _ _ (λ r. cond_both _ _ r (λ (x : Row). x.page ≡ r.page) (λ _. refl) (λ _. refl))
-      (λ i d lt. let r = get_or p.rows i d in
-      cond_both _ _ r (λ x. LodgesAs x r) (λ _. settled_lodges r) (λ _. (refl, refl, inl refl))))
+      (laid_mapped laid _ _ (grind arith)
+      (grind arith))
 
 -- that page's row is all that changes in what was reached
 pub stop_comes : (p q : PagesValue) (k : KeeperView) (cursor : Option GuestPage) (passes : ℕ) (page : GuestPage)
     → seen q ≡ record (seen p) { rows = change_row page settled p.rows }
     → Comes (value p k cursor passes) (value q k cursor passes)
     (λ s. (record s.0 { rows = change_row page settled s.0.rows }, s.1))
-stop_comes p q k cursor passes page goes from s before = (
-  grind (arith, goes, before.0),
-  grind (arith, goes, before.1),
-)
+stop_comes p q k cursor passes page goes from s before = grind arith
 
 -- ---------------------------------------------------------------- the pages from one on
 
@@ -63,22 +53,6 @@ hides page r = if not (comes_before r.page page) then settled r else r
 
 hides_kept : (page : GuestPage) (r : Row) → (hides page r).page ≡ r.page
 hides_kept page r = grind arith
-
--- a shared state is settled
-shared_settled : (state : PageState) → shared_state state ≡ true → settled_state state ≡ state
-shared_settled state is = grind arith
-
--- a shared row stays as it is
-shared_stays : (page : GuestPage) (r : Row) → shared_state r.state ≡ true → hides page r ≡ r
-shared_stays page r is = grind (arith, is, shared_settled)
-
--- so does one whose page comes before
-before_stays : (page : GuestPage) (r : Row) → comes_before r.page page ≡ true → hides page r ≡ r
-before_stays page r is = rw is
-
--- any other is settled
-behind_settles : (page : GuestPage) (r : Row) → comes_before r.page page ≡ false → settled r ≡ hides page r
-behind_settles page r is = sym (rw is)
 
 -- up to a cursor, no row from a page on waits
 pub record IsHiding (page : GuestPage) (old new : BookValue) (last : Option GuestPage) : Type 0 where
@@ -101,10 +75,7 @@ module _ {page : GuestPage} {old now : BookValue} {last : Option GuestPage} (h :
   pub hiding_end : find (is_next None last) now.state.rows ≡ None → Comes old now (λ s. (hidden_from page s.0, s.1))
   hiding_end ended from s before =
       let reached = h.comes from s before in
-      let all = (along_end _ (hides_kept _) h.along ended).0 in (
-        rw (← (all ∙ ap (λ (b : BookState). change_rows every_row (hides page) b.rows) before.0)) reached.0,
-        reached.1,
-      )
+      let all = (along_end _ (hides_kept _) h.along ended).0 in grind arith
 
   module _ (rise : InPageOrder old.state.rows) (at : GuestPage)
       (told : option_map (λ r. r.page) (find (is_next None last) now.state.rows) ≡ Some at)
@@ -126,8 +97,7 @@ module _ {page : GuestPage} {old now : BookValue} {last : Option GuestPage} (h :
     hiding_over row found why = record {
       done = cut.before ++ cut.row ∷ [];
       left = cut.rest;
-      along = along_on (sym (change_still at _ _ (λ k d lt same. stays
-          (row_of_page at _ row now_rise found k d lt same) same why)));
+      along = along_on (sym (change_still at _ _ (grind (arith, row_of_page, now_rise))));
       comes = h.comes;
       own = h.own;
       restless = h.restless;
@@ -146,10 +116,10 @@ module _ {page : GuestPage} {old now : BookValue} {last : Option GuestPage} (h :
       done = cut.before ++ cut.row ∷ [];
       left = cut.rest;
       along = along_on (rows ∙ alike_at at _ _ _
-          (λ k d lt same. behind_settles _ _ (rw (same_page_eq _ at same) behind)));
+          (grind arith));
       comes = λ from s before.
           let reached = stops from (record s.0 { rows = now.state.rows }, s.1) (h.comes from s before) in
-          (grind (arith, reached.0, rows), reached.1);
+          (grind arith, reached.1);
       own = own ∙ h.own;
       restless = restless ∙ h.restless;
       fits = fits;

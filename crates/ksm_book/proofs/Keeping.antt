@@ -1,40 +1,17 @@
 -- The keeper's steps as changes of a placement, and the lives that they spend.
-use Rattle.ksm_book.proofs.Names.{[], Add, added, All, All-filter, All-head, All-tail, arith, blank, Bool, cases_lt, cond, cond_both, count_in, did, DupRow, Dying, dying_kind, dying_on, false, Filling, filter_passes, FitsBase, frame_at, Frames, frames_of, Free, free_kind, GenerationFits, get_or, get_or-range_with_len, get_or_past, IfSome, inr, KeeperView, Kind, leaving, Ledger, ledger_after, length, length-range_with_len, List, MakesSteps, map, May, MayLeave, ne_eqb, None, Note, Option, past_lives, Placed, Private, range_with_len, Reap, reaped, refl, Retired, Row, same_Some, set, Shape, Some, spent, spent_on, Stable, Sub, subst, suc, sum_by, sum_by-cons, sum_by-set, sym, true, with_frame, zero, ℕ, ◌*◌, ◌+◌, ◌-◌, ◌<◌, ◌==◌, ◌∷◌, ◌≡◌, ◌≢◌, ◌≤◌}
-use Rattle.ksm_book.proofs.ByPage.{one_same, one_other}
+use Rattle.ksm_book.proofs.Names.{[], Add, added, All, All-filter, All-head, All-tail, arith, blank, Bool, cond, count_in, did, DupRow, dying_on, false, filter_passes, FitsBase, frame_at, Frames, frames_of, GenerationFits, get_or, get_or-range_with_len, get_or_past, IfSome, KeeperView, Kind, leaving, Ledger, ledger_after, length, length-range_with_len, List, MakesSteps, map, MayLeave, None, Note, Option, past_lives, Placed, range_with_len, Reap, reaped, refl, Row, set, Shape, Some, spent, spent_on, Stable, subst, suc, sum_by, sum_by-cons, sum_by-set, true, with_frame, zero, ℕ, ◌*◌, ◌+◌, ◌-◌, ◌<◌, ◌==◌, ◌∷◌, ◌≡◌, ◌≤◌}
+use Rattle.ksm_book.proofs.ByPage.{one_same}
 use Rattle.ksm_book.proofs.Made.{first_made, none_made, step_made}
 use Rattle.ksm_book.proofs.Noted.{noted}
 use Rattle.ksm_book.proofs.Sweeps.{is_dying_kind}
 
 -- ---------------------------------------------------------------- kinds
 
-taken_private : (b : Bool) (kind : Kind) → cond b Dying kind ≡ Private → kind ≡ Private
-taken_private b kind e = grind arith
-
-fits_taken : (kind : Kind) {n : ℕ} → 1 ≤ n → FitsBase kind n → (b : Bool) → (b ≡ (n == 1)) → FitsBase (cond b Dying kind) (n - 1)
-fits_taken kind {n} some fits true e = let t : n ≡ 1 = grind arith in omega arith
-fits_taken Free some fits false e = omega arith
-fits_taken Filling some fits false e = absurd fits
-fits_taken Private some fits false e = let z = fits in absurd (grind arith)
-fits_taken Stable {n} some fits false e = let z : ¬ (n ≡ 1) = λ is. grind arith in omega arith
-fits_taken _ some fits false e = omega arith
-
-lived_taken : (last n base : ℕ) (kind : Kind) (b : Bool) → 1 ≤ base → FitsBase kind base → GenerationFits last kind n → GenerationFits last (cond b Dying kind) n
-lived_taken last n base kind false some fits h = h
-lived_taken last n base Free true some fits h = absurd (omega arith)
-lived_taken last n base _ true some fits h = h
-
 -- ---------------------------------------------------------------- lives
 
 -- a generation that fits a frame's kind is at most the last generation
 pub lives_most : (last n : ℕ) (kind : Kind) → GenerationFits last kind n → n ≤ last
 lives_most last n kind h = grind arith
-
-last_given : (last n : ℕ) (kind : Kind) → n ≡ last → GenerationFits last kind n → 1 ≤ n
-last_given last n kind e h = grind arith
-
-lived_reaped : (last n : ℕ) (kind : Kind) (c : Bool) → c ≡ (n == last) → GenerationFits last kind n → GenerationFits last (cond c Retired Free) n
-lived_reaped last n kind true e h = (last_given _ n _ (grind arith) h, lives_most _ n _ h)
-lived_reaped last n kind false e h = let ne : n ≢ last = λ is. grind arith in omega (arith, lives_most _ n _ h)
 
 -- the lives in which a frame does not hold one page alone are among those that it had
 pub past_le : (kind : Kind) (n : ℕ) → past_lives kind n ≤ n
@@ -57,7 +34,7 @@ spent_kept k g fr le = by _ g le
 
 -- a frame with a reference is one that the keeper knows
 pub held_within : (k : Ledger) (f : ℕ) → 1 ≤ (frame_at k f).base → f < length k.frames
-held_within k f some = grind (arith, cases_lt, get_or_past)
+held_within k f some = grind (arith, get_or_past)
 
 -- a frame in hand is one of the table, and has a reference
 pub held_inside : {sh : Shape} {across : ℕ} {k : Ledger} {rows : List Row} {frame : Frames} {dups : List DupRow} {g : ℕ} → Placed sh across k rows frame dups (Some g)
@@ -65,14 +42,8 @@ pub held_inside : {sh : Shape} {across : ℕ} {k : Ledger} {rows : List Row} {fr
 held_inside {k = k} {g = g} p =
     let one = one_same g refl in
     let base = p.bases g in
-    let long = p.frames_long in
     let some : 1 ≤ (frame_at k g).base = omega arith in
     (omega (arith, held_within k g some), some)
-
--- a frame with a reference is not free
-in_use : (kind : Kind) {n : ℕ} → 1 ≤ n → FitsBase kind n → free_kind kind ≡ false
-in_use Free some fits = absurd (omega arith)
-in_use _ some fits = refl
 
 -- the frame in hand, if there is one, may be left
 pub may_leave : (v : KeeperView) {sh : Shape} → v.table.shape ≡ sh → {across : ℕ} {rows : List Row} {frame : Frames} {dups : List DupRow} (o : Option ℕ)
@@ -80,30 +51,21 @@ pub may_leave : (v : KeeperView) {sh : Shape} → v.table.shape ≡ sh → {acro
 may_leave v same None p = tt
 may_leave v same (Some g) p =
     let held = held_inside p in
-    ((rw same held.0, held.1), in_use _ held.1 (p.kinds g))
+    grind arith
 
 -- what was in hand was given back: rows and dups lie lawfully
 pub left_placed : {v w : KeeperView} (o : Option ℕ) → MakesSteps v w (leaving o) → {sh : Shape} {across : ℕ} {rows : List Row} {frame : Frames} {dups : List DupRow}
     → Placed sh across v.ledger rows frame dups o → Placed sh across w.ledger rows frame dups None
-left_placed {v} {w} None m {sh} {across} {rows} {frame} {dups} p = rw (none_made m) p
-left_placed {v} {w} (Some g) m {sh} {across} {rows} {frame} {dups} p =
+left_placed None m p = rw (none_made m) p
+left_placed (Some g) m p =
     let in_hand = held_inside p in
-    let one = one_same g refl in
-    let base = p.bases g in
     rw (step_made m).1
-    (noted p g in_hand.0 _ None (record {
-      wide = p.widths g;
-      lived = lived_taken _ _ _ _ _ in_hand.1 (p.kinds g) (p.lives g);
-      base = omega arith;
-      fits = fits_taken _ in_hand.1 (p.kinds g) _ refl;
-      same = λ some. let more = ne_eqb (frame_at v.ledger g).base 1 (λ e. omega arith) in (rw more, refl, refl);
-      life = inr (refl, inr (refl, taken_private _ _));
-    }) (λ f ne. sym (one_other f (λ e. ne (sym (same_Some g f e))))))
+    (noted p g in_hand.0 _ None (grind arith) (grind arith))
 
 -- a reference given back ends no life
 pub left_spends : {v w : KeeperView} (o : Option ℕ) → MakesSteps v w (leaving o) → spent v.ledger ≤ spent w.ledger
 left_spends None m = grind (arith, m, none_made m)
-left_spends (Some g) m = grind (arith, step_made m, spent_kept, past_le)
+left_spends (Some g) m = grind (arith, step_made m, spent_kept)
 
 -- ---------------------------------------------------------------- a reference comes
 
@@ -111,17 +73,8 @@ left_spends (Some g) m = grind (arith, step_made m, spent_kept, past_le)
 pub added_placed : {v w : KeeperView} {g : ℕ} → MakesSteps v w (Add g ∷ []) → (frame_at v.ledger g).kind ≡ Stable → {sh : Shape} {across : ℕ} {rows : List Row} {frame : Frames} {dups : List DupRow}
     → g < frames_of sh → Placed sh across v.ledger rows frame dups None → Placed sh across w.ledger rows frame dups (Some g)
 added_placed {v} {w} {g} m stable {sh} {across} {rows} {frame} {dups} inside p =
-    let one = one_same g refl in
-    let base = p.bases g in
     rw (step_made m).1
-    (noted p g inside _ _ (record {
-      wide = p.widths g;
-      lived = p.lives g;
-      base = omega arith;
-      fits = rw stable (omega arith);
-      same = λ _. (refl, refl, refl);
-      life = inr (refl, inr (refl, λ own. own));
-    }) (λ f ne. one_other f (λ e. ne (sym (same_Some g f e)))))
+    (noted p g inside _ _ (grind arith) (grind arith))
 
 -- a reference that came ends no life
 pub added_spends : {v w : KeeperView} {g : ℕ} → MakesSteps v w (Add g ∷ []) → spent v.ledger ≤ spent w.ledger
@@ -155,29 +108,13 @@ module _ (sh : Shape) (k : Ledger) (g found : ℕ) where
   ]
 
   reap_spends : spent k ≤ spent (ledger_after sh k (Reap g) found)
-  reap_spends = grind (arith, spent_kept, past_le)
+  reap_spends = grind (arith, spent_kept)
 
   reap_placed : (across : ℕ) (rows : List Row) (frame : Frames) (dups : List DupRow) (hand : Option ℕ) → IsLeft sh k g → Placed sh across k rows frame dups hand
       → Placed sh across (ledger_after sh k (Reap g) found) rows frame dups hand
   reap_placed across rows frame dups hand left p = elim (count_in found == 0) as (λ b. Placed sh across (after b) rows frame dups hand) [
     | true ↦
-        let base = p.bases g in
-        let none = left.1 in
-        noted p g left.0 (reaped sh.last_generation old) hand (record {
-          wide = p.widths g;
-          lived = lived_reaped sh.last_generation old.generation old.kind (old.generation == sh.last_generation) refl (p.lives g);
-          base = omega arith;
-          fits = cond_both (old.generation == sh.last_generation) Retired Free (λ x. FitsBase x 0) (λ _. refl) (λ _. refl);
-          same = λ some. absurd (omega arith);
-          life = inr (
-            refl,
-            inr (
-              refl,
-              cond_both (old.generation == sh.last_generation) Retired Free
-                  (λ x. x ≡ Private → old.kind ≡ Private) (λ _ own. cc) (λ _ own. cc),
-            ),
-          );
-        }) (λ f ne. refl)
+        noted p g left.0 (reaped sh.last_generation old) hand (grind arith) (λ f ne. refl)
     | false ↦ p
   ]
 
@@ -211,7 +148,6 @@ searched_placed {v} {w} node less m across rows frame dups hand p =
     let sh = v.table.shape in
     let size = sh.frames_per_node in
     let low = node * size in
-    let dies = λ (f : ℕ). dying_kind (frame_at v.ledger f).kind in
     let end = node_end _ _ size less in
     let inside : All (λ f. f < frames_of sh) (range_with_len low size) = λ i d lt.
     let long = length-range_with_len low size in
@@ -221,7 +157,7 @@ searched_placed {v} {w} node less m across rows frame dups hand p =
     (λ i d lt.
     let f = get_or (dying_on sh v.ledger node) i d in (
       All-filter _ (λ f. f < frames_of sh) _ inside i d lt,
-      subst (λ (x : Kind). FitsBase x (frame_at v.ledger f).base) (is_dying_kind (filter_passes dies (range_with_len low size) i d lt)) (p.kinds f),
+      subst (λ (x : Kind). FitsBase x (frame_at v.ledger f).base) (is_dying_kind (grind (arith, filter_passes))) (p.kinds f),
     ))
     p
 

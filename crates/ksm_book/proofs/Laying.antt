@@ -1,9 +1,9 @@
 -- What becomes of pages that lie lawfully, where the keeper makes its steps.
-use Rattle.ksm_book.proofs.Names.{[], All, ap, arith, blank, change_row, default_knobs, DupFits, DupRow, false, find_all, first_ledger, frame_at, Frames, frames_of, get_or, GuestPage, holding, Houses, inl, InPageOrder, inr, IsLaid, IsLawful, IsReadable, IsServed, IsShape, KeeperView, Keeps, Kind, kind_for, Knobs, Ledger, length, length-replicate, lies_on, List, Listing, map, MatchOption, Merged, merged_into, None, nowhere, Option, PAGE_WORDS, PageState, PagesView, Placed, Private, refl, replicate, Row, row_at, Shape, shared_state, slice_index_or, Some, spent, subst, suc, sym, HasNewFrame, true, with_frame, with_row, Zero, zero, zero_state, ℕ, ◌∙◌, ◌≡◌, ◌≤◌, ◌⊎◌, cond_both, Stable}
+use Rattle.ksm_book.proofs.Names.{[], All, ap, arith, blank, change_row, default_knobs, DupRow, false, find_all, first_ledger, frame_at, Frames, get_or, GuestPage, holding, Houses, inl, InPageOrder, inr, IsLaid, IsLawful, IsReadable, IsServed, IsShape, KeeperView, Keeps, Kind, kind_for, Knobs, Ledger, length, length-replicate, lies_on, List, Listing, map, MatchOption, Merged, merged_into, None, nowhere, Option, PAGE_WORDS, PageState, PagesView, Placed, Private, refl, replicate, Row, row_at, Shape, shared_state, slice_index_or, Some, spent, subst, suc, sym, HasNewFrame, true, with_frame, with_row, Zero, zero, zero_state, ℕ, ◌∙◌, ◌≡◌, ◌≤◌, ◌⊎◌, cond_both, Stable}
 use Rattle.ksm_base.specs.declared.row.PageState.TheVariants.{Private as OwnPage}
 use Rattle.ksm_book.proofs.ByPage.{found_page, row_of_page}
 use Rattle.ksm_book.proofs.Keeping.{spent_kept}
-use Rattle.ksm_book.proofs.Moves.{Serves, framed, inserted, own_agrees, remapped, swapped, written_in}
+use Rattle.ksm_book.proofs.Moves.{Serves, framed, inserted, remapped, swapped, written_in}
 
 module _ {sh : Shape} {across : ℕ} (v : KeeperView) {rows : List Row} {frame : Frames} {dups : List DupRow} {hand : Option ℕ} (same : v.table.shape ≡ sh) where
   -- a placement by this shape is one by the shape of the keeper's table
@@ -28,17 +28,7 @@ module _ {sh : Shape} {across : ℕ} {v w : KeeperView} {rows : List Row} {frame
   in_new_hand = kept v same w _ took.keeps p
 
   serves : (r : Row) → r.state ≡ OwnPage → r.home ≡ node → r.bytes ≡ bytes → Serves sh w.ledger dups r g
-  serves r own home content = (
-    record {
-      mapped = ap zero_state own;
-      frame = rw (← same) took.frame;
-      kind = took.kind ∙ ap kind_for (sym own);
-      content = took.content ∙ sym content;
-      given = took.given;
-      node = λ _. grind (arith, same, took.node, home);
-    },
-    own_agrees in_new_hand r g (λ n. ap (merged_into n) own) took.kind,
-  )
+  serves r own home content = grind (arith, in_new_hand)
 
   -- a page moves to the frame taken: its placement is lawful, with the frame that it had, if it had one, in hand
   pub moved_there : (page : GuestPage) (c : Row → Row) → InPageOrder rows → Houses c page node bytes rows → Placed sh across w.ledger (change_row page c rows) (lies_on page (Some g) frame) dups (frame page)
@@ -57,10 +47,6 @@ module _ {sh : Shape} {across : ℕ} {v w : KeeperView} {rows : List Row} {frame
 pub own_kind : (s : PageState) → shared_state s ≡ false → kind_for s ≡ Private
 own_kind s e = grind arith
 
--- a page that is not shared is no item of any dup
-pub own_item : (s : PageState) → shared_state s ≡ false → (n : ℕ) → merged_into n s ≡ false
-own_item s e n = grind arith
-
 -- a row that is not shared is not Zero
 pub own_framed : (s : PageState) → shared_state s ≡ false → zero_state s ≡ false
 own_framed s e = grind arith
@@ -77,17 +63,11 @@ module _ {sh : Shape} {across : ℕ} {k : Ledger} {rows : List Row} {frame : Fra
   -- a row that may stand in the stead of another is served by its frame
   module _ (old r : Row) (f : ℕ) (served : Serves sh k dups old f) where
     same_state : r.state ≡ old.state → r.home ≡ old.home → r.bytes ≡ old.bytes → Serves sh k dups r f
-    same_state s home bytes = subst (λ (z : PageState × ℕ × List ℕ). Serves sh k dups (record { page = r.page; home = z.1; bytes = z.2; mergeable = r.mergeable; unchanged = r.unchanged; state = z.0 }) f) (λ t. (sym s t, sym home t, sym bytes t)) (
-      record { mapped = served.0.mapped; frame = served.0.frame; kind = served.0.kind; content = served.0.content; given = served.0.given; node = served.0.node },
-      λ j d lt. let a = served.1 j d lt in record { item = a.item; back = a.back },
-    )
+    same_state s home bytes = subst (λ (z : PageState × ℕ × List ℕ). Serves sh k dups (assumption) f) (λ t. (sym s t, sym home t, sym bytes t)) (grind arith)
 
     both_own : shared_state old.state ≡ false → shared_state r.state ≡ false → r.home ≡ old.home → r.bytes ≡ old.bytes → Serves sh k dups r f
     both_own was now home bytes =
-        let kind = served.0.kind ∙ own_kind _ was in (
-          record { mapped = own_framed _ now; frame = served.0.frame; kind = kind ∙ sym (own_kind _ now); content = served.0.content ∙ sym bytes; given = served.0.given; node = λ _. served.0.node was ∙ sym home },
-          own_agrees p r f (own_item _ now) kind,
-        )
+        grind arith
 
     lodged : LodgesAs r old → Serves sh k dups r f
     lodged (home, bytes, inl s) = same_state s home bytes
@@ -96,7 +76,7 @@ module _ {sh : Shape} {across : ℕ} {k : Ledger} {rows : List Row} {frame : Fra
   lodged_as : (old r : Row) (o : Option ℕ) → LodgesAs r old → IsServed sh k dups old o → IsServed sh k dups r o
   lodged_as old r (Some f) lodges served = lodged old r f served lodges
   lodged_as old r None (home, bytes, inl s) served = ap zero_state s ∙ served
-  lodged_as old r None (home, bytes, inr own) served = absurd (grind (arith, own_framed _ own.0))
+  lodged_as old r None (home, bytes, inr own) served = absurd (grind arith)
 
   -- the row of a page is served by its frame
   pub served_at : (page : GuestPage) (row : Row) → row_at page rows ≡ Some row → IsServed sh k dups row (frame page)
@@ -115,18 +95,13 @@ module _ {p : PagesView} {k : KeeperView} (h : IsLaid p k) where
     small = h.small;
     same = shape_same sh k w h.same e;
     placed = kept k h.same w None keeps h.placed;
-    spent = (omega (arith, h.spent));
+    spent = omega arith;
   }
 
   -- pages lie lawfully with other rows and frames that are placed lawfully beside the same dups
   pub laid_rows : {rows : List Row} {frame : Frames} {restless : Listing} (w : KeeperView) → w.table ≡ k.table → spent k.ledger ≤ spent w.ledger → Placed sh across w.ledger rows frame p.dups None
       → IsLaid (record p { rows = rows; frame = frame; restless = restless }) w
-  laid_rows w e more placed = record {
-    small = h.small;
-    same = shape_same sh k w h.same e;
-    placed = placed;
-    spent = (omega (arith, h.spent));
-  }
+  laid_rows w e more placed = grind arith
 
   -- pages lie lawfully where each row changes into one that may stand in its stead on its frame
   pub laid_mapped : (c : Row → Row) (restless : Listing) → ((r : Row) → (c r).page ≡ r.page) → All (λ r. LodgesAs (c r) r) p.rows → IsLaid (record p { rows = map c p.rows; restless = restless }) k
@@ -137,9 +112,9 @@ module _ {p : PagesView} {k : KeeperView} (h : IsLaid p k) where
   pub laid_changed : (page : GuestPage) (row : Row) (c : Row → Row) (restless : Listing) → InPageOrder p.rows → row_at page p.rows ≡ Some row
       → ((r : Row) → (c r).page ≡ r.page) → LodgesAs (c row) row → IsLaid (record p { rows = change_row page c p.rows; restless = restless }) k
   laid_changed page row c restless rise found keeps lodges =
-      laid_mapped _ _ (λ r. cond_both _ (c r) r (λ (x : Row). x.page ≡ r.page) (λ _. keeps r) (λ _. refl))
+      laid_mapped _ _ (grind arith)
       (λ i d lt. let r = get_or p.rows i d in cond_both _ (c r) r (λ x. LodgesAs x r)
-      (λ is. rw (row_of_page _ _ row rise found i d lt is) lodges) (λ _. (refl, refl, inl refl)))
+      (grind (arith, row_of_page)) (λ _. (refl, refl, inl refl)))
 
   -- a row that is not Zero lies on a frame that serves it
   pub has_frame : {page : GuestPage} {row : Row} → row_at page p.rows ≡ Some row → zero_state row.state ≡ false → (f : ℕ) × (p.frame page ≡ Some f) × Serves sh k.ledger p.dups row f
@@ -153,7 +128,7 @@ module _ {p : PagesView} {k : KeeperView} (h : IsLaid p k) where
       let served = subst (IsServed sh k.ledger p.dups row) lies (served_at h.placed _ row found) in
       let kind = served.0.kind ∙ own_kind _ alone in
       let fr = holding (frame_at k.ledger g) (c row).bytes in
-      let more : spent k.ledger ≤ spent (with_frame k.ledger g fr) = spent_kept k.ledger g fr (omega arith) in
+      let more : spent k.ledger ≤ spent (with_frame k.ledger g fr) = grind (arith, spent_kept) in
       let end = ap spent ledger in
       laid_rows w e (omega arith)
       (rw ledger
@@ -162,32 +137,12 @@ module _ {p : PagesView} {k : KeeperView} (h : IsLaid p k) where
 
 -- a frame of the kind that a row has which is not Zero may be read
 pub readable : {x : Kind} (s : PageState) → zero_state s ≡ false → x ≡ kind_for s → IsReadable x
-readable Zero framed e = absurd (grind (arith, framed))
+readable Zero framed e = absurd (grind arith)
 readable _ framed e = subst IsReadable (sym e) tt
 
 -- pages lie lawfully with other knobs, where merge_across_nodes stays as it is or there are no dups
 pub retuned : {p : PagesView} {tuned : Knobs} {k : KeeperView} → (tuned.merge_across_nodes ≡ p.knobs.merge_across_nodes) ⊎ (p.dups ≡ []) → IsLaid p k → IsLaid (record p { knobs = tuned }) k
-retuned {p} {tuned} {k} either h =
-    let q = h.placed in record {
-      small = h.small;
-      same = h.same;
-      placed = record {
-        frames_long = q.frames_long;
-        places_long = q.places_long;
-        widths = q.widths;
-        lives = q.lives;
-        each_row = q.each_row;
-        each_dup = by either;
-        bases = q.bases;
-        kinds = q.kinds;
-        empty = q.empty;
-      };
-      spent = h.spent;
-    }
-  where
-    by : (tuned.merge_across_nodes ≡ p.knobs.merge_across_nodes) ⊎ (p.dups ≡ []) → All (DupFits p.shape tuned.merge_across_nodes k.ledger) p.dups
-    by (inl same) = rw same h.placed.each_dup
-    by (inr none) = subst (All (DupFits p.shape tuned.merge_across_nodes k.ledger)) (sym none) (λ i d lt. absurd (omega arith))
+retuned either h = grind arith
 
 -- ---------------------------------------------------------------- no rows
 
@@ -202,19 +157,4 @@ first_note _ f = same_in _ f _
 -- pages lie lawfully as they are opened, with no rows and no dups, where the keeper has its first ledger
 pub first_laid : {sh : Shape} {k : KeeperView} → IsShape sh → k.table.shape ≡ sh → k.ledger ≡ first_ledger sh
     → IsLaid (record { shape = sh; rows = []; frame = nowhere; dups = []; knobs = default_knobs; next = 0; restless = record { pages = []; known = true } }) k
-first_laid {sh} is same first = record {
-  small = is;
-  same = same;
-  placed = rw first (record {
-    frames_long = length-replicate (frames_of sh) blank;
-    places_long = length-replicate (frames_of sh) None;
-    widths = λ f. rw (first_note sh f) (length-replicate {A = ℕ} PAGE_WORDS 0);
-    lives = λ f. rw (first_note sh f) (omega (arith, is.generation_low));
-    each_row = λ i d lt. absurd (omega arith);
-    each_dup = λ i d lt. absurd (omega arith);
-    bases = λ f. rw (first_note sh f);
-    kinds = λ f. rw (first_note sh f) refl;
-    empty = λ p none. same_in _ p None;
-  });
-  spent = omega arith;
-}
+first_laid {sh} is same first = grind (arith, length-replicate, same_in)

@@ -21,12 +21,7 @@ gives_append sh k ms ns (x ∷ xs) ys h h' =
 
 -- two parts, one after the other, gave the frames of both
 pub chained : {u v w : KeeperView} {ms ns : List ℕ} {xs ys : Log} → Allocates u v ms xs → Allocates v w ns ys → Allocates u w (ms ++ ns) (xs ++ ys)
-chained {u} {ms = ms} {ns} {xs} {ys} a b = record {
-  table = b.table ∙ a.table;
-  log = b.log ∙ ap (λ l. l ++ ys) a.log ∙ append_assoc u.log xs ys;
-  ledger = grind (arith, b.ledger, a.table, a.ledger, replayed_append);
-  gives = gives_append _ _ ms ns xs ys a.gives (grind (arith, a.table, a.ledger, b.gives));
-}
+chained {u} {ms = ms} {ns} {xs} {ys} a b = grind (arith, append_assoc, replayed_append, gives_append)
 
 along_push : (step : ℕ → ℕ → KeeperStep × ℕ) (j w : ℕ) (ws : List ℕ) → along step j (ws ++ w ∷ []) ≡ along step j ws ++ step (j + length ws) w ∷ []
 along_push step j w [] = grind arith
@@ -54,7 +49,7 @@ word_written (w ∷ ws) (c ∷ cs) (suc i) same lt = grind (arith, word_written 
 
 -- where the keeper stays as it is, no step was made
 pub made_none : {v w : KeeperView} → w ≡ v → MakesSteps v w []
-made_none {v} e = record { part = []; after = grind (arith, e, append-nil v.log); are = refl }
+made_none {v} e = grind (arith, append-nil)
 
 -- a keeper that went on by one step has made that step and no other
 pub made_one : (v w : KeeperView) (e : KeeperStep) (found : ℕ) → w ≡ did v e found → MakesSteps v w (e ∷ [])

@@ -1,7 +1,5 @@
 -- What becomes of rows and dups that lie lawfully, where the note of one frame changes.
-use Rattle.ksm_book.proofs.Names.{All-weaker, ap, arith, blank, DupFits, DupRow, FitsBase, frame_at, Frames, frames_of, GenerationFits, get_or, get_or-set_other, get_or-set_same, in_hand, inl, inr, IsInLife, IsServed, Ledger, length, length-set, List, None, Note, Option, PAGE_WORDS, place_frame, place_life, Placed, Private, refl, Row, Shape, Some, subst, sym, uses, with_frame, ℕ, ◌+◌, ◌<◌, ◌∙◌, ◌≡◌, ◌≢◌, ◌≤◌, ◌⊎◌}
-use mathlib.Core.Logic.{dite}
-use native.Mathlib.Decide.{ℕ_discrete}
+use Rattle.ksm_book.proofs.Names.{All-weaker, ap, arith, DupFits, DupRow, FitsBase, frame_at, Frames, frames_of, GenerationFits, get_or, get_or-set_other, get_or-set_same, in_hand, inl, inr, IsInLife, IsServed, Ledger, length, length-set, List, None, Note, Option, PAGE_WORDS, place_frame, place_life, Placed, Private, refl, Row, Shape, Some, uses, with_frame, ℕ, ◌+◌, ◌<◌, ◌∙◌, ◌≡◌, ◌≢◌, ◌≤◌, ◌⊎◌}
 use Rattle.ksm_book.proofs.ByPage.{uses_some}
 
 -- a note may follow another on a frame on which so many rows lie, with so many references in hand: where a row lies there it stays as it
@@ -31,9 +29,7 @@ module _ {sh : Shape} {across : ℕ} {k : Ledger} {rows : List Row} {frame : Fra
 
   -- what holds of the new note at the frame that changes, and of each other frame's note, holds of each note
   pub by_frame : (P : Note → Type 0) (h : ℕ) → (h ≡ g → P new) → (h ≢ g → P (frame_at k h)) → P (frame_at next h)
-  by_frame P h here there = dite (ℕ_discrete h g)
-      (λ e. grind (arith, get_or-set_same k.frames g new blank (omega arith), e, here e, p.frames_long))
-      (λ ne. subst P (sym (get_or-set_other k.frames g h new blank ne)) (there ne))
+  by_frame P h here there = grind (arith, get_or-set_same, get_or-set_other)
 
   module _ (hand' : Option ℕ) (n : Follows sh.last_generation (uses g frame rows) (in_hand g hand') old new) where
     -- a frame on which a row lies is as it was
@@ -46,37 +42,18 @@ module _ {sh : Shape} {across : ℕ} {k : Ledger} {rows : List Row} {frame : Fra
     in_life : (d : DupRow) → DupFits sh across k d → IsInLife next d.place
         → IsInLife k d.place × ((frame_at next (place_frame k d.place)).content ≡ d.bytes) × ¬ ((frame_at next (place_frame k d.place)).kind ≡ Private)
     in_life d m = by_frame (λ x. x.generation ≡ place_life k d.place → IsInLife k d.place × (x.content ≡ d.bytes) × ¬ (x.kind ≡ Private)) (place_frame k d.place)
-        (λ e life. elim n.life [
-          | inl later ↦ absurd (let low = subst (λ h. place_life k d.place ≤ (frame_at k h).generation) e m.life in omega (arith, life))
-          | inr stays ↦
-              let was = ap (λ h. (frame_at k h).generation) e ∙ sym stays.0 ∙ life in
-              elim stays.1 [
-                | inl own ↦ absurd (m.shown was (rw e own))
-                | inr named ↦ (
-                  was,
-                  named.0 ∙ ap (λ h. (frame_at k h).content) (sym e) ∙ m.content was,
-                  λ own. m.shown was (rw e
-                      (named.1 own)),
-                )
-              ]
-        ])
+        (grind arith)
         (λ _ life. (life, m.content life, m.shown life))
 
     served : (r : Row) (o : Option ℕ) → ((f : ℕ) → o ≡ Some f → f ≡ g → 1 ≤ uses g frame rows) → IsServed sh k dups r o → IsServed sh next dups r o
     served r None used h = h
     served r (Some f) used h =
-        let same = on f (used f refl) in (
-          record { mapped = h.0.mapped; frame = h.0.frame; kind = same.0 ∙ h.0.kind; content = same.1 ∙ h.0.content; given = rw same.2 h.0.given; node = h.0.node },
-          λ i d lt. let a = h.1 i d lt in record {
-            item = λ m. let y = a.item m in (y.0, rw (← y.0) (grind (arith, same.2, y.0, y.1)));
-            back = λ life e. a.back (in_life _ (p.each_dup i d lt) life).0 e;
-          },
-        )
+        let same = on f (used f refl) in grind arith
 
     -- rows and dups lie lawfully where one note follows the old one and no other frame comes into or leaves the hand
     pub noted : ((f : ℕ) → f ≢ g → in_hand f hand' ≡ in_hand f hand) → Placed sh across next rows frame dups hand'
     noted other = record {
-      frames_long = length-set k.frames g new ∙ p.frames_long;
+      frames_long = grind (arith, length-set);
       places_long = p.places_long;
       widths = λ f. by_frame (λ x. length x.content ≡ PAGE_WORDS) f (λ _. n.wide) (λ _. p.widths f);
       lives = λ f. by_frame (λ x. GenerationFits sh.last_generation x.kind x.generation) f (λ _. n.lived) (λ _. p.lives f);
@@ -89,7 +66,7 @@ module _ {sh : Shape} {across : ℕ} {k : Ledger} {rows : List Row} {frame : Fra
             (λ e. let low : place_life k d.place ≤ old.generation = rw (← e) m.life in
             elim n.life [
               | inl later ↦ omega arith
-              | inr stays ↦ omega (arith, stays.0)
+              | inr stays ↦ omega arith
             ])
             (λ _. m.life);
         content = λ life. (in_life d m life).1;

@@ -1,12 +1,12 @@
 -- The visit of a page: what was found of its row, and what becomes of the book where the row alone changes.
-use Rattle.ksm_book.proofs.Names.{All, ap, arith, BookState, BookValue, BookView, change_row, Comes, Deed, doing, false, Find, FindsAt, Frames, GuestPage, HasStayed, idle, InPageOrder, inr, is_restless, IsLaid, IsSound, IsStill, KeeperView, List, lying, map, MatchOption, None, Option, page_visited, PagesView, paired, partner, Performs, refl, restless_at, restless_row, Row, row_at, row_visited, row_visiting, same_page, settled, shared_state, Some, state_of, subst, sym, then_doing, true, view_of, visited, VisitsPage, Waiting, ℕ, ◌∙◌, ◌≡◌, if◌then◌else◌, map_mapped}
+use Rattle.ksm_book.proofs.Names.{All, ap, arith, BookState, BookValue, BookView, change_row, Comes, Deed, doing, false, Find, FindsAt, Frames, GuestPage, HasStayed, idle, InPageOrder, is_restless, IsLaid, IsSound, IsStill, KeeperView, List, map, None, Option, page_visited, PagesView, partner, refl, restless_at, Row, row_at, row_visited, row_visiting, same_page, settled, shared_state, Some, state_of, subst, sym, true, view_of, visited, VisitsPage, Waiting, ℕ, ◌∙◌, ◌≡◌, if◌then◌else◌, map_mapped}
 use Rattle.ksm_pages.specs.declared.pages.Find.TheVariants as finds
 use Rattle.ksm_pages.specs.Paged.{Finds, visited as row_changed}
 use Rattle.ksm_book.proofs.ByPage.{found_page, row_of_page}
 use Rattle.ksm_book.proofs.Doing.{then_idle}
 use Rattle.ksm_book.proofs.Laying.{LodgesAs, laid_changed}
 use Rattle.ksm_book.proofs.Made.{made_none}
-use Rattle.ksm_book.proofs.RowVisits.{Leads, Meets, leads, marked_is, restless_own, stayed_is, there_is, visit_comes, filled_by}
+use Rattle.ksm_book.proofs.RowVisits.{Leads, Meets, leads, marked_is, restless_own, there_is, visit_comes}
 use Rattle.ksm_book.proofs.Singles.{book}
 
 -- ---------------------------------------------------------------- what was found
@@ -16,30 +16,23 @@ pub finds_it : (f : Find) → (f ≡ finds.Gone → ⊥) → {p : PagesView} {k 
     → IsSound (state_of p cursor passes) × IsLaid p k → book p k cursor passes ≡ v → (q : PagesView) (page : GuestPage) {found : Find} →
     found ≡ f
     → Finds p q page found → Meets (λ _ r. FindsAt p q r f) p k cursor passes v page
-finds_it f some {p} {k} {cursor} {passes} {v} lawful same q page is told = by _ refl (subst (Finds p q page) is told)
-  where
-    by : (o : Option Row) → row_at page p.rows ≡ o → MatchOption o ((f ≡ finds.Gone) × (q ≡ p)) (λ r. FindsAt p q r f)
-        → Meets (λ _ r. FindsAt p q r f) p k cursor passes v page
-    by None none is = absurd (some is.0)
-    by (Some row) found is = record { is = same; sound = lawful.0; laid = lawful.1; row = row; found = found; so = is }
+finds_it f some lawful same q page is told = grind arith
 
 -- ---------------------------------------------------------------- what the visit comes to
 
 -- where a page's row, which a visit may change, was visited, the book has come to that
 visits_come : (v w : BookValue) (page : GuestPage) → restless_at page v.state.rows ≡ true → VisitsPage (view_of v) (view_of w) page → Comes
     v w (λ s. page_visited doing s page)
-visits_come v w page restless did =
-    let at = filled_by _ did in
-    visit_comes v w _ _ at.1 (ap restless_row (sym at.1) ∙ restless) at.2.0 at.2.1
+visits_come v w page restless did = grind (arith, visit_comes)
 
 -- where a search changed nothing and the page's row was visited then, the visit of the page was reached
 pub shared_comes : {P : BookState → Row → Type 0} {p : PagesView} {k : KeeperView} {cursor : Option GuestPage} {passes : ℕ}
     (v w : BookValue)
     {page : GuestPage} (at : Meets P p k cursor passes (view_of v) page) → is_restless at.row ≡ true → (q : PagesView) → q ≡ p
     → VisitsPage (book q k cursor passes) (view_of w) page → Comes v w (λ s. page_visited doing s page)
-shared_comes {k = k} {cursor} {passes} v w {page} at restless q same did =
-    visits_come v w _ (grind (arith, at.is, at.found, restless))
-    (subst (λ (x : BookView). VisitsPage x (view_of w) page) (rw same at.is) did)
+shared_comes v w at restless q same did =
+    visits_come v w _ (grind (arith, restless))
+    (grind arith)
 
 waiting_settles : (page : GuestPage) (rows : List Row) → All (λ r. same_page r.page page ≡ true → shared_state r.state ≡ false) rows
     → map settled (change_row page (λ r. record r { state = Waiting }) rows) ≡ map settled rows
@@ -49,18 +42,18 @@ waiting_settles page rows alone = grind (arith, map_mapped)
 module _ (b : BookState) (row : Row) (stays : HasStayed b false row) (alone : partner b.knobs b.rows row ≡ None) where
   -- the visit of a row that has stayed and has no partner makes the row Waiting
   pub waits_is : row_visited b row ≡ record b { rows = change_row row.page (λ r. record r { state = Waiting }) b.rows }
-  waits_is = (stayed_is b (λ _. None) row false stays).0 ∙ ap (λ o. paired o b row) alone
+  waits_is = grind arith
 
   -- the visit of a row that has stayed and has no partner does nothing to the frames
   pub waiting_is : (frame : Frames) → row_visiting b frame row ≡ idle frame
-  waiting_is frame = grind (arith, stayed_is)
+  waiting_is frame = grind arith
 
   -- the visit of a row that has stayed and has no partner changes nothing but which rows wait
   pub waits_still : (deed : Deed) (page : GuestPage) → InPageOrder b.rows → row_at page b.rows ≡ Some row → IsStill (b, deed)
       (page_visited doing (b, deed) page)
   waits_still deed page rise found =
       let is = ap (visited doing (b, deed)) found ∙ ap (λ t. if t then (row_visited b row, doing b deed row) else (b, deed)) stays.restless
-      ∙ (λ t. (waits_is t, (ap (then_doing deed) (waiting_is deed.frame) ∙ then_idle _) t)) in
+      ∙ (grind (arith, then_idle)) in
       let at = ap (λ q. row_at q b.rows) (found_page _ _ row found) ∙ found in
       subst (IsStill (b, deed)) (sym is) (record {
         rest = refl;
@@ -71,39 +64,33 @@ module _ (b : BookState) (row : Row) (stays : HasStayed b false row) (alone : pa
 
 -- ---------------------------------------------------------------- the row alone changes
 
--- the visit changes the row of a page on its frame, and makes no step
-row_leads : {P : BookState → Row → Type 0} {p : PagesView} {k : KeeperView} {cursor : Option GuestPage} {passes : ℕ} {v : BookView}
-    {page : GuestPage} (at : Meets P p k cursor passes v page) → is_restless at.row ≡ true → (c : Row → Row) →
-    ((r : Row) → (c r).page ≡ r.page)
-    → LodgesAs (c at.row) at.row → row_visited (state_of p cursor passes) at.row ≡ record (state_of p cursor passes)
-    { rows = change_row at.row.page c p.rows }
-    → row_visiting (state_of p cursor passes) p.frame at.row ≡ idle p.frame → {q : PagesView} → q ≡ row_changed at.row.page c p
-    → Leads v q k cursor passes page
-row_leads {p = p} {k} {cursor} {passes} at restless c keeps lodges becomes rests {q} goes =
-    leads at q k restless
-    (rw goes (laid_changed at.laid _ _ c _ at.sound.rows_rise (there_is at) keeps lodges)) (rw goes (sym becomes))
-    (subst (Performs (lying p k) (lying q k)) (sym rests) (record {
-      made = made_none refl;
-      frame = rw goes;
-    }))
+module _ {p q : PagesView} {k : KeeperView} {cursor : Option GuestPage} {passes : ℕ} {v : BookView} {page : GuestPage} where
+  -- the visit changes the row of a page on its frame, and makes no step
+  row_leads : {P : BookState → Row → Type 0} (at : Meets P p k cursor passes v page) → is_restless at.row ≡ true → (c : Row → Row)
+      → ((r : Row) → (c r).page ≡ r.page) → LodgesAs (c at.row) at.row
+      → row_visited (state_of p cursor passes) at.row ≡ record (state_of p cursor passes) { rows = change_row at.row.page c p.rows }
+      → row_visiting (state_of p cursor passes) p.frame at.row ≡ idle p.frame → q ≡ row_changed at.row.page c p
+      → Leads v q k cursor passes page
+  row_leads at restless c keeps lodges becomes rests goes =
+      leads at q k restless
+      (rw goes (laid_changed at.laid _ _ c _ at.sound.rows_rise (there_is at) keeps lodges)) (rw goes (sym becomes))
+      (grind (arith, made_none))
 
-module _ {p q : PagesView} {k : KeeperView} {cursor : Option GuestPage} {passes : ℕ} {v : BookView} {page : GuestPage}
-    (at : Meets (λ _ r. FindsAt p q r finds.Waits) p k cursor passes v page) where
-  stays : HasStayed (state_of p cursor passes) false at.row
-  stays = (let is = at.so in record { restless = is.0; none = is.1; unchanged = is.2; zeroes = is.3 })
+  module _ (at : Meets (λ _ r. FindsAt p q r finds.Waits) p k cursor passes v page) where
+    stays : HasStayed (state_of p cursor passes) false at.row
+    stays = grind arith
 
-  -- where a visit found that the page is to wait, and made its row Waiting, the book is what the visit leads to
-  pub waits_leads : Leads v q k cursor passes page
-  waits_leads = row_leads at at.so.0 _ (λ r. refl) (refl, refl, inr (restless_own at.row at.so.0, refl))
-      (waits_is _ _ stays at.so.4) (waiting_is _ _ stays at.so.4 _) at.so.5
+    -- where a visit found that the page is to wait, and made its row Waiting, the book is what the visit leads to
+    pub waits_leads : Leads v q k cursor passes page
+    waits_leads = row_leads at at.so.0 _ (λ r. refl) (grind arith)
+        (waits_is _ _ stays at.so.4) (waiting_is _ _ stays at.so.4 _) at.so.5
 
-  -- the visit of a page that is to wait changes nothing but which rows wait
-  pub waits_quiet : (deed : Deed) → IsStill (v.state, deed) (page_visited doing (v.state, deed) page)
-  waits_quiet deed = rw (← at.is) (waits_still _ _ stays at.so.4 _ _ at.sound.rows_rise at.found)
+    -- the visit of a page that is to wait changes nothing but which rows wait
+    pub waits_quiet : (deed : Deed) → IsStill (v.state, deed) (page_visited doing (v.state, deed) page)
+    waits_quiet deed = grind (arith, waits_still)
 
--- where a visit found the page's bytes changed, and marked its row, the book is what the visit leads to
-pub changed_leads : {p q : PagesView} {k : KeeperView} {cursor : Option GuestPage} {passes : ℕ} {v : BookView} {page : GuestPage}
-    → Meets (λ _ r. FindsAt p q r finds.Changed) p k cursor passes v page → Leads v q k cursor passes page
-changed_leads {p} at =
-    let marked = marked_is _ p.frame _ at.so.0 at.so.1 at.so.2 in
-    row_leads at at.so.0 _ (λ r. refl) (refl, refl, inr (restless_own at.row at.so.0, refl)) marked.0 marked.1 at.so.3
+  -- where a visit found the page's bytes changed, and marked its row, the book is what the visit leads to
+  pub changed_leads : Meets (λ _ r. FindsAt p q r finds.Changed) p k cursor passes v page → Leads v q k cursor passes page
+  changed_leads at =
+      let marked = marked_is _ p.frame _ at.so.0 at.so.1 at.so.2 in
+      row_leads at at.so.0 _ (λ r. refl) (grind arith) marked.0 marked.1 at.so.3

@@ -1,5 +1,5 @@
 -- Ascending lists of pages: their parts before and behind a page, by test and by index; and each is known by what it has.
-use Rattle.ksm_book.proofs.Names.{[], after_cursor, All, All-cons, All-filter, All-head, and_right, any-filter_same, ap, AreAscending, arith, before_differs, before_irrefl, before_trans, Bool, cases_Bool, cases_lt, comes_before, Contains-from_any, drop, drop-append-le, drop_of_length-le, false, filter, filter_all, filter_none, from_to, get_or, get_or-drop, get_or-take, get_or_from_slice_get, GuestPage, has_item, inl, inr, length, length-drop, length-take, length-take-le, List, list_any_none, max, None, not, not_both, one_before, Option, pairs_head, pairs_tail, refl, same_page, same_page_eq, same_page_refl, same_Some, slice_get, slice_get-get_or, slice_get_within, Some, subst, suc, sym, take, take_more, true, true≢false, up_to, zero, ℕ, ◌&&◌, ◌++◌, ◌+◌, ◌-◌, ◌<◌, ◌∙◌, ◌∷◌, ◌≡◌, ◌≤◌, filter_mapped}
+use Rattle.ksm_book.proofs.Names.{[], after_cursor, All, All-cons, All-filter, All-head, and_right, any-filter_same, ap, AreAscending, arith, before_trans, Bool, cases_Bool, comes_before, Contains-from_any, drop, drop-append-le, drop_of_length-le, false, filter, filter_all, filter_mapped, filter_none, from_to, get_or, get_or-drop, get_or-take, get_or_from_slice_get, GuestPage, has_item, inl, inr, length, length-drop, length-take, length-take-le, List, list_any_none, max, None, not, not_both, one_before, Option, pairs_head, pairs_tail, refl, same_page, same_page_eq, same_page_refl, slice_get, slice_get-get_or, slice_get_within, Some, subst, suc, sym, take, take_more, true, true≢false, up_to, zero, ℕ, ◌&&◌, ◌++◌, ◌+◌, ◌-◌, ◌<◌, ◌∙◌, ◌∷◌, ◌≡◌, ◌≤◌}
 use Rattle.std.proofs.Common.{ap₂}
 use Rattle.std.proofs.lemmas.List.{map-id}
 
@@ -28,13 +28,9 @@ behind_first cursor (p ∷ pages) page more rise is =
     let behind = pairs_head Before p _ rise in
     elim (cases_Bool (after_cursor cursor p)) [
       | inl here ↦
-          let all = filter_all _ _ (λ k d lt. after_later _ p _ here (behind k d lt)) in
-          let first : p ≡ page = cc in
-          let rest : filter (after_cursor cursor) pages ≡ more = cc in
-          subst (λ q. filter (after_cursor (Some q)) (p ∷ pages) ≡ more) first
-          (filter_out (after_cursor (Some p)) p pages (before_irrefl p) ∙ filter_all (after_cursor (Some p)) pages behind ∙ sym all ∙ rest)
+          grind (arith, filter_all, after_later)
       | inr before ↦
-          let found = sym (filter_out (after_cursor cursor) p pages before) ∙ is in
+          let found = sym (grind arith) ∙ is in
           let later = All-head (Before p) page _ (subst (All (Before p)) found (All-filter _ (Before p) _ behind)) in
           filter_out (after_cursor (Some page)) p pages (not_both p _ later)
           ∙ behind_first cursor pages page more (pairs_tail Before p _ rise) found
@@ -47,7 +43,7 @@ GoesDown t = (p q : GuestPage) → comes_before p q ≡ true → t q ≡ true �
 -- where a page is not behind a last one, no page before that page is
 pub up_to_down : (last : Option GuestPage) → GoesDown (up_to last)
 up_to_down None p q before is = refl
-up_to_down (Some last) p q before is = grind (arith, before_trans last p q)
+up_to_down (Some last) p q before is = grind arith
 
 -- where a page comes before another, each page before that page does
 pub before_down : (page : GuestPage) → GoesDown (λ p. comes_before p page)
@@ -64,7 +60,7 @@ module _ (t : GuestPage → Bool) (down : GoesDown t) where
       All-cons (λ q. t q ≡ false) p _ fails (λ k d lt. too (get_or pages k d) (pairs_head Before p _ rise k d lt))
     where
       too : (q : GuestPage) → comes_before p q ≡ true → t q ≡ false
-      too q later = grind (arith, down p q later)
+      too q later = grind arith
 
   -- the first pages, as many as pass, are those that pass
   pub take_down : (pages : List GuestPage) → AreAscending pages → take (length (filter t pages)) pages ≡ filter t pages
@@ -84,7 +80,7 @@ module _ (t : GuestPage → Bool) (down : GoesDown t) where
       elim (cases_Bool (t p)) [
         | inl passes ↦
             ap (λ l. p ∷ l) (parted pages (pairs_tail Before p _ rise))
-            ∙ sym (grind (arith, filter_in, filter_out fail p pages (ap not passes)))
+            ∙ sym (grind arith)
         | inr fails ↦
             let all = none_pass p _ rise fails in
             sym (ap₂ (λ some more. some ++ more) (filter_none t (p ∷ pages) all) (filter_all fail _ (λ k d lt. ap not (all k d lt))))
@@ -106,7 +102,7 @@ module _ (t : GuestPage → Bool) (down : GoesDown t) where
             let none = filter_none low (p ∷ pages) (λ k d lt. ap not (all k d lt)) in
             rw none
             (take_down (p ∷ pages) rise
-            ∙ filter_same t both (p ∷ pages) (λ k d lt. ap (λ a. a && t (get_or (p ∷ pages) k d)) (sym (all k d lt))))
+            ∙ filter_same t both (p ∷ pages) (grind arith))
         | inr below ↦
             elim (cases_Bool (t p)) [
               | inl passes ↦
@@ -115,7 +111,7 @@ module _ (t : GuestPage → Bool) (down : GoesDown t) where
                   let all = none_pass p _ rise fails in
                   let neither = filter_none both (p ∷ pages)
                   (λ k d lt. and_right (after_cursor cursor (get_or (p ∷ pages) k d)) _ (all k d lt)) in
-                  rw (filter_none t (p ∷ pages) all) (drop_of_length-le [] (omega arith) ∙ sym neither)
+                  rw (filter_none t (p ∷ pages) all) (grind arith)
             ]
       ]
 
@@ -125,20 +121,11 @@ pub place_splits : (pages : List GuestPage) (n : ℕ) (page : GuestPage) → Are
 place_splits [] n page rise at = cc
 place_splits (p ∷ pages) zero page rise at =
     let behind = pairs_head Before p pages rise in
-    let upto : GuestPage → Bool = λ q. not (comes_before p q) in
-    subst (λ x. (filter (λ q. comes_before q x) (p ∷ pages) ≡ []) × (filter (λ q. not (comes_before x q)) (p ∷ pages) ≡ p ∷ []))
-    (same_Some p _ at) (
-      filter_none (λ q. comes_before q p) (p ∷ pages)
-          (All-cons (λ q. comes_before q p ≡ false) p pages (before_irrefl p) (λ k d lt. not_both p (get_or pages k d) (behind k d lt))),
-      filter_in upto p pages (ap not (before_irrefl p)) ∙ ap (λ l. p ∷ l) (filter_none upto pages (λ k d lt. ap not (behind k d lt))),
-    )
+    grind (arith, filter_none, All-cons, not_both, filter_in)
 place_splits (p ∷ pages) (suc n) page rise at =
     let first = subst (Before p) (get_or_from_slice_get _ n _ page at)
     (pairs_head Before p _ rise n page (slice_get_within _ n _ at)) in
-    let rest = place_splits pages n page (pairs_tail Before p _ rise) at in (
-      rw (← rest.0) (filter_in (λ q. comes_before q page) p pages first),
-      rw (← rest.1) (filter_in (λ q. not (comes_before page q)) p pages (ap not (not_both p _ first))),
-    )
+    let rest = place_splits pages n page (pairs_tail Before p _ rise) at in grind (arith, not_both)
 
 -- a page that a list has stands at an index of the list
 pub place_of : (page : GuestPage) (pages : List GuestPage) → has_item page pages ≡ true → (n : ℕ) × (slice_get pages n ≡ Some page)
@@ -159,27 +146,16 @@ from_to_more pages first at page le is =
 -- the pages from a first index up to the greater of it and an end are the pages from it up to the end
 pub from_to_end : (pages : List GuestPage) (first at end : ℕ) → end ≤ at → at ≤ max first end → first ≤ at
     → from_to first at pages ≡ from_to first end pages
-from_to_end pages first at end past within le = elim (cases_lt first end) [
-  | inl less ↦ let same : at ≡ end = omega arith in rw same
-  | inr no_less ↦
-      let short : (n : ℕ) → n ≤ first → length (take n pages) ≤ first = λ n less. omega (arith, length-take n pages) in
-      drop_of_length-le (take at pages) (short at (omega arith))
-      ∙ sym (drop_of_length-le (take end pages) (short end no_less))
-]
+from_to_end pages first at end past within le = grind (arith, length-take, drop_of_length-le)
 
 -- the page at an index between first and end stands among the pages from first up to end
 pub between_at : (pages : List GuestPage) (first at end : ℕ) (page : GuestPage) → slice_get pages at ≡ Some page → first ≤ at → at < end
     → (at - first < length (from_to first end pages)) × (get_or (from_to first end pages) (at - first) page ≡ page)
-between_at pages first at end page is low high =
-    let within = slice_get_within _ at _ is in (
-      omega (arith, length-drop first (take end pages), length-take end pages),
-      get_or-drop first (take end pages) (at - first) page ∙ ap (λ n. get_or (take end pages) n page) (omega arith)
-          ∙ get_or-take end pages at page high ∙ get_or_from_slice_get _ at _ _ is,
-    )
+between_at pages first at end page is low high = grind (arith, slice_get_within, length-drop, length-take, get_or-drop, get_or-take, get_or_from_slice_get)
 
 -- pages behind a page are not that page
 not_behind : (p : GuestPage) (pages : List GuestPage) → All (Before p) pages → has_item p pages ≡ false
-not_behind p pages behind = list_any_none _ _ (λ k d lt. before_differs p _ (behind k d lt))
+not_behind p pages behind = grind (arith, list_any_none)
 
 has_first : (p : GuestPage) (pages : List GuestPage) → has_item p (p ∷ pages) ≡ true
 has_first p pages = rw (same_page_refl p)
@@ -190,8 +166,6 @@ no_earlier : (p q : GuestPage) (ps qs : List GuestPage) → AreAscending (q ∷ 
 no_earlier p q ps qs rise same =
     let behind : comes_before p q ≡ true → has_item p (q ∷ qs) ≡ false = λ before. not_behind p (q ∷ qs)
     (All-cons (Before p) q qs before (λ k d lt. before_trans p q (get_or qs k d) before (pairs_head Before q qs rise k d lt))) in
-    let first = has_first p ps in
-    let both = same p in
     grind arith
 
 -- ascending lists that have the same pages are the same
@@ -211,10 +185,10 @@ same_pages (p ∷ ps) (q ∷ qs) rise rise' same =
       | inl is ↦
           rw (← same_page_eq p x is) (not_behind p ps (pairs_head Before p ps rise) ∙ sym (not_behind p qs there))
       | inr differ ↦
-          grind (arith, differ, same x, ap (λ y. same_page y x) (sym first) ∙ differ)
+          grind (arith, same x)
     ]) in
     λ t. first t ∷ rest t
 
 -- a filtered list has a page exactly where the list has it and the page passes the test
 pub has_filter : (t : GuestPage → Bool) (x : GuestPage) (pages : List GuestPage) → has_item x (filter t pages) ≡ (t x && has_item x pages)
-has_filter t x pages = any-filter_same _ t (t x) (λ p is. ap t (same_page_eq p x is)) _
+has_filter t x pages = grind (arith, any-filter_same)

@@ -1,10 +1,10 @@
 -- A visited page makes a dup with the page that waits for it: what the keeper may do, and what becomes of the book.
-use Rattle.ksm_book.proofs.Names.{[], Add, All, All-contains_itself, ap, arith, BookState, BookView, Bool, change_row, change_rows, Contains, Contains-append_right, count_none, did, dup_of_row, DupRow, each_at_page, eq-eqb, false, filter, find_all, find_changed_other, find_passes, frames_of, GuestPage, IfSome, if◌then◌else◌, InPageOrder, IsFree, IsLaid, IsSound, IsVacant, item_count, joined_count, KeeperView, leaving, lies_on, List, list_any, lying, MakesSteps, MatchOption, May, MayLeave, MayPair, MeetsPage, Merged, merged_into, merged_state, MOST_REFERENCES, nat_lt, new_place, new_place_free, next_is_new, Option, ordered_change, PageState, PagesView, pairing, partner, Performs, place_count, Publish, refl, Row, row_at, row_visiting, same_page, shared_state, Some, state_of, Sub, subst, sym, true, waiting_state, waits_for, waits_tells, WaitsFor, with_dup, Withdraw, withdrawing, ℕ, ◌++◌, ◌+◌, ◌-◌, ◌<◌, ◌==◌, ◌||◌, ◌∙◌, ◌∷◌, ◌≡◌, ◌≤◌}
+use Rattle.ksm_book.proofs.Names.{[], Add, All, All-contains_itself, ap, arith, BookState, BookView, Bool, change_row, change_rows, Contains, Contains-append_right, count_none, did, dup_of_row, DupRow, each_at_page, eq-eqb, false, find_all, find_changed_other, find_passes, frames_of, GuestPage, IfSome, if◌then◌else◌, InPageOrder, IsFree, IsLaid, IsSound, IsVacant, item_count, joined_count, KeeperView, leaving, lies_on, List, list_any, MakesSteps, MatchOption, May, MayLeave, MayPair, MeetsPage, Merged, merged_into, merged_state, MOST_REFERENCES, new_place, new_place_free, next_is_new, Option, ordered_change, PageState, PagesView, partner, place_count, Publish, refl, Row, row_at, row_visiting, same_page, shared_state, Some, state_of, Sub, subst, sym, true, waiting_state, waits_for, waits_tells, WaitsFor, with_dup, Withdraw, withdrawing, ℕ, ◌++◌, ◌+◌, ◌-◌, ◌<◌, ◌==◌, ◌||◌, ◌∙◌, ◌∷◌, ◌≡◌, ◌≤◌}
 use Rattle.ksm_pages.specs.Paged.{paired as are_paired}
 use Rattle.ksm_book.proofs.Made.{made_one, made_then}
 use Rattle.ksm_book.proofs.Sharing.{laid_found, laid_joined, may_clear, may_found, may_join, may_part, spent_most, tree_is_home}
 use Rattle.ksm_book.proofs.ByPage.{at_changed}
-use Rattle.ksm_book.proofs.RowVisits.{Leads, Meets, at_row, leads, page_is, restless_own, there_is, stayed_is, filled_by}
+use Rattle.ksm_book.proofs.RowVisits.{Leads, Meets, at_row, leads, page_is, restless_own, there_is, filled_by}
 use Rattle.ksm_book.proofs.Promised.{finds_place}
 
 -- a row that waits is not shared
@@ -21,9 +21,7 @@ two_changes p q s [] = refl
 two_changes p q s (r ∷ rs) = grind (arith, two_changes p q s rs)
 
 contains_dup : (d : DupRow) (dups : List DupRow) → Contains (with_dup d dups) d
-contains_dup d dups =
-    let above = filter (λ e. nat_lt d.place e.place) dups in Contains-append_right (filter (λ e. nat_lt e.place d.place) dups) (d ∷ above) d
-    (0, omega arith, refl)
+contains_dup d dups = grind (arith, Contains-append_right)
 
 -- a visited page meets another one as its partner, and is to make a dup with it at the place for a new dup
 module _ (other : GuestPage) {p : PagesView} {k : KeeperView} {cursor : Option GuestPage} {passes : ℕ} {v : BookView} {one page : GuestPage}
@@ -78,7 +76,7 @@ module _ (other : GuestPage) {p : PagesView} {k : KeeperView} {cursor : Option G
   vacant : IsVacant place p.rows p.dups
   vacant = λ n d lt same.
       let free = subst (IsFree b) (sym chosen) (new_place_free b s) in
-      grind (arith, free.apart n d lt)
+      grind arith
 
   fresh : All (λ r. merged_into p.next r.state ≡ false) p.rows
   fresh = next_is_new b s
@@ -92,7 +90,7 @@ module _ (other : GuestPage) {p : PagesView} {k : KeeperView} {cursor : Option G
     apart = tells.other;
     inside = inside;
     vacant = vacant;
-    number = (omega (arith, spent_most h));
+    number = omega (arith, spent_most h);
     fresh = fresh;
   }
 
@@ -102,7 +100,7 @@ module _ (other : GuestPage) {p : PagesView} {k : KeeperView} {cursor : Option G
 
   -- and at the page that was told
   pub waits_one : row_at one p.rows ≡ Some w
-  waits_one = grind (arith, is, met.2, waits_at)
+  waits_one = grind (arith, waits_at)
 
   -- the two pages may become the items of a new dup at the place
   pub pair_may : MatchOption (row_at one p.rows) (true ≡ false) (λ r. MatchOption (row_at page p.rows) (true ≡ false) (MayPair p place r))
@@ -173,7 +171,7 @@ module _ (other : GuestPage) {p : PagesView} {k : KeeperView} {cursor : Option G
           both = grind (arith, at_page, two_changes)
 
           q_is : q ≡ record first { rows = change_row page change first.rows; frame = lies_on page (Some f) p.frame }
-          q_is = grind (arith, goes, both, at_page, lies)
+          q_is = grind (arith, goes, both, at_page)
 
           all_steps : MakesSteps k l (withdrawing p.dups place ++ (Publish place f ∷ Add f ∷ leaving (p.frame page)))
           all_steps = made_then clears (made_then (made_one k1 k2 _ 0 shown) steps)
@@ -183,14 +181,12 @@ module _ (other : GuestPage) {p : PagesView} {k : KeeperView} {cursor : Option G
                 (Publish place f ∷ Add f ∷ leaving (p.frame page));
             frame = lies_on page (Some f) p.frame;
           }
-          deed_is = (stayed_is b _ row false at.so.0).1 ∙ ap (λ o. pairing o b p.frame row) met.1
-              ∙ (grind (arith, chosen, lies, at_page))
+          deed_is = grind (arith, at_page)
 
           -- once the two pages are the items of a new dup, on one frame, the book is what the visit leads to
           pub pair_leads : Leads v q l cursor passes page
           pair_leads = leads at q l at.so.0.restless
               (rw q_is
               (laid_joined first_laid first_rise _ row _ row_still item_at f lies refl change (λ r. refl) refl (sym tells.bytes)
-              l p.restless steps)) (rw goes (grind (arith, chosen, (stayed_is b p.frame row false at.so.0).0, met.1)))
-              (subst (Performs (lying p k) (lying q l)) (sym deed_is) (record
-              { made = all_steps; frame = rw q_is }))
+              l p.restless steps)) (rw goes (grind (arith, met.1)))
+              (grind (arith, deed_is, all_steps, q_is))

@@ -1,5 +1,5 @@
 -- The beginning of a part of a pass: it changes only which rows wait, and what is due stays so where the cursor moves.
-use Rattle.ksm_book.proofs.Names.{ap, AreDue, BookState, BookValue, Comes, cond_both, Deed, GuestPage, InPageOrder, IsStill, List, pages_ahead, pass_begun, pass_ended_at_last, Reached, refl, sym, visit_begun, ◌∙◌, ◌≡◌, arith}
+use Rattle.ksm_book.proofs.Names.{AreDue, BookState, BookValue, Comes, cond_both, Deed, GuestPage, InPageOrder, IsStill, List, pages_ahead, pass_begun, pass_ended_at_last, Reached, visit_begun, ◌≡◌, arith}
 use Rattle.ksm_book.proofs.Folded.{settled_twice}
 use Rattle.ksm_book.proofs.Reached.{comes_to, first, in_order}
 use Rattle.ksm_book.proofs.Scanned.{begun_ahead}
@@ -12,16 +12,11 @@ begun_cursor b = grind arith
 
 -- as a pass begins nothing changes but which rows wait
 pub begins_still : {X : Type 0} (s : BookState × X) → IsStill s (pass_begun s.0, s.1)
-begins_still {X} s =
-    cond_both _ _ s.0 (λ b. IsStill {X = X} s (b, s.1))
-    (λ _. record { rest = refl; rows = settled_twice _; beside = refl })
-    (λ _. record { rest = refl; rows = refl; beside = refl })
+begins_still {X} s = grind (arith, settled_twice)
 
 -- what changed only which rows wait changed no more once a pass begins
 pub begun_still : {X : Type 0} (b : BookState) (x : X) (new : BookState × X) → IsStill (b, x) new → IsStill (pass_begun b, x) new
-begun_still {X} b x new still =
-    cond_both _ _ b (λ c. IsStill {X = X} (c, x) new)
-    (λ _. record { rest = still.rest; rows = still.rows ∙ sym (settled_twice _); beside = still.beside }) (λ _. still)
+begun_still {X} b x new still = grind (arith, settled_twice)
 
 -- the book where the pass was ended, if it had gone through all pages, and what a visit finds as it begins
 pub record Closes (w : BookValue) (b : BookState) : Type 0 where
@@ -37,7 +32,7 @@ pub closed : (v w : BookValue) → InPageOrder v.state.rows → Comes v w (λ s.
     → (from : BookValue) (s : BookState × Deed) → Reached from v s → Closes w s.0
 closed v w rise comes from s before =
     let at = in_order v w rise comes from s before in
-    record { order = at.0; state = at.1; ahead = ap pages_ahead at.1 ∙ sym (begun_ahead (pass_ended_at_last s.0)) }
+    grind (arith, begun_ahead)
 
 -- ---------------------------------------------------------------- what is due
 

@@ -1,11 +1,10 @@
 -- A lawful placement says the sentences that are promised, and so a new dup finds a place.
-use Rattle.ksm_book.proofs.Names.{eqb-true, find_passes, eq-eqb, [], All, All-filter, All-head, All-map, All-tail, AllPairs, AllPairs-cons, AllPairs-filter, ap, arith, BookState, Bool, cases_Bool, Contains, Contains-append_left, Contains-append_right, count_by, count_more, counts_one, dup_frames, dup_of_item, DupRow, false, Filling, filter, filter_passes, FitsBase, frame_at, frame_number, Frames, get_or, GuestPage, has_items, HasItsOwn, home_of_item, inl, inr, is_frame, is_in_use, is_some, IsOutlived, IsServed, IsSound, item_count, Kind, kind_for, Ledger, length, LieOn, Life, life_or, List, lt-ltb, map, merged_into, named_at, nat_tests, None, none_counted, not, not-true, Option, own_frames, PageState, pairs_append, place_frame, Placed, Private, refl, Row, row_at, shared_state, Some, Stable, StandsOn, subst, sym, true, uses, zero_state, ℕ, ◌++◌, ◌+◌, ◌<◌, ◌==◌, ◌∙◌, ◌∷◌, ◌≡◌, ◌≢◌, ◌≤◌, if◌then◌else◌, get_or-map, length-map, All-append, frames_of, FindsPlace, place_or, find, is_stale, cond_both, ltb-true, find_all, empty_from, length-le_from_distinct_below, IsDistinct-from_apart, ne_eqb, Contains-from_any, eqb, length-append, All-contains_itself, pairs_mapped}
+use Rattle.ksm_book.proofs.Names.{eqb-true, find_passes, eq-eqb, [], All, All-filter, All-head, All-map, All-tail, AllPairs, AllPairs-cons, AllPairs-filter, ap, arith, BookState, Bool, cases_Bool, Contains, Contains-append_left, Contains-append_right, count_by, count_more, counts_one, dup_frames, DupRow, false, Filling, filter, filter_passes, FitsBase, frame_at, frame_number, Frames, get_or, GuestPage, has_items, HasItsOwn, home_of_item, inl, inr, is_frame, is_in_use, is_some, IsOutlived, IsServed, IsSound, item_count, Kind, kind_for, Ledger, length, LieOn, Life, life_or, List, lt-ltb, map, merged_into, named_at, None, none_counted, not, not-true, Option, own_frames, PageState, pairs_append, place_frame, Placed, Private, refl, Row, row_at, shared_state, Some, Stable, StandsOn, subst, sym, true, uses, zero_state, ℕ, ◌++◌, ◌+◌, ◌<◌, ◌==◌, ◌∙◌, ◌∷◌, ◌≡◌, ◌≢◌, ◌≤◌, if◌then◌else◌, get_or-map, length-map, All-append, frames_of, FindsPlace, place_or, find, is_stale, cond_both, ltb-true, find_all, empty_from, length-le_from_distinct_below, IsDistinct-from_apart, Contains-from_any, eqb, length-append, All-contains_itself, pairs_mapped}
 use Rattle.ksm_base.proofs.Changes.{contains_filter}
-use Rattle.ksm_book.proofs.ByPage.{is_that}
-use Rattle.ksm_book.proofs.Laying.{own_kind, own_framed, number_of_kind}
-use Rattle.ksm_book.proofs.Moves.{base_is_items, stale_is_loose, framed}
+use Rattle.ksm_book.proofs.Laying.{number_of_kind}
+use Rattle.ksm_book.proofs.Moves.{base_is_items, stale_is_loose}
 use Rattle.ksm_book.proofs.Standing.{Lives, frames_apart, lives, empty_from_most}
-use Rattle.ksm_book.proofs.Sharing.{first_found, state_of_item}
+use Rattle.ksm_book.proofs.Sharing.{first_found}
 use Rattle.std.proofs.lemmas.List.Elements.{Contains-get_or}
 use Rattle.ksm_book.proofs.Pruning.{none_stale}
 
@@ -25,8 +24,8 @@ once_each (x ∷ xs) once =
     let more = count_more (λ g. g == x) x xs in
     let none : count_by (λ g. g == x) xs ≡ 0 = grind arith in
     let apart = none_counted _ xs none in
-    AllPairs-cons R x xs (λ k d lt same. let other = apart k d lt in absurd (grind (arith, nat_tests)))
-    (once_each xs (λ k d lt. let f = get_or xs k d in let all = All-tail P x xs once k d lt in let more = count_more (λ g. g == f) x xs in grind arith))
+    AllPairs-cons R x xs (grind arith)
+    (once_each xs (λ k d lt. let f = get_or xs k d in let all = All-tail P x xs once k d lt in grind arith))
 
 -- a frame is a row's own at most as often as rows lie on it
 own_count : (f : ℕ) (frame : Frames) (rows : List Row) → All (λ r. shared_state r.state ≡ false → (g : ℕ) × (frame r.page ≡ Some g)) rows → count_by (λ g. g == f) (own_frames rows frame) ≤ uses f frame rows
@@ -40,7 +39,7 @@ own_count f frame (r ∷ rows) all =
       | inl shared ↦ grind arith
       | inr own ↦
           let is = (here own).1 in
-          let list : own_frames (r ∷ rows) frame ≡ frame_number (frame r.page) ∷ own_frames rows frame = grind (arith, own) in
+          let list : own_frames (r ∷ rows) frame ≡ frame_number (frame r.page) ∷ own_frames rows frame = grind arith in
           let count = ap (count_by (λ g. g == f)) list ∙ count_more (λ g. g == f) (frame_number (frame r.page)) (own_frames rows frame) in
           let number = ap {B = ℕ} (λ n. if n == f then 1 else 0) (ap frame_number is) in
           let test = ap {B = ℕ} (λ (o : Option ℕ). if is_frame f o then 1 else 0) is in
@@ -72,20 +71,7 @@ module _ (b : BookState) (k : Ledger) (s : IsSound b) (frame : Frames) (p : Plac
 
   -- a row that is not shared has its own frame
   owns : All (λ r. shared_state r.state ≡ false → (f : ℕ) × (frame r.page ≡ Some f) × HasItsOwn b.shape k r f) b.rows
-  owns i r0 lt alone =
-      let has = framed _ k _ _ _ (own_framed _ alone) (p.each_row i r0 lt) in
-      let fits = has.2.0 in
-      let kind = fits.kind ∙ own_kind _ alone in (
-        has.0,
-        has.1,
-        record {
-          exists = fits.frame;
-          kind = kind;
-          base = grind (arith, kind, p.kinds has.0);
-          node = fits.node alone;
-          content = fits.content;
-        },
-      )
+  owns i r0 lt alone = grind arith
 
   -- a Zero row has no frame, and only zeroes
   zero_none : (r : Row) (o : Option ℕ) → IsServed b.shape k b.dups r o → zero_state r.state ≡ true → o ≡ None
@@ -96,7 +82,6 @@ module _ (b : BookState) (k : Ledger) (s : IsSound b) (frame : Frames) (p : Plac
 
   stands : All (λ d. has_items b.rows d ≡ true → StandsOn b k d (place_frame k d.place)) b.dups
   stands n d lt some =
-      let e = get_or b.dups n d in
       let fit = p.each_dup n d lt in
       let a = dup_lives n d lt some in
       record {
@@ -106,7 +91,7 @@ module _ (b : BookState) (k : Ledger) (s : IsSound b) (frame : Frames) (p : Plac
         base = base_is_items p n d lt a.life;
         limit = s.limit n d lt;
         content = fit.content a.life;
-        bytes = λ j r l into. sym (dup_of_item b s n d lt j r l into).bytes;
+        bytes = grind arith;
         homes = λ z. home_of_item b s z n d lt;
         node = fit.node;
       }
@@ -120,7 +105,6 @@ module _ (b : BookState) (k : Ledger) (s : IsSound b) (frame : Frames) (p : Plac
   own_distinct = once_each own (λ i d lt.
       let f = get_or own i d in
       let one = subst (λ (x : Kind). FitsBase x (frame_at k f).base) (own_kinds i d lt) (p.kinds f) in
-      let listed = p.bases f in
       let few = own_count f frame b.rows (λ i r lt alone. let o = owns i r lt alone in (o.0, o.1)) in
       omega arith)
 
@@ -154,7 +138,7 @@ module _ (b : BookState) (k : Ledger) (s : IsSound b) (frame : Frames) (p : Plac
       let test : Row → Bool = λ r. is_frame f (frame r.page) in
       let first = first_found test rows some in
       let at = find_all test (Contains rows) rows first.0 first.1 (All-contains_itself rows) in
-      (at.0, first.0, at.1, rw at.2 (is_that f (frame first.0.page) (find_passes test rows first.0 first.1)))
+      grind (arith, find_passes)
 
   own_listed : (f i : ℕ) (r : Row) → i < length b.rows → frame (get_or b.rows i r).page ≡ Some f → (frame_at k f).kind ≡ Private → Contains (own ++ shown) f
   own_listed f i r lt is kind =
@@ -169,8 +153,7 @@ module _ (b : BookState) (k : Ledger) (s : IsSound b) (frame : Frames) (p : Plac
       let number = number_of_kind _ (sym fits.0.kind ∙ kind) in
       let its = s.items i r lt _ number.1 in
       let at = find_all (λ d. d.number == number.0) (Contains b.dups) b.dups its.0 its.1.stands (All-contains_itself b.dups) in
-      let into = ap (merged_into (get_or b.dups at.0 its.0).number) number.1 ∙ eq-eqb number.0 (get_or b.dups at.0 its.0).number (sym (rw at.2
-      (eqb-true its.0.number number.0 (find_passes (λ d. d.number == number.0) b.dups its.0 its.1.stands)))) in
+      let into = ap (merged_into (get_or b.dups at.0 its.0).number) number.1 ∙ eq-eqb number.0 (get_or b.dups at.0 its.0).number (grind (arith, find_passes)) in
       let counted = counts_one _ _ i r lt into in
       let there = passing (λ d. place_frame k d.place) _ _ _ _ at.1 (lt-ltb 0 (item_count b.rows (get_or b.dups at.0 its.0)) counted) in
       Contains-append_right own _ f (subst (Contains shown) (sym ((fits.1 at.0 its.0 at.1).item into).0) there)
@@ -179,7 +162,7 @@ module _ (b : BookState) (k : Ledger) (s : IsSound b) (frame : Frames) (p : Plac
   in_use_listed f used = go _ refl used
     where
       at_row : 1 ≤ (frame_at k f).base → (i : ℕ) × (r : Row) × (i < length b.rows) × (frame (get_or b.rows i r).page ≡ Some f)
-      at_row some = let used = p.bases f in row_on f _ (omega arith)
+      at_row some = row_on f _ (omega arith)
 
       fits_as : {kind : Kind} → (frame_at k f).kind ≡ kind → FitsBase kind (frame_at k f).base
       fits_as is = rw (← is) (p.kinds f)
@@ -201,12 +184,9 @@ module _ (b : BookState) (k : Ledger) (s : IsSound b) (frame : Frames) (p : Plac
   -- a sound book lies on its frames as promised, where it is placed lawfully and pages without a row lie on none
   pub lie_on : ((page : GuestPage) → row_at page b.rows ≡ None → frame page ≡ None) → LieOn b frame k
   lie_on absent = record {
-    own = λ i r lt alone. let o = owns i r lt alone in
-        rw o.1 o.2;
-    merged = λ i r lt n d l into.
-        let has = framed _ k _ _ _ (ap zero_state (state_of_item _ _ into)) (p.each_row i r lt) in
-        has.1 ∙ ap Some ((has.2.1 n d l).item into).0;
-    zero = λ i r lt zero_is. (zero_none _ _ (p.each_row i r lt) zero_is, s.zero i r lt zero_is);
+    own = grind arith;
+    merged = grind arith;
+    zero = λ i r lt zero_is. (grind arith);
     absent = absent;
     dups = stands;
     distinct = all_distinct;
@@ -221,7 +201,7 @@ module _ (b : BookState) (k : Ledger) (s : IsSound b) (frame : Frames) (p : Plac
       (all_own (λ f. f < frames_of b.shape) _ frame (λ i r lt alone. let o = owns i r lt alone in
       rw o.1 o.2.exists))
       (All-map (λ f. f < frames_of b.shape) _ _
-      (All-filter _ (λ d. place_frame k d.place < frames_of b.shape) _ (λ n d lt. (p.each_dup n d lt).frame)))
+      (grind arith))
 
   -- beside a page with a frame of its own a new dup finds a place: where no dup is stale, each has a frame, and the page's is one more
   pub finds_place : FindsPlace b
@@ -236,9 +216,8 @@ module _ (b : BookState) (k : Ledger) (s : IsSound b) (frame : Frames) (p : Plac
       go None is =
           let listed = passing (λ r. frame_number (frame r.page)) (λ r. not (shared_state r.state)) b.rows has.0 row has.1
           (rw has.2 (ap not alone)) in
-          let some = listed.1 in
           let most = length-le_from_distinct_below (own ++ shown) (frames_of b.shape)
-          (IsDistinct-from_apart eqb (own ++ shown) (λ n m f before lt. ne_eqb _ _ (all_distinct n m f before lt)))
+          (grind (arith, IsDistinct-from_apart, all_distinct))
           (λ q in_it. let at = Contains-from_any {eq = eqb} (λ x y e. eqb-true x y e) q (own ++ shown) in_it in
           rw (← at.2) (inside at.0 q at.1)) in
           omega (

@@ -10,8 +10,8 @@ use Rattle.ksm_pages.proofs.Options.{mapped_some, none_mapped}
 pub stale_vacant : (rows : List Row) (dups : List DupRow) (d : DupRow) → InPlaceOrder dups → find (is_stale rows) dups ≡ Some d → IsVacant d.place rows dups
 stale_vacant rows dups d rise found k x lt same =
     let once = find_all (is_stale rows) (λ e. All (λ y. (y.place == e.place) ≡ true → y ≡ e) dups) dups d found (one_of_each_place dups rise) in
-    let is = once k x lt (eq-eqb (get_or dups k x).place d.place same) in
-    ap (item_count rows) is ∙ eqb-true (item_count rows d) 0 (find_passes (is_stale rows) dups d found)
+    let is = once k x lt (grind (arith, eq-eqb)) in
+    grind (arith, eqb-true, find_passes)
 
 -- where no stale dup is found, all dups have items
 pub none_stale : (rows : List Row) (dups : List DupRow) → find (is_stale rows) dups ≡ None → filter (has_items rows) dups ≡ dups
@@ -157,10 +157,7 @@ module _ {p q : PagesView} {k l : KeeperView} {count : ℕ} (h : Drops p q k l c
   dropped =
       let all = h.all
       ∙ ap (λ ds. h.gone ++ ds) (filter_none (is_stale p.rows) q.dups (find_none (is_stale p.rows) q.dups none)) ∙ append-nil h.gone in (
-        h.pages ∙ (λ t. record p { dups = (sym (none_stale p.rows _ none) ∙ h.live) t }),
+        h.pages ∙ (grind (arith, none_stale)),
         h.many ∙ ap length (sym all) ∙ length-filter (is_stale p.rows) p.dups,
-        record {
-          made = rw all h.made;
-          frame = rw h.pages;
-        },
+        grind arith,
       )

@@ -1,32 +1,24 @@
 -- A dup moves to another frame, with all of its items.
-use Rattle.ksm_book.proofs.Names.{Agrees, All, ap, arith, blank, Bool, cond, count_none, DupFits, DupRow, Dying, eq-eqb, FitsBase, frame_at, Frames, frames_of, Free, GenerationFits, get_or, get_or-set_other, get_or-set_same, GuestPage, instead, is_frame, is_some, IsInLife, IsServed, Kind, kind_for, Ledger, length, length-set, Life, life_or, List, merged_into, named_at, ne_eqb, node_of, None, none_counted, Note, Option, PAGE_WORDS, PageState, place_frame, place_life, Placed, Private, refl, Row, RowFits, same_Some, set, Shape, shared_state, Some, Stable, subst, sym, true, uses, ℕ, ◌+◌, ◌<◌, ◌∙◌, ◌≡◌, ◌≢◌, ◌≤◌, count_alike}
+use Rattle.ksm_book.proofs.Names.{Agrees, All, ap, arith, Bool, cond, count_none, DupFits, DupRow, Dying, eq-eqb, FitsBase, frame_at, Frames, frames_of, Free, GenerationFits, get_or, get_or-set_other, get_or-set_same, GuestPage, instead, is_frame, is_some, IsInLife, IsServed, kind_for, Ledger, length, length-set, Life, life_or, List, named_at, ne_eqb, node_of, None, none_counted, Note, Option, PAGE_WORDS, place_frame, place_life, Placed, Private, refl, Row, RowFits, same_Some, set, Shape, Some, Stable, subst, sym, uses, ℕ, ◌+◌, ◌<◌, ◌∙◌, ◌≡◌, ◌≢◌, ◌≤◌, count_alike}
 use mathlib.Core.Logic.{dite}
 use native.Mathlib.Decide.{ℕ_discrete}
-use Rattle.ksm_book.proofs.ByPage.{frame_cases, not_on, uses_some}
+use Rattle.ksm_book.proofs.ByPage.{frame_cases, not_on}
 use Rattle.ksm_book.proofs.Moves.{Serves}
-use Rattle.ksm_book.proofs.Laying.{number_of_kind}
-
-one_number : (s : PageState) (m n : ℕ) → merged_into m s ≡ true → merged_into n s ≡ true → n ≡ m
-one_number s m n a b = grind arith
 
 -- where frame g comes in the stead of f, a page that lay on f lies on g
 instead_here : (f g : ℕ) (frame : Frames) (page : GuestPage) → frame page ≡ Some f → instead f g frame page ≡ Some g
 instead_here f g frame page e = rw (e, (eq-eqb f f refl))
 
--- where frame g comes in the stead of f, a page that did not lie on f lies where it lay
-pub instead_there : (f g : ℕ) (frame : Frames) (page : GuestPage) → frame page ≢ Some f → instead f g frame page ≡ frame page
-instead_there f g frame page ne = rw (not_on f _ ne)
-
 -- those that lay on f lie on g, and none lies on f any more
 module _ (f g : ℕ) (frame : Frames) (rows : List Row) where
   uses_new : uses g frame rows ≡ 0 → uses g (instead f g frame) rows ≡ uses f frame rows
-  uses_new none = grind (arith, count_alike, frame_cases, instead_here, instead_there, none_counted, not_on)
+  uses_new none = grind (arith, count_alike, instead_here, none_counted, not_on)
 
   uses_old : g ≢ f → uses f (instead f g frame) rows ≡ 0
-  uses_old ne = grind (arith, count_none, frame_cases, instead_here, not_on, same_Some, instead_there)
+  uses_old ne = grind (arith, count_none, instead_here, not_on, same_Some)
 
   uses_still : (x : ℕ) → x ≢ f → x ≢ g → uses x (instead f g frame) rows ≡ uses x frame rows
-  uses_still x nf ng = grind (arith, count_alike, frame_cases, instead_here, not_on, same_Some, instead_there)
+  uses_still x nf ng = grind (arith, frame_cases, instead_here, not_on, same_Some)
 
 -- one of the dups moves from the frame that its place names to another
 module _ {sh : Shape} {across : ℕ} {k : Ledger} {rows : List Row} {frame : Frames} {dups : List DupRow}
@@ -66,24 +58,16 @@ module _ {sh : Shape} {across : ℕ} {k : Ledger} {rows : List Row} {frame : Fra
     some = grind arith
 
     at : (P : Note → Type 0) (h : ℕ) → (h ≡ g → P mounted) → (h ≡ left → P dead) → (h ≢ g → h ≢ left → P (frame_at k h)) → P (frame_at next h)
-    at P h here there else' =
-        let long = p.frames_long in
-        let long' = length-set k.frames left dead in
-        let low = subst (λ x. x < frames_of sh) (sym leaves) fits.frame in
-        dite (ℕ_discrete h g)
-        (λ e. grind (arith, e, get_or-set_same (set k.frames left dead) g mounted blank (omega arith), here e))
-        (λ ne. subst P (sym (get_or-set_other (set k.frames left dead) g h mounted blank ne)) (dite (ℕ_discrete h left)
-        (λ e. subst P (sym (rw e (get_or-set_same k.frames left dead blank (omega arith)))) (there e))
-        (λ off. subst P (sym (get_or-set_other k.frames left h dead blank off)) (else' ne off))))
+    at P h here there else' = grind (arith, length-set, get_or-set_same, get_or-set_other)
 
     named : named_at next q ≡ Some life
-    named = let pl = p.places_long in let low = fits.place in get_or-set_same k.places q (Some life) None (omega arith)
+    named = grind (arith, get_or-set_same)
 
     named_off : (e : ℕ) → e ≢ q → named_at next e ≡ named_at k e
     named_off e ne = get_or-set_other k.places q e (Some life) None ne
 
     frame_is : {e : ℕ} → e ≡ q → place_frame next e ≡ g
-    frame_is same = grind (arith, same, named)
+    frame_is same = grind (arith, named)
 
     frame_off : (e : ℕ) → e ≢ q → place_frame next e ≡ place_frame k e
     frame_off e ne = grind (arith, named_off e ne)
@@ -123,51 +107,29 @@ module _ {sh : Shape} {across : ℕ} {k : Ledger} {rows : List Row} {frame : Fra
       moved_row e = record {
         mapped = was.mapped;
         frame = inside;
-        kind = at_g (λ x. x.kind ≡ kind_for r.state) (sym stable ∙ ap (λ h. (frame_at k h).kind) (sym e) ∙ was.kind);
+        kind = at_g (λ x. x.kind ≡ kind_for r.state) (grind arith);
         content = at_g (λ x. x.content ≡ r.bytes) (rw (← e) was.content);
         given = at_g (λ x. 1 ≤ x.generation) (omega arith);
-        node = λ alone. absurd (grind (
-          arith,
-          ap shared_state (number_of_kind r.state (sym was.kind ∙ ap (λ h. (frame_at k h).kind) e ∙ stable)).1,
-        ));
+        node = grind arith;
       }
 
       moved_agrees : f ≡ left → (e : DupRow) → DupFits sh across k e → (e.place ≢ q → e.number ≢ moving.number) → Agrees k r f e → Agrees next r g e
       moved_agrees is e m others a = dite (ℕ_discrete e.place q)
-          (λ same. record {
-            item = λ _. (sym (frame_is same), is_in_life same);
-            back = λ _ _. a.back (rw same in_life) (grind (arith, is, leaves, same));
-          })
+          (grind (arith, frame_is, is_in_life))
           (λ ne. record {
-            item = grind (arith, one_number);
+            item = grind arith;
             back = λ l t. absurd ((off e m ne l).1 (sym (frame_off _ ne) ∙ sym t));
           })
 
       still_row : f ≢ left → RowFits sh next r f
       still_row ne =
           let same = at (λ x. x ≡ frame_at k f) f (λ e. absurd (far e)) (λ e. absurd (ne e)) (λ _ _. refl) in
-          record {
-            mapped = was.mapped;
-            frame = was.frame;
-            kind = rw same was.kind;
-            content = rw same was.content;
-            given = rw same was.given;
-            node = was.node;
-          }
+          grind arith
 
       still_agrees : f ≢ left → (e : DupRow) → DupFits sh across k e → Agrees k r f e → Agrees next r f e
       still_agrees not' e m a = dite (ℕ_discrete e.place q)
-          (λ same. record {
-            item = grind (arith, a.item);
-            back = λ _ t. absurd (far (t ∙ frame_is same));
-          })
-          (λ ne. record {
-            item = λ t. let y = a.item t in (
-              y.0 ∙ sym (frame_off _ ne),
-              rw (frame_off _ ne ∙ sym y.0) (grind (arith, same_life f far, y.0, y.1, life_off)),
-            );
-            back = λ l t. a.back (off e m ne l).0 (t ∙ frame_off _ ne);
-          })
+          (grind (arith, frame_is))
+          (grind (arith, frame_off, same_life, life_off))
 
     served : (r : Row) (o : Option ℕ) → o ≢ Some g → IsServed sh k dups r o → IsServed sh next dups r (cond (is_frame left o) (Some g) o)
     served r None other h = h
@@ -186,11 +148,11 @@ module _ {sh : Shape} {across : ℕ} {k : Ledger} {rows : List Row} {frame : Fra
           place = m.place;
           named = rw same (ap is_some named);
           frame = rw fr inside;
-          life = (let l = is_in_life same in omega arith);
+          life = grind (arith, is_in_life);
           content = λ _. rw fr
-              (at_g (λ x. x.content ≡ e.bytes) (ap (λ x. (frame_at k x).content) (leaves ∙ ap (place_frame k) (sym same)) ∙ m.content (rw same in_life)));
-          shown = λ _ own. at_g (λ x. x.kind ≡ Private → ⊥) (λ bad. cc) (ap (λ h. (frame_at next h).kind) (sym fr) ∙ own);
-          node = λ z. ap (node_of sh) fr ∙ node z ∙ ap (node_of sh) (leaves ∙ ap (place_frame k) (sym same)) ∙ m.node z;
+              (at_g (λ x. x.content ≡ e.bytes) (grind arith));
+          shown = λ _ own. at_g (λ x. x.kind ≡ Private → ⊥) (λ bad. cc) (grind arith);
+          node = grind arith;
         }
 
     dup_there : (e : DupRow) → e.place ≢ q → DupFits sh across k e → DupFits sh across next e
@@ -199,14 +161,14 @@ module _ {sh : Shape} {across : ℕ} {k : Ledger} {rows : List Row} {frame : Fra
         let h : ℕ = place_frame k e.place in
         record {
           place = m.place;
-          named = ap is_some (named_off e.place ne) ∙ m.named;
+          named = grind (arith, named_off);
           frame = rw fo m.frame;
-          life = subst (λ (x : ℕ × ℕ). x.0 ≤ x.1) (λ t. (sym (life_off _ ne) t, ap (λ y. (frame_at next y).generation) (sym fo) t))
+          life = subst (λ (x : ℕ × ℕ). x.0 ≤ x.1) (grind (arith, life_off))
               (at (λ x. place_life k e.place ≤ x.generation) h
               (λ same. let old : place_life k e.place ≤ (frame_at k g).generation = rw (← same) m.life in omega arith)
               (λ same. rw (← same) m.life) (λ _ _. m.life));
           content = λ l. let o = off e m ne l in rw fo
-              (at (λ x. x.content ≡ e.bytes) h (λ same. absurd (o.1 same)) (λ same. ap (λ y. (frame_at k y).content) (sym same) ∙ m.content o.0) (λ _ _. m.content o.0));
+              (at (λ x. x.content ≡ e.bytes) h (λ same. absurd (o.1 same)) (grind arith) (λ _ _. m.content o.0));
           shown = λ l own. let o = off e m ne l in at (λ x. x.kind ≡ Private → ⊥) h (λ same. absurd (o.1 same)) (λ _ bad. cc) (λ _ _. m.shown o.0) (rw (← fo)
               own);
           node = λ z. ap (node_of sh) fo ∙ m.node z;
@@ -215,20 +177,19 @@ module _ {sh : Shape} {across : ℕ} {k : Ledger} {rows : List Row} {frame : Fra
     -- rows and dups lie lawfully once a dup has moved from its Stable frame to a free one, with all of its items
     pub remounted : Placed sh across next rows (instead left g frame) dups None
     remounted = record {
-      frames_long = length-set (set k.frames left dead) g mounted ∙ length-set k.frames left dead ∙ p.frames_long;
-      places_long = length-set k.places q (Some life) ∙ p.places_long;
+      frames_long = grind (arith, length-set);
+      places_long = grind (arith, length-set);
       widths = λ h. at (λ x. length x.content ≡ PAGE_WORDS) h (λ _. p.widths left) (λ _. p.widths left) (λ _ _. p.widths h);
       lives = λ h. at (λ x. GenerationFits sh.last_generation x.kind x.generation) h
-          (λ _. let below : (frame_at k g).generation < sh.last_generation = subst (λ (x : Kind). GenerationFits sh.last_generation x (frame_at k g).generation) free (p.lives g) in (omega arith, omega arith))
-          (λ _. subst (λ (x : Kind). GenerationFits sh.last_generation x (frame_at k left).generation) stable (p.lives left))
+          (λ _. let below : (frame_at k g).generation < sh.last_generation = grind arith in (omega arith, omega arith))
+          (grind arith)
           (λ _ _. p.lives h);
-      each_row = λ i r0 low. let r = get_or rows i r0 in served r (frame r.page)
-          (λ e. (omega (arith, unused, uses_some g frame rows i r0 low e))) (p.each_row i r0 low);
+      each_row = grind (arith, served);
       each_dup = λ m x l. dite (ℕ_discrete (get_or dups m x).place q) (λ same. dup_here (get_or dups m x) same (p.each_dup m x l)) (λ ne. dup_there (get_or dups m x) ne (p.each_dup m x l));
       bases = λ h. at (λ x. x.base ≡ uses h (instead left g frame) rows + 0) h
           (λ e. let new : uses h (instead left g frame) rows ≡ uses left frame rows = rw e (uses_new left g frame rows unused) in let old : (frame_at k left).base ≡ uses left frame rows + 0 = p.bases left in omega arith)
           (λ e. let none : uses h (instead left g frame) rows ≡ 0 = rw e (uses_old left g frame rows apart) in omega arith)
-          (λ ng nf. let still : uses h (instead left g frame) rows ≡ uses h frame rows = uses_still left g frame rows h nf ng in let old : (frame_at k h).base ≡ uses h frame rows + 0 = p.bases h in omega arith);
+          (λ ng nf. let still : uses h (instead left g frame) rows ≡ uses h frame rows = uses_still left g frame rows h nf ng in omega arith);
       kinds = λ h. at (λ x. FitsBase x.kind x.base) h (λ _. some) (λ _. refl) (λ _ _. p.kinds h);
-      empty = λ e none. dite (ℕ_discrete e q) (λ same. absurd (among (λ d. d.place ≢ e) none (sym same))) (λ ne. named_off e ne ∙ p.empty e none);
+      empty = grind (arith, named_off);
     }

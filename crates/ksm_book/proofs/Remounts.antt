@@ -1,14 +1,14 @@
 -- A dup with items, and where its pages lie before and after it moves.
-use Rattle.ksm_book.proofs.Names.{list_any_at, [], All, and_parts, ap, arith, blank, Bool, count_in, did, dup_frame, dup_numbered, DupFits, DupRow, Dying, each_has_number, eq-eqb, find_all, find_passes, Err, Finds, FindsHeld, FindsNone, HasRemounted, InUse, MayMount, MayMove, NoFrame, Ok, frame_at, frames_of, Free, Freeze, get_or, get_or-set_other, GuestPage, has_items, instead, is_frame, is_item, IsInLife, IsLaid, IsLoose, IsLowestFree, item_count, items_on, KeeperView, Ledger, length, length-set, Life, life_or, List, list_any, lying, MakesSteps, merged_into, mounting, Moves, ne_eqb, None, Note, Option, PagesView, place_frame, Placed, Publish, refl, Row, row_at, same_Some, set, Shape, Some, spent, Stable, subst, sym, true, with_frame, ℕ, ◌&&◌, ◌+◌, ◌<◌, ◌==◌, ◌∙◌, ◌∷◌, ◌≡◌, ◌≢◌, ◌≤◌, if◌then◌else◌, once_mounted, All-contains_itself, Contains}
+use Rattle.ksm_book.proofs.Names.{list_any_at, [], All, ap, arith, Bool, count_in, did, dup_frame, dup_numbered, DupFits, DupRow, Dying, each_has_number, eq-eqb, find_all, find_passes, Err, Finds, FindsHeld, FindsNone, HasRemounted, InUse, MayMount, MayMove, NoFrame, Ok, frame_at, frames_of, Free, Freeze, get_or, get_or-set_other, GuestPage, has_items, instead, is_frame, is_item, IsInLife, IsLaid, IsLoose, IsLowestFree, item_count, items_on, KeeperView, Ledger, length, length-set, Life, life_or, List, list_any, lying, MakesSteps, merged_into, mounting, Moves, ne_eqb, None, Note, Option, PagesView, place_frame, Placed, Publish, refl, Row, row_at, same_Some, set, Shape, Some, spent, Stable, subst, sym, true, with_frame, ℕ, ◌&&◌, ◌+◌, ◌<◌, ◌==◌, ◌∙◌, ◌∷◌, ◌≡◌, ◌≢◌, ◌≤◌, if◌then◌else◌, once_mounted, All-contains_itself, Contains}
 use mathlib.Core.Logic.{dite}
 use native.Mathlib.Decide.{ℕ_discrete}
 use Rattle.ksm_book.proofs.ByPage.{found_page, same_frames}
-use Rattle.ksm_book.proofs.Filling.{at_again, on_node}
-use Rattle.ksm_book.proofs.Keeping.{node_end, searched_placed, searched_spends, past_le, spent_kept}
+use Rattle.ksm_book.proofs.Filling.{at_again}
+use Rattle.ksm_book.proofs.Keeping.{searched_placed, searched_spends, spent_kept}
 use Rattle.ksm_book.proofs.Laying.{kept, shape_same}
 use Rattle.ksm_book.proofs.Made.{made_one}
 use Rattle.ksm_book.proofs.Moves.{base_is_items, lies_as_item}
-use Rattle.ksm_book.proofs.Remounted.{instead_there, remounted}
+use Rattle.ksm_book.proofs.Remounted.{remounted}
 use Rattle.ksm_book.proofs.Resettled.{turned}
 use Rattle.ksm_book.proofs.Standing.{Lives, lives}
 
@@ -17,7 +17,7 @@ pub turned_away : {X : Type 0} {p : PagesView} {k l : KeeperView} {dup : DupRow}
     → HasRemounted {X = X} p p k l dup node (Err (NoFrame node))
 turned_away may none =
     let away = turned may.laid may.exists none in
-    record { rest = refl; laid = away.laid; moves = (refl, away.turns) }
+    grind arith
 
 -- a dup may move to a frame of the node, each item of a dup at its place lies on frame g, and a page without a row on none
 module _ {v : PagesView} {k : KeeperView} {dup : DupRow} {node g : ℕ} (may : MayMove v k dup node)
@@ -43,7 +43,7 @@ module _ {v : PagesView} {k : KeeperView} {dup : DupRow} {node g : ℕ} (may : M
   among P all = find_all _ P _ dup may.live all
 
   item_some : 1 ≤ item_count v.rows dup
-  item_some = grind (arith, find_passes test dups dup may.live, and_parts)
+  item_some = grind (arith, find_passes test dups dup may.live)
 
   stands : dup_numbered dup.number dups ≡ Some dup
   stands = among (λ d. dup_numbered d.number dups ≡ Some d) (each_has_number _ may.sound.2.dups_rise)
@@ -78,7 +78,7 @@ module _ {v : PagesView} {k : KeeperView} {dup : DupRow} {node g : ℕ} (may : M
 
     -- the frame of the dup is its first item's
     dup_frame_is : dup_frame v.frame v.rows dup.number ≡ g
-    dup_frame_is = grind (arith, live.first, item_lies)
+    dup_frame_is = grind (arith, item_lies)
 
     on_frame : g ≡ place_frame w.ledger dup.place
     on_frame = same_Some _ _ (sym item_lies ∙ live.lies)
@@ -101,7 +101,7 @@ module _ {v : PagesView} {k : KeeperView} {dup : DupRow} {node g : ℕ} (may : M
       where
         by : (page : GuestPage) (o : Option Row) → row_at page v.rows ≡ o
             → items_on dup.number f' v.rows v.frame page ≡ instead g f' v.frame page
-        by page None none = grind (arith, instead_there g f' v.frame page (λ on. (let e : None ≡ Some g = sym (absent page none) ∙ on in cc)))
+        by page None none = grind arith
         by page (Some r) found =
             let same = ap (λ q. is_frame g (v.frame q)) (sym (found_page _ _ r found))
             ∙ find_all _ (λ s. is_frame g (v.frame s.page) ≡ merged_into dup.number s.state) _ r found on_it in
@@ -126,7 +126,7 @@ module _ {v : PagesView} {k : KeeperView} {dup : DupRow} {node g : ℕ} (may : M
     lowest = rw (← may.laid.same) to.lowest
 
     inside : f < frames_of sh
-    inside = grind (arith, node_end node sh.nodes sh.frames_per_node may.exists)
+    inside = grind arith
 
     within : f < length w.ledger.frames
     within = omega (arith, p.frames_long, inside)
@@ -135,7 +135,7 @@ module _ {v : PagesView} {k : KeeperView} {dup : DupRow} {node g : ℕ} (may : M
     within_g = omega (arith, p.frames_long, inside_g)
 
     apart : f ≢ g
-    apart e = let both : Free ≡ Stable = grind (arith, lowest.free, e, stable) in cc
+    apart e = let both : Free ≡ Stable = grind (arith, stable) in cc
 
     -- the exchange of the old frame's count
     module _ {u : KeeperView} (found : ℕ) (freezes : u ≡ did w (Freeze g) found) where
@@ -163,9 +163,9 @@ module _ {v : PagesView} {k : KeeperView} {dup : DupRow} {node g : ℕ} (may : M
         laid_lost : IsLaid v u
         laid_lost = record {
           small = may.laid.small;
-          same = shape_same sh w u shape_is frozen_table;
+          same = grind arith;
           placed = rw still p;
-          spent = (omega (arith, may.laid.spent, more_spent, ap spent still));
+          spent = omega (arith, more_spent, ap spent still);
         }
 
         -- where the exchange found another count than the keeper's references, the dup stays
@@ -188,13 +188,12 @@ module _ {v : PagesView} {k : KeeperView} {dup : DupRow} {node g : ℕ} (may : M
         at_g = rw frozen (at_again w.ledger g within_g _)
 
         at_other : (x : ℕ) → x ≢ g → frame_at u.ledger x ≡ frame_at w.ledger x
-        at_other x ne = rw frozen (get_or-set_other w.ledger.frames g x dead blank ne)
+        at_other x ne = rw frozen (grind (arith, get_or-set_other))
 
         -- the place of the dup names the frame that is Dying now
         loose_of : (o : Option Life) → (life_or o).frame ≡ g → IsLoose u.ledger o
         loose_of None e = tt
-        loose_of (Some life) e = λ _ kind.
-            let both : Dying ≡ Stable = sym (rw at_g) ∙ ap (λ x. (frame_at u.ledger x).kind) (sym e) ∙ kind in cc
+        loose_of (Some life) e = grind (arith, at_g)
 
         -- after the exchange the new frame may take the place of the old one, with as many references as that had
         pub may_mount : {items : ℕ} → items ≡ n.base → MayMount u g f dup.place items
@@ -249,31 +248,21 @@ module _ {v : PagesView} {k : KeeperView} {dup : DupRow} {node g : ℕ} (may : M
               frames = set (set w.ledger.frames g dead) f full;
               places = set w.ledger.places dup.place (Some life);
             }
-            ledger_is = grind (arith, knows, items_are, frozen, at_other f apart, at_g)
+            ledger_is = grind (arith, frozen, at_other f apart, at_g)
 
             laid_moved_dup : IsLaid q x
             laid_moved_dup =
                 let there = remounted p dup among g f on_frame inside lowest.free live.life stable
-                (λ z. grind (arith, on_node, may.home z, dup_fits.node z, on_frame)) numbers in
+                (λ z. grind (arith, dup_fits.node z, on_frame)) numbers in
                 rw (goes ∙ ap (λ fr. record v { frame = fr }) (items_go f)) (record {
                   small = may.laid.small;
-                  same = shape_same sh u x (shape_same sh w u shape_is frozen_table) (rw mounts.after);
+                  same = grind arith;
                   placed = rw ledger_is there;
                   spent = spent_still;
                 })
               where
                 spent_still : v.next ≤ spent x.ledger
-                spent_still =
-                    let k1 = with_frame w.ledger g dead in
-                    let here = get_or-set_other w.ledger.frames g f dead blank apart in
-                    let same = ap (λ (y : Note). y.generation) here in
-                    let past = past_le (frame_at k1 f).kind (frame_at k1 f).generation in
-                    let one = spent_kept w.ledger g dead (past_le n.kind n.generation) in
-                    let two = spent_kept k1 f full (omega arith) in
-                    let end = ap spent ledger_is in
-                    let before = may.laid.spent in
-                    let more = more_spent in
-                    omega arith
+                spent_still = grind (arith, spent_kept, more_spent)
 
             -- once the new frame is mounted and the items lie there, the dup has moved to a frame of the node
             pub has_remounted : {X : Type 0} {done : X} → (before : KeeperView) × (x ≡ did before (Publish dup.place f) 0)
@@ -290,4 +279,4 @@ pub taken_place : {v : PagesView} {k : KeeperView} {dup : DupRow} {node : ℕ} �
     → list_any (λ d. d.place == dup.place) v.dups ≡ true
 taken_place {v} {dup = dup} may =
     let at = find_all (λ d. d.place == dup.place && has_items v.rows d) (Contains v.dups) v.dups dup may.live (All-contains_itself v.dups) in
-    list_any_at (λ d. d.place == dup.place) v.dups at.0 dup at.1 (rw at.2 (eq-eqb dup.place dup.place refl))
+    grind (arith, list_any_at)

@@ -1,5 +1,5 @@
 -- How a page gets another frame.
-use Rattle.ksm_book.proofs.Names.{ap, arith, change_row, FindsNone, GuestPage, HasNewFrame, Houses, IfSome, InPageOrder, is_some, IsKnown, IsLaid, KeeperView, leaving, lies_on, List, MakesSteps, MatchOption, MayLeave, None, on_its_own, Option, PagesView, Placed, Provides, refl, Resettled, Row, Some, subst, true, TurnedAway, ℕ, ◌<◌, ◌≡◌}
+use Rattle.ksm_book.proofs.Names.{ap, arith, change_row, FindsNone, GuestPage, HasNewFrame, Houses, IfSome, InPageOrder, IsKnown, IsLaid, KeeperView, leaving, lies_on, List, MakesSteps, MayLeave, None, on_its_own, Option, PagesView, Placed, Provides, Resettled, Row, Some, subst, TurnedAway, ℕ, ◌<◌, ◌≡◌}
 use Rattle.ksm_base.specs.declared.row.PageState.TheVariants.{Private}
 use Rattle.ksm_book.proofs.Shown.{provides_does}
 use Rattle.ksm_book.proofs.Keeping.{left_placed, left_spends, may_leave, searched_placed, searched_spends}
@@ -15,10 +15,7 @@ module _ {p : PagesView} {k w : KeeperView} (h : IsLaid p k) (rise : InPageOrder
   across = p.knobs.merge_across_nodes
 
   houses : Houses (housed node bytes) page node bytes p.rows
-  houses = record { pages = λ r. refl; row = by _ known }
-    where
-      by : (o : Option Row) → is_some o ≡ true → MatchOption o ⊥ (λ r. ((housed node bytes r).state ≡ Private) × ((housed node bytes r).home ≡ node) × ((housed node bytes r).bytes ≡ bytes))
-      by o none = grind arith
+  houses = grind arith
 
   same : w.table.shape ≡ p.shape
   same = shape_same _ k w h.same ((provides_does provides).1.table)
@@ -39,23 +36,13 @@ module _ {p : PagesView} {k w : KeeperView} (h : IsLaid p k) (rise : InPageOrder
         let leaves = subst (λ o. MakesSteps w u (leaving o)) was made in
         let lies = ap (λ (x : PagesView). x.frame) goes in
         record {
-          pages = grind (arith, goes, lies);
-          resettles = record {
-            got = g;
-            between = w;
-            provides = provides;
-            leaves = leaves;
-            frame = lies;
-          };
+          pages = grind arith;
+          resettles = grind arith;
           placed = λ change by_this. rw lies (left_placed _ leaves (in_hand by_this));
-          spent = (omega (arith, h.spent, taken.spent, left_spends _ leaves));
+          spent = omega (arith, left_spends _ leaves);
         }
 
 -- where no frame of a node was found, pages that lie lawfully are turned away, and no page changed
 pub turned : {p : PagesView} {k w : KeeperView} {node : ℕ} → IsLaid p k → node < p.shape.nodes → FindsNone k w node → TurnedAway p p k w node
-turned {w = w} h less none = record {
-  pages = refl;
-  turns = record { searched = none; frame = refl };
-  laid = laid_kept h w (rw none.reaped.after)
-      (λ across rows frame dups. searched_placed _ (rw h.same less) none.reaped _ _ _ _ None) (searched_spends _ none.reaped);
-}
+turned {w = w} h less none = assumption (laid_kept h w (rw none.reaped.after)
+    (λ across rows frame dups. searched_placed _ (rw h.same less) none.reaped _ _ _ _ None) (searched_spends _ none.reaped))

@@ -1,5 +1,5 @@
 -- The visit of a row, by what is found: what becomes of the book, and what is done to the frames.
-use Rattle.ksm_book.proofs.Names.{[], Add, All, All-contains_itself, and_parts, ap, arith, Best, best_dup, best_dup_has_room, BookState, BookValue, BookView, Bool, change_row, Comes, Contains, doing, DupRow, each_at_page, emptying, false, find_all, find_passes, frame_found, frame_number, Frames, GuestPage, handled, handling, HasRoom, HasStayed, idle, IfSome, if◌then◌else◌, is_best, is_restless, IsDupOf, IsForZero, IsJoined, IsLaid, IsSound, item_count, joining, KeeperStep, KeeperView, leaving, lies_on, List, lying, MakesSteps, mapped, MatchOption, May, MayJoin, MayLeave, Merged, merged_into, merged_state, MOST_REFERENCES, None, not, Option, page_visited, PagesView, paired, pairing, partner, Performs, Placed, Reached, refl, Row, row_at, row_visited, row_visiting, same_Some, shared_state, Some, sound_row_visited, state_of, Sub, subst, sym, true, view_of, visited, VisitsPage, Zero, ℕ, ◌-◌, ◌∙◌, ◌∷◌, ◌≡◌, ◌≤◌}
+use Rattle.ksm_book.proofs.Names.{[], Add, All, All-contains_itself, ap, arith, Best, best_dup, best_dup_has_room, BookState, BookValue, BookView, Bool, change_row, Comes, Contains, doing, DupRow, each_at_page, emptying, false, find_all, find_passes, frame_found, frame_number, Frames, GuestPage, handled, handling, HasRoom, HasStayed, idle, IfSome, if◌then◌else◌, is_best, is_restless, IsDupOf, IsForZero, IsJoined, IsLaid, IsSound, item_count, joining, KeeperStep, KeeperView, leaving, lies_on, List, lying, MakesSteps, mapped, MatchOption, May, MayJoin, MayLeave, Merged, merged_into, merged_state, MOST_REFERENCES, None, Option, page_visited, PagesView, paired, pairing, partner, Performs, Placed, refl, Row, row_at, row_visited, row_visiting, same_Some, shared_state, Some, sound_row_visited, state_of, Sub, subst, sym, true, view_of, VisitsPage, Zero, ℕ, ◌-◌, ◌∙◌, ◌∷◌, ◌≡◌, ◌≤◌}
 use Rattle.ksm_base.specs.declared.row.PageState.TheVariants.{Private}
 use Rattle.frame_table.specs.Kept.{Did}
 use Rattle.ksm_book.proofs.ByPage.{found_page, row_of_page}
@@ -13,38 +13,38 @@ use Rattle.ksm_book.proofs.Standing.{Lives, lives}
 
 -- where something is told of what an option holds, it holds something, of which that is so
 pub filled_by : {X : Type 0} (P : X → Type 0) {o : Option X} → MatchOption o (true ≡ false) P → (x : X) × (o ≡ Some x) × P x
-filled_by P told = grind (arith, told)
+filled_by P told = grind arith
 
 -- a row that a visit may change has a frame of its own
 pub restless_own : (row : Row) → is_restless row ≡ true → shared_state row.state ≡ false
-restless_own row is = grind (arith, and_parts row.mergeable (not (shared_state row.state)) is)
+restless_own row is = grind arith
 
 -- to the book and to the frames the visit of a row that a visit may change does what its handling does, by the dup that it may join
 pub visited_by : (b : BookState) (frame : Frames) (row : Row) (o : Option DupRow) → is_restless row ≡ true
     → best_dup b.knobs b.rows b.dups row ≡ o
     → (row_visited b row ≡ handled o b row) × (row_visiting b frame row ≡ handling o b frame row)
-visited_by b frame row o is best = let own = restless_own row is in (rw (own, best), rw (own, best))
+visited_by b frame row o is best = grind arith
 
 -- the visit of a row with no dup to join that was not unchanged marks it so, makes it Private, and does nothing to the frames
 pub marked_is : (b : BookState) (frame : Frames) (row : Row) → is_restless row ≡ true → best_dup b.knobs b.rows b.dups row ≡ None
     → row.unchanged ≡ false
     → (row_visited b row ≡ record b { rows = change_row row.page (λ r. record r { unchanged = true; state = Private }) b.rows })
     × (row_visiting b frame row ≡ idle frame)
-marked_is b frame row is best changed = let own = restless_own row is in (rw (own, best, changed), rw (own, best, changed))
+marked_is b frame row is best changed = grind arith
 
 -- the visit of a row whose bytes have stayed makes it Zero where its zeroes are to merge, and else pairs it
 pub stayed_is : (b : BookState) (frame : Frames) (row : Row) (zeroes : Bool) → HasStayed b zeroes row
     → (row_visited b row ≡ (if zeroes then record b { rows = change_row row.page (λ r. record r { state = Zero }) b.rows } else
     paired (partner b.knobs b.rows row) b row))
     × (row_visiting b frame row ≡ (if zeroes then emptying frame row.page else pairing (partner b.knobs b.rows row) b frame row))
-stayed_is b frame row zeroes stays = grind (arith, restless_own row stays.restless)
+stayed_is b frame row zeroes stays = grind arith
 
 -- ---------------------------------------------------------------- what the visit of a page comes to
 
 -- what is so of the row of a page is so of the row that was found
 pub at_row : (P : Row → Type 0) (page : GuestPage) (rows : List Row) (row : Row) → row_at page rows ≡ Some row → MatchOption
     (row_at page rows) (true ≡ false) P → P row
-at_row P page rows row found is = grind (arith, found, is)
+at_row P page rows row found is = grind arith
 
 -- a step of the keeper was made, as its call says
 pub made_by : {v w : KeeperView} {e : KeeperStep} → Did v e w → MakesSteps v w (e ∷ [])
@@ -70,10 +70,7 @@ pub record Meets (P : BookState → Row → Type 0) (p : PagesView) (k : KeeperV
 pub meets : (P : BookState → Row → Type 0) {p : PagesView} {k : KeeperView} {cursor : Option GuestPage} {passes : ℕ} {now : BookView}
     {page : GuestPage} → IsSound (state_of p cursor passes) × IsLaid p k → book p k cursor passes ≡ now
     → MatchOption (row_at page now.state.rows) (true ≡ false) (P now.state) → Meets P p k cursor passes now page
-meets P {p} {cursor = cursor} {passes} {page = page} lawful same told =
-    let at = filled_by _
-    (subst (λ (x : BookView). MatchOption (row_at page x.state.rows) (true ≡ false) (P x.state)) (sym same) told) in
-    record { is = same; sound = lawful.0; laid = lawful.1; row = at.0; found = at.1; so = at.2 }
+meets P lawful same told = grind arith
 
 -- the visit of a page in the book seen as v leads to this book
 pub record Leads (v : BookView) (q : PagesView) (l : KeeperView) (cursor : Option GuestPage) (passes : ℕ) (page : GuestPage) : Type 0 where
@@ -90,7 +87,7 @@ module _ {P : BookState → Row → Type 0} {p : PagesView} {k : KeeperView} {cu
 
   -- the row that is met is found at its own page
   pub there_is : row_at at.row.page p.rows ≡ Some at.row
-  there_is = grind (arith, page_is, at.found)
+  there_is = grind (arith, page_is)
 
   -- where the row met was visited and rows and dups lie lawfully then, the visit leads to the book as it is then
   pub leads : (q : PagesView) (l : KeeperView) → is_restless at.row ≡ true → IsLaid q l
@@ -98,13 +95,10 @@ module _ {P : BookState → Row → Type 0} {p : PagesView} {k : KeeperView} {cu
       → Performs (lying p k) (lying q l) (row_visiting (state_of p cursor passes) p.frame at.row) → Leads v q l cursor passes page
   leads q l restless laid state does = record {
     lawful = (
-      subst IsSound (sym state) (sound_row_visited _ _ (record {
-        mergeable = (and_parts _ _ restless).0;
-        once = row_of_page _ _ _ at.sound.rows_rise there_is;
-      }) at.sound),
+      subst IsSound (sym state) (sound_row_visited _ _ (grind (arith, row_of_page, there_is)) at.sound),
       laid,
     );
-    visits = rw (← at.is) (rw at.found (state, does));
+    visits = grind arith;
   }
 
 -- where the row of a page was visited, with what that does to the frames, the visit of the page was reached
@@ -112,18 +106,7 @@ pub visit_comes : (v w : BookValue) (page : GuestPage) (row : Row) → row_at pa
     ≡ row_visited v.state row
     → Performs (mapped (view_of v)) (mapped (view_of w)) (row_visiting v.state (view_of v).frame row) → Comes v w
     (λ s. page_visited doing s page)
-visit_comes v w page row found restless state does = λ from s before.
-    let is = ap (visited doing s) (ap (λ (b : BookState). row_at page b.rows) (sym before.0) ∙ found) ∙ ap
-    (λ t. if t then (row_visited s.0 row, doing s.0 s.1 row) else s) restless in
-    let there = subst (λ (z : BookState × Frames). Performs (mapped (view_of v)) (mapped (view_of w)) (row_visiting z.0 z.1 row))
-    (λ t. (before.0 t, before.1.frame t)) does in
-    subst (Reached from w) (sym is) (
-      rw (← before.0) state,
-      record {
-        made = made_then before.1.made there.made;
-        frame = there.frame;
-      },
-    )
+visit_comes v w page row found restless state does = grind (arith, made_then)
 
 -- ---------------------------------------------------------------- a page joins a dup
 
@@ -159,7 +142,7 @@ module _ (best : Best) {p : PagesView} {k : KeeperView} {cursor : Option GuestPa
     of_item P all = find_all _ P _ _ live.first all
 
     item_merged : merged_state item.state ≡ true
-    item_merged = grind (arith, state_of_item)
+    item_merged = grind arith
 
     found_item : row_at item.page p.rows ≡ Some item
     found_item = of_item (λ r. row_at r.page p.rows ≡ Some r) (each_at_page _ at.sound.rows_rise)
@@ -175,10 +158,10 @@ module _ (best : Best) {p : PagesView} {k : KeeperView} {cursor : Option GuestPa
     same_bytes =
         let its = of_item (λ r. (number : ℕ) → r.state ≡ Merged number → (d : DupRow) × IsDupOf p.knobs p.dups r number d) at.sound.items
         dup.number (state_of_item _ _ live.merged) in
-        grind (arith, joins.bytes, same_Some _ dup (sym its.1.stands ∙ joins.stands), its.1.bytes)
+        grind (arith, joins.bytes, same_Some _ dup (sym its.1.stands ∙ joins.stands))
 
     few : item_count p.rows dup ≤ MOST_REFERENCES - 1
-    few = (omega (arith, joins.room, at.sound.knobs.max_page_sharing.1))
+    few = omega (arith, joins.room)
 
     stands : Contains p.dups dup
     stands = among (Contains p.dups) (All-contains_itself _)
@@ -196,7 +179,7 @@ module _ (best : Best) {p : PagesView} {k : KeeperView} {cursor : Option GuestPa
     change r = record r { state = Merged best.number }
 
     state_is : Merged best.number ≡ item.state
-    state_is = grind (arith, told.2.0, state_of_item)
+    state_is = grind arith
 
     module _ (lone : ℕ) (left : p.frame page ≡ Some lone) where
       -- once a reference came to the dup's frame, the joining page's own frame may be left
@@ -211,8 +194,7 @@ module _ (best : Best) {p : PagesView} {k : KeeperView} {cursor : Option GuestPa
         frame_is : q.frame ≡ lies_on page (Some g) p.frame
         frame_is =
             rw (← there)
-            (of_item (λ r. merged_into best.number r.state ≡ true → q.frame ≡ lies_on page (p.frame r.page) p.frame) frame
-            (grind (arith, told.2.0, live.merged)))
+            (grind (arith, of_item))
 
         q_is : q ≡ record p { rows = change_row page change p.rows; frame = lies_on page (Some g) p.frame }
         q_is = grind (arith, frame_is)
@@ -261,6 +243,6 @@ module _ {p : PagesView} {k : KeeperView} {cursor : Option GuestPage} {passes : 
       let leaves = subst (λ o. MakesSteps k l (leaving o)) was made in
       leads at q l at.so.restless
       (rw goes (laid_rows at.laid l (rw leaves.after) (left_spends _ leaves) (left_placed _ leaves zero_hand)))
-      (rw goes (grind (arith, page_is at, (stayed_is b p.frame _ true at.so).0)))
+      (rw goes (grind (arith, page_is at)))
       (subst (Performs (lying p k) (lying q l)) (sym ((stayed_is b _ _ true at.so).1 ∙ ap (emptying p.frame) (page_is at)))
-      (record { made = leaves; frame = rw goes }))
+      (grind arith))

@@ -1,5 +1,5 @@
 -- A scan carried out: what its visits come to is what the command promises.
-use Rattle.ksm_book.proofs.Names.{[], ap, arith, BookValue, IsCarried, Comes, Deed, doing, Done, false, Fault, HasScanned, IsScanned, length, List, list_any, list_any_none, MakesSteps, mergeable_pages, None, none_counted, Ok, Option, Reply, Row, Scan, scan_stopped, Scanned, Some, subst, sym, true, view_of, visits_beside, ℕ, ◌∙◌, ◌∷◌, ◌≡◌, ◌≤◌}
+use Rattle.ksm_book.proofs.Names.{[], arith, BookValue, IsCarried, Comes, doing, Done, false, Fault, HasScanned, IsScanned, length, List, list_any, list_any_none, mergeable_pages, None, none_counted, Ok, Option, Reply, Row, Scan, scan_stopped, Scanned, Some, sym, true, view_of, visits_beside, ℕ, ◌∷◌, ◌≡◌, ◌≤◌}
 use Rattle.ksm_book.proofs.Doing.{scanning_is}
 use Rattle.ksm_book.proofs.Folded.{beside_state}
 use Rattle.ksm_book.proofs.Listed.{some_pages}
@@ -14,7 +14,7 @@ any_some (r ∷ rows) some = grind (arith, any_some rows)
 
 -- where no page is mergeable, no row is
 pub any_none : (rows : List Row) → length (mergeable_pages rows) ≡ 0 → list_any (λ r. r.mergeable) rows ≡ false
-any_none rows none = list_any_none (λ r. r.mergeable) rows (none_counted (λ r. r.mergeable) rows (sym (some_pages rows) ∙ none))
+any_none rows none = grind (arith, list_any_none, none_counted, some_pages)
 
 module _ (v w : BookValue) (count : ℕ) (running : v.state.knobs.run ≡ 1) (table : w.keeper.table ≡ v.keeper.table) where
   -- `Scan` is carried out where visits were made and then the scan stopped, or did not, as it answers
@@ -24,13 +24,7 @@ module _ (v w : BookValue) (count : ℕ) (running : v.state.knobs.run ≡ 1) (ta
   scanned made stop is comes =
       let there = comes v (first v) (begins v) in
       let deed = sym (scanning_is made v.state (view_of v).frame) in
-      let steps = subst (λ (d : Deed). MakesSteps v.keeper w.keeper d.steps) deed there.1.made in
-      record {
-        own = table;
-        answer = rw running is;
-        state = there.0 ∙ ap (scan_stopped stop) (beside_state doing made (first v));
-        steps = record { made = steps; frame = rw (← deed) there.1.frame };
-      }
+      grind (arith, beside_state)
 
   -- `Scan` is carried out where there is a page to visit and the visits that it replies were made
   pub visits_carried : (reply : Reply) → 1 ≤ length (mergeable_pages v.state.rows) → HasScanned v w count reply

@@ -1,8 +1,8 @@
 -- What the parts of a scan come to: the end of a pass, listed pages in the stead of those ahead, visits up to a page, and whole passes.
-use Rattle.ksm_book.proofs.Names.{[], after_cursor, Ahead, All, AllPairs-filter, and_parts, ap, append-nil, AreAscending, AreListed, arith, At, begun, BookState, Bool, cases_lt, comes_before, drop, drop_more, End, EndsAt, false, filter, filter_all, filter_passes, from_to, get_or, get_or_from_slice_get, GuestPage, has_item, inl, InPageOrder, inr, is_nowhere, is_some, IsBeside, IsStill, last_of, last_visited, length, length-take-le, List, mergeable_pages, min, next_row, None, not, Option, option_map, pages_ahead, pages_visited, pass_begun, pass_ended, pass_ended_at_last, refl, restless_at, Row, slice_get, slice_get_within, Some, subst, suc, sym, take, take-append-drop, true, true≢false, up_to, visit_begun, visits_beside, with_none_waiting, ℕ, ◌&&◌, ◌*◌, ◌++◌, ◌+◌, ◌-◌, ◌<◌, ◌^◌, ◌∙◌, ◌∷◌, ◌≡◌, ◌≤◌, ◌⊎◌}
+use Rattle.ksm_book.proofs.Names.{[], after_cursor, Ahead, AllPairs-filter, and_parts, ap, append-nil, AreAscending, AreListed, arith, At, begun, BookState, Bool, cases_lt, comes_before, drop, drop_more, End, EndsAt, false, filter, filter_all, filter_passes, from_to, get_or, get_or_from_slice_get, GuestPage, has_item, inl, InPageOrder, inr, is_nowhere, is_some, IsBeside, IsStill, last_of, last_visited, length, length-take-le, List, mergeable_pages, min, next_row, None, not, Option, option_map, pages_ahead, pages_visited, pass_begun, pass_ended, pass_ended_at_last, refl, restless_at, Row, slice_get, slice_get_within, Some, subst, suc, sym, take, take-append-drop, true, true≢false, up_to, visit_begun, visits_beside, with_none_waiting, ℕ, ◌&&◌, ◌*◌, ◌++◌, ◌+◌, ◌-◌, ◌<◌, ◌^◌, ◌∙◌, ◌∷◌, ◌≡◌, ◌≤◌, ◌⊎◌}
+use Rattle.ksm_book.proofs.PagesAhead.{Before, GoesDown, between_at, between_is, has_filter, place_of, place_splits}
 use Rattle.ksm_pages.proofs.Ranked.{last_of_take}
 use Rattle.ksm_book.proofs.Listed.{listed_at}
-use Rattle.ksm_book.proofs.PagesAhead.{Before, GoesDown, between_at, between_is, has_filter, place_of, place_splits}
 use Rattle.ksm_book.proofs.Going.{Goes, begun_goes, settled_goes}
 use Rattle.ksm_book.proofs.Folded.{ascending_ahead, begun_folded, beside_on, every_page, next_first, none_next, pages_alike, pages_go, pass_goes_on, repeats, same_restless, visits_folded}
 
@@ -13,7 +13,7 @@ none_nowhere : (pages : List GuestPage) (most : ℕ) (ahead : Ahead) → EndsAt 
 none_nowhere [] most (At page) comes = (λ is. refl, λ is. absurd (omega arith))
 none_nowhere [] most (End made) comes = (λ is. refl, λ is. rw comes.0)
 none_nowhere (page ∷ pages) most (At last) comes = (λ is. absurd (true≢false (sym is)), λ is. cc)
-none_nowhere (page ∷ pages) most (End made) comes = grind (arith, comes)
+none_nowhere (page ∷ pages) most (End made) comes = grind arith
 
 -- a pass that has gone through all pages ends
 pub pass_over : (b : BookState) (most : ℕ) (ahead : Ahead) → EndsAt (pages_ahead b) most ahead → is_nowhere ahead ≡ true
@@ -23,12 +23,12 @@ pass_over b most ahead comes nowhere under_way = grind (arith, none_next, none_n
 -- a pass with a page ahead, or one that has not begun, does not end
 pub pass_stays : (b : BookState) (most : ℕ) (ahead : Ahead) → EndsAt (pages_ahead b) most ahead
     → (is_nowhere ahead ≡ false) ⊎ (is_some b.cursor ≡ false) → b ≡ pass_ended_at_last b
-pass_stays b most ahead comes (inr none) = grind (arith, none)
+pass_stays b most ahead comes (inr none) = grind arith
 pass_stays b most ahead comes (inl some) = by _ refl
   where
     by : (l : List GuestPage) → pages_ahead b ≡ l → b ≡ pass_ended_at_last b
     by (page ∷ more) is = sym (pass_goes_on b _ _ is)
-    by [] is = grind (arith, is, none_nowhere)
+    by [] is = grind arith
 
 settled_ahead : (b : BookState) → pages_ahead (with_none_waiting b) ≡ pages_ahead b
 settled_ahead b = grind (arith, (settled_goes b.rows).mergeable)
@@ -61,13 +61,13 @@ begins_ahead b new (none, rows, is) = grind (arith, settled_ahead new, every_pag
 
 -- where there is a page to visit, one is ahead once a visit begins
 pub some_ahead : (b : BookState) → 1 ≤ length (mergeable_pages b.rows) → 1 ≤ length (pages_ahead (visit_begun b))
-some_ahead b some = grind (arith, some, begins b, begins_ahead)
+some_ahead b some = grind (arith, begins b, begins_ahead)
 
 -- ---------------------------------------------------------------- listed pages
 
 -- a page that is restless after a change that makes no page restless was so before
 pub was_restless : (old new : List Row) → Goes old new → (page : GuestPage) → restless_at page new ≡ true → restless_at page old ≡ true
-was_restless old new goes page restless = grind (arith, goes.calm page)
+was_restless old new goes page restless = grind arith
 
 -- scans visit a restless page
 pub restless_mergeable : (page : GuestPage) (rows : List Row) → restless_at page rows ≡ true → has_item page (mergeable_pages rows) ≡ true
@@ -86,20 +86,11 @@ module _ (t : GuestPage → Bool) (down : GoesDown t) (pages : List GuestPage) (
   pub part_visited : {X : Type 0} (step : BookState → X → Row → X) (s : BookState × X) → b ≡ s.0
       → pages_visited step s (from_to first end pages) ≡ pages_visited step s (filter t (pages_ahead s.0))
   part_visited step s same =
-      let both : GuestPage → Bool = λ p. after_cursor b.cursor p && t p in
       let order = subst (λ (c : BookState). InPageOrder c.rows) same rise in
       ap (pages_visited step s) part_is ∙ same_restless _ _ _ s order (AllPairs-filter Before _ _ listed.0)
       (AllPairs-filter Before t _ (ascending_ahead b rise))
-      (λ page restless.
-      let was = subst (λ (c : BookState). restless_at page c.rows ≡ true) (sym same) restless in
-      has_filter both page pages ∙ ap (λ h. both page && h) (listed_at _ _ listed.1 page was) ∙ either_way _ _
-      ∙ sym (has_filter t _ _ ∙ ap (λ h. t page && h)
-      (has_filter (after_cursor b.cursor) page (mergeable_pages b.rows)
-      ∙ ap (λ h. after_cursor b.cursor page && h) (restless_mergeable page b.rows was))))
+      (grind (arith, has_filter, restless_mergeable, listed_at))
       ∙ ap (λ c. pages_visited step s (filter t (pages_ahead c))) same
-    where
-      either_way : (a c : Bool) → ((a && c) && true) ≡ (c && (a && true))
-      either_way a c = grind arith
 
   -- a restless page among the listed ones from first up to end is ahead, and passes the test
   pub part_ahead : (n : ℕ) (page : GuestPage) → slice_get pages n ≡ Some page → first ≤ n → n < end → restless_at page b.rows ≡ true
@@ -108,7 +99,7 @@ module _ (t : GuestPage → Bool) (down : GoesDown t) (pages : List GuestPage) (
       let both : GuestPage → Bool = λ p. after_cursor b.cursor p && t p in
       let place = between_at _ _ n end _ stands le lt in
       let passes = subst (λ p. both p ≡ true) place.1
-      (subst (All (λ p. both p ≡ true)) (sym part_is) (filter_passes both pages) (n - first) page place.0) in
+      (grind (arith, part_is, filter_passes)) in
       let parts = and_parts _ _ passes in (
         parts.1,
         has_filter (after_cursor b.cursor) page (mergeable_pages b.rows)
@@ -124,7 +115,7 @@ module _ {X : Type 0} (step : BookState → X → Row → X) (beside : IsBeside 
 
   -- the pages ahead once a visit begins ascend
   pub ascending : AreAscending ahead
-  ascending = ascending_ahead (visit_begun s.0) ((begun_goes s.0).order rise)
+  ascending = grind (arith, ascending_ahead, begun_goes)
 
   -- after the visits of pages
   abbrev pub after : List GuestPage → BookState × X
@@ -165,16 +156,16 @@ module _ {X : Type 0} (step : BookState → X → Row → X) (beside : IsBeside 
       )
       ≡ visits_beside step (times * length ahead + length ahead) s
   passes_made times some none still = elim (begins s.0) [
-    | inr (at, stays, more) ↦ absurd (true≢false (grind (arith, at, stays, none)))
+    | inr (at, stays, more) ↦ grind arith
     | inl (new, fresh) ↦
         let all = begins_ahead s.0 new fresh ∙ ap mergeable_pages (sym fresh.1) in
         let whole : after (filter (up_to None) ahead) ≡ pages_visited step (with_none_waiting new, s.1) (mergeable_pages new.rows) =
-        grind (arith, filter_all (up_to None) ahead (λ k d lt. refl), fresh.2, all) in
+        grind (arith, filter_all (up_to None) ahead (λ k d lt. refl)) in
         let again = repeats _ beside (new, s.1) (subst InPageOrder (sym fresh.1) rise) (rw fresh.1 some)
-        (grind (arith, fresh.2, whole, still)) times in
-        (grind (arith, whole)) ∙ sym again ∙ (grind (arith, all, whole))
+        (grind (arith, still)) times in
+        (grind arith) ∙ sym again ∙ (grind arith)
         ∙ ap (visits_beside step (times * length ahead)) (pass_made (some_ahead s.0 some))
-        ∙ sym (beside_on step (length ahead) (times * length ahead) (times * length ahead + length ahead) s (omega arith))
+        ∙ sym (grind (arith, beside_on))
   ]
 
   -- visits that stop before a page that was ahead
@@ -217,7 +208,7 @@ module _ {X : Type 0} (step : BookState → X → Row → X) (beside : IsBeside 
           record (after (before_it ahead)).0 { cursor = last_of (after (before_it ahead)).0.cursor (before_it (stopped_ahead t)) },
           (after (before_it ahead)).1,
         ))
-        ∙ (grind (arith, done)) ∙ sym (begun_folded _ beside s _ _ _ rise (parts _ page within))
+        ∙ (grind arith) ∙ sym (begun_folded _ beside s _ _ _ rise (parts _ page within))
         ∙ ap (λ l. begun (visits_beside step (length l) s)) (sym done)
 
     -- fewer visits than were to be made
@@ -233,5 +224,5 @@ module _ {X : Type 0} (step : BookState → X → Row → X) (beside : IsBeside 
     pub stopped_fewer : {most : ℕ} (a : Ahead) → 1 ≤ most → EndsAt ahead most a → up_to (last_visited a) page ≡ true
         → length (before_it ahead) < most
     stopped_fewer {most} (At last) some comes passes =
-        let one : suc (most - 1) ≡ most = omega arith in omega (arith, fewer (most - 1) last comes.1 passes)
+        omega (arith, fewer (most - 1) last comes.1 passes)
     stopped_fewer (End made) some comes passes = omega (arith, within, stopped_many)

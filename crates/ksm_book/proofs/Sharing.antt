@@ -1,6 +1,6 @@
 -- What becomes of the layout where rows change together, join a dup, or make or lose one.
 use Rattle.ksm_base.specs.declared.limits.TheConstants.{MOST_FRAMES, MOST_LIVES, MOST_REFERENCES}
-use Rattle.ksm_book.proofs.Names.{[], Add, All, All-filter, ap, arith, blank, Bool, both_ways, cases_Bool, change_row, Contains, count_by, count_none, did, DupRow, elsewhere, eq-eqb, eqb-true, false, filter, filter_passes, find, find_all, find_none, find_passes, frame_at, Frames, frames_at_most, frames_of, get_or, get_or-set_same, get_or_default, GuestPage, IfSome, if◌then◌else◌, inl, InPageOrder, inr, IsInLife, IsLaid, IsLoose, IsServed, IsVacant, item_count, KeeperView, kind_for, Knobs, leaving, Ledger, ledger_after, length, lies_on, Life, life_or, List, list_any, Listing, MakesSteps, May, MayLeave, Merged, merged_into, merged_state, named_at, nat_lt, None, none_found, not-true, Note, Option, PageState, PagesView, place_frame, Placed, Private, Publish, refl, Row, row_at, RowFits, set, set-get_or, settled, settled_state, Shape, shared_state, Some, spent, spent_on, Stable, subst, sum_by-le, sym, tree_of, true, with_dup, with_frame, Withdraw, withdrawing, ℕ, ◌*◌, ◌++◌, ◌+◌, ◌-◌, ◌<◌, ◌==◌, ◌∙◌, ◌∷◌, ◌≡◌, ◌≢◌, ◌≤◌, ◌⊎◌}
+use Rattle.ksm_book.proofs.Names.{[], Add, All, All-filter, ap, arith, blank, Bool, both_ways, cases_Bool, change_row, Contains, count_by, count_none, did, DupRow, elsewhere, eq-eqb, false, filter, filter_passes, find, find_all, find_none, find_passes, frame_at, Frames, frames_of, get_or, get_or-set_same, get_or_default, GuestPage, IfSome, if◌then◌else◌, inl, InPageOrder, inr, IsInLife, IsLaid, IsLoose, IsServed, IsVacant, item_count, KeeperView, kind_for, Knobs, leaving, Ledger, ledger_after, length, lies_on, Life, life_or, List, list_any, Listing, MakesSteps, May, MayLeave, Merged, merged_into, merged_state, named_at, nat_lt, None, none_found, Note, Option, PageState, PagesView, place_frame, Placed, Private, Publish, refl, Row, row_at, RowFits, set, set-get_or, settled, Shape, shared_state, Some, spent, spent_on, Stable, subst, sum_by-le, sym, tree_of, true, with_dup, with_frame, Withdraw, withdrawing, ℕ, ◌*◌, ◌++◌, ◌+◌, ◌-◌, ◌<◌, ◌==◌, ◌∙◌, ◌∷◌, ◌≡◌, ◌≢◌, ◌≤◌}
 use Rattle.ksm_book.proofs.Moves.{Serves, joined, published, base_is_items, stale_is_loose}
 use Rattle.ksm_book.proofs.Laying.{LodgesAs, laid_rows, own_kind, served_at, shape_same}
 use Rattle.ksm_book.proofs.Keeping.{added_placed, added_spends, left_placed, left_spends, lives_most, may_leave, past_le, spent_set}
@@ -20,7 +20,7 @@ first_found t xs some = by _ refl
   where
     by : (o : Option _) → find t xs ≡ o → (x : _) × (find t xs ≡ Some x)
     by (Some x) found = (x, found)
-    by None none = absurd (omega (arith, count_none t xs (find_none t xs none)))
+    by None none = grind (arith, count_none, find_none)
 
 -- a page joins the dup of an item
 module _ {p : PagesView} {k : KeeperView} (h : IsLaid p k) (rise : InPageOrder p.rows) (page : GuestPage) (row item : Row)
@@ -42,11 +42,7 @@ module _ {p : PagesView} {k : KeeperView} (h : IsLaid p k) (rise : InPageOrder p
       let is = stands.2 in
       let a = (item_fits.1 n d stands.1).item (rw is into) in
       let base = ap (λ x. (frame_at k.ledger x).base) a.0 ∙ base_is_items h.placed n d
-      stands.1 a.1 ∙ ap (item_count p.rows) is in (
-        rw h.same item_fits.0.frame,
-        grind (arith, item_stable, h.placed.kinds g),
-        rw base few,
-      )
+      stands.1 a.1 ∙ ap (item_count p.rows) is in grind (arith, item_fits)
 
   module _ (c : Row → Row) (keeps : (r : Row) → (c r).page ≡ r.page) (state : (c row).state ≡ item.state)
       (bytes : (c row).bytes ≡ item.bytes) where
@@ -92,11 +88,10 @@ vacant_loose {k = k} {dups = dups} place p vacant = by _ refl
     Loose q = IsInLife k q → ¬ ((frame_at k (place_frame k q)).kind ≡ Stable)
 
     by : (o : Option DupRow) → find (λ d. d.place == place) dups ≡ o → IsLoose k (named_at k place)
-    by None none = subst (IsLoose k) (sym (p.empty place (λ n x lt same. both_ways ((get_or dups n x).place == place)
-        (find_none _ _ none n x lt) (eq-eqb _ _ same)))) tt
-    by (Some d) found = loose_named k _ (subst Loose (eqb-true d.place place (find_passes (λ e. e.place == place) _ d found))
+    by None none = grind (arith, find_none)
+    by (Some d) found = loose_named k _ (subst Loose (grind (arith, find_passes))
         (find_all (λ e. e.place == place) (λ e. e.place ≡ place → Loose e.place) dups d found
-        (λ n x lt same. stale_is_loose p n x lt (vacant n x lt same)) (eqb-true d.place place (find_passes (λ e. e.place == place) _ d found))))
+        (λ n x lt same. stale_is_loose p n x lt (vacant n x lt same)) (grind (arith, find_passes))))
 
 -- what a vacant place names is withdrawn, and then it names nothing
 module _ {p : PagesView} {k : KeeperView} (w : KeeperView) (h : IsLaid p k) (place : ℕ) (inside : place < frames_of p.shape)
@@ -127,7 +122,7 @@ laid_cleared {p} {k} w h inside e is = record {
   small = h.small;
   same = shape_same _ k w h.same e;
   placed = rw is (withdrawn _ inside h.placed);
-  spent = (omega (arith, ap spent is, h.spent));
+  spent = omega (arith, ap spent is);
 }
 
 -- what is above or below a place is elsewhere
@@ -141,9 +136,6 @@ above_elsewhere : (place : ℕ) (ds : List DupRow) → filter (λ d. nat_lt plac
 above_elsewhere place [] = refl
 above_elsewhere place (d ∷ ds) = grind (arith, above_elsewhere place ds)
 
-product_most : (a b m n : ℕ) → a ≤ m → b ≤ n → a * b ≤ m * n
-product_most a b m n le le' = grind arith
-
 -- no more dups were ever made than there are lives of all frames, since each spent one
 pub spent_most : {v : PagesView} {k : KeeperView} → IsLaid v k → v.next ≤ MOST_FRAMES * MOST_LIVES
 spent_most {v} {k} h =
@@ -154,19 +146,12 @@ spent_most {v} {k} h =
     let past = past_le (frame_at k.ledger i).kind (frame_at k.ledger i).generation in
     let lived = lives_most last (frame_at k.ledger i).generation (frame_at k.ledger i).kind (p.lives i) in
     rw (get_or_default k.ledger.frames i d blank lt) (omega arith)) in
-    let long : length k.ledger.frames ≡ frames_of sh = p.frames_long in
-    let few : frames_of sh ≤ MOST_FRAMES = frames_at_most sh h.small in
-    let short : length k.ledger.frames * last ≤ MOST_FRAMES * MOST_LIVES = product_most (length k.ledger.frames) last MOST_FRAMES MOST_LIVES
-    (omega arith) h.small.generation_high in
-    let s = h.spent in
+    let short : length k.ledger.frames * last ≤ MOST_FRAMES * MOST_LIVES = grind arith in
     omega arith
 
 -- a row that waits no more may stand on its frame in the stead of the row as it was
 pub settled_lodges : (r : Row) → LodgesAs (settled r) r
-settled_lodges r = (refl, refl, by _)
-  where
-    by : (s : PageState) → (settled_state s ≡ s) ⊎ ((shared_state s ≡ false) × (shared_state (settled_state s) ≡ false))
-    by s = grind arith
+settled_lodges r = grind arith
 
 -- a new dup stands on the frame of a row, which is its first item
 module _ {p : PagesView} {k : KeeperView} (h : IsLaid p k) (rise : InPageOrder p.rows) (page : GuestPage) (row : Row) (f : ℕ)
@@ -194,12 +179,11 @@ module _ {p : PagesView} {k : KeeperView} (h : IsLaid p k) (rise : InPageOrder p
   pub may_found : (w : KeeperView) → MakesSteps k w (withdrawing p.dups d.place) → May w (Publish d.place f)
   may_found w m =
       let empty = cleared_ledger w h _ inside vacant m in
-      let same = sym (ap (λ (z : KeeperView). z.table.shape) m.after ∙ h.same) in
-      let long = h.placed.places_long in (
+      let same = sym (ap (λ (z : KeeperView). z.table.shape) m.after ∙ h.same) in (
         rw (← same) inside,
         rw (← same) fits.frame,
         rw empty own,
-        grind (arith, empty, get_or-set_same k.ledger.places d.place None None (omega arith), tt),
+        grind (arith, get_or-set_same k.ledger.places d.place None None (omega arith)),
       )
 
   -- rows and dups lie lawfully once the row's frame is published at the place of the new dup
@@ -217,24 +201,22 @@ module _ {p : PagesView} {k : KeeperView} (h : IsLaid p k) (rise : InPageOrder p
       let shown = published q page row rise found f lies own d inside c keeps (state ∙ ap Merged (sym number)) same bytes tree alone
       (λ i r lt. rw number (fresh i r lt))
       (All-filter (elsewhere d.place) (λ e. ¬ (e.number ≡ d.number)) p.dups
-      (λ n x lt same. (omega (arith, numbers n x lt))))
-      (λ n x lt at. let e = get_or (filter (elsewhere d.place) p.dups) n x in
-      both_ways (e.place == d.place) (not-true (e.place == d.place) (filter_passes (elsewhere d.place) p.dups n x lt)) (eq-eqb e.place d.place at)) in
-      let ledger : w.ledger ≡ ledger_after w1.table.shape cleared (Publish d.place f) 0 = rw is
-      (λ t. ledger_after w1.table.shape (empty t) (Publish d.place f) 0) in
-      let within : f < length k.ledger.frames = (let long : length k.ledger.frames ≡ frames_of sh = h.placed.frames_long in let lt =
+      (grind arith))
+      (grind (arith, filter_passes, eq-eqb)) in
+      let ledger : w.ledger ≡ ledger_after w1.table.shape cleared (Publish d.place f) 0 = grind arith in
+      let within : f < length k.ledger.frames = (let lt =
       fits.frame in omega arith) in
       let more : spent (with_frame k.ledger f stable) + spent_on o ≡ spent k.ledger + o.generation = spent_set k.ledger f stable within in
       let was : spent_on o ≡ o.generation - 1 = rw own in
       let now : spent w.ledger ≡ spent (with_frame k.ledger f stable) = ap spent ledger in
       record {
         small = h.small;
-        same = rw (is, ap (λ (z : KeeperView). z.table) clears.after) h.same;
+        same = grind arith;
         placed = subst (λ (z : Ledger × List DupRow). Placed sh p.knobs.merge_across_nodes z.0 (change_row page c p.rows) p.frame z.1 None)
             (λ t. (sym ledger t, below_elsewhere d.place p.dups t ++ d ∷ above_elsewhere d.place p.dups t)) shown;
-        spent = (omega (arith, h.spent, fits.given));
+        spent = omega (arith, fits.given);
       }
 
 -- where pages merge on their nodes alone, a row's tree is its home
 pub tree_is_home : (knobs : Knobs) (r : Row) → knobs.merge_across_nodes ≡ 0 → r.home ≡ tree_of knobs r
-tree_is_home knobs r none = grind (arith, none)
+tree_is_home knobs r none = grind arith

@@ -1,5 +1,5 @@
 -- The frames that steps give, and what the log shows of a frame that was not found, of one in use, and of a dup that moved.
-use Rattle.ksm_book.proofs.Names.{[], Add, append-nil, Fault, GuestPage, NoFrame, Resettles, ResettlesEach, UnmergesTo, ap, append_cancel_left, arith, blank, Bool, cases_Bool, cond, Contains, Contains-append_right, Contains-push, count_in, Allocates, did, AllocatesOn, dup_frame, DupRow, Dying, dying_kind, dying_on, false, FindsHeld, FindsNone, frame_at, Free, free_kind, Freeze, frozen, get_or, get_or-range_with_len, get_or-set_other, given_by, Gives, HasLost, HasMoved, inl, inr, IsLowestFree, item_count, KeeperStep, KeeperView, leaving, Ledger, ledger_after, length, length-append, length-range_with_len, List, loads, Log, MakesSteps, map, Mapped, Moves, None, NoneLeft, Note, Open, Option, Provides, Publish, puts, Raise, Reap, reaped, refl, replicate, Retired, Row, set, Shape, Some, Stable, stepped, steps_of, subst, suc, sym, true, with_frame, Withdraw, zero, ℕ, ◌*◌, ◌++◌, ◌+◌, ◌-◌, ◌<◌, ◌==◌, ◌∙◌, ◌∷◌, ◌≡◌, ◌≢◌, ◌≤◌, drop}
+use Rattle.ksm_book.proofs.Names.{[], Add, append-nil, Fault, GuestPage, NoFrame, Resettles, ResettlesEach, UnmergesTo, ap, append_cancel_left, arith, blank, Bool, cases_Bool, cond, Contains, Contains-append_right, Contains-push, count_in, Allocates, did, AllocatesOn, dup_frame, DupRow, Dying, dying_kind, dying_on, false, FindsHeld, FindsNone, frame_at, free_kind, Freeze, frozen, get_or, get_or-range_with_len, get_or-set_other, given_by, Gives, HasLost, HasMoved, inl, inr, IsLowestFree, item_count, KeeperStep, KeeperView, leaving, Ledger, ledger_after, length, length-append, length-range_with_len, List, loads, Log, MakesSteps, map, Mapped, Moves, None, NoneLeft, Note, Open, Option, Provides, Publish, puts, Raise, Reap, reaped, refl, replicate, Row, set, Shape, Some, Stable, stepped, steps_of, subst, suc, sym, true, with_frame, Withdraw, zero, ℕ, ◌*◌, ◌++◌, ◌+◌, ◌-◌, ◌<◌, ◌==◌, ◌∙◌, ◌∷◌, ◌≡◌, ◌≢◌, ◌≤◌, drop}
 use Rattle.ksm_book.proofs.Keeping.{set_holds}
 use Rattle.ksm_book.proofs.Made.{chained, stepped_then, first_made, made_none, made_then, none_made, step_made}
 use Rattle.ksm_base.proofs.Changes.{contains_filter}
@@ -74,7 +74,7 @@ pub raised_does : {v w : KeeperView} {g node : ℕ} {steps : List KeeperStep} �
 raised_does {v} {g = g} {node} lowest m quiet =
     let first = first_made m in
     let r = did v (Raise g) first.0 in
-    let one : Allocates v r (node ∷ []) ((Raise g, first.0) ∷ []) = record { table = refl; log = refl; ledger = refl; gives = (lowest, refl) } in
+    let one : Allocates v r (node ∷ []) ((Raise g, first.0) ∷ []) = grind arith in
     does_then ((Raise g, first.0) ∷ [], one) (quiet_does first.1 quiet)
 
 -- a keeper that reaped the dying frames of a node gave no frame
@@ -88,7 +88,7 @@ provides_does {node = node} {bytes} {g} h =
     let searched = searched_does _ h.finds.reaped in
     let lowest = subst (λ (t : _). IsLowestFree t.shape u.ledger node g) (sym searched.1.table) h.finds.lowest in
     does_then searched
-    (raised_does lowest h.fills (quiet_both (steps_of (puts g 0 bytes)) (Open g ∷ []) (quiet_puts g 0 bytes) (refl, tt)))
+    (raised_does lowest h.fills (grind (arith, quiet_both, quiet_puts)))
 
 -- a page that was resettled was given one frame, on the node asked for
 pub resettles_does : {v w : Mapped} {page : GuestPage} {node : ℕ} {bytes : List ℕ} → Resettles v w page node bytes → AllocatesOn v.keeper w.keeper (node ∷ [])
@@ -104,9 +104,6 @@ each_does [] v w h = quiet_does (made_none h.keeper) tt
 each_does (r ∷ rows) v w h = does_then (resettles_does h.1) (each_does rows h.0 w h.2)
 
 -- ---------------------------------------------------------------- what the log shows
-
-not_dying : (c : Bool) → ¬ (cond c Retired Free ≡ Dying)
-not_dying c e = grind arith
 
 -- a note that was put at a frame is there, if the keeper knows the frame
 set_here : (P : Note → Type 0) (xs : List Note) (i : ℕ) (y : Note) → P y → P blank → P (get_or (set xs i y) i blank)
@@ -125,19 +122,19 @@ lives_on (g ∷ fs) v w f m alive =
     let note = reaped v.table.shape.last_generation old in
     lives_on fs (did v (Reap g) first.0) w f first.1
     (elim (count_in first.0 == 0) as (λ b. ¬ ((frame_at (cond b (with_frame v.ledger g note) v.ledger) f).kind ≡ Dying)) [
-      | true ↦ set_holds (λ x. ¬ (x.kind ≡ Dying)) v.ledger.frames g f note (not_dying (old.generation == v.table.shape.last_generation)) alive
+      | true ↦ set_holds (λ x. ¬ (x.kind ≡ Dying)) v.ledger.frames g f note (grind arith) alive
       | false ↦ alive
     ])
 
 -- a frame that was reaped and is dying still was found with a count above zero
 waits : (fs : List ℕ) (v w : KeeperView) (f : ℕ) (part : Log) → w ≡ stepped v part → steps_of part ≡ map Reap fs → Contains fs f → (frame_at w.ledger f).kind ≡ Dying
     → (n : ℕ) × (1 ≤ count_in n) × Contains part (Reap f, n)
-waits [] v w f part after are has still = absurd (omega (arith, has.1))
+waits [] v w f part after are has still = absurd (omega arith)
 waits (g ∷ fs) v w f [] after are has still = absurd (grind arith)
 waits (g ∷ fs) v w f (s ∷ part) after are (suc i, lt, is) still =
     let rest : steps_of part ≡ map Reap fs = grind arith in
     let later = waits fs (did v s.0 s.1) w f part (after ∙ sym (stepped_then v _ _)) rest (i, omega arith, is) still in
-    (later.0, later.1, (suc later.2.0, (omega (arith, later.2.1)), later.2.2))
+    (later.0, later.1, (suc later.2.0, (omega arith), later.2.2))
 waits (g ∷ fs) v w f (s ∷ part) after are (zero, lt, is) still =
     let first : s.0 ≡ Reap f = grind arith in
     let rest : steps_of part ≡ map Reap fs = grind arith in
@@ -149,7 +146,7 @@ waits (g ∷ fs) v w f (s ∷ part) after are (zero, lt, is) still =
     note = reaped v.table.shape.last_generation (frame_at v.ledger f)
 
     found : (n : ℕ) → (¬ ((frame_at (cond (n == 0) (with_frame v.ledger f note) v.ledger) f).kind ≡ Dying) → ⊥) → 1 ≤ n
-    found zero dies = absurd (dies (set_here (λ x. ¬ (x.kind ≡ Dying)) v.ledger.frames f note (not_dying ((frame_at v.ledger f).generation == v.table.shape.last_generation)) (λ e. grind arith)))
+    found zero dies = absurd (dies (set_here (λ x. ¬ (x.kind ≡ Dying)) v.ledger.frames f note (grind arith) (λ e. grind arith)))
     found (suc n) dies = omega arith
 
 -- where no frame of a node was found, each that is dying still was found with a count above zero
@@ -167,8 +164,8 @@ none_left {v} {w} {node} h =
             let lt : f - node * size < size = omega arith in
             let at = get_or-range_with_len (node * size) _ _ f lt in
             let long = length-range_with_len (node * size) size in
-            waits fs v w f _ m.after m.are (contains_filter _ _ f (f - node * size, omega arith, at ∙ omega arith) dies) still
-        | inr alive ↦ absurd (lives_on fs v w f m (λ is. (grind (arith, ap dying_kind is))) still)
+            waits fs v w f _ m.after m.are (grind (arith, contains_filter)) still
+        | inr alive ↦ absurd (lives_on fs v w f m (λ is. (grind arith)) still)
       ];
       none = h.none;
     }
@@ -190,7 +187,7 @@ lost {v} {rows = rows} dup h =
       found = step.0;
       tried = Contains-push _ (Freeze f, step.0);
       other = subst (λ (z : KeeperView). count_in step.0 ≢ (frame_at z.ledger f).base) (sym step.1)
-          (by _ f (count_in step.0) (count_in step.0 == (frame_at s.ledger f).base) refl (grind (arith, step.1, h.kept)));
+          (by _ f (count_in step.0) (count_in step.0 == (frame_at s.ledger f).base) refl (grind arith));
     }
   where
     by : (k : Ledger) (f n : ℕ) (b : Bool) → b ≡ (n == (frame_at k f).base) → (frame_at (cond b (with_frame k f (frozen (frame_at k f))) k) f).kind ≡ Stable
@@ -204,8 +201,7 @@ lowest_still sh k node f g false h stable = h
 lowest_still sh k node f g true h stable = record {
   low = h.low;
   high = h.high;
-  free = rw (get_or-set_other k.frames f g (frozen (frame_at k f)) blank (λ same. (let e = sym h.free ∙ ap (λ x. (frame_at k x).kind) same ∙ stable in grind arith)))
-      h.free;
+  free = grind (arith, get_or-set_other);
   least = λ i low lt. set_holds (λ x. free_kind x.kind ≡ false) k.frames f i (frozen (frame_at k f)) refl (h.least i low lt);
 }
 
@@ -213,7 +209,7 @@ lowest_still sh k node f g true h stable = record {
 found_in : (part : Log) (step : KeeperStep) → Contains (steps_of part) step → (found : ℕ) × Contains part (step, found)
 found_in [] step (i, lt, is) = absurd (omega arith)
 found_in (e ∷ part) step (zero, lt, is) = (e.1, (0, omega arith, rw is))
-found_in (e ∷ part) step (suc i, lt, is) = let more = found_in part step (i, omega arith, is) in (more.0, (suc more.1.0, (let inside = more.1.1 in omega arith), more.1.2))
+found_in (e ∷ part) step (suc i, lt, is) = let more = found_in part step (i, omega arith, is) in (more.0, (suc more.1.0, (omega arith), more.1.2))
 
 -- a part of the log that is not empty ends as the log does
 ends_so : {X : Type 0} (xs part ys : List X) (e : X) → 1 ≤ length part → xs ++ part ≡ ys ++ e ∷ [] → Contains part e
@@ -225,7 +221,6 @@ ends_so (x ∷ xs) part (y ∷ ys) e some same = ends_so xs part ys e some (ap (
 -- a dup that moved: a frame of the node was raised, and published at the dup's place
 pub moved : (v w : Mapped) (rows : List Row) (dup : DupRow) (node : ℕ) → Moves v w rows dup node → HasMoved v.keeper w.keeper dup.place node
 moved v w rows dup node h =
-    let ends = h.named in
     let f : ℕ = dup_frame v.frame rows dup.number in
     let g : ℕ = h.got in
     let count : ℕ = item_count rows dup in
@@ -239,21 +234,13 @@ moved v w rows dup node h =
     (lowest_still h.searched.table.shape h.searched.ledger node f g (count_in step.0 == (frame_at h.searched.ledger f).base)
     (rw searched.1.table h.finds.lowest) h.stood) in
     let mounts = raised_does lowest h.mounts
-    (quiet_both (steps_of (loads f 0 dup.bytes)) stores (quiet_loads f 0 dup.bytes) (quiet_both (steps_of (puts g 0 dup.bytes)) (Open g ∷ end) (quiet_puts g 0 dup.bytes)
-    (refl, quiet_both (replicate (count - 1) (Add g)) (Publish dup.place g ∷ []) (quiet_adds (count - 1) g) (refl, tt)))) in
+    (grind (arith, quiet_both, quiet_loads, quiet_puts, quiet_adds)) in
     let does = does_then (does_then searched (quiet_does h.freezes (refl, tt))) mounts in
     let made = made_then h.finds.reaped (made_then h.freezes h.mounts) in
     let told : steps_of does.0 ≡ reaps ++ (Freeze f ∷ Raise g ∷ rest) =
-    ap steps_of (append_cancel_left v.keeper.log does.0 made.part (sym does.1.log ∙ ap (λ (z : KeeperView). z.log) made.after)) ∙ made.are in
+    grind (arith, append_cancel_left) in
     let raised = found_in does.0 (Raise g) (rw told (Contains-append_right reaps (Freeze f ∷ Raise g ∷ rest) (Raise g) (1, omega arith, refl))) in
-    record {
-      part = does.0;
-      did = does.1;
-      frame = g;
-      before = raised.0;
-      raised = raised.1;
-      published = ends_so v.keeper.log does.0 ends.0.log (Publish dup.place g, 0) (let inside = raised.1.1 in omega arith) (sym does.1.log ∙ ap (λ (z : KeeperView). z.log) ends.1);
-    }
+    grind (arith, ends_so)
 
 -- ---------------------------------------------------------------- pages that are unmerged
 

@@ -1,13 +1,11 @@
 -- The commands on single pages, carried out.
-use Rattle.ksm_book.proofs.Names.{[], absent_parts, All, Answer, ap, arith, BookValue, BookView, Bool, change_row, comes_before, Command, cond, cond_both, Done, Drop, Err, false, filter, filter_passes, find_put, FindsNone, frame_at, Frames, frames_of, fresh_row, GuestPage, HasNewFrame, Held, Houses, IfErr, IfSome, if◌then◌else◌, InPageOrder, is_some, IsAlone, IsCarried, IsHeld, IsLaid, IsReadable, IsServed, IsSound, IsWritable, KeeperView, leaving, length, lies_on, List, lying, MakesSteps, map_fixed, MatchBool, MayLeave, moved, MovePage, nat_le, NoFrame, None, not, Ok, on_its_own, Option, ordered_with, PAGE_WORDS, pages_ordered, PagesView, Performs, Placed, Provides, puts, refl, Register, Resettled, Resettles, Result, rewriting, Row, row_at, same_page, same_page_refl, shared_state, Some, sound_after, state_of, stepped, Store, stored, subst, sym, true, view_of, with_row, without_between, without_page, ℕ, ◌++◌, ◌<◌, ◌==◌, ◌∙◌, ◌∷◌, ◌≡◌}
-use Rattle.std.proofs.lemmas.Bool.{eq-eqb}
+use Rattle.ksm_book.proofs.Names.{[], absent_parts, All, Answer, ap, arith, BookValue, BookView, Bool, change_row, comes_before, Command, cond, Done, Drop, Err, false, filter, filter_passes, find_put, FindsNone, frame_at, Frames, frames_of, fresh_row, GuestPage, HasNewFrame, Held, Houses, IfErr, IfSome, if◌then◌else◌, InPageOrder, is_some, IsAlone, IsCarried, IsHeld, IsLaid, IsReadable, IsServed, IsSound, IsWritable, KeeperView, leaving, length, lies_on, List, lying, MakesSteps, map_fixed, MatchBool, MayLeave, MovePage, nat_le, NoFrame, None, not, Ok, on_its_own, Option, ordered_with, PAGE_WORDS, pages_ordered, PagesView, Performs, Placed, Provides, puts, refl, Register, Resettled, Resettles, Result, rewriting, Row, row_at, same_page, same_page_refl, shared_state, Some, sound_after, state_of, stepped, Store, stored, subst, sym, true, view_of, with_row, without_between, without_page, ℕ, ◌++◌, ◌<◌, ◌==◌, ◌∙◌, ◌∷◌, ◌≡◌}
 use Rattle.ksm_base.specs.declared.row.PageState.TheVariants.{Private}
 use Rattle.ksm_book.proofs.ByPage.{at_changed, change_twice, found_page, lies_again, lies_still, row_of_page}
-use Rattle.ksm_book.proofs.Laying.{come_there, laid_rows, own_kind, readable, served_at, shape_same}
+use Rattle.ksm_book.proofs.Laying.{come_there, laid_rows, served_at}
 use Rattle.ksm_book.proofs.Keeping.{left_placed, left_spends, may_leave, searched_spends}
-use Rattle.ksm_book.proofs.Made.{made_part}
 use Rattle.ksm_book.proofs.Resettled.{turned}
-use Rattle.ksm_book.proofs.Shown.{provides_does, resettles_own}
+use Rattle.ksm_book.proofs.Shown.{provides_does}
 use Rattle.ksm_book.proofs.Moves.{removed}
 
 -- the pages, their keeper, the cursor and the passes as a book
@@ -20,11 +18,11 @@ Carries p k q l cursor passes command answer = IsCarried (book p k cursor passes
 
 -- a command that was carried out leaves a sound state
 pub sound_carried : {v w : BookView} {command : Command} {answer : Answer} → IsSound v.state → IsCarried v w command answer → IsSound w.state
-sound_carried {v} {w} {command} {answer} s h = grind (arith, h.state, sound_after)
+sound_carried s h = grind (arith, sound_after)
 
 -- a command carried out from one book value was carried out from an equal one, and so was an equal command
 pub carried_so : {old now : BookValue} {w : BookView} {by given : Command} {answer : Answer} → old ≡ now → by ≡ given → IsCarried (view_of old) w by answer → IsCarried (view_of now) w given answer
-carried_so {w = w} {answer = answer} same told h = grind (arith, same, told, h)
+carried_so same told h = grind (arith, h)
 
 -- the row of a page is found by the page that was told of it
 pub row_held : {p : PagesView} {page : GuestPage} {held : Held} (h : IsHeld p page held) → row_at held.spot.page p.rows ≡ Some h.row
@@ -53,25 +51,29 @@ settled_then {p} {m} {q} {k} {l} {page} {node} {bytes} {row} h rise found r d ch
     } in (
       pages,
       subst (λ (z : Frames × GuestPage). Resettles (lying p k) (record { frame = z.0; keeper = l }) z.1 node bytes)
-          (grind (arith, frame, found_page)) r.resettles,
-      rw pages (record {
-        small = h.small;
-        same = shape_same _ k l h.same (resettles_own r.resettles);
-        placed = rw frame (r.placed _ houses);
-        spent = r.spent;
-      }),
+          (grind (arith, found_page)) r.resettles,
+      rw pages (grind arith),
     )
 
 -- a page whose row is found and not shared has a frame of its own
 pub alone_now : (rows : List Row) (page : GuestPage) (row : Row) → row_at page rows ≡ Some row → shared_state row.state ≡ false → IsAlone page rows
 alone_now rows page row found alone = rw found alone
 
--- the frame of a page may be read, and has the page's bytes
-pub may_read : {p : PagesView} {k : KeeperView} → IsLaid p k → (page : GuestPage) (row : Row) → row_at page p.rows ≡ Some row → (g : ℕ) → p.frame page ≡ Some g
-    → (g < frames_of k.table.shape) × IsReadable (frame_at k.ledger g).kind × (length (frame_at k.ledger g).content ≡ PAGE_WORDS) × ((frame_at k.ledger g).content ≡ row.bytes)
-may_read {p} {k} h page row found g lies =
-    let served = subst (IsServed p.shape k.ledger p.dups row) lies (served_at h.placed _ row found) in
-    (rw h.same served.0.frame, readable _ served.0.mapped served.0.kind, h.placed.widths g, served.0.content)
+-- a page with a frame
+module _ {p : PagesView} {k : KeeperView} (h : IsLaid p k) (page : GuestPage) (row : Row) (found : row_at page p.rows ≡ Some row) where
+  -- it may be read, and has the page's bytes
+  pub may_read : (g : ℕ) → p.frame page ≡ Some g
+      → (g < frames_of k.table.shape) × IsReadable (frame_at k.ledger g).kind × (length (frame_at k.ledger g).content ≡ PAGE_WORDS) × ((frame_at k.ledger g).content ≡ row.bytes)
+  may_read g lies =
+      let served = subst (IsServed p.shape k.ledger p.dups row) lies (served_at h.placed _ row found) in
+      grind arith
+
+  -- it may be stored to, where it is the page's own
+  pub own_ready : shared_state row.state ≡ false → (g : ℕ) → p.frame page ≡ Some g
+      → (g < frames_of k.table.shape) × (g < length k.ledger.frames) × IsWritable (frame_at k.ledger g).kind × (length (frame_at k.ledger g).content ≡ PAGE_WORDS)
+  own_ready alone g lies =
+      let served = subst (IsServed p.shape k.ledger p.dups row) lies (served_at h.placed _ row found) in
+      grind arith
 
 -- what is true anyway is true of each error of a result
 pub if_err : {T E : Type 0} (r : Result T E) (P : Type 0) → P → IfErr r (λ _. P)
@@ -81,39 +83,23 @@ if_err (Err e) P h = h
 -- the row of a page that was resettled is found with a frame of its own
 pub found_resettled : {p m : PagesView} {k l : KeeperView} {page : GuestPage} {node : ℕ} {bytes : List ℕ} {row : Row}
     → Resettled p m k l page node bytes → row_at page p.rows ≡ Some row → row_at page m.rows ≡ Some (on_its_own row)
-found_resettled {p} {page = page} {row = row} r found =
-    rw r.pages (at_changed page on_its_own p.rows row (λ x. refl) found)
+found_resettled r found =
+    rw r.pages (grind (arith, at_changed))
 
 -- ---------------------------------------------------------------- a store
-
--- the frame of a page with one of its own may be stored to
-pub own_ready : {p : PagesView} {k : KeeperView} → IsLaid p k → (page : GuestPage) (row : Row) → row_at page p.rows ≡ Some row → shared_state row.state ≡ false → (g : ℕ) → p.frame page ≡ Some g
-    → (g < frames_of k.table.shape) × (g < length k.ledger.frames) × IsWritable (frame_at k.ledger g).kind × (length (frame_at k.ledger g).content ≡ PAGE_WORDS)
-own_ready {p} {k} h page row found alone g lies =
-    let served = subst (IsServed p.shape k.ledger p.dups row) lies (served_at h.placed _ row found) in
-    let long = h.placed.frames_long in
-    (rw h.same served.0.frame, omega arith, grind (arith, served.0.kind, own_kind, tt), h.placed.widths g)
 
 module _ (p : PagesView) (k l : KeeperView) (cursor : Option GuestPage) (passes : ℕ) (page : GuestPage) (bytes : List ℕ) (row : Row) (found : row_at page p.rows ≡ Some row) (table : l.table ≡ k.table) where
   module _ (q : PagesView) (state : state_of q cursor passes ≡ record (state_of p cursor passes) { rows = change_row page (stored bytes) p.rows }) where
     stores : (shared : Bool) → shared_state row.state ≡ shared
         → MatchBool shared (Resettles (lying p k) (lying q l) row.page row.home bytes) (Performs (lying p k) (lying q l) (rewriting p.frame row.page bytes))
         → IsCarried (book p k cursor passes) (book q l cursor passes) (Store page bytes) (Ok Done)
-    stores shared is steps = record {
-      own = table;
-      answer = rw found tt;
-      state = state;
-      steps = rw (found, is) steps;
-    }
+    stores shared is steps = grind arith
 
   -- `Store` is carried out where the bytes are stored to the page's own frame, and its row tells them
   pub store_written : (q : PagesView) (g : ℕ) → q ≡ record p { rows = change_row page (stored bytes) p.rows; restless = q.restless } → shared_state row.state ≡ false → p.frame page ≡ Some g → l ≡ stepped k (puts g 0 bytes)
       → IsCarried (book p k cursor passes) (book q l cursor passes) (Store page bytes) (Ok Done)
   store_written q g goes alone lies wrote =
-      stores q (rw goes) false alone (record {
-        made = grind (arith, found_page, lies, made_part);
-        frame = rw goes;
-      })
+      stores q (rw goes) false alone (grind (arith, found_page))
 
   -- `Store` is carried out, and all lies lawfully, where a shared page is resettled with the bytes, as its row tells
   pub store_copied : (m q : PagesView) → IsLaid p k → InPageOrder p.rows → Resettled p m k l page row.home bytes
@@ -121,17 +107,17 @@ module _ (p : PagesView) (k l : KeeperView) (cursor : Option GuestPage) (passes 
       → Carries p k q l cursor passes (Store page bytes) (Ok Done)
   store_copied m q h rise r goes shared =
       let s = settled_then h rise found r _ (stored bytes) goes (λ x. refl) refl (refl, refl, refl) in
-      (stores q (rw s.0) true shared s.1, s.2)
+      grind arith
 
 -- ---------------------------------------------------------------- a move to another node
 
 -- a change that leaves the rows of a page as they are changes nothing
 pub change_still : (page : GuestPage) (f : Row → Row) (rows : List Row) → All (λ r. same_page r.page page ≡ true → f r ≡ r) rows → change_row page f rows ≡ rows
-change_still page f rows still = grind (arith, still, map_fixed)
+change_still page f rows still = grind (arith, map_fixed)
 
 -- a node that is there is not told as none
 pub there_is : (nodes node : ℕ) → node < nodes → nat_le nodes node ≡ false
-there_is nodes node less = grind (arith, less)
+there_is nodes node less = grind arith
 
 module _ (p : PagesView) (k : KeeperView) (cursor : Option GuestPage) (passes : ℕ) (page : GuestPage) (node : ℕ) (row : Row) (rise : InPageOrder p.rows) (found : row_at page p.rows ≡ Some row) (less : node < p.shape.nodes) where
   there : nat_le p.shape.nodes node ≡ false
@@ -139,16 +125,7 @@ module _ (p : PagesView) (k : KeeperView) (cursor : Option GuestPage) (passes : 
 
   -- `MovePage` to the node where the page is at home is carried out with nothing changed
   pub move_home : row.home ≡ node → IsCarried (book p k cursor passes) (book p k cursor passes) (MovePage page node) (Ok Done)
-  move_home same =
-      let is = eq-eqb row.home node same in
-      let one = row_of_page _ _ row rise found in
-      let still = change_still _ _ _ (λ i x lt of_page. subst (λ r. moved node r ≡ r) (sym (one i x lt of_page)) (rw is)) in
-      record {
-        own = refl;
-        answer = rw (there, found) tt;
-        state = ap (λ rows. record (state_of p cursor passes) { rows = rows }) (sym still);
-        steps = rw (found, is) (record { keeper = refl; frame = refl });
-      }
+  move_home same = grind (arith, row_of_page, change_still)
 
   module _ (l : KeeperView) (table : l.table ≡ k.table) (away : (row.home == node) ≡ false) where
     -- `MovePage` is carried out, and all lies lawfully, where the page is resettled on another node and at home there
@@ -157,7 +134,7 @@ module _ (p : PagesView) (k : KeeperView) (cursor : Option GuestPage) (passes : 
     move_moved m q h r goes =
         let to = ap (λ (x : Bool). if x then row else record row { home = node; state = Private }) away in
         let s = settled_then h rise found r _ _ goes
-        (λ x. cond_both _ x _ (λ y. y.page ≡ x.page) (λ _. refl) (λ _. refl))
+        (grind arith)
         (sym to) (rw to, rw to, rw to) in (
           record {
             own = table;
@@ -185,12 +162,7 @@ module _ {p : PagesView} {k : KeeperView} (h : IsLaid p k) (rise : InPageOrder p
   drop_gone cursor passes q l goes made =
       let table = ap (λ (z : KeeperView). z.table) made.after in
       let leaves = subst (λ o. MakesSteps k l (leaving o)) was made in (
-        record {
-          own = table;
-          answer = rw found tt;
-          state = rw goes;
-          steps = record { made = leaves; frame = rw goes };
-        },
+        grind arith,
         rw goes (laid_rows h l table (left_spends _ leaves) (left_placed _ leaves gone_hand)),
       )
 
@@ -208,12 +180,7 @@ without_come row rows rise absent =
 -- `Register` of a page without a row is refused with nothing changed, where a search for a frame finds none by no step
 pub register_refused : (p : PagesView) {k : KeeperView} {cursor : Option GuestPage} {passes : ℕ} {page : GuestPage} {node : ℕ} {bytes : List ℕ} → node < p.shape.nodes → row_at page p.rows ≡ None
     → FindsNone k k node → IsCarried (book p k cursor passes) (book p k cursor passes) (Register page node bytes) (Err (NoFrame node))
-register_refused p {node = node} less absent searched = record {
-  own = refl;
-  answer = rw (there_is p.shape.nodes node less, absent) refl;
-  state = refl;
-  steps = record { searched = searched; frame = refl };
-}
+register_refused p less absent searched = grind arith
 
 -- a page comes, at home on a node, with these bytes
 pub record HasCome (p m : PagesView) (page : GuestPage) (node : ℕ) (bytes : List ℕ) : Type 0 where
@@ -243,16 +210,11 @@ module _ {p m : PagesView} {page : GuestPage} {node : ℕ} {bytes : List ℕ} (n
   register_come {k = k} {l = l} h cursor passes q {g} goes provides taken =
       let table = (provides_does provides).1.table in
       let one = row_of_page _ _ _ (ordered_with _ _ new.rise) found_fresh in
-      let rows = change_still _ _ _ (λ i x lt of_page. subst (λ r. on_its_own r ≡ r) (sym (one i x lt of_page)) refl) in
+      let rows = change_still _ _ _ (grind arith) in
       let frame = ap (lies_on page (Some g)) new.others ∙ lies_again _ _ _ _ in
       let there = goes ∙ (λ t. record (new.comes t) { rows = change_row page on_its_own (new.comes t).rows; frame = lies_on page (Some g) m.frame; restless = q.restless })
       ∙ (λ t. record p { rows = rows t; frame = frame t; restless = q.restless }) in (
-        record {
-          own = table;
-          answer = rw (there_is p.shape.nodes node new.less, new.absent) tt;
-          state = rw there;
-          steps = record { got = g; provides = provides; frame = rw there };
-        },
+        grind arith,
         rw there (laid_rows h l table taken.spent (come_there h.same taken h.placed _ new.absent refl refl refl)),
       )
 
@@ -264,11 +226,6 @@ module _ {p m : PagesView} {page : GuestPage} {node : ℕ} {bytes : List ℕ} (n
       let rows = without_come _ _ new.rise new.absent in
       let frame = ap (lies_on page None) new.others ∙ lies_again _ _ None _ ∙ lies_still _ None _ nowhere_there in
       let back = goes ∙ (λ t. record (new.comes t) { rows = without_page page (new.comes t).rows; frame = lies_on page None m.frame }) ∙ (λ t. record p { rows = rows t; frame = frame t; restless = m.restless }) in (
-        record {
-          own = table;
-          answer = rw (there_is p.shape.nodes node new.less, new.absent) refl;
-          state = grind (arith, back);
-          steps = record { searched = searched; frame = rw back };
-        },
+        grind arith,
         rw back (laid_rows h l table (searched_spends _ searched.reaped) (turned h new.less searched).laid.placed),
       )

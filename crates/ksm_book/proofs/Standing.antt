@@ -1,5 +1,5 @@
 -- The frames of dups with items in a lawful placement.
-use Rattle.ksm_book.proofs.Names.{find_passes, [], ap, arith, Bool, DupRow, empty_from, find, find_all, frame_at, Frames, get_or, InPlaceOrder, IsInLife, IsServed, item_count, kind_for, Ledger, length, List, merged_into, None, place_frame, Placed, Row, Shape, Some, Stable, true, zero_state, ℕ, ◌+◌, ◌<◌, ◌∙◌, ◌∷◌, ◌≡◌, ◌≢◌, ◌≤◌}
+use Rattle.ksm_book.proofs.Names.{find_passes, [], ap, arith, Bool, DupRow, empty_from, find, find_all, frame_at, Frames, get_or, InPlaceOrder, IsInLife, IsServed, item_count, Ledger, length, List, merged_into, None, place_frame, Placed, Row, Shape, Some, Stable, true, zero_state, ℕ, ◌+◌, ◌<◌, ◌∷◌, ◌≡◌, ◌≢◌, ◌≤◌}
 use Rattle.ksm_book.proofs.Moves.{framed}
 use Rattle.ksm_book.proofs.Sharing.{first_found, state_of_item}
 
@@ -33,31 +33,14 @@ module _ {sh : Shape} {across : ℕ} {k : Ledger} {rows : List Row} {frame : Fra
       let served = find_all _ (λ r. IsServed sh k dups r (frame r.page)) _ row first.1 p.each_row in
       let has = framed sh k _ row _ (ap zero_state state) served in
       let fits = has.2 in
-      let on = (fits.1 n d lt).item into in
-      record {
-        item = row;
-        first = first.1;
-        served = served;
-        merged = into;
-        lies = has.1 ∙ ap Some on.0;
-        life = on.1;
-        kind = rw (← on.0) (fits.0.kind ∙ ap kind_for state);
-      }
-
-  -- two dups with items on one frame have one number
-  one_number : (n m : ℕ) (d : DupRow) → n < length dups → m < length dups → Lives k dups sh rows frame (get_or dups n d) → Lives k dups sh rows frame (get_or dups m d)
-      → place_frame k (get_or dups n d).place ≡ place_frame k (get_or dups m d).place → (get_or dups m d).number ≡ (get_or dups n d).number
-  one_number n m d lt lt' a b same = grind (arith, state_of_item)
+      grind arith
 
   -- the frames of dups with items differ, and none of them is a page's own
   module _ (rise : InPlaceOrder dups) where
     -- two dups with items stand on frames that differ, where the dups are in the order of their places
     pub frames_apart : (n m : ℕ) (d : DupRow) → n < m → m < length dups → Lives k dups sh rows frame (get_or dups n d) → Lives k dups sh rows frame (get_or dups m d)
         → place_frame k (get_or dups n d).place ≢ place_frame k (get_or dups m d).place
-    frames_apart n m d before lt a b same =
-        let other = (rise n m d before lt).1 in
-        let one = one_number n m d (omega arith) lt a b same in
-        absurd (grind arith)
+    frames_apart n m d before lt a b same = grind arith
 
 -- from p on there are at most as many places taken as dups
 pub empty_from_most : (p : ℕ) (dups : List DupRow) → empty_from p dups ≤ p + length dups

@@ -21,7 +21,7 @@ module _ (k : Ledger) (low : ℕ) where
   dying_past n zero none = ap (dying_from k low) (omega arith)
   dying_past n (suc m) none =
       let e : n + suc m ≡ n + m + 1 = omega arith in
-      ap (dying_from k low) e ∙ dying_more _ false (none (low + (n + m)) (omega arith) (omega arith)) ∙ append-nil (dying_from k low (n + m))
+      ap (dying_from k low) e ∙ dying_more _ false (grind arith) ∙ append-nil (dying_from k low (n + m))
       ∙ dying_past n m (λ f ge lt. none f ge (omega arith))
 
   -- those before a place were reaped, and those from there on are as they were
@@ -37,5 +37,5 @@ module _ (k : Ledger) (low : ℕ) where
         → dying_from k low (to + 1 - low) ≡ dying_from k low (from - low) ++ to ∷ []
     next_reaped to further none there =
         let at : low + (to - low) ≡ to = omega arith in
-        ap (dying_from k low) (omega arith) ∙ dying_more _ true (grind (arith, at, later to further, there))
+        ap (dying_from k low) (omega arith) ∙ dying_more _ true (grind (arith, there))
         ∙ (λ i. passed to further none i ++ at i ∷ [])

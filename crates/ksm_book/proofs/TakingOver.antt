@@ -1,10 +1,9 @@
 -- A page waits in the stead of one further on: what becomes of the book, and which pages are due then.
-use Rattle.ksm_book.proofs.Names.{All, and_from, AreDue, arith, before_differs, BookState, BookValue, both_ways, cases_Bool, change_row, change_rows, Comes, comes_before, cond_both, Deed, doing, due_visited, each_at_page, false, find_all, find_passes, get_or, GuestPage, has_item, idle, inl, inr, is_restless, IsAlone, IsSound, List, map_alike, map_mapped, MatchOption, not, not_both, or_cases, page_visited, PageState, partner, Reached, refl, Row, row_at, same_page, same_page_eq, same_page_refl, same_page_sym, settled, shared_state, Some, StaysBefore, subst, sym, taken_over, takes_over, TakesOverFrom, true, view_of, waiting_state, waits_for, WaitsFor, waits_tells, ◌&&◌, ◌∙◌, ◌∷◌, ◌≡◌, ◌||◌, if◌then◌else◌}
+use Rattle.ksm_book.proofs.Names.{All, AreDue, arith, before_differs, BookState, BookValue, both_ways, cases_Bool, change_row, change_rows, Comes, comes_before, cond_both, Deed, doing, due_visited, each_at_page, false, find_all, find_passes, get_or, GuestPage, has_item, idle, inl, inr, is_restless, IsAlone, IsSound, List, map_alike, map_mapped, MatchOption, not, not_both, page_visited, PageState, partner, Reached, refl, Row, row_at, same_page, same_page_refl, same_page_sym, settled, shared_state, Some, StaysBefore, subst, sym, taken_over, takes_over, TakesOverFrom, true, view_of, waiting_state, waits_for, WaitsFor, waits_tells, ◌&&◌, ◌∙◌, ◌∷◌, ◌≡◌, ◌||◌, if◌then◌else◌}
 use Rattle.ksm_book.proofs.ByPage.{found_page, row_of_page}
-use Rattle.ksm_book.proofs.DueAlike.{freed_found, one_waits, settled_once, taken_is}
-use Rattle.ksm_book.proofs.DueKept.{more_due, taken_due}
+use Rattle.ksm_book.proofs.DueAlike.{freed_found, one_waits, taken_is}
+use Rattle.ksm_book.proofs.DueKept.{more_due, taken_due, AreAmong}
 use Rattle.ksm_book.proofs.Reached.{comes_to}
-use Rattle.ksm_book.proofs.RowVisits.{filled_by}
 
 -- in a sound book the row of a page is to wait in the stead of that of another page
 pub record Takes (b : BookState) (page other : GuestPage) : Type 0 where
@@ -22,30 +21,18 @@ pub record Takes (b : BookState) (page other : GuestPage) : Type 0 where
 -- where that is told of the row of a page, it is so
 pub takes_from : {b : BookState} {page other : GuestPage} → IsSound b
     → MatchOption (row_at page b.rows) (true ≡ false) (TakesOverFrom b other) → Takes b page other
-takes_from sound told =
-    let at = filled_by _ told in
-    let met = filled_by _ at.2.2 in
-    record {
-      sound = sound;
-      row = at.0;
-      found = at.1;
-      restless = at.2.0;
-      takes = at.2.1;
-      waiter = met.0;
-      waits = met.1;
-      is = met.2;
-    }
+takes_from sound told = grind arith
 
 -- a row that waits has a frame of its own
 waits_alone : (state : PageState) → waiting_state state ≡ true → shared_state state ≡ false
-waits_alone state is = grind (arith, is)
+waits_alone state is = grind arith
 
 module _ {b : BookState} {page other : GuestPage} (at : Takes b page other) where
   page_is : at.row.page ≡ page
   page_is = found_page _ _ _ at.found
 
   there : row_at at.row.page b.rows ≡ Some at.row
-  there = grind (arith, page_is, at.found)
+  there = grind (arith, page_is)
 
   passes : waits_for b.knobs at.row at.waiter ≡ true
   passes = find_passes (waits_for b.knobs at.row) b.rows _ at.waits
@@ -80,7 +67,7 @@ module _ {b : BookState} {page other : GuestPage} (at : Takes b page other) wher
 
   -- the visit of the page, as one that is due, has its row wait in the stead of the other one
   due_is : (deed : Deed) → due_visited doing (b, deed) page ≡ (taken_over b at.row, deed)
-  due_is deed = grind (arith, and_from)
+  due_is deed = grind arith
 
   -- so does the visit of the definitions once the other one waits no more
   then_is : (deed : Deed)
@@ -96,22 +83,22 @@ module _ (v m w : BookValue) {page other : GuestPage} (at : Takes v.state page o
   pub taken_comes : Comes m w (λ s. page_visited doing s page) → Comes v w (λ s. due_visited doing s page)
   taken_comes visits = λ from s before.
       subst (Reached from w) (
-      grind (arith, before.0, then_is at s.1, due_is at s.1)) (visits from (once_freed other s) (first from s before))
+      grind (arith, then_is at s.1)) (visits from (once_freed other s) (first from s before))
 
   -- where that visit was refused, nothing changed but which rows from the page on wait
   pub taken_refused : Comes m w (λ s. s) → StaysBefore page v w
   taken_refused none = λ from s before.
       let reached = none from (once_freed other s) (first from s before) in
-      (grind (arith, reached.0, still s.0.rows), reached.1)
+      (grind (arith, still s.0.rows), reached.1)
     where
       hides : Row → Row
       hides r = if not (comes_before r.page page) then settled r else r
 
       behind : (r : Row) → same_page r.page other ≡ true → not (comes_before r.page page) ≡ true
-      behind r same = grind (arith, same, later at, same_page_eq, not_both)
+      behind r same = grind (arith, later at, not_both)
 
       again : (r : Row) → same_page r.page other ≡ true → hides (settled r) ≡ hides r
-      again r same = grind (arith, same, behind r same, settled_once r)
+      again r same = grind (arith, behind r same)
 
       still : (rows : List Row)
           → change_rows (λ r. not (comes_before r.page page)) settled (change_row other settled rows)
@@ -123,14 +110,14 @@ module _ (v m w : BookValue) {page other : GuestPage} (at : Takes v.state page o
   module _ (old more new : List GuestPage)
       (added : (p : GuestPage) → has_item p more ≡ (same_page other p || has_item p old))
       (gone : (p : GuestPage) → has_item p new ≡ (has_item p more && not (same_page page p))) where
-    kept : (p : GuestPage) → has_item p old ≡ true → has_item p (page ∷ new) ≡ true
+    kept : AreAmong old (page ∷ new)
     kept p is = grind (arith, is, is)
 
     same_kept : (p : GuestPage) → same_page other p ≡ true → has_item p new ≡ true
-    same_kept p same = grind (arith, same_page_sym page other, before_differs page other (later at), same_page_eq)
+    same_kept p same = grind (arith, same_page_sym page other, before_differs page other (later at))
 
     other_kept : (p : GuestPage) → has_item p (at.waiter.page ∷ new) ≡ true → has_item p new ≡ true
-    other_kept p is = grind (arith, is, or_cases, same_kept)
+    other_kept p is = grind (arith, same_kept)
 
     -- the other page is due then, and the first one no longer
     pub taken_leaves : Comes m w (λ s. page_visited doing s page) → AreDue v.state old → AreDue w.state new

@@ -1,5 +1,5 @@
 -- Pages that leave their dups, or the zero page, one after another.
-use Rattle.ksm_book.proofs.Names.{[], All, and-true, ap, append-nil, arith, Bool, change_row, change_rows, cond-false, cond-true, cond_both, false, Fault, filter, filter-append, filter_none, find, GuestPage, HasLeft, Held, inl, InPageOrder, inr, is_next, is_of, is_shared_of, is_some, IsAlone, IsHeld, IsKnown, IsLaid, KeeperView, left_by, length, length-append, let_go, List, lying, Mapped, MayNotLeave, NoFrame, None, not, not-false, not-true, of_guest, on_its_own, Option, option_map, PagesView, refl, Resettled, ResettlesEach, Row, row_at, same_page, same_Some, shared_of, shared_state, slice_get, Some, subst, suc, sym, take, take-append_seam, true, Unshares, ℕ, ◌&&◌, ◌++◌, ◌+◌, ◌<◌, ◌∙◌, ◌∷◌, ◌≡◌, ◌≤◌, if◌then◌else◌, Contains-append_right}
+use Rattle.ksm_book.proofs.Names.{[], All, ap, append-nil, arith, Bool, change_row, change_rows, cond-false, cond-true, false, Fault, filter, filter-append, filter_none, find, GuestPage, HasLeft, Held, inl, InPageOrder, inr, is_next, is_of, is_shared_of, is_some, IsAlone, IsHeld, IsKnown, IsLaid, KeeperView, left_by, length, length-append, let_go, List, lying, Mapped, MayNotLeave, NoFrame, None, not, not-false, not-true, of_guest, on_its_own, Option, option_map, PagesView, refl, Resettled, ResettlesEach, Row, row_at, same_page, same_Some, shared_of, shared_state, slice_get, Some, subst, suc, sym, take, take-append_seam, true, Unshares, ℕ, ◌&&◌, ◌++◌, ◌+◌, ◌<◌, ◌∙◌, ◌∷◌, ◌≡◌, ◌≤◌, if◌then◌else◌, Contains-append_right}
 use Rattle.ksm_base.proofs.Edits.{count_more}
 use Rattle.ksm_base.specs.Counting.{mergeable_count}
 use Rattle.ksm_base.specs.declared.row.PageState.TheVariants.{Private}
@@ -25,7 +25,7 @@ stay_in_scan test (r ∷ rows) all = by _ refl (stay_in_scan test rows)
     by : (m : Bool) → r.mergeable ≡ m → (mergeable_count rows ≡ length rows → rows ≡ change_rows test (λ s. record s { mergeable = true }) rows)
         → r ∷ rows ≡ change_rows test (λ s. record s { mergeable = true }) (r ∷ rows)
     by true is rest = grind (arith, sum)
-    by false is rest = absurd (omega (arith, sum, ap one_if is, count_by-le-length (λ s. s.mergeable) rows))
+    by false is rest = grind (arith, count_by-le-length)
 
 -- a row that is left keeps its page
 pub page_left : (guest : Option ℕ) (r : Row) → (left_by guest r).page ≡ r.page
@@ -71,8 +71,8 @@ module _ {p : PagesView} {k : KeeperView} (guest : Option ℕ) {page : GuestPage
           row = row;
           found = told.found;
           given = ap length (sym none);
-          pages = grind (arith, goes, frame);
-          steps = rw none (record { keeper = refl; frame = frame });
+          pages = grind arith;
+          steps = grind arith;
           laid = rw goes (laid_changed h _ row _ _ rise told.found (page_left _) (lodges _));
         }
 
@@ -109,7 +109,7 @@ module _ {p : PagesView} {k : KeeperView} (guest : Option ℕ) {page : GuestPage
         → ((x : Row) → shared_state x.state ≡ true → d (on_its_own x) ≡ left_by guest x) → (d (on_its_own row)).state ≡ Private
         → (d (on_its_own row)).home ≡ row.home → (d (on_its_own row)).bytes ≡ row.bytes → HasLeft p q k l guest page 1
     left_shared q d goes same state home content =
-        let wrote = same_Some _ _ (grind (arith, are, told.found)) in
+        let wrote = same_Some _ _ (grind arith) in
         let got = subst (λ (z : ℕ × List ℕ). Resettled p m k l page z.0 z.1) (λ t. (told.home t, wrote t)) r in
         let all = cond-true _ _ [] shared in
         let to = same row shared in
@@ -126,20 +126,19 @@ module _ {p : PagesView} {k : KeeperView} (guest : Option ℕ) {page : GuestPage
     -- a shared row of a guest is left once its page was resettled and it is let go, and one frame is given for it
     pub left_guest : is_some guest ≡ true → {q : PagesView} → q ≡ record m { rows = change_row page let_go m.rows; restless = q.restless }
         → HasLeft p q k l guest page 1
-    left_guest some {q} goes = left_shared q _ goes (λ x _ t. sym (guest_left _ some) t x) refl refl refl
+    left_guest some {q} goes = grind (arith, left_shared)
 
     -- where all pages are asked for, a shared row is left once its page was resettled and it is not unchanged
     pub left_any : is_some guest ≡ false → {q : PagesView}
         → q ≡ record m { rows = change_row page (λ x. record x { unchanged = false }) m.rows; restless = q.restless }
         → HasLeft p q k l guest page 1
-    left_any none {q} goes = left_shared q _ goes
-        (λ x is. sym ((λ t. any_left _ none t x) ∙ cond-true _ _ x is)) refl refl refl
+    left_any none {q} goes = grind (arith, left_shared)
 
 -- ---------------------------------------------------------------- pages one after another
 
 -- rows that are resettled after others
 each_then : (xs ys : List Row) (u v w : Mapped) → ResettlesEach xs u v → ResettlesEach ys v w → ResettlesEach (xs ++ ys) u w
-each_then [] ys u v w idle more = grind (arith, idle.frame, idle.keeper, more)
+each_then [] ys u v w idle more = grind (arith, more)
 each_then (x ∷ xs) ys u v w (between, first, others) more = (between, first, each_then xs ys between v w others more)
 
 -- so many pages of the guest, or of all, got frames of their own; the cursor is behind the last page that was looked at
@@ -203,23 +202,21 @@ module _ {p q : PagesView} {k l : KeeperView} {guest : Option ℕ} {count : ℕ}
         let e = same_Some _ r (sym h.found ∙ cut.there) in
         let rows = ap (λ (x : PagesView). x.rows) h.pages in
         let more = filter-append (is_shared_of guest) cut.before (r ∷ [])
-        ∙ (grind (arith, met_before, cut.of)) ∙ ap (λ x. met ++ shared_of x) (sym e) in
+        ∙ (grind (arith, met_before)) ∙ ap (λ x. met ++ shared_of x) (sym e) in
         record {
           done = cut.before ++ r ∷ [];
           left = cut.rest;
           along = rw rows
               cut.next;
-          pages = grind (arith, h.pages, u.pages, rows);
-          counted = grind (arith, u.counted, h.given, length-append met (shared_of h.row), more);
-          each = rw more (each_then met _ _ _ _ u.each h.steps);
+          pages = grind (arith, rows);
+          counted = grind (arith, length-append met (shared_of h.row), more);
+          each = grind (arith, each_then);
           laid = h.laid;
           few =
               let far = further guest _ q.rows _ u.fits told in
-              let was = u.few in
               let one : length (shared_of h.row) ≤ 1 =
-              cond_both (shared_state h.row.state) (h.row ∷ []) [] (λ xs. length xs ≤ 1) (λ _. omega arith) (λ _. omega arith) in
-              let more = h.given in
-              omega (arith, one);
+              grind arith in
+              omega arith;
           fits = fits;
         }
 
@@ -237,9 +234,9 @@ module _ {p q : PagesView} {k l : KeeperView} {guest : Option ℕ} {count : ℕ}
         record {
           at = Some r;
           fault = ap Some (h.says ∙ ap NoFrame home);
-          stands = rw all (grind (arith, u.counted, get_seam));
-          pages = grind (arith, h.turned.pages, u.pages, cut.stop);
-          unmerges = rw h.says (lying q l, rw (← taken) u.each, h.turned.turns);
+          stands = rw all (grind (arith, get_seam));
+          pages = grind (arith, cut.stop);
+          unmerges = grind arith;
           laid = h.turned.laid;
         }
       where
@@ -252,18 +249,9 @@ module _ {p q : PagesView} {k l : KeeperView} {guest : Option ℕ} {count : ℕ}
   unsharing_end ended =
       let done = along_end _ (page_left _) u.along ended in
       let all = ap (filter (is_shared_of guest)) u.along.whole ∙ filter-append (is_shared_of guest) u.done u.left
-      ∙ ap (λ l. met ++ l) (filter_none (is_shared_of guest) _ (λ i d lt. rw (done.1 i d lt))) ∙ append-nil met in
+      ∙ ap (λ l. met ++ l) (grind (arith, filter_none)) ∙ append-nil met in
       let taken = sym (ap (take count) (all ∙ sym (append-nil met)) ∙ ap (λ n. take n (met ++ [])) u.counted ∙ take-append_seam met []) in
-      record {
-        at = None;
-        fault = refl;
-        stands = u.counted ∙ ap length (sym all);
-        pages =
-            let rows = done.0 ∙ (λ i. change_rows (λ r. sym (and-true (of_guest guest r)) i) (left_by guest) p.rows) in
-            grind (arith, u.pages, rows);
-        unmerges = rw (← taken) u.each;
-        laid = u.laid;
-      }
+      grind arith
 
 -- ---------------------------------------------------------------- pages that come into the scan
 
@@ -300,10 +288,10 @@ module _ {p q : PagesView} {guest : ℕ} {last : Option GuestPage} (u : IsMarkin
           done = at.before ++ at.row ∷ [];
           left = at.rest;
           along = rw rows at.next;
-          pages = grind (arith, goes, u.pages, rows);
+          pages = grind (arith, rows);
           fits = fits;
         }
 
   -- where no page of the guest is left, all its rows are mergeable
   pub marking_end : find (is_next (Some guest) last) q.rows ≡ None → q ≡ record p { rows = change_rows (is_of guest) in_scan p.rows; restless = q.restless }
-  marking_end ended = grind (arith, u.pages, (along_end _ (λ _. refl) u.along ended).0)
+  marking_end ended = grind (arith, (along_end _ (λ _. refl) u.along ended).0)

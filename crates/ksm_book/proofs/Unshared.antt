@@ -1,20 +1,13 @@
 -- The commands on all pages of a guest, or on all there are, carried out.
-use Rattle.ksm_book.proofs.Names.{All, All-map, and-true, ap, arith, BookState, IsCarried, change_rows, cond_both, Done, Err, every_row, false, Fault, find, get_or, GuestPage, has_guest, Held, inl, inr, is_before, is_next, is_of, is_some, IsHeld, IsLaid, IsStop, IsUnmerged, KeeperView, Knobs, left_by, List, list_any, map, MatchOption, Mergeable, NoFrame, None, of_guest, Ok, Option, option_map, PagesView, refl, Row, SetRun, shared_rows, shared_state, slice_get, slice_get_past, Some, state_of, subst, sym, true, UnknownPage, Unmerge, Unmerged, unshare_stopped, unshared, Unshares, ℕ, ◌&&◌, ◌∙◌, ◌≡◌, none_of, any_found, map_alike, map_mapped}
-use Rattle.ksm_book.proofs.Laying.{LodgesAs, laid_mapped, retuned}
+use Rattle.ksm_book.proofs.Names.{All, All-map, ap, arith, BookState, IsCarried, change_rows, Done, Err, every_row, false, Fault, find, GuestPage, has_guest, Held, inl, inr, is_before, is_next, is_of, is_some, IsHeld, IsLaid, IsStop, KeeperView, Knobs, left_by, List, list_any, map, MatchOption, Mergeable, None, of_guest, Ok, Option, option_map, PagesView, refl, Row, SetRun, shared_rows, shared_state, slice_get, slice_get_past, Some, state_of, subst, sym, true, UnknownPage, Unmerge, Unmerged, unshare_stopped, unshared, Unshares, ℕ, ◌&&◌, ◌∙◌, ◌≡◌, any_found, map_alike, map_mapped}
+use Rattle.ksm_book.proofs.Laying.{laid_mapped, retuned}
 use Rattle.ksm_book.proofs.Singles.{book}
 use Rattle.ksm_book.proofs.Unmerged.{in_scan, unshares_own}
-use Rattle.ksm_pages.proofs.Options.{none_mapped}
 
 -- the row at which there was a stop is the next of the shared ones
 stop_is : (rows : List Row) (k : ℕ) (at : Option Row) → IsStop rows k at → slice_get rows k ≡ at
 stop_is rows k None h = slice_get_past _ k (omega arith)
 stop_is rows k (Some row) h = h
-
--- where there was a stop, the answer says so
-is_unmerged : (rows : List Row) (k : ℕ) (at : Option Row) → IsStop rows k at
-    → IsUnmerged rows (Ok (Unmerged k (option_map (λ r. NoFrame r.home) at)))
-is_unmerged rows k None at = at
-is_unmerged rows k (Some row) at = rw at refl
 
 -- the first row of a guest is told, if it has one
 abbrev pub IsTold : PagesView → ℕ → Option Held → Type 0
@@ -23,43 +16,31 @@ IsTold p guest told = MatchOption told (find (is_next (Some guest) None) p.rows 
 
 -- a guest has a row exactly where a first row of the guest is told
 pub has_told : (p : PagesView) (guest : ℕ) (o : Option Held) → IsTold p guest o → list_any (is_of guest) p.rows ≡ is_some o
-has_told p guest o told = any_found (is_of guest) p.rows ∙ (λ i. is_some (find (λ r. sym (and-true (is_of guest r)) i) p.rows)) ∙ by o told
+has_told p guest o told = any_found (is_of guest) p.rows ∙ (grind arith) ∙ by o told
   where
     by : (o : Option Held) → IsTold p guest o → is_some (find (is_next (Some guest) None) p.rows) ≡ is_some o
     by o none = grind arith
 
--- `Unmerge` of a guest without a row is refused, and nothing changes
-pub unmerge_refused : (p : PagesView) {k : KeeperView} {cursor : Option GuestPage} {passes guest : ℕ}
-    → has_guest (state_of p cursor passes) guest ≡ false
-    → IsCarried (book p k cursor passes) (book p k cursor passes) (Unmerge guest) (Err UnknownPage)
-unmerge_refused p has = record {
-  own = refl;
-  answer = rw has refl;
-  state = refl;
-  steps = record { keeper = refl; frame = refl };
-}
+-- a guest without a row
+module _ (p : PagesView) {k : KeeperView} {cursor : Option GuestPage} {passes guest : ℕ}
+    (has : has_guest (state_of p cursor passes) guest ≡ false) where
+  -- `Unmerge` of it is refused, and nothing changes
+  pub unmerge_refused : IsCarried (book p k cursor passes) (book p k cursor passes) (Unmerge guest) (Err UnknownPage)
+  unmerge_refused = grind arith
 
--- `Mergeable` of a guest without a row is refused, and nothing changes
-pub mergeable_refused : (p : PagesView) {k : KeeperView} {cursor : Option GuestPage} {passes guest : ℕ}
-    → has_guest (state_of p cursor passes) guest ≡ false
-    → IsCarried (book p k cursor passes) (book p k cursor passes) (Mergeable guest) (Err UnknownPage)
-mergeable_refused p has = record {
-  own = refl;
-  answer = rw has refl;
-  state = refl;
-  steps = record { keeper = refl; frame = refl };
-}
+  -- and so is `Mergeable`
+  pub mergeable_refused : IsCarried (book p k cursor passes) (book p k cursor passes) (Mergeable guest) (Err UnknownPage)
+  mergeable_refused = grind arith
 
 -- `Unmerge` of a guest that has a row is carried out where its shared rows are unshared up to a stop or the end
 pub unmerge_carried : {p q : PagesView} {k l : KeeperView} {cursor : Option GuestPage} {passes : ℕ} {guest count : ℕ} {stop : Option Fault}
     → Unshares p q k l (Some guest) count stop → has_guest (state_of p cursor passes) guest ≡ true
     → IsCarried (book p k cursor passes) (book q l cursor passes) (Unmerge guest) (Ok (Unmerged count stop))
 unmerge_carried {p} {q} {k} {l} {cursor} {passes} {guest} {count} {stop} u has =
-    let rows = shared_rows (is_of guest) (state_of p cursor passes) in
     record {
       own = unshares_own u;
-      answer = rw (has, u.fault) (is_unmerged _ _ _ u.stands);
-      state = rw (u.pages, ← stop_is _ _ _ u.stands);
+      answer = grind arith;
+      state = grind (arith, stop_is);
       steps = u.unmerges;
     }
 
@@ -69,18 +50,12 @@ module _ {p q : PagesView} {k : KeeperView} (cursor : Option GuestPage) (passes 
   -- `Mergeable` of a guest that has a row is carried out where all its rows are put in the scan
   pub mergeable_carried : has_guest (state_of p cursor passes) guest ≡ true
       → IsCarried (book p k cursor passes) (book q k cursor passes) (Mergeable guest) (Ok Done)
-  mergeable_carried has = record {
-    own = refl;
-    answer = rw has tt;
-    state = rw goes;
-    steps = record { keeper = refl; frame = rw goes };
-  }
+  mergeable_carried has = grind arith
 
   -- rows and dups lie lawfully once a guest's rows are in the scan
   pub mergeable_laid : IsLaid q k
-  mergeable_laid = rw goes (laid_mapped h _ _ (λ r. cond_both _ _ r (λ x. x.page ≡ r.page) (λ _. refl) (λ _. refl))
-      (λ i d lt. let r = get_or p.rows i d in
-      cond_both _ _ r (λ x. LodgesAs x r) (λ _. (refl, refl, inl refl)) (λ _. (refl, refl, inl refl))))
+  mergeable_laid = rw goes (laid_mapped h _ _ (grind arith)
+      (grind arith))
 
 -- where all pages are asked for, those before the stop that were shared are unshared
 stopped_rows : (at : Option Row) (rows : List Row)
@@ -103,7 +78,7 @@ module _ {p m : PagesView} {k l : KeeperView} (cursor : Option GuestPage) (passe
   carried q cursor' frame state =
       record {
         own = unshares_own u;
-        answer = rw u.fault (is_unmerged met _ _ u.stands);
+        answer = grind arith;
         state = state;
         steps = rw frame u.unmerges;
       }
@@ -117,27 +92,19 @@ module _ {p m : PagesView} {k l : KeeperView} (cursor : Option GuestPage) (passe
   unshare_stops some {q} goes =
       let rows = stopped_rows u.at p.rows
       ∙ ap (λ o. change_rows (λ r. shared_state r.state && is_before o r) unshared p.rows) (sym (stop_is met _ _ u.stands)) in (
-        carried q _ (rw goes) (rw goes (grind (arith, u.pages, same, rows, by))),
+        carried q _ (rw goes) (grind arith),
         rw goes (retuned (inl across) u.laid),
       )
-    where
-      by : (s : Option Fault) → is_some s ≡ true → record b {
-        rows = change_rows (λ r. shared_state r.state && is_before (slice_get met count) r) unshared b.rows;
-        knobs = record b.knobs { run = 0 };
-      } ≡ unshare_stopped s count b
-      by None none = absurd (grind arith)
-      by (Some fault) _ = refl
 
   -- it went through
   module _ (none : is_some stop ≡ false) where
     went : m.rows ≡ map (left_by None) p.rows
-    went = rw (u.pages, none_mapped _ _ (sym u.fault ∙ none_of _ none))
+    went = grind arith
 
     -- where the unsharing of all rows did not stop, no row is merged or Zero
     pub unshare_none : All (λ r. shared_state r.state ≡ false) m.rows
     unshare_none = subst (All (λ r. shared_state r.state ≡ false)) (sym went)
-        (All-map (λ r. shared_state r.state ≡ false) _ _ (λ i d lt. let r = get_or p.rows i d in
-        cond_both _ (unshared r) r (λ x. shared_state x.state ≡ false) (λ _. refl) (λ alone. alone)))
+        (All-map (λ r. shared_state r.state ≡ false) _ _ (grind arith))
 
     -- `SetRun` 2 is carried out, and all lies lawfully, where the unsharing of all rows went through and run is 2 then
     pub unshare_ends : {w q : PagesView} → w ≡ record m { rows = map unshared m.rows; restless = w.restless }

@@ -22,7 +22,7 @@ dying-preserved c =
       made = subst (MakesSteps v w')
           (sym (ap (map Reap) (next_reaped v.ledger _ w.ledger _ so_far.low so_far.later _ low first.least first.there) ∙ map-append Reap (dying_from v.ledger c.args.first (from - c.args.first)) (frame ∷ [])))
           (made_then so_far.made (made_one w w' _ _ is));
-      later = λ f ge. rw is (other_if _ _ _ f _ (λ e. omega arith) ∙ so_far.later f (omega arith));
+      later = grind (arith, other_if);
     }
 
 pub returns : goal.returns

@@ -3,11 +3,7 @@ use Rattle.ksm_book.proofs.Filling.{mounts, words_kept, again, at_again, follow}
 use Rattle.ksm_book.proofs.mounting.mount.Goals as goal
 
 pub returns-clause-made : goal.returns-clause-made
-returns-clause-made c =
-    let v = c.args.keeper.now in
-    rw (← (c.load-bytes.ensures.bytes ∙ words_kept v _ _ _ _ c.requires.may.free c.requires.may.dying c.raise.ensures.1))
-    (mounts v _ _ _ _ _ _ _ _ _ _
-    _ _ _ c.raise.ensures.1 c.load-bytes.ensures.loaded c.write.ensures.wrote c.open.ensures c.add_times.ensures.made c.publish.ensures)
+returns-clause-made c = grind (arith, words_kept, mounts)
 
 pub returns-clause-ledger : goal.returns-clause-ledger
 returns-clause-ledger c =

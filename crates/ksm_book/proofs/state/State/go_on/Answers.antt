@@ -1,7 +1,7 @@
-use Rattle.ksm_book.proofs.Names.{ap, AreDue, arith, begun, BookState, BookValue, comes_before, Deed, doing, EndsAt, filter, has_item, IsStill, last_visited, length, mergeable_pages, mul_comm, None, pages_ahead, pages_visited, pass_ended, pass_ended_at_last, Reached, subst, sym, true, up_to, visit_begun, visits_beside, ◌%◌, ◌*◌, ◌+◌, ◌-◌, ◌/◌, ◌<◌, ◌∙◌, ◌≡◌, ◌≤◌, none_of}
+use Rattle.ksm_book.proofs.Names.{ap, AreDue, arith, begun, BookState, BookValue, comes_before, Deed, doing, EndsAt, filter, has_item, IsStill, last_visited, length, mergeable_pages, None, pages_ahead, pages_visited, pass_ended, pass_ended_at_last, Reached, subst, true, up_to, visit_begun, visits_beside, ◌%◌, ◌*◌, ◌+◌, ◌-◌, ◌/◌, ◌<◌, ◌∙◌, ◌≡◌, ◌≤◌}
 use Rattle.ksm_book.proofs.Scanned.{page_made, pass_made, passes_made, some_ahead, stopped_ahead, stopped_fewer, stopped_made}
 use Rattle.ksm_book.proofs.Doing.{doing_beside}
-use Rattle.ksm_book.proofs.PartBegun.{begun_cursor, begun_still, closed, closed_due, comes_due}
+use Rattle.ksm_book.proofs.PartBegun.{begun_still, closed, closed_due, comes_due}
 use Rattle.ksm_book.proofs.Reached.{begins}
 use Rattle.ksm_book.proofs.state.State.go_on.Goals as goal
 use Rattle.ksm_book.proofs.state.State.go_on.Goals.{After-end_passes}
@@ -47,7 +47,7 @@ returns-in-At-clause-made c = record {
       let at = closed c.args.self.now c.close_pass-ahead.new.self c.lies_in_order.ensures.rise c.close_pass-ahead.ensures.comes from s before in
       let last = c.last.ensures ∙ ap last_visited c.in-At.is in
       subst (Reached from c.set_cursor.new.self)
-      (page_made doing doing_beside s at.order _ _ c.requires.most (rw (← at.ahead) c.in-At.ensures.ahead))
+      (grind (arith, page_made, doing_beside))
       (c.set_cursor.ensures.comes from _
       (subst (λ o. Reached from c.visit_part.new.self (pages_visited doing (begun s) (filter (up_to o) (pages_ahead (visit_begun s.0)))))
       last (c.in-Ok.ensures.visited.comes from _ (c.close_pass-ahead.ensures.comes from s before))));
@@ -111,7 +111,7 @@ returns-else-whole-clause-due c = ends_due ((goal.at.returns-else-whole-clause-d
 pub returns-then-quiet-clause-due : goal.returns-then-quiet-clause-due
 returns-then-quiet-clause-due c = λ known.
     comes_due c.end_passes.new.self c.end_passes-then-quiet.new.self _ _ (λ s due. due)
-    c.end_passes-then-quiet.ensures.comes (ends_due ((goal.at.returns-then-quiet-clause-due c).After-end_passes) known)
+    c.end_passes-then-quiet.ensures.comes (grind (arith, ends_due))
 
 pub returns-then-quiet-clause-made : goal.returns-then-quiet-clause-made
 returns-then-quiet-clause-made c = record {
@@ -125,9 +125,9 @@ returns-then-quiet-clause-made c = record {
       let some = subst (λ (b : BookState). 1 ≤ length (mergeable_pages b.rows)) before.0 c.requires.some in
       let many : times * length (pages_ahead (visit_begun s.0)) + length (pages_ahead (visit_begun s.0))
       ≡ c.args.most - (c.args.most - made) % made =
-      rw (← all.0) (omega (arith, mul_comm made times, all.0, all.1, c.in-End.ensures.ahead.1)) in
+      grind arith in
       let none : (visit_begun s.0).cursor ≡ None =
-      begun_cursor s.0 ∙ ap (λ (b : BookState). b.cursor) (sym at.state) ∙ sym c.cursor.ensures ∙ none_of _ c.if-whole.ensures in
+      grind arith in
       let still = subst (λ o. IsStill (begun s) (pages_visited doing (begun s) (filter (up_to o) (pages_ahead (visit_begun s.0)))))
       (c.last.ensures ∙ ap last_visited c.in-End.is)
       (begun_still (pass_ended_at_last s.0) s.1 _

@@ -1,8 +1,8 @@
-use Rattle.ksm_book.proofs.Names.{arith, BookValue, find, inl, inr, is_next, None, not-false, option_map, row_at, Row, rules, Some, subst, sym, ◌∙◌, ◌≡◌}
+use Rattle.ksm_book.proofs.Names.{arith, BookValue, find, is_next, None, option_map, row_at, Row, rules, Some, subst, ◌≡◌}
 use Rattle.ksm_book.proofs.Along.{FitsPage, further, not_far}
 use Rattle.ksm_book.proofs.Hiding.{hiding_end, hiding_more, hiding_over}
 use Rattle.ksm_book.proofs.state.State.hide_from.Goals as goal
-use Rattle.ksm_book.proofs.state.State.hide_from.Goals.{then-not-held+then-not-comes_before, else-not-held, else-not-held-via-then-not-held+else-not-comes_before, else-not-held-via-else-not-held}
+use Rattle.ksm_book.proofs.state.State.hide_from.Goals.{then-not-held+then-not-comes_before, else-not-held}
 
 pub pages-smaller : goal.pages-smaller
 pages-smaller c =
@@ -26,16 +26,9 @@ pages-preserved c =
     elim c.if-not-held.branch [
       | then-not-held+then-not-comes_before w ↦
           rw w.self-is
-          (hiding_more c.pages.invariant rise _ told fits _ (sym w.comes_before.ensures ∙ w.if-not-comes_before.true)
-          w.stop_waiting.ensures.comes w.stop_waiting.ensures.own w.stop_waiting.ensures.restless)
+          (grind (arith, hiding_more))
       | else-not-held w ↦
-          rw w.self-is
-          (elim w.else-not-held.branch [
-            | else-not-held-via-then-not-held+else-not-comes_before v ↦
-                over (inr (sym v.comes_before.ensures ∙ v.if-not-comes_before.false))
-            | else-not-held-via-else-not-held v ↦
-                over (inl (sym held.shared ∙ not-false c.in-Some.held.shared v.if-not-held.false))
-          ])
+          grind arith
     ]
 
 pub returns-clause-comes : goal.returns-clause-comes

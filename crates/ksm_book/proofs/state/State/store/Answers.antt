@@ -14,11 +14,10 @@ pub write-requires : goal.write-requires
 write-requires c =
     let ready = own_ready c.self.invariant.1 _ _ c.in-Some.ensures.found (sym c.in-Some.ensures.shared ∙ c.if-held.false)
     _ (sym c.in-Some.ensures.frame ∙ c.known_frame-frame.ensures) in
-    record { own = search rules; inside = ready.0; within = ready.1; writable = ready.2; wide = ready.3 }
+    grind arith
 
 pub store-requires-2 : goal.store-requires-2
-store-requires-2 c = alone_now c.self.inside.pages.rows c.in-Some.held.spot.page c.in-Some.ensures.row (row_held c.in-Some.ensures)
-    (sym c.in-Some.ensures.shared ∙ c.if-held.false)
+store-requires-2 c = grind (arith, alone_now, row_held)
 
 module _ (c : goal.After-store-2) where
   written : IsCarried (book (seen c.self.inside.pages) c.self.inside.keeper c.self.inside.cursor c.self.inside.passes) (book (seen c.store-2.new.self) c.write.new.keeper c.self.inside.cursor c.self.inside.passes) (Store c.in-Some.held.spot.page c.args.bytes.now) (Ok Done)
@@ -39,7 +38,7 @@ invariant_of-self-2 c =
       rw c.store-2.ensures
           (laid_written c.self.invariant.1 _ c.in-Some.ensures.row _ _ _ _ c.self.invariant.0.rows_rise
           (row_held c.in-Some.ensures) (λ r. refl)
-          (ap p.frame c.in-Some.ensures.spot ∙ sym c.in-Some.ensures.frame ∙ c.known_frame-frame.ensures) (rw c.write.ensures.wrote) c.write.ensures.ledger wide (sym c.in-Some.ensures.shared ∙ c.if-held.false) refl refl),
+          (grind arith) (rw c.write.ensures.wrote) c.write.ensures.ledger wide (sym c.in-Some.ensures.shared ∙ c.if-held.false) refl refl),
     )
 
 pub resettle-requires-clause-node : goal.resettle-requires-clause-node
@@ -66,10 +65,7 @@ pub invariant_of-self-then-held : goal.invariant_of-self-then-held
 invariant_of-self-then-held c = (sound_carried c.self.invariant.0 (copied c).0, (copied c).1)
 
 pub note_store-requires-clause-own : goal.note_store-requires-clause-own
-note_store-requires-clause-own c =
-    rw (← c.self.view_is)
-    (alone_now c.self.inside.pages.rows c.in-Some.held.spot.page c.in-Some.ensures.row (row_held c.in-Some.ensures)
-    (sym c.in-Some.ensures.shared ∙ c.if-held.false))
+note_store-requires-clause-own c = grind (arith, alone_now, row_held)
 
 -- what is due stays so
 pub returns-clause-due : goal.returns-clause-due

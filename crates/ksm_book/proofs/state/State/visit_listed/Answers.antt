@@ -50,6 +50,4 @@ returns-in-Err-clause-stopped c =
     }
 
 pub returns-clause-due : goal.returns-clause-due
-returns-clause-due c = λ quiet least was.
-    let over : c.loop-at.at ≡ c.args.end = omega arith in
-    rw (← over) (c.loop-at.invariant.5 quiet was)
+returns-clause-due c = grind arith

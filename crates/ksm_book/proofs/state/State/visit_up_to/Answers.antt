@@ -69,7 +69,7 @@ returns-in-Ok-clause-due c = λ quiet start none.
     (listed_due v.state _ (c.lies_in_order.ensures.listed c.requires.known).1) in
     let now = subst (AreDue c.visit_listed.new.self.state) (ap (λ n. drop n pages) end ∙ drop_all pages)
     (c.in-Ok.ensures.due quiet (omega (arith, first)) was) in
-    rw (comes_to c.visit_listed.new.self c.drop_over.new.self _ c.drop_over.ensures.comes) now
+    grind (arith, comes_to)
   where
     drop_all : (pages : List GuestPage) → drop (length pages) pages ≡ []
     drop_all [] = refl

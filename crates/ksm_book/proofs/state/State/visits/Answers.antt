@@ -1,13 +1,10 @@
-use Rattle.ksm_book.proofs.Names.{ap, arith, begun, BookState, doing, mergeable_pages, Reached, refl, subst, sym, ◌∙◌, ◌≡◌}
+use Rattle.ksm_book.proofs.Names.{ap, arith, begun, doing, Reached, refl, subst, sym, ◌∙◌, ◌≡◌}
 use Rattle.ksm_book.proofs.Folded.{beside_on, visits_mergeable}
-use Rattle.ksm_book.proofs.Reached.{comes_to, first}
+use Rattle.ksm_book.proofs.Reached.{comes_to}
 use Rattle.ksm_book.proofs.state.State.visits.Goals as goal
 
 pub go_on-requires-clause-some : goal.go_on-requires-clause-some
-go_on-requires-clause-some c =
-    let start = c.args.self.now in
-    rw (ap (λ (b : BookState). mergeable_pages b.rows) (comes_to start c.loop-done.self _ c.loop-done.invariant.2)
-    ∙ visits_mergeable doing c.loop-done.done (first start)) c.requires.some
+go_on-requires-clause-some c = grind (arith, comes_to, visits_mergeable)
 
 pub loop-done-preserved : goal.loop-done-preserved
 loop-done-preserved c = (
