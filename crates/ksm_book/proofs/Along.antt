@@ -1,5 +1,8 @@
 -- Rows that are changed one after another, in the order of their pages: those of a guest, or all, up to a cursor.
-use Rattle.ksm_book.proofs.Names.{[], after_cursor, after_differs, All, All-append, All-cons, All-head, All-map, All-tail, AllPairs, and_right, ap, append-nil, arith, before_differs, before_irrefl, Bool, cases_Bool, change_none, change_row, change_rows, comes_before, false, filter, filter-append, filter_none, find, find_none, find_passes, get_or, GuestPage, inl, InPageOrder, inr, is_before, is_next, List, map, map-append, None, not_both, Option, option_map, pairs_cross, pairs_head, pairs_tail, Row, row_at, same_page, same_page_refl, Some, subst, sym, true, ℕ, ⊤, ◌&&◌, ◌*◌, ◌++◌, ◌+◌, ◌<◌, ◌∙◌, ◌∷◌, ◌≡◌, ◌≤◌, find-append, find_nothing, map_alike, if◌then◌else◌}
+use Rattle.ksm_book.proofs.Names.{[], after_cursor, after_differs, All, All-append, All-cons, All-head, All-map, All-tail, AllPairs, and_right, ap, append-nil, arith, before_differs, before_irrefl}
+use Rattle.ksm_book.proofs.Names.{Bool, cases_Bool, change_none, change_row, change_rows, comes_before, false, filter, filter-append, filter_none, find, find_none, find_passes, get_or, GuestPage, inl}
+use Rattle.ksm_book.proofs.Names.{InPageOrder, inr, is_before, is_next, List, map, map-append, None, not_both, Option, option_map, pairs_cross, pairs_head, pairs_tail, Row, row_at, same_page}
+use Rattle.ksm_book.proofs.Names.{same_page_refl, Some, subst, sym, true, ℕ, ⊤, ◌&&◌, ◌*◌, ◌++◌, ◌+◌, ◌<◌, ◌∙◌, ◌∷◌, ◌≡◌, ◌≤◌, find-append, find_nothing, map_alike, if◌then◌else◌}
 use Rattle.std.proofs.lemmas.List.{append_assoc}
 
 -- what no element of the first list passes is searched in the second alone

@@ -1,5 +1,8 @@
 -- Rows that change at one page: what becomes of what holds of each row, and of how many lie on a frame.
-use Rattle.ksm_book.proofs.Names.{All, All-map, ap, arith, Bool, change_row, cond, cond_both, count_with_row, count_without_page, counts_one, eq-eqb, false, filter_passes, find_all, find_none, find_passes, Frames, get_or, GuestPage, InPageOrder, is_frame, lies_on, List, map, None, not, not-true, one_of_each_page, Option, refl, Row, row_at, same_page, same_page_eq, same_page_refl, Some, true, uses, with_row, without_page, ℕ, ◌+◌, ◌∙◌, ◌≡◌, ◌≢◌, ◌≤◌, ◌⊎◌, count_alike, count_mapped, map_mapped, find_changed, if◌then◌else◌}
+use Rattle.ksm_book.proofs.Names.{All, All-map, ap, arith, Bool, change_row, cond, cond_both, count_with_row, count_without_page, counts_one, eq-eqb, false, filter_passes, find_all, find_none}
+use Rattle.ksm_book.proofs.Names.{find_passes, Frames, get_or, GuestPage, InPageOrder, is_frame, lies_on, List, map, None, not, not-true, one_of_each_page, Option, refl, Row, row_at, same_page}
+use Rattle.ksm_book.proofs.Names.{same_page_eq, same_page_refl, Some, true, uses, with_row, without_page, ℕ, ◌+◌, ◌∙◌, ◌≡◌, ◌≢◌, ◌≤◌, ◌⊎◌, count_alike, count_mapped, map_mapped, find_changed}
+use Rattle.ksm_book.proofs.Names.{if◌then◌else◌}
 
 -- frames that are equal at each page are equal
 pub same_frames : (f g : Frames) → ((page : GuestPage) → f page ≡ g page) → f ≡ g

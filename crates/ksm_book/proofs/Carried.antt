@@ -10,7 +10,10 @@ use Rattle.ksm_base.proofs.Reasons.{has_reason}
 use Rattle.ksm_book.specs.Carried.{StoresTo, MovesTo, TakesSteps}
 use Rattle.std.specs.Prelude.{option_and_then}
 use Rattle.ksm_book.specs.Commands.{IsIdle}
-use Rattle.ksm_book.proofs.Names.{[], Answer, best_dup, BookState, BookView, Bool, CarriedOut, cond_both, Deed, AllocatesOn, DupRow, emptying, Err, false, Frames, handling, HasLost, HasMoved, HasShown, idle, is_for_zero, IsCarried, List, list_any, listed, live_dup_at, Mapped, mapped, MatchBool, MatchOption, Moves, new_place, nodes_got, None, Ok, Option, pairing, partner, Performs, place_count, pruning, refl, Resettles, rewriting, Row, row_at, scanning, shared_state, Some, staying, sym, true, visit_begun, visiting_of, visits, Withdraw, withdrawing, ℕ, ◌==◌, ◌∷◌, ◌≡◌, zero, suc, FindsHeld, if◌then◌else◌}
+use Rattle.ksm_book.proofs.Names.{[], Answer, best_dup, BookState, BookView, Bool, CarriedOut, cond_both, Deed, AllocatesOn, DupRow, emptying, Err, false, Frames, handling, HasLost, HasMoved}
+use Rattle.ksm_book.proofs.Names.{HasShown, idle, is_for_zero, IsCarried, List, list_any, listed, live_dup_at, Mapped, mapped, MatchBool, MatchOption, Moves, new_place, nodes_got, None, Ok, Option}
+use Rattle.ksm_book.proofs.Names.{pairing, partner, Performs, place_count, pruning, refl, Resettles, rewriting, Row, row_at, scanning, shared_state, Some, staying, sym, true, visit_begun, visiting_of}
+use Rattle.ksm_book.proofs.Names.{visits, Withdraw, withdrawing, ℕ, ◌==◌, ◌∷◌, ◌≡◌, zero, suc, FindsHeld, if◌then◌else◌}
 use Rattle.ksm_book.proofs.DupMoves.{place_is}
 use Rattle.ksm_book.proofs.Made.{made_none}
 use Rattle.ksm_book.proofs.Shown.{GivesNone, quiet_both, quiet_does, quiet_leaving, quiet_puts, quiet_withdraws, provides_does, resettles_does, each_does, unmerges_does, none_left, lost, moved}

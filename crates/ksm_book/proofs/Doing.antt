@@ -1,5 +1,6 @@
 -- What visits do to the frames is done beside: nothing by the visit of a shared row, and the same wherever the cursor stands.
-use Rattle.ksm_book.proofs.Names.{append-nil, BookState, Deed, doing, DupRow, Frames, GuestPage, handling, idle, IsBeside, Option, pairing, refl, Row, scanning, suc, then_doing, visits_beside, zero, ℕ, ◌≡◌, arith}
+use Rattle.ksm_book.proofs.Names.{append-nil, BookState, Deed, doing, DupRow, Frames, GuestPage, handling, idle, IsBeside, Option, pairing, refl, Row, scanning, suc, then_doing, visits_beside, zero}
+use Rattle.ksm_book.proofs.Names.{ℕ, ◌≡◌, arith}
 use Rattle.ksm_book.proofs.Going.{elsewhere}
 use Rattle.ksm_book.proofs.Folded.{beside_state}
 

@@ -1,6 +1,10 @@
 -- A page that is stored to while it is merged or Zero, comes or goes: of the others only one that waits in its tree with its
 -- bytes may come to join its dup by that, so no other page becomes due.
-use Rattle.ksm_book.proofs.Names.{All, All-filter, all_changed, all_with_row, and_parts, Answer, ap, AreDue, arith, BookState, BookView, Bool, both_ways, bytes_eq, bytes_eq-Decides, cases_Bool, change_row, change_rows, count_with_row, count_without_page, Drop, dup_of_item, DupRow, eqb-true, Err, false, find_all, find_none, fresh_row, get_or, GuestPage, has_item, if◌then◌else◌, inl, inr, is_restless, IsCarried, IsDupOf, IsSound, item_count, List, may_join, merged_into, merged_state, None, Ok, Option, option_map, PageState, partner, refl, Register, Row, row_at, same_page, Some, stored, subst, sym, tells_waits, tree_of, true, waiting_state, waits_for, waits_on, with_row, without_page, ℕ, ◌&&◌, ◌+◌, ◌==◌, ◌||◌, ◌∙◌, ◌∷◌, ◌≡◌}
+use Rattle.ksm_book.proofs.Names.{All, All-filter, all_changed, all_with_row, and_parts, Answer, ap, AreDue, arith, BookState, BookView, Bool, both_ways, bytes_eq, bytes_eq-Decides, cases_Bool}
+use Rattle.ksm_book.proofs.Names.{change_row, change_rows, count_with_row, count_without_page, Drop, dup_of_item, DupRow, eqb-true, Err, false, find_all, find_none, fresh_row, get_or, GuestPage}
+use Rattle.ksm_book.proofs.Names.{has_item, if◌then◌else◌, inl, inr, is_restless, IsCarried, IsDupOf, IsSound, item_count, List, may_join, merged_into, merged_state, None, Ok, Option, option_map}
+use Rattle.ksm_book.proofs.Names.{PageState, partner, refl, Register, Row, row_at, same_page, Some, stored, subst, sym, tells_waits, tree_of, true, waiting_state, waits_for, waits_on, with_row}
+use Rattle.ksm_book.proofs.Names.{without_page, ℕ, ◌&&◌, ◌+◌, ◌==◌, ◌||◌, ◌∙◌, ◌∷◌, ◌≡◌}
 use Rattle.ksm_pages.specs.Paged.{IsKnown, page_beside}
 use Rattle.ksm_tree.specs.Waits.{names}
 use Rattle.ksm_book.proofs.ByPage.{found_page, row_of_page}

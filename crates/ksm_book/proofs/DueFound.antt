@@ -1,6 +1,10 @@
 -- The visit of a page that is due, by what was found of it: it takes over from none, but where a row further on waits
 -- for it; and which pages are due then.
-use Rattle.ksm_book.proofs.Names.{and_right, ap, AreDue, arith, Best, best_dup, BookState, BookValue, BookView, Bool, change_row, change_rows, Comes, comes_before, comes_later, Deed, doing, Dup, due_visited, DupRow, false, find_mapped, find_passes, FindsAt, GuestPage, has_item, HasStayed, if◌then◌else◌, InPageOrder, is_for_zero, is_none, is_restless, IsDueNoMore, IsSound, KeeperView, List, MatchOption, Merged, None, not, one_before, Option, option_map, or_cases, page_visited, PagesView, paired, PageState, Partner, partner, Reached, refl, restless_at, restless_row, Row, row_at, row_visited, same_page, same_page_refl, same_Some, shared_state, Some, state_of, StaysBefore, subst, sym, takes_over, TakesOverFrom, true, view_of, VisitsPage, waits_for, waits_tells, Zero, ℕ, ◌&&◌, ◌||◌, ◌∙◌, ◌∷◌, ◌≡◌}
+use Rattle.ksm_book.proofs.Names.{and_right, ap, AreDue, arith, Best, best_dup, BookState, BookValue, BookView, Bool, change_row, change_rows, Comes, comes_before, comes_later, Deed, doing, Dup}
+use Rattle.ksm_book.proofs.Names.{due_visited, DupRow, false, find_mapped, find_passes, FindsAt, GuestPage, has_item, HasStayed, if◌then◌else◌, InPageOrder, is_for_zero, is_none, is_restless}
+use Rattle.ksm_book.proofs.Names.{IsDueNoMore, IsSound, KeeperView, List, MatchOption, Merged, None, not, one_before, Option, option_map, or_cases, page_visited, PagesView, paired, PageState, Partner}
+use Rattle.ksm_book.proofs.Names.{partner, Reached, refl, restless_at, restless_row, Row, row_at, row_visited, same_page, same_page_refl, same_Some, shared_state, Some, state_of, StaysBefore, subst}
+use Rattle.ksm_book.proofs.Names.{sym, takes_over, TakesOverFrom, true, view_of, VisitsPage, waits_for, waits_tells, Zero, ℕ, ◌&&◌, ◌||◌, ◌∙◌, ◌∷◌, ◌≡◌}
 use Rattle.ksm_base.specs.declared.row.PageState.TheVariants.{Private}
 use Rattle.ksm_pages.specs.declared.pages.Find.TheVariants as finds
 use Rattle.ksm_pages.specs.Paged.{Finds}

@@ -1,5 +1,11 @@
 -- Passes that visit only the pages that are due: what waits on is left as it is, and what is due stays so.
-use Rattle.ksm_book.proofs.Names.{IsDueNoMore, restless_at, restless_row, All, All-head, All-tail, AreDue, BookState, Bool, Contains, Deed, DupRow, Frames, GuestPage, InPageOrder, IsJoined, IsSound, Knobs, List, Merged, None, Option, PageState, Row, Some, Waiting, WaitsFor, Zero, [], all_changed, all_with_dup, and_parts, and_right, ap, arith, best_dup, best_dup_has_room, both_ways, bytes_eq, bytes_eq-Decides, cases_Bool, change_row, change_rows, cond_both, count_by, count_mapped, doing, due_row_visited, due_visited, due_visits, dup_numbered, each_at_page, false, find, find_all, find_none, find_nothing, find_passes, get_or, handled, has_item, if◌then◌else◌, inl, inr, is_for_zero, is_restless, item_count, list_all, list_all-from_AllPass, made_dup, may_join, merged_into, merged_state, nat_le, nat_lt, ne_eqb, not, not_an_item, one_of_each_page, or_cases, or_parts, ordered_change, paired, partner, refl, row_at, row_visited, same_Some, same_page, same_page_eq, settled, stayed, subst, suc, sym, taken_over, takes_over, tells_waits, tree_of, true, visited, waiting_state, waits_for, waits_on, waits_tells, with_dup, ℕ, ◌&&◌, ◌+◌, ◌==◌, ◌||◌, ◌∙◌, ◌∷◌, ◌≡◌, ◌⊎◌}
+use Rattle.ksm_book.proofs.Names.{IsDueNoMore, restless_at, restless_row, All, All-head, All-tail, AreDue, BookState, Bool, Contains, Deed, DupRow, Frames, GuestPage, InPageOrder, IsJoined, IsSound}
+use Rattle.ksm_book.proofs.Names.{Knobs, List, Merged, None, Option, PageState, Row, Some, Waiting, WaitsFor, Zero, [], all_changed, all_with_dup, and_parts, and_right, ap, arith, best_dup}
+use Rattle.ksm_book.proofs.Names.{best_dup_has_room, both_ways, bytes_eq, bytes_eq-Decides, cases_Bool, change_row, change_rows, cond_both, count_by, count_mapped, doing, due_row_visited, due_visited}
+use Rattle.ksm_book.proofs.Names.{due_visits, dup_numbered, each_at_page, false, find, find_all, find_none, find_nothing, find_passes, get_or, handled, has_item, if◌then◌else◌, inl, inr, is_for_zero}
+use Rattle.ksm_book.proofs.Names.{is_restless, item_count, list_all, list_all-from_AllPass, made_dup, may_join, merged_into, merged_state, nat_le, nat_lt, ne_eqb, not, not_an_item, one_of_each_page}
+use Rattle.ksm_book.proofs.Names.{or_cases, or_parts, ordered_change, paired, partner, refl, row_at, row_visited, same_Some, same_page, same_page_eq, settled, stayed, subst, suc, sym, taken_over}
+use Rattle.ksm_book.proofs.Names.{takes_over, tells_waits, tree_of, true, visited, waiting_state, waits_for, waits_on, waits_tells, with_dup, ℕ, ◌&&◌, ◌+◌, ◌==◌, ◌||◌, ◌∙◌, ◌∷◌, ◌≡◌, ◌⊎◌}
 use Rattle.ksm_base.specs.declared.row.PageState.TheVariants.{Private}
 use Rattle.ksm_book.proofs.ByPage.{at_changed, found_page, row_of_page}
 use Rattle.ksm_book.proofs.Doing.{then_idle}

@@ -1,5 +1,7 @@
 -- The steps of a pass over what is due, and what it comes to in the words of a part of a pass.
-use Rattle.ksm_book.proofs.Names.{[], after_cursor, All, ap, AreAscending, AreDue, Bool, BookState, BookValue, Comes, cond_both, Deed, doing, due_visited, due_visits, false, filter, filter_none, GuestPage, has_item, hidden_from, is_none, IsSound, IsStill, List, None, not, Option, pages_ahead, pages_visited, part_visited, pass_begun, Reached, ReachedBefore, refl, restless_at, Some, StaysBefore, StopsDue, StopsInPart, subst, sym, true, with_none_waiting, ◌∙◌, ◌≡◌}
+use Rattle.ksm_book.proofs.Names.{[], after_cursor, All, ap, AreAscending, AreDue, Bool, BookState, BookValue, Comes, cond_both, Deed, doing, due_visited, due_visits, false, filter, filter_none}
+use Rattle.ksm_book.proofs.Names.{GuestPage, has_item, hidden_from, is_none, IsSound, IsStill, List, None, not, Option, pages_ahead, pages_visited, part_visited, pass_begun, Reached, ReachedBefore}
+use Rattle.ksm_book.proofs.Names.{refl, restless_at, Some, StaysBefore, StopsDue, StopsInPart, subst, sym, true, with_none_waiting, ◌∙◌, ◌≡◌}
 use Rattle.ksm_book.specs.Scanned.{HasVisited, StaysStill, StopsBefore, ahead_before, ahead_up_to}
 use Rattle.ksm_book.proofs.DueAlike.{due_goes}
 use Rattle.ksm_book.proofs.DueKept.{undue_stay}

@@ -1,5 +1,6 @@
 -- A store to a page with a frame of its own: where the page is due, if it waited, what is due stays so.
-use Rattle.ksm_book.proofs.Names.{AreDue, arith, BookState, Bool, cases_Bool, change_row, false, find_all, GuestPage, has_item, inl, InPageOrder, inr, is_restless, IsAlone, List, MatchOption, ordered_change, refl, Row, row_at, same_page, same_Some, shared_state, Some, stored, subst, sym, true, waiting_state, waits_on, ℕ, ◌∙◌, ◌∷◌, ◌≡◌, ◌||◌}
+use Rattle.ksm_book.proofs.Names.{AreDue, arith, BookState, Bool, cases_Bool, change_row, false, find_all, GuestPage, has_item, inl, InPageOrder, inr, is_restless, IsAlone, List, MatchOption}
+use Rattle.ksm_book.proofs.Names.{ordered_change, refl, Row, row_at, same_page, same_Some, shared_state, Some, stored, subst, sym, true, waiting_state, waits_on, ℕ, ◌∙◌, ◌∷◌, ◌≡◌, ◌||◌}
 use Rattle.ksm_book.proofs.ByPage.{at_changed, found_page}
 use Rattle.ksm_book.proofs.DueKept.{changed_due, more_due, undue, AreAmong}
 

@@ -1,8 +1,8 @@
 -- What a visit leaves due, by what was found of the page; and what is due where all restless pages are listed.
-use Rattle.ksm_book.proofs.Names.{ap, AreAllListed, AreDue, BookState, BookView, false, FindsAt, GuestPage, InPageOrder, IsDueNoMore, KeeperView, List, MatchOption, None, Option, PagesView, refl, restless_row, Row, row_at, Some, state_of, subst, sym, true, true≢false, ℕ, ◌∙◌, ◌∷◌, ◌≡◌}
+use Rattle.ksm_book.proofs.Names.{ap, AreAllListed, AreDue, BookState, BookView, false, FindsAt, GuestPage, InPageOrder, IsDueNoMore, KeeperView, List, MatchOption, None, Option, PagesView, refl}
+use Rattle.ksm_book.proofs.Names.{restless_row, Row, row_at, Some, state_of, subst, sym, true, true≢false, ℕ, ◌∙◌, ◌∷◌, ◌≡◌}
 use Rattle.ksm_pages.specs.declared.pages.Find.TheVariants as finds
 use Rattle.ksm_pages.specs.Paged.{Finds}
-use Rattle.ksm_book.specs.Scanned.{AreListed}
 use Rattle.ksm_book.proofs.DueKept.{calm_undue, waits_undue}
 use Rattle.ksm_book.proofs.RowVisits.{Meets, page_is, there_is}
 

@@ -1,5 +1,6 @@
 -- What is answered where a dup is to move.
-use Rattle.ksm_book.proofs.Names.{Answer, arith, BookState, IsCarried, crosses, Done, DupRow, Err, false, Fault, find, find_passes, GuestPage, has_items, HasRemounted, InUse, KeeperView, live_dup_at, MayMove, MoveDup, NoFrame, Ok, Option, PagesView, Some, state_of, ℕ, ◌&&◌, ◌==◌, ◌≡◌}
+use Rattle.ksm_book.proofs.Names.{Answer, arith, BookState, IsCarried, crosses, Done, DupRow, Err, false, Fault, find, find_passes, GuestPage, has_items, HasRemounted, InUse, KeeperView, live_dup_at}
+use Rattle.ksm_book.proofs.Names.{MayMove, MoveDup, NoFrame, Ok, Option, PagesView, Some, state_of, ℕ, ◌&&◌, ◌==◌, ◌≡◌}
 use Rattle.ksm_book.proofs.Singles.{book}
 
 module _ (b : BookState) (place node : ℕ) (dup : DupRow) (found : Some dup ≡ live_dup_at b place) where

@@ -1,5 +1,7 @@
 -- Frames written, read, found and filled, and a dup's place that comes to name another frame.
-use Rattle.ksm_book.proofs.Names.{Add, ap, arith, blank, did, Dying, Finds, frame_at, frames_of, Free, get_or-set_other, get_or-set_same, IsLawful, KeeperView, Kind, Ledger, length, length-set, List, loads, MakesSteps, mounting, None, Note, Open, PAGE_WORDS, Placed, Private, Provides, Publish, puts, Raise, raised, replicate, replicate-append-replicate, set-get_or, Shape, spent, spent_on, stepped, HasNewFrame, with_frame, ℕ, ◌+◌, ◌-◌, ◌<◌, ◌∙◌, ◌≡◌, set-set}
+use Rattle.ksm_book.proofs.Names.{Add, ap, arith, blank, did, Dying, Finds, frame_at, frames_of, Free, get_or-set_other, get_or-set_same, IsLawful, KeeperView, Kind, Ledger, length, length-set, List}
+use Rattle.ksm_book.proofs.Names.{loads, MakesSteps, mounting, None, Note, Open, PAGE_WORDS, Placed, Private, Provides, Publish, puts, Raise, raised, replicate, replicate-append-replicate, set-get_or}
+use Rattle.ksm_book.proofs.Names.{Shape, spent, spent_on, stepped, HasNewFrame, with_frame, ℕ, ◌+◌, ◌-◌, ◌<◌, ◌∙◌, ◌≡◌, set-set}
 use Rattle.ksm_book.proofs.Keeping.{searched_placed, searched_spends, spent_kept}
 use Rattle.ksm_book.proofs.Made.{made_one, made_part, made_then}
 use Rattle.ksm_book.proofs.Noted.{noted}

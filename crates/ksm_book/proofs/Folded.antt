@@ -1,5 +1,9 @@
 -- The visits of a pass are a fold over its pages, only restless pages count, and a quiet pass is repeated by those behind it.
-use Rattle.ksm_book.proofs.Names.{[], after_cursor, All, All-head, All-tail, AllPairs-filter, ap, append-nil, AreAscending, arith, begun, BookState, Bool, cases_Bool, comes_before, cond_both, each_at_page, false, filter, filter_all, find_all, find_passes, GuestPage, has_item, inl, InPageOrder, inr, is_none, IsBeside, IsStill, last_of, length, List, map, mergeable_pages, min, next_row, next_visited, None, not-true, Option, option_map, page_visited, pages_ahead, pages_visited, pass_at, pass_ended, pass_ended_at_last, refl, restless_at, Row, row_at, row_visited, rowwise_visits, same_page_eq, settled, shared_state, slice_get, Some, subst, suc, suc-mul, sym, true, visit, visit_begun, visit_of, visited, visits, visits_beside, with_none_waiting, zero, ℕ, ◌*◌, ◌++◌, ◌+◌, ◌-◌, ◌^◌, ◌∙◌, ◌∷◌, ◌≡◌, ◌≤◌, map_mapped, and_right, pairs_mapped, ⊤}
+use Rattle.ksm_book.proofs.Names.{[], after_cursor, All, All-head, All-tail, AllPairs-filter, ap, append-nil, AreAscending, arith, begun, BookState, Bool, cases_Bool, comes_before, cond_both}
+use Rattle.ksm_book.proofs.Names.{each_at_page, false, filter, filter_all, find_all, find_passes, GuestPage, has_item, inl, InPageOrder, inr, is_none, IsBeside, IsStill, last_of, length, List, map}
+use Rattle.ksm_book.proofs.Names.{mergeable_pages, min, next_row, next_visited, None, not-true, Option, option_map, page_visited, pages_ahead, pages_visited, pass_at, pass_ended, pass_ended_at_last}
+use Rattle.ksm_book.proofs.Names.{refl, restless_at, Row, row_at, row_visited, rowwise_visits, same_page_eq, settled, shared_state, slice_get, Some, subst, suc, suc-mul, sym, true, visit, visit_begun}
+use Rattle.ksm_book.proofs.Names.{visit_of, visited, visits, visits_beside, with_none_waiting, zero, ℕ, ◌*◌, ◌++◌, ◌+◌, ◌-◌, ◌^◌, ◌∙◌, ◌∷◌, ◌≡◌, ◌≤◌, map_mapped, and_right, pairs_mapped, ⊤}
 use Rattle.ksm_book.proofs.Going.{Goes, begun_goes, elsewhere, goes_on, mergeable_kept, goes_same, settled_goes, visited_goes}
 use Rattle.ksm_book.proofs.PagesAhead.{Before, behind_first, filter_in, filter_out, has_filter, same_pages}
 use Rattle.ksm_pages.proofs.Options.{mapped_some, none_mapped}

@@ -1,5 +1,7 @@
 -- The sets of the free and of the dying frames follow the keeper's steps.
-use Rattle.ksm_book.proofs.Names.{ap, AreSets, arith, blank, Bool, cases_eq, cases_lt, cond, count_in, did, Dying, dying_kind, false, frame_at, frames_of, Free, free_kind, Freeze, frozen, get_or-set_other, get_or-set_same, get_or_past, has, inl, inr, IsSetOf, KeeperStep, KeeperView, Kind, Ledger, ledger_after, length, length-set, List, lowered, Marks, MayLeave, ne_eqb, Note, Raise, raised, Reap, refl, set, Shape, Stable, Sub, sym, true, with_frame, ℕ, ◌*◌, ◌-◌, ◌<◌, ◌==◌, ◌∙◌, ◌≡◌, ◌≢◌, ◌≤◌}
+use Rattle.ksm_book.proofs.Names.{ap, AreSets, arith, blank, Bool, cases_eq, cases_lt, cond, count_in, did, Dying, dying_kind, false, frame_at, frames_of, Free, free_kind, Freeze, frozen}
+use Rattle.ksm_book.proofs.Names.{get_or-set_other, get_or-set_same, get_or_past, has, inl, inr, IsSetOf, KeeperStep, KeeperView, Kind, Ledger, ledger_after, length, length-set, List, lowered, Marks}
+use Rattle.ksm_book.proofs.Names.{MayLeave, ne_eqb, Note, Raise, raised, Reap, refl, set, Shape, Stable, Sub, sym, true, with_frame, ℕ, ◌-◌, ◌<◌, ◌==◌, ◌∙◌, ◌≡◌, ◌≢◌}
 
 -- ---------------------------------------------------------------- one frame's note is changed
 

@@ -1,5 +1,8 @@
 -- The keeper's steps as changes of a placement, and the lives that they spend.
-use Rattle.ksm_book.proofs.Names.{[], Add, added, All, All-filter, All-head, All-tail, arith, blank, Bool, cond, count_in, did, DupRow, dying_on, false, filter_passes, FitsBase, frame_at, Frames, frames_of, GenerationFits, get_or, get_or-range_with_len, get_or_past, IfSome, KeeperView, Kind, leaving, Ledger, ledger_after, length, length-range_with_len, List, MakesSteps, map, MayLeave, None, Note, Option, past_lives, Placed, range_with_len, Reap, reaped, refl, Row, set, Shape, Some, spent, spent_on, Stable, subst, suc, sum_by, sum_by-cons, sum_by-set, true, with_frame, zero, ℕ, ◌*◌, ◌+◌, ◌-◌, ◌<◌, ◌==◌, ◌∷◌, ◌≡◌, ◌≤◌}
+use Rattle.ksm_book.proofs.Names.{[], Add, added, All, All-filter, All-head, All-tail, arith, blank, Bool, cond, count_in, did, DupRow, dying_on, false, filter_passes, FitsBase, frame_at, Frames}
+use Rattle.ksm_book.proofs.Names.{frames_of, GenerationFits, get_or, get_or-range_with_len, get_or_past, IfSome, KeeperView, Kind, leaving, Ledger, ledger_after, length, length-range_with_len, List}
+use Rattle.ksm_book.proofs.Names.{MakesSteps, map, MayLeave, None, Note, Option, past_lives, Placed, range_with_len, Reap, reaped, refl, Row, set, Shape, Some, spent, spent_on, Stable, subst, suc}
+use Rattle.ksm_book.proofs.Names.{sum_by, sum_by-cons, sum_by-set, true, with_frame, zero, ℕ, ◌*◌, ◌+◌, ◌-◌, ◌<◌, ◌==◌, ◌∷◌, ◌≡◌, ◌≤◌}
 use Rattle.ksm_book.proofs.ByPage.{one_same}
 use Rattle.ksm_book.proofs.Made.{first_made, none_made, step_made}
 use Rattle.ksm_book.proofs.Noted.{noted}

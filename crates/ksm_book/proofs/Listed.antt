@@ -1,5 +1,6 @@
 -- What is told of rows, as it is of their pages: how many scans visit, and which are listed.
-use Rattle.ksm_book.proofs.Names.{AreAllListed, false, filter, find_all, GuestPage, has_item, is_restless, length, length-filter, length-map, List, mergeable_count, mergeable_pages, None, Option, refl, restless_at, restless_row, Row, row_at, same_page, Some, subst, sym, true, true≢false, ◌-◌, ◌∙◌, ◌≡◌}
+use Rattle.ksm_book.proofs.Names.{AreAllListed, false, filter, find_all, GuestPage, has_item, is_restless, length, length-filter, length-map, List, mergeable_count, mergeable_pages, None, Option}
+use Rattle.ksm_book.proofs.Names.{refl, restless_at, restless_row, Row, row_at, same_page, Some, subst, sym, true, true≢false, ◌-◌, ◌∙◌, ◌≡◌}
 use Rattle.ksm_book.proofs.ByPage.{found_page}
 
 -- scans visit as many pages as there are mergeable rows

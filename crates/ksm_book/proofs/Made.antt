@@ -1,5 +1,7 @@
 -- Parts of a log, and lists of steps that were made, one after the other.
-use Rattle.ksm_book.proofs.Names.{length-take-le, [], along, ap, append-nil, append_assoc, arith, Allocates, did, drop, get_or, given_by, Gives, IsNeeded, KeeperStep, KeeperView, Ledger, ledger_after, length, List, Log, MakesSteps, map-append, needed_after, Option, refl, replayed, set, Shape, stepped, steps_of, suc, sym, take, take_more, zero, ℕ, ◌++◌, ◌+◌, ◌<◌, ◌∙◌, ◌∷◌, ◌≡◌}
+use Rattle.ksm_book.proofs.Names.{length-take-le, [], along, ap, append-nil, append_assoc, arith, Allocates, did, drop, get_or, given_by, Gives, IsNeeded, KeeperStep, KeeperView, Ledger, ledger_after}
+use Rattle.ksm_book.proofs.Names.{length, List, Log, MakesSteps, map-append, needed_after, Option, refl, replayed, set, Shape, stepped, steps_of, suc, sym, take, take_more, zero, ℕ, ◌++◌, ◌+◌, ◌<◌}
+use Rattle.ksm_book.proofs.Names.{◌∙◌, ◌∷◌, ◌≡◌}
 
 -- a log is replayed part by part
 pub replayed_append : (sh : Shape) (k : Ledger) (xs ys : Log) → replayed sh k (xs ++ ys) ≡ replayed sh (replayed sh k xs) ys

@@ -1,5 +1,7 @@
 -- What becomes of rows and dups that lie lawfully, where the note of one frame changes.
-use Rattle.ksm_book.proofs.Names.{All-weaker, ap, arith, DupFits, DupRow, FitsBase, frame_at, Frames, frames_of, GenerationFits, get_or, get_or-set_other, get_or-set_same, in_hand, inl, inr, IsInLife, IsServed, Ledger, length, length-set, List, None, Note, Option, PAGE_WORDS, place_frame, place_life, Placed, Private, refl, Row, Shape, Some, uses, with_frame, ℕ, ◌+◌, ◌<◌, ◌∙◌, ◌≡◌, ◌≢◌, ◌≤◌, ◌⊎◌}
+use Rattle.ksm_book.proofs.Names.{All-weaker, ap, arith, DupFits, DupRow, FitsBase, frame_at, Frames, frames_of, GenerationFits, get_or, get_or-set_other, get_or-set_same, in_hand, inl, inr, IsInLife}
+use Rattle.ksm_book.proofs.Names.{IsServed, Ledger, length, length-set, List, None, Note, Option, PAGE_WORDS, place_frame, place_life, Placed, Private, refl, Row, Shape, Some, uses, with_frame, ℕ}
+use Rattle.ksm_book.proofs.Names.{◌+◌, ◌<◌, ◌∙◌, ◌≡◌, ◌≢◌, ◌≤◌, ◌⊎◌}
 use Rattle.ksm_book.proofs.ByPage.{uses_some}
 
 -- a note may follow another on a frame on which so many rows lie, with so many references in hand: where a row lies there it stays as it

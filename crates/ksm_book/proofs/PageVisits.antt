@@ -1,5 +1,7 @@
 -- The visit of a page: what was found of its row, and what becomes of the book where the row alone changes.
-use Rattle.ksm_book.proofs.Names.{All, ap, arith, BookState, BookValue, BookView, change_row, Comes, Deed, doing, false, Find, FindsAt, Frames, GuestPage, HasStayed, idle, InPageOrder, is_restless, IsLaid, IsSound, IsStill, KeeperView, List, map, None, Option, page_visited, PagesView, partner, refl, restless_at, Row, row_at, row_visited, row_visiting, same_page, settled, shared_state, Some, state_of, subst, sym, true, view_of, visited, VisitsPage, Waiting, ℕ, ◌∙◌, ◌≡◌, if◌then◌else◌, map_mapped}
+use Rattle.ksm_book.proofs.Names.{All, ap, arith, BookState, BookValue, BookView, change_row, Comes, Deed, doing, false, Find, FindsAt, Frames, GuestPage, HasStayed, idle, InPageOrder, is_restless}
+use Rattle.ksm_book.proofs.Names.{IsLaid, IsSound, IsStill, KeeperView, List, map, None, Option, page_visited, PagesView, partner, refl, restless_at, Row, row_at, row_visited, row_visiting, same_page}
+use Rattle.ksm_book.proofs.Names.{settled, shared_state, Some, state_of, subst, sym, true, view_of, visited, VisitsPage, Waiting, ℕ, ◌∙◌, ◌≡◌, if◌then◌else◌, map_mapped}
 use Rattle.ksm_pages.specs.declared.pages.Find.TheVariants as finds
 use Rattle.ksm_pages.specs.Paged.{Finds, visited as row_changed}
 use Rattle.ksm_book.proofs.ByPage.{found_page, row_of_page}

@@ -1,5 +1,9 @@
 -- Ascending lists of pages: their parts before and behind a page, by test and by index; and each is known by what it has.
-use Rattle.ksm_book.proofs.Names.{[], after_cursor, All, All-cons, All-filter, All-head, and_right, any-filter_same, ap, AreAscending, arith, before_trans, Bool, cases_Bool, comes_before, Contains-from_any, drop, drop-append-le, drop_of_length-le, false, filter, filter_all, filter_mapped, filter_none, from_to, get_or, get_or-drop, get_or-take, get_or_from_slice_get, GuestPage, has_item, inl, inr, length, length-drop, length-take, length-take-le, List, list_any_none, max, None, not, not_both, one_before, Option, pairs_head, pairs_tail, refl, same_page, same_page_eq, same_page_refl, slice_get, slice_get-get_or, slice_get_within, Some, subst, suc, sym, take, take_more, true, true≢false, up_to, zero, ℕ, ◌&&◌, ◌++◌, ◌+◌, ◌-◌, ◌<◌, ◌∙◌, ◌∷◌, ◌≡◌, ◌≤◌}
+use Rattle.ksm_book.proofs.Names.{[], after_cursor, All, All-cons, All-filter, All-head, and_right, any-filter_same, ap, AreAscending, arith, before_trans, Bool, cases_Bool, comes_before}
+use Rattle.ksm_book.proofs.Names.{Contains-from_any, drop, drop-append-le, drop_of_length-le, false, filter, filter_all, filter_mapped, filter_none, from_to, get_or, get_or-drop, get_or-take}
+use Rattle.ksm_book.proofs.Names.{get_or_from_slice_get, GuestPage, has_item, inl, inr, length, length-drop, length-take, length-take-le, List, list_any_none, max, None, not, not_both, one_before}
+use Rattle.ksm_book.proofs.Names.{Option, pairs_head, pairs_tail, refl, same_page, same_page_eq, same_page_refl, slice_get, slice_get-get_or, slice_get_within, Some, subst, suc, sym, take, take_more}
+use Rattle.ksm_book.proofs.Names.{true, true≢false, up_to, zero, ℕ, ◌&&◌, ◌++◌, ◌+◌, ◌-◌, ◌<◌, ◌∙◌, ◌∷◌, ◌≡◌, ◌≤◌}
 use Rattle.std.proofs.Common.{ap₂}
 use Rattle.std.proofs.lemmas.List.{map-id}
 

@@ -1,5 +1,10 @@
 -- A visited page makes a dup with the page that waits for it: what the keeper may do, and what becomes of the book.
-use Rattle.ksm_book.proofs.Names.{[], Add, All, All-contains_itself, ap, arith, BookState, BookView, Bool, change_row, change_rows, Contains, Contains-append_right, count_none, did, dup_of_row, DupRow, each_at_page, eq-eqb, false, find_all, find_changed_other, find_passes, frames_of, GuestPage, IfSome, if◌then◌else◌, InPageOrder, IsFree, IsLaid, IsSound, IsVacant, item_count, joined_count, KeeperView, leaving, lies_on, List, list_any, MakesSteps, MatchOption, May, MayLeave, MayPair, MeetsPage, Merged, merged_into, merged_state, MOST_REFERENCES, new_place, new_place_free, next_is_new, Option, ordered_change, PageState, PagesView, partner, place_count, Publish, refl, Row, row_at, row_visiting, same_page, shared_state, Some, state_of, Sub, subst, sym, true, waiting_state, waits_for, waits_tells, WaitsFor, with_dup, Withdraw, withdrawing, ℕ, ◌++◌, ◌+◌, ◌-◌, ◌<◌, ◌==◌, ◌||◌, ◌∙◌, ◌∷◌, ◌≡◌, ◌≤◌}
+use Rattle.ksm_book.proofs.Names.{[], Add, All, All-contains_itself, ap, arith, BookState, BookView, Bool, change_row, change_rows, Contains, Contains-append_right, count_none, did, dup_of_row}
+use Rattle.ksm_book.proofs.Names.{DupRow, each_at_page, eq-eqb, false, find_all, find_changed_other, find_passes, frames_of, GuestPage, IfSome, if◌then◌else◌, InPageOrder, IsFree, IsLaid, IsSound}
+use Rattle.ksm_book.proofs.Names.{IsVacant, item_count, joined_count, KeeperView, leaving, lies_on, List, list_any, MakesSteps, MatchOption, May, MayLeave, MayPair, MeetsPage, Merged, merged_into}
+use Rattle.ksm_book.proofs.Names.{merged_state, MOST_REFERENCES, new_place, new_place_free, next_is_new, Option, ordered_change, PageState, PagesView, partner, place_count, Publish, refl, Row, row_at}
+use Rattle.ksm_book.proofs.Names.{row_visiting, same_page, shared_state, Some, state_of, Sub, subst, sym, true, waiting_state, waits_for, waits_tells, WaitsFor, with_dup, Withdraw, withdrawing, ℕ}
+use Rattle.ksm_book.proofs.Names.{◌++◌, ◌+◌, ◌-◌, ◌<◌, ◌==◌, ◌||◌, ◌∙◌, ◌∷◌, ◌≡◌, ◌≤◌}
 use Rattle.ksm_pages.specs.Paged.{paired as are_paired}
 use Rattle.ksm_book.proofs.Made.{made_one, made_then}
 use Rattle.ksm_book.proofs.Sharing.{laid_found, laid_joined, may_clear, may_found, may_join, may_part, spent_most, tree_is_home}

@@ -1,5 +1,11 @@
 -- A lawful placement says the sentences that are promised, and so a new dup finds a place.
-use Rattle.ksm_book.proofs.Names.{eqb-true, find_passes, eq-eqb, [], All, All-filter, All-head, All-map, All-tail, AllPairs, AllPairs-cons, AllPairs-filter, ap, arith, BookState, Bool, cases_Bool, Contains, Contains-append_left, Contains-append_right, count_by, count_more, counts_one, dup_frames, DupRow, false, Filling, filter, filter_passes, FitsBase, frame_at, frame_number, Frames, get_or, GuestPage, has_items, HasItsOwn, home_of_item, inl, inr, is_frame, is_in_use, is_some, IsOutlived, IsServed, IsSound, item_count, Kind, kind_for, Ledger, length, LieOn, Life, life_or, List, lt-ltb, map, merged_into, named_at, None, none_counted, not, not-true, Option, own_frames, PageState, pairs_append, place_frame, Placed, Private, refl, Row, row_at, shared_state, Some, Stable, StandsOn, subst, sym, true, uses, zero_state, ℕ, ◌++◌, ◌+◌, ◌<◌, ◌==◌, ◌∙◌, ◌∷◌, ◌≡◌, ◌≢◌, ◌≤◌, if◌then◌else◌, get_or-map, length-map, All-append, frames_of, FindsPlace, place_or, find, is_stale, cond_both, ltb-true, find_all, empty_from, length-le_from_distinct_below, IsDistinct-from_apart, Contains-from_any, eqb, length-append, All-contains_itself, pairs_mapped}
+use Rattle.ksm_book.proofs.Names.{eqb-true, find_passes, eq-eqb, [], All, All-filter, All-head, All-map, All-tail, AllPairs, AllPairs-cons, AllPairs-filter, ap, arith, BookState, Bool, cases_Bool}
+use Rattle.ksm_book.proofs.Names.{Contains, Contains-append_left, Contains-append_right, count_by, count_more, counts_one, dup_frames, DupRow, false, Filling, filter, filter_passes, FitsBase}
+use Rattle.ksm_book.proofs.Names.{frame_at, frame_number, Frames, get_or, GuestPage, has_items, HasItsOwn, home_of_item, inl, inr, is_frame, is_in_use, is_some, IsOutlived, IsServed, IsSound}
+use Rattle.ksm_book.proofs.Names.{item_count, Kind, kind_for, Ledger, length, LieOn, Life, life_or, List, lt-ltb, map, merged_into, named_at, None, none_counted, not, not-true, Option, own_frames}
+use Rattle.ksm_book.proofs.Names.{PageState, pairs_append, place_frame, Placed, Private, refl, Row, row_at, shared_state, Some, Stable, StandsOn, subst, sym, true, uses, zero_state, ℕ, ◌++◌, ◌+◌, ◌<◌}
+use Rattle.ksm_book.proofs.Names.{◌==◌, ◌∙◌, ◌∷◌, ◌≡◌, ◌≢◌, ◌≤◌, if◌then◌else◌, get_or-map, length-map, All-append, frames_of, FindsPlace, place_or, find, is_stale, cond_both, ltb-true, find_all}
+use Rattle.ksm_book.proofs.Names.{empty_from, length-le_from_distinct_below, IsDistinct-from_apart, Contains-from_any, eqb, length-append, All-contains_itself, pairs_mapped}
 use Rattle.ksm_base.proofs.Changes.{contains_filter}
 use Rattle.ksm_book.proofs.Laying.{number_of_kind}
 use Rattle.ksm_book.proofs.Moves.{base_is_items, stale_is_loose}

@@ -1,5 +1,9 @@
 -- A dup with items, and where its pages lie before and after it moves.
-use Rattle.ksm_book.proofs.Names.{list_any_at, [], All, ap, arith, Bool, count_in, did, dup_frame, dup_numbered, DupFits, DupRow, Dying, each_has_number, eq-eqb, find_all, find_passes, Err, Finds, FindsHeld, FindsNone, HasRemounted, InUse, MayMount, MayMove, NoFrame, Ok, frame_at, frames_of, Free, Freeze, get_or, get_or-set_other, GuestPage, has_items, instead, is_frame, is_item, IsInLife, IsLaid, IsLoose, IsLowestFree, item_count, items_on, KeeperView, Ledger, length, length-set, Life, life_or, List, list_any, lying, MakesSteps, merged_into, mounting, Moves, ne_eqb, None, Note, Option, PagesView, place_frame, Placed, Publish, refl, Row, row_at, same_Some, set, Shape, Some, spent, Stable, subst, sym, true, with_frame, ℕ, ◌&&◌, ◌+◌, ◌<◌, ◌==◌, ◌∙◌, ◌∷◌, ◌≡◌, ◌≢◌, ◌≤◌, if◌then◌else◌, once_mounted, All-contains_itself, Contains}
+use Rattle.ksm_book.proofs.Names.{list_any_at, [], All, ap, arith, Bool, count_in, did, dup_frame, dup_numbered, DupFits, DupRow, Dying, each_has_number, eq-eqb, find_all, find_passes, Err, Finds}
+use Rattle.ksm_book.proofs.Names.{FindsHeld, FindsNone, HasRemounted, InUse, MayMount, MayMove, NoFrame, Ok, frame_at, frames_of, Free, Freeze, get_or, get_or-set_other, GuestPage, has_items, instead}
+use Rattle.ksm_book.proofs.Names.{is_frame, is_item, IsInLife, IsLaid, IsLoose, IsLowestFree, item_count, items_on, KeeperView, Ledger, length, length-set, Life, life_or, List, list_any, lying}
+use Rattle.ksm_book.proofs.Names.{MakesSteps, merged_into, mounting, Moves, ne_eqb, None, Note, Option, PagesView, place_frame, Placed, Publish, refl, Row, row_at, same_Some, set, Shape, Some, spent}
+use Rattle.ksm_book.proofs.Names.{Stable, subst, sym, true, with_frame, ℕ, ◌&&◌, ◌+◌, ◌<◌, ◌==◌, ◌∙◌, ◌∷◌, ◌≡◌, ◌≢◌, ◌≤◌, if◌then◌else◌, once_mounted, All-contains_itself, Contains}
 use mathlib.Core.Logic.{dite}
 use native.Mathlib.Decide.{ℕ_discrete}
 use Rattle.ksm_book.proofs.ByPage.{found_page, same_frames}

@@ -1,5 +1,6 @@
 -- How a page gets another frame.
-use Rattle.ksm_book.proofs.Names.{ap, arith, change_row, FindsNone, GuestPage, HasNewFrame, Houses, IfSome, InPageOrder, IsKnown, IsLaid, KeeperView, leaving, lies_on, List, MakesSteps, MayLeave, None, on_its_own, Option, PagesView, Placed, Provides, Resettled, Row, Some, subst, TurnedAway, ℕ, ◌<◌, ◌≡◌}
+use Rattle.ksm_book.proofs.Names.{ap, arith, change_row, FindsNone, GuestPage, HasNewFrame, Houses, IfSome, InPageOrder, IsKnown, IsLaid, KeeperView, leaving, lies_on, List, MakesSteps, MayLeave}
+use Rattle.ksm_book.proofs.Names.{None, on_its_own, Option, PagesView, Placed, Provides, Resettled, Row, Some, subst, TurnedAway, ℕ, ◌<◌, ◌≡◌}
 use Rattle.ksm_base.specs.declared.row.PageState.TheVariants.{Private}
 use Rattle.ksm_book.proofs.Shown.{provides_does}
 use Rattle.ksm_book.proofs.Keeping.{left_placed, left_spends, may_leave, searched_placed, searched_spends}

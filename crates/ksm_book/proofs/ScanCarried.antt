@@ -1,5 +1,6 @@
 -- A scan carried out: what its visits come to is what the command promises.
-use Rattle.ksm_book.proofs.Names.{[], arith, BookValue, IsCarried, Comes, doing, Done, false, Fault, HasScanned, IsScanned, length, List, list_any, list_any_none, mergeable_pages, None, none_counted, Ok, Option, Reply, Row, Scan, scan_stopped, Scanned, Some, sym, true, view_of, visits_beside, ℕ, ◌∷◌, ◌≡◌, ◌≤◌}
+use Rattle.ksm_book.proofs.Names.{[], arith, BookValue, IsCarried, Comes, doing, Done, false, Fault, HasScanned, IsScanned, length, List, list_any, list_any_none, mergeable_pages, None, none_counted}
+use Rattle.ksm_book.proofs.Names.{Ok, Option, Reply, Row, Scan, scan_stopped, Scanned, Some, sym, true, view_of, visits_beside, ℕ, ◌∷◌, ◌≡◌, ◌≤◌}
 use Rattle.ksm_book.proofs.Doing.{scanning_is}
 use Rattle.ksm_book.proofs.Folded.{beside_state}
 use Rattle.ksm_book.proofs.Listed.{some_pages}

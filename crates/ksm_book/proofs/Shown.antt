@@ -1,5 +1,10 @@
 -- The frames that steps give, and what the log shows of a frame that was not found, of one in use, and of a dup that moved.
-use Rattle.ksm_book.proofs.Names.{[], Add, append-nil, Fault, GuestPage, NoFrame, Resettles, ResettlesEach, UnmergesTo, ap, append_cancel_left, arith, blank, Bool, cases_Bool, cond, Contains, Contains-append_right, Contains-push, count_in, Allocates, did, AllocatesOn, dup_frame, DupRow, Dying, dying_kind, dying_on, false, FindsHeld, FindsNone, frame_at, free_kind, Freeze, frozen, get_or, get_or-range_with_len, get_or-set_other, given_by, Gives, HasLost, HasMoved, inl, inr, IsLowestFree, item_count, KeeperStep, KeeperView, leaving, Ledger, ledger_after, length, length-append, length-range_with_len, List, loads, Log, MakesSteps, map, Mapped, Moves, None, NoneLeft, Note, Open, Option, Provides, Publish, puts, Raise, Reap, reaped, refl, replicate, Row, set, Shape, Some, Stable, stepped, steps_of, subst, suc, sym, true, with_frame, Withdraw, zero, ℕ, ◌*◌, ◌++◌, ◌+◌, ◌-◌, ◌<◌, ◌==◌, ◌∙◌, ◌∷◌, ◌≡◌, ◌≢◌, ◌≤◌, drop}
+use Rattle.ksm_book.proofs.Names.{[], Add, append-nil, Fault, GuestPage, NoFrame, Resettles, ResettlesEach, UnmergesTo, ap, append_cancel_left, arith, blank, Bool, cases_Bool, cond, Contains}
+use Rattle.ksm_book.proofs.Names.{Contains-append_right, Contains-push, count_in, Allocates, did, AllocatesOn, dup_frame, DupRow, Dying, dying_kind, dying_on, false, FindsHeld, FindsNone, frame_at}
+use Rattle.ksm_book.proofs.Names.{free_kind, Freeze, frozen, get_or, get_or-range_with_len, get_or-set_other, given_by, Gives, HasLost, HasMoved, inl, inr, IsLowestFree, item_count, KeeperStep}
+use Rattle.ksm_book.proofs.Names.{KeeperView, leaving, Ledger, ledger_after, length, length-append, length-range_with_len, List, loads, Log, MakesSteps, map, Mapped, Moves, None, NoneLeft, Note, Open}
+use Rattle.ksm_book.proofs.Names.{Option, Provides, Publish, puts, Raise, Reap, reaped, refl, replicate, Row, set, Shape, Some, Stable, stepped, steps_of, subst, suc, sym, true, with_frame, Withdraw}
+use Rattle.ksm_book.proofs.Names.{zero, ℕ, ◌*◌, ◌++◌, ◌+◌, ◌-◌, ◌<◌, ◌==◌, ◌∙◌, ◌∷◌, ◌≡◌, ◌≢◌, ◌≤◌, drop}
 use Rattle.ksm_book.proofs.Keeping.{set_holds}
 use Rattle.ksm_book.proofs.Made.{chained, stepped_then, first_made, made_none, made_then, none_made, step_made}
 use Rattle.ksm_base.proofs.Changes.{contains_filter}

@@ -1,5 +1,10 @@
 -- The commands on single pages, carried out.
-use Rattle.ksm_book.proofs.Names.{[], absent_parts, All, Answer, ap, arith, BookValue, BookView, Bool, change_row, comes_before, Command, cond, Done, Drop, Err, false, filter, filter_passes, find_put, FindsNone, frame_at, Frames, frames_of, fresh_row, GuestPage, HasNewFrame, Held, Houses, IfErr, IfSome, if◌then◌else◌, InPageOrder, is_some, IsAlone, IsCarried, IsHeld, IsLaid, IsReadable, IsServed, IsSound, IsWritable, KeeperView, leaving, length, lies_on, List, lying, MakesSteps, map_fixed, MatchBool, MayLeave, MovePage, nat_le, NoFrame, None, not, Ok, on_its_own, Option, ordered_with, PAGE_WORDS, pages_ordered, PagesView, Performs, Placed, Provides, puts, refl, Register, Resettled, Resettles, Result, rewriting, Row, row_at, same_page, same_page_refl, shared_state, Some, sound_after, state_of, stepped, Store, stored, subst, sym, true, view_of, with_row, without_between, without_page, ℕ, ◌++◌, ◌<◌, ◌==◌, ◌∙◌, ◌∷◌, ◌≡◌}
+use Rattle.ksm_book.proofs.Names.{[], absent_parts, All, Answer, ap, arith, BookValue, BookView, Bool, change_row, comes_before, Command, cond, Done, Drop, Err, false, filter, filter_passes, find_put}
+use Rattle.ksm_book.proofs.Names.{FindsNone, frame_at, Frames, frames_of, fresh_row, GuestPage, HasNewFrame, Held, Houses, IfErr, IfSome, if◌then◌else◌, InPageOrder, is_some, IsAlone, IsCarried}
+use Rattle.ksm_book.proofs.Names.{IsHeld, IsLaid, IsReadable, IsServed, IsSound, IsWritable, KeeperView, leaving, length, lies_on, List, lying, MakesSteps, map_fixed, MatchBool, MayLeave, MovePage}
+use Rattle.ksm_book.proofs.Names.{nat_le, NoFrame, None, not, Ok, on_its_own, Option, ordered_with, PAGE_WORDS, pages_ordered, PagesView, Performs, Placed, Provides, puts, refl, Register, Resettled}
+use Rattle.ksm_book.proofs.Names.{Resettles, Result, rewriting, Row, row_at, same_page, same_page_refl, shared_state, Some, sound_after, state_of, stepped, Store, stored, subst, sym, true, view_of}
+use Rattle.ksm_book.proofs.Names.{with_row, without_between, without_page, ℕ, ◌++◌, ◌<◌, ◌==◌, ◌∙◌, ◌∷◌, ◌≡◌}
 use Rattle.ksm_base.specs.declared.row.PageState.TheVariants.{Private}
 use Rattle.ksm_book.proofs.ByPage.{at_changed, change_twice, found_page, lies_again, lies_still, row_of_page}
 use Rattle.ksm_book.proofs.Laying.{come_there, laid_rows, served_at}

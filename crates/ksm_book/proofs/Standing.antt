@@ -1,5 +1,6 @@
 -- The frames of dups with items in a lawful placement.
-use Rattle.ksm_book.proofs.Names.{find_passes, [], ap, arith, Bool, DupRow, empty_from, find, find_all, frame_at, Frames, get_or, InPlaceOrder, IsInLife, IsServed, item_count, Ledger, length, List, merged_into, None, place_frame, Placed, Row, Shape, Some, Stable, true, zero_state, ℕ, ◌+◌, ◌<◌, ◌∷◌, ◌≡◌, ◌≢◌, ◌≤◌}
+use Rattle.ksm_book.proofs.Names.{find_passes, [], ap, arith, Bool, DupRow, empty_from, find, find_all, frame_at, Frames, get_or, InPlaceOrder, IsInLife, IsServed, item_count, Ledger, length, List}
+use Rattle.ksm_book.proofs.Names.{merged_into, None, place_frame, Placed, Row, Shape, Some, Stable, true, zero_state, ℕ, ◌+◌, ◌<◌, ◌∷◌, ◌≡◌, ◌≢◌, ◌≤◌}
 use Rattle.ksm_book.proofs.Moves.{framed}
 use Rattle.ksm_book.proofs.Sharing.{first_found, state_of_item}
 

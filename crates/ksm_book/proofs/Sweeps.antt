@@ -1,5 +1,6 @@
 -- The dying frames of a range, one after another.
-use Rattle.ksm_book.proofs.Names.{[], ap, append-nil, arith, Bool, Dying, dying_from, dying_kind, false, filter-append, frame_at, Kind, Ledger, NoneOf, range_with_len, suc, true, zero, ℕ, ◌++◌, ◌+◌, ◌-◌, ◌<◌, ◌∙◌, ◌∷◌, ◌≡◌, ◌≤◌, if◌then◌else◌}
+use Rattle.ksm_book.proofs.Names.{[], ap, append-nil, arith, Bool, Dying, dying_from, dying_kind, false, filter-append, frame_at, Kind, Ledger, NoneOf, range_with_len, suc, true, zero, ℕ, ◌++◌, ◌+◌}
+use Rattle.ksm_book.proofs.Names.{◌-◌, ◌<◌, ◌∙◌, ◌∷◌, ◌≡◌, ◌≤◌, if◌then◌else◌}
 
 -- a kind that tests as dying is Dying
 pub is_dying_kind : {x : Kind} → dying_kind x ≡ true → x ≡ Dying

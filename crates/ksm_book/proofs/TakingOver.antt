@@ -1,5 +1,8 @@
 -- A page waits in the stead of one further on: what becomes of the book, and which pages are due then.
-use Rattle.ksm_book.proofs.Names.{All, AreDue, arith, before_differs, BookState, BookValue, both_ways, cases_Bool, change_row, change_rows, Comes, comes_before, cond_both, Deed, doing, due_visited, each_at_page, false, find_all, find_passes, get_or, GuestPage, has_item, idle, inl, inr, is_restless, IsAlone, IsSound, List, map_alike, map_mapped, MatchOption, not, not_both, page_visited, PageState, partner, Reached, refl, Row, row_at, same_page, same_page_refl, same_page_sym, settled, shared_state, Some, StaysBefore, subst, sym, taken_over, takes_over, TakesOverFrom, true, view_of, waiting_state, waits_for, WaitsFor, waits_tells, ◌&&◌, ◌∙◌, ◌∷◌, ◌≡◌, ◌||◌, if◌then◌else◌}
+use Rattle.ksm_book.proofs.Names.{All, AreDue, arith, before_differs, BookState, BookValue, both_ways, cases_Bool, change_row, change_rows, Comes, comes_before, cond_both, Deed, doing, due_visited}
+use Rattle.ksm_book.proofs.Names.{each_at_page, false, find_all, find_passes, get_or, GuestPage, has_item, idle, inl, inr, is_restless, IsAlone, IsSound, List, map_alike, map_mapped, MatchOption, not}
+use Rattle.ksm_book.proofs.Names.{not_both, page_visited, PageState, partner, Reached, refl, Row, row_at, same_page, same_page_refl, same_page_sym, settled, shared_state, Some, StaysBefore, subst}
+use Rattle.ksm_book.proofs.Names.{sym, taken_over, takes_over, TakesOverFrom, true, view_of, waiting_state, waits_for, WaitsFor, waits_tells, ◌&&◌, ◌∙◌, ◌∷◌, ◌≡◌, ◌||◌, if◌then◌else◌}
 use Rattle.ksm_book.proofs.ByPage.{found_page, row_of_page}
 use Rattle.ksm_book.proofs.DueAlike.{freed_found, one_waits, taken_is}
 use Rattle.ksm_book.proofs.DueKept.{more_due, taken_due, AreAmong}

@@ -1,5 +1,8 @@
 -- The commands on all pages of a guest, or on all there are, carried out.
-use Rattle.ksm_book.proofs.Names.{All, All-map, ap, arith, BookState, IsCarried, change_rows, Done, Err, every_row, false, Fault, find, GuestPage, has_guest, Held, inl, inr, is_before, is_next, is_of, is_some, IsHeld, IsLaid, IsStop, KeeperView, Knobs, left_by, List, list_any, map, MatchOption, Mergeable, None, of_guest, Ok, Option, option_map, PagesView, refl, Row, SetRun, shared_rows, shared_state, slice_get, slice_get_past, Some, state_of, subst, sym, true, UnknownPage, Unmerge, Unmerged, unshare_stopped, unshared, Unshares, ℕ, ◌&&◌, ◌∙◌, ◌≡◌, any_found, map_alike, map_mapped}
+use Rattle.ksm_book.proofs.Names.{All, All-map, ap, arith, BookState, IsCarried, change_rows, Done, Err, every_row, false, Fault, find, GuestPage, has_guest, Held, inl, inr, is_before, is_next, is_of}
+use Rattle.ksm_book.proofs.Names.{is_some, IsHeld, IsLaid, IsStop, KeeperView, Knobs, left_by, List, list_any, map, MatchOption, Mergeable, None, of_guest, Ok, Option, option_map, PagesView, refl}
+use Rattle.ksm_book.proofs.Names.{Row, SetRun, shared_rows, shared_state, slice_get, slice_get_past, Some, state_of, subst, sym, true, UnknownPage, Unmerge, Unmerged, unshare_stopped, unshared}
+use Rattle.ksm_book.proofs.Names.{Unshares, ℕ, ◌&&◌, ◌∙◌, ◌≡◌, any_found, map_alike, map_mapped}
 use Rattle.ksm_book.proofs.Laying.{laid_mapped, retuned}
 use Rattle.ksm_book.proofs.Singles.{book}
 use Rattle.ksm_book.proofs.Unmerged.{in_scan, unshares_own}

@@ -1,5 +1,6 @@
 -- A place is emptied, and the dup that stood there goes.
-use Rattle.ksm_book.proofs.Names.{Agrees, All, All-filter, ap, arith, DupFits, DupRow, elsewhere, eq-eqb, filter, filter_passes, Frames, frames_of, get_or, get_or-set_other, get_or-set_same, IsInLife, Ledger, length-set, List, named_at, ne_eqb, None, not, Option, place_frame, Placed, refl, Row, set, Shape, subst, sym, true, ℕ, ◌<◌, ◌∙◌, ◌≡◌, ◌≢◌}
+use Rattle.ksm_book.proofs.Names.{Agrees, All, All-filter, ap, arith, DupFits, DupRow, elsewhere, eq-eqb, filter, filter_passes, Frames, frames_of, get_or, get_or-set_other, get_or-set_same, IsInLife}
+use Rattle.ksm_book.proofs.Names.{Ledger, length-set, List, named_at, ne_eqb, None, not, Option, place_frame, Placed, refl, Row, set, Shape, subst, sym, true, ℕ, ◌<◌, ◌∙◌, ◌≡◌, ◌≢◌}
 use mathlib.Core.Logic.{dite}
 use native.Mathlib.Decide.{ℕ_discrete}
 use Rattle.ksm_base.proofs.Changes.{contains_filter}

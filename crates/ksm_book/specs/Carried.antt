@@ -3,8 +3,7 @@
 use Rattle.std.specs.Prelude.{◌≡◌, ℕ, ◌==◌, Bool, List, take, Option, Some, None, Ok, Err, MatchBool, MatchOption}
 use Rattle.ksm_base.specs.declared.row.Row.{Row}
 use Rattle.ksm_base.specs.declared.command.Command.{Command}
-use Rattle.ksm_base.specs.declared.command.Command.TheVariants.{Register, Drop, Store, Scan, Prune, Unmerge}
-use Rattle.ksm_base.specs.declared.command.Command.TheVariants.{MovePage, MoveDup, SetRun, SetAcross, SetLimit}
+use Rattle.ksm_base.specs.declared.command.Command.TheVariants.{Register, Drop, Store, Scan, Prune, Unmerge, MovePage, MoveDup, SetRun, SetAcross, SetLimit}
 use Rattle.ksm_base.specs.declared.reply.Reply.TheVariants.{Done, Scanned, Pruned, Unmerged}
 use Rattle.ksm_base.specs.declared.fault.Fault.{Fault}
 use Rattle.ksm_base.specs.declared.fault.Fault.TheVariants.{NoFrame, InUse}
@@ -15,8 +14,7 @@ use Rattle.ksm_base.specs.Rows.{row_at, shared_state}
 use Rattle.ksm_base.specs.Journal.{Entry}
 use Rattle.ksm_base.specs.State.{BookState}
 use Rattle.frame_table.specs.Named.{KeeperView}
-use Rattle.ksm_book.specs.Commands.{Mapped, IsIdle, TurnsAway, Admits, Resettles, ResettlesEach, Moves, FindsHeld}
-use Rattle.ksm_book.specs.Commands.{Performs, rewriting, emptying, pruning, scanning}
+use Rattle.ksm_book.specs.Commands.{Mapped, IsIdle, TurnsAway, Admits, Resettles, ResettlesEach, Moves, FindsHeld, Performs, rewriting, emptying, pruning, scanning}
 use Rattle.ksm_book.specs.Steps.{AllocatesOn}
 use Rattle.ksm_pages.specs.Paged.{Lodging, frame_of}
 use Rattle.ksm_book.specs.Whole.{BookView, mapped, nodes_got, HasShown}

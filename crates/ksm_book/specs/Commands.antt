@@ -1,8 +1,7 @@
 -- Commands as steps of the keeper: what each part of a command does to the frames, in order, and on which frame each
 -- page lies after it (own).
 -- Carried.antt says which of them each command and answer make.
-use Rattle.std.specs.Prelude.{◌≡◌, ℕ, zero, suc, ◌-◌, ◌==◌, List, [], ◌∷◌, ◌++◌, map, filter, find, replicate}
-use Rattle.std.specs.Prelude.{Option, Some, None, if◌then◌else◌}
+use Rattle.std.specs.Prelude.{◌≡◌, ℕ, zero, suc, ◌-◌, ◌==◌, List, [], ◌∷◌, ◌++◌, map, filter, find, replicate, Option, Some, None, if◌then◌else◌}
 use Rattle.std.specs.List.{list_any}
 use Rattle.ksm_base.specs.declared.page.GuestPage.{GuestPage}
 use Rattle.ksm_base.specs.declared.row.Row.{Row}
@@ -11,8 +10,7 @@ use Rattle.ksm_base.specs.Rows.{shared_state, merged_into, item_count, is_stale}
 use Rattle.ksm_base.specs.State.{BookState, place_count}
 use Rattle.ksm_base.specs.Visit.{best_dup, is_for_zero, partner, new_place, next_row, visit_begun, visits}
 use Rattle.frame_core.specs.declared.event.KeeperStep.{KeeperStep}
-use Rattle.frame_core.specs.declared.event.KeeperStep.TheVariants.{Reap, Raise, Open, Add, Sub, Publish}
-use Rattle.frame_core.specs.declared.event.KeeperStep.TheVariants.{Withdraw, Freeze}
+use Rattle.frame_core.specs.declared.event.KeeperStep.TheVariants.{Reap, Raise, Open, Add, Sub, Publish, Withdraw, Freeze}
 use Rattle.frame_core.specs.declared.frame.Kind.TheVariants.{Stable, Dying}
 use Rattle.frame_core.specs.Ledger.{frame_at}
 use Rattle.frame_table.specs.Kept.{did}

@@ -1,6 +1,5 @@
 -- Passes that visit only the pages that are due: what waits, and would wait again, is left as it is (own).
-use Rattle.std.specs.Prelude.{◌≡◌, Bool, true, false, not, ◌&&◌, All, List, ◌∷◌, fold, Option, Some, None, is_none}
-use Rattle.std.specs.Prelude.{if◌then◌else◌}
+use Rattle.std.specs.Prelude.{◌≡◌, Bool, true, false, not, ◌&&◌, All, List, ◌∷◌, fold, Option, Some, None, is_none, if◌then◌else◌}
 use Rattle.ksm_base.specs.declared.page.GuestPage.{GuestPage}
 use Rattle.ksm_base.specs.declared.row.PageState.TheVariants.{Waiting}
 use Rattle.ksm_base.specs.declared.row.Row.{Row}

@@ -1,6 +1,5 @@
 -- The pages as they lie in the keeper's frames, and the state of the book that they tell (own).
-use Rattle.std.specs.Prelude.{◌≡◌, ℕ, ◌<◌, ◌≤◌, ◌&&◌, ◌==◌, find, MatchOption, Result, Ok, Err}
-use Rattle.std.specs.Prelude.{Option, None, Some, List, []}
+use Rattle.std.specs.Prelude.{◌≡◌, ℕ, ◌<◌, ◌≤◌, ◌&&◌, ◌==◌, find, MatchOption, Result, Ok, Err, Option, None, Some, List, []}
 use Rattle.ksm_base.specs.declared.page.GuestPage.{GuestPage}
 use Rattle.ksm_base.specs.declared.row.PageState.TheVariants.{Private}
 use Rattle.ksm_base.specs.declared.fault.Fault.{Fault}

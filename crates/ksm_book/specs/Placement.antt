@@ -1,6 +1,5 @@
 -- Lawful placement: how rows, dups and the keeper's frames agree (own).
-use Rattle.std.specs.Prelude.{◌≡◌, ◌≢◌, ℕ, ◌+◌, ◌<◌, ◌≤◌, ◌/◌, Bool, true, false, cond, ◌==◌, List, length}
-use Rattle.std.specs.Prelude.{count_by, All, Option, Some, None, is_some}
+use Rattle.std.specs.Prelude.{◌≡◌, ◌≢◌, ℕ, ◌+◌, ◌<◌, ◌≤◌, ◌/◌, Bool, true, false, cond, ◌==◌, List, length, count_by, All, Option, Some, None, is_some}
 use Rattle.ksm_base.specs.declared.page.TheConstants.{PAGE_WORDS}
 use Rattle.ksm_base.specs.declared.shape.Shape.{Shape}
 use Rattle.ksm_base.specs.declared.row.PageState.{PageState}

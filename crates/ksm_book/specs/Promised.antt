@@ -1,6 +1,5 @@
 -- What is promised of the book and its frames between any two calls (own).
-use Rattle.std.specs.Prelude.{◌≡◌, ◌≢◌, ℕ, ◌*◌, ◌<◌, ◌≤◌, Bool, true, false, not, List, ◌++◌, map, filter}
-use Rattle.std.specs.Prelude.{AllPairs, All, Contains, Some, None, MatchOption}
+use Rattle.std.specs.Prelude.{◌≡◌, ◌≢◌, ℕ, ◌*◌, ◌<◌, ◌≤◌, Bool, true, false, not, List, ◌++◌, map, filter, AllPairs, All, Contains, Some, None, MatchOption}
 use Rattle.ksm_base.specs.declared.limits.TheConstants.{MOST_FRAMES, MOST_LIVES}
 use Rattle.ksm_base.specs.declared.page.GuestPage.{GuestPage}
 use Rattle.ksm_base.specs.declared.shape.Shape.{Shape}

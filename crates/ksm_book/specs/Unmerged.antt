@@ -1,6 +1,5 @@
 -- Pages that leave their dups, or the zero page, one after another, in order (own).
-use Rattle.std.specs.Prelude.{◌≡◌, ℕ, Bool, true, [], ◌∷◌, length, filter, take, slice_get, ◌&&◌}
-use Rattle.std.specs.Prelude.{List, Option, None, Some, option_map, if◌then◌else◌}
+use Rattle.std.specs.Prelude.{◌≡◌, ℕ, Bool, true, [], ◌∷◌, length, filter, take, slice_get, ◌&&◌, List, Option, None, Some, option_map, if◌then◌else◌}
 use Rattle.ksm_base.specs.declared.fault.Fault.{Fault}
 use Rattle.ksm_base.specs.declared.fault.Fault.TheVariants.{NoFrame}
 use Rattle.ksm_base.specs.declared.page.GuestPage.{GuestPage}

@@ -1,5 +1,7 @@
 -- Tests over dups with items are the book's tests over rows, where the items are counted.
-use Rattle.ksm_tree.proofs.Names.{[], All, ap, AreCounted, arith, best_dup, best_of, Bool, Choice, choice_of, chosen, count_by, Dup, DupRow, DupsState, empty_from, filter, find, get_or, has_items, if◌then◌else◌, is_best, is_live, is_no_rival, is_some, is_stale, item_count, Knobs, length, List, list_all, nat_lt, nat_tests, new_place, None, Option, option_map, place_in, place_or, refl, Row, rows_of, Some, stands_at, suc, sym, tree_of, true, ℕ, ◌&&◌, ◌<◌, ◌==◌, ◌∙◌, ◌∷◌, ◌≡◌}
+use Rattle.ksm_tree.proofs.Names.{[], All, ap, AreCounted, arith, best_dup, best_of, Bool, Choice, choice_of, chosen, count_by, Dup, DupRow, DupsState, empty_from, filter, find, get_or, has_items}
+use Rattle.ksm_tree.proofs.Names.{if◌then◌else◌, is_best, is_live, is_no_rival, is_some, is_stale, item_count, Knobs, length, List, list_all, nat_lt, nat_tests, new_place, None, Option, option_map}
+use Rattle.ksm_tree.proofs.Names.{place_in, place_or, refl, Row, rows_of, Some, stands_at, suc, sym, tree_of, true, ℕ, ◌&&◌, ◌<◌, ◌==◌, ◌∙◌, ◌∷◌, ◌≡◌}
 use Rattle.ksm_tree.proofs.Alike.{count_mapped, filter_mapped, find_mapped}
 use Rattle.ksm_base.specs.Rows.{is_stale as is_stale_row}
 use Rattle.ksm_base.specs.Visit.{is_no_rival as is_no_rival_row, is_best as is_best_row}

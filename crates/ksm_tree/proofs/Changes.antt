@@ -1,5 +1,7 @@
 -- Dups and their rows: what a dup that comes or goes and a change of items changes of the rows, and where a dup is found.
-use Rattle.ksm_tree.proofs.Names.{[], All, arith, Bool, change_at, change_items, Dup, DupRow, filter, find, GuestPage, has_number, InPlaceOrder, let_out, List, map, map-append, Merged, None, not, Option, option_map, PageState, Private, refl, row_place, rows_of, same_Some, Some, stands_at, Waiting, with_dup, with_new, without_place, Zero, ℕ, if◌then◌else◌, ◌==◌, ◌∷◌, ◌≡◌, subst, get_or-map, length-map}
+use Rattle.ksm_tree.proofs.Names.{[], All, arith, Bool, change_at, change_items, Dup, DupRow, filter, find, GuestPage, has_number, InPlaceOrder, let_out, List, map, map-append, Merged, None, not}
+use Rattle.ksm_tree.proofs.Names.{Option, option_map, PageState, Private, refl, row_place, rows_of, same_Some, Some, stands_at, Waiting, with_dup, with_new, without_place, Zero, ℕ, if◌then◌else◌}
+use Rattle.ksm_tree.proofs.Names.{◌==◌, ◌∷◌, ◌≡◌, subst, get_or-map, length-map}
 use Rattle.ksm_tree.proofs.Alike.{filter_mapped, find_mapped, map_alike}
 use Rattle.ksm_tree.proofs.Rows.{only_number}
 

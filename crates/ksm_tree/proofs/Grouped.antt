@@ -1,5 +1,8 @@
 -- The dups of one group, and all others: what each makes of the totals, and what a dup that comes or goes changes of them.
-use Rattle.ksm_tree.proofs.Names.{[], All, All-head, All-tail, ap, AreTotals, arith, Bool, bytes_eq-Decides, cases_Bool, chained_of, chains_of, count-append, count_by, count_by-le-length, count_more, count_none, DupRow, false, filter, filter_all, find, get_or, group_places, group_size, if◌then◌else◌, in_chain, in_group, inl, InPlaceOrder, inr, IsRegrouped, leads_group, length, length-filter, length-map, List, list_all, list_all-append, list_all-from_AllPass, MOST_FRAMES, nat_le, nat_lt, nat_tests, none-some, not, pairs_head, pairs_tail, refl, same_group, Some, suc, sym, Tells, Totals, true, with_dup, ℕ, ◌&&◌, ◌++◌, ◌+◌, ◌<◌, ◌==◌, ◌||◌, ◌∙◌, ◌∷◌, ◌≡◌, ◌≤◌}
+use Rattle.ksm_tree.proofs.Names.{[], All, All-head, All-tail, ap, AreTotals, arith, Bool, bytes_eq-Decides, cases_Bool, chained_of, chains_of, count-append, count_by, count_by-le-length, count_more}
+use Rattle.ksm_tree.proofs.Names.{count_none, DupRow, false, filter, filter_all, find, get_or, group_places, group_size, if◌then◌else◌, in_chain, in_group, inl, InPlaceOrder, inr, IsRegrouped}
+use Rattle.ksm_tree.proofs.Names.{leads_group, length, length-filter, length-map, List, list_all, list_all-append, list_all-from_AllPass, MOST_FRAMES, nat_le, nat_lt, nat_tests, none-some, not}
+use Rattle.ksm_tree.proofs.Names.{pairs_head, pairs_tail, refl, same_group, Some, suc, sym, Tells, Totals, true, with_dup, ℕ, ◌&&◌, ◌++◌, ◌+◌, ◌<◌, ◌==◌, ◌||◌, ◌∙◌, ◌∷◌, ◌≡◌, ◌≤◌}
 use Rattle.ksm_tree.proofs.Alike.{count_alike}
 use Rattle.ksm_tree.proofs.Keys.{own_group, self_group}
 use Rattle.ksm_base.proofs.Orders.{dups_parted as rows_parted, Lower}

@@ -1,5 +1,8 @@
 -- The index over dups: what it finds, and how it stays with a change of items and with a dup that goes.
-use Rattle.ksm_tree.proofs.Names.{[], All, All-filter, AllPairs-filter, AreIndexed, arith, Bool, bytes_eq, change_at, change_items, content_of, Dup, dup_at, dup_of, DupRow, dups_seen, DupsState, eqb-true, false, false≢true, filter, find, find_nothing, find_passes, get, Group, group_places, GuestPage, if◌then◌else◌, in_group, Index, InPlaceOrder, is_some, items_in, IsRegrouped, length, List, None, not, number_of, Option, option_map, pairs_head, pairs_tail, place_of, places_of, refl, row_place, rows_of, SlotsState, Some, stands_at, sym, Tells, true, without, without_place, ℕ, ◌&&◌, ◌<◌, ◌==◌, ◌∙◌, ◌∷◌, ◌≡◌, LeadTheSame, has_number, rules, find_none}
+use Rattle.ksm_tree.proofs.Names.{[], All, All-filter, AllPairs-filter, AreIndexed, arith, Bool, bytes_eq, change_at, change_items, content_of, Dup, dup_at, dup_of, DupRow, dups_seen, DupsState}
+use Rattle.ksm_tree.proofs.Names.{eqb-true, false, false≢true, filter, find, find_nothing, find_passes, get, Group, group_places, GuestPage, if◌then◌else◌, in_group, Index, InPlaceOrder, is_some}
+use Rattle.ksm_tree.proofs.Names.{items_in, IsRegrouped, length, List, None, not, number_of, Option, option_map, pairs_head, pairs_tail, place_of, places_of, refl, row_place, rows_of, SlotsState}
+use Rattle.ksm_tree.proofs.Names.{Some, stands_at, sym, Tells, true, without, without_place, ℕ, ◌&&◌, ◌<◌, ◌==◌, ◌∙◌, ◌∷◌, ◌≡◌, LeadTheSame, has_number, rules, find_none}
 use Rattle.ksm_tree.proofs.Alike.{change_none, chosen, find_alike}
 use Rattle.ksm_tree.proofs.Grouped.{chains_kept, dups_kept, more_there, totals_moved, totals_tell}
 use Rattle.ksm_tree.proofs.Keys.{own_group, self_group}

@@ -1,5 +1,8 @@
 -- The best dup to join: a walk over a group, keeping the better of two, ends at the one that the definition chooses of all.
-use Rattle.ksm_tree.proofs.Names.{[], add-one, All, All-filter, All-map, ap, ArePlacesToJoin, arith, best_of, Bool, cases_Bool, cond, drop, drop-cons, Dup, dup_at, DupRow, false, filter, find, get_or, group_places, if◌then◌else◌, in_group, inl, InPlaceOrder, inr, is_no_worse, is_open, items_in, length, List, list_all, map, may_join, nat_le, nat_lt, nat_tests, None, not, of_group, Option, pairs_head, pairs_tail, refl, rows_of, Some, suc, sym, true, unless_behind, zero, ℕ, ◌%◌, ◌&&◌, ◌+◌, ◌-◌, ◌<◌, ◌==◌, ◌^◌, ◌||◌, ◌∙◌, ◌∷◌, ◌≡◌, ◌≤◌}
+use Rattle.ksm_tree.proofs.Names.{[], add-one, All, All-filter, All-map, ap, ArePlacesToJoin, arith, best_of, Bool, cases_Bool, cond, drop, drop-cons, Dup, dup_at, DupRow, false, filter, find, get_or}
+use Rattle.ksm_tree.proofs.Names.{group_places, if◌then◌else◌, in_group, inl, InPlaceOrder, inr, is_no_worse, is_open, items_in, length, List, list_all, map, may_join, nat_le, nat_lt, nat_tests, None}
+use Rattle.ksm_tree.proofs.Names.{not, of_group, Option, pairs_head, pairs_tail, refl, rows_of, Some, suc, sym, true, unless_behind, zero, ℕ, ◌%◌, ◌&&◌, ◌+◌, ◌-◌, ◌<◌, ◌==◌, ◌^◌, ◌||◌, ◌∙◌, ◌∷◌, ◌≡◌}
+use Rattle.ksm_tree.proofs.Names.{◌≤◌}
 use Rattle.ksm_tree.proofs.Alike.{filter_mapped, map_mapped}
 use Rattle.ksm_tree.proofs.Changes.{all_rows}
 use Rattle.ksm_base.proofs.Orders.{Lower}

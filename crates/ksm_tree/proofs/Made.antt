@@ -1,5 +1,8 @@
 -- The index once a new dup has taken its place.
-use Rattle.ksm_tree.proofs.Names.{All, AllPairs-filter, ap, AreIndexed, AreTotals, arith, Bool, bytes_eq, cases_Bool, Dup, dup_at, DupRow, dups_seen, DupsState, false, filter, filter_all, find_all, find_none, find_nothing, group_places, if◌then◌else◌, in_group, Index, inl, InPlaceOrder, inr, IsCounted, IsCountedAnew, IsEntered, IsRegrouped, length, List, nat_tests, None, not, place_of, places_of, row_place, rows_of, SameWaits, SlotsState, Some, subst, sym, true, with_dup, with_new, without, ℕ, ◌&&◌, ◌+◌, ◌<◌, ◌==◌, ◌≡◌}
+use Rattle.ksm_tree.proofs.Names.{All, AllPairs-filter, ap, AreIndexed, AreTotals, arith, Bool, bytes_eq, cases_Bool, Dup, dup_at, DupRow, dups_seen, DupsState, false, filter, filter_all, find_all}
+use Rattle.ksm_tree.proofs.Names.{find_none, find_nothing, group_places, if◌then◌else◌, in_group, Index, inl, InPlaceOrder, inr, IsCounted, IsCountedAnew, IsEntered, IsRegrouped, length, List}
+use Rattle.ksm_tree.proofs.Names.{nat_tests, None, not, place_of, places_of, row_place, rows_of, SameWaits, SlotsState, Some, subst, sym, true, with_dup, with_new, without, ℕ, ◌&&◌, ◌+◌, ◌<◌, ◌==◌}
+use Rattle.ksm_tree.proofs.Names.{◌≡◌}
 use Rattle.ksm_tree.proofs.Changes.{rows_new}
 use Rattle.ksm_tree.proofs.Grouped.{IsMore, chains_kept, dups_kept, more_with, more_there, places_size, totals_apart, totals_between, totals_few, totals_moved, totals_same}
 use Rattle.ksm_tree.proofs.Keys.{own_bytes, own_group, self_group}

@@ -6,7 +6,8 @@ pub use Rattle.ksm_base.proofs.RowCounts.{each_at_page, filter_all}
 pub use Rattle.ksm_base.proofs.SoundCounts.{not_an_item}
 pub use Rattle.ksm_base.specs.Counting.{group_size, in_chain, leads_group}
 pub use Rattle.ksm_base.specs.Reading.{items_of}
-pub use Rattle.ksm_base.specs.Rows.{change_row, change_rows, comes_before, has_items, InPageOrder, InPlaceOrder, item_count, merged_into, merged_state, row_at, same_group, same_page, waiting_state, with_dup, with_row, without_page}
+pub use Rattle.ksm_base.specs.Rows.{change_row, change_rows, comes_before, has_items, InPageOrder, InPlaceOrder, item_count, merged_into, merged_state, row_at, same_group, same_page, waiting_state}
+pub use Rattle.ksm_base.specs.Rows.{with_dup, with_row, without_page}
 pub use Rattle.ksm_base.specs.State.{tree_of}
 pub use Rattle.ksm_base.specs.Visit.{best_dup, empty_from, new_place, partner, place_or}
 pub use Rattle.ksm_base.specs.declared.knobs.Knobs.{Knobs}
@@ -16,7 +17,8 @@ pub use Rattle.ksm_base.specs.declared.row.DupRow.{DupRow}
 pub use Rattle.ksm_base.specs.declared.row.PageState.{PageState}
 pub use Rattle.ksm_base.specs.declared.row.PageState.TheVariants.{Merged, Private, Waiting, Zero}
 pub use Rattle.ksm_base.specs.declared.row.Row.{Row}
-pub use Rattle.ksm_rmap.proofs.Ordered.{absent_kept, absent_past, all_counted, any_found, counted_here, found_by, insert_at, IsOrder, none_found, parted, point_is_count, remove_at, with_found, with_rises, without_rises}
+pub use Rattle.ksm_rmap.proofs.Ordered.{absent_kept, absent_past, all_counted, any_found, counted_here, found_by, insert_at, IsOrder, none_found, parted, point_is_count, remove_at, with_found}
+pub use Rattle.ksm_rmap.proofs.Ordered.{with_rises, without_rises}
 pub use Rattle.ksm_rmap.proofs.Pages.{pages_ordered}
 pub use Rattle.ksm_rmap.specs.Items.{has_item, with_item, without_item}
 pub use Rattle.ksm_tree.specs.Bridge.{AreCounted, AreTied, let_out, place_in}
@@ -46,7 +48,9 @@ pub use Rattle.ksm_tree.specs.declared.totals.Totals.{Totals}
 pub use Rattle.slab.proofs.SlabLemmas.{Updates-with_value}
 pub use Rattle.slab.specs.Slab.{get, Slab, with_value}
 pub use Rattle.smallvec.specs.SmallVec.{SmallVec}
-pub use Rattle.std.proofs.Common.{[], add-one, ap, arith, Bool, count_by, drop, drop-cons, false, get_or, get_or-set_other, get_or-set_same, inl, inr, length, length-append, length-set, List, map, None, Option, refl, replicate, rules, set, shr-shr, Some, subst, suc, suc-mul, sym, take, true, true≢false, w64, zero, zero-mul, ℕ, ◌*◌, ◌++◌, ◌+◌, ◌-◌, ◌/◌, ◌<◌, ◌↔◌, ◌∙◌, ◌∷◌, ◌≡◌, ◌≢◌, ◌≤◌}
+pub use Rattle.std.proofs.Common.{[], add-one, ap, arith, Bool, count_by, drop, drop-cons, false, get_or, get_or-set_other, get_or-set_same, inl, inr, length, length-append, length-set, List, map}
+pub use Rattle.std.proofs.Common.{None, Option, refl, replicate, rules, set, shr-shr, Some, subst, suc, suc-mul, sym, take, true, true≢false, w64, zero, zero-mul, ℕ, ◌*◌, ◌++◌, ◌+◌, ◌-◌, ◌/◌, ◌<◌}
+pub use Rattle.std.proofs.Common.{◌↔◌, ◌∙◌, ◌∷◌, ◌≡◌, ◌≢◌, ◌≤◌}
 pub use Rattle.std.proofs.Math.ListN.{drop_of_length-le, get_or-map}
 pub use Rattle.std.proofs.lemmas.Bool.{and_parts, cases_Bool, cases_eq, cases_lt, cond_both, eq-eqb, eqb-true, false≢true, le-ltb, ne_eqb}
 pub use Rattle.std.proofs.lemmas.Bool.Decides.{Decides-eqb, nat_tests}
@@ -68,4 +72,5 @@ pub use Rattle.std.specs.Int.Bits.{bit_and}
 pub use Rattle.std.specs.Int.RustNames.{bit_or}
 pub use Rattle.std.specs.List.{list_all, list_any}
 pub use Rattle.std.specs.Option.{ForSome, option_and_then, option_or, unwrap_or}
-pub use Rattle.std.specs.Prelude.{All, AllPairs, bytes_eq, cond, Err, filter, filter_map, find, if◌then◌else◌, is_some, IsOk, MatchOption, nat_le, nat_lt, not, Ok, OnErr, OnOk, option_copied, option_map, Result, ◌%◌, ◌&&◌, ◌==◌, ◌^◌, ◌||◌}
+pub use Rattle.std.specs.Prelude.{All, AllPairs, bytes_eq, cond, Err, filter, filter_map, find, if◌then◌else◌, is_some, IsOk, MatchOption, nat_le, nat_lt, not, Ok, OnErr, OnOk, option_copied}
+pub use Rattle.std.specs.Prelude.{option_map, Result, ◌%◌, ◌&&◌, ◌==◌, ◌^◌, ◌||◌}

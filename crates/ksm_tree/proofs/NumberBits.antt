@@ -1,5 +1,7 @@
 -- What the words of a set, and their summary, say of its numbers.
-use Rattle.ksm_tree.proofs.Names.{AreSummed, arith, Bool, bit_at, bit_at_clear_other, bit_at_clear_same, bit_at_ones, bit_at_set_other, bit_at_set_same, bit_and, bit_or, false, get_or, get_or-set_other, get_or-set_same, get_or_past, get_or-replicate, has, HasNoBit, HasNone, IsLeast, IsLowestBit, IsSummed, length, length-set, List, Marks, MatchOption, nat_tests, not, Option, replicate, set, shr-shr, true, w64, ℕ, ◌%◌, ◌*◌, ◌+◌, ◌-◌, ◌/◌, ◌<◌, ◌==◌, ◌^◌, ◌≡◌, ◌≢◌, ◌≤◌}
+use Rattle.ksm_tree.proofs.Names.{AreSummed, arith, Bool, bit_at, bit_at_clear_other, bit_at_clear_same, bit_at_ones, bit_at_set_other, bit_at_set_same, bit_and, bit_or, false, get_or}
+use Rattle.ksm_tree.proofs.Names.{get_or-set_other, get_or-set_same, get_or_past, get_or-replicate, has, HasNoBit, HasNone, IsLeast, IsLowestBit, IsSummed, length, length-set, List, Marks}
+use Rattle.ksm_tree.proofs.Names.{MatchOption, nat_tests, not, Option, replicate, set, shr-shr, true, w64, ℕ, ◌%◌, ◌*◌, ◌+◌, ◌-◌, ◌/◌, ◌<◌, ◌==◌, ◌^◌, ◌≡◌, ◌≢◌, ◌≤◌}
 use Rattle.std.proofs.lemmas.List.{length-replicate}
 
 module _ (words : List ℕ) where

@@ -1,5 +1,6 @@
 -- What one content more, and one less, makes of the numbers.
-use Rattle.ksm_tree.proofs.Names.{arith, ap, AreNumbered, BTreeMap, Content, content_order, Equal-is, exact_bytes, exact_pairs, exact_unsigned, is_at, is_some, None, number_of, Numbers, Option, Some, sym, true, true≢false, Updates, ℕ, ◌∙◌, ◌≡◌, ◌≢◌}
+use Rattle.ksm_tree.proofs.Names.{arith, ap, AreNumbered, BTreeMap, Content, content_order, Equal-is, exact_bytes, exact_pairs, exact_unsigned, is_at, is_some, None, number_of, Numbers, Option, Some}
+use Rattle.ksm_tree.proofs.Names.{sym, true, true≢false, Updates, ℕ, ◌∙◌, ◌≡◌, ◌≢◌}
 
 -- contents that the order does not tell apart are one
 pub same_content : {p q : Content} → is_at (content_order p) q ≡ true → p ≡ q

@@ -1,5 +1,9 @@
 -- What a change of one slot does to the dups and to the places whose slots pass a test.
-use Rattle.ksm_tree.proofs.Names.{[], absent_kept, All, ap, ArePlaced, AreSlots, arith, Bool, change_at, change_items_of, change_slot, comes_before, count_in, Dup, dup_at, empty_from, empty_place, false, filter, filter_all, filter_none, find, find_nothing, find_passes, get_or, get_or-map, get_or_past, GuestPage, has_item, if◌then◌else◌, is_empty_slot, is_live, is_some, is_stale, is_stale_slot, items_in, length, length-append, length-map, length-set, List, map, map-set, nat_lt, nat_tests, None, none_found, not, Option, option_map, pages_ordered, present, refl, rows_of, set, set-get_or, ShelfState, slots_seen, SlotsState, Some, stands_at, suc, sym, true, with_item, with_new, without_item, without_place, zero, ℕ, ◌+◌, ◌<◌, ◌==◌, ◌∙◌, ◌∷◌, ◌≡◌, ◌≤◌, CountedSet, HasNone, IsLeast, IsMarked, IsSetOf, MatchOption}
+use Rattle.ksm_tree.proofs.Names.{[], absent_kept, All, ap, ArePlaced, AreSlots, arith, Bool, change_at, change_items_of, change_slot, comes_before, count_in, Dup, dup_at, empty_from, empty_place}
+use Rattle.ksm_tree.proofs.Names.{false, filter, filter_all, filter_none, find, find_nothing, find_passes, get_or, get_or-map, get_or_past, GuestPage, has_item, if◌then◌else◌, is_empty_slot, is_live}
+use Rattle.ksm_tree.proofs.Names.{is_some, is_stale, is_stale_slot, items_in, length, length-append, length-map, length-set, List, map, map-set, nat_lt, nat_tests, None, none_found, not, Option}
+use Rattle.ksm_tree.proofs.Names.{option_map, pages_ordered, present, refl, rows_of, set, set-get_or, ShelfState, slots_seen, SlotsState, Some, stands_at, suc, sym, true, with_item, with_new}
+use Rattle.ksm_tree.proofs.Names.{without_item, without_place, zero, ℕ, ◌+◌, ◌<◌, ◌==◌, ◌∙◌, ◌∷◌, ◌≡◌, ◌≤◌, CountedSet, HasNone, IsLeast, IsMarked, IsSetOf, MatchOption}
 use Rattle.ksm_tree.proofs.Alike.{change_none}
 use Rattle.ksm_tree.proofs.PlaceSets.{set_kept, set_marked}
 

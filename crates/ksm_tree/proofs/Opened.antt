@@ -1,5 +1,6 @@
 -- Slots that are all empty.
-use Rattle.ksm_tree.proofs.Names.{[], ArePlaced, AreSlots, arith, Bool, cond, count_by, count_in, count_more, CountedSet, Dup, false, get_or-replicate, has, IsSetOf, length, List, map, MOST_FRAMES, None, Option, present, refl, replicate, ShelfState, slots_seen, suc, sym, true, zero, zero-mul, ℕ, ◌*◌, ◌<◌, ◌∙◌, ◌≡◌, ◌≤◌}
+use Rattle.ksm_tree.proofs.Names.{[], ArePlaced, AreSlots, arith, Bool, cond, count_by, count_in, count_more, CountedSet, Dup, false, get_or-replicate, has, IsSetOf, length, List, map, MOST_FRAMES}
+use Rattle.ksm_tree.proofs.Names.{None, Option, present, refl, replicate, ShelfState, slots_seen, suc, sym, true, zero, zero-mul, ℕ, ◌*◌, ◌<◌, ◌∙◌, ◌≡◌, ◌≤◌}
 use Rattle.std.proofs.lemmas.List.{length-replicate}
 
 -- a list of n empty slots

@@ -1,5 +1,6 @@
 -- The places whose slots pass a test, as a set: what a change of one slot does to it.
-use Rattle.ksm_tree.proofs.Names.{arith, Bool, count_by-le-length, CountedSet, Dup, get_or, get_or-le-sum_by, get_or-set_other, get_or-set_same, IsMarked, IsSetOf, length, length-set, List, MayBeMarked, MOST_FRAMES, None, Option, set, sum_by-set, ℕ, ◌<◌, ◌≡◌, ◌≤◌}
+use Rattle.ksm_tree.proofs.Names.{arith, Bool, count_by-le-length, CountedSet, Dup, get_or, get_or-le-sum_by, get_or-set_other, get_or-set_same, IsMarked, IsSetOf, length, length-set, List}
+use Rattle.ksm_tree.proofs.Names.{MayBeMarked, MOST_FRAMES, None, Option, set, sum_by-set, ℕ, ◌<◌, ◌≡◌, ◌≤◌}
 
 module _ (test : Option Dup → Bool) (slots : List (Option Dup)) (p : ℕ) (s : Option Dup) (within : p < length slots) where
   -- the set once a slot is put, and its place marked as the slot passes

@@ -1,5 +1,7 @@
 -- Dup rows in the order of their places: what a new row and a row that goes change of what is found.
-use Rattle.ksm_tree.proofs.Names.{[], All, All-filter, ap, arith, Bool, DupRow, false, filter, find, find-append, find_all, find_nothing, find_over, find_passes, get_or, group_places, if◌then◌else◌, in_group, InPlaceOrder, List, nat_lt, nat_tests, None, not, option_map, refl, row_place, Some, suc, sym, true, with_dup, with_place, without, ℕ, ◌&&◌, ◌<◌, ◌==◌, ◌∙◌, ◌∷◌, ◌≡◌}
+use Rattle.ksm_tree.proofs.Names.{[], All, All-filter, ap, arith, Bool, DupRow, false, filter, find, find-append, find_all, find_nothing, find_over, find_passes, get_or, group_places, if◌then◌else◌}
+use Rattle.ksm_tree.proofs.Names.{in_group, InPlaceOrder, List, nat_lt, nat_tests, None, not, option_map, refl, row_place, Some, suc, sym, true, with_dup, with_place, without, ℕ, ◌&&◌, ◌<◌, ◌==◌, ◌∙◌}
+use Rattle.ksm_tree.proofs.Names.{◌∷◌, ◌≡◌}
 use Rattle.ksm_tree.proofs.Alike.{chosen, kept_append}
 use Rattle.ksm_base.proofs.Orders.{above, below, dups_parted, elsewhere, Lower, one_of_each, one_of_each_place}
 

@@ -1,5 +1,6 @@
 -- What a change of one key, or of what lies under it, does to the slots of a shelf.
-use Rattle.ksm_tree.proofs.Names.{[], ap, arith, change_items_of, change_slot, get, get_or, get_or_default, get_or_past, GuestPage, has_room, items_in, Kept, kept_at, length, List, None, none-some, nat_tests, Option, refl, replicate, set, set-get_or, ShelfState, Slab, slots_by, Some, suc, sym, true, is_some, zero, ℕ, ◌+◌, ◌<◌, ◌≤◌, ◌∙◌, ◌∷◌, ◌≡◌, ◌≢◌}
+use Rattle.ksm_tree.proofs.Names.{[], ap, arith, change_items_of, change_slot, get, get_or, get_or_default, get_or_past, GuestPage, has_room, items_in, Kept, kept_at, length, List, None, none-some}
+use Rattle.ksm_tree.proofs.Names.{nat_tests, Option, refl, replicate, set, set-get_or, ShelfState, Slab, slots_by, Some, suc, sym, true, is_some, zero, ℕ, ◌+◌, ◌<◌, ◌≤◌, ◌∙◌, ◌∷◌, ◌≡◌, ◌≢◌}
 use Rattle.slab.specs.Slab.{Updates as Fills}
 
 -- there are as many slots as keys

@@ -1,5 +1,8 @@
 -- What a change of one group makes of the chains and of the pages that wait.
-use Rattle.ksm_tree.proofs.Names.{[], ap, AreGroups, AreNumbered, arith, BTreeMap, bytes_eq, bytes_eq-Decides, cases_Bool, chain_in, Content, content_in, content_of, content_order, filter_map, ForSome, get, get_or, Group, Groups, GuestPage, if◌then◌else◌, inl, inr, is_at, is_some, IsIdle, IsUnused, List, nat_tests, None, number_of, Numbers, Option, option_map, places_in, refl, Slab, Some, suc, sym, true, under, Updates, Updates-with_value, waiting_in, waiting_page, waits_in, with_value, zero, ℕ, ◌&&◌, ◌==◌, ◌∙◌, ◌∷◌, ◌≡◌, ◌≢◌, ◌≤◌}
+use Rattle.ksm_tree.proofs.Names.{[], ap, AreGroups, AreNumbered, arith, BTreeMap, bytes_eq, bytes_eq-Decides, cases_Bool, chain_in, Content, content_in, content_of, content_order, filter_map}
+use Rattle.ksm_tree.proofs.Names.{ForSome, get, get_or, Group, Groups, GuestPage, if◌then◌else◌, inl, inr, is_at, is_some, IsIdle, IsUnused, List, nat_tests, None, number_of, Numbers, Option}
+use Rattle.ksm_tree.proofs.Names.{option_map, places_in, refl, Slab, Some, suc, sym, true, under, Updates, Updates-with_value, waiting_in, waiting_page, waits_in, with_value, zero, ℕ, ◌&&◌, ◌==◌, ◌∙◌}
+use Rattle.ksm_tree.proofs.Names.{◌∷◌, ◌≡◌, ◌≢◌, ◌≤◌}
 use Rattle.slab.specs.Slab.{Updates as Fills}
 use Rattle.ksm_tree.proofs.Numbering.{Stands, entered, forgotten, its_number, same_content}
 

@@ -1,5 +1,6 @@
 -- The contents that are in use: what is left once those are gone that are not.
-use Rattle.ksm_tree.proofs.Names.{AreGroups, BTreeMap, bytes_eq, cases_Bool, Content, content_of, content_order, false, get, get_or_past, Group, Groups, if◌then◌else◌, inl, inr, is_at, is_occupied, is_some, is_used_in, IsAsWas, IsSwept, length, None, number_of, Option, Slab, Some, sym, true, Updates, ℕ, ◌&&◌, ◌+◌, ◌<◌, ◌==◌, ◌≡◌, List, arith}
+use Rattle.ksm_tree.proofs.Names.{AreGroups, BTreeMap, bytes_eq, cases_Bool, Content, content_of, content_order, false, get, get_or_past, Group, Groups, if◌then◌else◌, inl, inr, is_at, is_occupied}
+use Rattle.ksm_tree.proofs.Names.{is_some, is_used_in, IsAsWas, IsSwept, length, None, number_of, Option, Slab, Some, sym, true, Updates, ℕ, ◌&&◌, ◌+◌, ◌<◌, ◌==◌, ◌≡◌, List, arith}
 use Rattle.ksm_tree.proofs.Numbering.{same_content}
 use Rattle.ksm_tree.specs.Reserve.{KeepsReserve}
 use Rattle.std.specs.Prelude.{◌⊎◌}

@@ -1,5 +1,6 @@
 -- The places at which a test is passed: what a change at one place does to them.
-use Rattle.ksm_tree.proofs.Names.{[], add-one, All, arith, Bool, false, filter_all, filter_none, get_or, length, List, nat_lt, nat_tests, not, places_where, refl, set, suc, take, true, with_place, without, zero, ℕ, ◌+◌, ◌<◌, ◌==◌, ◌∷◌, ◌≡◌, ◌≤◌}
+use Rattle.ksm_tree.proofs.Names.{[], add-one, All, arith, Bool, false, filter_all, filter_none, get_or, length, List, nat_lt, nat_tests, not, places_where, refl, set, suc, take, true, with_place}
+use Rattle.ksm_tree.proofs.Names.{without, zero, ℕ, ◌+◌, ◌<◌, ◌==◌, ◌∷◌, ◌≡◌, ◌≤◌}
 use Rattle.std.proofs.lemmas.List.{length-take}
 
 module _ {X : Type 0} (test : X → Bool) where

@@ -1,7 +1,6 @@
 -- Which dup a page joins, and where a new dup goes:
 -- the book's own words, with the items of a dup in place of the rows merged into it.
-use Rattle.std.specs.Prelude.{◌≡◌, ℕ, Bool, true, false, not, ◌&&◌, ◌||◌, ◌==◌, nat_lt, nat_le}
-use Rattle.std.specs.Prelude.{List, length, find, Option, Some, None, bytes_eq, if◌then◌else◌}
+use Rattle.std.specs.Prelude.{◌≡◌, ℕ, Bool, true, false, not, ◌&&◌, ◌||◌, ◌==◌, nat_lt, nat_le, List, length, find, Option, Some, None, bytes_eq, if◌then◌else◌}
 use Rattle.std.specs.List.{list_all}
 use Rattle.ksm_base.specs.declared.row.DupRow.{DupRow}
 use Rattle.ksm_base.specs.Visit.{empty_from}

@@ -1,6 +1,5 @@
 -- What a group has: its content, the places of its dups, and the page that waits there. (own)
-use Rattle.std.specs.Prelude.{◌≡◌, ℕ, ◌≤◌, ◌==◌, Bool, ◌||◌, nat_lt, List, [], length, Option, Some, None, is_some, option_map}
-use Rattle.std.specs.Prelude.{if◌then◌else◌}
+use Rattle.std.specs.Prelude.{◌≡◌, ℕ, ◌≤◌, ◌==◌, Bool, ◌||◌, nat_lt, List, [], length, Option, Some, None, is_some, option_map, if◌then◌else◌}
 use Rattle.std.specs.Option.{ForSome}
 use Rattle.slab.specs.Slab.{Slab, get}
 use Rattle.ksm_tree.specs.declared.content.Content.{Content}

@@ -1,7 +1,6 @@
 -- The groups: the dups of one tree and one content (mm/ksm: a chain links the copies of one content),
 -- and the page that waits there.
-use Rattle.std.specs.Prelude.{◌≡◌, ℕ, ◌+◌, ◌≤◌, Bool, true, ◌&&◌, ◌||◌, ◌==◌, nat_lt, List, [], Option, Some, None, is_some}
-use Rattle.std.specs.Prelude.{bytes_eq, filter_map, length, if◌then◌else◌}
+use Rattle.std.specs.Prelude.{◌≡◌, ℕ, ◌+◌, ◌≤◌, Bool, true, ◌&&◌, ◌||◌, ◌==◌, nat_lt, List, [], Option, Some, None, is_some, bytes_eq, filter_map, length, if◌then◌else◌}
 use Rattle.slab.specs.Slab.{get}
 use Rattle.ksm_tree.specs.declared.groups.Groups.{Groups}
 use Rattle.ksm_tree.specs.declared.groups.TheConstants.{MOST_SPARE}

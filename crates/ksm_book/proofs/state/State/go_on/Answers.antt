@@ -1,4 +1,5 @@
-use Rattle.ksm_book.proofs.Names.{ap, AreDue, arith, begun, BookState, BookValue, comes_before, Deed, doing, EndsAt, filter, has_item, IsStill, last_visited, length, mergeable_pages, None, pages_ahead, pages_visited, pass_ended, pass_ended_at_last, Reached, subst, true, up_to, visit_begun, visits_beside, ◌%◌, ◌*◌, ◌+◌, ◌-◌, ◌/◌, ◌<◌, ◌∙◌, ◌≡◌, ◌≤◌}
+use Rattle.ksm_book.proofs.Names.{ap, AreDue, arith, begun, BookState, BookValue, comes_before, Deed, doing, EndsAt, filter, has_item, IsStill, last_visited, length, mergeable_pages, None}
+use Rattle.ksm_book.proofs.Names.{pages_ahead, pages_visited, pass_ended, pass_ended_at_last, Reached, subst, true, up_to, visit_begun, visits_beside, ◌%◌, ◌*◌, ◌+◌, ◌-◌, ◌/◌, ◌<◌, ◌∙◌, ◌≡◌, ◌≤◌}
 use Rattle.ksm_book.proofs.Scanned.{page_made, pass_made, passes_made, some_ahead, stopped_ahead, stopped_fewer, stopped_made}
 use Rattle.ksm_book.proofs.Doing.{doing_beside}
 use Rattle.ksm_book.proofs.PartBegun.{begun_still, closed, closed_due, comes_due}

@@ -1,4 +1,4 @@
-use Rattle.ksm_book.proofs.Names.{seen, spent, state_of, arith}
+use Rattle.ksm_book.proofs.Names.{seen, state_of, arith}
 use Rattle.ksm_book.proofs.Promised.{lie_on, finds_place}
 use Rattle.ksm_book.proofs.Sharing.{spent_most}
 use Rattle.ksm_book.proofs.state.State.lies_lawfully.Goals as goal

@@ -1,4 +1,4 @@
-use Rattle.ksm_book.proofs.Names.{ap, Done, MovePage, ne_eqb, Ok, option_map, refl, Resettled, same_Some, seen, subst, sym, view_of, ◌∙◌, true, false}
+use Rattle.ksm_book.proofs.Names.{ap, Done, MovePage, ne_eqb, Ok, option_map, refl, Resettled, same_Some, seen, subst, sym, view_of, ◌∙◌}
 use Rattle.ksm_book.proofs.Shown.{resettles_own}
 use Rattle.ksm_book.proofs.Singles.{carried_so, move_home, move_moved, sound_carried, row_held, Carries, found_resettled}
 use Rattle.ksm_book.proofs.state.State.move_page.Goals as goal

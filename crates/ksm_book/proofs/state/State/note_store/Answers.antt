@@ -1,4 +1,4 @@
-use Rattle.ksm_book.proofs.Names.{false, InPageOrder}
+use Rattle.ksm_book.proofs.Names.{InPageOrder}
 use Rattle.ksm_book.proofs.DueStored.{stored_added, stored_calm}
 use Rattle.ksm_book.proofs.state.State.note_store.Goals as goal
 use Rattle.ksm_book.proofs.state.State.note_store.Goals.{After-waits}

@@ -1,4 +1,4 @@
-use Rattle.ksm_book.proofs.Names.{ap, Done, Err, NoFrame, Ok, refl, Register, seen, sym, true, view_of, ◌∙◌, none_of}
+use Rattle.ksm_book.proofs.Names.{ap, Done, Err, NoFrame, Ok, refl, Register, seen, sym, view_of, ◌∙◌, none_of}
 use Rattle.ksm_book.proofs.Singles.{HasCome, carried_so, come_known, register_come, register_refused, register_turned, sound_carried, Carries}
 use Rattle.ksm_book.proofs.state.State.register.Goals as goal
 use Rattle.ksm_book.proofs.state.State.register.Goals.{In_ok-spot}

@@ -1,4 +1,5 @@
-use Rattle.ksm_book.proofs.Names.{[], All, ap, arith, changes_while_shared, Done, effect, false, get_or, inr, IsLaid, IsSound, ne_eqb, no_dup_lives, none_shared, PagesView, refl, rules, seen, SetAcross, sound_set_across, state_of, subst, sym, waiting_state, ◌∙◌, ◌≡◌, ◌≤◌, All-map}
+use Rattle.ksm_book.proofs.Names.{[], All, ap, arith, changes_while_shared, Done, effect, false, get_or, inr, IsLaid, IsSound, ne_eqb, no_dup_lives, none_shared, PagesView, refl, rules, seen}
+use Rattle.ksm_book.proofs.Names.{SetAcross, sound_set_across, state_of, subst, sym, waiting_state, ◌∙◌, ◌≡◌, ◌≤◌, All-map}
 use Rattle.ksm_book.proofs.Laying.{laid_mapped, retuned}
 use Rattle.ksm_book.proofs.Sharing.{settled_lodges}
 use Rattle.ksm_pages.proofs.Resting.{settled_still}

@@ -1,9 +1,10 @@
-use Rattle.ksm_book.proofs.Names.{ap, BookValue, false, Find, FindsAt, IsDueNoMore, IsLaid, IsSound, seen, state_of, subst, sym, true, view_of, inl, inr, ◌∙◌, ◌≡◌, arith}
+use Rattle.ksm_book.proofs.Names.{ap, BookValue, Find, FindsAt, IsDueNoMore, IsLaid, IsSound, seen, state_of, subst, sym, view_of, inl, inr, ◌∙◌, ◌≡◌, arith}
 use Rattle.ksm_pages.specs.declared.pages.Find.TheVariants as finds
 use Rattle.ksm_pages.specs.Paged.{Finds}
 use Rattle.ksm_tree.proofs.Numbers.{on_err}
 use Rattle.ksm_book.specs.contracts.state.State.{the_view}
-use Rattle.ksm_book.proofs.DueFound.{changed_keeps, comes_as, dup_calm, dup_none, gone_same, less_due, partner_calm, partner_none, partner_takes, shared_due_comes, shared_leaves, stays_as, zero_calm, zero_none}
+use Rattle.ksm_book.proofs.DueFound.{changed_keeps, comes_as, dup_calm, dup_none, gone_same, less_due, partner_calm, partner_none, partner_takes, shared_due_comes, shared_leaves, stays_as, zero_calm}
+use Rattle.ksm_book.proofs.DueFound.{zero_none}
 use Rattle.ksm_book.proofs.DueVisits.{gone_due, waits_due}
 use Rattle.ksm_book.proofs.PageVisits.{changed_leads, finds_it, waits_leads}
 use Rattle.ksm_book.proofs.RowVisits.{Meets}

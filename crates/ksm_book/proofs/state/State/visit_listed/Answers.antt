@@ -1,4 +1,5 @@
-use Rattle.ksm_book.proofs.Names.{and_parts, ap, arith, rules, BookState, Deed, doing, drop, drop_more, from_to, get_or_from_slice_get, GuestPage, IsStill, Listing, pages_visited, Reached, slice_get, slice_get_within, subst, sym, ◌+◌, ◌∙◌, ◌∷◌, ◌≡◌}
+use Rattle.ksm_book.proofs.Names.{and_parts, ap, arith, rules, BookState, Deed, doing, drop, drop_more, from_to, get_or_from_slice_get, GuestPage, IsStill, Listing, pages_visited, Reached, slice_get}
+use Rattle.ksm_book.proofs.Names.{slice_get_within, subst, sym, ◌+◌, ◌∙◌, ◌∷◌, ◌≡◌}
 use Rattle.ksm_book.proofs.Folded.{still_on, visited_more}
 use Rattle.ksm_book.proofs.PagesAhead.{from_to_end, from_to_more}
 use Rattle.ksm_book.proofs.state.State.visit_listed.Goals as goal

@@ -1,4 +1,5 @@
-use Rattle.ksm_book.proofs.Names.{[], after_cursor, ap, AreDue, arith, BookState, Bool, Deed, doing, drop, filter, filter_all, filter_none, from_to, GuestPage, IsStill, length, length-take-le, List, None, not, pages_ahead, pages_visited, Reached, refl, restless_at, slice_get, slice_get_within, Some, subst, sym, true, up_to, ℕ, ◌∙◌, ◌∷◌, ◌≡◌}
+use Rattle.ksm_book.proofs.Names.{[], after_cursor, ap, AreDue, arith, BookState, Bool, Deed, doing, drop, filter, filter_all, filter_none, from_to, GuestPage, IsStill, length, length-take-le, List}
+use Rattle.ksm_book.proofs.Names.{None, not, pages_ahead, pages_visited, Reached, refl, restless_at, slice_get, slice_get_within, Some, subst, sym, true, up_to, ℕ, ◌∙◌, ◌∷◌, ◌≡◌}
 use Rattle.ksm_book.proofs.DueVisits.{listed_due}
 use Rattle.ksm_book.proofs.Folded.{pages_go}
 use Rattle.ksm_book.proofs.PagesAhead.{GoesDown, before_down, place_splits, up_to_down}

@@ -1,4 +1,5 @@
-use Rattle.ksm_tree.proofs.Names.{All, ap, arith, best_of, drop_of_length-le, dup_at, get_or, InPlaceOrder, items_in, length, None, of_group, option_copied, refl, rows_of, Some, unless_behind, ◌%◌, ◌+◌, ◌-◌, ◌<◌, ◌^◌, ◌∙◌, ◌≡◌}
+use Rattle.ksm_tree.proofs.Names.{All, ap, arith, best_of, drop_of_length-le, dup_at, get_or, InPlaceOrder, items_in, length, None, of_group, option_copied, refl, rows_of, Some, unless_behind, ◌%◌}
+use Rattle.ksm_tree.proofs.Names.{◌+◌, ◌-◌, ◌<◌, ◌^◌, ◌∙◌, ◌≡◌}
 use Rattle.ksm_tree.proofs.Joining.{candidate_is, joined, folded_best, above_least, out_of_room, stepped_over, stepped_to, passed_over_so, stepped, candidates_within, taken_so}
 use Rattle.ksm_tree.proofs.dups.Dups.best_in.Goals as goal
 use Rattle.ksm_tree.proofs.dups.Dups.best_in.Goals.{After-loop-place, then-items-least+in-Some, then-items-least+in_default, else-items-least}
