@@ -1,5 +1,7 @@
 -- Lists in the order of their pages: what a search finds once one came, went or changed.
-use Rattle.ksm_pages.proofs.Names.{[], All, All-cons, AllPairs, ap, arith, Bool, comes_before, cond, false, filter, filter_passes, find, find-append, find_nothing, find_over, get_or, GuestPage, if◌then◌else◌, List, map, None, not, pages_ordered, pairs_head, pairs_tail, refl, same_page, same_page_eq, same_page_refl, Some, sym, true, ◌++◌, ◌∙◌, ◌∷◌, ◌≡◌, Option, find_passes, option_map, same_page_sym}
+use Rattle.ksm_pages.proofs.Names.{[], All, All-cons, AllPairs, ap, arith, Bool, comes_before, cond, false, filter, filter_passes, find, find-append, find_nothing, find_over, get_or, GuestPage}
+use Rattle.ksm_pages.proofs.Names.{if◌then◌else◌, List, map, None, not, pages_ordered, pairs_head, pairs_tail, refl, same_page, same_page_eq, same_page_refl, Some, sym, true, ◌++◌, ◌∙◌, ◌∷◌, ◌≡◌}
+use Rattle.ksm_pages.proofs.Names.{Option, find_passes, option_map, same_page_sym}
 use Rattle.ksm_rmap.proofs.Ordered.{absent_parts}
 use Rattle.ksm_tree.proofs.Alike.{find_mapped}
 

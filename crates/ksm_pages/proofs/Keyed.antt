@@ -1,5 +1,7 @@
 -- Lists in the order of their pages: where a page stands or would stand, and what an insert, a removal or a write there leaves.
-use Rattle.ksm_pages.proofs.Names.{[], All, AllPairs, ap, ap₂, arith, Bool, both_ways, cases_Bool, cases_lt, comes_before, cond, count_by-le-length, false, filter, filter_passes, find, find_none, get_or, GuestPage, if◌then◌else◌, IsPartitionedBy, length, length-filter, length-insert, List, map, map-append, None, not, not-true, pages_ordered, refl, rules, same_page, set, set-append_seam, suc, sym, true, ℕ, ◌++◌, ◌+◌, ◌<◌, ◌∙◌, ◌∷◌, ◌≡◌, ◌≤◌}
+use Rattle.ksm_pages.proofs.Names.{[], All, AllPairs, ap, ap₂, arith, Bool, both_ways, cases_Bool, cases_lt, comes_before, cond, count_by-le-length, false, filter, filter_passes, find, find_none}
+use Rattle.ksm_pages.proofs.Names.{get_or, GuestPage, if◌then◌else◌, IsPartitionedBy, length, length-filter, length-insert, List, map, map-append, None, not, not-true, pages_ordered, refl, rules}
+use Rattle.ksm_pages.proofs.Names.{same_page, set, set-append_seam, suc, sym, true, ℕ, ◌++◌, ◌+◌, ◌<◌, ◌∙◌, ◌∷◌, ◌≡◌, ◌≤◌}
 use Rattle.ksm_rmap.proofs.Ordered.{found_at, found_parts, insert_at, none_same, none_same_low}
 use Rattle.ksm_tree.proofs.Alike.{pairs_mapped}
 

@@ -1,5 +1,8 @@
 -- The pages once the row of one page changed, or went: they are lawful still, and what is seen of them is changed so.
-use Rattle.ksm_pages.proofs.Names.{ap, ap₂, AreKept, AreTied, AreWaiting, arith, change_held, change_row, DupsState, false, find_passes, frame_of, Frames, GuestPage, Held, held_at, if◌then◌else◌, InPageOrder, Inside, is_some, IsAlone, IsKnown, IsStopped, let_out, lies_on, lodging, lodgings_of, MatchOption, merged_state, None, Option, option_map, ordered_map, ordered_without, PagesValue, Row, row_at, row_dropped, row_stopped, rows_of, rows_out, RowsView, same_page, same_page_eq, seen, shared_state, Some, subst, sym, tied_dropped, tied_left, true, waiting_state, without_held, without_page, ℕ, ◌∙◌, ◌≡◌}
+use Rattle.ksm_pages.proofs.Names.{ap, ap₂, AreKept, AreTied, AreWaiting, arith, change_held, change_row, DupsState, false, find_passes, frame_of, Frames, GuestPage, Held, held_at, if◌then◌else◌}
+use Rattle.ksm_pages.proofs.Names.{InPageOrder, Inside, is_some, IsAlone, IsKnown, IsStopped, let_out, lies_on, lodging, lodgings_of, MatchOption, merged_state, None, Option, option_map, ordered_map}
+use Rattle.ksm_pages.proofs.Names.{ordered_without, PagesValue, Row, row_at, row_dropped, row_stopped, rows_of, rows_out, RowsView, same_page, same_page_eq, seen, shared_state, Some, subst, sym}
+use Rattle.ksm_pages.proofs.Names.{tied_dropped, tied_left, true, waiting_state, without_held, without_page, ℕ, ◌∙◌, ◌≡◌}
 use Rattle.ksm_tree.specs.Dups.{rows_of as dup_rows}
 use Rattle.ksm_pages.proofs.Changing.{row_told, rows_changed, rows_without}
 use Rattle.ksm_pages.proofs.Lodgings.{changed_to, frame_by, lodged_changed, lodged_gone, seat}

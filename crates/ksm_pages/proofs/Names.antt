@@ -7,7 +7,8 @@ pub use Rattle.ksm_base.proofs.Sums.{states-add}
 pub use Rattle.ksm_base.specs.Apply.{fresh_row, let_go, stored, unshared}
 pub use Rattle.ksm_base.specs.Counting.{counters_from, shared_count}
 pub use Rattle.ksm_base.specs.Reading.{items_of, place_of}
-pub use Rattle.ksm_base.specs.Rows.{all_zero, change_row, change_rows, comes_before, dup_numbered, has_items, InPageOrder, InPlaceOrder, item_count, merged_into, merged_state, private_state, row_at, same_page, settled, settled_state, shared_state, waiting_state, with_dup, with_row, without_page}
+pub use Rattle.ksm_base.specs.Rows.{all_zero, change_row, change_rows, comes_before, dup_numbered, has_items, InPageOrder, InPlaceOrder, item_count, merged_into, merged_state, private_state, row_at}
+pub use Rattle.ksm_base.specs.Rows.{same_page, settled, settled_state, shared_state, waiting_state, with_dup, with_row, without_page}
 pub use Rattle.ksm_base.specs.State.{default_knobs, place_count, tree_of}
 pub use Rattle.ksm_base.specs.Visit.{after_cursor, best_dup, is_for_zero, partner}
 pub use Rattle.ksm_base.specs.declared.knobs.Knobs.{Knobs}
@@ -19,10 +20,12 @@ pub use Rattle.ksm_base.specs.declared.row.PageState.TheVariants.{Merged, Privat
 pub use Rattle.ksm_base.specs.declared.row.Row.{Row}
 pub use Rattle.ksm_pages.specs.Filed.{AreBegun, AreFiled, AreListed, CanMove, held_in, held_under, is_useless, IsCalm, IsInVain, IsMoved, IsRows, IsTally, IsUnder, key_in, named_of, one_if}
 pub use Rattle.ksm_pages.specs.Ahead.{EndsAt, last_of, mergeable_pages, pages_behind, pages_between}
-pub use Rattle.ksm_pages.specs.Held.{AreInOrder, change_held, forgotten, Held, held_at, held_of, holds, is_own, is_restless, IsAddedTo, Listing, mapped, number_left, on_row, own_state, pages_of, rows_of, RowsView, state_of, with_held, without_held}
+pub use Rattle.ksm_pages.specs.Held.{AreInOrder, change_held, forgotten, Held, held_at, held_of, holds, is_own, is_restless, IsAddedTo, Listing, mapped, number_left, on_row, own_state, pages_of}
+pub use Rattle.ksm_pages.specs.Held.{rows_of, RowsView, state_of, with_held, without_held}
 pub use Rattle.ksm_pages.specs.Left.{IsLeft}
 pub use Rattle.ksm_pages.specs.Ordered.{AreAscending, is_of, key_of, marked, named_by, page_of, visited, with_named, without_named}
-pub use Rattle.ksm_pages.specs.Paged.{AreAllListed, AreKept, elsewhere, Finds, FindsAt, frame_of, frame_seen, Frames, HasRoom, is_item, is_next, IsAlone, IsHeld, IsKnown, IsVacant, items_on, lies_on, Lodging, lodging, lodgings_of, MayPair, of_guest, page_beside, PagesValue, PagesView, paired, seen}
+pub use Rattle.ksm_pages.specs.Paged.{AreAllListed, AreKept, elsewhere, Finds, FindsAt, frame_of, frame_seen, Frames, HasRoom, is_item, is_next, IsAlone, IsHeld, IsKnown, IsVacant, items_on, lies_on}
+pub use Rattle.ksm_pages.specs.Paged.{Lodging, lodging, lodgings_of, MayPair, of_guest, page_beside, PagesValue, PagesView, paired, seen}
 pub use Rattle.ksm_pages.specs.declared.ahead.Ahead.{Ahead}
 pub use Rattle.ksm_pages.specs.declared.ahead.Ahead.TheVariants.{At, End}
 pub use Rattle.ksm_pages.specs.declared.named.Named.{Named}
@@ -51,7 +54,8 @@ pub use Rattle.ksm_tree.specs.declared.dup.Best.{Best}
 pub use Rattle.ksm_tree.specs.declared.dup.Dup.{Dup}
 pub use Rattle.slab.proofs.SlabLemmas.{Updates-with_value}
 pub use Rattle.slab.specs.Slab.{CalledAt, get, RetainsFrom, Slab, with_value}
-pub use Rattle.std.proofs.Common.{[], add-one, ap, ap₂, arith, Bool, drop, false, get_or, inl, inr, is_some, length, length-set, List, map, MutBor, ne_eqb, None, Option, refl, rules, Some, subst, suc, sym, take, true, true≢false, zero, ℕ, ◌++◌, ◌+◌, ◌-◌, ◌<◌, ◌^◌, ◌∙◌, ◌∷◌, ◌≡◌, ◌≢◌, ◌≤◌, ◌⊎◌}
+pub use Rattle.std.proofs.Common.{[], add-one, ap, ap₂, arith, Bool, drop, false, get_or, inl, inr, is_some, length, length-set, List, map, MutBor, ne_eqb, None, Option, refl, rules, Some, subst, suc}
+pub use Rattle.std.proofs.Common.{sym, take, true, true≢false, zero, ℕ, ◌++◌, ◌+◌, ◌-◌, ◌<◌, ◌^◌, ◌∙◌, ◌∷◌, ◌≡◌, ◌≢◌, ◌≤◌, ◌⊎◌}
 pub use Rattle.std.proofs.Math.Seq.{set-append_seam}
 pub use Rattle.std.proofs.lemmas.Bool.{and_parts, both_ways, cases_Bool, cases_lt, cond_both, eq-eqb, eqb-true, le-ltb, not-true}
 pub use Rattle.std.proofs.lemmas.Bool.Decides.{Decides-eqb, nat_tests}
@@ -68,4 +72,5 @@ pub use Rattle.std.proofs.lemmas.Option.{none-some, same_Some, slice_get-get_or,
 pub use Rattle.std.specs.List.{list_any}
 pub use Rattle.std.specs.List.Sorted.{IsPartitionedBy}
 pub use Rattle.std.specs.Option.{IfSome, MatchOption, option_and_then, option_or, unwrap_or}
-pub use Rattle.std.specs.Prelude.{All, AllPairs, bytes_eq, cond, Contains, count_by, Err, filter, find, if◌then◌else◌, insert, nat_lt, not, Ok, OnErr, OnOk, option_map, Result, set, slice_get, ⊤, ◌&&◌, ◌==◌, ◌||◌}
+pub use Rattle.std.specs.Prelude.{All, AllPairs, bytes_eq, cond, Contains, count_by, Err, filter, find, if◌then◌else◌, insert, nat_lt, not, Ok, OnErr, OnOk, option_map, Result, set, slice_get, ⊤}
+pub use Rattle.std.specs.Prelude.{◌&&◌, ◌==◌, ◌||◌}

@@ -1,5 +1,6 @@
 -- Rows that wait no more, and the row of a page that has one.
-use Rattle.ksm_pages.proofs.Names.{arith, bytes_eq, false, frame_seen, let_go, List, Merged, Option, PageState, Private, refl, Row, settled, settled_state, shared_state, stored, Waiting, waiting_state, Zero, ℕ, ◌&&◌, ◌≡◌}
+use Rattle.ksm_pages.proofs.Names.{arith, bytes_eq, false, frame_seen, let_go, List, Merged, Option, PageState, Private, refl, Row, settled, settled_state, shared_state, stored, Waiting}
+use Rattle.ksm_pages.proofs.Names.{waiting_state, Zero, ℕ, ◌&&◌, ◌≡◌}
 
 -- two readings of a state, the first of it settled, agree where they do at each kind of state
 pub settled_by : {X : Type 0} (p q : PageState → X) → p Private ≡ q Private → p Private ≡ q Waiting → ((n : ℕ) → p (Merged n) ≡ q (Merged n))

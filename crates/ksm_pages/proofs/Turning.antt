@@ -1,5 +1,9 @@
 -- The pages once a call changed the row of one page: they are lawful, and what is seen of them changed so.
-use Rattle.ksm_pages.proofs.Names.{[], All-map, ap, AreKept, AreTied, AreWaiting, arith, at_mapped, change_held, change_row, cond_both, DupsState, false, find_passes, frame_of, frame_seen, get_or, GuestPage, Held, held_at, holds, if◌then◌else◌, Inside, IsAlone, IsKnown, IsLeft, lies_on, List, Listing, lodging, lodgings_of, map, mapped, MatchOption, merged_state, None, none_waiting, on_row, Option, option_map, ordered_map, PageState, PagesValue, PagesView, Private, refl, Row, row_at, rows_of, RowsView, rules, same_page, same_page_eq, seen, settled_state, shared_state, Some, subst, sym, tied_mapped, true≢false, waiting_state, waits_there, without_held, without_page, ℕ, ⊤, ◌∙◌, ◌≡◌}
+use Rattle.ksm_pages.proofs.Names.{[], All-map, ap, AreKept, AreTied, AreWaiting, arith, at_mapped, change_held, change_row, cond_both, DupsState, false, find_passes, frame_of, frame_seen, get_or}
+use Rattle.ksm_pages.proofs.Names.{GuestPage, Held, held_at, holds, if◌then◌else◌, Inside, IsAlone, IsKnown, IsLeft, lies_on, List, Listing, lodging, lodgings_of, map, mapped, MatchOption}
+use Rattle.ksm_pages.proofs.Names.{merged_state, None, none_waiting, on_row, Option, option_map, ordered_map, PageState, PagesValue, PagesView, Private, refl, Row, row_at, rows_of, RowsView, rules}
+use Rattle.ksm_pages.proofs.Names.{same_page, same_page_eq, seen, settled_state, shared_state, Some, subst, sym, tied_mapped, true≢false, waiting_state, waits_there, without_held, without_page, ℕ, ⊤}
+use Rattle.ksm_pages.proofs.Names.{◌∙◌, ◌≡◌}
 use Rattle.std.proofs.lemmas.Bool.{some_since}
 use Rattle.ksm_tree.specs.Dups.{rows_of as dup_rows}
 use Rattle.ksm_tree.proofs.Alike.{map_alike, map_mapped}

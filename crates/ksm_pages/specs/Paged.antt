@@ -1,7 +1,6 @@
 -- The pages: the rows with the dups into which they are merged, the frame of each page, and the pages that wait; and
 -- what is seen of them (own).
-use Rattle.std.specs.Prelude.{◌≡◌, ℕ, ◌+◌, ◌<◌, ◌≤◌, ◌^◌, Bool, true, false, not, ◌&&◌, ◌||◌, ◌==◌, ◌-◌, List}
-use Rattle.std.specs.Prelude.{slice_get, option_map, map, All, Contains, find, Option, Some, None, is_some}
+use Rattle.std.specs.Prelude.{◌≡◌, ℕ, ◌+◌, ◌<◌, ◌≤◌, ◌^◌, Bool, true, false, not, ◌&&◌, ◌||◌, ◌==◌, ◌-◌, List, slice_get, option_map, map, All, Contains, find, Option, Some, None, is_some}
 use Rattle.std.specs.Prelude.{option_and_then, MatchOption, length, if◌then◌else◌}
 use Rattle.ksm_base.specs.declared.limits.TheConstants.{MOST_REFERENCES}
 use Rattle.ksm_base.specs.declared.page.GuestPage.{GuestPage}
@@ -10,9 +9,8 @@ use Rattle.ksm_base.specs.declared.row.Row.{Row}
 use Rattle.ksm_base.specs.declared.row.DupRow.{DupRow}
 use Rattle.ksm_base.specs.declared.knobs.Knobs.{Knobs}
 use Rattle.ksm_base.specs.declared.shape.Shape.{Shape}
-use Rattle.ksm_base.specs.Values.{frames_of}
-use Rattle.ksm_base.specs.Rows.{same_page, row_at, change_row, change_rows, shared_state, merged_into, merged_state}
-use Rattle.ksm_base.specs.Rows.{item_count, with_dup}
+use Rattle.ksm_base.specs.Values.{frames_of, IsShape}
+use Rattle.ksm_base.specs.Rows.{same_page, row_at, change_row, change_rows, shared_state, merged_into, merged_state, item_count, with_dup, InPageOrder, dup_numbered}
 use Rattle.ksm_base.specs.State.{tree_of}
 use Rattle.ksm_base.specs.Visit.{after_cursor, best_dup, is_for_zero, partner}
 use Rattle.ksm_base.specs.Answers.{every_row}
@@ -22,8 +20,6 @@ use Rattle.ksm_pages.specs.declared.pages.Find.TheVariants as finds
 use Rattle.ksm_pages.specs.declared.pages.Held.{Held}
 use Rattle.ksm_pages.specs.Held.{Held as HeldRow, Listing}
 use Rattle.ksm_base.specs.declared.row.PageState.{PageState}
-use Rattle.ksm_base.specs.Rows.{InPageOrder, dup_numbered}
-use Rattle.ksm_base.specs.Values.{IsShape}
 use Rattle.ksm_rmap.specs.Items.{has_item}
 use Rattle.ksm_tree.specs.Bridge.{AreTied}
 use Rattle.ksm_tree.specs.Dups.{DupsState}
