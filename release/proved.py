@@ -76,16 +76,28 @@ def over_libraries(name):
     return found
 
 
-def checked_copy(top, name, *flags):
-    """What the prover says of a crate of a copy of this checkout, over the libraries as they lie proved here; None if some is
-    not. The copy may differ in that crate alone."""
-    here = over_libraries(name)
-    if here is None:
-        return None
-    places = {it.name: it.rlib for it in here.below()}
+def copy_over_libraries(top, name):
+    """A crate of a copy of this checkout, over the libraries as they lie proved here; None if some is not. The copy may differ in that
+    crate alone."""
     copy = rtlib().Crate(os.path.join(top, "crates", name), top, {})
+    libraries = [crate(it.name) for it in copy.below()]
+    if are_of_gate(libraries):
+        places = {it.name: it.rlib for it in libraries}
+    elif all(map(is_kept, libraries)):
+        places = {it.name: kept_place(it) for it in libraries}
+    else:
+        return None
     for it in copy.below():
         it.rlib = places[it.name]
+    return copy
+
+
+def checked_copy(top, name, *flags):
+    """What the prover says of a crate of a copy of this checkout, over the libraries as they lie proved here; None if some is
+    not."""
+    copy = copy_over_libraries(top, name)
+    if copy is None:
+        return None
     words = [rtlib().RATTLE, "check", *copy.words(["--jobs", "1"], keeps=False), *flags]
     run = subprocess.run(words, cwd=copy.folder, stdout=subprocess.PIPE, stderr=subprocess.STDOUT, text=True, errors="replace", check=False)
     return run.stdout
