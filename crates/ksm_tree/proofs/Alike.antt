@@ -1,6 +1,6 @@
 -- A list that is made of another, element by element: what is searched, kept and counted in it.
-use Rattle.ksm_tree.proofs.Names.{[], All, All-head, All-map, All-tail, AllPairs, AllPairs-cons, arith, Bool, count_by, count_more, false, filter, filter-append, find, get_or, if◌then◌else◌, List}
-use Rattle.ksm_tree.proofs.Names.{map, map-append, option_map, pairs_head, pairs_tail, refl, suc, ◌++◌, ◌∙◌, ◌∷◌, ◌≡◌}
+use Rattle.ksm_tree.proofs.Names.{All, All-head, All-map, All-tail, AllPairs, AllPairs-cons, arith, Bool, count_by, count_more, false, filter, filter-append, find, get_or, if◌then◌else◌, List, map}
+use Rattle.ksm_tree.proofs.Names.{map-append, option_map, pairs_head, pairs_tail, refl, suc, [], ◌++◌, ◌∙◌, ◌∷◌, ◌≡◌}
 use Rattle.std.proofs.Common.{ap₂}
 use Rattle.std.proofs.lemmas.List.{map-id}
 

@@ -1,9 +1,9 @@
 -- Dups and their rows: what a dup that comes or goes and a change of items changes of the rows, and where a dup is found.
-use Rattle.ksm_tree.proofs.Names.{[], All, arith, Bool, change_at, change_items, Dup, DupRow, filter, find, GuestPage, has_number, InPlaceOrder, let_out, List, map, map-append, Merged, None, not}
-use Rattle.ksm_tree.proofs.Names.{Option, option_map, PageState, Private, refl, row_place, rows_of, same_Some, Some, stands_at, Waiting, with_dup, with_new, without_place, Zero, ℕ, if◌then◌else◌}
-use Rattle.ksm_tree.proofs.Names.{◌==◌, ◌∷◌, ◌≡◌, subst, get_or-map, length-map}
-use Rattle.ksm_tree.proofs.Alike.{filter_mapped, find_mapped, map_alike}
-use Rattle.ksm_tree.proofs.Rows.{only_number}
+use Rattle.ksm_tree.proofs.Names.{All, arith, Bool, change_at, change_items, Dup, DupRow, filter, find, find_passes, get_or-map, GuestPage, has_number, if◌then◌else◌, InPlaceOrder, length-map}
+use Rattle.ksm_tree.proofs.Names.{let_out, List, map, map-append, Merged, None, not, Option, option_map, PageState, Private, refl, row_place, rows_of, Some, stands_at, subst, Waiting, with_dup}
+use Rattle.ksm_tree.proofs.Names.{with_new, without_place, Zero, ℕ, [], ◌==◌, ◌∷◌, ◌≡◌}
+use Rattle.ksm_tree.proofs.Alike.{filter_mapped, find_mapped}
+use Rattle.ksm_tree.proofs.Rows.{alone}
 
 -- the row of a new dup is added to the rows
 pub rows_new : (dup : Dup) (dups : List Dup) → rows_of (with_new dup dups) ≡ with_dup dup.row (rows_of dups)
@@ -36,15 +36,6 @@ rows_out (Merged number) page dups = rows_items _ _ _
 pub row_found : (test : Dup → Bool) (by : DupRow → Bool) → ((d : Dup) → test d ≡ by d.row) → (dups : List Dup) → option_map (λ d. d.row) (find test dups) ≡ find by (rows_of dups)
 row_found test by same dups = grind (arith, find_mapped)
 
--- the row of a number that has a place
-row_there : {p : ℕ} (r : Option DupRow) → option_map (λ s. s.place) r ≡ Some p → (e : DupRow) × (r ≡ Some e) × (e.place ≡ p)
-row_there {p} None is = grind arith
-row_there {p} (Some e) is = (e, refl, same_Some _ p is)
-
--- two tests that agree on each dup change one dup
-pub agree_changed : (test by : Dup → Bool) (f : List GuestPage → List GuestPage) (dups : List Dup) → All (λ d. test d ≡ by d) dups → map {B = Dup} (λ d. if test d then record d { items = f d.items } else d) dups ≡ map (λ d. if by d then record d { items = f d.items } else d) dups
-agree_changed test by f dups same = grind (arith, map_alike)
-
 -- what holds of all rows holds of each dup's row
 pub all_rows : (P : DupRow → Type 0) (dups : List Dup) → All P (rows_of dups) → All (λ d. P d.row) dups
 all_rows P dups each k d lt =
@@ -52,7 +43,9 @@ all_rows P dups each k d lt =
 
 -- number and place tell one dup
 pub one_dup : (q : ℕ) {p : ℕ} (dups : List Dup) → InPlaceOrder (rows_of dups) → row_place q (rows_of dups) ≡ Some p → All (λ d. has_number q d ≡ stands_at p d) dups
-one_dup q {p} dups rise is =
-    let there = row_there _ is in
-    all_rows (λ r. (r.number == q) ≡ (r.place == p)) _
-    (λ k d lt. grind (arith, only_number q _ rise there.1 k d lt))
+one_dup q {p} dups rise is = by (find (λ r. r.number == q) (rows_of dups)) refl
+  where
+    by : (o : Option DupRow) → find (λ r. r.number == q) (rows_of dups) ≡ o → All (λ d. has_number q d ≡ stands_at p d) dups
+    by None none = grind arith
+    by (Some e) found = all_rows (λ r. (r.number == q) ≡ (r.place == p)) _
+        (λ k d lt. grind (arith, find_passes, alone (λ r. r.number == q) _ e rise found k d lt))

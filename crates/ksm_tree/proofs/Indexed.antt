@@ -1,14 +1,14 @@
 -- The index over dups: what it finds, and how it stays with a change of items and with a dup that goes.
-use Rattle.ksm_tree.proofs.Names.{[], All, All-filter, AllPairs-filter, AreIndexed, arith, Bool, bytes_eq, change_at, change_items, content_of, Dup, dup_at, dup_of, DupRow, dups_seen, DupsState}
-use Rattle.ksm_tree.proofs.Names.{eqb-true, false, false≢true, filter, find, find_nothing, find_passes, get, Group, group_places, GuestPage, if◌then◌else◌, in_group, Index, InPlaceOrder, is_some}
-use Rattle.ksm_tree.proofs.Names.{items_in, IsRegrouped, length, List, None, not, number_of, Option, option_map, pairs_head, pairs_tail, place_of, places_of, refl, row_place, rows_of, SlotsState}
-use Rattle.ksm_tree.proofs.Names.{Some, stands_at, sym, Tells, true, without, without_place, ℕ, ◌&&◌, ◌<◌, ◌==◌, ◌∙◌, ◌∷◌, ◌≡◌, LeadTheSame, has_number, rules, find_none}
-use Rattle.ksm_tree.proofs.Alike.{change_none, chosen, find_alike}
-use Rattle.ksm_tree.proofs.Grouped.{chains_kept, dups_kept, more_there, totals_moved, totals_tell}
-use Rattle.ksm_tree.proofs.Keys.{own_group, self_group}
-use Rattle.ksm_base.proofs.Orders.{Lower}
-use Rattle.ksm_tree.proofs.Rows.{only_one, place_gone, group_unlike}
-use Rattle.ksm_tree.proofs.Changes.{agree_changed, all_rows, one_dup, rows_changed, rows_without, row_found}
+use Rattle.ksm_tree.proofs.Names.{All, All-filter, ap, AreIndexed, AreTotals, arith, Bool, change_at, change_items, content_of, Dup, dup_at, dup_of, DupRow, dups_seen, DupsState, eqb-true, false}
+use Rattle.ksm_tree.proofs.Names.{filter, find, find_nothing, find_passes, get, Group, group_places, GuestPage, has_number, if◌then◌else◌, in_group, Index, InPlaceOrder, is_some, IsCountedAnew}
+use Rattle.ksm_tree.proofs.Names.{items_in, length, List, MOST_FRAMES, None, not, number_of, Option, option_map, pairs_head, pairs_tail, place_of, places_of, refl, row_place, rows_of, rules}
+use Rattle.ksm_tree.proofs.Names.{SlotsState, Some, stands_at, Tells, true, without, without_place, ℕ, [], ◌&&◌, ◌<◌, ◌==◌, ◌∷◌, ◌≡◌, ◌≤◌}
+use Rattle.ksm_tree.specs.Groups.{IsMoved}
+use Rattle.ksm_tree.proofs.Alike.{chosen, find_alike, map_alike}
+use Rattle.ksm_tree.proofs.Grouped.{more_there, totals_less, totals_tell}
+use Rattle.ksm_tree.proofs.Rows.{alone, group_unlike, own_group, place_gone, self_group}
+use Rattle.ksm_base.proofs.Orders.{Lower, ordered_filter}
+use Rattle.ksm_tree.proofs.Changes.{all_rows, one_dup, row_found, rows_changed, rows_without}
 
 -- a dup has the place that its row has
 row_placed : (q : ℕ) (dups : List Dup) → row_place q (rows_of dups) ≡ option_map (λ d. d.row.place) (dup_of q dups)
@@ -18,10 +18,34 @@ row_placed q dups = grind (arith, row_found (has_number q) (λ r. r.number == q)
 pub placed_found : (q : ℕ) {p : ℕ} (dups : List Dup) → InPlaceOrder (rows_of dups) → Some p ≡ option_map (λ d. d.row.place) (dup_of q dups) → dup_of q dups ≡ dup_at p dups
 placed_found q dups rise is = grind (arith, find_alike, one_dup, row_placed)
 
--- where no place of a number is told, a change of the number's items changes no dup
-pub unplaced_changed : (q : ℕ) {dups : List Dup} → None ≡ option_map (λ d. d.row.place) (dup_of q dups) → (f : List GuestPage → List GuestPage) → dups ≡ change_items q f dups
-unplaced_changed q {dups} none f =
-    grind (arith, change_none (has_number q) (λ d. record d { items = f d.items }) dups, find_none (has_number q) dups)
+-- the row found at a place is the row of the dup found there
+pub row_at_place : (p : ℕ) (dups : List Dup) {d : Option Dup} → dup_at p dups ≡ d → find (λ r. r.place == p) (rows_of dups) ≡ option_map (λ e. e.row) d
+row_at_place p dups is = grind (arith, row_found)
+
+-- the dup found at a place stands there
+pub found_stands : {p : ℕ} (dups : List Dup) {d : Dup} → dup_at p dups ≡ Some d → d.row.place ≡ p
+found_stands dups found = search (eqb-true, find_passes)
+
+-- where a dup of another group stands, the places of a group stay without that place
+pub not_in_group : (p t : ℕ) (b : List ℕ) (dups : List Dup) {d : Dup} → InPlaceOrder (rows_of dups) → dup_at p dups ≡ Some d → in_group t b d.row ≡ false → without p (group_places t b (rows_of dups)) ≡ group_places t b (rows_of dups)
+not_in_group p t b dups rise found outside = group_unlike p t b _
+    (λ k e lt. grind (arith, found_stands dups found,
+    alone (λ r. r.place == p) _ _ rise (row_at_place p _ found) k e lt))
+
+-- slots with other dups
+abbrev pub with_dups : SlotsState → List Dup → Bool → SlotsState
+with_dups s dups ready = record { places = s.places; dups = dups; ready = ready }
+
+-- the index is right by the rows of the dups
+pub by_rows : {s : SlotsState} {next : ℕ} {index : Index} (rows : List DupRow) → rows_of s.dups ≡ rows → s.places ≤ MOST_FRAMES → InPlaceOrder rows → All (λ r. r.place < s.places) rows → All (λ r. r.number < next) rows
+    → ((q : ℕ) → place_of q index ≡ row_place q rows) → AreTotals rows index.groups.totals → ((t : ℕ) (b : List ℕ) → places_of t b index ≡ group_places t b rows) → AreIndexed s next index
+by_rows rows is few rise places numbers numbered counted grouped = record {
+  few = few;
+  lawful = record { in_place_order = rw is rise; places_below = rw is places; numbers_below = rw is numbers; };
+  numbered = λ q. rw is (numbered q);
+  counted = rw is counted;
+  grouped = λ t b. rw is (grouped t b);
+}
 
 module _ {s : SlotsState} {next : ℕ} {index : Index} (h : AreIndexed s next index) where
   -- the index gives for each number the place of its dup
@@ -29,35 +53,39 @@ module _ {s : SlotsState} {next : ℕ} {index : Index} (h : AreIndexed s next in
   indexed_place q = grind (arith, row_placed)
 
   -- a change of items changes no row, and so nothing of the index
-  pub stays_indexed : (p : ℕ) (f : List GuestPage → List GuestPage) (ready : Bool) → AreIndexed (record { places = s.places; dups = change_at p f s.dups; ready = ready }) next index
-  stays_indexed p f ready =
-      let same = rows_changed p f s.dups in
+  pub stays_indexed : (p : ℕ) (f : List GuestPage → List GuestPage) (ready : Bool) → AreIndexed (with_dups s (change_at p f s.dups) ready) next index
+  stays_indexed p f ready = by_rows _ (rows_changed p f s.dups) h.few h.lawful.in_place_order h.lawful.places_below
+      h.lawful.numbers_below h.numbered h.counted h.grouped
+
+  -- whether room for one more dup is taken tells nothing of the index
+  pub room_indexed : {t : SlotsState} → t ≡ record s { ready = t.ready } → AreIndexed t next index
+  room_indexed is = by_rows _ (ap (λ t. rows_of t.dups) is) (rw is h.few) h.lawful.in_place_order
+      (rw is h.lawful.places_below) h.lawful.numbers_below h.numbered h.counted h.grouped
+
+  -- the totals tell of the group of each tree and bytes
+  pub told : (t : ℕ) (b : List ℕ) → Tells (length (places_of t b index)) index.groups.totals
+  told t b = search (rules, h.grouped t b, totals_tell)
+
+  -- where a dup goes from its place and from the index, the index stays right
+  pub gone_indexed : {new : Index} (p : ℕ) (d : Dup) (ready : Bool) → dup_at p s.dups ≡ Some d → ((q : ℕ) → place_of q new ≡ (if q == d.row.number then None else place_of q index)) → IsMoved d.row.tree d.row.bytes (without d.row.place) index.groups new.groups
+      → IsCountedAnew d.row.tree d.row.bytes index.groups new.groups → AreIndexed (with_dups s (without_place p s.dups) ready) next new
+  gone_indexed {new} p d ready found numbers groups totals =
+      let rows = rows_of s.dups in
       let law = h.lawful in
-      record {
-        few = h.few;
-        counted = rw same h.counted;
-        lawful = record {
-          in_place_order = rw same law.in_place_order;
-          places_below = rw same law.places_below;
-          numbers_below = rw same law.numbers_below;
-        };
-        numbered = λ q. rw same (h.numbered q);
-        grouped = λ t b. rw same (h.grouped t b);
-      }
-
--- whether room for one more dup is taken tells nothing of the index
-pub room_indexed : {s t : SlotsState} {next : ℕ} {index : Index} → t ≡ record s { ready = t.ready } → AreIndexed s next index → AreIndexed t next index
-room_indexed is h = record {
-  few = rw is h.few;
-  lawful = rw is h.lawful;
-  numbered = rw is h.numbered;
-  counted = rw is h.counted;
-  grouped = rw is h.grouped;
-}
-
--- an index that leads as another does finds the same dups
-pub led_indexed : {s : SlotsState} {next : ℕ} {index new : Index} → LeadTheSame index new → AreIndexed s next index → AreIndexed s next new
-led_indexed same h = grind arith
+      let test = λ (r : DupRow). not (r.place == p) in
+      let at = found_stands s.dups found in
+      let at_p = row_at_place p s.dups found in
+      let rise = ordered_filter test rows law.in_place_order in
+      let grouped : (t : ℕ) (b : List ℕ) → places_of t b new ≡ group_places t b (filter test rows) = λ t b.
+      grind (arith, not_in_group p t b s.dups law.in_place_order found, own_group t b d.row,
+      chosen (λ (r : DupRow). r.place) (in_group t b) (λ q. not (q == p)) rows) in
+      let more = more_there p rows d.row law.in_place_order at_p in
+      by_rows (filter test rows) (rows_without p s.dups) h.few rise
+      (All-filter test (λ r. r.place < s.places) rows law.places_below)
+      (All-filter test (λ r. r.number < next) rows law.numbers_below)
+      (λ q. grind (arith, place_gone p q rows law.in_place_order at_p))
+      (totals_less d.row.tree d.row.bytes more (self_group d.row) rise law.in_place_order (grind arith) h.counted)
+      grouped
 
 -- where callers are told the place of a number
 module _ (q : ℕ) {p : ℕ} {s : SlotsState} {next : ℕ} {index : Index} {seen : DupsState} (h : AreIndexed s next index) (view : dups_seen s next index ≡ seen) (is : Some p ≡ option_map (λ d. d.row.place) (dup_of q seen.dups)) where
@@ -66,19 +94,15 @@ module _ (q : ℕ) {p : ℕ} {s : SlotsState} {next : ℕ} {index : Index} {seen
 
   -- a dup stands at that place
   pub told_there : is_some (dup_at p s.dups) ≡ true
-  told_there = grind (arith, placed_found q s.dups h.lawful.in_place_order is_inside)
+  told_there = grind (arith, placed_found, is_inside)
 
   -- the items at that place are those of the number
   pub told_items : items_in (dup_at p s.dups) ≡ items_in (dup_of q seen.dups)
   told_items = grind (arith, placed_found q s.dups h.lawful.in_place_order is_inside)
 
   -- a change of the items at that place is seen as a change of the number's items
-  pub told_changed : (f : List GuestPage → List GuestPage) (ready : Bool) → dups_seen (record { places = s.places; dups = change_at p f s.dups; ready = ready }) next index ≡ record seen { dups = change_items q f seen.dups }
-  told_changed f ready = grind (
-    arith,
-    agree_changed (has_number q) (stands_at p) f s.dups
-        (one_dup q _ h.lawful.in_place_order (row_placed q _ ∙ sym is_inside)),
-  )
+  pub told_changed : (f : List GuestPage → List GuestPage) (ready : Bool) → dups_seen (with_dups s (change_at p f s.dups) ready) next index ≡ record seen { dups = change_items q f seen.dups }
+  told_changed f ready = grind (arith, one_dup, row_placed, map_alike)
 
 -- the group under the number of a tree and bytes is of these, and has the places of their dups
 module _ {s : SlotsState} {next : ℕ} {index : Index} (h : AreIndexed s next index) (tree : ℕ) (bytes : List ℕ) where
@@ -95,69 +119,17 @@ module _ {s : SlotsState} {next : ℕ} {index : Index} (h : AreIndexed s next in
   pub group_absent : number_of tree bytes index.groups.numbers.entries ≡ None → [] ≡ group_places tree bytes (rows_of s.dups)
   group_absent none = grind (arith)
 
--- the totals tell of the group of each tree and bytes
-pub told : {s : SlotsState} {next : ℕ} {index : Index} → AreIndexed s next index → (t : ℕ) (b : List ℕ) → Tells (length (places_of t b index)) index.groups.totals
-told {s} h t b = search (rules, h.grouped t b, totals_tell)
-
--- the row found at a place is the row of the dup found there
-pub row_at_place : (p : ℕ) (dups : List Dup) {d : Option Dup} → dup_at p dups ≡ d → find (λ r. r.place == p) (rows_of dups) ≡ option_map (λ e. e.row) d
-row_at_place p dups is = grind (arith, row_found)
-
--- no row of another group stands where a dup stands
-pub not_in_group : (p t : ℕ) (b : List ℕ) (dups : List Dup) {d : Dup} → InPlaceOrder (rows_of dups) → dup_at p dups ≡ Some d → in_group t b d.row ≡ false → All (λ r. (r.place == p && in_group t b r) ≡ false) (rows_of dups)
-not_in_group p t b dups rise found outside k e lt = grind (arith, only_one p _ _ rise (row_at_place p _ found) k e lt)
-
 -- what is one value where a test passes and another where it fails is the choice between both by the test
 pub cond_if : {X : Type 0} (s : Bool) (x y z : X) → (s ≡ true → z ≡ x) → (s ≡ false → z ≡ y) → z ≡ (if s then x else y)
 cond_if s x y z yes_case no_case = grind (arith)
-
--- where a dup goes from its place and from the index, the index stays right
-pub gone_indexed : {s : SlotsState} {next : ℕ} {index new : Index} (p : ℕ) (d : Dup) (ready : Bool) → AreIndexed s next index → dup_at p s.dups ≡ Some d → d.row.place ≡ p → ((q : ℕ) → place_of q new ≡ (if q == d.row.number then None else place_of q index)) → ((t : ℕ) (b : List ℕ) → places_of t b new ≡ (if t == d.row.tree && bytes_eq b d.row.bytes then without d.row.place (places_of t b index) else places_of t b index))
-    → IsRegrouped (length (places_of d.row.tree d.row.bytes index)) (length (places_of d.row.tree d.row.bytes new)) index.groups.totals new.groups.totals → AreIndexed (record { places = s.places; dups = without_place p s.dups; ready = ready }) next new
-gone_indexed {s} {next} {index} {new} p d ready h found at numbers groups regrouped =
-    let rows = rows_of s.dups in
-    let left = rows_without p s.dups in
-    let t = d.row.tree in
-    let b = d.row.bytes in
-    let law = h.lawful in
-    let test = λ (r : DupRow). not (r.place == p) in
-    let rise = AllPairs-filter (λ a b. (a.place < b.place) × ((a.number == b.number) ≡ false)) test rows
-    law.in_place_order in
-    let at_p = row_at_place p s.dups found in
-    let grouped : (t : ℕ) (b : List ℕ) → places_of t b new ≡ group_places t b (filter test rows) = λ t b.
-    let unlike = λ (outside : in_group t b d.row ≡ false). group_unlike p t b rows
-    (not_in_group p t b s.dups law.in_place_order found outside) in
-    grind (arith, own_group t b d.row, chosen (λ (r : DupRow). r.place) (in_group t b) (λ q. not (q == p)) rows) in
-    let more = more_there p rows d.row law.in_place_order at_p in
-    let own = self_group d.row in
-    record {
-      few = h.few;
-      counted = rw left (totals_moved t b law.in_place_order rise (sym (dups_kept t b more own))
-          (sym (chains_kept t b more own)) (grind arith) h.counted);
-      lawful = record {
-        in_place_order = rw left rise;
-        places_below = rw left (All-filter test (λ r. r.place < s.places) rows law.places_below);
-        numbers_below = rw left (All-filter test (λ r. r.number < next) rows law.numbers_below);
-      };
-      numbered = λ q. grind (arith, place_gone p q rows law.in_place_order at_p);
-      grouped = λ t b. rw left (grouped t b);
-    }
-
--- the dup found at a place stands there
-pub found_stands : {p : ℕ} (dups : List Dup) {d : Dup} → dup_at p dups ≡ Some d → d.row.place ≡ p
-found_stands dups found = search (eqb-true, find_passes)
 
 -- the dup found at a place is the one that has its number
 pub stands_numbered : (p q : ℕ) (dups : List Dup) (d : Dup) → InPlaceOrder (rows_of dups) → dup_at p dups ≡ Some d → d.row.number ≡ q → Some p ≡ option_map (λ d. d.row.place) (dup_of q dups)
 stands_numbered p q dups d rise found is =
     let one = all_rows (λ r. (r.place == p) ≡ (r.number == q)) dups
-    (λ k e lt. grind (arith, only_one p _ _ rise (row_at_place p _ found) k e lt)) in
+    (λ k e lt. grind (arith, found_stands dups found,
+    alone (λ r. r.place == p) _ _ rise (row_at_place p _ found) k e lt)) in
     grind (arith, found_stands dups found, find_alike (stands_at p) (has_number q) dups one)
-
--- where nothing stands, nothing that passes a test stands
-pub none_there : (p : ℕ) (test : Dup → Bool) (dups : List Dup) → None ≡ dup_at p dups → is_some (find (λ d. stands_at p d && test d) dups) ≡ true → ⊥
-none_there p test [] none there = false≢true there
-none_there p test (d ∷ dups) none there = grind (arith, none_there p test dups)
 
 -- the dup found at a place, if it passes a test
 abbrev pub passing : (Dup → Bool) → Option Dup → Option Dup

@@ -1,14 +1,12 @@
 -- The index once a new dup has taken its place.
-use Rattle.ksm_tree.proofs.Names.{All, AllPairs-filter, ap, AreIndexed, AreTotals, arith, Bool, bytes_eq, cases_Bool, Dup, dup_at, DupRow, dups_seen, DupsState, false, filter, filter_all, find_all}
-use Rattle.ksm_tree.proofs.Names.{find_none, find_nothing, group_places, if◌then◌else◌, in_group, Index, inl, InPlaceOrder, inr, IsCounted, IsCountedAnew, IsEntered, IsRegrouped, length, List}
-use Rattle.ksm_tree.proofs.Names.{nat_tests, None, not, place_of, places_of, row_place, rows_of, SameWaits, SlotsState, Some, subst, sym, true, with_dup, with_new, without, ℕ, ◌&&◌, ◌+◌, ◌<◌, ◌==◌}
-use Rattle.ksm_tree.proofs.Names.{◌≡◌}
+use Rattle.ksm_tree.proofs.Names.{All, ap, AreIndexed, AreTotals, arith, Bool, bytes_eq, Dup, dup_at, DupRow, dups_seen, DupsState, filter, filter_all, find_all, find_none, group_places}
+use Rattle.ksm_tree.proofs.Names.{if◌then◌else◌, in_group, Index, InPlaceOrder, IsCounted, IsCountedAnew, IsEntered, IsRegrouped, length, List, nat_tests, None, not, place_of, places_of, row_place}
+use Rattle.ksm_tree.proofs.Names.{rows_of, SameWaits, SlotsState, Some, subst, sym, true, with_dup, with_new, without, ℕ, ◌&&◌, ◌+◌, ◌<◌, ◌==◌, ◌≡◌}
 use Rattle.ksm_tree.proofs.Changes.{rows_new}
-use Rattle.ksm_tree.proofs.Grouped.{IsMore, chains_kept, dups_kept, more_with, more_there, places_size, totals_apart, totals_between, totals_few, totals_moved, totals_same}
-use Rattle.ksm_tree.proofs.Keys.{own_bytes, own_group, self_group}
-use Rattle.ksm_tree.proofs.Indexed.{row_at_place, not_in_group, found_stands, told}
-use Rattle.ksm_base.proofs.Orders.{all_with_dup, dups_with}
-use Rattle.ksm_tree.proofs.Rows.{place_new, place_kept, place_gone, group_joined, group_passed, group_unlike}
+use Rattle.ksm_tree.proofs.Grouped.{IsMore, more_there, more_with, places_size, totals_between, totals_few, totals_more, totals_swapped}
+use Rattle.ksm_tree.proofs.Rows.{group_joined, group_passed, group_unlike, own_group, place_gone, place_kept, place_new, self_group}
+use Rattle.ksm_tree.proofs.Indexed.{by_rows, found_stands, not_in_group, row_at_place, told, with_dups}
+use Rattle.ksm_base.proofs.Orders.{all_with_dup, dups_with, ordered_filter}
 
 module _ {s : SlotsState} {next : ℕ} {index : Index} (new : Index) (dup : Dup) (h : AreIndexed s next index) (number : dup.row.number ≡ next) (within : dup.row.place < s.places) where
   abbrev rows : List DupRow
@@ -27,130 +25,96 @@ module _ {s : SlotsState} {next : ℕ} {index : Index} (new : Index) (dup : Dup)
   new_rise : InPlaceOrder all
   new_rise = dups_with _ _ rise fresh
 
+  -- the rows at other places
+  abbrev less : List DupRow
+  less = filter (λ r. not (r.place == dup.row.place)) rows
+
+  less_rise : InPlaceOrder less
+  less_rise = ordered_filter _ rows rise
+
+  here : IsMore dup.row less all
+  here = more_with rows rise
+
   -- the index is right once a new dup stands among the others, if it is right by their rows
   made : (ready : Bool) → AreTotals all new.groups.totals → ((q : ℕ) → place_of q new ≡ row_place q all) → ((t : ℕ) (b : List ℕ) → places_of t b new ≡ group_places t b all)
-      → AreIndexed (record { places = s.places; dups = with_new dup s.dups; ready = ready }) (next + 1) new
+      → AreIndexed (with_dups s (with_new dup s.dups) ready) (next + 1) new
   made ready counted numbered grouped =
-      let is = rows_new dup s.dups in
-      record {
-        few = h.few;
-        counted = rw is counted;
-        lawful = record {
-          in_place_order = rw is new_rise;
-          places_below = rw is (all_with_dup (λ r. r.place < s.places) _ _ within h.lawful.places_below);
-          numbers_below = rw is (all_with_dup (λ r. r.number < next + 1) dup.row rows (omega arith)
-              (λ k d lt. omega arith));
-        };
-        numbered = λ q. rw is (numbered q);
-        grouped = λ t b. rw is (grouped t b);
-      }
+      by_rows all (rows_new dup s.dups) h.few new_rise
+      (all_with_dup (λ r. r.place < s.places) _ _ within h.lawful.places_below)
+      (all_with_dup (λ r. r.number < next + 1) dup.row rows (omega arith) (λ k d lt. omega arith))
+      numbered counted grouped
 
   -- the index is right once a new dup stands at a place that was empty
   pub fresh_indexed : (ready : Bool) → None ≡ dup_at dup.row.place s.dups → IsEntered dup.row index new
-      → AreIndexed (record { places = s.places; dups = with_new dup s.dups; ready = ready }) (next + 1) new
+      → AreIndexed (with_dups s (with_new dup s.dups) ready) (next + 1) new
   fresh_indexed ready none entered =
       let p = dup.row.place in
+      let r = dup.row in
       let apart = find_none (λ r. r.place == p) rows (row_at_place p s.dups (sym none)) in
-      let kept : filter (λ r. not (r.place == p)) rows ≡ rows = filter_all _ rows (λ k d lt. ap not (apart k d lt)) in
+      let kept : less ≡ rows = filter_all _ rows (λ k d lt. ap not (apart k d lt)) in
       let grouped : (t : ℕ) (b : List ℕ) → places_of t b new ≡ group_places t b all = λ t b.
       let unlike = group_unlike p t b rows (λ k d lt. grind arith) in
-      grind (arith, own_group t b dup.row, group_joined t b dup.row rows, group_passed t b dup.row rows rise) in
-      let t = dup.row.tree in
-      let b = dup.row.bytes in
-      let more = subst (λ l. IsMore dup.row l all) kept (more_with rows rise) in
-      let own = self_group dup.row in
-      made ready (totals_moved t b rise new_rise (dups_kept t b more own) (chains_kept t b more own)
-      (grind arith) h.counted)
-      (λ q. grind (arith, place_new dup.row rows fresh, place_kept q dup.row rows rise)) grouped
+      grind (arith, own_group t b r, group_joined t b r rows, group_passed t b r rows rise) in
+      let more = subst (λ l. IsMore r l all) kept here in
+      made ready (totals_more r.tree r.bytes more (self_group r) rise new_rise (grind arith) h.counted)
+      (λ q. grind (arith, place_new r rows fresh, place_kept q r rows rise)) grouped
 
-  -- the rows as they were, those that stay, and those that are there then
-  record Swapped (old : Dup) : Type 0 where
-    less : List DupRow
+  -- where a dup stood at the place
+  module _ (old : Dup) (found : Some old ≡ dup_at dup.row.place s.dups) {mid : Index} (entered : IsEntered dup.row index mid) where
     there : IsMore old.row less rows
-    here : IsMore dup.row less all
-    less_rise : InPlaceOrder less
+    there = more_there dup.row.place _ old.row rise (row_at_place _ s.dups (sym found))
 
-  swapped : {old : Dup} → Some old ≡ dup_at dup.row.place s.dups → Swapped old
-  swapped {old} found = record {
-    less = filter (λ r. not (r.place == dup.row.place)) rows;
-    there = more_there dup.row.place _ old.row rise (row_at_place _ s.dups (sym found));
-    here = more_with _ rise;
-    less_rise = AllPairs-filter (λ a b. (a.place < b.place) × ((a.number == b.number) ≡ false)) _ rows rise;
-  }
+    -- the index between: the new dup is in, and the old one not yet out
+    joined_in : (t : ℕ) (b : List ℕ) → in_group t b dup.row ≡ true → places_of t b mid ≡ group_places t b all
+    joined_in t b inside = grind (arith, own_group, group_joined)
 
-  -- the index between: the new dup is in, and the old one not yet out
-  joined_in : {mid : Index} → IsEntered dup.row index mid → (t : ℕ) (b : List ℕ) → in_group t b dup.row ≡ true → places_of t b mid ≡ group_places t b all
-  joined_in entered t b inside = grind (arith, own_group, group_joined)
+    first : IsRegrouped (length (group_places dup.row.tree dup.row.bytes rows)) (length (group_places dup.row.tree dup.row.bytes all)) index.groups.totals mid.groups.totals
+    first = grind (arith, joined_in, self_group)
 
-  joined_own : {mid : Index} → IsEntered dup.row index mid → places_of dup.row.tree dup.row.bytes mid ≡ group_places dup.row.tree dup.row.bytes all
-  joined_own entered = grind (arith, joined_in, self_group)
+    -- once the new dup is entered beside the old one at its place, the totals are right for the group of the old one
+    pub told_between : IsCounted old.row.tree old.row.bytes mid.groups
+    told_between =
+        let r = dup.row in
+        let t = old.row.tree in
+        let b = old.row.bytes in
+        let more = there in
+        let also = here in
+        let size : length (places_of t b mid) ≡ length (places_of t b index) =
+        grind (arith, places_size t b, self_group old.row, joined_in t b, own_group t b r) in
+        rw size (totals_between there here rise less_rise new_rise first
+        (totals_few s.places h.few h.lawful.places_below rise h.counted) (told h _ _))
 
-  -- once the new dup is entered beside the old one at its place, the totals are right for the group of the old one
-  pub told_between : {mid : Index} (old : Dup) → Some old ≡ dup_at dup.row.place s.dups → IsEntered dup.row index mid
-      → IsCounted old.row.tree old.row.bytes mid.groups
-  told_between {mid} old found entered =
-      let r = dup.row in
-      let t = old.row.tree in
-      let b = old.row.bytes in
-      let swap = swapped found in
-      let size : length (places_of t b mid) ≡ length (places_of t b index) =
-      grind (arith, places_size t b, self_group old.row, joined_in entered t b, own_group t b r) in
-      let few = totals_few s.places h.few h.lawful.places_below rise h.counted in
-      rw size (totals_between swap.there swap.here rise swap.less_rise new_rise
-      (rw (← h.grouped r.tree r.bytes, ← joined_own entered) entered.totals) _ few.0 few.1 (told h _ _))
-
-  -- the index is right once a new dup stands at the place of a dup that goes
-  pub taken_indexed : (ready : Bool) {mid : Index} (old : Dup) → Some old ≡ dup_at dup.row.place s.dups
-      → IsEntered dup.row index mid
-      → ((q : ℕ) → place_of q new ≡ (if q == old.row.number then None else place_of q mid))
-      → ((t : ℕ) (b : List ℕ) → places_of t b new ≡ (if (t == old.row.tree && bytes_eq b old.row.bytes) && not (t == dup.row.tree && bytes_eq b dup.row.bytes) then without old.row.place (places_of t b mid) else places_of t b mid))
-      → IsCountedAnew old.row.tree old.row.bytes mid.groups new.groups
-      → AreIndexed (record { places = s.places; dups = with_new dup s.dups; ready = ready }) (next + 1) new
-  taken_indexed ready {mid} old found entered left_numbers left_groups left =
-      let p = dup.row.place in
-      let at = found_stands s.dups (sym found) in
-      let row_found = row_at_place p s.dups (sym found) in
-      let older : old.row.number < dup.row.number = find_all (λ r. r.place == p) (λ r. r.number < dup.row.number) rows
-      old.row row_found fresh in
-      let grouped : (t : ℕ) (b : List ℕ) → places_of t b new ≡ group_places t b all = λ t b.
-      let outside = λ (out : in_group t b old.row ≡ false). group_unlike p t b rows
-      (not_in_group p t b s.dups rise (sym found) out) in
-      grind (
-        arith,
-        own_group t b dup.row,
-        own_group t b old.row,
-        group_joined t b dup.row rows,
-        group_passed t b dup.row rows rise,
-      ) in
-      let swap = swapped found in
-      let r = dup.row in
-      let o = old.row in
-      let first : IsRegrouped (length (group_places r.tree r.bytes rows)) (length (places_of r.tree r.bytes mid))
-      index.groups.totals mid.groups.totals = rw (← h.grouped r.tree r.bytes) entered.totals in
-      let counted : AreTotals all new.groups.totals = elim (cases_Bool (in_group r.tree r.bytes o)) [
-        | inl same ↦
-            let second : IsRegrouped (length (places_of r.tree r.bytes mid)) (length (group_places r.tree r.bytes all))
-            mid.groups.totals new.groups.totals =
-            grind (arith, own_bytes r.tree o same) in
-            totals_same swap.there swap.here rise swap.less_rise new_rise same first second h.counted
-        | inr other ↦ totals_apart swap.there swap.here rise swap.less_rise new_rise mid.groups.totals other
-            (rw (← joined_own entered) first)
-            (grind arith) h.counted
-      ] in
-      made ready counted
-      (λ q. grind (
-        arith,
-        nat_tests,
-        place_gone p q rows rise row_found,
-        place_new dup.row rows fresh,
-        place_kept q dup.row rows rise,
-      )) grouped
+    -- the index is right once a new dup stands at the place of a dup that goes
+    pub taken_indexed : (ready : Bool)
+        → ((q : ℕ) → place_of q new ≡ (if q == old.row.number then None else place_of q mid))
+        → ((t : ℕ) (b : List ℕ) → places_of t b new ≡ (if (t == old.row.tree && bytes_eq b old.row.bytes) && not (t == dup.row.tree && bytes_eq b dup.row.bytes) then without old.row.place (places_of t b mid) else places_of t b mid))
+        → IsCountedAnew old.row.tree old.row.bytes mid.groups new.groups
+        → AreIndexed (with_dups s (with_new dup s.dups) ready) (next + 1) new
+    taken_indexed ready left_numbers left_groups left =
+        let p = dup.row.place in
+        let at = found_stands s.dups (sym found) in
+        let row_found = row_at_place p s.dups (sym found) in
+        let older : old.row.number < dup.row.number = find_all (λ r. r.place == p) (λ r. r.number < dup.row.number) rows
+        old.row row_found fresh in
+        let grouped : (t : ℕ) (b : List ℕ) → places_of t b new ≡ group_places t b all = λ t b.
+        grind (
+          arith,
+          not_in_group p t b s.dups rise (sym found),
+          own_group t b dup.row,
+          own_group t b old.row,
+          group_joined t b dup.row rows,
+          group_passed t b dup.row rows rise,
+        ) in
+        made ready (totals_swapped there here rise less_rise new_rise first (grind (arith, own_group)) h.counted)
+        (λ q. grind (
+          arith,
+          nat_tests,
+          place_gone p q rows rise row_found,
+          place_new dup.row rows fresh,
+          place_kept q dup.row rows rise,
+        )) grouped
 
 -- once a dup is made, callers see that dup among the others, and the next number one higher
 pub seen_made : (s : SlotsState) (next : ℕ) (index new : Index) (dup : ℕ → Dup) (ready : Bool) {old : DupsState} → dups_seen s next index ≡ old → SameWaits index.groups new.groups
-    → dups_seen (record { places = s.places; dups = with_new (dup next) s.dups; ready = ready }) (next + 1) new ≡ record old { dups = with_new (dup old.next) old.dups; next = old.next + 1 }
+    → dups_seen (with_dups s (with_new (dup next) s.dups) ready) (next + 1) new ≡ record old { dups = with_new (dup old.next) old.dups; next = old.next + 1 }
 seen_made s next index new dup ready view same = grind arith
-
--- the next number is that of no dup
-pub next_unused : {s : SlotsState} {next : ℕ} {index : Index} → AreIndexed s next index → place_of next index ≡ None
-next_unused {s} {next} h = grind (arith, find_nothing)

@@ -1,15 +1,14 @@
 -- The definitions, and the laws of the libraries and crates below, by their names, for proofs.
 pub use Rattle.ksm_base.proofs.Edits.{count-append, count_more, count_none, find_all, find_none, find_nothing, find_over, find_passes}
 pub use Rattle.ksm_base.proofs.Orders.{filter_none, ordered_map, pairs_head, pairs_tail}
-pub use Rattle.ksm_base.proofs.Pages.{same_page_eq, same_page_refl}
+pub use Rattle.ksm_base.proofs.Pages.{same_page_refl}
 pub use Rattle.ksm_base.proofs.RowCounts.{each_at_page, filter_all}
-pub use Rattle.ksm_base.proofs.SoundCounts.{not_an_item}
 pub use Rattle.ksm_base.specs.Counting.{group_size, in_chain, leads_group}
 pub use Rattle.ksm_base.specs.Reading.{items_of}
 pub use Rattle.ksm_base.specs.Rows.{change_row, change_rows, comes_before, has_items, InPageOrder, InPlaceOrder, item_count, merged_into, merged_state, row_at, same_group, same_page, waiting_state}
 pub use Rattle.ksm_base.specs.Rows.{with_dup, with_row, without_page}
 pub use Rattle.ksm_base.specs.State.{tree_of}
-pub use Rattle.ksm_base.specs.Visit.{best_dup, empty_from, new_place, partner, place_or}
+pub use Rattle.ksm_base.specs.Visit.{best_dup, empty_from, new_place, partner}
 pub use Rattle.ksm_base.specs.declared.knobs.Knobs.{Knobs}
 pub use Rattle.ksm_base.specs.declared.limits.TheConstants.{MOST_FRAMES}
 pub use Rattle.ksm_base.specs.declared.page.GuestPage.{GuestPage}
@@ -22,18 +21,18 @@ pub use Rattle.ksm_rmap.proofs.Ordered.{with_rises, without_rises}
 pub use Rattle.ksm_rmap.proofs.Pages.{pages_ordered}
 pub use Rattle.ksm_rmap.specs.Items.{has_item, with_item, without_item}
 pub use Rattle.ksm_tree.specs.Bridge.{AreCounted, AreTied, let_out, place_in}
-pub use Rattle.ksm_tree.specs.Choosing.{ArePlacesToJoin, best_of, choice_of, chosen, empty_place, found_at, is_behind, is_best, is_no_rival, is_no_worse, may_join, of_group, unless_behind}
+pub use Rattle.ksm_tree.specs.Choosing.{ArePlacesToJoin, best_of, choice_of, empty_place, found_at, is_best, is_no_worse, may_join, of_group, unless_behind}
 pub use Rattle.ksm_tree.specs.CountedSets.{IsMarked, MayBeMarked}
-pub use Rattle.ksm_tree.specs.Counts.{AreCounts, is_open, places_where}
-pub use Rattle.ksm_tree.specs.Dups.{AreDups, change_items, dup_at, dup_of, DupsState, has_number, is_live, is_stale, items_in, places_open, rows_of, stands_at, with_new, without_place}
+pub use Rattle.ksm_tree.specs.Counts.{is_open, places_where}
+pub use Rattle.ksm_tree.specs.Dups.{change_items, dup_at, dup_of, DupsState, has_number, is_live, is_stale, items_in, places_open, rows_of, stands_at, with_new, without_place}
 pub use Rattle.ksm_tree.specs.Grouping.{AreGroups, content_in, is_occupied, IsIdle, places_in, waits_in}
 pub use Rattle.ksm_tree.specs.Groups.{chain_in, is_used_in, IsAsWas, IsCounted, IsCountedAnew, IsSwept, SameChains, SameWaits, under, waiting_in}
-pub use Rattle.ksm_tree.specs.Index.{AreIndexed, dups_seen, group_places, in_group, IsEntered, LeadTheSame, place_of, places_of, row_place}
+pub use Rattle.ksm_tree.specs.Index.{AreIndexed, dups_seen, group_places, in_group, IsEntered, place_of, places_of, row_place}
 pub use Rattle.ksm_tree.specs.NumberSets.{AreSummed, has, HasBelow, HasNoBit, HasNone, IsLeast, IsLowestBit, IsSummed, Marks}
 pub use Rattle.ksm_tree.specs.Numbered.{AreNumbered, content_of, content_order, IsUnused, number_of, Numbers}
 pub use Rattle.ksm_tree.specs.Places.{with_place, without}
 pub use Rattle.ksm_tree.specs.Shelf.{change_items_of, change_slot, has_room, kept_at, ShelfState, slots_by}
-pub use Rattle.ksm_tree.specs.Slots.{ArePlaced, AreSlots, change_at, count_in, is_empty_slot, IsSetOf, is_stale_slot, present, slots_seen, SlotsState}
+pub use Rattle.ksm_tree.specs.Slots.{ArePlaced, AreSlots, change_at, count_in, is_empty_slot, is_stale_slot, IsSetOf, present, slots_seen, SlotsState}
 pub use Rattle.ksm_tree.specs.Totals.{AreTotals, chained_of, chains_of, IsRegrouped, Tells}
 pub use Rattle.ksm_tree.specs.Waits.{AreWaiting, IsAdded, IsAlike, IsStopped, names, waiting_page, WaitingPage, waits_there}
 pub use Rattle.ksm_tree.specs.declared.choice.Choice.{Choice}
@@ -47,30 +46,28 @@ pub use Rattle.ksm_tree.specs.declared.shelf.Kept.{Kept}
 pub use Rattle.ksm_tree.specs.declared.totals.Totals.{Totals}
 pub use Rattle.slab.proofs.SlabLemmas.{Updates-with_value}
 pub use Rattle.slab.specs.Slab.{get, Slab, with_value}
-pub use Rattle.smallvec.specs.SmallVec.{SmallVec}
-pub use Rattle.std.proofs.Common.{[], add-one, ap, arith, Bool, count_by, drop, drop-cons, false, get_or, get_or-set_other, get_or-set_same, inl, inr, length, length-append, length-set, List, map}
-pub use Rattle.std.proofs.Common.{None, Option, refl, replicate, rules, set, shr-shr, Some, subst, suc, suc-mul, sym, take, true, true≢false, w64, zero, zero-mul, ℕ, ◌*◌, ◌++◌, ◌+◌, ◌-◌, ◌/◌, ◌<◌}
-pub use Rattle.std.proofs.Common.{◌↔◌, ◌∙◌, ◌∷◌, ◌≡◌, ◌≢◌, ◌≤◌}
+pub use Rattle.std.proofs.Common.{add-one, ap, arith, Bool, count_by, drop, drop-cons, false, get_or, get_or-set_other, get_or-set_same, inl, inr, length, length-append, length-set, List, map, None}
+pub use Rattle.std.proofs.Common.{Option, refl, replicate, rules, set, shr-shr, Some, subst, suc, sym, take, true, true≢false, w64, zero, zero-mul, ℕ, [], ◌*◌, ◌++◌, ◌+◌, ◌-◌, ◌/◌, ◌<◌, ◌∙◌, ◌∷◌, ◌≡◌}
+pub use Rattle.std.proofs.Common.{◌≢◌, ◌≤◌}
 pub use Rattle.std.proofs.Math.ListN.{drop_of_length-le, get_or-map}
-pub use Rattle.std.proofs.lemmas.Bool.{and_parts, cases_Bool, cases_eq, cases_lt, cond_both, eq-eqb, eqb-true, false≢true, le-ltb, ne_eqb}
-pub use Rattle.std.proofs.lemmas.Bool.Decides.{Decides-eqb, nat_tests}
-pub use Rattle.std.proofs.lemmas.List.{map-append, get_or_default, get_or_past, get_or-replicate, length-map, map-set, set-get_or}
-pub use Rattle.std.proofs.lemmas.List.Elements.{All-append, All-cons, All-filter, All-head, All-map, All-tail, All-weaker, filter-append, filter_passes}
-pub use Rattle.std.proofs.lemmas.List.Folds.{find-append, list_all_more, list_all-append}
-pub use Rattle.std.proofs.lemmas.List.Kept.{AllPairs-cons, AllPairs-filter}
+pub use Rattle.std.proofs.lemmas.Bool.{cases_Bool, eqb-true, le-ltb}
+pub use Rattle.std.proofs.lemmas.Bool.Decides.{nat_tests}
+pub use Rattle.std.proofs.lemmas.List.{get_or-replicate, get_or_default, get_or_past, length-map, map-append, map-set, set-get_or}
+pub use Rattle.std.proofs.lemmas.List.Elements.{All-append, All-cons, All-filter, All-head, All-map, All-tail, filter-append, filter_passes}
+pub use Rattle.std.proofs.lemmas.List.Folds.{find-append, list_all-append, list_all_more}
+pub use Rattle.std.proofs.lemmas.List.Kept.{AllPairs-cons}
 pub use Rattle.std.proofs.lemmas.List.Sorted.{IsPartitionPoint-from_clause}
 pub use Rattle.std.proofs.lemmas.List.Sums.{AllPass-from_list_all, count_by-le-length, get_or-le-sum_by, length-filter, list_all-from_AllPass, sum_by-set}
 pub use Rattle.std.proofs.lemmas.Map.Lookups.{exact_bytes, exact_pairs, exact_unsigned}
-pub use Rattle.std.proofs.lemmas.Nat.Bits.{bit_at-trailing_zeros, bit_at-zero, bit_at_above, bit_at_clear_other, bit_at_clear_same, bit_at_ones, bit_at_set_other, bit_at_set_same}
-pub use Rattle.std.proofs.lemmas.Option.{get_or_from_slice_get, none-some, same_Some, slice_get_within}
+pub use Rattle.std.proofs.lemmas.Nat.Bits.{bit_at-trailing_zeros, bit_at_above, bit_at_clear_other, bit_at_clear_same, bit_at_ones, bit_at_set_other, bit_at_set_same}
+pub use Rattle.std.proofs.lemmas.Option.{get_or_from_slice_get, none-some, slice_get_within}
 pub use Rattle.std.proofs.lemmas.Slice.Eq.{bytes_eq-Decides}
 pub use Rattle.std.specs.BTreeMap.{BTreeMap, is_at, Updates}
-pub use Rattle.std.specs.Bool.{then_some}
 pub use Rattle.std.specs.Cmp.{Equal-is}
 pub use Rattle.std.specs.Int.{bit_at}
 pub use Rattle.std.specs.Int.Bits.{bit_and}
 pub use Rattle.std.specs.Int.RustNames.{bit_or}
-pub use Rattle.std.specs.List.{list_all, list_any}
-pub use Rattle.std.specs.Option.{ForSome, option_and_then, option_or, unwrap_or}
+pub use Rattle.std.specs.List.{list_all}
+pub use Rattle.std.specs.Option.{ForSome, option_and_then}
 pub use Rattle.std.specs.Prelude.{All, AllPairs, bytes_eq, cond, Err, filter, filter_map, find, if◌then◌else◌, is_some, IsOk, MatchOption, nat_le, nat_lt, not, Ok, OnErr, OnOk, option_copied}
 pub use Rattle.std.specs.Prelude.{option_map, Result, ◌%◌, ◌&&◌, ◌==◌, ◌^◌, ◌||◌}

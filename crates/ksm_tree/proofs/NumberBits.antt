@@ -1,7 +1,7 @@
 -- What the words of a set, and their summary, say of its numbers.
-use Rattle.ksm_tree.proofs.Names.{AreSummed, arith, Bool, bit_at, bit_at_clear_other, bit_at_clear_same, bit_at_ones, bit_at_set_other, bit_at_set_same, bit_and, bit_or, false, get_or}
-use Rattle.ksm_tree.proofs.Names.{get_or-set_other, get_or-set_same, get_or_past, get_or-replicate, has, HasNoBit, HasNone, IsLeast, IsLowestBit, IsSummed, length, length-set, List, Marks}
-use Rattle.ksm_tree.proofs.Names.{MatchOption, nat_tests, not, Option, replicate, set, shr-shr, true, w64, ℕ, ◌%◌, ◌*◌, ◌+◌, ◌-◌, ◌/◌, ◌<◌, ◌==◌, ◌^◌, ◌≡◌, ◌≢◌, ◌≤◌}
+use Rattle.ksm_tree.proofs.Names.{AreSummed, arith, bit_and, bit_at, bit_at_clear_other, bit_at_clear_same, bit_at_set_other, bit_at_set_same, bit_or, Bool, false, get_or, get_or-replicate}
+use Rattle.ksm_tree.proofs.Names.{get_or-set_other, get_or-set_same, get_or_past, has, HasNoBit, HasNone, IsLeast, IsLowestBit, IsSummed, length, length-set, List, Marks, MatchOption, not, Option}
+use Rattle.ksm_tree.proofs.Names.{replicate, set, shr-shr, true, w64, ℕ, ◌%◌, ◌*◌, ◌+◌, ◌-◌, ◌/◌, ◌<◌, ◌==◌, ◌^◌, ◌≡◌, ◌≢◌, ◌≤◌}
 use Rattle.std.proofs.lemmas.List.{length-replicate}
 
 module _ (words : List ℕ) where
@@ -31,22 +31,9 @@ module _ (words : List ℕ) where
     pub summed_put : {w : ℕ} (word : ℕ) {upper' : List ℕ} {there : Bool} → w < length words → there ≡ not (word == 0) → Marks upper upper' w there → IsSummed (set words w word) upper'
     summed_put word within here marks = grind (arith, length-set, get_or-set_same, get_or-set_other)
 
-module _ {most : ℕ} {words upper : List ℕ} (h : AreSummed most words upper) where
-  -- the sets stay right once a bit is set in a word, and that word's number is in the upper one
-  pub stay_more : {w : ℕ} (i : ℕ) {upper' : List ℕ} → w < length words → i < 64 → 1 < most → Marks upper upper' w true → AreSummed most (set words w (bit_or (get_or words w 0) (1 * 2 ^ i % 18446744073709551616))) upper'
-  stay_more i within small many marks = grind (arith, nat_tests, length-set, summed_put, bit_at_set_same w64)
-
-  -- they stay right once a word is 0, and its number is not in the upper one any more
-  pub stay_less : {w : ℕ} (word : ℕ) {upper' : List ℕ} → w < length words → word ≡ 0 → 1 < most → Marks upper upper' w false → AreSummed most (set words w word) upper'
-  stay_less word within zero many marks = grind (arith, length-set, summed_put)
-
-  -- they stay right where a word is put that is not 0, as the word before it
-  pub stay_some : (w word : ℕ) → w < length words → word ≢ 0 → get_or words w 0 ≢ 0 → AreSummed most (set words w word) upper
-  stay_some w word within some before = grind (arith, length-set, get_or-set_same, get_or-set_other)
-
--- words with all bits have all numbers for which there is room
-pub all_there : (k n : ℕ) → n < 64 * k → has (replicate k 18446744073709551615) n ≡ true
-all_there k n low = grind (arith, get_or-replicate, bit_at_ones 64)
+-- the sets stay right where a word is 0, and its number is not in the upper one any more
+pub stay_less : {most : ℕ} {words upper : List ℕ} → AreSummed most words upper → {w : ℕ} (word : ℕ) {upper' : List ℕ} → w < length words → word ≡ 0 → 1 < most → Marks upper upper' w false → AreSummed most (set words w word) upper'
+stay_less h word within zero many marks = grind (arith, length-set, summed_put)
 
 -- words that are 0 have no number
 pub none_there : (k n : ℕ) → has (replicate k 0) n ≡ false

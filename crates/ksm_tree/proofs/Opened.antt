@@ -1,6 +1,6 @@
--- Slots that are all empty.
-use Rattle.ksm_tree.proofs.Names.{[], ArePlaced, AreSlots, arith, Bool, cond, count_by, count_in, count_more, CountedSet, Dup, false, get_or-replicate, has, IsSetOf, length, List, map, MOST_FRAMES}
-use Rattle.ksm_tree.proofs.Names.{None, Option, present, refl, replicate, ShelfState, slots_seen, suc, sym, true, zero, zero-mul, ℕ, ◌*◌, ◌<◌, ◌∙◌, ◌≡◌, ◌≤◌}
+-- Slots that are all empty, the open places as the counts change, and counts over the slots.
+use Rattle.ksm_tree.proofs.Names.{ArePlaced, arith, Bool, cond, count_by, count_in, count_more, CountedSet, Dup, get_or-replicate, has, is_empty_slot, is_live, is_open, is_stale, is_stale_slot}
+use Rattle.ksm_tree.proofs.Names.{IsSetOf, length, List, map, None, Option, places_open, places_where, present, refl, replicate, Some, suc, sym, zero, zero-mul, ℕ, [], ◌*◌, ◌+◌, ◌<◌, ◌∷◌, ◌≡◌, ◌≤◌}
 use Rattle.std.proofs.lemmas.List.{length-replicate}
 
 -- a list of n empty slots
@@ -12,7 +12,7 @@ pub none_present : (n : ℕ) → present (none_of n) ≡ []
 none_present zero = refl
 none_present (suc n) = none_present n
 
-none_placed : (k n : ℕ) → ArePlaced k (none_of n)
+pub none_placed : (k n : ℕ) → ArePlaced k (none_of n)
 none_placed k zero = tt
 none_placed k (suc n) = none_placed _ n
 
@@ -21,23 +21,40 @@ none_passes test zero = sym (zero-mul (cond (test None) 1 0))
 none_passes test (suc n) = grind (arith, none_passes test n, count_more)
 
 -- a set that has all of so many places, or none, is that of the empty slots that pass a test
-none_set : {test : Option Dup → Bool} (n : ℕ) {places : CountedSet} → n ≤ 64 * length places.set → ((p : ℕ) → p < n → has places.set p ≡ test None) → places.count ≡ n * cond (test None) 1 0 → IsSetOf test (none_of n) places
+pub none_set : {test : Option Dup → Bool} (n : ℕ) {places : CountedSet} → n ≤ 64 * length places.set → ((p : ℕ) → p < n → has places.set p ≡ test None) → places.count ≡ n * cond (test None) 1 0 → IsSetOf test (none_of n) places
 none_set n wide each count = grind (arith, length-replicate, get_or-replicate, none_passes)
 
--- in empty slots no dup is seen
-pub none_seen : (n : ℕ) (shelf : ShelfState) → shelf.slots ≡ none_of n → slots_seen shelf ≡ record { places = n; dups = []; ready = shelf.ready }
-none_seen n shelf is = grind (arith, length-replicate, none_present)
-
-none_counted : (n : ℕ) → replicate n 0 ≡ map count_in (none_of n)
+-- in empty slots no place has an item
+pub none_counted : (n : ℕ) → replicate n 0 ≡ map count_in (none_of n)
 none_counted zero = refl
 none_counted (suc n) = grind (arith, none_counted n)
 
--- empty slots are right with counts of 0, all places empty, and none stale
-pub none_slots : (n : ℕ) {counts : List ℕ} {empty stale : CountedSet} → n ≤ MOST_FRAMES → counts ≡ replicate n 0 → n ≤ 64 * length empty.set → ((p : ℕ) → p < n → has empty.set p ≡ true) → empty.count ≡ n → n ≤ 64 * length stale.set → ((p : ℕ) → has stale.set p ≡ false) → stale.count ≡ 0 → AreSlots (none_of n) counts empty stale
-none_slots n few counted wide all each wide_stale none zero_count = record {
-  few = rw length-replicate few;
-  placed = none_placed 0 n;
-  counted = counted ∙ none_counted n;
-  empties = none_set n wide all (omega arith);
-  stales = none_set n wide_stale (λ p _. none p) (omega arith);
-}
+-- where no place has an item, none is open
+pub none_open : (limit k n : ℕ) → places_where (is_open limit) k (replicate n 0) ≡ []
+none_open limit k zero = refl
+none_open limit k (suc n) = grind (arith, none_open limit (suc k) n)
+
+-- by the limit 0 no place is open
+pub none_kept : (k : ℕ) (counts : List ℕ) → places_where (is_open 0) k counts ≡ []
+none_kept k [] = refl
+none_kept k (n ∷ counts) = grind (arith, none_kept (suc k) counts)
+
+-- the open places of slots are those of the open dups in them
+pub open_seen : (limit k : ℕ) (slots : List (Option Dup)) → ArePlaced k slots → places_where (is_open limit) k (map count_in slots) ≡ places_open limit (present slots)
+open_seen limit k [] placed = refl
+open_seen limit k (None ∷ slots) placed = open_seen _ _ slots placed
+open_seen limit k (Some d ∷ slots) placed = grind (arith, open_seen limit _ slots placed.1)
+
+-- as many slots have a stale dup as there are stale dups
+pub stale_slots : (slots : List (Option Dup)) → count_by is_stale_slot slots ≡ count_by is_stale (present slots)
+stale_slots [] = refl
+stale_slots (None ∷ slots) = grind (arith, stale_slots slots)
+stale_slots (Some d ∷ slots) =
+    grind (arith, count_more is_stale_slot (Some d) slots, count_more is_stale d (present slots), stale_slots slots)
+
+-- each slot is empty, or its dup is stale or has items
+pub three_kinds : (slots : List (Option Dup)) → count_by is_empty_slot slots + count_by is_stale_slot slots + count_by is_live (present slots) ≡ length slots
+three_kinds [] = refl
+three_kinds (None ∷ slots) = grind (arith, count_more is_empty_slot None slots, three_kinds slots)
+three_kinds (Some d ∷ slots) =
+    grind (arith, count_more is_stale_slot (Some d) slots, count_more is_live d (present slots), three_kinds slots)

@@ -1,6 +1,6 @@
 -- What a change of one key, or of what lies under it, does to the slots of a shelf.
-use Rattle.ksm_tree.proofs.Names.{[], ap, arith, change_items_of, change_slot, get, get_or, get_or_default, get_or_past, GuestPage, has_room, items_in, Kept, kept_at, length, List, None, none-some}
-use Rattle.ksm_tree.proofs.Names.{nat_tests, Option, refl, replicate, set, set-get_or, ShelfState, Slab, slots_by, Some, suc, sym, true, is_some, zero, ℕ, ◌+◌, ◌<◌, ◌≤◌, ◌∙◌, ◌∷◌, ◌≡◌, ◌≢◌}
+use Rattle.ksm_tree.proofs.Names.{ap, arith, change_items_of, change_slot, get, get_or, get_or_default, get_or_past, GuestPage, has_room, is_some, items_in, Kept, kept_at, length, List, None, Option}
+use Rattle.ksm_tree.proofs.Names.{refl, replicate, set, set-get_or, ShelfState, Slab, slots_by, Some, suc, sym, true, zero, ℕ, [], ◌+◌, ◌<◌, ◌∙◌, ◌∷◌, ◌≡◌, ◌≢◌, ◌≤◌}
 use Rattle.slab.specs.Slab.{Updates as Fills}
 
 -- there are as many slots as keys
@@ -14,15 +14,11 @@ read_by k p i [] dups is within = absurd (omega arith)
 read_by k p zero (key ∷ keys) dups is within = ap (λ q. kept_at q (get dups key)) (omega arith)
 read_by k p (suc i) (key ∷ keys) dups is within = read_by _ p i keys _ (omega arith) (omega arith)
 
--- what is at a place by its key, where one key changed what lies under it, and that is of no other place
-one_by : (q n : ℕ) {key : ℕ} {old new : Slab Kept} {slot : Option Kept} → Fills old new key slot → kept_at q slot ≡ kept_at q (get old key) → kept_at q (get new n) ≡ kept_at q (get old n)
-one_by q n {key} {old} {new} fills same = grind (arith, fills, same)
-
 -- what lies under one key is of a place below these
 same_by : (k : ℕ) {key : ℕ} (keys : List ℕ) {old new : Slab Kept} {slot : Option Kept} → Fills old new key slot → ((q : ℕ) → k ≤ q → kept_at q slot ≡ kept_at q (get old key)) → slots_by k keys new ≡ slots_by k keys old
 same_by k [] fills same = refl
 same_by k {key} (n ∷ keys) {old} {new} {slot} fills same =
-    grind (arith, one_by k n fills (same k (omega arith)), same_by (suc k) keys fills (λ q above. same q (omega arith)))
+    grind (arith, fills, same k (omega arith), same_by (suc k) keys fills (λ q above. same q (omega arith)))
 
 -- a key is put at a place, with what lies under it from then on, which is of that place as what lay there was
 moved_by : (k p i : ℕ) {key : ℕ} (keys : List ℕ) {old new : Slab Kept} {slot : Option Kept} → p ≡ k + i → i < length keys → Fills old new key slot → ((q : ℕ) → q ≢ p → kept_at q slot ≡ kept_at q (get old key)) → slots_by k (set keys i key) new ≡ set (slots_by k keys old) i (kept_at p slot)
@@ -31,11 +27,7 @@ moved_by k p zero {key} (n ∷ keys) {old} {new} {slot} is within fills same =
     grind (arith, fills.changed, same_by (suc k) keys fills (λ q above. same q (λ e. omega arith)))
 moved_by k p (suc i) {key} (n ∷ keys) {old} {new} {slot} is within fills same =
     let rest = moved_by (suc k) p i keys (omega arith) (omega arith) fills same in
-    grind (arith, one_by k n fills (same k (λ e. omega arith)), rest)
-
--- what is at a place lies under its key, and is of that place
-there : (p : ℕ) (o : Option Kept) → is_some (kept_at p o) ≡ true → (kept : Kept) × (o ≡ Some kept) × (kept.dup.row.place ≡ p)
-there p o some = grind arith
+    grind (arith, fills, same k (λ e. omega arith), rest)
 
 module _ (p : ℕ) (keys : List ℕ) (dups : Slab Kept) {s : ShelfState} (view : record { slots = slots_by 0 keys dups; ready = has_room dups } ≡ s) where
   -- there is a slot for each key
@@ -54,22 +46,34 @@ module _ (p : ℕ) (keys : List ℕ) (dups : Slab Kept) {s : ShelfState} (view :
   pub filled_key : is_some (get_or s.slots p None) ≡ true → p < length keys
   filled_key filled = grind (arith, seen_past)
 
-  -- the dup under the key of a place that holds one is of that place
-  pub lies_there : {key : ℕ} → key ≡ get_or keys p 0 → is_some (get_or s.slots p None) ≡ true
-      → (kept : Kept) × (get dups key ≡ Some kept) × (kept.dup.row.place ≡ p)
-  lies_there {key} read filled = there p _ (ap is_some (seen_by (filled_key filled) read) ∙ filled)
+  module _ {key : ℕ} (read : key ≡ get_or keys p key) (filled : is_some (get_or s.slots p None) ≡ true) where
+    -- the key of a place that holds a dup leads to it
+    key_is : key ≡ get_or keys p 0
+    key_is = read ∙ sym (get_or_default _ p 0 key (filled_key filled))
 
-  -- a key read of a place that holds a dup
-  pub key_read : {key : ℕ} → key ≡ get_or keys p key → is_some (get_or s.slots p None) ≡ true → key ≡ get_or keys p 0
-  key_read {key} read filled = read ∙ sym (get_or_default _ p 0 key (filled_key filled))
+    leads : kept_at p (get dups key) ≡ get_or s.slots p None
+    leads = seen_by (filled_key filled) key_is
 
-  -- the items of a place are those of the dup under its key
-  pub items_there : {key : ℕ} {kept : Kept} → key ≡ get_or keys p 0 → is_some (get_or s.slots p None) ≡ true → Some kept ≡ get dups key → items_in (get_or s.slots p None) ≡ kept.dup.items
-  items_there read filled stood = grind (arith, seen_by (filled_key filled) read)
+    -- the items of a place are those of the dup under its key
+    pub items_there : {kept : Kept} → Some kept ≡ get dups key → items_in (get_or s.slots p None) ≡ kept.dup.items
+    items_there stood = grind (arith, leads)
 
-  -- under the key of a place that holds a dup lies one
-  pub not_none : {key : ℕ} → key ≡ get_or keys p 0 → is_some (get_or s.slots p None) ≡ true → None ≡ get dups key → ⊥
-  not_none read filled none = none-some _ (none ∙ (lies_there read filled).1)
+    -- under the key of a place that holds a dup lies one
+    pub not_none : None ≡ get dups key → ⊥
+    not_none none = grind (arith, leads)
+
+    moved : {new : Slab Kept} {slot : Option Kept} → Fills dups new key slot → ((kept : Kept) → slot ≡ Some kept → kept.dup.row.place ≡ p) → slots_by 0 keys new ≡ set s.slots p (kept_at p slot)
+    moved fills of_it =
+        let put = moved_by 0 p p keys (omega arith) (filled_key filled) fills (λ q apart. grind (arith, leads)) in
+        grind (arith, key_is, set-get_or keys p 0)
+
+    -- a dup that goes leaves its place empty
+    pub emptied : {new : Slab Kept} → Fills dups new key None → slots_by 0 keys new ≡ set s.slots p None
+    emptied fills = moved fills (λ kept none. grind arith)
+
+    -- a dup that changes under its key, and stays at its place, changes in its slot
+    pub changed : {new : Slab Kept} {was kept : Kept} (f : List GuestPage → List GuestPage) → Some was ≡ get dups key → kept.dup ≡ change_items_of f was.dup → Fills dups new key (Some kept) → slots_by 0 keys new ≡ change_slot p f s.slots
+    changed {new} {was} {kept} f stood now fills = grind (arith, leads, moved fills (λ k is. grind (arith, leads)))
 
 -- where every key leads to nothing, each place is empty
 pub none_by : (k n : ℕ) (dups : Slab Kept) → dups.slots ≡ [] → slots_by k (replicate n 0) dups ≡ replicate n None
@@ -81,28 +85,9 @@ pub same_slots : (keys : List ℕ) (old : Slab Kept) {new : Slab Kept} {s : Shel
 same_slots keys old view is =
     same_by 0 keys (record { changed = ap (λ d. get d 0) is; others = λ n _. ap (λ d. get d n) is }) (λ q _. refl) ∙ ap (λ t. t.slots) view
 
--- a dup that goes leaves its place empty
-pub emptied : (p : ℕ) {key : ℕ} (keys : List ℕ) {old new : Slab Kept} (s : ShelfState) (view : record { slots = slots_by 0 keys old; ready = has_room old } ≡ s)
-    → key ≡ get_or keys p 0 → is_some (get_or s.slots p None) ≡ true → Fills old new key None → slots_by 0 keys new ≡ set s.slots p None
-emptied p {key} keys {old} {new} s view read filled fills =
-    let it = lies_there p _ old view read filled in
-    let within = filled_key p _ old view filled in
-    let moved = moved_by 0 p p keys (omega arith) within fills (λ q apart. grind (arith, nat_tests, it)) in
-    grind (arith, set-get_or keys p 0, moved)
-
 -- a dup of a place is put under a key that was vacant, and the place gets that key
 pub filled : (p key : ℕ) (keys : List ℕ) (old new : Slab Kept) (s : ShelfState) (view : record { slots = slots_by 0 keys old; ready = has_room old } ≡ s) (kept : Kept)
     → kept.dup.row.place ≡ p → p < length keys → get old key ≡ None → Fills old new key (Some kept) → slots_by 0 (set keys p key) new ≡ set s.slots p (Some kept.dup)
 filled p key keys old new s view kept is within vacant fills =
-    let moved = moved_by 0 p p keys (omega arith) within fills (λ q apart. grind (arith, nat_tests)) in
-    grind (arith, nat_tests, moved)
-
--- a dup that changes under its key, and stays at its place, changes in its slot
-pub changed : (p key : ℕ) (keys : List ℕ) (old new : Slab Kept) (s : ShelfState) (view : record { slots = slots_by 0 keys old; ready = has_room old } ≡ s) (was kept : Kept) (f : List GuestPage → List GuestPage)
-    → key ≡ get_or keys p 0 → is_some (get_or s.slots p None) ≡ true → get old key ≡ Some was → kept.dup ≡ change_items_of f was.dup → Fills old new key (Some kept)
-    → slots_by 0 keys new ≡ change_slot p f s.slots
-changed p key keys old new s view was kept f read filled stood now fills =
-    let it = lies_there p _ old view read filled in
-    let within = filled_key p _ old view filled in
-    let moved = moved_by 0 p p keys (omega arith) within fills (λ q apart. grind (arith, nat_tests, it.1, it.2)) in
-    grind (arith, nat_tests, it.1, it.2, set-get_or keys p 0, seen_by p _ old view within read, moved)
+    let moved = moved_by 0 p p keys (omega arith) within fills (λ q apart. grind arith) in
+    grind (arith, moved)

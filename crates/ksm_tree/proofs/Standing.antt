@@ -1,30 +1,25 @@
--- What a change of one group makes of the chains and of the pages that wait.
-use Rattle.ksm_tree.proofs.Names.{[], ap, AreGroups, AreNumbered, arith, BTreeMap, bytes_eq, bytes_eq-Decides, cases_Bool, chain_in, Content, content_in, content_of, content_order, filter_map}
-use Rattle.ksm_tree.proofs.Names.{ForSome, get, get_or, Group, Groups, GuestPage, if◌then◌else◌, inl, inr, is_at, is_some, IsIdle, IsUnused, List, nat_tests, None, number_of, Numbers, Option}
-use Rattle.ksm_tree.proofs.Names.{option_map, places_in, refl, Slab, Some, suc, sym, true, under, Updates, Updates-with_value, waiting_in, waiting_page, waits_in, with_value, zero, ℕ, ◌&&◌, ◌==◌, ◌∙◌}
-use Rattle.ksm_tree.proofs.Names.{◌∷◌, ◌≡◌, ◌≢◌, ◌≤◌}
+-- What a change of one group makes of the chains and of the pages that wait, and which contents are in use.
+use Rattle.ksm_tree.proofs.Names.{ap, AreGroups, AreNumbered, arith, BTreeMap, bytes_eq, bytes_eq-Decides, cases_Bool, chain_in, Content, content_in, content_of, content_order, false, filter_map}
+use Rattle.ksm_tree.proofs.Names.{ForSome, get, get_or, Group, Groups, GuestPage, if◌then◌else◌, inl, inr, is_at, is_occupied, is_some, is_used_in, IsAsWas, IsIdle, IsSwept, IsUnused, length, List}
+use Rattle.ksm_tree.proofs.Names.{None, number_of, Numbers, Option, option_map, places_in, refl, Slab, Some, suc, sym, true, under, Updates, Updates-with_value, waiting_in, waiting_page, waits_in}
+use Rattle.ksm_tree.proofs.Names.{with_value, zero, ℕ, [], ◌&&◌, ◌+◌, ◌==◌, ◌∙◌, ◌∷◌, ◌≡◌, ◌≢◌, ◌≤◌}
 use Rattle.slab.specs.Slab.{Updates as Fills}
-use Rattle.ksm_tree.proofs.Numbering.{Stands, entered, forgotten, its_number, same_content}
+use Rattle.ksm_tree.proofs.Numbering.{its_number, same_content}
+use Rattle.ksm_tree.specs.Reserve.{KeepsReserve}
+use Rattle.std.specs.Prelude.{◌⊎◌}
 
 -- ---------------------------------------------------------------- what stands under the number of each content
 
 -- whether two contents are one
-is_one : (t u : ℕ) (b c : List ℕ) → (t == u && bytes_eq b c) ≡ true → content_of t b ≡ content_of u c
-is_one t u b c same = grind (arith, nat_tests, (bytes_eq-Decides b c).0)
+pub is_one : (t u : ℕ) (b c : List ℕ) → (t == u && bytes_eq b c) ≡ true → content_of t b ≡ content_of u c
+is_one t u b c same = grind (arith, (bytes_eq-Decides b c).0)
 
 pub are_one : (t u : ℕ) (b c : List ℕ) → content_of t b ≡ content_of u c → (t == u && bytes_eq b c) ≡ true
-are_one t u b c same = grind (arith, nat_tests, (bytes_eq-Decides b c).1)
+are_one t u b c same = grind (arith, (bytes_eq-Decides b c).1)
 
--- where what stands under the number of a content has changed, it has changed at that content alone
-module _ {X : Type 0} (none : X) (numbers : Numbers) (stands : ℕ → Option Content) (are : AreNumbered numbers stands) (old : ℕ → X) (tree : ℕ) (bytes : List ℕ) (change : X → X) where
-  -- a change of what stands under a content's number changes what stands under that content alone
-  pub under_moved : (new : ℕ → X) {number : ℕ} → number_of tree bytes numbers ≡ Some number
-      → ((n : ℕ) → new n ≡ (if n == number then change (old n) else old n))
-      → (t : ℕ) (b : List ℕ) → under none new (number_of t b numbers) ≡ (if t == tree && bytes_eq b bytes then change (under none old (number_of t b numbers)) else under none old (number_of t b numbers))
-  under_moved new {number} is moved t b =
-      let here = λ (n : ℕ). (are (content_of t b) n).0 in
-      let there = (are (content_of tree bytes) number).0 is in
-      grind (arith, nat_tests, moved, is_one t tree b bytes, are_one t tree b bytes, here, there)
+-- the places of the group of a tree and bytes
+abbrev chain_by : Numbers → Slab Group → ℕ → List ℕ → List ℕ
+chain_by numbers groups t b = under [] (λ n. places_in (get groups n)) (number_of t b numbers)
 
 -- ---------------------------------------------------------------- the list of the pages that wait
 
@@ -68,10 +63,6 @@ waiting_found {numbers} {groups} {pass} are t b = by (number_of t b numbers) ref
         one_waits t b _ _ n ((are.numbered (content_of t b) n).0 found)
         (λ m is. grind (arith, (are.numbered (content_of t b) m).1 is))
 
--- the page that waits for a tree and bytes is the one in the group under their number
-pub waits_here : (g : Groups) (t : ℕ) (b : List ℕ) {n : ℕ} {slot : Option Group} → number_of t b g.numbers.entries ≡ Some n → slot ≡ get g.groups n → waiting_page t b (waiting_in g) ≡ page_in g.pass slot
-waits_here g t b is at = grind (arith, waiting_found g.lawful t b)
-
 -- no page waits for a tree and bytes that have no number
 pub none_here : (g : Groups) (t : ℕ) (b : List ℕ) → number_of t b g.numbers.entries ≡ None → waiting_page t b (waiting_in g) ≡ None
 none_here g t b none = grind (arith, waiting_found g.lawful t b)
@@ -84,24 +75,10 @@ stands_under g t b {n} is none = grind (arith, (g.lawful.numbered (content_of t 
 pub not_unused : (g : Groups) (n : ℕ) {group : Group} → Some group ≡ get g.groups n → IsUnused n g.numbers.entries → ⊥
 not_unused g n {group} stands unused = unused _ _ ((g.lawful.numbered group.content n).1 (ap content_in (sym stands)))
 
--- a guess that leads to the group of a tree and bytes is the number of that tree and bytes
-pub guessed : (g : Groups) {guess : ℕ} {group : Group} {tree : ℕ} (bytes : List ℕ) → Some group ≡ get g.groups guess → group.content.tree ≡ tree → true ≡ bytes_eq group.content.bytes bytes → Some guess ≡ number_of tree bytes g.numbers.entries
-guessed g {guess} {group} {tree} bytes stands same_tree same_bytes =
-    let same = (bytes_eq-Decides group.content.bytes bytes).0 in
-    sym ((g.lawful.numbered (content_of tree bytes) guess).1 (grind (arith, same)))
-
--- the page of a group whose pass is the present one waits
-pub page_waits : (g : Group) {pass : ℕ} → g.pass ≡ pass → page_in pass (Some g) ≡ Some g.page
-page_waits g same = grind (arith, nat_tests)
-
--- in a group whose pass is not the present one no page waits
-pub page_still : (g : Group) (pass : ℕ) → g.pass ≢ pass → page_in pass (Some g) ≡ None
-page_still g pass apart = grind (arith, nat_tests)
-
 -- where no group's pass is the present one, no page waits
 pub none_waiting : (pass : ℕ) (groups : Slab Group) → ((n : ℕ) → ForSome (get groups n) (λ g. g.pass ≢ pass)) → filter_map (waits_in pass) groups.slots ≡ []
 none_waiting pass groups apart =
-    given_same _ (waits_in pass) refl refl groups.slots [] (λ n. grind (arith, nat_tests, apart n))
+    given_same _ (waits_in pass) refl refl groups.slots [] (λ n. grind (arith, apart n))
 
 -- ---------------------------------------------------------------- one group is written
 
@@ -113,113 +90,101 @@ module _ (g : Groups) (number : ℕ) (was now : Group) (stood : Some was ≡ get
   fills : Fills g.groups new number (Some now)
   fills = Updates-with_value g.groups number now (sym (ap is_some stood))
 
-  written_moved : {X : Type 0} (at : Option Group → X) (change : X → X) → at (Some now) ≡ change (at (Some was)) → (n : ℕ)
-      → at (get new n) ≡ (if n == number then change (at (get g.groups n)) else at (get g.groups n))
-  written_moved at change is n = grind (arith, nat_tests, fills)
-
   written_same : {X : Type 0} (at : Option Group → X) → at (Some now) ≡ at (Some was) → (n : ℕ) → at (get new n) ≡ at (get g.groups n)
-  written_same at is n = grind (arith, nat_tests, fills)
+  written_same at is n = grind (arith, fills)
 
   -- the groups keep their numbers where one of them is written anew with its content
-  pub rewritten : now.pass ≤ g.pass → AreGroups g.numbers.entries new g.pass
+  pub rewritten : (was.pass ≤ g.pass → now.pass ≤ g.pass) → AreGroups g.numbers.entries new g.pass
   rewritten within = record {
     numbered = λ k n. rw (written_same content_in (ap Some content) n) (g.lawful.numbered k n);
-    passes = λ n h is. grind (arith, nat_tests, fills, g.lawful.passes n);
+    passes = λ n h is. grind (arith, fills);
     begun = g.lawful.begun;
   }
 
+  -- a group written anew changes what stands under the number of its content, and under no other
+  moved : {X : Type 0} (none : X) (at : Option Group → X) (change : X → X) → at (Some now) ≡ change (at (Some was)) → (tree : ℕ) (bytes : List ℕ) → number_of tree bytes g.numbers.entries ≡ Some number → (t : ℕ) (b : List ℕ)
+      → under none (λ n. at (get new n)) (number_of t b g.numbers.entries) ≡ (if t == tree && bytes_eq b bytes then change (under none (λ n. at (get g.groups n)) (number_of t b g.numbers.entries)) else under none (λ n. at (get g.groups n)) (number_of t b g.numbers.entries))
+  moved none at change is tree bytes named t b =
+      grind (arith, fills, is_one t tree b bytes, are_one t tree b bytes, g.lawful.numbered (content_of t b),
+      (g.lawful.numbered (content_of tree bytes) number).0 named)
+
   -- a group written anew with changed places changes the chain of its content, and no other
   pub rechained : (change : List ℕ → List ℕ) → now.places.list.items ≡ change was.places.list.items → (tree : ℕ) (bytes : List ℕ) → number_of tree bytes g.numbers.entries ≡ Some number
-      → (t : ℕ) (b : List ℕ) → under [] (λ n. places_in (get new n)) (number_of t b g.numbers.entries) ≡ (if t == tree && bytes_eq b bytes then change (chain_in t b g) else chain_in t b g)
-  rechained change is tree bytes named =
-      under_moved [] _ _ g.lawful.numbered _ _ _ change _ named (written_moved places_in change is)
+      → (t : ℕ) (b : List ℕ) → chain_by g.numbers.entries new t b ≡ (if t == tree && bytes_eq b bytes then change (chain_in t b g) else chain_in t b g)
+  rechained = moved [] places_in
 
   -- a group written anew tells what waits for its content, and what waits elsewhere stays
-  pub repaged : now.pass ≤ g.pass → (tree : ℕ) (bytes : List ℕ) → number_of tree bytes g.numbers.entries ≡ Some number
+  pub repaged : (was.pass ≤ g.pass → now.pass ≤ g.pass) → (tree : ℕ) (bytes : List ℕ) → number_of tree bytes g.numbers.entries ≡ Some number
       → (t : ℕ) (b : List ℕ) → waiting_page t b (filter_map (waits_in g.pass) new.slots) ≡ (if t == tree && bytes_eq b bytes then page_in g.pass (Some now) else waiting_page t b (waiting_in g))
   repaged within tree bytes named t b =
-      let moved = written_moved (page_in g.pass) (λ _. page_in g.pass (Some now)) refl in
       rw (waiting_found (rewritten within) t b, waiting_found g.lawful t b)
-      (under_moved _ _ _ g.lawful.numbered _ _ _ (λ _. page_in g.pass (Some now)) _ named moved t b)
+      (moved None (page_in g.pass) (λ _. page_in g.pass (Some now)) refl tree bytes named t b)
 
   -- where a group written anew has what waited in it, all that waits is as it was
   pub same_waiting : waits_in g.pass (Some now) ≡ waits_in g.pass (Some was) → filter_map (waits_in g.pass) new.slots ≡ waiting_in g
   same_waiting is = given_same _ _ refl refl new.slots g.groups.slots (written_same (waits_in g.pass) is)
 
--- a content without a number has no page that could stop to wait
-pub none_removed : (g : Groups) (tree : ℕ) (bytes : List ℕ) → number_of tree bytes g.numbers.entries ≡ None → (t : ℕ) (b : List ℕ) → waiting_page t b (waiting_in g) ≡ (if t == tree && bytes_eq b bytes then None else waiting_page t b (waiting_in g))
-none_removed g tree bytes none t b = grind (arith, waiting_found g.lawful t b, is_one t tree b bytes)
-
 -- ---------------------------------------------------------------- a group comes, and one goes
 
--- a content gets a number under which nothing stood, or loses one under which nothing stood
-module _ (numbers_old numbers_new : BTreeMap Content ℕ) {pass : ℕ} {old new : Slab Group} (are : AreGroups numbers_old.entries old pass) (k : Content) {number : ℕ} (named : Option ℕ) {slot : Option Group}
-    (updates : Updates content_order numbers_old numbers_new k named) (fills : Fills old new number slot) (was : IsIdle pass (get old number)) (now : IsIdle pass slot) where
-  idle_same : {X : Type 0} (at : Option Group → X) → at slot ≡ at (get old number) → (n : ℕ) → at (get new n) ≡ at (get old n)
-  idle_same at same n = grind (arith, nat_tests, fills)
-
-  -- where a group in which nothing waits comes or goes, all that waits is as it was
-  pub idle_waiting : filter_map (waits_in pass) new.slots ≡ filter_map (waits_in pass) old.slots
-  idle_waiting = given_same _ _ refl refl new.slots old.slots (idle_same (waits_in pass) (now.1 ∙ sym was.1))
-
-  -- where a group without places comes or goes, the chains are as they were
-  pub idle_chains : under [] (λ n. places_in (get new n)) named ≡ under [] (λ n. places_in (get old n)) (its_number k numbers_old.entries)
-      → (t : ℕ) (b : List ℕ) → under [] (λ n. places_in (get new n)) (number_of t b numbers_new.entries) ≡ under [] (λ n. places_in (get old n)) (number_of t b numbers_old.entries)
-  idle_chains here t b =
-      elim (cases_Bool (is_at (content_order k) (content_of t b))) [
-        | inl is ↦ grind (arith, updates.0 (content_of t b), here, same_content {p = k} {q = content_of t b} is)
-        | inr other ↦ grind (arith, updates.0 (content_of t b), idle_same places_in (now.0 ∙ sym was.0))
-      ]
-
-  idle_stands : Stands (λ n. content_in (get old n)) (λ n. content_in (get new n)) number (content_in slot)
-  idle_stands = grind (arith, fills)
-
-  -- the groups are right once one came with a content that had no number
-  pub came_groups : {g : Group} → slot ≡ Some g → g.content ≡ k → g.pass ≤ pass → named ≡ Some number
-      → its_number k numbers_old.entries ≡ None → get old number ≡ None → AreGroups numbers_new.entries new pass
-  came_groups {g} is content within name none vacant = record {
-    numbered = entered numbers_old numbers_new _ _ k are.numbered none (ap content_in vacant) (rw (← name) updates)
-        (rw (← ap content_in is ∙ ap Some content) idle_stands);
-    passes = λ n. grind (arith, fills, are.passes n);
-    begun = are.begun;
-  }
-
-  -- the groups are right once one went and its content lost its number
-  pub gone_groups : {g : Group} → Some g ≡ get old number → g.content ≡ k → slot ≡ None → named ≡ None → AreGroups numbers_new.entries new pass
-  gone_groups stood content is name = record {
-    numbered = forgotten numbers_old numbers_new _ _ k are.numbered (ap content_in (sym stood) ∙ ap Some content)
-        (rw (← name) updates) (rw (← ap content_in is) idle_stands);
-    passes = λ n. grind (arith, fills, are.passes n);
-    begun = are.begun;
-  }
-
--- a group in which nothing stands has come: the groups are right, and the chains and all that waits are as they were
-pub record Entered (g : Groups) (later : Slab Group) (numbers : BTreeMap Content ℕ) : Type 0 where
+-- a group in which nothing stands has come, or one has gone: the groups are right, and the chains and all that waits are as they were
+pub record Keeps (g : Groups) (later : Slab Group) (numbers : BTreeMap Content ℕ) : Type 0 where
   pub lawful : AreGroups numbers.entries later g.pass
   pub waiting : filter_map (waits_in g.pass) later.slots ≡ waiting_in g
-  pub chains : (t : ℕ) (b : List ℕ)
-      → under [] (λ n. places_in (get later n)) (number_of t b numbers.entries) ≡ chain_in t b g
+  pub chains : (t : ℕ) (b : List ℕ) → chain_by numbers.entries later t b ≡ chain_in t b g
 
-module _ (g : Groups) {kept later : Slab Group} (numbers : BTreeMap Content ℕ) {k : Content} {number : ℕ} (fresh : Group) (room : kept ≡ record g.groups { capacity = kept.capacity }) (none : its_number k g.numbers.entries ≡ None)
-    (vacant : get kept number ≡ None) (updates : Updates content_order g.numbers numbers k (Some number)) (fills : Fills kept later number (Some fresh)) (content : fresh.content ≡ k) (idle : fresh.pass ≡ 0) (empty : fresh.places.list.items ≡ []) where
-  are_kept : AreGroups g.numbers.entries kept g.pass
-  are_kept = grind (arith, g.lawful)
-
-  was_idle : IsIdle g.pass (get kept number)
-  was_idle = grind arith
-
-  now_idle : IsIdle g.pass (Some fresh)
-  now_idle = grind (arith, nat_tests, g.lawful.begun)
-
-  -- a group in which nothing stands comes into the room that was made for it
-  pub entered_fresh : Entered g later numbers
-  entered_fresh = record {
-    lawful = came_groups g.numbers numbers are_kept k _ updates fills was_idle now_idle refl content
-        (omega (arith, idle)) refl none vacant;
-    waiting = idle_waiting g.numbers numbers are_kept k (Some number) updates fills was_idle now_idle
-        ∙ ap (λ s. filter_map (waits_in g.pass) s.slots) room;
-    chains = λ t b.
-        idle_chains g.numbers numbers are_kept k (Some number) updates fills was_idle now_idle
-        (grind (arith, fills.changed)) t b
-        ∙ ap (λ s. under [] (λ n. places_in (get s n)) (number_of t b g.numbers.entries)) room;
+module _ (g : Groups) {later : Slab Group} (numbers : BTreeMap Content ℕ) (k : Content) {number : ℕ} {named : Option ℕ} {slot : Option Group}
+    (updates : Updates content_order g.numbers numbers k named) (fills : Fills g.groups later number slot)
+    (was : IsIdle g.pass (get g.groups number)) (now : IsIdle g.pass slot) where
+  keeps : ForSome slot (λ h. h.pass ≤ g.pass) → AreNumbered numbers.entries (λ n. content_in (get later n))
+      → under [] (λ n. places_in (get later n)) named ≡ under [] (λ n. places_in (get g.groups n)) (its_number k g.numbers.entries) → Keeps g later numbers
+  keeps within numbered here = record {
+    lawful = record {
+      numbered = numbered;
+      passes = λ n. grind (arith, fills);
+      begun = g.lawful.begun;
+    };
+    waiting = given_same _ (waits_in g.pass) refl refl later.slots g.groups.slots (λ n. grind (arith, fills));
+    chains = λ t b. elim (cases_Bool (is_at (content_order k) (content_of t b))) [
+      | inl is ↦ grind (arith, updates.0 (content_of t b), same_content {p = k} {q = content_of t b} is)
+      | inr other ↦ grind (arith, updates.0 (content_of t b))
+    ];
   }
+
+  -- a group in which nothing stands came with a content that had no number
+  pub came : its_number k g.numbers.entries ≡ None → get g.groups number ≡ None → named ≡ Some number → content_in slot ≡ Some k → ForSome slot (λ h. h.pass ≤ g.pass) → Keeps g later numbers
+  came none vacant name content within =
+      keeps within (λ q n. grind (arith, same_content {p = k} {q = q}, updates.0 q, g.lawful.numbered q n, fills))
+          (grind (arith, fills.changed))
+
+  -- a group in which nothing stood went, and its content lost its number
+  pub went : content_in (get g.groups number) ≡ Some k → slot ≡ None → named ≡ None → Keeps g later numbers
+  went stood is name =
+      keeps (λ h at. grind arith) (λ q n.
+          grind (arith, same_content {p = k} {q = q}, updates.0 q, g.lawful.numbered q n, fills))
+          (grind (arith, (g.lawful.numbered k number).1 stood))
+
+-- where something stands in each group, each content with a number is in use
+pub all_used : (g : Groups) → AreGroups g.numbers.entries g.groups g.pass
+    → ((n : ℕ) → is_some (get g.groups n) ≡ true → is_occupied g.pass (get g.groups n) ≡ true)
+    → (t : ℕ) (b : List ℕ) → is_some (number_of t b g.numbers.entries) ≡ true → is_used_in g t b ≡ true
+all_used g are occupied t b has = grind (arith, waiting_found are t b, are.numbered (content_of t b))
+
+-- a content that had no number gets one: there is one more, and no other content got one
+pub one_more : (old new : BTreeMap Content ℕ) (tree : ℕ) (bytes : List ℕ) (key : ℕ) {before : Option ℕ}
+    → number_of tree bytes old.entries ≡ None → before ≡ number_of tree bytes old.entries
+    → length new.entries ≡ length old.entries + (if is_some before then 0 else 1)
+    → Updates content_order old new (content_of tree bytes) (Some key)
+    → (length new.entries ≡ length old.entries + 1)
+    × ((t : ℕ) (b : List ℕ) → is_some (number_of t b new.entries) ≡ true → (t == tree && bytes_eq b bytes) ≡ false → is_some (number_of t b old.entries) ≡ true)
+one_more old new tree bytes key none was long updates = (
+  grind arith,
+  λ t b has apart. elim (cases_Bool (is_at (content_order (content_of tree bytes)) (content_of t b))) [
+    | inl here ↦ grind (arith, are_one t _ b _ (sym (same_content here)))
+    | inr other ↦ grind arith
+  ],
+)
+
+-- where the others lost their numbers, or nothing happened, and no content got one, the reserve is kept
+pub reserve_left : (old : Groups) {g : Groups} {tree : ℕ} {bytes : List ℕ} → (IsSwept g ⊎ IsAsWas old g)
+    → KeepsReserve (is_used_in g) tree bytes old.numbers.entries g.numbers.entries old.most g.most
+reserve_left old is = grind (arith)

@@ -1,9 +1,9 @@
 -- The pages of the rows merged into a dup, after a change of one row.
 use Rattle.ksm_tree.proofs.Alike.{change_none, chosen, kept_append}
 use Rattle.ksm_rmap.proofs.Ordered.{absent_parts, found_parts, none_same, none_same_low, without_between}
-use Rattle.ksm_tree.proofs.Names.{[], All, ap, AreCounted, AreTied, arith, Bool, change_row, comes_before, Dup, DupRow, false, filter, filter_passes, find_passes, None, Option, Some, map-append}
-use Rattle.ksm_tree.proofs.Names.{absent_kept, GuestPage, InPageOrder, is_some, items_of, length-filter, length-map, List, map, merged_into, not, pages_ordered, refl, Row, row_at, same_page, sym}
-use Rattle.ksm_tree.proofs.Names.{true, with_item, without_item, without_page, ◌++◌, ◌∙◌, ◌∷◌, ◌≡◌, suc}
+use Rattle.ksm_tree.proofs.Names.{absent_kept, All, ap, AreCounted, AreTied, arith, Bool, change_row, comes_before, Dup, DupRow, false, filter, filter_passes, find_passes, GuestPage, InPageOrder}
+use Rattle.ksm_tree.proofs.Names.{is_some, items_of, length-filter, length-map, List, map, map-append, merged_into, None, not, Option, pages_ordered, refl, Row, row_at, same_page, Some, suc, sym}
+use Rattle.ksm_tree.proofs.Names.{true, with_item, without_item, without_page, [], ◌++◌, ◌∙◌, ◌∷◌, ◌≡◌}
 
 abbrev pub page_of : Row → GuestPage
 page_of r = r.page

@@ -1,12 +1,12 @@
 -- The items of each dup stay the pages of the rows merged into it: the dups after a change of one row, and after a change of all.
-use Rattle.ksm_tree.proofs.Names.{[], absent_kept, All, All-append, All-cons, All-filter, All-map, ap, AreTied, arith, change_items, change_row, Dup, dup_of, DupRow, each_at_page, eqb-true, false}
-use Rattle.ksm_tree.proofs.Names.{filter_all, filter_none, find_all, find_none, find_passes, GuestPage, has_item, InPageOrder, is_some, item_count, items_in, items_of, length, let_out, List, map}
-use Rattle.ksm_tree.proofs.Names.{Merged, merged_into, merged_state, None, none_found, not, Option, ordered_map, pages_ordered, PageState, Private, refl, Row, row_at, rows_of, same_page, Some, sym}
-use Rattle.ksm_tree.proofs.Names.{true, Waiting, with_item, with_new, with_row, without_item, without_page, without_place, Zero, ℕ, if◌then◌else◌, ◌<◌, ◌==◌, ◌∷◌, ◌≡◌, suc}
+use Rattle.ksm_tree.proofs.Names.{absent_kept, All, All-append, All-cons, All-filter, All-map, ap, AreTied, arith, change_items, change_row, Dup, dup_of, DupRow, each_at_page, eqb-true, false}
+use Rattle.ksm_tree.proofs.Names.{filter_all, filter_none, find_all, find_none, find_passes, GuestPage, has_item, if◌then◌else◌, InPageOrder, is_some, item_count, items_in, items_of, length, let_out}
+use Rattle.ksm_tree.proofs.Names.{List, map, Merged, merged_into, merged_state, None, none_found, not, Option, ordered_map, pages_ordered, PageState, Private, refl, Row, row_at, rows_of, same_page}
+use Rattle.ksm_tree.proofs.Names.{Some, suc, sym, true, Waiting, with_item, with_new, with_row, without_item, without_page, without_place, Zero, ℕ, [], ◌<◌, ◌==◌, ◌∷◌, ◌≡◌}
 use Rattle.ksm_tree.specs.Dups.{items_of as items_numbered}
 use Rattle.ksm_tree.proofs.Alike.{kept_append}
 use Rattle.ksm_tree.proofs.Changes.{all_rows}
-use Rattle.ksm_tree.proofs.Tied.{without_splits, items_dropped, items_joined, items_left, items_kept, tied_counted}
+use Rattle.ksm_tree.proofs.Tied.{items_dropped, items_joined, items_kept, items_left, tied_counted, without_splits}
 
 abbrev IsTied : List Row → Dup → Type 0
 IsTied rows d = d.items ≡ items_of rows d.row
@@ -45,14 +45,13 @@ module _ (rows : List Row) (page : GuestPage) (old : Row) (rise : InPageOrder ro
   tied_joined row number dups alone at is tied = All-map (IsTied (change_row page (λ _. row) rows)) _ dups
       (λ k e lt. grind (arith, unlike, items_joined, items_left))
 
-  -- a page whose row is not merged is an item of none
-  absent_in : (number : ℕ) (dups : List Dup) (o : Option Dup) → merged_state old.state ≡ false → AreTied rows dups → dup_of number dups ≡ o → has_item page (items_in o) ≡ false
-  absent_in number dups None alone tied is = refl
-  absent_in number dups (Some d) alone tied is = grind (arith, find_all _ (IsTied rows) _ d is tied, not_item)
-
   -- a page whose row is not merged is an item of no dup
   pub tied_absent : (number : ℕ) (dups : List Dup) → merged_state old.state ≡ false → AreTied rows dups → has_item page (items_numbered number dups) ≡ false
-  tied_absent number dups alone tied = grind (arith, absent_in)
+  tied_absent number dups alone tied = by (dup_of number dups) refl
+    where
+      by : (o : Option Dup) → dup_of number dups ≡ o → has_item page (items_in o) ≡ false
+      by None is = refl
+      by (Some d) is = grind (arith, find_all _ (IsTied rows) _ d is tied, not_item)
 
 -- a dup with a number has as many items as there are rows merged into it
 pub tied_count : (rows : List Row) (dups : List Dup) (number : ℕ) (d : Dup) → AreTied rows dups → dup_of number dups ≡ Some d → length (items_numbered number dups) ≡ item_count rows d.row

@@ -1,31 +1,29 @@
 -- The waiting pages beside the rows that wait: what a look-up tells, and what a change of rows does.
-use Rattle.ksm_tree.proofs.Names.{[], All, AreWaiting, arith, Bool, bytes_eq-Decides, cases_Bool, change_row, change_rows, comes_before, each_at_page, false, filter, find-append, find_all}
-use Rattle.ksm_tree.proofs.Names.{find_nothing, get_or, GuestPage, if◌then◌else◌, inl, InPageOrder, inr, is_some, IsAdded, IsAlike, IsStopped, Knobs, List, map, names, nat_tests, None, not, Option}
-use Rattle.ksm_tree.proofs.Names.{option_and_then, option_map, partner, refl, Row, row_at, same_page, same_page_eq, same_page_refl, Some, suc, tree_of, true, Waiting, waiting_page, waiting_state}
-use Rattle.ksm_tree.proofs.Names.{WaitingPage, waits_there, with_row, without_page, ℕ, ◌&&◌, ◌∙◌, ◌∷◌, ◌≡◌}
+use Rattle.ksm_tree.proofs.Names.{All, AreWaiting, arith, Bool, bytes_eq-Decides, cases_Bool, change_row, change_rows, comes_before, each_at_page, false, filter, find-append, find_all, find_nothing}
+use Rattle.ksm_tree.proofs.Names.{GuestPage, if◌then◌else◌, inl, InPageOrder, inr, IsAdded, IsAlike, IsStopped, Knobs, List, map, names, nat_tests, None, not, Option, option_and_then, option_map}
+use Rattle.ksm_tree.proofs.Names.{partner, refl, Row, row_at, same_page, same_page_refl, Some, suc, tree_of, true, Waiting, waiting_page, waiting_state, WaitingPage, waits_there, with_row}
+use Rattle.ksm_tree.proofs.Names.{without_page, ℕ, [], ◌&&◌, ◌∙◌, ◌∷◌, ◌≡◌}
 use Rattle.ksm_base.specs.Visit.{waits_for}
 use Rattle.ksm_tree.proofs.Alike.{find_alike}
-use Rattle.ksm_tree.proofs.Keys.{eq_bytes}
+use Rattle.ksm_tree.proofs.Rows.{eq_bytes}
 
 -- ---------------------------------------------------------------- the row of a page after a change
 
+at_written : (row : Row) (q : GuestPage) (rows : List Row) → row_at q (change_row row.page (λ _. row) rows) ≡ (if same_page row.page q then option_map (λ _. row) (row_at q rows) else row_at q rows)
+at_written row q [] = grind arith
+at_written row q (r ∷ rs) = grind (arith, at_written row q rs)
+
 -- a write of the row of one page leaves the rows of other pages as they were
 pub at_others : (row : Row) (q : GuestPage) (rows : List Row) → same_page row.page q ≡ false → row_at q (change_row row.page (λ _. row) rows) ≡ row_at q rows
-at_others row q [] other = refl
-at_others row q (r ∷ rs) other = grind (arith, nat_tests, at_others row q rs other)
-
-at_page : (row : Row) (rows : List Row) → row_at row.page (change_row row.page (λ _. row) rows) ≡ (if is_some (row_at row.page rows) then Some row else None)
-at_page row [] = refl
-at_page row (r ∷ rs) = grind (arith, at_page row rs)
+at_others row q rows other = grind (arith, at_written)
 
 at_changed : (row : Row) {old : Row} (rows : List Row) → row_at row.page rows ≡ Some old → (q : GuestPage) → row_at q (change_row row.page (λ _. row) rows) ≡ (if same_page row.page q then Some row else row_at q rows)
-at_changed row rows found q =
-    grind (arith, at_page row rows, at_others row q rows, same_page_eq row.page q)
+at_changed row rows found q = grind (arith, at_written)
 
 -- a choice of rows by page
 at_chosen : (by : GuestPage → Bool) (q : GuestPage) (rows : List Row) → row_at q (filter (λ r. by r.page) rows) ≡ (if by q then row_at q rows else None)
 at_chosen by q [] = grind arith
-at_chosen by q (r ∷ rs) = grind (arith, nat_tests, at_chosen by q rs)
+at_chosen by q (r ∷ rs) = grind (arith, at_chosen by q rs)
 
 at_without : (page q : GuestPage) (rows : List Row) → row_at q (without_page page rows) ≡ (if same_page page q then None else row_at q rows)
 at_without page q rows = at_chosen _ q rows ∙ grind arith
@@ -35,7 +33,7 @@ pub at_inserted : (row : Row) (rows : List Row) (q : GuestPage)
     → row_at q (with_row row rows) ≡ (if same_page row.page q then Some row else row_at q rows)
 at_inserted row rows q =
     find-append _ (filter (λ r. comes_before r.page row.page) rows) _
-    ∙ grind (arith, nat_tests, at_chosen (λ p. comes_before p row.page) q rows, at_chosen (comes_before row.page) q)
+    ∙ grind (arith, at_chosen (λ p. comes_before p row.page) q rows, at_chosen (comes_before row.page) q)
 
 -- a change that keeps each row's page finds at a page the changed row that was found there
 pub at_mapped : (f : Row → Row) (q : GuestPage) (rows : List Row) → All (λ r. (f r).page ≡ r.page) rows → row_at q (map f rows) ≡ option_map f (row_at q rows)
@@ -48,17 +46,16 @@ at_mapped f q (r ∷ rs) keeps =
 -- a page that a look-up of a tree and bytes finds has a row that waits there
 pub look_up_found : (knobs : Knobs) (rows : List Row) (w : List WaitingPage) (t : ℕ) (b : List ℕ) (page : GuestPage) → AreWaiting knobs rows w
     → waiting_page t b w ≡ Some page → waits_there knobs t b (row_at page rows) ≡ true
-look_up_found knobs rows w t b page are is = grind (arith, nat_tests, are)
+look_up_found knobs rows w t b page are is = grind (arith, are)
 
 -- a look-up of a row's tree and bytes finds the row's own page exactly where the row waits
 pub own_found : (knobs : Knobs) (rows : List Row) (w : List WaitingPage) (row : Row) → row_at row.page rows ≡ Some row → AreWaiting knobs rows w
     → names row.page (waiting_page (tree_of knobs row) row.bytes w) ≡ waiting_state row.state
-own_found knobs rows w row found are =
-    grind (arith, nat_tests, are, (bytes_eq-Decides row.bytes row.bytes).1 refl)
+own_found knobs rows w row found are = grind (arith, bytes_eq-Decides)
 
 -- another row waits for a row where it is a waiting row of its tree and bytes
 waits_apart : (knobs : Knobs) (row r : Row) → waits_for knobs row r ≡ (waits_there knobs (tree_of knobs row) row.bytes (Some r) && not (same_page r.page row.page))
-waits_apart knobs row r = grind (arith, nat_tests, eq_bytes r.bytes row.bytes)
+waits_apart knobs row r = grind (arith, eq_bytes r.bytes row.bytes)
 
 module _ (knobs : Knobs) (rows : List Row) (w : List WaitingPage) (row : Row) (rise : InPageOrder rows) (are : AreWaiting knobs rows w) where
   abbrev looked_up : Option GuestPage
@@ -66,9 +63,7 @@ module _ (knobs : Knobs) (rows : List Row) (w : List WaitingPage) (row : Row) (r
 
   -- each row waits for the row where it is named, and another
   each_waits : {o : Option GuestPage} → looked_up ≡ o → All (λ r. waits_for knobs row r ≡ (names r.page o && not (same_page r.page row.page))) rows
-  each_waits {o} is k d lt =
-      let r = get_or rows k d in
-      waits_apart knobs row r ∙ grind (arith, each_at_page _ rise k d lt, are (tree_of knobs row) row.bytes r.page)
+  each_waits {o} is k d lt = grind (arith, waits_apart, each_at_page)
 
   -- a look-up of a row's tree and bytes finds its partner, but where it finds the row itself
   pub partner_found : partner knobs rows row ≡ option_and_then (λ page. if same_page page row.page then None else row_at page rows) looked_up
@@ -78,27 +73,27 @@ module _ (knobs : Knobs) (rows : List Row) (w : List WaitingPage) (row : Row) (r
       go None is = find_nothing _ _ (each_waits is)
       go (Some page) is =
           elim (cases_Bool (same_page page row.page)) [
-            | inl own ↦ rw own (find_nothing _ _ (λ k d lt. each_waits is k d lt ∙ grind (arith, nat_tests)))
+            | inl own ↦ rw own (find_nothing _ _ (λ k d lt. each_waits is k d lt ∙ grind arith))
             | inr other ↦ rw other (find_alike _ _ _ (λ k d lt. each_waits is k d lt ∙ grind (arith, nat_tests)))
           ]
 
 -- ---------------------------------------------------------------- one row, or all
 
 alike_waits : (knobs : Knobs) (t : ℕ) (b : List ℕ) (old new : Row) → IsAlike old new → waits_there knobs t b (Some new) ≡ waits_there knobs t b (Some old)
-alike_waits knobs t b old new alike = grind (arith, nat_tests)
+alike_waits knobs t b old new alike = grind arith
 
 module _ (knobs : Knobs) (rows : List Row) (w : List WaitingPage) (are : AreWaiting knobs rows w) where
   -- the waiting pages are those of the rows, once the row of a page is gone and the page has stopped waiting
   pub row_dropped : (new : List WaitingPage) (page : GuestPage) (old : Row) → row_at page rows ≡ Some old
       → IsStopped knobs old w new → AreWaiting knobs (without_page page rows) new
   row_dropped new page old found stopped t b q =
-      grind (arith, nat_tests, at_without page q rows, stopped t b, are t b q, are t b page)
+      grind (arith, at_without page q rows, are t b page)
 
   -- the waiting pages are those of the rows, once a row waits no more and its page has stopped
   pub row_stopped : (new : List WaitingPage) (row old : Row) → row_at row.page rows ≡ Some old → waiting_state row.state ≡ false → IsStopped knobs old w new
       → AreWaiting knobs (change_row row.page (λ _. row) rows) new
   row_stopped new row old found still stopped t b q =
-      grind (arith, nat_tests, at_changed row rows found q, stopped t b, are t b q, are t b row.page)
+      grind (arith, nat_tests, at_changed row rows found q, are t b row.page)
 
   -- the waiting pages are those of the rows, once a row waits that did not and its page was added
   pub row_begun : (new : List WaitingPage) (row old : Row) → row_at row.page rows ≡ Some old → waiting_state old.state ≡ false → row.state ≡ Waiting
@@ -106,24 +101,24 @@ module _ (knobs : Knobs) (rows : List Row) (w : List WaitingPage) (are : AreWait
   row_begun new row old found still waits none added t b q =
       let bytes = (bytes_eq-Decides b row.bytes).0 in
       let changed = at_changed row rows found q in
-      grind (arith, nat_tests, changed, added t b, bytes, same_page_refl row.page, are t b q, are t b row.page)
+      grind (arith, nat_tests, same_page_refl row.page, are t b q, are t b row.page)
 
   -- a new row that does not wait changes no waiting page
   pub row_inserted : (row : Row) → row_at row.page rows ≡ None → waiting_state row.state ≡ false → AreWaiting knobs (with_row row rows) w
-  row_inserted row absent still t b q = grind (arith, nat_tests, at_inserted row rows q, are t b q, are t b row.page)
+  row_inserted row absent still t b q = grind (arith, at_inserted)
 
   -- a row that changes into one that waits alike changes no waiting page
   pub row_kept : (row old : Row) → row_at row.page rows ≡ Some old → IsAlike old row → AreWaiting knobs (change_row row.page (λ _. row) rows) w
   row_kept row old found alike t b q =
       let same = alike_waits knobs t b old row alike in
-      grind (arith, nat_tests, at_changed row rows found q, are t b q, are t b row.page, same)
+      grind (arith, nat_tests, at_changed row rows found q, are t b row.page, same)
 
   -- where each row changes into one that waits alike, no waiting page changes
   pub rows_mapped : (f : Row → Row) → All (λ r. IsAlike r (f r)) rows → AreWaiting knobs (map f rows) w
   rows_mapped f alike t b q =
       let each = λ (r : Row) (found : row_at q rows ≡ Some r). find_all (λ s. same_page s.page q)
       (λ s. IsAlike s (f s)) _ r found alike in
-      grind (arith, are t b q, each, alike_waits, at_mapped f q rows (λ k d lt. (alike k d lt).0))
+      grind (arith, are t b q, at_mapped f q rows (λ k d lt. (alike k d lt).0))
 
   -- where some rows change, each into one that waits alike, no waiting page changes
   pub rows_changed : (test : Row → Bool) (f : Row → Row) → All (λ r. test r ≡ true → IsAlike r (f r)) rows → AreWaiting knobs (change_rows test f rows) w

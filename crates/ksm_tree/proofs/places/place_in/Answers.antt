@@ -1,5 +1,5 @@
-use Rattle.ksm_tree.proofs.Names.{all_counted, ap, arith, counted_here, get_or_from_slice_get, IsPartitionPoint-from_clause, length, nat_lt, option_copied, parted, point_is_count, rules}
-use Rattle.ksm_tree.proofs.Names.{slice_get_within, Some, sym, ◌-◌, ◌==◌, ◌∙◌, nat_tests}
+use Rattle.ksm_tree.proofs.Names.{all_counted, ap, arith, counted_here, get_or_from_slice_get, IsPartitionPoint-from_clause, length, nat_lt, nat_tests, option_copied, parted, point_is_count, rules}
+use Rattle.ksm_tree.proofs.Names.{slice_get_within, Some, sym, ◌-◌, ◌==◌, ◌∙◌}
 use Rattle.ksm_tree.proofs.Numbers.{places_ordered}
 use Rattle.ksm_tree.proofs.places.place_in.Goals as goal
 

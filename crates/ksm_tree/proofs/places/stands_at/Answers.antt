@@ -1,4 +1,4 @@
-use Rattle.ksm_tree.proofs.Names.{absent_past, any_found, found_by, le-ltb, refl, sym, ◌∙◌, arith}
+use Rattle.ksm_tree.proofs.Names.{absent_past, any_found, arith, found_by, le-ltb, refl, sym, ◌∙◌}
 use Rattle.ksm_tree.proofs.Numbers.{places_ordered}
 use Rattle.ksm_tree.proofs.places.stands_at.Goals as goal
 

@@ -1,15 +1,9 @@
-use Rattle.ksm_tree.proofs.Names.{arith, get_or_default, length, ◌%◌, ◌<◌, length-set}
-use Rattle.ksm_tree.proofs.NumberBits.{marks_more, stay_more}
+use Rattle.ksm_tree.proofs.Names.{arith, bit_at_set_same, get_or_default, length-set, nat_tests, w64}
+use Rattle.ksm_tree.proofs.NumberBits.{marks_more, summed_put}
 use Rattle.ksm_tree.proofs.bits.WordsBits.add.Goals as goal
 
 pub invariant_of-self : goal.invariant_of-self
-invariant_of-self g c =
-    let within : c.word_of-at.result < length c.self.inside.words.items = grind arith in
-    grind (
-      arith,
-      get_or_default,
-      stay_more c.self.invariant (c.args.number % 64) within (omega arith) c.if-this-gt1.true c.add.ensures,
-    )
+invariant_of-self g c = grind (arith, nat_tests, get_or_default, length-set, summed_put, bit_at_set_same w64)
 
 pub invariant_of-self-else-this-gt1 : goal.invariant_of-self-else-this-gt1
 invariant_of-self-else-this-gt1 g c = grind (arith, length-set)

@@ -1,4 +1,4 @@
-use Rattle.ksm_tree.proofs.Names.{sym}
+use Rattle.ksm_tree.proofs.Names.{arith, sym}
 use Rattle.ksm_tree.proofs.Indexed.{group_absent}
 use Rattle.ksm_tree.proofs.Joining.{none_best}
 use Rattle.ksm_tree.proofs.dups.Dups.best.Goals as goal
@@ -6,4 +6,4 @@ use Rattle.ksm_tree.proofs.dups.Dups.best.Goals as goal
 pub returns-in_err-group-clause-best : goal.returns-in_err-group-clause-best
 returns-in_err-group-clause-best c =
     let none = group_absent c.self.invariant _ _ (sym c.in_err-group.ensures) in
-    rw (← c.self.view_is, ← none_best _ _ c.args.limit _ c.self.invariant.lawful.in_place_order none) c.from_residual.ensures
+    grind (arith, none_best _ _ c.args.limit _ c.self.invariant.lawful.in_place_order none)

@@ -1,4 +1,4 @@
-use Rattle.ksm_tree.proofs.Names.{[], ap, arith, content_in, found_at, length, List, nat_tests, number_of, option_map, refl, sym, true, ℕ, ◌==◌, ◌∙◌, ◌∷◌, ◌≡◌, rules}
+use Rattle.ksm_tree.proofs.Names.{ap, arith, content_in, found_at, length, List, option_map, refl, rules, sym, true, ℕ, [], ◌==◌, ◌∙◌, ◌∷◌, ◌≡◌}
 use Rattle.ksm_tree.proofs.Indexed.{content_here, group_here}
 use Rattle.ksm_tree.proofs.Joining.{none_best}
 use Rattle.ksm_tree.proofs.Standing.{not_unused, stands_under}
@@ -7,17 +7,16 @@ use Rattle.ksm_tree.proofs.dups.Dups.best_of.Goals as goal
 -- a list of length 0
 none_of : (xs : List ℕ) → true ≡ (length xs == 0) → [] ≡ xs
 none_of [] none = refl
-none_of (x ∷ xs) none = grind (arith, nat_tests)
+none_of (x ∷ xs) none = grind arith
 
 pub returns-in_err-found-clause-best : goal.returns-in_err-found-clause-best
 returns-in_err-found-clause-best c tree bytes is = search (rules, stands_under)
 
 pub returns-then-is_empty-clause-best : goal.returns-then-is_empty-clause-best
-returns-then-is_empty-clause-best c tree bytes is =
-    let s = c.self.inside in
-    let chain = group_here c.self.invariant _ _ (ap (λ s. number_of tree bytes s.numbers) c.self.view_is ∙ is) c.in_ok-found.ensures in
-    let none = none_of _ c.if-is_empty.ensures ∙ c.as_slice-chain.ensures ∙ chain in
-    rw (← c.self.view_is) (ap (option_map found_at) (none_best _ _ _ _ c.self.invariant.lawful.in_place_order none))
+returns-then-is_empty-clause-best c = rw (← c.self.view_is) (λ tree bytes is.
+    let none = none_of _ c.if-is_empty.ensures ∙ c.as_slice-chain.ensures ∙ group_here c.self.invariant _ _ is
+    c.in_ok-found.ensures in
+    ap (option_map found_at) (none_best _ _ _ _ c.self.invariant.lawful.in_place_order none))
 
 pub best_in-requires : goal.best_in-requires
 best_in-requires c =
@@ -27,11 +26,9 @@ best_in-requires c =
     rw (← c.self.view_is) (c.as_slice-chain.ensures ∙ group_here c.self.invariant _ _ own c.in_ok-found.ensures)
 
 pub returns-clause-best : goal.returns-clause-best
-returns-clause-best c tree bytes is =
-    let s = c.self.inside in
-    let one = content_here c.self.invariant _ _ (ap (λ s. number_of tree bytes s.numbers) c.self.view_is ∙ is) c.in_ok-found.ensures in
-    grind (arith, c.best_in.ensures, one)
+returns-clause-best c = rw (← c.self.view_is)
+    (λ tree bytes is. grind (arith, c.best_in.ensures, content_here c.self.invariant _ _ is c.in_ok-found.ensures))
 
 pub returns-clause-none : goal.returns-clause-none
-returns-clause-none c unused =
-    absurd (not_unused c.self.inside.index.groups _ c.in_ok-found.ensures (rw (ap (λ v. v.numbers) c.self.view_is) unused))
+returns-clause-none c = rw (← c.self.view_is)
+    (λ unused. absurd (not_unused c.self.inside.index.groups _ c.in_ok-found.ensures unused))

@@ -1,12 +1,12 @@
-use Rattle.ksm_tree.proofs.Names.{[], AreIndexed, ap, arith, Dup, dups_seen, refl, SameWaits, with_item, ℕ, ◌<◌, ◌∙◌, ◌∷◌, ◌≡◌, rules}
-use Rattle.ksm_tree.proofs.Indexed.{led_indexed, room_indexed, told}
-use Rattle.ksm_tree.proofs.Made.{fresh_indexed, seen_made, taken_indexed, next_unused, told_between}
+use Rattle.ksm_tree.proofs.Names.{ap, AreIndexed, arith, Dup, dups_seen, find_nothing, refl, rules, with_item, ℕ, [], ◌<◌, ◌∙◌, ◌∷◌, ◌≡◌}
+use Rattle.ksm_tree.proofs.Indexed.{room_indexed, told}
+use Rattle.ksm_tree.proofs.Made.{fresh_indexed, seen_made, taken_indexed, told_between}
 use Rattle.ksm_tree.proofs.dups.Dups.found.Goals as goal
-use Rattle.ksm_tree.proofs.dups.Dups.found.Goals.{After-reserve, in-Some, in-None}
+use Rattle.ksm_tree.proofs.dups.Dups.found.Goals.{After-reserve, in-None, in-Some}
 
 -- the dups are found and counted by the index as before, with room for one more
 roomy : (c : After-reserve) → AreIndexed c.reserve.new.self c.self.inside.next c.self.inside.index
-roomy c = room_indexed c.reserve.ensures.kept c.self.invariant
+roomy c = room_indexed c.self.invariant c.reserve.ensures.kept
 
 seen : (c : After-reserve) → dups_seen c.reserve.new.self c.self.inside.next c.self.inside.index ≡ c.args.self.now
 seen c = ap (λ s. dups_seen s c.self.inside.next c.self.inside.index) c.reserve.ensures.kept ∙ c.self.view_is
@@ -18,10 +18,10 @@ pub invariant_of-self : goal.invariant_of-self
 invariant_of-self c = search (rules, roomy)
 
 pub invariant_of-self-in_err-add : goal.invariant_of-self-in_err-add
-invariant_of-self-in_err-add c = search (rules, led_indexed, roomy)
+invariant_of-self-in_err-add c = grind (arith, roomy)
 
 pub add-requires-clause-fresh : goal.add-requires-clause-fresh
-add-requires-clause-fresh c = search (rules, next_unused, roomy)
+add-requires-clause-fresh c = grind (arith, find_nothing, roomy)
 
 pub add-requires-clause-counted : goal.add-requires-clause-counted
 add-requires-clause-counted c = search (rules, told)
@@ -36,21 +36,21 @@ pub invariant_of-self-2 : goal.invariant_of-self-2
 invariant_of-self-2 c =
     let here = (goal.at.invariant_of-self-2 c).After-reserve in
     elim c.match-old.branch [
-      | in-Some w ↦ rw (c.put.ensures, w.self-inside-is) (taken_indexed _ _ (roomy here) refl (within here) _ _ w.in-Some.ensures c.in_ok-add.ensures.entered w.replace.ensures.numbers w.replace.ensures.groups w.replace.ensures.totals)
+      | in-Some w ↦ rw (c.put.ensures, w.self-inside-is)
+          (taken_indexed _ _ (roomy here) refl (within here) _ w.in-Some.ensures c.in_ok-add.ensures.entered _
+          w.replace.ensures.numbers w.replace.ensures.groups w.replace.ensures.totals)
       | in-None w ↦ rw (c.put.ensures, w.self-inside-is) (fresh_indexed _ _ (roomy here) refl (within here) _ w.in-None.ensures c.in_ok-add.ensures.entered)
     ]
 
 pub returns-clause-made : goal.returns-clause-made
 returns-clause-made c =
-    let s = c.reserve.new.self in
-    let next = c.self.inside.next in
-    let index = c.self.inside.index in
-    let seen = seen (goal.at.returns-clause-made c).After-reserve in
+    let view = seen (goal.at.returns-clause-made c).After-reserve in
     let dup : ℕ → Dup = λ n. record { row = record { number = n; place = c.args.place; tree = c.args.tree; bytes = c.args.bytes.now }; items = with_item c.args.second (c.args.first ∷ []) } in
-    elim c.match-old.branch [
-      | in-Some w ↦
-          let waits : SameWaits index.groups w.replace.new.self.groups =
-          (record { waiting = w.replace.ensures.waits.waiting ∙ c.add.ensures.waits.waiting; numbers = w.replace.ensures.waits.numbers ∙ c.add.ensures.waits.numbers; most = w.replace.ensures.waits.most ∙ c.add.ensures.waits.most }) in
-          c.keep_open.ensures ∙ rw (c.put.ensures, w.self-inside-is, c.in_ok-items.ensures.both) (seen_made s next index w.replace.new.self dup c.put.new.self.ready seen waits)
-      | in-None w ↦ c.keep_open.ensures ∙ rw (c.put.ensures, w.self-inside-is, c.in_ok-items.ensures.both) (seen_made s next index c.add.new.self dup c.put.new.self.ready seen c.add.ensures.waits)
+    c.keep_open.ensures ∙ elim c.match-old.branch [
+      | in-Some w ↦ rw (c.put.ensures, w.self-inside-is, c.in_ok-items.ensures.both)
+          (seen_made c.reserve.new.self c.self.inside.next c.self.inside.index w.replace.new.self dup
+          c.put.new.self.ready view (grind arith))
+      | in-None w ↦ rw (c.put.ensures, w.self-inside-is, c.in_ok-items.ensures.both)
+          (seen_made c.reserve.new.self c.self.inside.next c.self.inside.index c.add.new.self dup
+          c.put.new.self.ready view c.add.ensures.waits)
     ]

@@ -1,6 +1,6 @@
-use Rattle.ksm_tree.proofs.Names.{All, AllPass-from_list_all, ap, arith, Bool, content_in, false, false≢true, get_or, is_open, not, number_of, refl, sym, true, ◌<◌, ◌∙◌, ◌≡◌}
+use Rattle.ksm_tree.proofs.Names.{All, AllPass-from_list_all, ap, arith, content_in, get_or, is_open, not, sym, true, ◌<◌, ◌∙◌}
 use Rattle.ksm_tree.proofs.Indexed.{group_here}
-use Rattle.ksm_tree.proofs.Joining.{closed_best, places_within}
+use Rattle.ksm_tree.proofs.Joining.{candidates_within, closed_best}
 use Rattle.ksm_tree.proofs.dups.Dups.is_closed.Goals as goal
 
 pub none_open-requires : goal.none_open-requires
@@ -10,21 +10,16 @@ none_open-requires c k d within =
     let own = (s.index.groups.lawful.numbered g.content c.args.group).1 (ap content_in (sym c.in-Some.ensures)) in
     let chain = c.as_slice-chain.ensures ∙ group_here c.self.invariant _ _ own c.in-Some.ensures in
     let below : All (λ p. p < s.slots.places) c.as_slice-chain.result.now =
-    rw chain (places_within _ _ _ _ c.self.invariant.lawful.places_below) in
+    candidates_within _ _ c.args.limit s.slots.dups _ true chain _ c.self.invariant.lawful.places_below in
     omega (arith, below k d within, c.counts.ensures.places)
 
-not_open : (b : Bool) → not b ≡ true → b ≡ false
-not_open true h = absurd (false≢true h)
-not_open false h = refl
-
 pub returns-then-chain-le-SHORT_CHAIN : goal.returns-then-chain-le-SHORT_CHAIN
-returns-then-chain-le-SHORT_CHAIN c closed t b is =
+returns-then-chain-le-SHORT_CHAIN c closed = rw (← c.self.view_is) (λ t b is.
     let s = c.self.inside in
-    let limit = c.args.limit in
     let counts = c.counts.result.now in
     let places = c.as_slice-chain.result.now in
-    let chain = c.as_slice-chain.ensures
-    ∙ group_here c.self.invariant t b (ap (λ v. number_of t b v.numbers) c.self.view_is ∙ is) c.in-Some.ensures in
-    let each = AllPass-from_list_all (λ p. not (is_open limit (get_or counts p 0))) places (sym c.none_open.ensures ∙ closed) in
-    rw (← c.self.view_is) (closed_best t b limit s.slots.dups c.self.invariant.lawful.in_place_order chain
-    (λ k d lt. grind (arith, c.counts.ensures.each (get_or places k d), each k d lt)))
+    let chain = c.as_slice-chain.ensures ∙ group_here c.self.invariant t b is c.in-Some.ensures in
+    let each = AllPass-from_list_all (λ p. not (is_open c.args.limit (get_or counts p 0))) places
+    (sym c.none_open.ensures ∙ closed) in
+    closed_best t b c.args.limit s.slots.dups c.self.invariant.lawful.in_place_order chain
+    (λ k d lt. grind (arith, c.counts.ensures.each (get_or places k d))))

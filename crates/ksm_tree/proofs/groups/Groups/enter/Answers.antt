@@ -1,8 +1,7 @@
-use Rattle.ksm_tree.proofs.Names.{ap, content_of, get, Group, refl, rules, Some, subst, sym, ◌∙◌, ◌≡◌}
+use Rattle.ksm_tree.proofs.Names.{ap, arith, content_of, get, Group, refl, rules, Some, subst, sym, ℕ, ◌∙◌, ◌≡◌}
 use Rattle.slab.specs.Slab.{Updates as Fills}
 use Rattle.ksm_tree.proofs.Numbers.{on_err}
-use Rattle.ksm_tree.proofs.Standing.{Entered, entered_fresh, none_here}
-use Rattle.ksm_tree.proofs.Used.{one_more}
+use Rattle.ksm_tree.proofs.Standing.{came, Keeps, none_here, one_more}
 use Rattle.ksm_tree.proofs.groups.Groups.enter.Goals as goal
 use Rattle.ksm_tree.proofs.groups.Groups.enter.Goals.{After-insert_reserved}
 
@@ -15,15 +14,20 @@ returns-in_default-clause-absent c = search (rules, none_here)
 pub returns-in_err-insert-clause-absent : goal.returns-in_err-insert-clause-absent
 returns-in_err-insert-clause-absent c = search (rules, on_err, none_here)
 
-entered : (c : After-insert_reserved) → Entered c.args.self.now c.insert_reserved.new.self c.insert.new.self
+entered : (c : After-insert_reserved) → Keeps c.args.self.now c.insert_reserved.new.self c.insert.new.self
 entered c =
+    let g = c.args.self.now in
     let k = content_of c.args.tree c.args.bytes.now in
     let fresh : Group = record { content = k; page = record { guest = 0; page = 0 }; pass = 0; places = c.new.result } in
     let key : c.insert_reserved.result ≡ c.in-Ok.number = search rules in
-    let vacant = ap (λ n. get c.reserve_one.new.slab n) (sym key) ∙ c.insert_reserved.ensures.was_vacant in
+    let room = λ (n : ℕ). ap (λ s. get s n) c.reserve_one.ensures.rest in
+    let vacant = sym (room c.in-Ok.number) ∙ ap (get c.reserve_one.new.slab) (sym key) ∙
+    c.insert_reserved.ensures.was_vacant in
     let fills = subst (λ n. Fills c.reserve_one.new.slab c.insert_reserved.new.self n (Some fresh)) key c.insert_reserved.ensures.updates in
-    entered_fresh _ _ _ c.reserve_one.ensures.rest c.requires vacant
-    c.in_ok-insert.ensures.updates fills refl refl c.new.ensures.none
+    came g _ k c.in_ok-insert.ensures.updates
+        (record { changed = fills.changed; others = λ n apart. fills.others n apart ∙ room n })
+    (rw vacant (refl, refl)) (c.new.ensures.none, grind (arith, g.lawful.begun)) c.requires vacant refl refl
+    (grind arith)
 
 pub invariant_of-self-2 : goal.invariant_of-self-2
 invariant_of-self-2 c = record { lawful = (entered (goal.at.invariant_of-self-2 c).After-insert_reserved).lawful; bounded = c.args.self.now.bounded }

@@ -4,9 +4,8 @@ use Rattle.ksm_tree.proofs.groups.Groups.remove.Goals as goal
 
 pub invariant_of-self : goal.invariant_of-self
 invariant_of-self c =
-    let s = c.args.self.now in
-    let stood = c.in-Some-get_mut.ensures.value in
-    record { lawful = rewritten s _ _ _ stood refl (s.lawful.passes _ _ (sym stood)); bounded = s.bounded }
+    record { lawful = rewritten c.args.self.now _ _ _ c.in-Some-get_mut.ensures.value refl (λ same. same);
+        bounded = c.args.self.now.bounded }
 
 pub returns-in-Some-get_mut-clause-removed : goal.returns-in-Some-get_mut-clause-removed
 returns-in-Some-get_mut-clause-removed c =
@@ -15,5 +14,4 @@ returns-in-Some-get_mut-clause-removed c =
 
 pub returns-in-Some-get_mut-clause-waits : goal.returns-in-Some-get_mut-clause-waits
 returns-in-Some-get_mut-clause-waits c =
-    let stood = c.in-Some-get_mut.ensures.value in
-    record { waiting = same_waiting c.args.self.now _ _ _ stood refl refl; numbers = refl; most = refl }
+    record { waiting = same_waiting c.args.self.now _ _ _ c.in-Some-get_mut.ensures.value refl refl; numbers = refl; most = refl }

@@ -1,5 +1,5 @@
 use Rattle.ksm_tree.proofs.Names.{arith, Group, refl, rules, sym}
-use Rattle.ksm_tree.proofs.Standing.{none_removed, page_still, repaged, rewritten, stands_under}
+use Rattle.ksm_tree.proofs.Standing.{is_one, repaged, rewritten, stands_under, waiting_found}
 use Rattle.ksm_tree.proofs.groups.Groups.stop_waiting.Goals as goal
 
 pub invariant_of-self : goal.invariant_of-self
@@ -9,11 +9,13 @@ invariant_of-self c =
 pub returns-in-Some-get_mut-clause-removed : goal.returns-in-Some-get_mut-clause-removed
 returns-in-Some-get_mut-clause-removed c t b =
     let now : Group = record c.in-Some-get_mut.group.now { pass = 0 } in
-    rw (← page_still now c.args.self.now.pass (λ e. omega arith))
-    (repaged c.args.self.now _ _ now c.in-Some-get_mut.ensures.value refl (omega arith) _ _ (sym c.in-Some.ensures) t b)
+    grind (arith, repaged c.args.self.now _ _ now c.in-Some-get_mut.ensures.value refl (λ same. omega arith) _ _
+    (sym c.in-Some.ensures) t b)
 
 pub returns-in_default-get_mut-clause-removed : goal.returns-in_default-get_mut-clause-removed
 returns-in_default-get_mut-clause-removed c = search (rules, stands_under)
 
 pub returns-in_default-clause-removed : goal.returns-in_default-clause-removed
-returns-in_default-clause-removed c = search (rules, none_removed)
+returns-in_default-clause-removed c t b =
+    let s = c.args.self.now in
+    grind (arith, waiting_found s.lawful t b, is_one t c.args.tree b c.args.bytes.now)

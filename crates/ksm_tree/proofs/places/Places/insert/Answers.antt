@@ -1,5 +1,5 @@
-use Rattle.ksm_tree.proofs.Names.{insert_at, none_found, refl, sym, with_found, with_place, with_rises, ◌∙◌, ◌≡◌, arith}
-use Rattle.ksm_tree.proofs.Numbers.{places_ordered, at_ok}
+use Rattle.ksm_tree.proofs.Names.{arith, insert_at, none_found, refl, sym, with_found, with_place, with_rises, ◌∙◌, ◌≡◌}
+use Rattle.ksm_tree.proofs.Numbers.{at_ok, places_ordered}
 use Rattle.ksm_tree.proofs.places.Places.insert.Goals as goal
 use Rattle.ksm_tree.proofs.places.Places.insert.Goals.{After-insert-there_is_room}
 

@@ -1,4 +1,4 @@
-use Rattle.ksm_tree.proofs.Names.{absent_kept, none_found, refl, remove_at, sym, without, without_rises, ◌∙◌, ◌≡◌, arith}
+use Rattle.ksm_tree.proofs.Names.{absent_kept, arith, none_found, refl, remove_at, sym, without, without_rises, ◌∙◌, ◌≡◌}
 use Rattle.ksm_tree.proofs.Numbers.{places_ordered}
 use Rattle.ksm_tree.proofs.places.Places.remove.Goals as goal
 use Rattle.ksm_tree.proofs.places.Places.remove.Goals.{After-remove}

@@ -1,4 +1,4 @@
-use Rattle.ksm_tree.proofs.Names.{nat_tests, ap, arith, get, get_or, kept_at, length, None, ◌<◌, ◌∙◌, ◌≡◌, rules}
+use Rattle.ksm_tree.proofs.Names.{ap, arith, get, get_or, kept_at, length, None, rules, ◌<◌, ◌∙◌, ◌≡◌}
 use Rattle.ksm_tree.proofs.Shelved.{seen_by, seen_past}
 use Rattle.ksm_tree.proofs.shelf.Shelf.at.Goals as goal
 use Rattle.ksm_tree.proofs.shelf.Shelf.at.Goals.{In_ok-key}
@@ -16,12 +16,12 @@ seen c =
 
 pub returns-in_err-kept : goal.returns-in_err-kept
 returns-in_err-kept c =
-    grind (arith, c.from_residual-in_err-kept.ensures, c.in_err-kept.ensures, seen (goal.at.returns-in_err-kept c).In_ok-key)
+    grind (arith, c.from_residual-in_err-kept.ensures, seen (goal.at.returns-in_err-kept c).In_ok-key)
 
 pub returns-then-kept-place : goal.returns-then-kept-place
 returns-then-kept-place c =
-    grind (arith, nat_tests, c.in_ok-kept.ensures, seen (goal.at.returns-then-kept-place c).In_ok-key)
+    grind (arith, c.in_ok-kept.ensures, seen (goal.at.returns-then-kept-place c).In_ok-key)
 
 pub returns-else-kept-place : goal.returns-else-kept-place
 returns-else-kept-place c =
-    grind (arith, nat_tests, c.in_ok-kept.ensures, seen (goal.at.returns-else-kept-place c).In_ok-key)
+    grind (arith, c.in_ok-kept.ensures, seen (goal.at.returns-else-kept-place c).In_ok-key)

@@ -1,4 +1,4 @@
-use Rattle.ksm_tree.proofs.Names.{ap, arith, Kept, length, length-set, None, refl, set, Some, ◌<◌, ◌∙◌, rules}
+use Rattle.ksm_tree.proofs.Names.{ap, arith, Kept, length, length-set, None, refl, rules, set, Some, ◌<◌, ◌∙◌}
 use Rattle.std.proofs.lemmas.List.{set-set}
 use Rattle.ksm_tree.proofs.Shelved.{filled, many}
 use Rattle.ksm_tree.proofs.shelf.Shelf.put.Goals as goal

@@ -1,6 +1,5 @@
-use Rattle.ksm_tree.proofs.Names.{arith}
-use Rattle.ksm_tree.proofs.OneSlot.{count_within, seen_emptied, seen_within, slots_cleared}
-use Rattle.ksm_tree.proofs.PlaceSets.{may_be_marked}
+use Rattle.ksm_tree.proofs.Names.{arith, length-set, None, refl}
+use Rattle.ksm_tree.proofs.OneSlot.{count_within, may_be_marked, seen_within, slot_emptied, slots_set}
 use Rattle.ksm_tree.proofs.slots.Slots.clear.Goals as goal
 
 pub set-requires : goal.set-requires
@@ -15,8 +14,10 @@ add-requires c = grind (arith, may_be_marked, seen_within)
 pub invariant_of-self : goal.invariant_of-self
 invariant_of-self c =
     rw (c.clear.ensures.slots, c.set.ensures)
-    (slots_cleared (seen_within _ c.self.inside.dups c.self.view_is c.self.invariant.placed c.requires)
-    c.self.invariant c.add.ensures c.remove.ensures)
+    (slots_set c.self.invariant _ None (seen_within _ _ c.self.view_is c.self.invariant.placed c.requires) refl tt
+    c.add.ensures c.remove.ensures)
 
 pub returns : goal.returns
-returns c = grind (arith, seen_emptied)
+returns c =
+    let place = c.args.place in
+    grind (arith, length-set, slot_emptied 0 place place c.self.inside.dups.slots (omega arith) c.self.invariant.placed)

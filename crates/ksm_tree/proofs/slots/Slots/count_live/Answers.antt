@@ -1,5 +1,5 @@
 use Rattle.ksm_tree.proofs.Names.{arith}
-use Rattle.ksm_tree.proofs.Counts.{three_kinds}
+use Rattle.ksm_tree.proofs.Opened.{three_kinds}
 use Rattle.ksm_tree.proofs.slots.Slots.count_live.Goals as goal
 
 pub overflow_sub-result : goal.overflow_sub-result

@@ -1,5 +1,5 @@
 use Rattle.ksm_tree.proofs.Names.{arith}
-use Rattle.ksm_tree.proofs.Counts.{stale_slots}
+use Rattle.ksm_tree.proofs.Opened.{stale_slots}
 use Rattle.ksm_tree.proofs.slots.Slots.count_stale.Goals as goal
 
 pub returns : goal.returns

@@ -1,12 +1,18 @@
-use Rattle.ksm_tree.proofs.Names.{refl, arith}
-use Rattle.ksm_tree.proofs.Opened.{none_slots, none_seen}
+use Rattle.ksm_tree.proofs.Names.{arith, ◌∙◌}
+use Rattle.std.proofs.lemmas.List.{length-replicate}
+use Rattle.ksm_tree.proofs.Opened.{none_counted, none_placed, none_present, none_set}
 use Rattle.ksm_tree.proofs.slots.Slots.open.Goals as goal
 
 pub invariant_of-result : goal.invariant_of-result
 invariant_of-result c =
-    rw c.in_ok-open.ensures.empty (none_slots c.args.places c.requires c.in_ok-open-2.ensures.none
-    c.in_ok-full.ensures.wide c.in_ok-full.ensures.all refl
-    c.in_ok-empty.ensures.wide c.in_ok-empty.ensures.none refl)
+    let n = c.args.places in
+    rw c.in_ok-open.ensures.empty (record {
+      few = rw length-replicate c.requires;
+      placed = none_placed 0 n;
+      counted = c.in_ok-open-2.ensures.none ∙ none_counted n;
+      empties = none_set n c.in_ok-full.ensures.wide c.in_ok-full.ensures.all (omega arith);
+      stales = none_set n c.in_ok-empty.ensures.wide (λ p _. c.in_ok-empty.ensures.none p) (omega arith);
+    })
 
 pub returns-clause-opened : goal.returns-clause-opened
-returns-clause-opened c = grind (arith, none_seen)
+returns-clause-opened c = grind (arith, length-replicate, none_present)

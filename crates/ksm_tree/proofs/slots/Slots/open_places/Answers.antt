@@ -1,5 +1,5 @@
 use Rattle.ksm_tree.proofs.Names.{arith}
-use Rattle.ksm_tree.proofs.Openings.{open_seen}
+use Rattle.ksm_tree.proofs.Opened.{open_seen}
 use Rattle.ksm_tree.proofs.slots.Slots.open_places.Goals as goal
 
 pub returns : goal.returns

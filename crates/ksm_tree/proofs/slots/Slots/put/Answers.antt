@@ -1,6 +1,5 @@
-use Rattle.ksm_tree.proofs.Names.{arith}
-use Rattle.ksm_tree.proofs.OneSlot.{seen_put, slots_put}
-use Rattle.ksm_tree.proofs.PlaceSets.{may_be_marked}
+use Rattle.ksm_tree.proofs.Names.{arith, length, length-set, refl, Some, ◌<◌}
+use Rattle.ksm_tree.proofs.OneSlot.{may_be_marked, slot_put, slots_set}
 use Rattle.ksm_tree.proofs.slots.Slots.put.Goals as goal
 
 pub remove-requires : goal.remove-requires
@@ -11,8 +10,12 @@ remove-requires-2 c = grind (arith, may_be_marked)
 
 pub invariant_of-self : goal.invariant_of-self
 invariant_of-self c = rw (c.put.ensures, c.set.ensures)
-    (slots_put _ _ (grind arith) c.len.ensures.count c.requires.live c.self.invariant c.remove.ensures
-    c.remove-2.ensures)
+    (slots_set c.self.invariant _ (Some c.args.dup) (grind arith) c.len.ensures.count (refl, tt) c.remove.ensures
+    (grind (arith, c.remove-2.ensures)))
 
 pub returns : goal.returns
-returns c = grind (arith, seen_put)
+returns c =
+    let place = c.args.dup.row.place in
+    let within : place < length c.self.inside.dups.slots = grind arith in
+    grind (arith, length-set, slot_put 0 place place c.self.inside.dups.slots c.args.dup (omega arith) refl within
+    c.self.invariant.placed)
