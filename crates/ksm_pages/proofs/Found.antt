@@ -1,7 +1,7 @@
 -- Lists in the order of their pages: what a search finds once one came, went or changed.
 use Rattle.ksm_pages.proofs.Names.{[], All, All-cons, AllPairs, ap, arith, Bool, comes_before, cond, false, filter, filter_passes, find, find-append, find_nothing, find_over, get_or, GuestPage}
 use Rattle.ksm_pages.proofs.Names.{if◌then◌else◌, List, map, None, not, pages_ordered, pairs_head, pairs_tail, refl, same_page, same_page_eq, same_page_refl, Some, sym, true, ◌++◌, ◌∙◌, ◌∷◌, ◌≡◌}
-use Rattle.ksm_pages.proofs.Names.{Option, find_passes, option_map, same_page_sym}
+use Rattle.ksm_pages.proofs.Names.{zero, suc, before_irrefl, ◌<◌, arith, Option, find_passes, option_map, same_page_sym}
 use Rattle.ksm_rmap.proofs.Ordered.{absent_parts}
 use Rattle.ksm_tree.proofs.Alike.{find_mapped}
 
@@ -28,6 +28,15 @@ module _ {X : Type 0} (key : X → GuestPage) where
       let z = get_or xs k d in
       let apart = pages_ordered.apart (key x) (key z) (pairs_head Before x _ rise k d lt) in
       ap (λ b. cond b (Some x) (find (is_of_page (key z)) xs)) apart ∙ each_found xs (pairs_tail Before x _ rise) k d lt)
+
+  -- no element that passes a test comes before the one that a search finds first
+  pub first_found : (p : X → Bool) (xs : List X) (x : X) → AllPairs Before xs → find p xs ≡ Some x
+      → All (λ y. p y ≡ true → comes_before (key y) (key x) ≡ false) xs
+  first_found p [] x rise found k d lt = absurd (omega arith)
+  first_found p (y ∷ ys) x rise found zero d lt = grind (arith, before_irrefl)
+  first_found p (y ∷ ys) x rise found (suc k) d lt =
+      let rest = first_found p ys x (pairs_tail Before y ys rise) in
+      grind (arith, rest, pairs_head Before y ys rise k d, pages_ordered.asym)
 
   module _ (page : GuestPage) where
     abbrev low : X → Bool

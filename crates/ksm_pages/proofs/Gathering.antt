@@ -4,6 +4,8 @@ use Rattle.ksm_pages.proofs.Names.{filter, find, find_all, find_none, find_passe
 use Rattle.ksm_pages.proofs.Names.{IsAddedTo, IsUnder, length, List, Listing, Named, named_of, None, not, Option, option_map, pairs_head, pairs_tail, rows_of, rules, same_page_refl, same_Some}
 use Rattle.ksm_pages.proofs.Names.{shared_state, Slab, Some, sym, true, ℕ, ◌&&◌, ◌<◌, ◌∙◌, ◌∷◌, ◌≡◌, ◌≤◌, ◌⊎◌}
 use Rattle.ksm_pages.specs.Paged.{is_restless as may_change}
+use Rattle.ksm_pages.proofs.Names.{one_before, same_page_eq}
+use Rattle.ksm_pages.proofs.Found.{first_found}
 use Rattle.ksm_pages.proofs.Filing.{all_stand, named_under, one_key, under_named}
 use Rattle.ksm_pages.proofs.Listings.{with_has}
 
@@ -26,20 +28,6 @@ filter_fewer p q [] x found out less = cc
 filter_fewer p q (y ∷ ys) x found out less =
     grind (arith, found, out, less y, filter_fewer p q ys x, filter_least p q ys less)
 
--- what a search finds first comes before all others that pass
-first_found : (p : Named → Bool) (order : List Named) (n : Named) → AreAscending order → find p order ≡ Some n → All (λ m. p m ≡ true → (m.page ≡ n.page) ⊎ (comes_before n.page m.page ≡ true)) order
-first_found p [] n rise found = λ k d lt. absurd (omega arith)
-first_found p (y ∷ ys) n rise found =
-    elim (cases_Bool (p y)) [
-      | inl passes ↦
-          let same : y ≡ n = grind arith in
-          All-cons (λ m. p m ≡ true → (m.page ≡ n.page) ⊎ (comes_before n.page m.page ≡ true)) y ys (λ also. inl (λ i. (same i).page))
-          (λ k d lt also. inr ((λ i. comes_before (sym same i).page (get_or ys k d).page) ∙ pairs_head (λ a b. comes_before a.page b.page ≡ true) y ys rise k d lt))
-      | inr fails ↦
-          All-cons (λ m. p m ≡ true → (m.page ≡ n.page) ⊎ (comes_before n.page m.page ≡ true)) y ys (λ also. absurd (grind arith))
-          (first_found p ys n (pairs_tail (λ a b. comes_before a.page b.page ≡ true) y ys rise) (grind arith))
-    ]
-
 module _ (slab : Slab Entry) (order : List Named) (rise : AreAscending order) (filed : AreFiled slab order) where
   module _ (last : Option GuestPage) {n : Named} (found : find (λ m. after_cursor last m.page) order ≡ Some n) where
     -- the next page behind the cursor has an entry under the key that the order names
@@ -52,13 +40,10 @@ module _ (slab : Slab Entry) (order : List Named) (rise : AreAscending order) (f
 
     -- an entry that is not behind it is its own, or was not behind the last
     passed : (key : ℕ) {e : Entry} → get slab key ≡ Some e → comes_before n.page e.page ≡ false → (e.page ≡ n.page) ⊎ (after_cursor last e.page ≡ false)
-    passed key {e} stands not_behind = elim (cases_Bool _) [
-      | inl after ↦
-          let first = find_all (is_of e.page) (λ m. after_cursor last m.page ≡ true → (m.page ≡ n.page) ⊎ (comes_before n.page m.page ≡ true)) order (named_of key e) (named_under slab order filed key e stands)
-          (first_found (λ m. after_cursor last m.page) order n rise found) in
-          grind arith
-      | inr before ↦ inr before
-    ]
+    passed key {e} stands not_behind =
+        let first = find_all (is_of e.page) (λ m. after_cursor last m.page ≡ true → comes_before m.page n.page ≡ false) order (named_of key e) (named_under slab order filed key e stands)
+        (first_found (λ m. m.page) (λ m. after_cursor last m.page) order n rise found) in
+        grind (arith, first, one_before, same_page_eq)
 
     module _ {old new : Listing} (listed : AreListedUpTo slab last old) where
       -- where the next page is added, the pages up to that page are listed that a visit may change

@@ -3,7 +3,7 @@ use Rattle.ksm_pages.proofs.Names.{[], All, AllPairs, ap, ap₂, arith, Bool, bo
 use Rattle.ksm_pages.proofs.Names.{get_or, GuestPage, if◌then◌else◌, IsPartitionedBy, length, length-filter, length-insert, List, map, map-append, None, not, not-true, pages_ordered, refl, rules}
 use Rattle.ksm_pages.proofs.Names.{same_page, set, set-append_seam, suc, sym, true, ℕ, ◌++◌, ◌+◌, ◌<◌, ◌∙◌, ◌∷◌, ◌≡◌, ◌≤◌}
 use Rattle.ksm_rmap.proofs.Ordered.{found_at, found_parts, insert_at, none_same, none_same_low}
-use Rattle.ksm_tree.proofs.Alike.{pairs_mapped}
+use Rattle.ksm_tree.proofs.Alike.{change_none, pairs_mapped}
 
 module _ {X : Type 0} (key : X → GuestPage) where
   abbrev Before : X → X → Type 0
@@ -27,24 +27,9 @@ module _ {X : Type 0} (key : X → GuestPage) where
     parted_behind xs rise i j d le lt later =
         grind (arith, cases_lt, cases_Bool, both_ways, not-true, pages_ordered.trans)
 
-    -- a change of the page leaves a list as it is that does not have the page
-    pub kept_all : (f : X → X) (ys : List X) → All (λ z. is_it z ≡ false) ys → map (λ y. if is_it y then f y else y) ys ≡ ys
-    kept_all f [] none = refl
-    kept_all f (y ∷ ys) none = grind (arith, (none 0 y (omega arith)), (kept_all f ys (λ k d lt. none (suc k) d (omega arith))))
-
-    module _ (xs run ys : List X) (ahead : All (λ z. low z ≡ true) xs) (behind : All (λ z. high z ≡ true) ys) where
-      -- in a list cut in three around a page's run, the page is changed by changing it in the run
-      pub changed_between : (f : X → X) → map (λ y. if is_it y then f y else y) (xs ++ (run ++ ys)) ≡ xs ++ (map (λ y. if is_it y then f y else y) run ++ ys)
-      changed_between f =
-          let change = λ (y : X). if is_it y then f y else y in
-          let e = kept_all f _ (none_same_low pages_ordered key page _ ahead) in
-          let g = kept_all f _ (none_same pages_ordered key page _ behind) in
-          map-append change xs (run ++ ys)
-          ∙ ap₂ (λ front back. front ++ back) e (map-append change run ys ∙ ap (λ back. map change run ++ back) g)
-
     -- a change of a page that is not there leaves the list
     pub absent_unchanged : (f : X → X) {xs : List X} → find is_it xs ≡ None → xs ≡ map (λ y. if is_it y then f y else y) xs
-    absent_unchanged f absent = sym (kept_all f _ (find_none _ _ absent))
+    absent_unchanged f absent = sym (change_none _ f _ (find_none _ _ absent))
 
     -- a write behind those before a page that is there changes the element of that page, and no other
     pub write_at : (f : X → X) {xs : List X} → AllPairs Before xs → {s t : List X} → s ≡ xs → t ≡ xs → {n : ℕ} → n ≡ place s → (d : X) → n < length t
@@ -52,12 +37,9 @@ module _ {X : Type 0} (key : X → GuestPage) where
     write_at f {xs} rise {s} {t} read again {n} count d within here =
         let x = get_or xs n d in
         let split = found_parts pages_ordered key page _ x rise (found_at pages_ordered key page _ rise read again count d within here) in
-        ap (λ i. set xs i (f x)) (count ∙ ap place read)
-        ∙ ap (λ ys. set ys (place xs) (f x)) split
-        ∙ set-append_seam (filter low xs) x (filter high xs) (f x)
-        ∙ ap (λ b. filter low xs ++ cond b (f x) x ∷ filter high xs) (sym here ∙ ap (λ ys. is_it (get_or ys n d)) again)
-        ∙ sym (changed_between _ (x ∷ []) _ (filter_passes low xs) (filter_passes high xs) f)
-        ∙ ap (map (λ y. if is_it y then f y else y)) (sym split)
+        let ahead = change_none is_it f _ (none_same_low pages_ordered key page _ (filter_passes low xs)) in
+        let behind = change_none is_it f _ (none_same pages_ordered key page _ (filter_passes high xs)) in
+        grind (arith, split, ahead, behind, set-append_seam (filter low xs) x (filter high xs) (f x), map-append)
 
     -- a list in order stays in order where the element of a page is changed, but for its page
     pub write_rises : (f : X → X) → ((y : X) → key (f y) ≡ key y) → (xs : List X) → AllPairs Before xs → AllPairs Before (map (λ y. if is_it y then f y else y) xs)
