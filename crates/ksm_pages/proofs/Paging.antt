@@ -16,11 +16,8 @@ use Rattle.ksm_pages.proofs.Options.{mapped_some, mapped_twice, some_mapped}
 
 -- where no row waits, the waiting pages are right for any knobs
 pub knobs_free : (knobs tuned : Knobs) (rows : List Row) (w : List WaitingPage) → AreWaiting knobs rows w → All (λ r. waiting_state r.state ≡ false) rows → AreWaiting tuned rows w
-knobs_free knobs tuned rows w are still t b q = are t b q ∙ go _ refl
-  where
-    go : (o : Option Row) → row_at q rows ≡ o → waits_there knobs t b o ≡ waits_there tuned t b o
-    go None found = refl
-    go (Some r) found = grind (arith, (find_all _ (λ s. waiting_state s.state ≡ false) rows r found still))
+knobs_free knobs tuned rows w are still t b q =
+    grind (arith, are t b q, λ (r : Row) (found : row_at q rows ≡ Some r). find_all _ (λ s. waiting_state s.state ≡ false) rows r found still)
 
 -- ---------------------------------------------------------------- dups
 
@@ -54,10 +51,7 @@ stale_at rows dups tied =
 
 -- the frame of a dup that there may be is read at its place, whether the place is taken first or not
 pub kept_at_place : (frames : List ℕ) (o : Option DupRow) → option_and_then (slice_get frames) (option_map (λ d. d.place) o) ≡ option_and_then (λ d. slice_get frames d.place) o
-kept_at_place frames None = refl
-kept_at_place frames (Some d) = refl
-
--- ---------------------------------------------------------------- the row of a page
+kept_at_place frames o = grind arith
 
 -- ---------------------------------------------------------------- the dups at their places
 
