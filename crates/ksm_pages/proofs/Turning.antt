@@ -7,6 +7,7 @@ use Rattle.ksm_pages.proofs.Names.{◌∙◌, ◌≡◌}
 use Rattle.std.proofs.lemmas.Bool.{some_since}
 use Rattle.ksm_tree.specs.Dups.{rows_of as dup_rows}
 use Rattle.ksm_tree.proofs.Alike.{map_alike, map_mapped}
+use Rattle.ksm_pages.proofs.Changing.{rows_mapped}
 use Rattle.ksm_pages.proofs.Leaving.{AreLawful, alone_found, known_there, lawful_gone, lawful_left, lies, of_dup, same_dups, told, told_gone, told_still, view_of}
 use Rattle.ksm_pages.proofs.Resting.{lies_alike, rests, settled_again, settled_still}
 
@@ -62,45 +63,35 @@ module _ {s : Inside} {p : PagesValue} {page : GuestPage} {later : DupsState} {f
     next_same : later.next ≡ s.dups.next
     next_same = grind arith
 
-    module _ (rows : RowsView) {restless : Listing} (listed : rows.restless ≡ restless) where
+    module _ (rows : RowsView) where
       -- a page that has left comes to another state and lies where that state and its frame say
       pub moved : (state : PageState) (own : Option ℕ) → merged_state state ≡ false → waiting_state state ≡ false
           → rows.held ≡ change_held page (mapped state own) s.rows.held
           → Comes s rows later (record (seen p) {
             rows = change_row page (λ r. record r { state = state }) p.rows;
             frame = lies_on page (frame_seen (of_dup s) state own) (frame_of p.lodgings);
-            restless = restless;
+            restless = rows.restless;
           })
       moved state own apart still turned =
           let to = λ (r : Row). record r { state = state } in
           record {
             lawful = lawful_left s it.lawful _ it.found it.left.dups it.left.waiting _ to (λ x. refl) (λ r. refl) rows turned apart still;
-            told_as =
-                told s it.lawful _ it.found _ to (λ x. refl) (λ r. refl) rows turned it.seen_as later dups_same next_same _ refl refl
-                ∙ ap (λ (l : Listing). record (seen p) {
-                  rows = change_row page to p.rows;
-                  frame = lies_on page (frame_seen (of_dup s) state own) (frame_of p.lodgings);
-                  restless = l;
-                }) listed;
+            told_as = told s it.lawful _ it.found _ to (λ x. refl) (λ r. refl) rows turned it.seen_as later dups_same next_same _ refl refl;
           }
 
       -- a page that has left comes to be Private, on the frame of its own that it had
       pub rested : (g to : Row → Row) → ((r : Row) → (g r).page ≡ r.page) → ((r : Row) → (to r).state ≡ Private) → IsAlone page p.rows
           → (shared_state it.held.row.state ≡ false → g it.held.row ≡ to it.held.row)
           → rows.held ≡ change_held page (on_row g) s.rows.held
-          → Comes s rows later (record (seen p) { rows = change_row page to p.rows; restless = restless })
+          → Comes s rows later (record (seen p) { rows = change_row page to p.rows; restless = rows.restless })
       rested g to same rest alone_seen agree turned =
           let alone = alone_found s it.seen_as _ it.found alone_seen in
-          let private = (λ i. (agree alone i).state) ∙ rest it.held.row in
-          let stays = ap (λ st. frame_seen (of_dup s) st it.held.frame) (private ∙ sym (rests _ alone))
-          ∙ (grind arith) in
+          let private : (g it.held.row).state ≡ Private = grind (arith, agree alone, rest) in
           record {
             lawful = lawful_left s it.lawful _ it.found it.left.dups it.left.waiting _ g
-                (λ x. refl) same rows turned (ap merged_state private) (ap waiting_state private);
-            told_as =
-                told_still s it.lawful _ it.found _ g
-                (λ x. refl) same rows turned it.seen_as later dups_same next_same _ (agree alone) stays
-                ∙ (λ i. record (seen p) { rows = change_row page to p.rows; restless = (listed i) });
+                (λ x. refl) same rows turned (grind (arith, private)) (grind (arith, private));
+            told_as = told_still s it.lawful _ it.found _ g (λ x. refl) same rows turned it.seen_as later dups_same next_same _ (agree alone)
+                (grind (arith, private, alone));
           }
 
     -- a page that has left and whose row is gone is seen no more, and lies on no frame
@@ -120,17 +111,15 @@ module _ (s : Inside) (are : AreLawful s) {p : PagesValue} (seen_as : view_of s 
 
   -- where rows change, but for pages and dups, and the right pages wait, all rows are seen changed so
   pub still : (f : Row → Row) → ((r : Row) → (f r).page ≡ r.page) → ((r : Row) → settled_state (f r).state ≡ settled_state r.state)
-      → (rows : RowsView) → rows.held ≡ map (on_row f) s.rows.held
-      → {restless : Listing} → rows.restless ≡ restless → (later : DupsState) → later ≡ record s.dups { waiting = later.waiting }
+      → (rows : RowsView) → rows.held ≡ map (on_row f) s.rows.held → (later : DupsState) → later ≡ record s.dups { waiting = later.waiting }
       → AreWaiting s.knobs (map f before) later.waiting
-      → Comes s rows later (record (seen p) { rows = map f p.rows; restless = restless })
-  still f pages like rows turned {restless = restless} listed later rest waits =
+      → Comes s rows later (record (seen p) { rows = map f p.rows; restless = rows.restless })
+  still f pages like rows turned later rest waits =
       record {
         lawful = record {
           small = are.small;
           order = rw changed (ordered_map f _ pages are.order);
-          tied = subst (λ rs. AreTied rs later.dups) (sym changed) (subst (AreTied (map f before)) (λ i. (sym rest i).dups)
-              (tied_mapped f _ _ (λ k d lt. let r = get_or before k d in (pages r, λ number. (grind arith))) are.tied));
+          tied = rw changed (rw dups (tied_mapped f _ _ (λ k d lt. (pages _, λ number. grind (arith, like (get_or before k d)))) are.tied));
           places = (λ i. (rest i).places) ∙ are.places;
           waits = rw changed waits;
           room = are.room;
@@ -139,36 +128,29 @@ module _ (s : Inside) (are : AreLawful s) {p : PagesValue} (seen_as : view_of s 
             (λ i. record (seen (view_of (record s { rows = rows; dups = later }))) {
               rows = changed i;
               frame = lain i;
-              dups = dups i;
-              next = ap (λ (d : DupsState). d.next) rest i;
-              restless = listed i;
+              dups = dup_rows (dups i);
+              next = (rest i).next;
             })
-            ∙ (λ i. record (seen (seen_as i)) { rows = map f (seen_as i).rows; restless = restless });
+            ∙ (λ i. record (seen (seen_as i)) { rows = map f (seen_as i).rows; restless = rows.restless });
       }
     where
       changed : rows_of rows.held ≡ map f before
-      changed =
-          ap rows_of turned
-          ∙ map_mapped _ _ (λ h. f h.row) _ (λ k d lt. refl)
-          ∙ sym (map_mapped _ _ _ _ (λ k d lt. refl))
+      changed = ap rows_of turned ∙ rows_mapped f s.rows.held
 
-      dups : dup_rows later.dups ≡ dup_rows s.dups.dups
-      dups = λ i. dup_rows (rest i).dups
+      dups : later.dups ≡ s.dups.dups
+      dups = grind arith
 
       lain : frame_of (lodgings_of (lodging (dup_rows later.dups) s.frames.items) rows.held) ≡ frame_of (lodgings_of (of_dup s) s.rows.held)
       lain = grind (arith, dups, map_mapped, lies_alike)
 
   -- where every row is settled by a change and no page waits any more, all rows are seen changed so
   pub rest_all : (f : Row → Row) → ((r : Row) → (f r).page ≡ r.page) → ((r : Row) → (f r).state ≡ settled_state r.state) → (rows : RowsView)
-      → rows.held ≡ map (on_row f) s.rows.held
-      → {restless : Listing} → rows.restless ≡ restless → {later : DupsState} → later ≡ record s.dups { waiting = [] }
-      → Comes s rows later (record (seen p) { rows = map f p.rows; restless = restless })
-  rest_all f pages states rows turned listed cleared =
-      still f pages (λ r. ap settled_state (states r) ∙ settled_again _) _ turned listed _
-      (cleared ∙ (λ i. record s.dups { waiting = (sym cleared i).waiting }))
-      (subst (AreWaiting s.knobs (map f before)) (λ i. (sym cleared i).waiting)
-      (none_waiting s.knobs _ (All-map (λ r. waiting_state r.state ≡ false) f _
-      (λ k d lt. ap waiting_state (states (get_or before k d)) ∙ settled_still _))))
+      → rows.held ≡ map (on_row f) s.rows.held → {later : DupsState} → later ≡ record s.dups { waiting = [] }
+      → Comes s rows later (record (seen p) { rows = map f p.rows; restless = rows.restless })
+  rest_all f pages states rows turned cleared =
+      still f pages (λ r. grind (arith, states r, settled_again)) _ turned _ (grind arith)
+      (rw cleared (none_waiting s.knobs _ (All-map (λ r. waiting_state r.state ≡ false) f _
+      (λ k d lt. grind (arith, states (get_or before k d), settled_still)))))
 
   -- where a row changes, but for its page, state and where it waits, only that row is seen changed
   pub stays : (page : GuestPage) (g : Row → Row) → ((r : Row) → (g r).page ≡ r.page) → ((r : Row) → (g r).state ≡ r.state)
@@ -178,23 +160,17 @@ module _ (s : Inside) (are : AreLawful s) {p : PagesValue} (seen_as : view_of s 
       → Comes s rows s.dups (record (seen p) { rows = change_row page g p.rows; restless = rows.restless })
   stays page g same states alike rows turned =
       still f (λ r. grind (arith, same r)) (λ r. grind (arith, states r)) rows
-      (turned ∙ map_alike _ _ _ (λ k d lt. each _)) refl _ refl waiting
+      (turned ∙ map_alike _ _ _ (λ k d lt. grind arith)) _ refl waiting
     where
       f : Row → Row
       f r = if same_page r.page page then g r else r
 
-      each : (h : Held) → (if holds page h then on_row g h else h) ≡ on_row f h
-      each h = grind arith
-
       waiting : AreWaiting s.knobs (map f before) s.dups.waiting
-      waiting t b q =
-          are.waits t b q ∙ go _ refl
+      waiting t b q = are.waits t b q ∙ go _ refl
           ∙ ap (waits_there s.knobs t b) (sym (at_mapped f q before (λ k d lt. grind (arith, same (get_or before k d)))))
         where
           go : (o : Option Row) → row_at q before ≡ o → waits_there s.knobs t b o ≡ waits_there s.knobs t b (option_map f o)
           go None is = refl
           go (Some r) is =
               cond_both _ _ _ (λ x. waits_there s.knobs t b (Some r) ≡ waits_there s.knobs t b (Some x))
-              (λ at. let here = sym (same_page_eq _ _ at) ∙ same_page_eq _ q
-              (find_passes (λ r. same_page r.page q) _ r is) in
-              sym (alike r ((λ i. row_at page (sym seen_as i).rows) ∙ ap (λ q. row_at q before) here ∙ is) t b)) (λ _. refl)
+              (λ at. sym (alike r (grind (arith, same_page_eq r.page, find_passes (λ x. same_page x.page q) before r is)) t b)) (λ _. refl)

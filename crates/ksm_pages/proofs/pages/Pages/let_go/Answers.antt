@@ -19,10 +19,10 @@ gone c = alone_left c.self.invariant c.self.view_is c.requires c.leave.ensures
 
 pub invariant_of-self : goal.invariant_of-self
 invariant_of-self c =
-    (rested (gone c) c.set_mergeable.new.self refl as_gone as_let_go (λ r. refl) (λ r. refl) c.requires (went (gone c).held.row)
+    (rested (gone c) c.set_mergeable.new.self as_gone as_let_go (λ r. refl) (λ r. refl) c.requires (went (gone c).held.row)
     (turned c)).lawful
 
 pub returns : goal.returns
 returns c =
-    (rested (gone c) c.set_mergeable.new.self refl as_gone as_let_go (λ r. refl) (λ r. refl) c.requires (went (gone c).held.row)
+    (rested (gone c) c.set_mergeable.new.self as_gone as_let_go (λ r. refl) (λ r. refl) c.requires (went (gone c).held.row)
     (turned c)).told_as

@@ -16,7 +16,7 @@ written : (c : goal.After-store) → Comes c.self.inside c.store.new.self c.self
 })
 unfolding alone
 written c =
-    rested (alone c) c.store.new.self refl _ (stored c.args.bytes.now) (λ r. refl) (λ r. refl) c.requires
+    rested (alone c) c.store.new.self _ (stored c.args.bytes.now) (λ r. refl) (λ r. refl) c.requires
     (λ _. ap (λ st. record (stored c.args.bytes.now (alone c).held.row) { state = st }) (sym c.in-Private.ensures)) (held_as c.store.ensures)
 
 pub invariant_of-self : goal.invariant_of-self

@@ -37,12 +37,10 @@ went : (c : goal.After-become_unchanged)
     Comes s c.become_unchanged.new.self c.left_by.new.dups (visited c.args.spot.page found (seen (view_of s)))
 went c it =
     let s = record c.self.inside { dups = c.group.new.self } in
-    let row = (held_of c.pass-pass.result c.in-Some.entry.now).row in
-    let there = it.found ∙ ap (λ n. Some (held_of n c.in-Some.entry.now)) (sym c.pass-pass.ensures) in
-    rested (found_left {s = s} {p = view_of s} it.lawful refl there c.left_by.ensures) c.become_unchanged.new.self
-    (λ i. (c.become_unchanged.ensures i).restless)
-    kept found (λ r. refl) (λ r. refl) (is_alone s it.lawful _ c.in-Some.entry.now it.found it.restless)
-    (λ alone i. record row { unchanged = true; state = rests _ alone i }) (held_as c.become_unchanged.ensures)
+    let left = found_left {s = s} {p = view_of s} it.lawful refl (rw c.pass-pass.ensures it.found) c.left_by.ensures in
+    let now = rested left c.become_unchanged.new.self kept found (λ r. refl) (λ r. refl)
+    (is_alone s it.lawful _ c.in-Some.entry.now it.found it.restless) (λ alone. grind (arith, alone)) (held_as c.become_unchanged.ensures) in
+    record { lawful = now.lawful; told_as = grind (arith, now.told_as) }
 
 pub invariant_of-self-then-not-entry : goal.invariant_of-self-then-not-entry
 invariant_of-self-then-not-entry c = search (rules, went, known)
