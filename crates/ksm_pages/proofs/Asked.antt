@@ -55,7 +55,7 @@ module _ (p : PagesValue) (guest : Option ℕ) (cursor : Option GuestPage) where
   told_next up is None gone =
       let at = mapped_some _ _ is in
       absurd (none-some at.0 (sym gone ∙ ap (λ q. row_at q p.rows) (sym at.2) ∙ find_all _ (λ x. row_at x.page p.rows ≡ Some x) _ _ at.1 (each_at_page _ up)))
-  told_next up is (Some held) of_it = (subst (λ q. IsHeld (seen p) q held) (sym of_it.spot) of_it, is ∙ ap Some (sym of_it.spot))
+  told_next up is (Some held) of_it = grind arith
 
   module _ (s : Inside) (are : AreLawful s) (seen_as : view_of s ≡ p) (start : Option GuestPage)
       (same : (row : Row) → of_guest guest row ≡ true → after_cursor start row.page ≡ after_cursor cursor row.page) where
@@ -63,15 +63,15 @@ module _ (p : PagesValue) (guest : Option ℕ) (cursor : Option GuestPage) where
     behind r = after_cursor start r.page
 
     rise : InPageOrder p.rows
-    rise = rw (← seen_as) are.order
+    rise = grind arith
 
     less : (r : Row) → next r ≡ true → behind r ≡ true
-    less r is = grind (arith, cases_Bool)
+    less r is = grind arith
 
     -- where no row is behind the start, none comes next
     pub next_none : None ≡ option_map (λ (r : Row). r.page) (find behind (rows_of s.rows.held)) → {told : Option Told} → told ≡ None
         → IsNext told
-    next_none none is = grind (arith, find_nothing, find_none, none_mapped, cases_Bool, less)
+    next_none none is = grind (arith, find_nothing, find_none, none_mapped, less)
 
     module _ (page : GuestPage) (first : Some page ≡ option_map (λ (r : Row). r.page) (find behind (rows_of s.rows.held))) where
       there : (r : Row) × (find behind p.rows ≡ Some r) × (page ≡ r.page)

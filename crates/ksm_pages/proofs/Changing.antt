@@ -25,7 +25,7 @@ row_told page held is = search (rules, row_found)
 
 -- nothing is held of a page without a row
 pub nothing_held : (page : GuestPage) (held : List Held) → row_at page (rows_of held) ≡ None → held_at page held ≡ None
-nothing_held page held absent = none_mapped _ _ (sym (row_found page held) ∙ absent)
+nothing_held page held absent = grind (arith, none_mapped, row_found)
 
 -- what is held without a page has the rows without the row of that page
 pub rows_without : (page : GuestPage) (held : List Held) → rows_of (without_held page held) ≡ without_page page (rows_of held)

@@ -18,7 +18,7 @@ held_by pass slab n = held_under pass (get slab n.key)
 
 -- numbers that are told apart differ
 pub differ_by : {m n : ℕ} → (m == n) ≡ false → m ≢ n
-differ_by told same = true≢false (sym ((Decides-eqb _ _).1 same) ∙ told)
+differ_by told same = grind arith
 
 -- a name of the order says what the entry under the name's key says
 abbrev pub Stands : Slab Entry → Named → Type 0
@@ -49,7 +49,7 @@ filed_by slab order stand named n = (
 -- what holds of the entry that a slab was given, and of all others that stood, holds of all that stand now
 pub all_filled : {slab later : Slab Entry} {key : ℕ} {e : Entry} → Fills slab later key (Some e) → {P : ℕ → Entry → Type 0} → P key e
     → ((k : ℕ) (f : Entry) → get slab k ≡ Some f → k ≢ key → P k f) → (k : ℕ) (f : Entry) → get later k ≡ Some f → P k f
-all_filled {slab} {later} {key} {e} fills {P} new others k f stands = search (rules, cases_Bool, Decides-eqb, differ_by)
+all_filled {slab} {later} {key} {e} fills {P} new others k f stands = grind (arith, differ_by)
 
 module _ (slab : Slab Entry) (order : List Named) (filed : AreFiled slab order) where
   -- an entry that stands under a key is found in the order, by its page, under that key
@@ -104,7 +104,7 @@ module _ (slab : Slab Entry) (order : List Named) (rise : AreAscending order) (f
       -- where one entry is written anew, the row of its page is changed, and no other
       pub written : (pass : ℕ) (f : Held → Held) → held_of pass e' ≡ f (held_of pass e) → held_in pass later order ≡ change_held e.page f (held_in pass slab order)
       written pass f is =
-          grind (arith, map_mapped, all_stand, cases_Bool, Decides-eqb, same_page_refl, differ_by, page_under, under_named, elsewhere)
+          grind (arith, map_mapped, all_stand, same_page_refl, differ_by, page_under, under_named, elsewhere)
 
       -- where one entry is written anew and its mergeable flag stays, pages are named as their entries say
       pub filed_kept : e'.mergeable ≡ e.mergeable → AreFiled later order
@@ -118,7 +118,7 @@ module _ (slab : Slab Entry) (order : List Named) (rise : AreAscending order) (f
 
       -- where one entry is written anew and its page marked with its flag, pages are named as their entries say
       pub filed_marked : AreFiled later (marked e.page e'.mergeable order)
-      filed_marked n = grind (arith, find_marked, fills, filed n, elsewhere, named_under slab order filed, same_page_eq)
+      filed_marked n = grind (arith, find_marked, elsewhere, named_under, same_page_eq)
 
     -- ---------------------------------------------------------------- one entry gone
 

@@ -20,7 +20,7 @@ module _ {X : Type 0} (key : X → GuestPage) where
 
   -- in a list in order, a search for the page of an element finds that element
   pub each_found : (xs : List X) → AllPairs Before xs → All (λ x. find (is_of_page (key x)) xs ≡ Some x) xs
-  each_found [] rise = λ k d lt. absurd (omega arith)
+  each_found [] rise = grind arith
   each_found (x ∷ xs) rise =
       All-cons (λ z. find (is_of_page (key z)) (x ∷ xs) ≡ Some z) x _
       (ap (λ b. cond b (Some x) (find (is_of_page (key x)) xs)) (same_page_refl (key x)))
@@ -68,7 +68,7 @@ module _ {X : Type 0} (key : X → GuestPage) where
 
     -- without the elements of a page, a search for another page finds what it found before
     pub find_gone_other : (other : GuestPage) (xs : List X) → same_page page other ≡ false → find (is_of_page other) (filter (λ y. not (is_it y)) xs) ≡ find (is_of_page other) xs
-    find_gone_other other xs differ = find_kept _ _ _ _ refl (λ y is. ap not (not_it _ _ differ is))
+    find_gone_other other xs differ = grind (arith, find_kept, not_it)
 
     -- the element of the page is changed, but for its page
     module _ (f : X → X) (same : (y : X) → key (f y) ≡ key y) where

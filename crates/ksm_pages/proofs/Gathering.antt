@@ -11,7 +11,7 @@ use Rattle.ksm_pages.proofs.Listings.{with_has}
 
 -- a visit may change a row exactly where it may change its entry
 pub restless_as : (pass : ℕ) (e : Entry) → may_change (held_of pass e).row ≡ is_restless e
-restless_as pass e = ap (λ b. e.mergeable && b) (grind arith)
+restless_as pass e = grind arith
 
 -- of the pages up to a cursor those that a visit may change are listed
 abbrev pub AreListedUpTo : Slab Entry → Option GuestPage → Listing → Type 0

@@ -20,8 +20,7 @@ let_out_alone state page alone = grind arith
 
 known_at : {number : ℕ} (ds : List DupRow) (o : Option DupRow) → dup_numbered number ds ≡ o → (k : ℕ) (d : DupRow) → k < length ds
     → (get_or ds k d).number ≡ number → is_some o ≡ true
-known_at {number} ds None is k d lt at =
-    absurd (both_ways ((get_or ds k d).number == number) (find_none _ _ is k d lt) (eq-eqb (get_or ds k d).number number at))
+known_at {number} ds None is k d lt at = grind (arith, both_ways, find_none, eq-eqb)
 known_at ds (Some e) is k d lt at = refl
 
 has_known : (rows : List Row) (dups : List Dup) {number : ℕ} → HasRoom rows (dup_rows dups) number → is_some (dup_of number dups) ≡ true

@@ -24,8 +24,7 @@ module _ {X : Type 0} (key : X → GuestPage) where
 
     -- in a list in order, those not behind the page stand before all others
     pub parted_behind : (xs : List X) → AllPairs Before xs → IsPartitionedBy (λ y. not (high y)) xs
-    parted_behind xs rise i j d le lt later =
-        grind (arith, cases_lt, cases_Bool, both_ways, not-true, pages_ordered.trans)
+    parted_behind xs rise i j d le lt later = search (rules, cases_lt, both_ways, not-true, pages_ordered)
 
     -- a change of a page that is not there leaves the list
     pub absent_unchanged : (f : X → X) {xs : List X} → find is_it xs ≡ None → xs ≡ map (λ y. if is_it y then f y else y) xs

@@ -1,4 +1,5 @@
 -- The pages once the row of one page changed, or went: they are lawful still, and what is seen of them is changed so.
+use Rattle.ksm_pages.proofs.Names.{rules}
 use Rattle.ksm_pages.proofs.Names.{ap, ap₂, AreKept, AreTied, AreWaiting, arith, change_held, change_row, DupsState, false, find_passes, frame_of, Frames, GuestPage, Held, held_at, if◌then◌else◌}
 use Rattle.ksm_pages.proofs.Names.{InPageOrder, Inside, is_some, IsAlone, IsKnown, IsStopped, let_out, lies_on, lodging, lodgings_of, MatchOption, merged_state, None, Option, option_map, ordered_map}
 use Rattle.ksm_pages.proofs.Names.{ordered_without, PagesValue, Row, row_at, row_dropped, row_stopped, rows_of, rows_out, RowsView, same_page, same_page_eq, seen, shared_state, Some, subst, sym}
@@ -37,7 +38,7 @@ module _ (s : Inside) {p : PagesValue} (seen_as : view_of s ≡ p) (page : Guest
 
   -- the row of a page that is seen is the row of what is held of the page
   pub row_seen : {o : Option Held} → held_at page s.rows.held ≡ o → row_at page p.rows ≡ option_map (λ g. g.row) o
-  row_seen is = ap (row_at page) (sym rows_seen) ∙ row_told page _ is
+  row_seen is = grind (arith, rows_seen, row_told)
 
   -- a page that has a row among those seen is held
   pub known_there : held_at page s.rows.held ≡ None → IsKnown page p.rows → true ≡ false
@@ -116,7 +117,7 @@ module _ (s : Inside) (are : AreLawful s) (page : GuestPage) {h : Held} (found :
   module _ {later : DupsState} (out : later ≡ record s.dups { dups = let_out old.state old.page s.dups.dups; waiting = later.waiting }) (stopped : IsStopped s.knobs old s.dups.waiting later.waiting) where
     -- once a page was let out, the dups are as they were, but for their items
     pub same_dups : dup_rows later.dups ≡ dup_rows s.dups.dups
-    same_dups = (λ i. dup_rows (out i).dups) ∙ rows_out _ _ _
+    same_dups = grind (arith, rows_out)
 
     -- once a page was let out, the number of the next dup is what it was
     pub same_next : later.next ≡ s.dups.next
@@ -139,16 +140,7 @@ module _ (s : Inside) (are : AreLawful s) (page : GuestPage) {h : Held} (found :
 
       -- once a page was let out and its row is gone, the pages are lawful
       pub lawful_gone : AreKept s.shape s.knobs (rows_of rows.held) later s.frames.items
-      lawful_gone =
-          let to = sym rows_gone in
-          record {
-            small = are.small;
-            order = rw (← to) (ordered_without _ _ are.order);
-            tied = rw (← to) (rw dups_out (tied_dropped _ _ _ are.order row_there _ are.tied));
-            places = (λ i. (out i).places) ∙ are.places;
-            waits = rw (← to) (row_dropped s.knobs _ _ are.waits _ _ _ row_there stopped);
-            room = are.room;
-          }
+      lawful_gone = search (rules, rows_gone, ordered_without, dups_out, tied_dropped, row_there, row_dropped)
 
       -- once a page was let out and its row is gone, the page is seen without a row and lies on no frame
       pub told_gone : {p : PagesValue} → view_of s ≡ p

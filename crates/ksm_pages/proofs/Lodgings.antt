@@ -1,4 +1,5 @@
 -- Where the pages lie, once the row of one was changed, came or went, and the dups kept their frames.
+use Rattle.ksm_pages.proofs.Names.{rules}
 use Rattle.ksm_pages.proofs.Names.{All, ap, arith, change_held, change_row, find_all, find_passes, frame_of, frame_seen, GuestPage, Held, held_at, holds, if◌then◌else◌, InPageOrder, lies_on, List}
 use Rattle.ksm_pages.proofs.Names.{Lodging, lodgings_of, nat_tests, None, one_of_each_page, Option, option_and_then, option_map, refl, Row, row_at, same_page, same_page_eq, same_page_sym, Some, true}
 use Rattle.ksm_pages.proofs.Names.{without_held, ℕ, ◌∙◌, ◌≡◌, false}
@@ -31,7 +32,7 @@ pub lodged_one : (of_dup : ℕ → Option ℕ) (page : GuestPage) (held later : 
 lodged_one of_dup page held later {o} here others = λ i p. at p i
   where
     at : (p : GuestPage) → frame_of (lodgings_of of_dup later) p ≡ (if same_page p page then seat of_dup o else frame_of (lodgings_of of_dup held) p)
-    at p = grind (arith, nat_tests, cond_if, same_page_eq, frame_by, same_page_sym)
+    at p = search (rules, same_page_eq, frame_by, same_page_sym)
 
 abbrev page_of : Held → GuestPage
 page_of h = h.row.page
@@ -51,7 +52,7 @@ pub changed_to : (page : GuestPage) (g : Row → Row) (rows : List Row) {old : R
 changed_to page g rows {old} rise found = map_alike _ _ _ (λ k d lt. at _ (only k d lt))
   where
     at_page : same_page old.page page ≡ true
-    at_page = find_passes (λ r. same_page r.page page) _ _ found
+    at_page = grind (arith, find_passes)
 
     only : All (λ r. same_page r.page old.page ≡ true → r ≡ old) rows
     only = find_all _ (λ r. All (λ s. same_page s.page r.page ≡ true → s ≡ r) rows) _ _ found (one_of_each_page _ rise)

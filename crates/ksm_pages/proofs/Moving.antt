@@ -36,14 +36,7 @@ module _ (dups : List DupRow) (rise : InPlaceOrder dups) (frames : List ℕ) (pl
     -- a row merged into the dup lies on the new frame, and any other where it lay
     seats : (o : Option Held) → seat of_now o ≡ (if is_item d.number (option_map (λ h. h.row) o) then Some frame else seat of o)
     seats None = refl
-    seats (Some h) = at_state h.row.state h.frame
-      where
-        at_state : (state : PageState) (own : Option ℕ)
-            → frame_seen of_now state own ≡ (if merged_into d.number state then Some frame else frame_seen of state own)
-        at_state Private own = refl
-        at_state Waiting own = refl
-        at_state Zero own = refl
-        at_state (Merged n) own = cond_if _ _ _ _ (λ same. ap of_now (eqb-true n d.number same) ∙ moved) (stayed n)
+    seats (Some h) = grind (arith, eqb-true, moved, stayed)
 
     lie_now : (held : List Held)
         → frame_of (lodgings_of of_now held) ≡ items_on d.number frame (rows_of held) (frame_of (lodgings_of of held))

@@ -67,7 +67,7 @@ items_lodge held {s} frames rise lawful as_many {frame} is k e lt at i f lt_row 
     item_lies _ _ rise _ i f lt_row merged ∙ lodges
   where
     within : (p : ℕ) → p < length frames → slice_get frames p ≡ Some (unwrap_or (slice_get frames p) 0)
-    within p lt = slice_get-get_or _ p _ lt ∙ ap Some (sym (unwrap_or-slice_get frames p _))
+    within p lt = grind (arith, slice_get-get_or, unwrap_or-slice_get)
 
 module _ (rows : List Row) (dups : List Dup) (place : ℕ) (tied : AreTied rows dups) where
   -- no dup with items stands at a place where none is found

@@ -59,7 +59,7 @@ module _ (dups : List DupRow) (dup : DupRow) (frames : List ℕ) (frame : ℕ) w
 -- two changes of rows of two pages are one of both
 pub both_changed : (q p : GuestPage) (f : Row → Row) → ((r : Row) → (f r).page ≡ r.page) → same_page q p ≡ false → (rows : List Row)
     → change_row p f (change_row q f rows) ≡ change_rows (λ r. same_page r.page q || same_page r.page p) f rows
-both_changed q p f same apart rows = grind (arith, map_mapped, cases_Bool, same_page_eq)
+both_changed q p f same apart rows = grind (arith, map_mapped, same_page_eq)
 
 -- two pages have rows, of which something is so
 abbrev IsOfBoth : (Row → Row → Type 0) → Option Row → Option Row → Type 0
@@ -157,7 +157,7 @@ module _ {s : Inside} {p : PagesValue} {place : ℕ} {first second : GuestPage} 
 
   -- the first of two pages that can pair lies on the frame of its own
   pub lay_first : frame_of p.lodgings first ≡ Some one.at
-  lay_first = sym (lies s are _ it.found it.seen_as) ∙ own_first
+  lay_first = grind (arith, lies, own_first)
 
   -- the second of two pages that can pair lies on the frame of its own
   pub lay_second : frame_of p.lodgings second ≡ Some other.at
@@ -211,10 +211,10 @@ module _ {s : Inside} {p : PagesValue} {place : ℕ} {first second : GuestPage} 
     half_rows = rows_changed _ _ _ _ (λ h. refl)
 
     both_rows : rows_of rows.held ≡ change_row b.row.page item (rows_of half)
-    both_rows = ap rows_of now_held ∙ rows_changed _ _ _ _ (λ h. refl)
+    both_rows = grind (arith, now_held, rows_changed)
 
     half_order : InPageOrder (rows_of half)
-    half_order = rw half_rows (ordered_change _ _ _ (λ r. refl) are.order)
+    half_order = grind (arith, half_rows, ordered_change)
 
     abbrev one_row : List Row
     one_row = change_row a.row.page (λ _. item a.row) before
@@ -252,7 +252,7 @@ module _ {s : Inside} {p : PagesValue} {place : ℕ} {first second : GuestPage} 
     lay = frame_of (lodgings_of (of_dup s) s.rows.held)
 
     lies_first : lay a.row.page ≡ Some frame
-    lies_first = frame_by _ _ a.row.page ∙ ap (seat (of_dup s)) found_first ∙ own_first
+    lies_first = grind (arith, frame_by, found_first, own_first)
 
     new_frame : of_new s.dups.next ≡ Some frame
     new_frame =

@@ -95,7 +95,7 @@ module _ (key : ℕ) where
 
   -- also of those behind the first so many
   pub kept_between : (n : ℕ) (xs : List Item) → AreAscending xs → filter below (drop n xs) ≡ take (count_by below xs - n) (drop n xs)
-  kept_between zero xs rise = kept_first _ rise ∙ ap (λ m. take m xs) (omega arith)
+  kept_between zero xs rise = grind (arith, kept_first)
   kept_between (suc n) [] rise = take_none _
   kept_between (suc n) (x ∷ xs) rise =
       grind (arith, nat_tests, kept_between n xs (pairs_tail Less x xs rise), count_more below x xs, none_below x xs rise)
@@ -120,8 +120,8 @@ some_at (x ∷ xs) (suc n) lt none = some_at xs n (omega arith) none
 
 -- what stands at a place of a rest, and of a beginning
 pub get_dropped : {X : Type 0} (n k : ℕ) (xs : List X) → slice_get (drop n xs) k ≡ slice_get xs (n + k)
-get_dropped zero k xs = ap (slice_get xs) (omega arith)
-get_dropped (suc n) k [] = slice_get_past [] k (omega arith) ∙ sym (slice_get_past [] (suc n + k) (omega arith))
+get_dropped zero k xs = grind arith
+get_dropped (suc n) k [] = grind (arith, slice_get_past)
 get_dropped (suc n) k (x ∷ xs) = grind (arith, get_dropped n k xs)
 
 pub get_taken : {X : Type 0} (m k : ℕ) (xs : List X) → k < m → slice_get (take m xs) k ≡ slice_get xs k
@@ -155,18 +155,13 @@ last_of_take (p ∷ pages) (suc n) cursor is = last_of_take pages n (Some p) is
 -- the page at a place of those that a scan visits
 module _ (items : List Item) {now : List Named} (seen_as : map named_by items ≡ now) where
   pub visited_is : visited now ≡ map page_by (kept_marked items)
-  visited_is = ap visited (sym seen_as) ∙ visited_by items
+  visited_is = grind (arith, visited_by)
 
   pub visited_many : length (visited now) ≡ count_by (λ x. x.marked) items
-  visited_many = ap length visited_is ∙ length-map (kept_marked items) page_by ∙ length-filter (λ (x : Item). x.marked) items
+  visited_many = grind (arith, visited_is, length-map, length-filter)
 
   pub visited_at : (place : ℕ) {key : ℕ} → key_at (kept_marked items) place ≡ Some key → slice_get (visited now) place ≡ Some (page_of key)
-  visited_at place {key} is =
-      ap (λ pages. slice_get pages place) visited_is ∙ slice_get-map page_by (kept_marked items) place ∙ at _ is
-    where
-      at : (o : Option Item) → option_map (λ x. x.key) o ≡ Some key → option_map page_by o ≡ Some (page_of key)
-      at None none = cc
-      at (Some x) same = ap (option_map page_of) same
+  visited_at place {key} is = grind (arith, visited_is, slice_get-map)
 
   -- where so many visited pages do not come behind a cursor, those behind it are the others
   pub behind_is : (cursor : Option GuestPage) (key : ℕ) → ((n : ℕ) → after_cursor cursor (page_of n) ≡ not (nat_lt n key)) → AreAscending items

@@ -26,11 +26,11 @@ went r alone = grind arith
 
 -- a state that is settled twice is the state settled once
 pub settled_again : (state : PageState) → settled_state (settled_state state) ≡ settled_state state
-settled_again = settled_by settled_state _ refl refl (λ n. refl) refl
+settled_again = grind (arith, settled_by)
 
 -- a settled state is not Waiting
 pub settled_still : (state : PageState) → waiting_state (settled_state state) ≡ false
-settled_still = settled_by waiting_state _ refl refl (λ n. refl) refl
+settled_still = grind (arith, settled_by)
 
 -- a page in two states that settle to one lies on the same frame
 pub lies_alike : (of_dup : ℕ → Option ℕ) (a b : PageState) (own : Option ℕ) → settled_state a ≡ settled_state b

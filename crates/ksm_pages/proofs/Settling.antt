@@ -61,9 +61,7 @@ module _ {slab : Slab Entry} {order : List Named} {restless : Listing} {tally : 
 
   -- what holds for each changed entry holds for all that stand once each entry is changed
   pub all_from : (P : Entry → Type 0) → ((k : ℕ) (e : Entry) → get slab k ≡ Some e → P (g e)) → (k : ℕ) (e : Entry) → get later k ≡ Some e → P e
-  all_from P holds k e stands =
-      let at = mapped_some _ _ (sym (all k) ∙ stands) in
-      rw (← at.2) (holds k at.0 at.1)
+  all_from P holds k e stands = grind (arith, mapped_some, all k)
 
   -- once each entry is changed, the pages that a visit may change are listed still
   pub all_listed : restless.known ≡ true → AreListed later restless.pages

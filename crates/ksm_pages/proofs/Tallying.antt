@@ -13,7 +13,7 @@ module _ {rows : List Row} (rise : InPageOrder rows) (page : GuestPage) {old : R
     counts p = count_change_row _ _ _ _ _ rise found
 
     most : (p : Row → Bool) → count_by p changed ≤ length rows
-    most p = omega (arith, count_by-le-length p changed, length-map rows (λ r. if same_page r.page page then new else r))
+    most p = grind (arith, count_by-le-length, length-map)
 
     room : length rows < 2 ^ 64 → (p : Row → Bool) {n : ℕ} → n ≡ count_by p rows → n + one_if (p new) < 2 ^ 64 + one_if (p old)
     room few p is = omega (arith, counts p, most p, is, few)
@@ -33,7 +33,7 @@ module _ {rows : List Row} (rise : InPageOrder rows) (page : GuestPage) {old : R
     }
 
     meets : (p : Row → Bool) {n m : ℕ} → n ≡ count_by p rows → m + one_if (p old) ≡ n + one_if (p new) → m ≡ count_by p changed
-    meets p is moved = omega (arith, counts p, is, moved)
+    meets p is moved = grind (arith, counts)
 
     -- a tally moved from a row's old state to its new one counts the rows with that row changed
     pub tally_changed : IsMoved old.state new.state tally later → IsTally changed later

@@ -50,7 +50,7 @@ module _ {s : Inside} {p : PagesValue} {page : GuestPage} {later : DupsState} {f
   -- a page with a frame of its own, which was let out, has left
   pub alone_left : AreLawful s → view_of s ≡ p → IsAlone page p.rows
       → MatchOption (held_at page s.rows.held) ⊤ (IsLeft s.knobs frames s.dups later lone) → HasLeft s p page later frames lone
-  alone_left are seen_as alone = known_left are seen_as (some_since _ _ _ alone true≢false)
+  alone_left are seen_as alone = grind (arith, known_left, some_since)
 
   module _ (it : HasLeft s p page later frames lone) where
     -- a page that has left lay on the frame that is told

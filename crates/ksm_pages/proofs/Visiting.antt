@@ -24,7 +24,7 @@ module _ (s : Inside) {later : DupsState} (kept : later ≡ record s.dups { numb
 
   -- groups that got other numbers leave what is seen of the pages as it was
   pub seen_numbered : view_of (record s { dups = later }) ≡ view_of s
-  seen_numbered = λ i. view_of (record s { dups = (kept i) })
+  seen_numbered = grind arith
 
 -- ---------------------------------------------------------------- one row
 
@@ -39,7 +39,7 @@ finds_row s {p} seen_as page found new what is = rw (row_seen s seen_as _ found)
 pub finds_gone : (s : Inside) {p : PagesValue} → view_of s ≡ p → (page : GuestPage) (e : Entry)
     → held_at page s.rows.held ≡ Some (held_of s.rows.pass e)
     → is_restless_entry e ≡ false → Finds (seen p) (seen p) page finds.Gone
-finds_gone s seen_as page e found calm = finds_row s seen_as _ found _ _ (restless_as _ e ∙ calm, refl)
+finds_gone s seen_as page e found calm = search (rules, finds_row, restless_as)
 
 -- a row that a visit may change has a frame of its own
 pub is_alone : (s : Inside) → AreLawful s → (page : GuestPage) (e : Entry) → held_at page s.rows.held ≡ Some (held_of s.rows.pass e)
@@ -128,7 +128,7 @@ module _ {s : Inside} {p : PagesValue} {page : GuestPage} {e : Entry} {group : �
 
       -- without a best dup, an unchanged row of zeroes is found to become Zero, if zero pages are used
       pub finds_zero : (s.knobs.use_zero_pages == 1 && all_zero e.bytes) ≡ true → Finds (seen p) (seen (view_of s)) page finds.Zero
-      finds_zero zeroes = finds_at _ _ (may, no_best, stayed, zero_as ∙ zeroes, ap seen it.seen_as)
+      finds_zero zeroes = grind (arith, finds_at, may, no_best, zero_as)
 
       module _ (other : (s.knobs.use_zero_pages == 1 && all_zero e.bytes) ≡ false) {met : GuestPage} {later : DupsState}
           (is : IsOfGroup (λ tree bytes. met ≡ unwrap_or (waiting_page tree bytes s.dups.waiting) page))
@@ -140,7 +140,7 @@ module _ {s : Inside} {p : PagesValue} {page : GuestPage} {e : Entry} {group : �
         met_is = grind (arith, at_row)
 
         same_again : is_some waits ≡ true → later ≡ s.dups
-        same_again = again (tree_of s.knobs row) row.bytes it.numbered
+        same_again = grind arith
 
         -- a row that stays, without a dup and not for Zero, finds another page that waits with its bytes as partner
         pub finds_partner : same_page met page ≡ false

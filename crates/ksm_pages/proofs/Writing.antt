@@ -38,11 +38,11 @@ waits_now pass own = grind arith
 
 -- a row with a frame of its own is Private where its number is not that of the pass
 pub rests_apart : {number : ℕ} (pass : ℕ) → number ≢ pass → state_of kinds.Own number pass ≡ Private
-rests_apart {number} pass apart = ap own_state (ne_eqb number pass apart)
+rests_apart {number} pass apart = grind (arith, ne_eqb)
 
 -- a row with a frame of its own and number 0 is Private in any pass from 1 on
 pub rests_now : (pass : ℕ) → 1 ≤ pass → state_of kinds.Own 0 pass ≡ Private
-rests_now pass counting = rests_apart _ (λ same. absurd (omega arith))
+rests_now pass counting = grind (arith, rests_apart)
 
 -- an entry with a frame of its own that has forgotten its pass has a number not beyond any pass
 pub left_fits : (kind : Kind) (number pass : ℕ) → kind ≡ kinds.Own → number_left kind number ≤ pass
@@ -58,14 +58,14 @@ nothing s are page told f is =
 
 -- what is listed later was listed before
 listed_known : (old : Listing) {now : Listing} (pages : List GuestPage) → now ≡ record old { pages = pages } → now.known ≡ true → old.known ≡ true
-listed_known old pages is known = (λ i. (sym is i).known) ∙ known
+listed_known old pages is known = grind arith
 
 module _ (s : Inside) (are : AreRows s) where
   abbrev held : List Held
   held = held_in s.pass s.entries s.order
 
   rise : InPageOrder (rows_of held)
-  rise = rows_rise s.entries _ are.ascending are.filed _
+  rise = grind (arith, rows_rise)
 
   module _ {page : GuestPage} {key : ℕ} (there : IsUnder s.entries page key) {e : Entry} (stood : get s.entries key ≡ Some e) where
     -- the entry is that of the page
@@ -150,7 +150,7 @@ module _ (s : Inside) (are : AreRows s) where
         same_state = grind arith
 
         unmoved : {state : PageState} → IsMoved state state s.tally s.tally
-        unmoved = record { merged = refl; waiting = refl; zero = refl }
+        unmoved = search rules
 
         -- rows with an entry written anew are lawful under the old list and tally where its flag and state stay
         pub untouched : e'.mergeable ≡ e.mergeable → IsRows later s.order s.restless s.tally s.pass
@@ -240,14 +240,12 @@ nothing_gone s are page told is =
 
 -- a slab with more room has the same rows
 pub with_room : (s : Inside) → AreRows s → {room : Slab Entry} → room ≡ record s.entries { capacity = room.capacity } → IsRows room s.order s.restless s.tally s.pass
-with_room s are is =
-    rw is
-    (record { ascending = are.ascending; filed = are.filed; listed = are.listed; counted = are.counted; begun = are.begun; counting = are.counting })
+with_room s are is = grind arith
 
 -- a slab with more room is seen to have the same rows
 pub seen_with_room : (s : Inside) {v : RowsView} → view_of s ≡ v → {room : Slab Entry}
     → room ≡ record s.entries { capacity = room.capacity } → view_of (record s { entries = room }) ≡ v
-seen_with_room s seen_as is = ap (λ slab. view_of (record s { entries = slab })) is ∙ seen_as
+seen_with_room s seen_as is = grind arith
 
 -- a page that is seen without a row has no name in the order
 pub no_name : (s : Inside) → AreRows s → (page : GuestPage) {v : RowsView} → view_of s ≡ v → held_at page v.held ≡ None → find (is_of page) s.order ≡ None
@@ -266,7 +264,7 @@ module _ (s : Inside) (are : AreRows s) {v : RowsView} (seen_as : view_of s ≡ 
   not_named = no_name s are _ seen_as absent
 
   held_put : held_in s.pass later (with_named (named_of key e) s.order) ≡ with_held (held_of s.pass e) before
-  held_put = put _ _ are.ascending are.filed vacant not_named fills _
+  held_put = grind (arith, put, not_named)
 
   -- rows are lawful once a Private entry came under a vacant key, with a name and a place in the list
   pub still_put : state_of e.kind e.number s.pass ≡ Private → e.number ≤ s.pass → {now : Listing} → IsAddedTo e.page s.restless now → IsRows later (with_named (named_of key e) s.order) now s.tally s.pass

@@ -5,4 +5,4 @@ pub returns-in-Some : goal.returns-in-Some
 returns-in-Some c = search rules
 
 pub returns-in-None : goal.returns-in-None
-returns-in-None c = λ key. ap (λ o. after_cursor o (page_of key)) c.in-None.is ∙ grind arith
+returns-in-None c = grind arith

@@ -15,7 +15,7 @@ returns-then-eq c =
 -- a key that is told is that of an entry of the page
 there_if : (c : goal.After-search) (o : Option ℕ) → c.search.result ≡ o → IfSome o (IsUnder c.args.entries.now c.args.spot.page)
 there_if c None is = tt
-there_if c (Some key) is = under _ _ c.requires (sym c.search.ensures ∙ is)
+there_if c (Some key) is = grind (arith, under)
 
 pub returns-clause-there : goal.returns-clause-there
 returns-clause-there c = there_if c _ refl

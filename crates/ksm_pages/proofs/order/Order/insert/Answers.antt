@@ -14,7 +14,7 @@ abbrev named : After-key_of → Named
 named c = record { page = c.args.page; key = c.args.key; mergeable = true }
 
 absent : (c : After-key_of) → find (is_of c.args.page) (map named_by c.self.inside.pages) ≡ None
-absent c = ap (find (is_of c.args.page)) c.self.view_is ∙ c.requires.absent
+absent c = grind arith
 
 put : (c : After-key_of) → with_named (named c) (map named_by c.self.inside.pages) ≡ map named_by (with_item (item c) c.self.inside.pages)
 put c = grind (arith, filter_mapped, before_its, behind_its, map-append)

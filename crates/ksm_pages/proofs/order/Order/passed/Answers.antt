@@ -13,4 +13,4 @@ returns-in-Some c =
     }
 
 pub returns-in-None-clause-ahead : goal.returns-in-None-clause-ahead
-returns-in-None-clause-ahead c = ap (λ o. pages_behind o (visited c.args.self.now)) c.in-None.is ∙ filter_all (after_cursor None) _ (λ k d lt. refl)
+returns-in-None-clause-ahead c = grind (arith, filter_all)

@@ -4,7 +4,7 @@ use Rattle.ksm_pages.proofs.pages.Pages.become_zero.Goals as goal
 
 gone : (c : goal.After-become_zero)
     → HasLeft c.self.inside c.args.self.now c.args.spot.page c.leave-left.new.dups c.deref.result.now c.leave-left.result
-gone c = alone_left c.self.invariant c.self.view_is c.requires c.leave-left.ensures
+gone c = grind (arith, alone_left)
 
 pub invariant_of-self : goal.invariant_of-self
 invariant_of-self c = (moved (gone c) c.become_zero.new.self Zero None refl refl (held_as c.become_zero.ensures)).lawful

@@ -1,3 +1,4 @@
+use Rattle.ksm_pages.proofs.Names.{arith}
 use Rattle.ksm_pages.proofs.Names.{ap, false, HasRoom, held_at, held_of, PagesValue, rows_of, rules, shared_state, Some, subst, sym, tied_absent, ◌∙◌, ◌≡◌}
 use Rattle.ksm_pages.proofs.Joined.{fewer_room, known_room, lawful_joined, own_not_merged, own_seat, told_joined}
 use Rattle.ksm_pages.proofs.Leaving.{alone_found, alone_there, lies, row_there}
@@ -24,7 +25,7 @@ pub unreachable-requires : goal.unreachable-requires
 unreachable-requires c = search (rules, alone_there)
 
 found : (c : After-left_by) → held_at c.args.spot.page c.self.inside.rows.held ≡ Some (held_of c.pass.result c.in-Some.entry.now)
-found c = c.in-Some.ensures ∙ ap (λ n. Some (held_of n c.in-Some.entry.now)) (sym c.pass.ensures)
+found c = grind arith
 
 alone : (c : After-left_by) → shared_state (held_of c.pass.result c.in-Some.entry.now).row.state ≡ false
 alone c = alone_found c.self.inside c.self.view_is _ (found c) c.requires.alone

@@ -1,3 +1,4 @@
+use Rattle.ksm_pages.proofs.Names.{arith}
 use Rattle.ksm_pages.proofs.Names.{change_held, false, on_row, refl, Row, settled, ◌≡◌}
 use Rattle.ksm_base.specs.Apply.{let_go as as_let_go}
 use Rattle.ksm_pages.proofs.Resting.{went}
@@ -15,7 +16,7 @@ turned c =
 
 gone : (c : goal.After-set_mergeable)
     → HasLeft c.self.inside c.args.self.now c.args.spot.page c.leave.new.dups c.deref.result.now c.leave.result
-gone c = alone_left c.self.invariant c.self.view_is c.requires c.leave.ensures
+gone c = grind (arith, alone_left)
 
 pub invariant_of-self : goal.invariant_of-self
 invariant_of-self c =

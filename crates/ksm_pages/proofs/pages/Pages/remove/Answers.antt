@@ -1,10 +1,11 @@
+use Rattle.ksm_pages.proofs.Names.{arith}
 use Rattle.ksm_pages.proofs.Names.{lies_on, None, seen, without_page, ◌∙◌}
 use Rattle.ksm_pages.proofs.Turning.{HasLeft, held_as, known_left, lay, parted}
 use Rattle.ksm_pages.proofs.pages.Pages.remove.Goals as goal
 
 gone : (c : goal.After-remove)
     → HasLeft c.self.inside c.args.self.now c.args.spot.page c.leave-left.new.dups c.deref.result.now c.leave-left.result
-gone c = known_left c.self.invariant c.self.view_is c.requires c.leave-left.ensures
+gone c = grind (arith, known_left)
 
 pub invariant_of-self : goal.invariant_of-self
 invariant_of-self c = (parted (gone c) c.remove.new.self (held_as c.remove.ensures)).lawful

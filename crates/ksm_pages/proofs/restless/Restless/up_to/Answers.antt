@@ -1,3 +1,4 @@
+use Rattle.ksm_pages.proofs.Names.{arith}
 use Rattle.ksm_pages.proofs.Names.{[], after_cursor, ap, comes_before, filter, filter_none, GuestPage, IsPartitionPoint-from_clause, length, List, Listing, None, not, Option, point_is_count, refl}
 use Rattle.ksm_pages.proofs.Names.{rules, sym, ◌∙◌, ◌≡◌}
 use Rattle.ksm_pages.proofs.Keyed.{parted_behind}
@@ -6,7 +7,7 @@ use Rattle.ksm_pages.proofs.restless.Restless.up_to.Goals as goal
 
 -- all pages come after an empty cursor
 none_up_to : (pages : List GuestPage) → filter (λ p. not (after_cursor None p)) pages ≡ []
-none_up_to pages = filter_none (λ p. not (after_cursor None p)) pages (λ k d lt. refl)
+none_up_to pages = grind (arith, filter_none)
 
 pub returns-in-None : goal.returns-in-None
 returns-in-None c =
