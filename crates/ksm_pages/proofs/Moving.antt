@@ -5,7 +5,7 @@ use Rattle.ksm_pages.proofs.Names.{option_and_then, option_map, PageState, Priva
 use Rattle.ksm_tree.proofs.Indexed.{cond_if}
 use Rattle.ksm_pages.proofs.Changing.{row_found}
 use Rattle.ksm_pages.proofs.Lodgings.{frame_by, seat}
-use Rattle.ksm_pages.proofs.Paired.{set_away, set_there}
+use Rattle.ksm_pages.proofs.Paired.{frame_away, set_there}
 
 -- a place where a dup stands is below the bound of all places
 pub any_below : (place n : ℕ) (dups : List DupRow) → All (λ d. d.place < n) dups → list_any (λ d. d.place == place) dups ≡ true → place < n
@@ -26,12 +26,8 @@ module _ (dups : List DupRow) (rise : InPlaceOrder dups) (frames : List ℕ) (pl
     moved = grind (arith, set_there)
 
     stayed : (n : ℕ) → (n == d.number) ≡ false → of_now n ≡ of n
-    stayed n other = go _ refl
-      where
-        go : (o : Option DupRow) → dup_numbered n dups ≡ o
-            → option_and_then (λ e. slice_get (set frames place frame) e.place) o ≡ option_and_then (λ e. slice_get frames e.place) o
-        go None is = refl
-        go (Some e) is = grind (arith, nat_tests, is, at, other, set_away, find_passes, find_all (λ x. x.number == n) (λ x. (x.place == d.place) ≡ true → x ≡ d) dups e is one)
+    stayed n other = frame_away frames place frame _ (λ e is.
+        grind (arith, nat_tests, other, find_passes (λ x. x.number == n) dups e is, find_all _ (λ x. (x.place == d.place) ≡ true → x ≡ d) dups e is one))
 
     -- a row merged into the dup lies on the new frame, and any other where it lay
     seats : (o : Option Held) → seat of_now o ≡ (if is_item d.number (option_map (λ h. h.row) o) then Some frame else seat of o)

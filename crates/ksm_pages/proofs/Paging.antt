@@ -78,16 +78,7 @@ module _ (rows : List Row) (dups : List Dup) (place : ℕ) (tied : AreTied rows 
   pub items_there : {row : DupRow} → InPlaceOrder (dup_rows dups) → Some row ≡ option_map (λ (d : Dup). d.row) (find (λ d. stands_at place d && is_live d) dups)
       → option_map (items_of rows) (find (λ d. d.place == place && has_items rows d) (dup_rows dups)) ≡ Some (items_in (dup_at place dups))
   items_there {row} rise is =
-      ap (option_map (items_of rows)) (sym (live_placed rows _ _ (tied_counted rows _ tied)))
-      ∙ go _ refl (is ∙ ap (option_map (λ (d : Dup). d.row)) (found_passing _ _ _ rise))
-    where
-      go : (o : Option Dup) → dup_at place dups ≡ o → Some row ≡ option_map (λ (d : Dup). d.row) (passing is_live o)
-          → option_map (items_of rows) (option_map (λ (d : Dup). d.row) (find (λ d. stands_at place d && is_live d) dups)) ≡ Some (items_in (dup_at place dups))
-      go None there no_it = absurd (grind arith)
-      go (Some d) there one = elim (cases_Bool _) [
-        | inl live ↦
-            ap (λ o. option_map (items_of rows) (option_map (λ (d : Dup). d.row) o)) (found_passing _ _ _ rise ∙ ap (passing is_live) there ∙ ap (λ b. cond b (Some d) None) live)
-            ∙ ap Some (sym (find_all _ (λ e. e.items ≡ items_of rows e.row) _ d there tied))
-            ∙ ap (λ o. Some (items_in o)) (sym there)
-        | inr stale ↦ absurd (grind arith)
-      ]
+      let live = live_placed rows place _ (tied_counted rows _ tied) in
+      let one = found_passing place is_live dups rise in
+      let items = λ (d : Dup) (there : dup_at place dups ≡ Some d). find_all (stands_at place) (λ e. e.items ≡ items_of rows e.row) dups d there tied in
+      grind (arith, live, one, items)

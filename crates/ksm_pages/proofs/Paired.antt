@@ -31,6 +31,12 @@ set_away (y ∷ ys) zero (suc j) x away = refl
 set_away (y ∷ ys) (suc i) zero x away = refl
 set_away (y ∷ ys) (suc i) (suc j) x away = set_away ys i j x (λ same. away (ap suc same))
 
+-- a dup that may be there, and stands elsewhere, keeps its frame where one is written at a place
+pub frame_away : (frames : List ℕ) (place frame : ℕ) (o : Option DupRow) → ((e : DupRow) → o ≡ Some e → (e.place == place) ≡ false)
+    → option_and_then (λ d. slice_get (set frames place frame) d.place) o ≡ option_and_then (λ d. slice_get frames d.place) o
+frame_away frames place frame None away = refl
+frame_away frames place frame (Some e) away = set_away _ _ _ _ (differ_by (away e refl))
+
 module _ (dups : List DupRow) (dup : DupRow) (frames : List ℕ) (frame : ℕ) where
   abbrev of_now : ℕ → Option ℕ
   of_now = lodging (with_dup dup dups) (set frames dup.place frame)
@@ -47,12 +53,7 @@ module _ (dups : List DupRow) (dup : DupRow) (frames : List ℕ) (frame : ℕ) w
       ∙ ap (option_and_then (slice_get (set frames dup.place frame))) (place_kept n dup _ rise other
       ∙ ap (option_map (λ d. d.place)) (find_kept _ _ _ _ refl (λ e is. ap not (away e is))))
       ∙ kept_at_place _ (dup_numbered n dups)
-      ∙ go _ away
-    where
-      go : (o : Option DupRow) → ((e : DupRow) → o ≡ Some e → (e.place == dup.place) ≡ false)
-          → option_and_then (λ d. slice_get (set frames dup.place frame) d.place) o ≡ option_and_then (λ d. slice_get frames d.place) o
-      go None apart = refl
-      go (Some e) apart = set_away _ _ _ _ (differ_by (apart e refl))
+      ∙ frame_away frames dup.place frame _ away
 
 -- ---------------------------------------------------------------- two rows
 

@@ -37,15 +37,8 @@ found_by page few items = grind (arith, find_mapped, is_its)
 
 pub marked_by : (page : GuestPage) → page.page < 2 ^ 32 → (mark : Bool) → (items : List Item)
     → marked page mark (map named_by items) ≡ map named_by (with_mark (key_of page) mark items)
-marked_by page few mark items =
-    let change : Item → Item = λ x. if is_at (key_of page) x then record x { marked = mark } else x in
-    map_mapped _ _ (λ x. named_by (change x)) _
-    (λ k d lt. ap (λ b. if b then record (named_by (get_or items k d)) { mergeable = mark } else named_by (get_or items k d)) (is_its _ few (get_or items k d)) ∙ chosen _ _ _)
-    ∙ sym (map_mapped _ _ _ _ (λ k d lt. refl))
-  where
-    chosen : (mark : Bool) (x : Item) (b : Bool) → (if b then record (named_by x) { mergeable = mark } else named_by x) ≡ named_by (if b then record x { marked = mark } else x)
-    chosen mark x true = refl
-    chosen mark x false = refl
+marked_by page few mark [] = refl
+marked_by page few mark (x ∷ items) = grind (arith, is_its page few x, marked_by page few mark items)
 
 -- ---------------------------------------------------------------- those that a scan visits
 
@@ -54,7 +47,8 @@ abbrev pub page_by : Item → GuestPage
 page_by x = page_of x.key
 
 pub visited_by : (items : List Item) → visited (map named_by items) ≡ map page_by (kept_marked items)
-visited_by items = ap (map (λ (n : Named). n.page)) (filter_mapped named_by _ (λ x. x.marked) items (λ k d lt. refl)) ∙ map_mapped _ _ _ _ (λ k d lt. refl)
+visited_by [] = refl
+visited_by (x ∷ items) = grind (arith, visited_by items)
 
 -- one more is counted where it passes
 count_suc : (p : Item → Bool) (x : Item) (xs : List Item)
@@ -86,17 +80,10 @@ module _ (key : ℕ) where
   kept_from (x ∷ xs) rise =
       rw (count_suc below x xs) (grind (arith, nat_tests, kept_from xs (pairs_tail Less x xs rise), none_below x xs rise))
 
-  abbrev nothing : List Item
-  nothing = []
-
-  take_none : (n : ℕ) → nothing ≡ take n nothing
-  take_none zero = refl
-  take_none (suc n) = refl
-
   -- also of those behind the first so many
   pub kept_between : (n : ℕ) (xs : List Item) → AreAscending xs → filter below (drop n xs) ≡ take (count_by below xs - n) (drop n xs)
   kept_between zero xs rise = grind (arith, kept_first)
-  kept_between (suc n) [] rise = take_none _
+  kept_between (suc n) [] rise = grind arith
   kept_between (suc n) (x ∷ xs) rise =
       grind (arith, nat_tests, kept_between n xs (pairs_tail Less x xs rise), count_more below x xs, none_below x xs rise)
 
@@ -118,17 +105,11 @@ some_at [] place lt none = absurd (omega arith)
 some_at (x ∷ xs) zero lt none = none-some _ (sym none)
 some_at (x ∷ xs) (suc n) lt none = some_at xs n (omega arith) none
 
--- what stands at a place of a rest, and of a beginning
+-- what stands at a place of a rest
 pub get_dropped : {X : Type 0} (n k : ℕ) (xs : List X) → slice_get (drop n xs) k ≡ slice_get xs (n + k)
 get_dropped zero k xs = grind arith
 get_dropped (suc n) k [] = grind (arith, slice_get_past)
 get_dropped (suc n) k (x ∷ xs) = grind (arith, get_dropped n k xs)
-
-pub get_taken : {X : Type 0} (m k : ℕ) (xs : List X) → k < m → slice_get (take m xs) k ≡ slice_get xs k
-get_taken zero k xs lt = absurd (omega arith)
-get_taken (suc m) k [] lt = refl
-get_taken (suc m) zero (x ∷ xs) lt = refl
-get_taken (suc m) (suc k) (x ∷ xs) lt = get_taken m k xs (omega arith)
 
 -- a key at a place is that of one of the items
 pub small_at : (P : ℕ → Type 0) (xs : List Item) (place : ℕ) {key : ℕ} → All (λ x. P x.key) xs → key_at xs place ≡ Some key → P key

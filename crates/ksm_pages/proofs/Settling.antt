@@ -9,7 +9,6 @@ use Rattle.std.proofs.Math.ListN.{get_or-map}
 use Rattle.ksm_pages.specs.declared.row.Kind.TheVariants as kinds
 use Rattle.ksm_tree.proofs.Alike.{count_mapped, map_mapped}
 use Rattle.ksm_pages.proofs.Filing.{all_stand}
-use Rattle.ksm_pages.proofs.Resting.{settled_by}
 use Rattle.ksm_pages.proofs.Writing.{left_fits}
 
 -- where each call of a retain keeps its value and changes it by g, all full slots are changed by g

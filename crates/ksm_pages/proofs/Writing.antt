@@ -51,10 +51,9 @@ left_fits kind number pass own = grind arith
 -- a change of a page without a row leaves what is seen of the rows as it is
 pub nothing : (s : Inside) → AreRows s → (page : GuestPage) → None ≡ key_in s.order page → (f : Held → Held) {v : RowsView} → view_of s ≡ v → v ≡ record v { held = change_held page f v.held }
 nothing s are page told f is =
-    let absent = held_nowhere s.entries _ are.ascending are.filed _ _ (sym told) in
-    sym is
-    ∙ ap (λ held. record { held = held; restless = s.restless; pass = s.pass }) (absent_unchanged (λ (h : Held). h.row.page) page _ absent)
-    ∙ (λ i. record (is i) { held = change_held page f (is i).held })
+    let absent = held_nowhere s.entries s.order are.ascending are.filed s.pass page (sym told) in
+    let same = absent_unchanged (λ (h : Held). h.row.page) page f absent in
+    grind (arith, same)
 
 -- what is listed later was listed before
 listed_known : (old : Listing) {now : Listing} (pages : List GuestPage) → now ≡ record old { pages = pages } → now.known ≡ true → old.known ≡ true
@@ -233,10 +232,9 @@ module _ (s : Inside) (are : AreRows s) where
 -- where a page has no row, the rows without that page are seen as before
 pub nothing_gone : (s : Inside) → AreRows s → (page : GuestPage) → None ≡ key_in s.order page → {v : RowsView} → view_of s ≡ v → v ≡ record v { held = without_held page v.held }
 nothing_gone s are page told is =
-    sym is
-    ∙ ap (λ held. record { held = held; restless = s.restless; pass = s.pass })
-    (absent_kept pages_ordered (λ (h : Held). h.row.page) page _ (held_nowhere s.entries _ are.ascending are.filed _ _ (sym told)))
-    ∙ (λ i. record (is i) { held = without_held page (is i).held })
+    let absent = held_nowhere s.entries s.order are.ascending are.filed s.pass page (sym told) in
+    let same = absent_kept pages_ordered (λ (h : Held). h.row.page) page _ absent in
+    grind (arith, same)
 
 -- a slab with more room has the same rows
 pub with_room : (s : Inside) → AreRows s → {room : Slab Entry} → room ≡ record s.entries { capacity = room.capacity } → IsRows room s.order s.restless s.tally s.pass
