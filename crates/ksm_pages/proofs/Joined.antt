@@ -7,7 +7,7 @@ use Rattle.ksm_pages.proofs.Names.{with_item, ℕ, ◌<◌, ◌==◌, ◌∙◌,
 use Rattle.ksm_tree.specs.Dups.{items_of as items_numbered, rows_of as dup_rows}
 use Rattle.ksm_pages.proofs.Changing.{row_found as found_rows}
 use Rattle.ksm_pages.proofs.Options.{some_mapped}
-use Rattle.ksm_pages.proofs.Leaving.{AreLawful, lawful_turned, of_dup, of_page, row_there, told, view_of}
+use Rattle.ksm_pages.proofs.Leaving.{AreLawful, Comes, of_dup, of_page, row_there, stops, turned_so, view_of}
 use Rattle.ksm_pages.proofs.Lodgings.{frame_by, seat}
 
 -- a page with a frame of its own is not merged
@@ -63,45 +63,28 @@ module _ (s : Inside) (are : AreLawful s) (page : GuestPage) {h : Held} (found :
     (alone : shared_state h.row.state ≡ false) (number : ℕ)
     {joined later : DupsState} (into : joined ≡ record s.dups { dups = change_items number (with_item page) s.dups.dups })
     (out : later ≡ record joined { dups = let_out h.row.state h.row.page joined.dups; waiting = later.waiting })
-    (stopped : IsStopped s.knobs h.row joined.waiting later.waiting) where
-  now_in : later.dups ≡ change_items number (with_item page) s.dups.dups
-  now_in = grind arith
-
-  joined_dups : dup_rows later.dups ≡ dup_rows s.dups.dups
-  joined_dups = ap dup_rows now_in ∙ rows_items _ _ _
-
-  joined_next : later.next ≡ s.dups.next
-  joined_next = grind arith
-
-  -- the pages are lawful once a page with a frame of its own joined a dup
-  pub lawful_joined : (rows : RowsView) → rows.held ≡ change_held page (mapped (Merged number) None) s.rows.held
-      → AreKept s.shape s.knobs (rows_of rows.held) later s.frames.items
-  lawful_joined rows turned =
+    (stopped : IsStopped s.knobs h.row joined.waiting later.waiting) {rows : RowsView}
+    (turned : rows ≡ record s.rows { held = change_held page (mapped (Merged number) None) s.rows.held }) {p : PagesValue} (seen_as : view_of s ≡ p) where
+  -- once a page with a frame of its own joined a dup, the pages are lawful, and the page lies where the dup's items do
+  pub joins : Comes s rows later (record (seen p) {
+    rows = change_row page (λ r. record r { state = Merged number }) p.rows;
+    frame = lies_on page (of_dup s number) (frame_of p.lodgings);
+    restless = rows.restless;
+  })
+  joins =
       let at = of_page s are _ found in
-      lawful_turned s are _ found (mapped (Merged number) None) (λ r. record r { state = Merged number }) (λ x. refl)
-      (λ r. refl) rows turned ((λ i. (out i).places) ∙ (λ i. (into i).places))
-      (rw now_in (tied_joined _ _ _ are.order (row_there s are _ found) _ _ _ (own_not_merged _ alone) at refl are.tied)) (rw (← at)
-      (row_stopped s.knobs _ _ are.waits _ _ _ (ap (λ q. row_at q (rows_of s.rows.held)) at ∙ row_there s are _ found) refl
-      (subst (λ w. IsStopped s.knobs h.row w later.waiting) (λ i. (into i).waiting) stopped)))
+      let rest : later ≡ record s.dups { dups = change_items number (with_item page) s.dups.dups; waiting = later.waiting } = grind arith in
+      let waits = subst (λ w. IsStopped s.knobs h.row w later.waiting) (λ i. (into i).waiting) stopped in
+      turned_so s are page found seen_as rows (mapped (Merged number) None) (λ r. record r { state = Merged number }) (λ x. refl) (λ r. refl)
+      (λ i. (turned i).held) rest (rows_items _ _ _) _ refl
+      (tied_joined _ _ _ are.order (row_there s are _ found) _ _ _ (own_not_merged _ alone) at refl are.tied)
+      (stops s are page found _ at refl _ waits) refl
 
-  -- once a page joined a dup, it lies where the dup's items do, and else all is seen as it was
-  pub told_joined : {rows : RowsView} → rows ≡ record s.rows { held = change_held page (mapped (Merged number) None) s.rows.held }
-      → {p : PagesValue} → view_of s ≡ p
-      → let now = seen (view_of (record s { rows = rows; dups = later })) in
+  -- but for the row and the frame of the page, all is seen as it was, and the page lies where each item does
+  pub told_joined : let now = seen (view_of (record s { rows = rows; dups = later })) in
       (now ≡ record (seen p) { rows = change_row page (λ r. record r { state = Merged number }) p.rows; frame = now.frame })
       × All (λ r. merged_into number r.state ≡ true → now.frame ≡ lies_on page ((seen p).frame r.page) (seen p).frame) p.rows
-  told_joined {rows} turned {p} seen_as =
-      let item : Row → Row = λ r. record r { state = Merged number } in
-      let lies_there = lies_on page (of_dup s number) (frame_of p.lodgings) in
-      let whole =
-      told s are _ found _ item (λ x. refl) (λ r. refl) rows (λ i. (turned i).held) seen_as later joined_dups joined_next _ refl refl
-      ∙ ap (λ (l : Listing). record (seen p) { rows = change_row page item p.rows; frame = lies_there; restless = l })
-      ((λ i. (turned i).restless) ∙ (λ i. (seen_as i).restless)) in
-      let frame : frame_of (lodgings_of (lodging (dup_rows later.dups) s.frames.items) rows.held) ≡ lies_there = ap
-      (λ (v : PagesView). v.frame) whole in
-      let lain = subst (λ (v : PagesValue). All
-      (λ r. merged_into number r.state ≡ true → frame_of v.lodgings r.page ≡ of_dup s number) v.rows) seen_as
-      (item_lies _ _ are.order _) in (
-        whole ∙ (λ i. record (seen p) { rows = change_row page item p.rows; frame = sym frame i }),
-        λ k r lt merged. frame ∙ ap (λ o. lies_on page o (frame_of p.lodgings)) (sym (lain k r lt merged)),
-      )
+  told_joined =
+      let lain = subst (λ (v : PagesValue). All (λ r. merged_into number r.state ≡ true → frame_of v.lodgings r.page ≡ of_dup s number) v.rows) seen_as
+      (item_lies _ _ are.order _) in
+      (grind (arith, joins.told_as), λ k r lt merged. (λ i. (joins.told_as i).frame) ∙ ap (λ o. lies_on page o (frame_of p.lodgings)) (sym (lain k r lt merged)))

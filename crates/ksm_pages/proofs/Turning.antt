@@ -8,13 +8,11 @@ use Rattle.std.proofs.lemmas.Bool.{some_since}
 use Rattle.ksm_tree.specs.Dups.{rows_of as dup_rows}
 use Rattle.ksm_tree.proofs.Alike.{map_alike, map_mapped}
 use Rattle.ksm_pages.proofs.Changing.{rows_mapped}
-use Rattle.ksm_pages.proofs.Leaving.{AreLawful, alone_found, known_there, lawful_gone, lawful_left, lies, of_dup, same_dups, told, told_gone, told_still, view_of}
+use Rattle.ksm_pages.proofs.Names.{let_out, ordered_without, row_dropped, rows_out, tied_dropped, tied_left}
+use Rattle.ksm_pages.proofs.Changing.{rows_without}
+use Rattle.ksm_pages.proofs.Lodgings.{lodged_gone, seat}
+use Rattle.ksm_pages.proofs.Leaving.{AreLawful, alone_found, Comes, comes, known_there, lies, of_dup, of_page, row_there, stays_there, stops, turned_so, view_of}
 use Rattle.ksm_pages.proofs.Resting.{lies_alike, rests, settled_again, settled_still}
-
--- the pages with other rows and dups are lawful, and are seen as the new view says
-pub record Comes (s : Inside) (rows : RowsView) (later : DupsState) (new : PagesView) : Type 0 where
-  pub lawful : AreKept s.shape s.knobs (rows_of rows.held) later s.frames.items
-  pub told_as : seen (view_of (record s { rows = rows; dups = later })) ≡ new
 
 -- equal values of the rows hold the same
 pub held_as : {old new : RowsView} → new ≡ old → new.held ≡ old.held
@@ -57,13 +55,25 @@ module _ {s : Inside} {p : PagesValue} {page : GuestPage} {later : DupsState} {f
     pub lay : frames ≡ s.frames.items → lone ≡ frame_of p.lodgings page
     lay same = grind (arith, lies)
 
-    dups_same : dup_rows later.dups ≡ dup_rows s.dups.dups
-    dups_same = search (rules, same_dups)
+    at : it.held.row.page ≡ page
+    at = of_page s it.lawful page it.found
 
-    next_same : later.next ≡ s.dups.next
-    next_same = grind arith
+    there : row_at page (rows_of s.rows.held) ≡ Some it.held.row
+    there = row_there s it.lawful page it.found
+
+    out : later ≡ record s.dups { dups = let_out it.held.row.state page s.dups.dups; waiting = later.waiting }
+    out = grind (arith, at, it.left.dups)
 
     module _ (rows : RowsView) where
+      left_so : (f : Held → Held) (g : Row → Row) → ((x : Held) → (f x).row ≡ g x.row) → ((r : Row) → (g r).page ≡ r.page)
+          → rows.held ≡ change_held page f s.rows.held → (to : Row → Row) → g it.held.row ≡ to it.held.row → merged_state (to it.held.row).state ≡ false
+          → waiting_state (to it.held.row).state ≡ false → {frame : Option ℕ} → seat (of_dup s) (Some (f it.held)) ≡ frame
+          → Comes s rows later (record (seen p) { rows = change_row page to p.rows; frame = lies_on page frame (frame_of p.lodgings); restless = rows.restless })
+      left_so f g is same turned to agree apart still =
+          turned_so s it.lawful page it.found it.seen_as rows f g is same turned out (rows_out _ _ _) to agree
+          (tied_left _ _ _ it.lawful.order there _ _ apart it.lawful.tied)
+          (stops s it.lawful page it.found _ ((λ i. (sym agree i).page) ∙ same it.held.row ∙ at) still _ it.left.waiting)
+
       -- a page that has left comes to another state and lies where that state and its frame say
       pub moved : (state : PageState) (own : Option ℕ) → merged_state state ≡ false → waiting_state state ≡ false
           → rows.held ≡ change_held page (mapped state own) s.rows.held
@@ -73,11 +83,7 @@ module _ {s : Inside} {p : PagesValue} {page : GuestPage} {later : DupsState} {f
             restless = rows.restless;
           })
       moved state own apart still turned =
-          let to = λ (r : Row). record r { state = state } in
-          record {
-            lawful = lawful_left s it.lawful _ it.found it.left.dups it.left.waiting _ to (λ x. refl) (λ r. refl) rows turned apart still;
-            told_as = told s it.lawful _ it.found _ to (λ x. refl) (λ r. refl) rows turned it.seen_as later dups_same next_same _ refl refl;
-          }
+          left_so (mapped state own) (λ r. record r { state = state }) (λ x. refl) (λ r. refl) turned _ refl apart still refl
 
       -- a page that has left comes to be Private, on the frame of its own that it had
       pub rested : (g to : Row → Row) → ((r : Row) → (g r).page ≡ r.page) → ((r : Row) → (to r).state ≡ Private) → IsAlone page p.rows
@@ -86,22 +92,23 @@ module _ {s : Inside} {p : PagesValue} {page : GuestPage} {later : DupsState} {f
           → Comes s rows later (record (seen p) { rows = change_row page to p.rows; restless = rows.restless })
       rested g to same rest alone_seen agree turned =
           let alone = alone_found s it.seen_as _ it.found alone_seen in
-          let private : (g it.held.row).state ≡ Private = grind (arith, agree alone, rest) in
-          record {
-            lawful = lawful_left s it.lawful _ it.found it.left.dups it.left.waiting _ g
-                (λ x. refl) same rows turned (grind (arith, private)) (grind (arith, private));
-            told_as = told_still s it.lawful _ it.found _ g (λ x. refl) same rows turned it.seen_as later dups_same next_same _ (agree alone)
-                (grind (arith, private, alone));
-          }
+          let private = rest it.held.row in
+          let own = lies s it.lawful page it.found it.seen_as in
+          stays_there p page (left_so (on_row g) g (λ x. refl) same turned to (agree alone) (grind (arith, private)) (grind (arith, private))
+          (grind (arith, agree alone, private, alone, own)))
 
-    -- a page that has left and whose row is gone is seen no more, and lies on no frame
-    pub parted : (rows : RowsView) → rows.held ≡ without_held page s.rows.held
-        → Comes s rows later (record (seen p) {
-          rows = without_page page p.rows;
-          frame = lies_on page None (frame_of p.lodgings);
-          restless = rows.restless;
-        })
-    parted rows gone = search (rules, lawful_gone, told_gone)
+      -- a page that has left and whose row is gone is seen no more, and lies on no frame
+      pub parted : rows.held ≡ without_held page s.rows.held
+          → Comes s rows later (record (seen p) {
+            rows = without_page page p.rows;
+            frame = lies_on page None (frame_of p.lodgings);
+            restless = rows.restless;
+          })
+      parted gone =
+          rw (← it.seen_as)
+          (comes s it.lawful rows (ap rows_of gone ∙ rows_without page _) out (rows_out _ _ _) (ordered_without _ _ it.lawful.order)
+          (tied_dropped _ _ _ it.lawful.order there _ it.lawful.tied) (row_dropped s.knobs _ _ it.lawful.waits _ _ _ there it.left.waiting)
+          (ap (λ held. frame_of (lodgings_of (of_dup s) held)) gone ∙ lodged_gone _ _ _))
 
 -- ---------------------------------------------------------------- rows that change where they lie
 
@@ -115,33 +122,10 @@ module _ (s : Inside) (are : AreLawful s) {p : PagesValue} (seen_as : view_of s 
       → AreWaiting s.knobs (map f before) later.waiting
       → Comes s rows later (record (seen p) { rows = map f p.rows; restless = rows.restless })
   still f pages like rows turned later rest waits =
-      record {
-        lawful = record {
-          small = are.small;
-          order = rw changed (ordered_map f _ pages are.order);
-          tied = rw changed (rw dups (tied_mapped f _ _ (λ k d lt. (pages _, λ number. grind (arith, like (get_or before k d)))) are.tied));
-          places = (λ i. (rest i).places) ∙ are.places;
-          waits = rw changed waits;
-          room = are.room;
-        };
-        told_as =
-            (λ i. record (seen (view_of (record s { rows = rows; dups = later }))) {
-              rows = changed i;
-              frame = lain i;
-              dups = dup_rows (dups i);
-              next = (rest i).next;
-            })
-            ∙ (λ i. record (seen (seen_as i)) { rows = map f (seen_as i).rows; restless = rows.restless });
-      }
-    where
-      changed : rows_of rows.held ≡ map f before
-      changed = ap rows_of turned ∙ rows_mapped f s.rows.held
-
-      dups : later.dups ≡ s.dups.dups
-      dups = grind arith
-
-      lain : frame_of (lodgings_of (lodging (dup_rows later.dups) s.frames.items) rows.held) ≡ frame_of (lodgings_of (of_dup s) s.rows.held)
-      lain = grind (arith, dups, map_mapped, lies_alike)
+      rw (← seen_as)
+      (comes s are rows (ap rows_of turned ∙ rows_mapped f s.rows.held) rest refl (ordered_map f _ pages are.order)
+      (tied_mapped f _ _ (λ k d lt. (pages _, λ number. grind (arith, like (get_or before k d)))) are.tied) waits
+      (grind (arith, map_mapped, lies_alike)))
 
   -- where every row is settled by a change and no page waits any more, all rows are seen changed so
   pub rest_all : (f : Row → Row) → ((r : Row) → (f r).page ≡ r.page) → ((r : Row) → (f r).state ≡ settled_state r.state) → (rows : RowsView)

@@ -11,7 +11,7 @@ use Rattle.ksm_pages.specs.Held.{is_restless as is_restless_entry}
 use Rattle.ksm_pages.specs.Paged.{is_restless, visited}
 use Rattle.ksm_pages.proofs.Gathering.{restless_as}
 use Rattle.ksm_pages.proofs.Joined.{let_out_alone}
-use Rattle.ksm_pages.proofs.Leaving.{AreLawful, lawful_turned, of_page, row_seen, row_there, told_still, view_of}
+use Rattle.ksm_pages.proofs.Leaving.{AreLawful, Comes, lies, of_page, row_seen, row_there, stays_there, turned_so, view_of}
 use Rattle.ksm_pages.proofs.Meeting.{met_other, met_own, met_partner, met_waits}
 use Rattle.ksm_pages.proofs.Resting.{lies_alike, rests}
 
@@ -159,34 +159,20 @@ module _ {s : Inside} {p : PagesValue} {page : GuestPage} {e : Entry} {group : �
           abbrev to : Row → Row
           to r = record r { state = Waiting }
 
-          same_own : same_page met row.page ≡ true
-          same_own = ap (same_page met) at_row ∙ own
-
-          held_now : rows.held ≡ change_held page (on_row to) s.rows.held
-          held_now = λ i. (turned i).held
-
-          now_waits : AreWaiting s.knobs (change_row page (λ _. to row) before) later.waiting
-          now_waits =
-              rw (← at_row)
-              (met_waits s.knobs _ _ _ it.lawful.order it.lawful.waits met_is (ap (λ q. row_at q before) at_row ∙ there) same_own
-              (added (tree_of s.knobs row) row.bytes it.numbered) (λ that. (λ i. (same_again that i).waiting)))
-
-          -- the pages are lawful once the row waits
-          pub lawful_waits : AreKept s.shape s.knobs (rows_of rows.held) later s.frames.items
-          lawful_waits =
-              lawful_turned s it.lawful _ it.found _ to (λ x. refl) (λ r. refl) rows held_now (λ i. (kept i).places)
-              (subst (AreTied (change_row page (λ _. to row) before)) (let_out_alone _ _ alone ∙ (λ i. (sym kept i).dups))
-              (tied_left _ _ _ it.lawful.order there _ _ refl it.lawful.tied)) now_waits
+          -- the pages are lawful once the row waits, and are seen so
+          pub waits_then : Comes s rows later (record (seen p) { rows = change_row page to p.rows; restless = rows.restless })
+          waits_then =
+              let lay = lies s it.lawful page it.found it.seen_as in
+              let here = ap (λ q. row_at q before) at_row ∙ there in
+              let now_waits = met_waits s.knobs _ _ row it.lawful.order it.lawful.waits met_is here (ap (same_page met) at_row ∙ own)
+              (added (tree_of s.knobs row) row.bytes it.numbered) (λ that. (λ i. (same_again that i).waiting)) in
+              stays_there p page (turned_so s it.lawful page it.found it.seen_as rows (on_row to) to (λ x. refl) (λ r. refl) (λ i. (turned i).held) kept refl to refl
+              (subst (AreTied (change_row page (λ _. to row) before)) (let_out_alone row.state page alone)
+              (tied_left _ _ _ it.lawful.order there _ _ refl it.lawful.tied)) (rw (← at_row) now_waits) (grind (arith, lay, alone)))
 
           -- a row that stays, without a dup, not for Zero and without a partner, is found to wait
           pub finds_waits : Finds (seen p) (seen (view_of (record s { rows = rows; dups = later }))) page finds.Waits
           finds_waits =
-              let met_none = met_own s.knobs _ _ row it.lawful.order it.lawful.waits met_is same_own in
+              let met_none = met_own s.knobs _ _ row it.lawful.order it.lawful.waits met_is (rw at_row own) in
               let none_waits = (λ i. partner (sym it.seen_as i).knobs (sym it.seen_as i).rows row) ∙ met_none in
-              let listed = (λ i. (turned i).restless) ∙ (λ i. (it.seen_as i).restless) in
-              let now =
-              told_still s it.lawful _ it.found _ to (λ x. refl) (λ r. refl) rows held_now it.seen_as later
-              (λ i. dup_rows (kept i).dups) (λ i. (kept i).next) _ refl (lies_alike _ Waiting _ _ (sym (rests _ alone)))
-              ∙ (λ i. record (seen p) { rows = change_row page to p.rows; restless = (listed i) })
-              ∙ ap (λ q. visited q to (seen p)) (sym at_row) in
-              finds_at _ _ (may, no_best, stayed, zero_as ∙ other, none_waits, now)
+              finds_at _ _ (may, no_best, stayed, zero_as ∙ other, none_waits, grind (arith, waits_then.told_as, at_row))

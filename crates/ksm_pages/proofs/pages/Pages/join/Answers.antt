@@ -1,6 +1,6 @@
 use Rattle.ksm_pages.proofs.Names.{arith}
 use Rattle.ksm_pages.proofs.Names.{ap, false, HasRoom, held_at, held_of, PagesValue, rows_of, rules, shared_state, Some, subst, sym, tied_absent, ◌∙◌, ◌≡◌}
-use Rattle.ksm_pages.proofs.Joined.{fewer_room, known_room, lawful_joined, own_not_merged, own_seat, told_joined}
+use Rattle.ksm_pages.proofs.Joined.{fewer_room, known_room, joins, own_not_merged, own_seat, told_joined}
 use Rattle.ksm_pages.proofs.Leaving.{alone_found, alone_there, lies, row_there}
 use Rattle.ksm_pages.proofs.pages.Pages.join.Goals as goal
 use Rattle.ksm_pages.proofs.pages.Pages.join.Goals.{After-left_by}
@@ -33,8 +33,8 @@ alone c = alone_found c.self.inside c.self.view_is _ (found c) c.requires.alone
 pub invariant_of-self-2 : goal.invariant_of-self-2
 invariant_of-self-2 c =
     let b = (goal.at.invariant_of-self-2 c).After-left_by in
-    lawful_joined c.self.inside c.self.invariant _ (found b) (alone b) _
-    c.in_ok-place.ensures.joined c.left_by.ensures.dups c.left_by.ensures.waiting c.merge.new.self (λ i. (c.merge.ensures i).held)
+    (joins c.self.inside c.self.invariant _ (found b) (alone b) _ c.in_ok-place.ensures.joined c.left_by.ensures.dups c.left_by.ensures.waiting
+    c.merge.ensures c.self.view_is).lawful
 
 pub returns-clause-left : goal.returns-clause-left
 returns-clause-left c = search (rules, lies, found, own_seat, alone)

@@ -1,4 +1,4 @@
-use Rattle.ksm_pages.proofs.Names.{arith}
+use Rattle.ksm_pages.proofs.Names.{arith, arith}
 use Rattle.ksm_pages.proofs.Names.{lies_on, None, seen, without_page, ◌∙◌}
 use Rattle.ksm_pages.proofs.Turning.{HasLeft, held_as, known_left, lay, parted}
 use Rattle.ksm_pages.proofs.pages.Pages.remove.Goals as goal
@@ -14,8 +14,4 @@ pub returns-clause-left : goal.returns-clause-left
 returns-clause-left c = lay (gone c) c.deref.ensures.value
 
 pub returns-clause-gone : goal.returns-clause-gone
-returns-clause-gone c =
-    let seen_now = seen c.args.self.now in
-    let listed = (λ i. (c.remove.ensures i).restless) ∙ (λ i. (c.self.view_is i).restless) in
-    (parted (gone c) c.remove.new.self (held_as c.remove.ensures)).told_as
-    ∙ (λ i. record seen_now { rows = without_page c.args.spot.page seen_now.rows; frame = lies_on c.args.spot.page None seen_now.frame; restless = listed i })
+returns-clause-gone c = grind (arith, (parted (gone c) c.remove.new.self (held_as c.remove.ensures)).told_as)

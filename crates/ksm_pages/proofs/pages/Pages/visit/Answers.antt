@@ -3,9 +3,10 @@ use Rattle.ksm_pages.proofs.Names.{ap, arith, held_of, Private, refl, Row, rules
 use Rattle.ksm_pages.specs.Paged.{visited}
 use Rattle.ksm_pages.proofs.Leaving.{row_seen, view_of}
 use Rattle.ksm_pages.proofs.Resting.{rests}
-use Rattle.ksm_pages.proofs.Turning.{Comes, found_left, held_as, rested}
+use Rattle.ksm_pages.proofs.Leaving.{Comes}
+use Rattle.ksm_pages.proofs.Turning.{found_left, held_as, rested}
 use Rattle.ksm_tree.proofs.Numbers.{on_err}
-use Rattle.ksm_pages.proofs.Visiting.{IsAsked, asked, finds_changed, finds_dup, finds_gone, finds_partner, finds_waits, finds_zero, is_alone, lawful_waits}
+use Rattle.ksm_pages.proofs.Visiting.{IsAsked, asked, finds_changed, finds_dup, finds_gone, finds_partner, finds_waits, finds_zero, is_alone, waits_then}
 use Rattle.ksm_pages.proofs.pages.Pages.visit.Goals as goal
 use Rattle.ksm_pages.proofs.pages.Pages.visit.Goals.{After-best_of}
 
@@ -56,9 +57,9 @@ returns-then-is_for_zero-clause-found c =
 
 pub invariant_of-self-then-eq : goal.invariant_of-self-then-eq
 invariant_of-self-then-eq c =
-    lawful_waits (known (goal.at.invariant_of-self-then-eq c).After-best_of) c.in_default-best_of.ensures.best c.if-not-entry.false
+    (waits_then (known (goal.at.invariant_of-self-then-eq c).After-best_of) c.in_default-best_of.ensures.best c.if-not-entry.false
     (sym c.if-is_for_zero.ensures) c.meet-other.ensures.met c.meet-other.ensures.again (sym c.if-eq.ensures)
-    c.meet-other.ensures.kept c.meet-other.ensures.added c.remember.new.rows (c.remember.ensures ∙ c.wait.ensures)
+    c.meet-other.ensures.kept c.meet-other.ensures.added c.remember.new.rows (c.remember.ensures ∙ c.wait.ensures)).lawful
 
 pub returns-then-eq-clause-found : goal.returns-then-eq-clause-found
 returns-then-eq-clause-found c =
