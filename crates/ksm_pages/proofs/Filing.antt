@@ -1,5 +1,5 @@
 -- Entries under keys and the order of their pages: what is found, and what one entry that came, went or changed leaves.
-use Rattle.ksm_pages.proofs.Names.{All, All-append, All-cons, All-filter, ap, ap₂, AreAscending, AreFiled, arith, Bool, cases_Bool, change_held, comes_before, Decides-eqb, Entry, false, filter}
+use Rattle.ksm_pages.proofs.Names.{All-head, All-tail, [], All, All-append, All-cons, All-filter, ap, ap₂, AreAscending, AreFiled, arith, Bool, cases_Bool, change_held, comes_before, Decides-eqb, Entry, false, filter}
 use Rattle.ksm_pages.proofs.Names.{filter_passes, find, find_all, find_passes, get, get_or, GuestPage, Held, held_at, held_in, held_of, held_under, if◌then◌else◌, inl, InPageOrder, inr, is_of}
 use Rattle.ksm_pages.proofs.Names.{IsUnder, key_in, List, map, map-append, marked, Named, named_of, None, not, option_map, refl, rows_of, rules, same_page, same_page_eq, same_page_refl, same_page_sym}
 use Rattle.ksm_pages.proofs.Names.{same_Some, Slab, Some, sym, true, true≢false, with_held, with_named, without_held, without_named, ℕ, ◌++◌, ◌==◌, ◌∙◌, ◌∷◌, ◌≡◌, ◌≢◌}
@@ -155,15 +155,16 @@ module _ (slab : Slab Entry) (order : List Named) (rise : AreAscending order) (f
 
     -- where an entry came under a vacant key with a name, the rows have its row at the place of its page
     pub put : (pass : ℕ) → held_in pass later (with_named (named_of key e) order) ≡ with_held (held_of pass e) (held_in pass slab order)
-    put pass =
-        map-append (held_by pass later) (filter (λ n. comes_before n.page e.page) order) (named_of key e ∷ filter (λ n. comes_before e.page n.page) order)
-        ∙ ap₂ (λ front back. front ++ back) (part _) (ap₂ (λ h hs. h ∷ hs) (ap (held_under pass) fills.changed) (part _))
+    put pass = grind (arith, map-append, fills.changed, part (λ page. comes_before page e.page), part (comes_before e.page))
       where
         part : (test : GuestPage → Bool) → map (held_by pass later) (filter (λ n. test n.page) order) ≡ filter (λ h. test h.row.page) (held_in pass slab order)
-        part test =
-            map_alike _ _ _ (λ k d lt.
-            ap (held_under pass) (fills.others (get_or (filter (λ (m : Named). test m.page) order) k d).key (taken_key (All-filter _ (Stands slab) _ all_stand k d lt))))
-            ∙ sym (filter_mapped _ _ _ _ (λ k d lt. ap test (page_under _ slab (all_stand k d lt))))
+        part test = go order all_stand
+          where
+            go : (ns : List Named) → All (Stands slab) ns → map (held_by pass later) (filter (λ n. test n.page) ns) ≡ filter (λ h. test h.row.page) (held_in pass slab ns)
+            go [] stand = refl
+            go (n ∷ ns) stand =
+                let here = All-head (Stands slab) n ns stand in
+                grind (arith, go ns (All-tail (Stands slab) n ns stand), fills.others n.key (taken_key here), page_under pass slab here)
 
     -- where an entry came under a vacant key with a name, all pages are named as their entries say
     pub filed_put : AreFiled later (with_named (named_of key e) order)

@@ -8,7 +8,7 @@ use Rattle.std.proofs.lemmas.List.Kept.{AllPairs-filter}
 use Rattle.ksm_base.proofs.Edits.{count_more}
 use Rattle.ksm_tree.proofs.Alike.{filter_mapped, find_mapped, map_mapped, pairs_mapped}
 use Rattle.ksm_pages.specs.Ordered.{AreAscending as AreInOrder}
-use Rattle.ksm_pages.proofs.Keyed.{length_with}
+use Rattle.ksm_pages.proofs.Found.{length_with}
 use Rattle.ksm_order.specs.declared.item.Item.{Item}
 use Rattle.ksm_order.specs.Listed.{AreAscending, is_at, is_from, key_at, marked as kept_marked, up_to, with_item, with_mark, without}
 use Rattle.ksm_order.proofs.Parts.{up_to_few}

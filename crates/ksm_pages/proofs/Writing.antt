@@ -10,7 +10,7 @@ use Rattle.ksm_pages.specs.declared.row.Kind.TheVariants as kinds
 use Rattle.ksm_pages.specs.declared.rows.Rows.TheInside.{Inside}
 use Rattle.ksm_pages.proofs.Changing.{marked_same, row_told, rows_changed, rows_with, rows_without}
 use Rattle.ksm_pages.proofs.Filing.{all_filled, filed_kept, filed_marked, filed_put, filed_taken, held_found, held_nowhere, named_under, one_key, put, rows_rise, taken, written}
-use Rattle.ksm_pages.proofs.Keyed.{absent_unchanged, write_rises}
+use Rattle.ksm_pages.proofs.Found.{absent_unchanged, write_rises}
 use Rattle.ksm_rmap.proofs.Ordered.{absent_kept, with_rises, without_rises}
 use Rattle.ksm_pages.proofs.Listings.{with_has}
 use Rattle.ksm_pages.proofs.Tallying.{can_move, tally_changed, tally_gone, tally_put}

@@ -23,14 +23,8 @@ invariant_of-self-else-restless-was_restless c =
 
 pub returns-then-restless-was_restless : goal.returns-then-restless-was_restless
 returns-then-restless-was_restless c =
-    let s = c.self.inside in
-    let e = c.index_mut-entry.result.now in
-    viewed s c.self.invariant c.in-Some.ensures.there c.index_mut-entry.ensures.value _ refl
-    _ (ap (λ st. mapped st (Some c.args.frame) (held_of s.pass e)) (rests_now _ c.self.invariant.counting)) _ c.self.view_is
+    search (rules, rests_now, viewed c.self.inside c.self.invariant c.in-Some.ensures.there)
 
 pub returns-else-restless-was_restless : goal.returns-else-restless-was_restless
 returns-else-restless-was_restless c =
-    let s = c.self.inside in
-    let e = c.index_mut-entry.result.now in
-    viewed s c.self.invariant c.in-Some.ensures.there c.index_mut-entry.ensures.value _ refl
-    _ (ap (λ st. mapped st (Some c.args.frame) (held_of s.pass e)) (rests_now _ c.self.invariant.counting)) _ c.self.view_is
+    search (rules, rests_now, viewed c.self.inside c.self.invariant c.in-Some.ensures.there)
