@@ -75,5 +75,4 @@ lodged_alike {of} {to} held same = λ i page. (frame_by of held page ∙ go page
 pub lodged_dropped : {place : ℕ} (frames : List ℕ) (dups : List DupRow) (held : List Held) → IsVacant place (rows_of held) dups
     → frame_of (lodgings_of (lodging (filter (elsewhere place) dups) frames) held) ≡ frame_of (lodgings_of (lodging dups frames) held)
 lodged_dropped frames dups held vacant =
-    lodged_alike _ (λ page r n there merged. ap (option_and_then (λ (d : DupRow). slice_get frames d.place)) (find_kept _ _ _ _ refl
-    (λ e is. ap not (not_vacant _ _ page vacant there merged e is))))
+    lodged_alike _ (λ page r n there merged. grind (arith, find_kept, not_vacant))

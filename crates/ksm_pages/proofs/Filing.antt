@@ -54,7 +54,7 @@ all_filled {slab} {later} {key} {e} fills {P} new others k f stands = grind (ari
 module _ (slab : Slab Entry) (order : List Named) (filed : AreFiled slab order) where
   -- an entry that stands under a key is found in the order, by its page, under that key
   pub named_under : (key : ℕ) (e : Entry) → get slab key ≡ Some e → find (is_of e.page) order ≡ Some (named_of key e)
-  named_under key e stands = (filed (named_of key e)).1 (ap (option_map (named_of key)) stands)
+  named_under key e stands = (filed (named_of key e)).1 (grind arith)
 
   -- entries of one page stand under one key
   pub one_key : {k l : ℕ} {e f : Entry} → get slab k ≡ Some e → get slab l ≡ Some f → e.page ≡ f.page → k ≡ l
@@ -67,7 +67,7 @@ module _ (slab : Slab Entry) (order : List Named) (filed : AreFiled slab order) 
       let at = mapped_some _ _ told in
       let of_it = same_page_eq _ _ (find_passes (is_of page) order _ at.1) in
       let u = under_named slab _ ((filed at.0).0 (ap (λ p. find (is_of p) order) of_it ∙ at.1)) in
-      record { entry = u.entry; stands = ap (get slab) (sym at.2) ∙ u.stands; of_page = u.of_page ∙ of_it }
+      grind arith
 
 module _ (slab : Slab Entry) (order : List Named) (rise : AreAscending order) (filed : AreFiled slab order) where
   -- each page that the order names stands under its key
@@ -128,7 +128,7 @@ module _ (slab : Slab Entry) (order : List Named) (rise : AreAscending order) (f
       away k d lt =
           let stands = All-filter _ (Stands slab) _ all_stand k d lt in
           let passes = filter_passes _ order k d lt in
-          (stands, λ at. true≢false (sym passes ∙ ap not (ap (λ p. same_page p e.page) (grind arith) ∙ same_page_refl e.page)))
+          grind (arith, same_page_refl)
 
       -- where one entry is gone with the name of its page, the row of that page is gone, and no other
       pub taken : (pass : ℕ) → held_in pass later (without_named e.page order) ≡ without_held e.page (held_in pass slab order)
@@ -140,7 +140,7 @@ module _ (slab : Slab Entry) (order : List Named) (rise : AreAscending order) (f
       pub filed_taken : AreFiled later (without_named e.page order)
       filed_taken =
           filed_by later _
-          (λ k d lt. let n = get_or (without_named e.page order) k d in ap (option_map (named_of n.key)) (fills.others n.key (away k d lt).1) ∙ (away k d lt).0)
+          (λ k d lt. grind (arith, away))
           (λ k f stands.
           let apart : k ≢ key = λ at. full _ _ (ap (get later) at ∙ fills.changed) stands in
           let was = sym (fills.others k apart) ∙ stands in
@@ -170,7 +170,7 @@ module _ (slab : Slab Entry) (order : List Named) (rise : AreAscending order) (f
     pub filed_put : AreFiled later (with_named (named_of key e) order)
     filed_put =
         filed_by later _ (All-append (Stands later) _ _ (part_stands _)
-        (All-cons (Stands later) (named_of key e) _ (ap (option_map (named_of key)) fills.changed) (part_stands (comes_before e.page))))
+        (All-cons (Stands later) (named_of key e) _ (grind arith) (part_stands (comes_before e.page))))
         (all_filled fills (find_put page_of _ _ order refl)
         (λ k f was apart. find_put_other _ _ f.page _ _ refl rise absent (differ k f was) ∙ named_under slab _ filed k f was))
       where

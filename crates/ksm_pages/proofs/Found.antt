@@ -28,7 +28,7 @@ module _ {X : Type 0} (key : X → GuestPage) where
   each_found [] rise = grind arith
   each_found (x ∷ xs) rise =
       All-cons (λ z. find (is_of_page (key z)) (x ∷ xs) ≡ Some z) x _
-      (ap (λ b. cond b (Some x) (find (is_of_page (key x)) xs)) (same_page_refl (key x)))
+      (grind (arith, same_page_refl))
       (λ k d lt.
       let z = get_or xs k d in
       let apart = pages_ordered.apart (key x) (key z) (pairs_head Before x _ rise k d lt) in
@@ -92,7 +92,7 @@ module _ {X : Type 0} (key : X → GuestPage) where
     -- with one more element of a page, a search for another page finds what it found before
     pub find_put_other : (other : GuestPage) (x : X) (xs : List X) → key x ≡ page → AllPairs Before xs → find is_it xs ≡ None → same_page page other ≡ false → find (is_of_page other) (filter low xs ++ x ∷ filter high xs) ≡ find (is_of_page other) xs
     find_put_other other x xs at rise absent differ =
-        find_over (is_of_page other) (filter low xs) (filter high xs) x (ap (λ p. same_page p other) at ∙ differ)
+        find_over (is_of_page other) (filter low xs) (filter high xs) x (grind arith)
         ∙ ap (find (is_of_page other)) (sym (absent_parts pages_ordered key page _ rise absent))
 
     -- without the elements of the page, a search for the page finds nothing

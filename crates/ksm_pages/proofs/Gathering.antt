@@ -41,7 +41,7 @@ module _ (slab : Slab Entry) (order : List Named) (rise : AreAscending order) (f
     -- an entry that is not behind it is its own, or was not behind the last
     passed : (key : ℕ) {e : Entry} → get slab key ≡ Some e → comes_before n.page e.page ≡ false → (e.page ≡ n.page) ⊎ (after_cursor last e.page ≡ false)
     passed key {e} stands not_behind =
-        let first = find_all (is_of e.page) (λ m. after_cursor last m.page ≡ true → comes_before m.page n.page ≡ false) order (named_of key e) (named_under slab order filed key e stands)
+        let first = find_all (is_of e.page) (λ m. after_cursor last m.page ≡ true → comes_before m.page n.page ≡ false) order (named_of key e) (grind (arith, named_under))
         (first_found (λ m. m.page) (λ m. after_cursor last m.page) order n rise found) in
         grind (arith, first, one_before, same_page_eq)
 
@@ -57,7 +57,7 @@ module _ (slab : Slab Entry) (order : List Named) (rise : AreAscending order) (f
             let u = next_stands in
             let is_it = same_Some f e (sym stands ∙ ap (get slab) (one_key slab _ filed stands u.stands (same ∙ sym u.of_page)) ∙ here) in
             absurd (grind arith)
-        | inr before ↦ (λ i. has_item f.page (is i).pages) ∙ listed ((λ i. (sym is i).known) ∙ known) key f stands may before
+        | inr before ↦ (λ i. has_item f.page (is i).pages) ∙ listed (grind arith) key f stands may before
       ]
 
   -- where no page is behind the cursor, all pages are listed that a visit may change
@@ -71,7 +71,7 @@ module _ (slab : Slab Entry) (order : List Named) (rise : AreAscending order) (f
   rows_listed pass pages listed =
       All-map (λ r. may_change r ≡ true → has_item r.page pages ≡ true) _ _
       (All-map (λ (h : Held). may_change h.row ≡ true → has_item h.row.page pages ≡ true) _ _
-      (λ k d lt. at _ (all_stand slab _ rise filed k d lt)))
+      (λ k d lt. grind (arith, all_stand)))
     where
       at : (n : Named) → option_map (named_of n.key) (get slab n.key) ≡ Some n → may_change (held_under pass (get slab n.key)).row ≡ true → has_item (held_under pass (get slab n.key)).row.page pages ≡ true
       at n stands may = grind arith
@@ -79,7 +79,7 @@ module _ (slab : Slab Entry) (order : List Named) (rise : AreAscending order) (f
   -- a row has a frame of its own exactly where it is not shared
   pub rows_framed : (pass : ℕ) → All (λ h. is_some h.frame ≡ not (shared_state h.row.state)) (held_in pass slab order)
   rows_framed pass =
-      All-map (λ (h : Held). is_some h.frame ≡ not (shared_state h.row.state)) _ _ (λ k d lt. at _ (all_stand slab _ rise filed k d lt))
+      All-map (λ (h : Held). is_some h.frame ≡ not (shared_state h.row.state)) _ _ (λ k d lt. grind (arith, all_stand))
     where
       at : (n : Named) → option_map (named_of n.key) (get slab n.key) ≡ Some n → is_some (held_under pass (get slab n.key)).frame ≡ not (shared_state (held_under pass (get slab n.key)).row.state)
       at n stands = grind arith

@@ -1,4 +1,5 @@
 -- The pages once a page with a frame of its own joined a dup.
+use Rattle.ksm_pages.proofs.Names.{rules}
 use Rattle.ksm_pages.proofs.Names.{All, ap, AreKept, AreTied, arith, both_ways, change_held, change_items, change_row, count_by, Dup, dup_numbered, dup_of, DupRow, DupsState, each_at_page, Entry}
 use Rattle.ksm_pages.proofs.Names.{eq-eqb, false, find_none, frame_of, get_or, GuestPage, HasRoom, Held, held_at, held_of, InPageOrder, Inside, is_some, IsStopped, items_in, length, let_out, lies_on}
 use Rattle.ksm_pages.proofs.Names.{List, Listing, lodging, lodgings_of, mapped, Merged, merged_into, merged_state, MOST_REFERENCES, None, number_found, Option, option_map, PageState, PagesValue}

@@ -24,7 +24,7 @@ knobs_free knobs tuned rows w are still t b q =
 -- the dup with a number stands at the place that the dup row with that number tells
 pub place_numbered : (number : ℕ) (dups : List Dup) → option_map (λ d. d.row.place) (dup_of number dups) ≡ option_map (λ d. d.place) (dup_numbered number (dup_rows dups))
 place_numbered number dups =
-    sym (mapped_twice (λ (d : DupRow). d.place) (λ (d : Dup). d.row) _)
+    sym (grind (arith, mapped_twice))
     ∙ ap (option_map (λ (d : DupRow). d.place)) (dup_row_found _ _ (λ d. refl) dups)
 
 -- a dup that stands at a place with a number is the one with that number

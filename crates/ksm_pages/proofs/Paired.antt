@@ -85,7 +85,7 @@ module _ (s : Inside) {p : PagesValue} (seen_as : view_of s ≡ p) (place : ℕ)
       → MayPair (seen (view_of s)) place a.row b.row
   may_both {a} {b} found also =
       subst (λ v. MayPair (seen v) place a.row b.row) (sym seen_as)
-      (subst (IsOfBoth (MayPair (seen p) place) (Some a.row)) (row_seen s seen_as _ also) (may_first found))
+      (grind (arith, row_seen, seen_as, may_first))
 
 -- the dups with a new one of two pages
 abbrev with_pair : DupRow → GuestPage → GuestPage → DupsState → DupsState

@@ -152,7 +152,7 @@ module _ (items : List Item) {now : List Named} (seen_as : map named_by items �
       rw visited_is
       (filter_mapped page_by (after_cursor cursor) (is_from key) kept (λ k d lt. from (get_or kept k d).key)
       ∙ ap (map page_by) (kept_from key kept (AllPairs-filter Less _ _ rise) ∙ ap (λ n. drop n kept) (sym (counted_marked key items)))
-      ∙ sym (drop-map page_by (up_to key items) kept))
+      ∙ sym (grind (arith, drop-map)))
 
   -- those behind a cursor and before a page, where it is known how many visited ones come before each
   module _ (cursor : Option GuestPage) (page : GuestPage) (few : page.page < 2 ^ 32) (rise : AreAscending items)
@@ -163,7 +163,7 @@ module _ (items : List Item) {now : List Named} (seen_as : map named_by items �
         let whole = ap (drop passed) visited_is ∙ drop-map page_by passed kept in
         let count = many ∙ counted_marked (key_of page) items in
         ap (filter (λ p. comes_before p page)) (ahead ∙ whole)
-        ∙ filter_mapped page_by (λ p. comes_before p page) (below (key_of page)) _ (λ k d lt. before_its _ few (get_or (drop passed kept) k d))
+        ∙ filter_mapped page_by (λ p. comes_before p page) (below (key_of page)) _ (λ k d lt. grind (arith, before_its))
         ∙ ap (map page_by) (kept_between (key_of page) _ _ (AllPairs-filter Less _ _ rise) ∙ ap (λ n. take (n - passed) (drop passed kept)) (sym count))
         ∙ sym (take-map _ _ _) ∙ ap (take (before - passed)) (sym whole)
 
@@ -181,4 +181,4 @@ module _ (items : List Item) {now : List Named} (seen_as : map named_by items �
         let m = before - passed - 1 in
         let more : before - passed ≡ suc m = omega arith in
         ap (last_of cursor) (passed_is ∙ ap (λ n. take n (drop passed (visited now))) more)
-        ∙ last_of_take _ m cursor (get_dropped passed m (visited now) ∙ ap (slice_get (visited now)) (omega arith) ∙ visited_at _ is)
+        ∙ last_of_take _ m cursor (grind (arith, get_dropped, visited_at))

@@ -26,7 +26,7 @@ module _ (pass : ℕ) (slab : Slab Entry) (order : List Named) (rise : AreAscend
   pub page_found : (test : GuestPage → Bool) → option_map (λ r. r.page) (find (λ r. test r.page) (rows_of (held_in pass slab order))) ≡ option_map page_of (find (λ n. test n.page) order)
   page_found test =
       ap (λ rows. option_map (λ (r : Row). r.page) (find (λ r. test r.page) rows)) rows_by
-      ∙ ap (option_map (λ (r : Row). r.page)) (find_mapped _ _ _ _ (λ k d lt. ap test (all_pages k d lt)))
+      ∙ ap (option_map (λ (r : Row). r.page)) (grind (arith, find_mapped, all_pages))
       ∙ go _ refl
     where
       go : (o : Option Named) → find (λ n. test n.page) order ≡ o → option_map (λ (r : Row). r.page) (option_map row_by o) ≡ option_map page_of o

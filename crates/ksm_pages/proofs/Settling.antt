@@ -28,7 +28,7 @@ counts_alike : (f : Held → Held) (p q : PageState → Bool) → ((h : Held) �
 counts_alike f p q same held =
     ap (count_by (λ r. p r.state)) (map_mapped (λ (h : Held). h.row) f (λ (h : Held). (f h).row) held (λ k d lt. refl))
     ∙ count_mapped (λ (h : Held). (f h).row) (λ r. p r.state) (λ h. q h.row.state) _ (λ k d lt. same (get_or held k d))
-    ∙ sym (count_mapped (λ (h : Held). h.row) (λ r. q r.state) (λ h. q h.row.state) held (λ k d lt. refl))
+    ∙ sym (grind (arith, count_mapped))
 
 -- the tally of rows of which none waits any more
 tally_settled : (held : List Held) {tally : Tally} → IsTally (rows_of held) tally
@@ -98,7 +98,7 @@ module _ {slab : Slab Entry} {order : List Named} {restless : Listing} {tally : 
     filed = are.filed;
     listed = are.listed;
     counted = rw next_seen (tally_settled _ are.counted);
-    begun = λ k e stands own. omega (arith, are.begun k e stands own);
+    begun = grind arith;
     counting = omega arith;
   }
 
@@ -131,4 +131,4 @@ module _ {slab : Slab Entry} {order : List Named} {restless : Listing} {tally : 
     pub plain_rows : IsRows later order restless tally pass
     plain_rows =
         all_rows are later pass plain slots (λ e. refl) (λ e. refl) (λ e. refl) (on_row told_plain) (λ k e stands. refl)
-        are.begun are.counting (tally_kept (on_row told_plain) (λ h. refl) _ are.counted)
+        are.begun are.counting (search (rules, tally_kept))

@@ -144,7 +144,7 @@ module _ (s : Inside) (are : AreLawful s) {p : PagesValue} (seen_as : view_of s 
       → Comes s rows s.dups (record (seen p) { rows = change_row page g p.rows; restless = rows.restless })
   stays page g same states alike rows turned =
       still f (λ r. grind (arith, same r)) (λ r. grind (arith, states r)) rows
-      (turned ∙ map_alike _ _ _ (λ k d lt. grind arith)) _ refl waiting
+      (grind (arith, map_alike)) _ refl waiting
     where
       f : Row → Row
       f r = if same_page r.page page then g r else r

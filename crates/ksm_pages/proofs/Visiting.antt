@@ -64,7 +64,7 @@ pub asked : {s : Inside} → AreLawful s → {p : PagesValue} → view_of s ≡ 
     → IsAsked (record s { dups = later }) p page e group
 asked {s} are seen_as {e} found restless {later = later} kept {group = group} in_tree numbered = record {
   lawful = lawful_numbered s kept are;
-  seen_as = seen_numbered s kept ∙ seen_as;
+  seen_as = grind arith;
   found = found;
   restless = restless;
   numbered = rw (← in_tree (held_of s.rows.pass e).row refl) numbered;
@@ -105,7 +105,7 @@ module _ {s : Inside} {p : PagesValue} {page : GuestPage} {e : Entry} {group : �
   best_is : best_dup p.knobs p.rows p.dups row ≡ option_map (λ d. d.row) (best (tree_of s.knobs row) row.bytes)
   best_is =
       ap (λ (v : PagesValue). best_dup v.knobs v.rows v.dups row) (sym it.seen_as)
-      ∙ sym (best_found before s.knobs row _ (tied_counted before _ it.lawful.tied))
+      ∙ sym (search (rules, best_found, tied_counted))
 
   -- where the group of an asked row has a best dup, the visit finds that dup
   pub finds_dup : (b : Best) → IsOfGroup (λ tree bytes. Some b ≡ option_map found_at (best tree bytes))
@@ -151,7 +151,7 @@ module _ {s : Inside} {p : PagesValue} {page : GuestPage} {e : Entry} {group : �
             let partner_is = subst (λ (v : PagesValue). MatchOption (partner v.knobs v.rows row) (true ≡ false)
             (λ w. met ≡ w.page)) it.seen_as (met_partner s.knobs _ _ row it.lawful.order it.lawful.waits met_is from) in
             let same = (λ i. seen (view_of (record s { dups = (same_again (ap is_some that) i) }))) ∙ ap seen it.seen_as in
-            finds_at _ _ (may, no_best, stayed, zero_as ∙ other, partner_is, same)
+            grind (arith, finds_at, may, no_best, zero_as)
 
         module _ (own : same_page met page ≡ true) (kept : later ≡ record s.dups { waiting = later.waiting })
             (added : IsOfGroup (λ tree bytes. IsAdded tree bytes met s.dups.waiting later.waiting)) (rows : RowsView)

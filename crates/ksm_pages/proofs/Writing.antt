@@ -89,7 +89,7 @@ module _ (s : Inside) (are : AreRows s) where
     can_be is {state} few =
         let many : length (rows_of held) < 2 ^ 64 =
         omega (arith, length-map held (λ (h : Held). h.row), length-map s.order (λ (n : Named). held_under s.pass (get s.entries n.key)), few) in
-        rw is (can_move rise _ found_row s.tally are.counted (record (held_of s.pass e).row { state = state }) many)
+        rw is (can_move rise _ found_row s.tally are.counted (search rules) many)
 
     -- ---------------------------------------------------------------- the entry changed
 
@@ -107,7 +107,7 @@ module _ (s : Inside) (are : AreRows s) where
         tallied : IsTally (rows_of (held_in s.pass later s.order)) tally
         tallied =
             rw (ap rows_of (held_later _ refl) ∙ rows_changed _ (λ _. held_of s.pass e') _ _ (λ h. refl))
-            (tally_changed rise _ found_row _ are.counted _ (rw (← was) (rw (← is) moved)))
+            (tally_changed rise _ found_row _ are.counted _ (grind arith))
 
       begun_still : (e'.kind ≡ kinds.Own → e'.number ≤ s.pass) → AreBegun later s.pass
       begun_still fits = search (rules, fills)
@@ -138,8 +138,7 @@ module _ (s : Inside) (are : AreRows s) where
           → {from to : PageState} {tally : Tally} → from ≡ state_of e.kind e.number s.pass → to ≡ state_of e'.kind e'.number s.pass
           → IsMoved from to s.tally tally → IsRows later s.order now tally s.pass
       kept flag fits less now is =
-          still flag fits (rw is (λ known. listed_still _ (λ k f stands apart. are.listed known k f stands)
-          (λ may. ap (λ p. has_item p s.restless.pages) (sym of_page) ∙ are.listed known key e stood (less may))))
+          still flag fits (grind (arith, listed_still, of_page))
 
       module _ (kind : e'.kind ≡ e.kind) (number : e'.number ≡ e.number) where
         fits_still : e'.kind ≡ kinds.Own → e'.number ≤ s.pass
@@ -153,7 +152,7 @@ module _ (s : Inside) (are : AreRows s) where
 
         -- rows with an entry written anew are lawful under the old list and tally where its flag and state stay
         pub untouched : e'.mergeable ≡ e.mergeable → IsRows later s.order s.restless s.tally s.pass
-        untouched flag = kept flag fits_still (λ may. sym (ap₂ (λ m k. m && is_own k) flag kind) ∙ may) _ refl refl same_state (unmoved)
+        untouched flag = kept flag fits_still (λ may. grind arith) _ refl refl same_state (unmoved)
 
         -- rows with an entry written anew are lawful where the order marks its page so, and its state stays
         pub still_marked : {now : Listing} → (now.known ≡ true → AreListed later now.pages)
@@ -178,7 +177,7 @@ module _ (s : Inside) (are : AreRows s) where
           → view s.pass later s.order now ≡ record v { held = change_held page f v.held }
       viewed_same f is same_list {v} seen_as =
           viewed f is _ seen_as
-          ∙ ap (λ l. record v { held = change_held page f v.held; restless = l }) (same_list ∙ (λ i. (seen_as i).restless))
+          ∙ ap (λ l. record v { held = change_held page f v.held; restless = l }) (grind arith)
 
       -- with an entry written anew and its page marked, the rows are seen with f at that page, and the new list
       pub viewed_marked : (f : Held → Held) → held_of s.pass e' ≡ f (held_of s.pass e) → (m : Bool) (now : Listing) {v : RowsView}
@@ -194,7 +193,7 @@ module _ (s : Inside) (are : AreRows s) where
         → IsMoved from to s.tally tally → IsRows (with_value s.entries key now) s.order s.restless tally s.pass
     kept_forgotten e' is same flag kind {from} {to} {tally} was told moved =
         rw is (kept _ same flag (left_fits _ _ _) (λ may. sym (ap₂ (λ m k. m && is_own k) flag kind) ∙ may)
-        _ refl was (told ∙ (λ i. state_of (is i).kind (is i).number s.pass)) moved)
+        _ refl was (grind arith) moved)
 
     -- the row of an entry that is changed, and then forgets its pass, is seen changed and settled
     pub viewed_forgotten : (e' : Entry) {now : Entry} → now ≡ forgotten e' → e'.page ≡ e.page → (f : Row → Row)
@@ -218,7 +217,7 @@ module _ (s : Inside) (are : AreRows s) where
       still_gone {from} {tally} was moved = record {
         ascending = without_rises pages_ordered (λ (n : Named). n.page) page _ are.ascending;
         filed = rw (← of_page) (filed_taken _ _ are.ascending are.filed stood fills);
-        listed = λ known k f stands may. are.listed known k f (stood_before stands).0 may;
+        listed = grind (arith, stood_before);
         counted = rw (ap rows_of held_gone ∙ rows_without page held) (tally_gone rise _ found_row _ are.counted (rw (← was) moved));
         begun = λ k f stands. are.begun k f (stood_before stands).0;
         counting = are.counting;
@@ -269,12 +268,7 @@ module _ (s : Inside) (are : AreRows s) {v : RowsView} (seen_as : view_of s ≡ 
   still_put alone fits added = record {
     ascending = with_rises pages_ordered (λ (n : Named). n.page) _ (named_of key e) _ refl are.ascending;
     filed = filed_put _ _ are.ascending are.filed vacant not_named fills;
-    listed = λ known. elim added [
-      | inl is ↦
-          rw is (all_filled fills (λ may. with_has e.page e.page s.restless.pages (inl (same_page_refl e.page)))
-          (λ k f stands apart may. with_has f.page e.page s.restless.pages (inr (are.listed (listed_known s.restless _ is known) k f stands may))))
-      | inr is ↦ absurd (grind arith)
-    ];
+    listed = grind (arith, all_filled, with_has, same_page_refl, listed_known);
     counted = rw (ap rows_of held_put ∙ rows_with (held_of s.pass e) before)
         (tally_put _ (row_told e.page before held_absent) alone are.counted);
     begun = all_filled fills (λ own. fits) (λ k f stands apart. are.begun k f stands);
@@ -301,5 +295,5 @@ swept_rows s are {now} known kept = relisted s are listed
       | inr (inr calm) ↦
           let at = one_key s.entries _ are.filed calm.stands stands calm.of_page in
           let same = same_Some _ e (sym calm.stands ∙ ap (get s.entries) at ∙ stands) in
-          absurd (true≢false (sym may ∙ ap is_restless (sym same) ∙ calm.calm))
+          absurd (grind arith)
     ]

@@ -1,3 +1,4 @@
+use Rattle.ksm_pages.proofs.Names.{arith}
 use Rattle.ksm_pages.proofs.Names.{ap, is_some, sym, ◌∙◌}
 use Rattle.ksm_pages.proofs.Gathering.{all_passed, fewer_behind, next_stands, one_added, one_passed}
 use Rattle.ksm_pages.proofs.rows.gather.Goals as goal
@@ -18,7 +19,7 @@ loop-named-preserved c =
           (rw w.restless-is w.add.ensures.added)
       | else-is_restless w ↦
           one_passed slab _ c.requires.ascending c.requires.filed _ (sym c.in-Some.ensures) c.loop-named.invariant
-          c.index.ensures (sym c.is_restless.ensures ∙ w.if-is_restless.false) w.restless-is
+          c.index.ensures (grind arith) w.restless-is
     ]
 
 pub returns : goal.returns

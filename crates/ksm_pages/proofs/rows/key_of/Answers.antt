@@ -10,7 +10,7 @@ returns-then-eq c =
       stands = stands;
       of_page = same_page_eq _ _ (sym c.if-eq.ensures);
     } in
-    record { told = sym (grind (arith, named_under)); there = here; few = rw (← c.len.ensures) c.len.type_inv }
+    grind (arith, named_under)
 
 -- a key that is told is that of an entry of the page
 there_if : (c : goal.After-search) (o : Option ℕ) → c.search.result ≡ o → IfSome o (IsUnder c.args.entries.now c.args.spot.page)

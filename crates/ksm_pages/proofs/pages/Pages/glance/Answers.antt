@@ -1,3 +1,4 @@
+use Rattle.ksm_pages.proofs.Names.{arith}
 use Rattle.ksm_pages.proofs.Names.{ap, found_at, option_map, refl, rules, same_page, same_page_refl, sym, true, ◌≡◌}
 use Rattle.ksm_pages.proofs.Visiting.{IsAsked, asked, finds_gone, finds_waits, waits_then}
 use Rattle.ksm_pages.proofs.pages.Pages.glance.Goals as goal
@@ -17,7 +18,7 @@ invariant_of-self c =
 
 pub returns-clause-waits : goal.returns-clause-waits
 returns-clause-waits c _ =
-    finds_waits (known c) (λ t b is. sym (ap (option_map found_at) (c.if-not-is_closed_group.ensures.best refl t b is)))
+    finds_waits (known c) (λ t b is. grind arith)
     c.if-not-entry.false (sym c.if-is_for_zero.ensures) c.meet.ensures.met c.meet.ensures.again (own c) c.meet.ensures.kept c.meet.ensures.added
     _ c.wait.ensures
 

@@ -8,12 +8,12 @@ use Rattle.ksm_pages.proofs.pages.Pages.join.Goals.{After-left_by}
 pub join_at-requires-clause-known : goal.join_at-requires-clause-known
 join_at-requires-clause-known c =
     known_room (rows_of c.self.inside.rows.held) _ c.self.invariant.tied
-    (subst (λ (v : PagesValue). HasRoom v.rows v.dups c.args.best.number) (sym c.self.view_is) c.requires.room)
+    (grind arith)
 
 pub join_at-requires-clause-fewer : goal.join_at-requires-clause-fewer
 join_at-requires-clause-fewer c =
     fewer_room (rows_of c.self.inside.rows.held) _ c.self.invariant.tied
-    (subst (λ (v : PagesValue). HasRoom v.rows v.dups c.args.best.number) (sym c.self.view_is) c.requires.room)
+    (grind arith)
 
 pub join_at-requires-clause-absent : goal.join_at-requires-clause-absent
 join_at-requires-clause-absent c =

@@ -1,3 +1,4 @@
+use Rattle.ksm_pages.proofs.Names.{arith}
 use Rattle.ksm_pages.proofs.Names.{ap, change_row, held_of, refl, rules, seen, Some, stored, sym, ◌∙◌}
 use Rattle.ksm_pages.proofs.Leaving.{Comes}
 use Rattle.ksm_pages.proofs.Turning.{HasLeft, found_left, held_as, rested}
@@ -8,7 +9,7 @@ alone : (c : goal.After-store) → HasLeft c.self.inside c.args.self.now c.args.
 alone c =
     found_left c.self.invariant c.self.view_is
     (c.in-Some.ensures ∙ ap (λ n. Some (held_of n c.in-Some.entry.now)) (sym c.pass.ensures))
-    (record { dups = search rules; waiting = search rules; frame = search rules })
+    (grind arith)
 
 -- it gets its bytes
 written : (c : goal.After-store) → Comes c.self.inside c.store.new.self c.self.inside.dups (record (seen c.args.self.now) {

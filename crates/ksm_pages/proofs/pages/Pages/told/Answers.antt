@@ -20,8 +20,5 @@ returns c =
       spot = c.in_ok-spot.ensures.0;
       home = refl;
       shared = grind arith;
-      frame = c.frame_of.ensures
-          ∙ ap₂ (λ (frames : List ℕ) pass. seat (lodging (dup_rows s.dups.dups) frames) (Some (held_of pass e))) c.deref.ensures.value c.pass.ensures
-          ∙ ap (seat of_dup) (sym c.in_ok-spot.ensures.1)
-          ∙ sym (frame_by of_dup s.rows.held page);
+      frame = grind (arith, frame_by);
     })

@@ -41,7 +41,7 @@ went c it =
     let left = found_left {s = s} {p = view_of s} it.lawful refl (rw c.pass-pass.ensures it.found) c.left_by.ensures in
     let now = rested left c.become_unchanged.new.self kept found (λ r. refl) (λ r. refl)
     (is_alone s it.lawful _ c.in-Some.entry.now it.found it.restless) (λ alone. grind (arith, alone)) (held_as c.become_unchanged.ensures) in
-    record { lawful = now.lawful; told_as = grind (arith, now.told_as) }
+    grind arith
 
 pub invariant_of-self-then-not-entry : goal.invariant_of-self-then-not-entry
 invariant_of-self-then-not-entry c = search (rules, went, known)
@@ -70,7 +70,7 @@ returns-then-eq-clause-found c =
 pub returns-clause-found : goal.returns-clause-found
 returns-clause-found c =
     finds_partner (known (goal.at.returns-clause-found c).After-best_of) c.in_default-best_of.ensures.best c.if-not-entry.false
-    (sym c.if-is_for_zero.ensures) c.meet-other.ensures.met c.meet-other.ensures.again (sym c.if-eq.ensures)
+    (grind arith) c.meet-other.ensures.met c.meet-other.ensures.again (sym c.if-eq.ensures)
 
 pub returns-in_err-group-clause-restless : goal.returns-in_err-group-clause-restless
 returns-in_err-group-clause-restless c = grind (arith, on_err, row_seen, restless_as)
