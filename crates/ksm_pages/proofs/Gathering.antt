@@ -66,20 +66,18 @@ module _ (slab : Slab Entry) (order : List Named) (rise : AreAscending order) (f
       listed known key e stands may
       (find_all _ (λ m. after_cursor last m.page ≡ false) _ _ (named_under slab _ filed _ e stands) (find_none _ order none))
 
+  -- what holds of the row of each entry holds of all rows
+  pub rows_all : (pass : ℕ) (P : Held → Type 0) → ((key : ℕ) (e : Entry) → get slab key ≡ Some e → P (held_of pass e)) → All P (held_in pass slab order)
+  rows_all pass P each = All-map P _ order (λ k d lt.
+      let u = under_named slab _ (all_stand slab _ rise filed k d lt) in
+      rw u.stands (each _ u.entry u.stands))
+
   -- where the pages of all entries that a visit may change are listed, so are the pages of all such rows
   pub rows_listed : (pass : ℕ) (pages : List GuestPage) → AreListed slab pages → AreAllListed (rows_of (held_in pass slab order)) pages
   rows_listed pass pages listed =
       All-map (λ r. may_change r ≡ true → has_item r.page pages ≡ true) _ _
-      (All-map (λ (h : Held). may_change h.row ≡ true → has_item h.row.page pages ≡ true) _ _
-      (λ k d lt. grind (arith, all_stand)))
-    where
-      at : (n : Named) → option_map (named_of n.key) (get slab n.key) ≡ Some n → may_change (held_under pass (get slab n.key)).row ≡ true → has_item (held_under pass (get slab n.key)).row.page pages ≡ true
-      at n stands may = grind arith
+      (rows_all pass (λ h. may_change h.row ≡ true → has_item h.row.page pages ≡ true) (λ k e stands may. listed k e stands (grind (arith, restless_as pass e))))
 
   -- a row has a frame of its own exactly where it is not shared
   pub rows_framed : (pass : ℕ) → All (λ h. is_some h.frame ≡ not (shared_state h.row.state)) (held_in pass slab order)
-  rows_framed pass =
-      All-map (λ (h : Held). is_some h.frame ≡ not (shared_state h.row.state)) _ _ (λ k d lt. grind (arith, all_stand))
-    where
-      at : (n : Named) → option_map (named_of n.key) (get slab n.key) ≡ Some n → is_some (held_under pass (get slab n.key)).frame ≡ not (shared_state (held_under pass (get slab n.key)).row.state)
-      at n stands = grind arith
+  rows_framed pass = rows_all pass (λ h. is_some h.frame ≡ not (shared_state h.row.state)) (λ k e stands. grind arith)

@@ -1,4 +1,6 @@
 -- The pages once a page with a frame of its own joined a dup.
+use Rattle.ksm_tree.specs.Dups.{has_number}
+use Rattle.ksm_pages.proofs.Names.{nat_tests}
 use Rattle.ksm_pages.proofs.Names.{rules}
 use Rattle.ksm_pages.proofs.Names.{All, ap, AreKept, AreTied, arith, both_ways, change_held, change_items, change_row, count_by, Dup, dup_numbered, dup_of, DupRow, DupsState, each_at_page, Entry}
 use Rattle.ksm_pages.proofs.Names.{eq-eqb, false, find_none, frame_of, get_or, GuestPage, HasRoom, Held, held_at, held_of, InPageOrder, Inside, is_some, IsStopped, items_in, length, let_out, lies_on}
@@ -19,31 +21,23 @@ own_not_merged s e = grind arith
 pub let_out_alone : (state : PageState) (page : GuestPage) {dups : List Dup} → shared_state state ≡ false → let_out state page dups ≡ dups
 let_out_alone state page alone = grind arith
 
-known_at : {number : ℕ} (ds : List DupRow) (o : Option DupRow) → dup_numbered number ds ≡ o → (k : ℕ) (d : DupRow) → k < length ds
-    → (get_or ds k d).number ≡ number → is_some o ≡ true
-known_at {number} ds None is k d lt at = grind (arith, both_ways, find_none, eq-eqb)
-known_at ds (Some e) is k d lt at = refl
+-- a dup with room for an item is found by its number, and has fewer items than there are references at most
+pub room_found : (s : Inside) → AreLawful s → {p : PagesValue} → view_of s ≡ p → {number : ℕ} → HasRoom p.rows p.dups number
+    → (is_some (dup_of number s.dups.dups) ≡ true) × (length (items_numbered number s.dups.dups) < MOST_REFERENCES)
+room_found s are seen_as {number} required = go _ refl
+  where
+    room : HasRoom (rows_of s.rows.held) (dup_rows s.dups.dups) number
+    room = subst (λ (v : PagesValue). HasRoom v.rows v.dups number) (sym seen_as) required
 
-has_known : (rows : List Row) (dups : List Dup) {number : ℕ} → HasRoom rows (dup_rows dups) number → is_some (dup_of number dups) ≡ true
-has_known rows dups room =
-    sym (some_mapped (λ (d : Dup). d.row) _) ∙ ap is_some (row_found _ _ (λ d. refl) dups)
-    ∙ known_at _ _ refl _ _ room.1.1 ((λ i. (room.1.2 i).number) ∙ room.2)
-
-found_room : (rows : List Row) (dups : List Dup) {number : ℕ} (o : Option Dup) → AreTied rows dups → dup_of number dups ≡ o
-    → HasRoom rows (dup_rows dups) number → (is_some o ≡ true) × (length (items_in o) < MOST_REFERENCES)
-found_room rows dups None tied is room = absurd (true≢false (sym (has_known rows dups room) ∙ ap is_some is))
-found_room rows dups {number} (Some d) tied is room =
-    (refl, omega (arith, (ap (λ o. length (items_in o)) (sym is) ∙ tied_count rows dups number d tied is), (ap (λ n. count_by (λ r. merged_into n r.state) rows) (number_found number dups d is ∙ sym room.2)), room.3))
-
--- a dup with room for an item is found by its number
-pub known_room : (rows : List Row) (dups : List Dup) {number : ℕ} → AreTied rows dups → HasRoom rows (dup_rows dups) number
-    → is_some (dup_of number dups) ≡ true
-known_room rows dups tied room = (found_room rows _ _ tied refl room).0
-
--- a dup with room has fewer items than there are references at most
-pub fewer_room : (rows : List Row) (dups : List Dup) {number : ℕ} → AreTied rows dups → HasRoom rows (dup_rows dups) number
-    → length (items_numbered number dups) < MOST_REFERENCES
-fewer_room rows dups tied room = (found_room rows _ _ tied refl room).1
+    go : (o : Option Dup) → dup_of number s.dups.dups ≡ o
+        → (is_some (dup_of number s.dups.dups) ≡ true) × (length (items_numbered number s.dups.dups) < MOST_REFERENCES)
+    go None is =
+        let none = row_found (has_number number) (λ (r : DupRow). r.number == number) (λ d. refl) s.dups.dups in
+        let at = find_none (λ (r : DupRow). r.number == number) (dup_rows s.dups.dups) (sym none ∙ ap (option_map (λ d. d.row)) is) room.1.0 room.0 room.1.1 in
+        absurd (grind (arith, nat_tests, at, room.1.2, room.2))
+    go (Some d) is =
+        let counted = tied_count (rows_of s.rows.held) s.dups.dups number d are.tied is in
+        (ap is_some is, omega (arith, counted, ap (λ n. count_by (λ r. merged_into n r.state) (rows_of s.rows.held)) (number_found number s.dups.dups d is ∙ sym room.2), room.3))
 
 item_seat : (of : ℕ → Option ℕ) (number : ℕ) {r : Row} → merged_into number r.state ≡ true → (o : Option Held)
     → option_map (λ (h : Held). h.row) o ≡ Some r → seat of o ≡ of number

@@ -15,12 +15,9 @@ use Rattle.ksm_pages.proofs.Writing.{left_fits}
 pub retained_all : {T F : Type 0} (step : F → ℕ → MutBor T → Bool → MutBor T → F → Type 0) (g : T → T) → ((f : F) (k : ℕ) (old : T) (keep : Bool) (new : T) (next : F) → CalledAt step f k old keep new next → (keep ≡ true) × (new ≡ g old))
     → (f : F) (key : ℕ) (slots kept : List (Option T)) → RetainsFrom step f key slots kept → kept ≡ map (option_map g) slots
 retained_all step g says f key [] kept r = r
-retained_all step g says f key (None ∷ rest) kept (later, is, r) = is ∙ ap (λ xs. None ∷ xs) (retained_all step g says f _ rest later r)
+retained_all step g says f key (None ∷ rest) kept (later, is, r) = grind (arith, is, retained_all step g says f (key + 1) rest later r)
 retained_all step g says f key (Some old ∷ rest) kept (keep, new, next, called, later, is, r) =
-    let told = says f key old keep new next called in
-    is
-    ∙ ap (λ b. cond b (Some new) None ∷ later) told.0
-    ∙ ap₂ (λ x xs. Some x ∷ xs) told.1 (retained_all step g says next (key + 1) rest later r)
+    grind (arith, is, says f key old keep new next called, retained_all step g says next (key + 1) rest later r)
 
 -- rows whose states are read alike before and after a change are counted alike
 counts_alike : (f : Held → Held) (p q : PageState → Bool) → ((h : Held) → p (f h).row.state ≡ q h.row.state) → (held : List Held)

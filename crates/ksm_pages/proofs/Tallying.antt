@@ -23,14 +23,7 @@ module _ {rows : List Row} (rise : InPageOrder rows) (page : GuestPage) {old : R
 
     -- a tally of the rows can take one row from its state to another
     pub can_move : length rows < 2 ^ 64 → CanMove old.state new.state tally
-    can_move few = record {
-      merged = has _ are.merged;
-      merged_room = room few _ are.merged;
-      waiting = has _ are.waiting;
-      waiting_room = room few _ are.waiting;
-      zero = has _ are.zero;
-      zero_room = room few _ are.zero;
-    }
+    can_move few = search (rules, has, room few)
 
     meets : (p : Row → Bool) {n m : ℕ} → n ≡ count_by p rows → m + one_if (p old) ≡ n + one_if (p new) → m ≡ count_by p changed
     meets p is moved = grind (arith, counts)

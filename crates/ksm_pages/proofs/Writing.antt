@@ -1,6 +1,6 @@
 -- What each change of one row, found under its key, leaves: rows still, and what is seen of them.
 use Rattle.ksm_pages.proofs.Options.{none_mapped}
-use Rattle.ksm_pages.proofs.Names.{ap, ap₂, AreBegun, AreListed, arith, Bool, CanMove, change_held, Entry, false, find, forgotten, get, GuestPage, has_item, Held, held_at, held_in, held_of}
+use Rattle.ksm_pages.proofs.Names.{nat_tests, ap, ap₂, AreBegun, AreListed, arith, Bool, CanMove, change_held, Entry, false, find, forgotten, get, GuestPage, has_item, Held, held_at, held_in, held_of}
 use Rattle.ksm_pages.proofs.Names.{held_under, IfSome, inl, InPageOrder, inr, is_of, is_own, is_restless, is_some, IsAddedTo, IsInVain, IsMoved, IsRows, IsTally, IsUnder, key_in, Kind, length}
 use Rattle.ksm_pages.proofs.Names.{length-map, List, Listing, marked, Named, named_of, ne_eqb, None, number_left, on_row, option_map, own_state, pages_ordered, PageState, Private, refl, Row, row_at}
 use Rattle.ksm_pages.proofs.Names.{rows_of, RowsView, rules, same_page_refl, same_Some, settled, shared_state, Slab, Some, state_of, sym, Tally, true, true≢false, Updates-with_value, Waiting}
@@ -27,22 +27,13 @@ view_of s = view s.pass s.entries s.order s.restless
 abbrev pub AreRows : Inside → Type 0
 AreRows s = IsRows s.entries s.order s.restless s.tally s.pass
 
--- a test and false never hold together, so anything follows
-pub never : {P : Type 0} (b : Bool) → (b && false) ≡ true → P
-never true both = absurd (grind arith)
-never false both = absurd (grind arith)
-
 -- a row with a frame of its own waits where its number is that of the pass
 pub waits_now : {kind : Kind} (pass : ℕ) → kind ≡ kinds.Own → state_of kind pass pass ≡ Waiting
 waits_now pass own = grind arith
 
--- a row with a frame of its own is Private where its number is not that of the pass
-pub rests_apart : {number : ℕ} (pass : ℕ) → number ≢ pass → state_of kinds.Own number pass ≡ Private
-rests_apart {number} pass apart = grind (arith, ne_eqb)
-
 -- a row with a frame of its own and number 0 is Private in any pass from 1 on
 pub rests_now : (pass : ℕ) → 1 ≤ pass → state_of kinds.Own 0 pass ≡ Private
-rests_now pass counting = grind (arith, rests_apart)
+rests_now pass counting = grind (arith, nat_tests)
 
 -- an entry with a frame of its own that has forgotten its pass has a number not beyond any pass
 pub left_fits : (kind : Kind) (number pass : ℕ) → kind ≡ kinds.Own → number_left kind number ≤ pass

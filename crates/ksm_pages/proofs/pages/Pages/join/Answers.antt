@@ -1,19 +1,15 @@
 use Rattle.ksm_pages.proofs.Names.{arith}
 use Rattle.ksm_pages.proofs.Names.{ap, false, HasRoom, held_at, held_of, PagesValue, rows_of, rules, shared_state, Some, subst, sym, tied_absent, ◌∙◌, ◌≡◌}
-use Rattle.ksm_pages.proofs.Joined.{fewer_room, known_room, joins, own_not_merged, own_seat, told_joined}
+use Rattle.ksm_pages.proofs.Joined.{room_found, joins, own_not_merged, own_seat, told_joined}
 use Rattle.ksm_pages.proofs.Leaving.{alone_found, alone_there, lies, row_there}
 use Rattle.ksm_pages.proofs.pages.Pages.join.Goals as goal
 use Rattle.ksm_pages.proofs.pages.Pages.join.Goals.{After-left_by}
 
 pub join_at-requires-clause-known : goal.join_at-requires-clause-known
-join_at-requires-clause-known c =
-    known_room (rows_of c.self.inside.rows.held) _ c.self.invariant.tied
-    (grind arith)
+join_at-requires-clause-known c = (room_found c.self.inside c.self.invariant c.self.view_is c.requires.room).0
 
 pub join_at-requires-clause-fewer : goal.join_at-requires-clause-fewer
-join_at-requires-clause-fewer c =
-    fewer_room (rows_of c.self.inside.rows.held) _ c.self.invariant.tied
-    (grind arith)
+join_at-requires-clause-fewer c = (room_found c.self.inside c.self.invariant c.self.view_is c.requires.room).1
 
 pub join_at-requires-clause-absent : goal.join_at-requires-clause-absent
 join_at-requires-clause-absent c =
