@@ -272,12 +272,9 @@ module _ {s : Inside} {p : PagesValue} {place : ℕ} {first second : GuestPage} 
 
     now_lie : frame_of (lodgings_of of_new rows.held) ≡ lies_on b.row.page (lay a.row.page) lay
     now_lie =
-        ap (λ held. frame_of (lodgings_of of_new held)) now_held
-        ∙ lodged_changed _ _ (λ h. refl) _ _ found_second
-        ∙ ap (lies_on b.row.page (of_new s.dups.next))
-        (lodged_changed _ _ (λ h. refl) _ _ found_first ∙ ap (lies_on a.row.page (of_new s.dups.next)) others)
-        ∙ ap (λ o. lies_on b.row.page o (lies_on a.row.page o lay)) (new_frame ∙ sym lies_first)
-        ∙ ap (lies_on b.row.page (lay a.row.page)) (lies_same _)
+        let two = lodged_changed b.row.page into (λ h. refl) of_new half found_second in
+        let one_moved = lodged_changed a.row.page into (λ h. refl) of_new s.rows.held found_first in
+        grind (arith, now_held, two, one_moved, others, new_frame, lies_first, lies_same a.row.page {frames = lay})
 
     told : seen (view_of (record s { rows = rows; dups = later; frames = with_frame s.frames place frame }))
         ≡ paired place a.row b.row (seen (view_of s))

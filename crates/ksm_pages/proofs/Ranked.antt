@@ -1,5 +1,5 @@
 -- The pages in order as the items that are kept for them: what stands before a key, what comes behind it, and in between.
-use Rattle.ksm_pages.proofs.Names.{[], after_cursor, All, All-head, All-tail, ap, arith, Bool, comes_before, count_by, count_none, drop, false, filter, filter_all, find, get_or, GuestPage}
+use Rattle.ksm_pages.proofs.Names.{slice_get-get_or, [], after_cursor, All, All-head, All-tail, ap, arith, Bool, comes_before, count_by, count_none, drop, false, filter, filter_all, find, get_or, GuestPage}
 use Rattle.ksm_pages.proofs.Names.{if◌then◌else◌, is_of, is_some, key_of, last_of, length, length-filter, length-map, List, map, marked, Named, named_by, nat_lt, nat_tests, None, none-some, not}
 use Rattle.ksm_pages.proofs.Names.{Option, option_map, page_of, pages_behind, pages_between, pairs_head, pairs_tail, refl, rules, same_Some, slice_get, slice_get-map, slice_get_past, Some, suc, sym}
 use Rattle.ksm_pages.proofs.Names.{take, true, visited, with_named, zero, ℕ, ◌&&◌, ◌+◌, ◌-◌, ◌<◌, ◌^◌, ◌∙◌, ◌∷◌, ◌≡◌, ◌≤◌}
@@ -101,9 +101,7 @@ longer_by n x items rise absent same =
 
 -- there is a key at each place of a list
 pub some_at : (xs : List Item) (place : ℕ) → place < length xs → key_at xs place ≡ None → ⊥
-some_at [] place lt none = absurd (omega arith)
-some_at (x ∷ xs) zero lt none = none-some _ (sym none)
-some_at (x ∷ xs) (suc n) lt none = some_at xs n (omega arith) none
+some_at xs place lt none = grind (arith, slice_get-get_or xs place (record { key = 0; value = 0; marked = false }) lt)
 
 -- what stands at a place of a rest
 pub get_dropped : {X : Type 0} (n k : ℕ) (xs : List X) → slice_get (drop n xs) k ≡ slice_get xs (n + k)
@@ -114,7 +112,7 @@ get_dropped (suc n) k (x ∷ xs) = grind (arith, get_dropped n k xs)
 -- a key at a place is that of one of the items
 pub small_at : (P : ℕ → Type 0) (xs : List Item) (place : ℕ) {key : ℕ} → All (λ x. P x.key) xs → key_at xs place ≡ Some key → P key
 small_at P [] place all is = absurd (grind arith)
-small_at P (x ∷ xs) zero all is = rw (← same_Some _ _ is) (All-head (λ y. P y.key) x _ all)
+small_at P (x ∷ xs) zero all is = grind (arith, All-head (λ y. P y.key) x xs all)
 small_at P (x ∷ xs) (suc n) all is = small_at P xs n (All-tail (λ y. P y.key) x _ all) is
 
 -- without an item that is there, the list has one fewer

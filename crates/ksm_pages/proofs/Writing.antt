@@ -94,12 +94,6 @@ module _ (s : Inside) (are : AreRows s) where
       held_later : (f : Held → Held) → held_of s.pass e' ≡ f (held_of s.pass e) → held_in s.pass later s.order ≡ change_held page f held
       held_later f is = grind (arith, written, fills, of_page)
 
-      module _ {from to : PageState} {tally : Tally} (was : from ≡ state_of e.kind e.number s.pass) (is : to ≡ state_of e'.kind e'.number s.pass) (moved : IsMoved from to s.tally tally) where
-        tallied : IsTally (rows_of (held_in s.pass later s.order)) tally
-        tallied =
-            rw (ap rows_of (held_later _ refl) ∙ rows_changed _ (λ _. held_of s.pass e') _ _ (λ h. refl))
-            (tally_changed rise _ found_row _ are.counted _ (grind arith))
-
       begun_still : (e'.kind ≡ kinds.Own → e'.number ≤ s.pass) → AreBegun later s.pass
       begun_still fits = search (rules, fills)
 
@@ -116,20 +110,21 @@ module _ (s : Inside) (are : AreRows s) where
       pub listed_calm : is_restless e' ≡ false → {now : Listing} → now ≡ s.restless → now.known ≡ true → AreListed later now.pages
       listed_calm calm is known = search (rules, listed_still)
 
-      -- rows with an entry written anew are lawful where its flag stays, the list is right and the tally moved
-      pub still : e'.mergeable ≡ e.mergeable → (e'.kind ≡ kinds.Own → e'.number ≤ s.pass) → {now : Listing}
-          → (now.known ≡ true → AreListed later now.pages)
-          → {from to : PageState} {tally : Tally} → from ≡ state_of e.kind e.number s.pass → to ≡ state_of e'.kind e'.number s.pass
-          → IsMoved from to s.tally tally → IsRows later s.order now tally s.pass
-      still flag fits listed was is moved = search (rules, filed_kept, fills, tallied, begun_still)
+      module _ {from to : PageState} {tally : Tally} (was : from ≡ state_of e.kind e.number s.pass) (is : to ≡ state_of e'.kind e'.number s.pass) (moved : IsMoved from to s.tally tally) where
+        tallied : IsTally (rows_of (held_in s.pass later s.order)) tally
+        tallied =
+            rw (ap rows_of (held_later _ refl) ∙ rows_changed _ (λ _. held_of s.pass e') _ _ (λ h. refl))
+            (tally_changed rise _ found_row _ are.counted _ (grind arith))
 
-      -- rows with an entry written anew are lawful under the old list where no visit may change what none could before
-      pub kept : e'.mergeable ≡ e.mergeable → (e'.kind ≡ kinds.Own → e'.number ≤ s.pass) → (is_restless e' ≡ true → is_restless e ≡ true)
-          → (now : Listing) → now ≡ s.restless
-          → {from to : PageState} {tally : Tally} → from ≡ state_of e.kind e.number s.pass → to ≡ state_of e'.kind e'.number s.pass
-          → IsMoved from to s.tally tally → IsRows later s.order now tally s.pass
-      kept flag fits less now is =
-          still flag fits (grind (arith, listed_still, of_page))
+        -- rows with an entry written anew are lawful where its flag stays, the list is right and the tally moved
+        pub still : e'.mergeable ≡ e.mergeable → (e'.kind ≡ kinds.Own → e'.number ≤ s.pass) → {now : Listing}
+            → (now.known ≡ true → AreListed later now.pages) → IsRows later s.order now tally s.pass
+        still flag fits listed = search (rules, filed_kept, fills, tallied, begun_still)
+
+        -- rows with an entry written anew are lawful under the old list where no visit may change what none could before
+        pub kept : e'.mergeable ≡ e.mergeable → (e'.kind ≡ kinds.Own → e'.number ≤ s.pass) → (is_restless e' ≡ true → is_restless e ≡ true)
+            → (now : Listing) → now ≡ s.restless → IsRows later s.order now tally s.pass
+        kept flag fits less now is = still flag fits (grind (arith, listed_still, of_page))
 
       module _ (kind : e'.kind ≡ e.kind) (number : e'.number ≡ e.number) where
         fits_still : e'.kind ≡ kinds.Own → e'.number ≤ s.pass
@@ -143,7 +138,7 @@ module _ (s : Inside) (are : AreRows s) where
 
         -- rows with an entry written anew are lawful under the old list and tally where its flag and state stay
         pub untouched : e'.mergeable ≡ e.mergeable → IsRows later s.order s.restless s.tally s.pass
-        untouched flag = kept flag fits_still (λ may. grind arith) _ refl refl same_state (unmoved)
+        untouched flag = kept refl same_state unmoved flag fits_still (λ may. grind arith) _ refl
 
         -- rows with an entry written anew are lawful where the order marks its page so, and its state stays
         pub still_marked : {now : Listing} → (now.known ≡ true → AreListed later now.pages)
@@ -152,7 +147,7 @@ module _ (s : Inside) (are : AreRows s) where
           ascending = write_rises _ page _ (λ n. refl) _ are.ascending;
           filed = rw (← of_page) (filed_marked _ _ are.ascending are.filed stood fills same);
           listed = listed;
-          counted = rw (marked_same _ later _ _ _) (tallied refl same_state (unmoved));
+          counted = rw (marked_same _ later _ _ _) (tallied refl same_state unmoved);
           begun = begun_still fits_still;
           counting = are.counting;
         }
@@ -183,8 +178,7 @@ module _ (s : Inside) (are : AreRows s) where
         → {from to : PageState} {tally : Tally} → from ≡ state_of e.kind e.number s.pass → to ≡ state_of now.kind now.number s.pass
         → IsMoved from to s.tally tally → IsRows (with_value s.entries key now) s.order s.restless tally s.pass
     kept_forgotten e' is same flag kind {from} {to} {tally} was told moved =
-        rw is (kept _ same flag (left_fits _ _ _) (λ may. sym (ap₂ (λ m k. m && is_own k) flag kind) ∙ may)
-        _ refl was (grind arith) moved)
+        rw is (kept _ same was (grind arith) moved flag (left_fits _ _ _) (λ may. sym (ap₂ (λ m k. m && is_own k) flag kind) ∙ may) _ refl)
 
     -- the row of an entry that is changed, and then forgets its pass, is seen changed and settled
     pub viewed_forgotten : (e' : Entry) {now : Entry} → now ≡ forgotten e' → e'.page ≡ e.page → (f : Row → Row)
@@ -226,24 +220,21 @@ nothing_gone s are page told is =
     let same = absent_kept pages_ordered (λ (h : Held). h.row.page) page _ absent in
     grind (arith, same)
 
--- a slab with more room has the same rows
-pub with_room : (s : Inside) → AreRows s → {room : Slab Entry} → room ≡ record s.entries { capacity = room.capacity } → IsRows room s.order s.restless s.tally s.pass
-with_room s are is = grind arith
-
--- a slab with more room is seen to have the same rows
-pub seen_with_room : (s : Inside) {v : RowsView} → view_of s ≡ v → {room : Slab Entry}
-    → room ≡ record s.entries { capacity = room.capacity } → view_of (record s { entries = room }) ≡ v
-seen_with_room s seen_as is = grind arith
-
 -- a page that is seen without a row has no name in the order
 pub no_name : (s : Inside) → AreRows s → (page : GuestPage) {v : RowsView} → view_of s ≡ v → held_at page v.held ≡ None → find (is_of page) s.order ≡ None
 no_name s are page seen_as absent = grind (arith, none_mapped, held_found)
 
--- the row of a page came, with a frame of its own, under a key where nothing stood
-module _ (s : Inside) (are : AreRows s) {v : RowsView} (seen_as : view_of s ≡ v) {key : ℕ} {e : Entry} {later : Slab Entry} (vacant : get s.entries key ≡ None)
-    (absent : held_at e.page v.held ≡ None) (fills : Fills s.entries later key (Some e)) where
+-- the row of a page came, with a frame of its own, under a key where nothing stood, once there was room for it
+module _ (s : Inside) (are : AreRows s) {v : RowsView} (seen_as : view_of s ≡ v) {room : Slab Entry} (rest : room ≡ record s.entries { capacity = room.capacity })
+    {key : ℕ} {e : Entry} {later : Slab Entry} (vacant : get room key ≡ None) (absent : held_at e.page v.held ≡ None) (fills : Fills room later key (Some e)) where
   abbrev before : List Held
   before = held_in s.pass s.entries s.order
+
+  free : get s.entries key ≡ None
+  free = (λ i. get (sym rest i) key) ∙ vacant
+
+  filled : Fills s.entries later key (Some e)
+  filled = record { changed = fills.changed; others = λ k apart. fills.others k apart ∙ (λ i. get (rest i) k) }
 
   held_absent : held_at e.page before ≡ None
   held_absent = grind arith
@@ -252,17 +243,17 @@ module _ (s : Inside) (are : AreRows s) {v : RowsView} (seen_as : view_of s ≡ 
   not_named = no_name s are _ seen_as absent
 
   held_put : held_in s.pass later (with_named (named_of key e) s.order) ≡ with_held (held_of s.pass e) before
-  held_put = grind (arith, put, not_named)
+  held_put = put _ _ are.ascending are.filed free not_named filled _
 
   -- rows are lawful once a Private entry came under a vacant key, with a name and a place in the list
   pub still_put : state_of e.kind e.number s.pass ≡ Private → e.number ≤ s.pass → {now : Listing} → IsAddedTo e.page s.restless now → IsRows later (with_named (named_of key e) s.order) now s.tally s.pass
   still_put alone fits added = record {
     ascending = with_rises pages_ordered (λ (n : Named). n.page) _ (named_of key e) _ refl are.ascending;
-    filed = filed_put _ _ are.ascending are.filed vacant not_named fills;
-    listed = grind (arith, all_filled, with_has, same_page_refl, listed_known);
+    filed = filed_put _ _ are.ascending are.filed free not_named filled;
+    listed = grind (arith, all_filled filled, with_has, same_page_refl, listed_known);
     counted = rw (ap rows_of held_put ∙ rows_with (held_of s.pass e) before)
         (tally_put _ (row_told e.page before held_absent) alone are.counted);
-    begun = all_filled fills (λ own. fits) (λ k f stands apart. are.begun k f stands);
+    begun = all_filled filled (λ own. fits) (λ k f stands apart. are.begun k f stands);
     counting = are.counting;
   }
 
@@ -270,14 +261,10 @@ module _ (s : Inside) (are : AreRows s) {v : RowsView} (seen_as : view_of s ≡ 
   pub viewed_put : (now : Listing) → view s.pass later (with_named (named_of key e) s.order) now ≡ record v { held = with_held (held_of s.pass e) v.held; restless = now }
   viewed_put now = grind (arith, held_put)
 
--- rows are lawful under another list that has all pages that a visit may change
-pub relisted : (s : Inside) → AreRows s → {now : Listing} → (now.known ≡ true → AreListed s.entries now.pages) → IsRows s.entries s.order now s.tally s.pass
-relisted s are listed = search rules
-
 -- rows are lawful under a list that lost only pages that were there in vain
 pub swept_rows : (s : Inside) → AreRows s → {now : Listing} → now.known ≡ s.restless.known
     → ((page : GuestPage) → has_item page s.restless.pages ≡ true → (has_item page now.pages ≡ true) ⊎ IsInVain s.entries s.order page) → IsRows s.entries s.order now s.tally s.pass
-swept_rows s are {now} known kept = relisted s are listed
+swept_rows s are {now} known kept = search (rules, listed)
   where
     listed : now.known ≡ true → AreListed s.entries now.pages
     listed is k e stands may = elim (kept _ (are.listed (sym known ∙ is) k e stands may)) [

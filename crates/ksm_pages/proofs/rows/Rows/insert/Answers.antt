@@ -1,7 +1,7 @@
 use Rattle.ksm_pages.proofs.Names.{None, ap, arith, Entry, false, get, held_in, held_of, mapped, rules, Some, subst, sym, true, with_held, ◌∙◌, ◌≡◌}
 use Rattle.slab.specs.Slab.{Updates as Fills}
 use Rattle.ksm_pages.specs.declared.row.Kind.TheVariants as kinds
-use Rattle.ksm_pages.proofs.Writing.{no_name, rests_now, seen_with_room, still_put, viewed_put, with_room}
+use Rattle.ksm_pages.proofs.Writing.{no_name, rests_now, still_put, viewed_put}
 use Rattle.ksm_pages.proofs.rows.Rows.insert.Goals as goal
 
 pub insert-requires : goal.insert-requires
@@ -18,15 +18,11 @@ came c =
 
 pub invariant_of-self-2 : goal.invariant_of-self-2
 invariant_of-self-2 c =
-    let s = c.self.inside in
     rw c.in_ok-insert.ensures.added
-    (still_put (record s { entries = c.reserve_one.new.slab }) (with_room s c.self.invariant c.reserve_one.ensures.rest)
-    (seen_with_room s c.self.view_is c.reserve_one.ensures.rest) (came c).0 c.requires.absent (came c).1
+    (still_put c.self.inside c.self.invariant c.self.view_is c.reserve_one.ensures.rest (came c).0 c.requires.absent (came c).1
     (rests_now _ c.self.invariant.counting) (omega arith) c.add.ensures.added)
 
 pub returns-clause-added : goal.returns-clause-added
 returns-clause-added c =
-    let s = c.self.inside in
-    let now = viewed_put (record s { entries = c.reserve_one.new.slab }) (with_room s c.self.invariant c.reserve_one.ensures.rest)
-    (seen_with_room s c.self.view_is c.reserve_one.ensures.rest) (came c).0 c.requires.absent (came c).1 c.add.new.self in
-    grind (arith, now, c.in_ok-insert.ensures.added, rests_now s.pass c.self.invariant.counting)
+    let now = viewed_put c.self.inside c.self.invariant c.self.view_is c.reserve_one.ensures.rest (came c).0 c.requires.absent (came c).1 c.add.new.self in
+    grind (arith, now, c.in_ok-insert.ensures.added, rests_now c.self.inside.pass c.self.invariant.counting)
