@@ -40,9 +40,7 @@ module _ (s : Inside) (are : AreLawful s) {p : PagesValue} (seen_as : view_of s 
       })
   entered apart still rows put =
       let lain = ap (λ held. frame_of (lodgings_of (of_dup s) held)) put ∙ lodged_put _ _ _ are.order (nothing_held h.row.page s.rows.held away) in
-      rw (← seen_as)
-      (comes s are rows (ap rows_of put ∙ rows_with h _) {ds = s.dups.dups} {later = s.dups} refl refl (ordered_with _ _ are.order)
-      (tied_inserted _ _ _ are.order away apart are.tied) (row_inserted s.knobs _ _ are.waits _ away still) lain)
+      grind (arith, comes, rows_with, ordered_with, tied_inserted, away, row_inserted)
 
 -- where a page comes to lie on a frame, that frame may be named as the one on which the page lies now
 pub but_there : {new : PagesView} (old : PagesView) (rows : List Row) (page : GuestPage) (o : Option ℕ)

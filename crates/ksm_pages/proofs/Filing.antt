@@ -142,7 +142,7 @@ module _ (slab : Slab Entry) (order : List Named) (rise : AreAscending order) (f
           filed_by later _
           (λ k d lt. grind (arith, away))
           (λ k f stands.
-          let apart : k ≢ key = λ at. full _ _ (ap (get later) at ∙ fills.changed) stands in
+          let apart : k ≢ key = grind (arith, full) in
           let was = sym (fills.others k apart) ∙ stands in
           find_gone_other page_of _ _ order (same_page_sym e.page f.page ∙ elsewhere was apart) ∙ named_under slab _ filed k f was)
 

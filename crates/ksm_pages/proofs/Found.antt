@@ -69,7 +69,7 @@ module _ {X : Type 0} (key : X → GuestPage) where
         → is_it (get_or t n d) ≡ true → set xs n (f (get_or xs n d)) ≡ map (λ y. if is_it y then f y else y) xs
     write_at f {xs} rise {s} {t} read again {n} count d within here =
         let x = get_or xs n d in
-        let split = found_parts pages_ordered key page _ x rise (found_at pages_ordered key page _ rise read again count d within here) in
+        let split = found_parts pages_ordered key page _ x rise (grind (arith, found_at, pages_ordered)) in
         let ahead = change_none is_it f _ (none_same_low pages_ordered key page _ (filter_passes low xs)) in
         let behind = change_none is_it f _ (none_same pages_ordered key page _ (filter_passes high xs)) in
         grind (arith, split, ahead, behind, set-append_seam (filter low xs) x (filter high xs) (f x), map-append)
@@ -77,7 +77,7 @@ module _ {X : Type 0} (key : X → GuestPage) where
     -- a list in order stays in order where the element of a page is changed, but for its page
     pub write_rises : (f : X → X) → ((y : X) → key (f y) ≡ key y) → (xs : List X) → AllPairs Before xs → AllPairs Before (map (λ y. if is_it y then f y else y) xs)
     write_rises f same xs rise =
-        search (rules, pairs_mapped Before Before (λ y. key (if is_it y then f y else y) ≡ key y))
+        search (rules, pairs_mapped Before Before (λ y. search rules))
 
     -- with an element of a page that was not there, a list is one longer
     pub length_with : (x : X) (xs : List X) → AllPairs Before xs → find is_it xs ≡ None → length (filter low xs ++ x ∷ filter high xs) ≡ length xs + 1

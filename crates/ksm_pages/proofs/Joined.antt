@@ -82,4 +82,4 @@ module _ (s : Inside) (are : AreLawful s) (page : GuestPage) {h : Held} (found :
   told_joined =
       let lain = subst (λ (v : PagesValue). All (λ r. merged_into number r.state ≡ true → frame_of v.lodgings r.page ≡ of_dup s number) v.rows) seen_as
       (item_lies _ _ are.order _) in
-      (grind (arith, joins.told_as), λ k r lt merged. (λ i. (joins.told_as i).frame) ∙ ap (λ o. lies_on page o (frame_of p.lodgings)) (sym (lain k r lt merged)))
+      grind (arith, joins)

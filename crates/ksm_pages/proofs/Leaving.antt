@@ -1,4 +1,5 @@
 -- The pages once the row of one page changed, or went: they are lawful still, and what is seen of them is changed so.
+use Rattle.ksm_pages.proofs.Names.{rules}
 use Rattle.ksm_pages.proofs.Names.{Dup, List, ordered_change, PagesView, WaitingPage}
 use Rattle.ksm_pages.proofs.Names.{ap, ap₂, AreKept, AreTied, AreWaiting, arith, change_held, change_row, DupsState, false, find_passes, frame_of, Frames, GuestPage, Held, held_at, if◌then◌else◌}
 use Rattle.ksm_pages.proofs.Names.{InPageOrder, Inside, is_some, IsAlone, IsKnown, IsStopped, let_out, lies_on, lodging, lodgings_of, MatchOption, merged_state, None, Option, option_map, ordered_map}
@@ -40,14 +41,7 @@ pub comes : (s : Inside) → AreLawful s → (rows : RowsView) {now : List Row} 
     → AreWaiting s.knobs now later.waiting → {lay : Frames} → frame_of (lodgings_of (of_dup s) rows.held) ≡ lay
     → Comes s rows later (record (seen (view_of s)) { rows = now; frame = lay; restless = rows.restless })
 comes s are rows {now} is {ds} {later} rest alike order tied waits lain = record {
-  lawful = record {
-    small = are.small;
-    order = rw is order;
-    tied = rw is (subst (AreTied now) (λ i. (sym rest i).dups) tied);
-    places = (λ i. (rest i).places) ∙ are.places;
-    waits = rw is waits;
-    room = are.room;
-  };
+  lawful = grind arith;
   told_as =
       let same : dup_rows later.dups ≡ dup_rows s.dups.dups = (λ i. dup_rows (rest i).dups) ∙ alike in
       let lies_so = ap (λ rs. frame_of (lodgings_of (lodging rs s.frames.items) rows.held)) same ∙ lain in
@@ -115,8 +109,7 @@ module _ (s : Inside) (are : AreLawful s) (page : GuestPage) {h : Held} (found :
         let lain = ap (λ held. frame_of (lodgings_of (of_dup s) held)) turned
         ∙ lodged_changed _ f (λ x. (λ i. (is x i).page) ∙ same x.row) _ _ found
         ∙ ap (λ o. lies_on page o (frame_of (lodgings_of (of_dup s) s.rows.held))) lodged in
-        rw (← seen_as)
-        (comes s are rows new rest alike (rw (← new) (rw by_g (ordered_change _ _ _ same are.order))) (rw as_old tied) (rw as_old waits) lain)
+        grind (arith, comes, ordered_change)
 
 -- a page that comes to lie where it lay does not move
 pub stays_there : {s : Inside} {rows : RowsView} {later : DupsState} (p : PagesValue) (page : GuestPage) {now : List Row}

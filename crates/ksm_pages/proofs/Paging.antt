@@ -1,4 +1,5 @@
 -- What is read of the pages: rows and dups found by their pages, places and numbers.
+use Rattle.ksm_pages.proofs.Names.{rules}
 use Rattle.ksm_pages.proofs.Names.{All, ap, AreDups, AreTied, AreWaiting, arith, cases_Bool, cond, Dup, dup_at, dup_numbered, dup_of, DupRow, DupsState, each_has_number, false, find, find_all}
 use Rattle.ksm_pages.proofs.Names.{found_passing, has_items, Held, inl, InPageOrder, InPlaceOrder, inr, is_live, is_some, is_stale, items_in, items_of, Knobs, length, List, list_any, live_placed}
 use Rattle.ksm_pages.proofs.Names.{lodging, lodgings_of, merged_into, None, Option, option_and_then, option_map, passing, refl, Row, row_at, rows_of, slice_get, slice_get-get_or, Some, stale_alike}

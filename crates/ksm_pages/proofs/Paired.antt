@@ -50,8 +50,7 @@ module _ (dups : List DupRow) (dup : DupRow) (frames : List ℕ) (frame : ℕ) w
       → ((e : DupRow) → dup_numbered n dups ≡ Some e → (e.place == dup.place) ≡ false) → of_now n ≡ lodging dups frames n
   lodged_kept rise n other away =
       sym (kept_at_place (set frames dup.place frame) (dup_numbered n (with_dup dup dups)))
-      ∙ ap (option_and_then (slice_get (set frames dup.place frame))) (place_kept n dup _ rise other
-      ∙ ap (option_map (λ d. d.place)) (find_kept _ _ _ _ refl (λ e is. ap not (away e is))))
+      ∙ ap (option_and_then (slice_get (set frames dup.place frame))) (grind (arith, place_kept, find_kept))
       ∙ kept_at_place _ (dup_numbered n dups)
       ∙ frame_away frames dup.place frame _ away
 

@@ -151,7 +151,7 @@ module _ (s : Inside) (are : AreLawful s) {p : PagesValue} (seen_as : view_of s 
 
       waiting : AreWaiting s.knobs (map f before) s.dups.waiting
       waiting t b q = are.waits t b q ∙ go _ refl
-          ∙ ap (waits_there s.knobs t b) (sym (at_mapped f q before (λ k d lt. grind (arith, same (get_or before k d)))))
+          ∙ ap (waits_there s.knobs t b) (grind (arith, at_mapped, f))
         where
           go : (o : Option Row) → row_at q before ≡ o → waits_there s.knobs t b o ≡ waits_there s.knobs t b (option_map f o)
           go None is = refl

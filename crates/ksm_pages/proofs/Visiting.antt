@@ -175,4 +175,4 @@ module _ {s : Inside} {p : PagesValue} {page : GuestPage} {e : Entry} {group : �
           finds_waits =
               let met_none = met_own s.knobs _ _ row it.lawful.order it.lawful.waits met_is (rw at_row own) in
               let none_waits = (λ i. partner (sym it.seen_as i).knobs (sym it.seen_as i).rows row) ∙ met_none in
-              finds_at _ _ (may, no_best, stayed, zero_as ∙ other, none_waits, grind (arith, waits_then.told_as, at_row))
+              grind (arith, finds_at, may, no_best, zero_as, waits_then, at_row)

@@ -1,3 +1,4 @@
+use Rattle.ksm_pages.proofs.Names.{rules}
 use Rattle.ksm_pages.proofs.Names.{arith}
 use Rattle.ksm_pages.proofs.Names.{ap, is_some, sym, ◌∙◌}
 use Rattle.ksm_pages.proofs.Gathering.{all_passed, fewer_behind, next_stands, one_added, one_passed}

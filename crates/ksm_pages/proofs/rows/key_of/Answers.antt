@@ -5,11 +5,7 @@ use Rattle.ksm_pages.proofs.rows.key_of.Goals as goal
 pub returns-then-eq : goal.returns-then-eq
 returns-then-eq c =
     let stands = sym c.in-Some.ensures in
-    let here : IsUnder c.args.entries.now c.args.spot.page c.args.spot.key = record {
-      entry = c.in-Some.entry.now;
-      stands = stands;
-      of_page = same_page_eq _ _ (sym c.if-eq.ensures);
-    } in
+    let here : IsUnder c.args.entries.now c.args.spot.page c.args.spot.key = grind (arith, same_page_eq) in
     grind (arith, named_under)
 
 -- a key that is told is that of an entry of the page

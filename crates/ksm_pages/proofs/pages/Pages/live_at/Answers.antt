@@ -1,3 +1,4 @@
+use Rattle.ksm_pages.proofs.Names.{rules}
 use Rattle.ksm_pages.proofs.Names.{ap, find, has_items, live_placed, PagesValue, rows_of, tied_counted, ◌&&◌, ◌==◌, ◌∙◌}
 use Rattle.ksm_pages.proofs.pages.Pages.live_at.Goals as goal
 

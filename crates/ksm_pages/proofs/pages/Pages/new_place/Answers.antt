@@ -1,3 +1,4 @@
+use Rattle.ksm_pages.proofs.Names.{rules}
 use Rattle.ksm_pages.proofs.Names.{arith}
 use Rattle.ksm_pages.proofs.Names.{ap, choice_alike, choice_exists, PagesValue, place_count, rows_of, subst, sym, tied_counted, ◌<◌, ◌∙◌}
 use Rattle.ksm_base.specs.Visit.{new_place as place_of_new}

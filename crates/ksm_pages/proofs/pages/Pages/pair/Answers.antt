@@ -29,7 +29,7 @@ pairs : (c : goal.After-self-1)
     → CanPair (record c.self.inside { dups = c.group.new.self }) c.args.self.now c.args.place c.args.first.page c.args.second.page
     c.pass-pass.result c.in-Some-Some.one.now c.in-Some-Some.other.now
 pairs c = can_pair c.self.invariant c.self.view_is c.requires.first
-    (c.in-Some-Some.ensures ∙ ap (λ n. Some (held_of n c.in-Some-Some.one.now)) (sym c.pass-pass.ensures))
+    (grind arith)
     (grind arith) c.group.ensures.kept
 
 turned : (c : goal.After-self-1)

@@ -40,7 +40,7 @@ went c it =
     let s = record c.self.inside { dups = c.group.new.self } in
     let left = found_left {s = s} {p = view_of s} it.lawful refl (rw c.pass-pass.ensures it.found) c.left_by.ensures in
     let now = rested left c.become_unchanged.new.self kept found (λ r. refl) (λ r. refl)
-    (is_alone s it.lawful _ c.in-Some.entry.now it.found it.restless) (λ alone. grind (arith, alone)) (held_as c.become_unchanged.ensures) in
+    (grind (arith, is_alone)) (λ alone. grind (arith, alone)) (held_as c.become_unchanged.ensures) in
     grind arith
 
 pub invariant_of-self-then-not-entry : goal.invariant_of-self-then-not-entry

@@ -14,7 +14,7 @@ fresh c = record { page = c.args.page; bytes = c.args.bytes; number = 0; at = c.
 came : (c : goal.After-add) → (get c.reserve_one.new.slab c.in-Ok.key ≡ None) × Fills c.reserve_one.new.slab c.insert_reserved.new.self c.in-Ok.key (Some (fresh c))
 came c =
     let key : c.insert_reserved.result ≡ c.in-Ok.key = search rules in
-    (rw (← key) c.insert_reserved.ensures.was_vacant, rw (← key) c.insert_reserved.ensures.updates)
+    grind arith
 
 pub invariant_of-self-2 : goal.invariant_of-self-2
 invariant_of-self-2 c =
