@@ -1,9 +1,7 @@
 -- The page that waits in the tree of a merged row with its bytes: it is the row's partner.
-use Rattle.ksm_pages.proofs.Names.{ap, AreWaiting, arith, Bool, cond, Entry, false, find_passes, GuestPage, held_at, held_of, if◌then◌else◌, InPageOrder, Inside, Knobs, List, look_up_found}
-use Rattle.ksm_pages.proofs.Names.{merged_state, names, None, Option, option_and_then, option_map, own_found, page_beside, PagesValue, partner, partner_found, refl, Row, row_at, rows_of, same_page}
-use Rattle.ksm_pages.proofs.Names.{same_page_eq, Some, state_of, sym, tree_of, true≢false, waiting_page, waiting_state, WaitingPage, waits_there, ℕ, ◌∙◌, ◌≡◌}
+use Rattle.ksm_pages.proofs.Names.{arith, Bool, Entry, false, GuestPage, held_at, held_of, if◌then◌else◌, Inside, merged_state, None, Option, option_map, page_beside, PagesValue, partner, Row, row_at}
+use Rattle.ksm_pages.proofs.Names.{rows_of, Some, tree_of, waiting_page, ℕ, ◌≡◌}
 use Rattle.ksm_pages.specs.declared.row.Kind.TheVariants as kinds
-use Rattle.ksm_pages.proofs.Names.{rules}
 use Rattle.ksm_pages.proofs.Meeting.{partner_page}
 use Rattle.ksm_pages.proofs.Leaving.{AreLawful, of_page, row_seen, row_there, view_of}
 

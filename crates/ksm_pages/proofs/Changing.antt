@@ -1,7 +1,6 @@
 -- The rows of what is held, once that of one page came, went or changed.
-use Rattle.ksm_pages.proofs.Names.{map, on_row}
-use Rattle.ksm_pages.proofs.Names.{[], arith, Bool, change_held, change_row, Entry, GuestPage, Held, held_at, held_in, List, map-append, marked, Named, None, option_map, refl, Row, row_at, rows_of}
-use Rattle.ksm_pages.proofs.Names.{rules, Slab, sym, with_held, with_row, without_held, without_page, ℕ, ◌∙◌, ◌∷◌, ◌≡◌, Option}
+use Rattle.ksm_pages.proofs.Names.{arith, Bool, change_held, change_row, Entry, GuestPage, Held, held_at, held_in, List, map, map-append, marked, Named, None, on_row, Option, option_map, refl, Row}
+use Rattle.ksm_pages.proofs.Names.{row_at, rows_of, rules, Slab, with_held, with_row, without_held, without_page, ℕ, [], ◌∷◌, ◌≡◌}
 use Rattle.ksm_pages.proofs.Options.{none_mapped}
 use Rattle.ksm_tree.proofs.Alike.{filter_mapped, find_mapped, map_mapped}
 

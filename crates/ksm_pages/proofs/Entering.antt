@@ -1,13 +1,12 @@
 -- The pages once one came with a row and a frame of its own.
-use Rattle.ksm_pages.proofs.Names.{refl, AllPairs, ap, arith, comes_before, Err, false, frame_of, GuestPage, Held, held_at, InPageOrder, Inside, length-map, lies_on, List, lodgings_of, merged_state, None}
-use Rattle.ksm_pages.proofs.Names.{Ok, OnErr, OnOk, Option, ordered_with, PagesValue, PagesView, Result, Row, row_at, row_inserted, rows_of, RowsView, rules, seen, Some, sym, tied_inserted, true}
-use Rattle.ksm_pages.proofs.Names.{waiting_state, with_held, with_row, ℕ, ◌∙◌, ◌≡◌, ap₂, holds}
+use Rattle.ksm_pages.proofs.Names.{AllPairs, ap, ap₂, arith, comes_before, Err, false, frame_of, GuestPage, Held, held_at, holds, InPageOrder, Inside, length-map, lies_on, List, lodgings_of}
+use Rattle.ksm_pages.proofs.Names.{merged_state, None, Ok, OnErr, OnOk, Option, ordered_with, PagesValue, PagesView, Result, Row, row_at, row_inserted, rows_of, RowsView, rules, seen, Some, sym}
+use Rattle.ksm_pages.proofs.Names.{tied_inserted, true, waiting_state, with_held, with_row, ℕ, ◌∙◌, ◌≡◌}
 use Rattle.std.proofs.Math.ListN.{get_or-map}
 use Rattle.ksm_pages.proofs.Changing.{nothing_held, rows_with}
 use Rattle.ksm_pages.proofs.Found.{find_put, find_put_other}
-use Rattle.ksm_pages.proofs.Leaving.{AreLawful, of_dup, view_of}
+use Rattle.ksm_pages.proofs.Leaving.{AreLawful, Comes, comes, of_dup, view_of}
 use Rattle.ksm_pages.proofs.Lodgings.{frame_by, lodged_one, seat}
-use Rattle.ksm_pages.proofs.Leaving.{Comes, comes}
 
 -- what is kept of rows in order is in order
 held_rise : (held : List Held) → InPageOrder (rows_of held) → AllPairs (λ h g. comes_before h.row.page g.row.page ≡ true) held

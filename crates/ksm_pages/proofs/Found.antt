@@ -1,14 +1,10 @@
 -- Lists in the order of their pages: what a search finds once one came, went or changed, and what a write at a page's place leaves.
-use Rattle.ksm_pages.proofs.Names.{[], All, AllPairs, ap, ap₂, arith, Bool, both_ways, cases_Bool, cases_lt, comes_before, cond, count_by-le-length, false, filter, filter_passes, find, find_none}
-use Rattle.ksm_pages.proofs.Names.{get_or, GuestPage, if◌then◌else◌, IsPartitionedBy, length, length-filter, length-insert, List, map, map-append, None, not, not-true, pages_ordered, refl, rules}
-use Rattle.ksm_pages.proofs.Names.{same_page, set, set-append_seam, suc, sym, true, ℕ, ◌++◌, ◌+◌, ◌<◌, ◌∙◌, ◌∷◌, ◌≡◌, ◌≤◌}
-use Rattle.ksm_rmap.proofs.Ordered.{found_at, found_parts, insert_at, none_same, none_same_low}
-use Rattle.ksm_tree.proofs.Alike.{change_none, pairs_mapped}
-use Rattle.ksm_pages.proofs.Names.{[], All, All-cons, AllPairs, ap, arith, Bool, comes_before, cond, false, filter, filter_passes, find, find-append, find_nothing, find_over, get_or, GuestPage}
-use Rattle.ksm_pages.proofs.Names.{if◌then◌else◌, List, map, None, not, pages_ordered, pairs_head, pairs_tail, refl, same_page, same_page_eq, same_page_refl, Some, sym, true, ◌++◌, ◌∙◌, ◌∷◌, ◌≡◌}
-use Rattle.ksm_pages.proofs.Names.{zero, suc, before_irrefl, ◌<◌, arith, Option, find_passes, option_map, same_page_sym}
-use Rattle.ksm_rmap.proofs.Ordered.{absent_parts}
-use Rattle.ksm_tree.proofs.Alike.{find_mapped}
+use Rattle.ksm_pages.proofs.Names.{All, All-cons, AllPairs, ap, arith, before_irrefl, Bool, both_ways, cases_lt, comes_before, cond, count_by-le-length, false, filter, filter_passes, find}
+use Rattle.ksm_pages.proofs.Names.{find-append, find_none, find_nothing, find_over, find_passes, get_or, GuestPage, if◌then◌else◌, IsPartitionedBy, length, length-filter, length-insert, List, map}
+use Rattle.ksm_pages.proofs.Names.{map-append, None, not, not-true, Option, option_map, pages_ordered, pairs_head, pairs_tail, refl, rules, same_page, same_page_eq, same_page_refl, same_page_sym, set}
+use Rattle.ksm_pages.proofs.Names.{set-append_seam, Some, suc, sym, true, zero, ℕ, [], ◌++◌, ◌+◌, ◌<◌, ◌∙◌, ◌∷◌, ◌≡◌, ◌≤◌}
+use Rattle.ksm_rmap.proofs.Ordered.{absent_parts, found_at, found_parts, insert_at, none_same, none_same_low}
+use Rattle.ksm_tree.proofs.Alike.{change_none, find_mapped, pairs_mapped}
 
 -- what a search finds among all it finds among those that are kept, where the one found is kept
 pub find_kept : {X : Type 0} (test keep : X → Bool) (xs : List X) (o : Option X) → find test xs ≡ o

@@ -1,10 +1,9 @@
 -- A walk along the order that lists the pages that a visit may change.
-use Rattle.ksm_pages.proofs.Names.{[], after_cursor, All, All-cons, All-map, ap, AreAllListed, AreAscending, AreFiled, AreListed, arith, before_irrefl, Bool, cases_Bool, comes_before, Entry, false}
-use Rattle.ksm_pages.proofs.Names.{filter, find, find_all, find_none, find_passes, get, get_or, GuestPage, has_item, Held, held_in, held_of, held_under, inl, inr, is_of, is_restless, is_some}
-use Rattle.ksm_pages.proofs.Names.{IsAddedTo, IsUnder, length, List, Listing, Named, named_of, None, not, Option, option_map, pairs_head, pairs_tail, rows_of, rules, same_page_refl, same_Some}
-use Rattle.ksm_pages.proofs.Names.{shared_state, Slab, Some, sym, true, ℕ, ◌&&◌, ◌<◌, ◌∙◌, ◌∷◌, ◌≡◌, ◌≤◌, ◌⊎◌}
+use Rattle.ksm_pages.proofs.Names.{after_cursor, All, All-map, ap, AreAllListed, AreAscending, AreFiled, AreListed, arith, before_irrefl, Bool, comes_before, Entry, false, filter, find, find_all}
+use Rattle.ksm_pages.proofs.Names.{find_none, find_passes, get, GuestPage, has_item, Held, held_in, held_of, inl, inr, is_of, is_restless, is_some, IsAddedTo, IsUnder, length, List, Listing, Named}
+use Rattle.ksm_pages.proofs.Names.{named_of, None, not, one_before, Option, option_map, rows_of, rules, same_page_eq, same_page_refl, same_Some, shared_state, Slab, Some, sym, true, ℕ, [], ◌<◌, ◌∙◌}
+use Rattle.ksm_pages.proofs.Names.{◌∷◌, ◌≡◌, ◌≤◌, ◌⊎◌}
 use Rattle.ksm_pages.specs.Paged.{is_restless as may_change}
-use Rattle.ksm_pages.proofs.Names.{one_before, same_page_eq}
 use Rattle.ksm_pages.proofs.Found.{first_found}
 use Rattle.ksm_pages.proofs.Filing.{all_stand, named_under, one_key, under_named}
 use Rattle.ksm_pages.proofs.Listings.{with_has}

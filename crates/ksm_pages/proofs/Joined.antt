@@ -1,15 +1,10 @@
 -- The pages once a page with a frame of its own joined a dup.
-use Rattle.ksm_tree.specs.Dups.{has_number}
-use Rattle.ksm_pages.proofs.Names.{nat_tests}
-use Rattle.ksm_pages.proofs.Names.{rules}
-use Rattle.ksm_pages.proofs.Names.{All, ap, AreKept, AreTied, arith, both_ways, change_held, change_items, change_row, count_by, Dup, dup_numbered, dup_of, DupRow, DupsState, each_at_page, Entry}
-use Rattle.ksm_pages.proofs.Names.{eq-eqb, false, find_none, frame_of, get_or, GuestPage, HasRoom, Held, held_at, held_of, InPageOrder, Inside, is_some, IsStopped, items_in, length, let_out, lies_on}
-use Rattle.ksm_pages.proofs.Names.{List, Listing, lodging, lodgings_of, mapped, Merged, merged_into, merged_state, MOST_REFERENCES, None, number_found, Option, option_map, PageState, PagesValue}
-use Rattle.ksm_pages.proofs.Names.{PagesView, refl, Row, row_at, row_found, row_stopped, rows_items, rows_of, RowsView, seen, shared_state, Some, subst, sym, tied_count, tied_joined, true, true≢false}
-use Rattle.ksm_pages.proofs.Names.{with_item, ℕ, ◌<◌, ◌==◌, ◌∙◌, ◌≡◌}
-use Rattle.ksm_tree.specs.Dups.{items_of as items_numbered, rows_of as dup_rows}
+use Rattle.ksm_tree.specs.Dups.{has_number, items_of as items_numbered, rows_of as dup_rows}
+use Rattle.ksm_pages.proofs.Names.{All, ap, arith, change_held, change_items, change_row, count_by, Dup, dup_of, DupRow, DupsState, each_at_page, Entry, false, find_none, frame_of, GuestPage, HasRoom}
+use Rattle.ksm_pages.proofs.Names.{Held, held_at, held_of, InPageOrder, Inside, is_some, IsStopped, length, let_out, lies_on, List, lodgings_of, mapped, Merged, merged_into, merged_state}
+use Rattle.ksm_pages.proofs.Names.{MOST_REFERENCES, nat_tests, None, number_found, Option, option_map, PageState, PagesValue, refl, Row, row_found, rows_items, rows_of, RowsView, seen, shared_state}
+use Rattle.ksm_pages.proofs.Names.{Some, subst, sym, tied_count, tied_joined, true, with_item, ℕ, ◌<◌, ◌==◌, ◌∙◌, ◌≡◌}
 use Rattle.ksm_pages.proofs.Changing.{row_found as found_rows}
-use Rattle.ksm_pages.proofs.Options.{some_mapped}
 use Rattle.ksm_pages.proofs.Leaving.{AreLawful, Comes, of_dup, of_page, row_there, stops, turned_so, view_of}
 use Rattle.ksm_pages.proofs.Lodgings.{frame_by, seat}
 

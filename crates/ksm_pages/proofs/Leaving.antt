@@ -1,13 +1,10 @@
 -- The pages once the row of one page changed, or went: they are lawful still, and what is seen of them is changed so.
-use Rattle.ksm_pages.proofs.Names.{rules}
-use Rattle.ksm_pages.proofs.Names.{Dup, List, ordered_change, PagesView, WaitingPage}
-use Rattle.ksm_pages.proofs.Names.{ap, ap₂, AreKept, AreTied, AreWaiting, arith, change_held, change_row, DupsState, false, find_passes, frame_of, Frames, GuestPage, Held, held_at, if◌then◌else◌}
-use Rattle.ksm_pages.proofs.Names.{InPageOrder, Inside, is_some, IsAlone, IsKnown, IsStopped, let_out, lies_on, lodging, lodgings_of, MatchOption, merged_state, None, Option, option_map, ordered_map}
-use Rattle.ksm_pages.proofs.Names.{ordered_without, PagesValue, Row, row_at, row_dropped, row_stopped, rows_of, rows_out, RowsView, same_page, same_page_eq, seen, shared_state, Some, subst, sym}
-use Rattle.ksm_pages.proofs.Names.{tied_dropped, tied_left, true, waiting_state, without_held, without_page, ℕ, ◌∙◌, ◌≡◌}
+use Rattle.ksm_pages.proofs.Names.{ap, AreKept, AreTied, AreWaiting, arith, change_held, change_row, Dup, DupsState, false, find_passes, frame_of, Frames, GuestPage, Held, held_at, InPageOrder}
+use Rattle.ksm_pages.proofs.Names.{Inside, is_some, IsAlone, IsKnown, IsStopped, lies_on, List, lodging, lodgings_of, MatchOption, None, Option, option_map, ordered_change, PagesValue, PagesView, Row}
+use Rattle.ksm_pages.proofs.Names.{row_at, row_stopped, rows_of, RowsView, same_page_eq, seen, shared_state, Some, subst, sym, true, waiting_state, WaitingPage, ℕ, ◌∙◌, ◌≡◌}
 use Rattle.ksm_tree.specs.Dups.{rows_of as dup_rows}
-use Rattle.ksm_pages.proofs.Changing.{row_told, rows_changed, rows_without}
-use Rattle.ksm_pages.proofs.Lodgings.{changed_to, frame_by, lodged_changed, lodged_gone, seat}
+use Rattle.ksm_pages.proofs.Changing.{row_told, rows_changed}
+use Rattle.ksm_pages.proofs.Lodgings.{changed_to, frame_by, lodged_changed, seat}
 
 -- where the items of each dup lie
 abbrev pub of_dup : Inside → ℕ → Option ℕ

@@ -1,6 +1,5 @@
 -- The pages that a visit may change, once a page is listed, or is not any more.
-use Rattle.ksm_pages.proofs.Names.{any-filter_same, ap₂, arith, Bool, cases_Bool, comes_before, filter, GuestPage, has_item, inl, inr, List, list_any-append, one_before, rules, same_page, true}
-use Rattle.ksm_pages.proofs.Names.{with_item, ◌&&◌, ◌||◌, ◌∙◌, ◌∷◌, ◌≡◌, ◌⊎◌}
+use Rattle.ksm_pages.proofs.Names.{any-filter_same, arith, Bool, filter, GuestPage, has_item, List, list_any-append, one_before, same_page, true, with_item, ◌&&◌, ◌≡◌, ◌⊎◌}
 
 -- what a search for a page finds of a part of a list
 part_has : (test : GuestPage → Bool) (p : GuestPage) (pages : List GuestPage) → has_item p (filter test pages) ≡ (test p && has_item p pages)

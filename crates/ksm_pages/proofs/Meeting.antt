@@ -1,10 +1,8 @@
 -- The page that waits in the tree of a row with its bytes once the row was visited, and the row that is its partner.
-use Rattle.ksm_pages.proofs.Names.{rules}
-use Rattle.ksm_pages.proofs.Names.{ap, AreWaiting, arith, change_row, cond, false, find_passes, GuestPage, if◌then◌else◌, InPageOrder, IsAdded, Knobs, List, look_up_found, MatchOption, names, None}
-use Rattle.ksm_pages.proofs.Names.{Option, option_and_then, own_found, partner, partner_found, refl, Row, row_at, row_begun, row_kept, same_page, same_page_eq, Some, sym, tree_of, true, unwrap_or}
-use Rattle.ksm_pages.proofs.Names.{Waiting, waiting_page, WaitingPage, waits_there, ◌∙◌, ◌≡◌}
+use Rattle.ksm_pages.proofs.Names.{ap, AreWaiting, arith, change_row, false, find_passes, GuestPage, if◌then◌else◌, InPageOrder, IsAdded, Knobs, List, look_up_found, MatchOption, None, Option}
+use Rattle.ksm_pages.proofs.Names.{option_and_then, option_map, own_found, partner, partner_found, refl, Row, row_at, row_begun, row_kept, same_page, same_page_eq, Some, tree_of, true, unwrap_or}
+use Rattle.ksm_pages.proofs.Names.{Waiting, waiting_page, waiting_state, WaitingPage, ◌≡◌}
 use Rattle.std.specs.Option.{is_some}
-use Rattle.ksm_pages.proofs.Names.{option_map, waiting_state}
 use Rattle.ksm_pages.proofs.Options.{none_mapped}
 
 module _ (knobs : Knobs) (rows : List Row) (w : List WaitingPage) (row : Row) (rise : InPageOrder rows) (are : AreWaiting knobs rows w) where

@@ -1,8 +1,7 @@
 -- The pages once the items of a dup went to another frame.
-use Rattle.ksm_pages.proofs.Names.{[], All, All-head, All-tail, ap, arith, dup_numbered, DupRow, each_has_number, eqb-true, false, find_all, find_passes, frame_of, frame_seen, Held, held_at}
-use Rattle.ksm_pages.proofs.Names.{if◌then◌else◌, InPlaceOrder, is_item, items_on, length, List, list_any, lodging, lodgings_of, Merged, merged_into, nat_tests, None, one_of_each_place, Option}
-use Rattle.ksm_pages.proofs.Names.{option_and_then, option_map, PageState, Private, refl, rows_of, set, slice_get, Some, sym, true, Waiting, Zero, ℕ, ◌<◌, ◌==◌, ◌∙◌, ◌∷◌, ◌≡◌}
-use Rattle.ksm_tree.proofs.Indexed.{cond_if}
+use Rattle.ksm_pages.proofs.Names.{All, All-head, All-tail, arith, dup_numbered, DupRow, each_has_number, eqb-true, false, find_all, find_passes, frame_of, Held, held_at, if◌then◌else◌, InPlaceOrder}
+use Rattle.ksm_pages.proofs.Names.{is_item, items_on, length, List, list_any, lodging, lodgings_of, nat_tests, None, one_of_each_place, Option, option_map, refl, rows_of, set, Some, sym, true, ℕ, []}
+use Rattle.ksm_pages.proofs.Names.{◌<◌, ◌==◌, ◌∙◌, ◌∷◌, ◌≡◌}
 use Rattle.ksm_pages.proofs.Changing.{row_found}
 use Rattle.ksm_pages.proofs.Lodgings.{frame_by, seat}
 use Rattle.ksm_pages.proofs.Paired.{frame_away, set_there}

@@ -54,8 +54,8 @@ pub use Rattle.ksm_tree.specs.declared.dup.Best.{Best}
 pub use Rattle.ksm_tree.specs.declared.dup.Dup.{Dup}
 pub use Rattle.slab.proofs.SlabLemmas.{Updates-with_value}
 pub use Rattle.slab.specs.Slab.{CalledAt, get, RetainsFrom, Slab, with_value}
-pub use Rattle.std.proofs.Common.{[], add-one, ap, ap₂, arith, Bool, drop, false, get_or, inl, inr, is_some, length, length-set, List, map, MutBor, ne_eqb, None, Option, refl, rules, Some, subst, suc}
-pub use Rattle.std.proofs.Common.{sym, take, true, true≢false, zero, ℕ, ◌++◌, ◌+◌, ◌-◌, ◌<◌, ◌^◌, ◌∙◌, ◌∷◌, ◌≡◌, ◌≢◌, ◌≤◌, ◌⊎◌}
+pub use Rattle.std.proofs.Common.{add-one, ap, ap₂, arith, Bool, drop, false, get_or, inl, inr, is_some, length, length-set, List, map, MutBor, ne_eqb, None, Option, refl, rules, Some, subst, suc}
+pub use Rattle.std.proofs.Common.{sym, take, true, true≢false, zero, ℕ, [], ◌++◌, ◌+◌, ◌-◌, ◌<◌, ◌^◌, ◌∙◌, ◌∷◌, ◌≡◌, ◌≢◌, ◌≤◌, ◌⊎◌}
 pub use Rattle.std.proofs.Math.Seq.{set-append_seam}
 pub use Rattle.std.proofs.lemmas.Bool.{and_parts, both_ways, cases_Bool, cases_lt, cond_both, eq-eqb, eqb-true, le-ltb, not-true}
 pub use Rattle.std.proofs.lemmas.Bool.Decides.{Decides-eqb, nat_tests}

@@ -1,5 +1,5 @@
 -- Options that are mapped.
-use Rattle.ksm_pages.proofs.Names.{arith, MatchOption, None, Option, option_map, refl, Some, ◌≡◌}
+use Rattle.ksm_pages.proofs.Names.{arith, MatchOption, None, Option, option_map, Some, ◌≡◌}
 use Rattle.std.specs.Option.{is_some}
 
 -- an option is full once it is mapped exactly where it was full

@@ -1,9 +1,8 @@
 -- What is read of the pages: rows and dups found by their pages, places and numbers.
-use Rattle.ksm_pages.proofs.Names.{rules}
-use Rattle.ksm_pages.proofs.Names.{All, ap, AreDups, AreTied, AreWaiting, arith, cases_Bool, cond, Dup, dup_at, dup_numbered, dup_of, DupRow, DupsState, each_has_number, false, find, find_all}
-use Rattle.ksm_pages.proofs.Names.{found_passing, has_items, Held, inl, InPageOrder, InPlaceOrder, inr, is_live, is_some, is_stale, items_in, items_of, Knobs, length, List, list_any, live_placed}
-use Rattle.ksm_pages.proofs.Names.{lodging, lodgings_of, merged_into, None, Option, option_and_then, option_map, passing, refl, Row, row_at, rows_of, slice_get, slice_get-get_or, Some, stale_alike}
-use Rattle.ksm_pages.proofs.Names.{stands_at, stands_numbered, sym, tied_counted, true, unwrap_or-slice_get, waiting_state, WaitingPage, waits_there, ℕ, ◌&&◌, ◌<◌, ◌==◌, ◌∙◌, ◌≡◌}
+use Rattle.ksm_pages.proofs.Names.{All, ap, AreDups, AreTied, AreWaiting, arith, Dup, dup_at, dup_numbered, dup_of, DupRow, DupsState, each_has_number, false, find, find_all, found_passing, has_items}
+use Rattle.ksm_pages.proofs.Names.{Held, InPageOrder, InPlaceOrder, is_live, is_some, is_stale, items_in, items_of, Knobs, length, List, list_any, live_placed, lodging, lodgings_of, merged_into, None}
+use Rattle.ksm_pages.proofs.Names.{Option, option_and_then, option_map, refl, Row, row_at, rows_of, slice_get, slice_get-get_or, Some, stale_alike, stands_at, stands_numbered, sym, tied_counted, true}
+use Rattle.ksm_pages.proofs.Names.{unwrap_or-slice_get, waiting_state, WaitingPage, ℕ, ◌&&◌, ◌<◌, ◌==◌, ◌∙◌, ◌≡◌}
 use Rattle.std.proofs.Common.{unwrap_or}
 use Rattle.ksm_base.specs.Rows.{is_stale as is_stale_row}
 use Rattle.ksm_tree.specs.Dups.{rows_of as dup_rows}

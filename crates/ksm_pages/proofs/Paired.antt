@@ -1,9 +1,9 @@
 -- The pages once two of them became the items of a new dup.
-use Rattle.ksm_pages.proofs.Names.{[], All, ap, ap₂, AreDups, AreKept, arith, at_others, cases_Bool, change_held, change_row, change_rows, dup_numbered, DupRow, DupsState, Entry, false, find}
-use Rattle.ksm_pages.proofs.Names.{find_all, frame_of, Frames, GuestPage, Held, held_at, held_of, InPageOrder, InPlaceOrder, Inside, is_live, IsStopped, length, length-set, let_out, lies_on, List}
-use Rattle.ksm_pages.proofs.Names.{lodging, lodgings_of, mapped, MatchOption, MayPair, Merged, merged_into, None, not, Option, option_and_then, option_map, ordered_change, PagesValue, paired}
-use Rattle.ksm_pages.proofs.Names.{place_kept, place_new, refl, Row, row_at, row_stopped, rows_new, rows_of, RowsView, rules, same_page, same_page_eq, seen, set, slice_get, Some, stands_at, subst}
-use Rattle.ksm_pages.proofs.Names.{suc, sym, tied_made, tree_of, true, with_dup, with_item, with_new, zero, ℕ, ◌&&◌, ◌+◌, ◌<◌, ◌==◌, ◌||◌, ◌∙◌, ◌∷◌, ◌≡◌, ◌≢◌, get_or-set_same, slice_get-get_or}
+use Rattle.ksm_pages.proofs.Names.{All, ap, ap₂, AreDups, AreKept, arith, at_others, change_held, change_row, change_rows, dup_numbered, DupRow, DupsState, Entry, false, find, find_all, frame_of}
+use Rattle.ksm_pages.proofs.Names.{Frames, get_or-set_same, GuestPage, Held, held_at, held_of, InPageOrder, InPlaceOrder, Inside, is_live, IsStopped, length, length-set, let_out, lies_on, List}
+use Rattle.ksm_pages.proofs.Names.{lodging, lodgings_of, mapped, MatchOption, MayPair, Merged, merged_into, None, Option, option_and_then, option_map, ordered_change, PagesValue, paired, place_kept}
+use Rattle.ksm_pages.proofs.Names.{place_new, refl, Row, row_at, row_stopped, rows_new, rows_of, RowsView, rules, same_page, same_page_eq, seen, set, slice_get, slice_get-get_or, Some, stands_at}
+use Rattle.ksm_pages.proofs.Names.{subst, suc, sym, tied_made, tree_of, true, with_dup, with_item, with_new, zero, ℕ, [], ◌&&◌, ◌+◌, ◌<◌, ◌==◌, ◌||◌, ◌∙◌, ◌∷◌, ◌≡◌, ◌≢◌}
 use Rattle.std.specs.Vec.{with_item as with_frame}
 use Rattle.ksm_tree.specs.Dups.{rows_of as dup_rows}
 use Rattle.ksm_tree.proofs.Alike.{map_mapped}

@@ -1,12 +1,12 @@
 -- The pages in order as the items that are kept for them: what stands before a key, what comes behind it, and in between.
-use Rattle.ksm_pages.proofs.Names.{slice_get-get_or, [], after_cursor, All, All-head, All-tail, ap, arith, Bool, comes_before, count_by, count_none, drop, false, filter, filter_all, find, get_or, GuestPage}
-use Rattle.ksm_pages.proofs.Names.{if◌then◌else◌, is_of, is_some, key_of, last_of, length, length-filter, length-map, List, map, marked, Named, named_by, nat_lt, nat_tests, None, none-some, not}
-use Rattle.ksm_pages.proofs.Names.{Option, option_map, page_of, pages_behind, pages_between, pairs_head, pairs_tail, refl, rules, same_Some, slice_get, slice_get-map, slice_get_past, Some, suc, sym}
-use Rattle.ksm_pages.proofs.Names.{take, true, visited, with_named, zero, ℕ, ◌&&◌, ◌+◌, ◌-◌, ◌<◌, ◌^◌, ◌∙◌, ◌∷◌, ◌≡◌, ◌≤◌}
+use Rattle.ksm_pages.proofs.Names.{after_cursor, All, All-head, All-tail, ap, arith, Bool, comes_before, count_by, count_none, drop, false, filter, filter_all, find, get_or, GuestPage, if◌then◌else◌}
+use Rattle.ksm_pages.proofs.Names.{is_of, is_some, key_of, last_of, length, length-filter, length-map, List, map, marked, Named, named_by, nat_lt, nat_tests, None, not, Option, option_map, page_of}
+use Rattle.ksm_pages.proofs.Names.{pages_behind, pages_between, pairs_head, pairs_tail, refl, rules, slice_get, slice_get-get_or, slice_get-map, slice_get_past, Some, suc, sym, take, true, visited}
+use Rattle.ksm_pages.proofs.Names.{with_named, zero, ℕ, [], ◌&&◌, ◌+◌, ◌-◌, ◌<◌, ◌^◌, ◌∙◌, ◌∷◌, ◌≡◌, ◌≤◌}
 use Rattle.std.proofs.lemmas.List.{drop-map, length-drop, length-take-le, nil_from_length, take-map}
 use Rattle.std.proofs.lemmas.List.Kept.{AllPairs-filter}
 use Rattle.ksm_base.proofs.Edits.{count_more}
-use Rattle.ksm_tree.proofs.Alike.{filter_mapped, find_mapped, map_mapped, pairs_mapped}
+use Rattle.ksm_tree.proofs.Alike.{filter_mapped, find_mapped, pairs_mapped}
 use Rattle.ksm_pages.specs.Ordered.{AreAscending as AreInOrder}
 use Rattle.ksm_pages.proofs.Found.{length_with}
 use Rattle.ksm_order.specs.declared.item.Item.{Item}

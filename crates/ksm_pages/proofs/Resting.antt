@@ -1,6 +1,5 @@
 -- Rows that wait no more, and the row of a page that has one.
-use Rattle.ksm_pages.proofs.Names.{arith, bytes_eq, false, frame_seen, let_go, List, Merged, Option, PageState, Private, refl, Row, settled, settled_state, shared_state, stored, Waiting}
-use Rattle.ksm_pages.proofs.Names.{waiting_state, Zero, ℕ, ◌&&◌, ◌≡◌}
+use Rattle.ksm_pages.proofs.Names.{arith, bytes_eq, false, frame_seen, let_go, List, Option, PageState, Private, Row, settled, settled_state, shared_state, stored, waiting_state, ℕ, ◌&&◌, ◌≡◌}
 
 -- a row with a frame of its own is Private once it is settled
 pub rests : (state : PageState) → shared_state state ≡ false → settled_state state ≡ Private

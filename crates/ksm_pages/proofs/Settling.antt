@@ -1,10 +1,9 @@
 -- The rows once each entry was changed, or the next pass began.
-use Rattle.ksm_pages.proofs.Names.{[], ap, ap₂, AreFiled, AreListed, arith, Bool, CalledAt, cond, count_by, count_none, Entry, false, forgotten, get, get_or, Held, held_in, held_of, IsRows, IsTally}
-use Rattle.ksm_pages.proofs.Names.{List, Listing, map, Merged, MutBor, Named, None, on_row, Option, option_map, PageState, Private, refl, RetainsFrom, rows_of, rules, settled, Slab, Some, subst, sym}
-use Rattle.ksm_pages.proofs.Names.{Tally, true, Waiting, Zero, ℕ, ◌+◌, ◌∙◌, ◌∷◌, ◌≡◌, ◌≤◌, holds}
+use Rattle.ksm_pages.proofs.Names.{ap, AreFiled, AreListed, arith, Bool, CalledAt, count_by, count_none, Entry, false, forgotten, get, get_or, Held, held_in, held_of, holds, IsRows, IsTally, List}
+use Rattle.ksm_pages.proofs.Names.{Listing, map, MutBor, Named, None, on_row, Option, option_map, PageState, refl, RetainsFrom, Row, rows_of, rules, settled, Slab, Some, sym, Tally, true, ℕ, [], ◌+◌}
+use Rattle.ksm_pages.proofs.Names.{◌∙◌, ◌∷◌, ◌≡◌, ◌≤◌}
 use Rattle.ksm_pages.proofs.Options.{mapped_some}
 use Rattle.ksm_base.specs.Rows.{merged_state, waiting_state, zero_state}
-use Rattle.ksm_pages.proofs.Names.{Row}
 use Rattle.std.proofs.Math.ListN.{get_or-map}
 use Rattle.ksm_pages.specs.declared.row.Kind.TheVariants as kinds
 use Rattle.ksm_tree.proofs.Alike.{count_mapped, map_mapped}

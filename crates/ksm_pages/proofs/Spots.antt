@@ -1,8 +1,8 @@
 -- Spots in the order of their pages: the pages of them, once one was put in, written or taken away.
-use Rattle.ksm_pages.proofs.Names.{[], add-one, ap, append-nil, append_assoc, ap₂, AreInOrder, arith, Bool, cases_Bool, comes_before, drop, drop_all, Entry, false, filter, find, find_filter}
-use Rattle.ksm_pages.proofs.Names.{find_passes, get, get_or, get_or_default, GuestPage, has_item, if◌then◌else◌, insert, is_some, is_useless, IsInVain, length, length-append, length-map}
-use Rattle.ksm_pages.proofs.Names.{length-take-le, List, Listing, map, Named, None, not, not-true, Option, pages_of, pages_ordered, point_is_count, refl, rules, same_page, same_page_eq, set, Slab}
-use Rattle.ksm_pages.proofs.Names.{Some, Spot, sym, take, true, true≢false, ℕ, ◌++◌, ◌+◌, ◌-◌, ◌<◌, ◌∙◌, ◌∷◌, ◌≡◌, ◌≤◌, ◌⊎◌}
+use Rattle.ksm_pages.proofs.Names.{add-one, ap, append-nil, append_assoc, ap₂, AreInOrder, arith, Bool, comes_before, drop, drop_all, Entry, false, filter, find, find_filter, find_passes, get, get_or}
+use Rattle.ksm_pages.proofs.Names.{get_or_default, GuestPage, has_item, if◌then◌else◌, insert, is_some, is_useless, IsInVain, length, length-append, length-map, length-take-le, List, Listing, map}
+use Rattle.ksm_pages.proofs.Names.{Named, None, not, not-true, Option, pages_of, pages_ordered, point_is_count, refl, rules, same_page, same_page_eq, set, Slab, Some, Spot, sym, take, true}
+use Rattle.ksm_pages.proofs.Names.{true≢false, ℕ, [], ◌++◌, ◌+◌, ◌-◌, ◌<◌, ◌∙◌, ◌∷◌, ◌≡◌, ◌≤◌, ◌⊎◌}
 use Rattle.std.specs.List.{copy_within}
 use Rattle.std.specs.Option.{is_none}
 use Rattle.std.proofs.Math.Seq.{take-append_seam, take-suc}

@@ -1,18 +1,14 @@
 -- The pages once a call changed the row of one page: they are lawful, and what is seen of them changed so.
-use Rattle.ksm_pages.proofs.Names.{[], All-map, ap, AreKept, AreTied, AreWaiting, arith, at_mapped, change_held, change_row, cond_both, DupsState, false, find_passes, frame_of, frame_seen, get_or}
-use Rattle.ksm_pages.proofs.Names.{GuestPage, Held, held_at, holds, if◌then◌else◌, Inside, IsAlone, IsKnown, IsLeft, lies_on, List, Listing, lodging, lodgings_of, map, mapped, MatchOption}
-use Rattle.ksm_pages.proofs.Names.{merged_state, None, none_waiting, on_row, Option, option_map, ordered_map, PageState, PagesValue, PagesView, Private, refl, Row, row_at, rows_of, RowsView, rules}
-use Rattle.ksm_pages.proofs.Names.{same_page, same_page_eq, seen, settled_state, shared_state, Some, subst, sym, tied_mapped, true≢false, waiting_state, waits_there, without_held, without_page, ℕ, ⊤}
-use Rattle.ksm_pages.proofs.Names.{◌∙◌, ◌≡◌}
+use Rattle.ksm_pages.proofs.Names.{All-map, ap, AreWaiting, arith, at_mapped, change_held, change_row, cond_both, DupsState, false, find_passes, frame_of, frame_seen, get_or, GuestPage, Held, held_at}
+use Rattle.ksm_pages.proofs.Names.{if◌then◌else◌, Inside, IsAlone, IsKnown, IsLeft, let_out, lies_on, List, lodgings_of, map, mapped, MatchOption, merged_state, None, none_waiting, on_row, Option}
+use Rattle.ksm_pages.proofs.Names.{option_map, ordered_map, ordered_without, PageState, PagesValue, Private, refl, Row, row_at, row_dropped, rows_of, rows_out, RowsView, same_page, same_page_eq, seen}
+use Rattle.ksm_pages.proofs.Names.{settled_state, shared_state, Some, sym, tied_dropped, tied_left, tied_mapped, waiting_state, waits_there, without_held, without_page, ℕ, [], ⊤, ◌∙◌, ◌≡◌}
 use Rattle.std.proofs.lemmas.Bool.{some_since}
-use Rattle.ksm_tree.specs.Dups.{rows_of as dup_rows}
 use Rattle.ksm_tree.proofs.Alike.{map_alike, map_mapped}
-use Rattle.ksm_pages.proofs.Changing.{rows_mapped}
-use Rattle.ksm_pages.proofs.Names.{let_out, ordered_without, row_dropped, rows_out, tied_dropped, tied_left}
-use Rattle.ksm_pages.proofs.Changing.{rows_without}
+use Rattle.ksm_pages.proofs.Changing.{rows_mapped, rows_without}
 use Rattle.ksm_pages.proofs.Lodgings.{lodged_gone, seat}
-use Rattle.ksm_pages.proofs.Leaving.{AreLawful, alone_found, Comes, comes, known_there, lies, of_dup, of_page, row_there, stays_there, stops, turned_so, view_of}
-use Rattle.ksm_pages.proofs.Resting.{lies_alike, rests, settled_again, settled_still}
+use Rattle.ksm_pages.proofs.Leaving.{alone_found, AreLawful, Comes, comes, known_there, lies, of_dup, of_page, row_there, stays_there, stops, turned_so, view_of}
+use Rattle.ksm_pages.proofs.Resting.{lies_alike, settled_again, settled_still}
 
 -- equal values of the rows hold the same
 pub held_as : {old new : RowsView} → new ≡ old → new.held ≡ old.held

@@ -1,11 +1,10 @@
 -- What a visit finds of a row that it may change, and the pages once the row waits.
-use Rattle.ksm_pages.proofs.Names.{all_zero, ap, AreKept, AreTied, AreWaiting, arith, Best, best_dup, best_found, best_of, Bool, change_held, change_row, Dup, DupsState, Entry, false, Find, Finds}
-use Rattle.ksm_pages.proofs.Names.{FindsAt, found_at, GuestPage, Held, held_at, held_of, Inside, is_for_zero, IsAdded, IsAlone, List, MatchOption, None, not, number_of, on_row, Option, option_map}
+use Rattle.ksm_pages.proofs.Names.{all_zero, and_parts, ap, AreTied, arith, Best, best_dup, best_found, best_of, Bool, change_held, change_row, Dup, DupsState, Entry, false, Find, Finds, FindsAt}
+use Rattle.ksm_pages.proofs.Names.{found_at, GuestPage, Held, held_at, held_of, Inside, is_for_zero, IsAdded, IsAlone, List, MatchOption, None, not, not-true, number_of, on_row, Option, option_map}
 use Rattle.ksm_pages.proofs.Names.{PagesValue, PagesView, partner, Private, refl, Row, row_at, rows_of, RowsView, rules, same_page, seen, shared_state, Some, subst, sym, tied_counted, tied_left}
-use Rattle.ksm_pages.proofs.Names.{tree_of, true, unwrap_or, Waiting, waiting_page, ℕ, ◌&&◌, ◌==◌, ◌∙◌, ◌≡◌, and_parts, not-true}
+use Rattle.ksm_pages.proofs.Names.{tree_of, true, unwrap_or, Waiting, waiting_page, ℕ, ◌&&◌, ◌==◌, ◌∙◌, ◌≡◌}
 use Rattle.ksm_pages.proofs.Options.{none_mapped}
 use Rattle.std.specs.Option.{is_some}
-use Rattle.ksm_tree.specs.Dups.{rows_of as dup_rows}
 use Rattle.ksm_pages.specs.declared.pages.Find.TheVariants as finds
 use Rattle.ksm_pages.specs.Held.{is_restless as is_restless_entry}
 use Rattle.ksm_pages.specs.Paged.{is_restless, visited}
@@ -13,7 +12,6 @@ use Rattle.ksm_pages.proofs.Gathering.{restless_as}
 use Rattle.ksm_pages.proofs.Joined.{let_out_alone}
 use Rattle.ksm_pages.proofs.Leaving.{AreLawful, Comes, lies, of_page, row_seen, row_there, stays_there, turned_so, view_of}
 use Rattle.ksm_pages.proofs.Meeting.{met_other, met_own, met_partner, met_waits}
-use Rattle.ksm_pages.proofs.Resting.{lies_alike, rests}
 
 -- ---------------------------------------------------------------- groups that got other numbers
 

@@ -1,4 +1,3 @@
-use Rattle.ksm_pages.proofs.Names.{arith}
 use Rattle.ksm_pages.proofs.Names.{ap, held_of, rules, Some, sym, ◌∙◌}
 use Rattle.ksm_pages.proofs.left.leave.Goals as goal
 

@@ -1,4 +1,3 @@
-use Rattle.ksm_pages.proofs.Names.{arith}
 use Rattle.ksm_pages.proofs.Names.{bytes_eq, held_of, if◌then◌else◌, None, refl, rules, sym, waiting_page, waiting_state, ◌&&◌, ◌==◌, ◌∙◌}
 use Rattle.ksm_pages.proofs.left.left_by_any.Goals as goal
 

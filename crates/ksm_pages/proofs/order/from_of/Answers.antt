@@ -1,4 +1,4 @@
-use Rattle.ksm_pages.proofs.Names.{after_cursor, ap, arith, page_of, rules, ◌∙◌}
+use Rattle.ksm_pages.proofs.Names.{arith, rules}
 use Rattle.ksm_pages.proofs.order.from_of.Goals as goal
 
 pub returns-in-Some : goal.returns-in-Some

@@ -1,4 +1,3 @@
-use Rattle.ksm_pages.proofs.Names.{arith}
 use Rattle.ksm_pages.proofs.Names.{sym, ◌∙◌}
 use Rattle.ksm_pages.proofs.Spots.{place_between}
 use Rattle.ksm_pages.proofs.restless.place_near.Goals as goal

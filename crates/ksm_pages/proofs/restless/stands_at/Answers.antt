@@ -1,6 +1,4 @@
-use Rattle.ksm_pages.proofs.Names.{rules}
-use Rattle.ksm_pages.proofs.Names.{arith}
-use Rattle.ksm_pages.proofs.Names.{ap, is_some, le-ltb, pages_ordered, refl, Spot, sym, ◌∙◌}
+use Rattle.ksm_pages.proofs.Names.{arith, le-ltb, pages_ordered, refl, Spot, sym, ◌∙◌}
 use Rattle.ksm_rmap.proofs.Ordered.{absent_past, found_by}
 use Rattle.ksm_pages.proofs.restless.stands_at.Goals as goal
 

@@ -1,4 +1,4 @@
-use Rattle.ksm_pages.proofs.Names.{arith, IfSome, IsUnder, None, Option, refl, same_page_eq, Some, sym, ℕ, ◌∙◌, ◌≡◌}
+use Rattle.ksm_pages.proofs.Names.{arith, IfSome, IsUnder, None, Option, refl, same_page_eq, Some, sym, ℕ, ◌≡◌}
 use Rattle.ksm_pages.proofs.Filing.{named_under, under}
 use Rattle.ksm_pages.proofs.rows.key_of.Goals as goal
 

@@ -1,5 +1,5 @@
 use Rattle.ksm_tree.proofs.Alike.{filter_mapped}
-use Rattle.ksm_pages.proofs.Names.{All-append, All-cons, All-filter, ap, arith, find, is_of, length, map, map-append, Named, named_by, None, rules, true, with_named, ◌+◌, ◌<◌, ◌^◌, ◌∙◌, ◌≡◌}
+use Rattle.ksm_pages.proofs.Names.{All-append, All-cons, All-filter, ap, arith, find, is_of, length, map, map-append, Named, named_by, None, rules, true, with_named, ◌+◌, ◌<◌, ◌^◌, ◌≡◌}
 use Rattle.ksm_order.specs.declared.item.Item.{Item}
 use Rattle.ksm_order.specs.Listed.{with_item}
 use Rattle.ksm_order.proofs.Changes.{with_rises}

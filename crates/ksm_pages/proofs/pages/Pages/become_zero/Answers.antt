@@ -1,5 +1,5 @@
-use Rattle.ksm_pages.proofs.Names.{arith, None, refl, Zero, ◌∙◌}
-use Rattle.ksm_pages.proofs.Turning.{HasLeft, alone_left, held_as, lay, moved}
+use Rattle.ksm_pages.proofs.Names.{arith, None, refl, Zero}
+use Rattle.ksm_pages.proofs.Turning.{alone_left, HasLeft, held_as, lay, moved}
 use Rattle.ksm_pages.proofs.pages.Pages.become_zero.Goals as goal
 
 gone : (c : goal.After-become_zero)

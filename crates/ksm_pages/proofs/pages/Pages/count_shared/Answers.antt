@@ -1,4 +1,3 @@
-use Rattle.ksm_pages.proofs.Names.{arith}
 use Rattle.ksm_pages.proofs.Names.{ap, live_count, PagesValue, rows_of, shared_count, tied_counted, ◌∙◌}
 use Rattle.ksm_pages.proofs.pages.Pages.count_shared.Goals as goal
 

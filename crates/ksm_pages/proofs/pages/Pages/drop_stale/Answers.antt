@@ -1,6 +1,5 @@
-use Rattle.ksm_pages.proofs.Names.{arith}
-use Rattle.ksm_pages.proofs.Names.{ap, DupRow, DupsState, elsewhere, filter, frame_of, IsVacant, List, lodging, lodgings_of, PagesValue, rows_of, rows_without, rules, seen, subst, sym, tied_pruned}
-use Rattle.ksm_pages.proofs.Names.{◌∙◌}
+use Rattle.ksm_pages.proofs.Names.{ap, arith, DupRow, DupsState, elsewhere, filter, frame_of, IsVacant, List, lodging, lodgings_of, PagesValue, rows_of, rows_without, rules, seen, subst, sym}
+use Rattle.ksm_pages.proofs.Names.{tied_pruned, ◌∙◌}
 use Rattle.ksm_tree.specs.Dups.{rows_of as dup_rows}
 use Rattle.ksm_pages.proofs.Dropping.{all_elsewhere, lodged_dropped, stale_there}
 use Rattle.ksm_pages.proofs.Paging.{any_at}

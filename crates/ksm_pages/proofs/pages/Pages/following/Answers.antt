@@ -1,6 +1,4 @@
-use Rattle.ksm_pages.proofs.Names.{rules}
-use Rattle.ksm_pages.proofs.Names.{arith}
-use Rattle.ksm_pages.proofs.Names.{ap, find_passes, held_of, option_map, Row, same_page, same_page_eq, Some, ◌∙◌}
+use Rattle.ksm_pages.proofs.Names.{arith, find_passes, held_of, same_page_eq}
 use Rattle.ksm_pages.proofs.Asked.{first_at}
 use Rattle.ksm_pages.proofs.Leaving.{row_seen}
 use Rattle.ksm_pages.proofs.pages.Pages.following.Goals as goal

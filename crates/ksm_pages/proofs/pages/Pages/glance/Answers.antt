@@ -1,6 +1,5 @@
-use Rattle.ksm_pages.proofs.Names.{arith}
-use Rattle.ksm_pages.proofs.Names.{ap, found_at, option_map, refl, rules, same_page, same_page_refl, sym, true, ◌≡◌}
-use Rattle.ksm_pages.proofs.Visiting.{IsAsked, asked, finds_gone, finds_waits, waits_then}
+use Rattle.ksm_pages.proofs.Names.{ap, arith, found_at, option_map, refl, rules, same_page, same_page_refl, sym, true, ◌≡◌}
+use Rattle.ksm_pages.proofs.Visiting.{asked, finds_gone, finds_waits, IsAsked, waits_then}
 use Rattle.ksm_pages.proofs.pages.Pages.glance.Goals as goal
 
 -- the row may be changed, and its group is known

@@ -1,4 +1,3 @@
-use Rattle.ksm_pages.proofs.Names.{arith}
 use Rattle.ksm_pages.proofs.Names.{fresh_row, Held, refl, rules, seen, Some}
 use Rattle.ksm_pages.proofs.Entering.{but_there, either_way, entered, lay_nowhere}
 use Rattle.std.proofs.lemmas.Result.{on_ok_weaker}

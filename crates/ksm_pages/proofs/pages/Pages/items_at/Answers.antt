@@ -1,4 +1,3 @@
-use Rattle.ksm_pages.proofs.Names.{arith}
 use Rattle.ksm_pages.proofs.Names.{ap, find, has_items, items_of, option_map, PagesValue, rows_of, Some, sym, ◌&&◌, ◌==◌, ◌∙◌}
 use Rattle.ksm_pages.proofs.Paging.{items_none, items_there}
 use Rattle.ksm_pages.proofs.pages.Pages.items_at.Goals as goal

@@ -1,6 +1,5 @@
-use Rattle.ksm_pages.proofs.Names.{arith}
-use Rattle.ksm_pages.proofs.Names.{ap, false, HasRoom, held_at, held_of, PagesValue, rows_of, rules, shared_state, Some, subst, sym, tied_absent, ◌∙◌, ◌≡◌}
-use Rattle.ksm_pages.proofs.Joined.{room_found, joins, own_not_merged, own_seat, told_joined}
+use Rattle.ksm_pages.proofs.Names.{arith, false, held_at, held_of, rules, shared_state, Some, tied_absent, ◌≡◌}
+use Rattle.ksm_pages.proofs.Joined.{joins, own_not_merged, own_seat, room_found, told_joined}
 use Rattle.ksm_pages.proofs.Leaving.{alone_found, alone_there, lies, row_there}
 use Rattle.ksm_pages.proofs.pages.Pages.join.Goals as goal
 use Rattle.ksm_pages.proofs.pages.Pages.join.Goals.{After-left_by}

@@ -1,8 +1,7 @@
-use Rattle.ksm_pages.proofs.Names.{arith}
-use Rattle.ksm_pages.proofs.Names.{change_held, false, on_row, refl, Row, settled, ◌≡◌}
+use Rattle.ksm_pages.proofs.Names.{arith, change_held, false, on_row, refl, Row, settled, ◌≡◌}
 use Rattle.ksm_base.specs.Apply.{let_go as as_let_go}
 use Rattle.ksm_pages.proofs.Resting.{went}
-use Rattle.ksm_pages.proofs.Turning.{HasLeft, alone_left, and_then, held_as, rested}
+use Rattle.ksm_pages.proofs.Turning.{alone_left, and_then, HasLeft, held_as, rested}
 use Rattle.ksm_pages.proofs.pages.Pages.let_go.Goals as goal
 
 abbrev as_gone : Row → Row

@@ -1,4 +1,3 @@
-use Rattle.ksm_pages.proofs.Names.{rules}
 use Rattle.ksm_pages.proofs.Names.{ap, find, has_items, live_placed, PagesValue, rows_of, tied_counted, ◌&&◌, ◌==◌, ◌∙◌}
 use Rattle.ksm_pages.proofs.pages.Pages.live_at.Goals as goal
 

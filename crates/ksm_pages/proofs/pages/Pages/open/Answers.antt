@@ -1,4 +1,3 @@
-use Rattle.ksm_pages.proofs.Names.{rules}
 use Rattle.ksm_pages.proofs.Names.{default_knobs, lodging, lodgings_of, rows_of, seen}
 use Rattle.ksm_tree.specs.Dups.{rows_of as dup_rows}
 use Rattle.ksm_pages.proofs.pages.Pages.open.Goals as goal

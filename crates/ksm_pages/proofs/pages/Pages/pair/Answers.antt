@@ -1,6 +1,5 @@
-use Rattle.ksm_pages.proofs.Names.{arith}
-use Rattle.ksm_pages.proofs.Names.{ap, held_of, rules, Some, sym, true≢false, ◌∙◌, ◌≡◌}
-use Rattle.ksm_pages.proofs.Paired.{CanPair, are_apart, both_merged, can_pair, first_there, is_free, lawful_paired, lay_first, lay_second, second_there, told_paired}
+use Rattle.ksm_pages.proofs.Names.{arith, rules, true≢false, ◌≡◌}
+use Rattle.ksm_pages.proofs.Paired.{are_apart, both_merged, can_pair, CanPair, first_there, is_free, lawful_paired, lay_first, lay_second, second_there, told_paired}
 use Rattle.ksm_pages.proofs.pages.Pages.pair.Goals as goal
 use Rattle.ksm_pages.proofs.pages.Pages.pair.Goals.{in_default-via-in-Some+in_default, in_default-via-in_default}
 

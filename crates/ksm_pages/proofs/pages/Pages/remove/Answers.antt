@@ -1,5 +1,4 @@
-use Rattle.ksm_pages.proofs.Names.{arith, arith}
-use Rattle.ksm_pages.proofs.Names.{lies_on, None, seen, without_page, ◌∙◌}
+use Rattle.ksm_pages.proofs.Names.{arith}
 use Rattle.ksm_pages.proofs.Turning.{HasLeft, held_as, known_left, lay, parted}
 use Rattle.ksm_pages.proofs.pages.Pages.remove.Goals as goal
 

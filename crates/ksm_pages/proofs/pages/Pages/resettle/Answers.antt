@@ -1,5 +1,4 @@
-use Rattle.ksm_pages.proofs.Names.{arith}
-use Rattle.ksm_pages.proofs.Names.{Private, refl, Some}
+use Rattle.ksm_pages.proofs.Names.{arith, Private, refl, Some}
 use Rattle.ksm_pages.proofs.Turning.{HasLeft, held_as, known_left, lay, moved}
 use Rattle.ksm_pages.proofs.pages.Pages.resettle.Goals as goal
 

@@ -1,5 +1,4 @@
-use Rattle.ksm_pages.proofs.Names.{arith}
-use Rattle.ksm_pages.proofs.Names.{All, false, inl, inr, knobs_tuned, PagesValue, rules, subst, sym, waiting_state, ◌∙◌, ◌≡◌}
+use Rattle.ksm_pages.proofs.Names.{All, arith, false, inl, inr, knobs_tuned, PagesValue, rules, subst, sym, waiting_state, ◌≡◌}
 use Rattle.ksm_pages.proofs.Paging.{knobs_free}
 use Rattle.ksm_pages.proofs.pages.Pages.set_knobs.Goals as goal
 

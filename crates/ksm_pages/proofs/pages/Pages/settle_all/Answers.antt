@@ -1,4 +1,3 @@
-use Rattle.ksm_pages.proofs.Names.{rules}
 use Rattle.ksm_pages.proofs.Names.{arith, refl}
 use Rattle.ksm_pages.proofs.Turning.{held_as, rest_all}
 use Rattle.ksm_pages.proofs.pages.Pages.settle_all.Goals as goal

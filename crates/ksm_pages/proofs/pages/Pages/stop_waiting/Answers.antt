@@ -1,9 +1,7 @@
-use Rattle.ksm_pages.proofs.Names.{arith, change_row, IsAlone, PagesValue, refl, rules, seen, settled, subst, sym}
+use Rattle.ksm_pages.proofs.Names.{arith, change_row, refl, seen, settled}
 use Rattle.ksm_pages.specs.Paged.{on_its_own}
-use Rattle.ksm_pages.proofs.Leaving.{view_of}
-use Rattle.ksm_pages.proofs.Resting.{rests}
 use Rattle.ksm_pages.proofs.Leaving.{Comes}
-use Rattle.ksm_pages.proofs.Turning.{HasLeft, alone_left, held_as, rested}
+use Rattle.ksm_pages.proofs.Turning.{alone_left, HasLeft, held_as, rested}
 use Rattle.ksm_pages.proofs.pages.Pages.stop_waiting.Goals as goal
 
 gone : (c : goal.After-stop_waiting)

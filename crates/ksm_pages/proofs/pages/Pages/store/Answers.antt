@@ -1,7 +1,6 @@
-use Rattle.ksm_pages.proofs.Names.{arith}
-use Rattle.ksm_pages.proofs.Names.{ap, change_row, held_of, refl, rules, seen, Some, stored, sym, ◌∙◌}
+use Rattle.ksm_pages.proofs.Names.{ap, arith, change_row, held_of, refl, seen, Some, stored, sym, ◌∙◌}
 use Rattle.ksm_pages.proofs.Leaving.{Comes}
-use Rattle.ksm_pages.proofs.Turning.{HasLeft, found_left, held_as, rested}
+use Rattle.ksm_pages.proofs.Turning.{found_left, HasLeft, held_as, rested}
 use Rattle.ksm_pages.proofs.pages.Pages.store.Goals as goal
 
 -- a Private page is in nothing, and leaves nothing

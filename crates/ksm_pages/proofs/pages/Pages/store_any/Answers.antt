@@ -1,8 +1,7 @@
 use Rattle.ksm_pages.proofs.Names.{change_row, refl, rules, seen, settled, stored}
-use Rattle.ksm_pages.proofs.Leaving.{alone_there}
+use Rattle.ksm_pages.proofs.Leaving.{alone_there, Comes}
 use Rattle.ksm_pages.proofs.Resting.{put_bytes, stored_settled}
-use Rattle.ksm_pages.proofs.Leaving.{Comes}
-use Rattle.ksm_pages.proofs.Turning.{HasLeft, and_then, held_as, rested}
+use Rattle.ksm_pages.proofs.Turning.{and_then, HasLeft, held_as, rested}
 use Rattle.ksm_pages.proofs.pages.Pages.store_any.Goals as goal
 
 pub returns-in_default : goal.returns-in_default

@@ -1,6 +1,6 @@
-use Rattle.ksm_pages.proofs.Names.{ap, ap₂, arith, held_of, List, lodging, refl, rules, Some, sym, ℕ, ◌∙◌}
+use Rattle.ksm_pages.proofs.Names.{arith, held_of, lodging, refl, rules}
 use Rattle.ksm_tree.specs.Dups.{rows_of as dup_rows}
-use Rattle.ksm_pages.proofs.Lodgings.{frame_by, seat}
+use Rattle.ksm_pages.proofs.Lodgings.{frame_by}
 use Rattle.ksm_pages.proofs.Changing.{row_told}
 use Rattle.ksm_pages.proofs.pages.Pages.told.Goals as goal
 

@@ -1,4 +1,3 @@
-use Rattle.ksm_pages.proofs.Names.{rules}
 use Rattle.ksm_pages.proofs.Resting.{rests}
 use Rattle.ksm_tree.proofs.Alike.{map_alike}
 use Rattle.ksm_pages.proofs.Names.{ap, arith, refl, seen, ◌∙◌}

@@ -1,12 +1,10 @@
 use Rattle.ksm_pages.proofs.Gathering.{restless_as}
-use Rattle.ksm_pages.proofs.Names.{ap, arith, held_of, Private, refl, Row, rules, seen, settled, Some, sym, true, ◌∙◌}
+use Rattle.ksm_pages.proofs.Names.{arith, Private, refl, Row, rules, seen, settled, sym, true, ◌∙◌}
 use Rattle.ksm_pages.specs.Paged.{visited}
-use Rattle.ksm_pages.proofs.Leaving.{row_seen, view_of}
-use Rattle.ksm_pages.proofs.Resting.{rests}
-use Rattle.ksm_pages.proofs.Leaving.{Comes}
+use Rattle.ksm_pages.proofs.Leaving.{Comes, row_seen, view_of}
 use Rattle.ksm_pages.proofs.Turning.{found_left, held_as, rested}
 use Rattle.ksm_tree.proofs.Numbers.{on_err}
-use Rattle.ksm_pages.proofs.Visiting.{IsAsked, asked, finds_changed, finds_dup, finds_gone, finds_partner, finds_waits, finds_zero, is_alone, waits_then}
+use Rattle.ksm_pages.proofs.Visiting.{asked, finds_changed, finds_dup, finds_gone, finds_partner, finds_waits, finds_zero, is_alone, IsAsked, waits_then}
 use Rattle.ksm_pages.proofs.pages.Pages.visit.Goals as goal
 use Rattle.ksm_pages.proofs.pages.Pages.visit.Goals.{After-best_of}
 

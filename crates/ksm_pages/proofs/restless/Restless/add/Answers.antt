@@ -1,6 +1,5 @@
-use Rattle.ksm_pages.proofs.Names.{arith}
-use Rattle.ksm_pages.proofs.Names.{ap, comes_before, filter, find, inl, is_some, Listing, map-append, pages_of, pages_ordered, refl, rules, same_page, Spot, sym, with_found, with_item, ◌++◌, ◌∙◌, ◌∷◌}
-use Rattle.ksm_pages.proofs.Names.{◌≡◌}
+use Rattle.ksm_pages.proofs.Names.{ap, arith, comes_before, filter, find, inl, is_some, Listing, map-append, pages_of, pages_ordered, refl, rules, same_page, Spot, sym, with_found, with_item, ◌++◌}
+use Rattle.ksm_pages.proofs.Names.{◌∙◌, ◌∷◌, ◌≡◌}
 use Rattle.ksm_pages.proofs.Found.{write_at}
 use Rattle.ksm_rmap.proofs.Ordered.{insert_at, none_of}
 use Rattle.ksm_pages.proofs.Spots.{listed_found, page_of, pages_kept, pages_rise, put_rises, same_pages, unlisted}

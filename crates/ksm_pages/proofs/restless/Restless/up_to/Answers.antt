@@ -1,6 +1,5 @@
-use Rattle.ksm_pages.proofs.Names.{arith}
-use Rattle.ksm_pages.proofs.Names.{[], after_cursor, ap, comes_before, filter, filter_none, GuestPage, IsPartitionPoint-from_clause, length, List, Listing, None, not, Option, point_is_count, refl}
-use Rattle.ksm_pages.proofs.Names.{rules, sym, ◌∙◌, ◌≡◌}
+use Rattle.ksm_pages.proofs.Names.{after_cursor, ap, arith, comes_before, filter, filter_none, GuestPage, IsPartitionPoint-from_clause, length, List, Listing, None, not, Option, point_is_count, rules}
+use Rattle.ksm_pages.proofs.Names.{sym, [], ◌∙◌, ◌≡◌}
 use Rattle.ksm_pages.proofs.Found.{parted_behind}
 use Rattle.ksm_pages.proofs.Spots.{many_kept, page_of}
 use Rattle.ksm_pages.proofs.restless.Restless.up_to.Goals as goal

@@ -1,4 +1,3 @@
-use Rattle.ksm_pages.proofs.Names.{arith}
 use Rattle.ksm_pages.proofs.Names.{after_cursor, ap, find, Named, option_map, Row, rows_of, RowsView, sym, ◌∙◌}
 use Rattle.ksm_pages.proofs.Reading.{page_found}
 use Rattle.ksm_pages.proofs.rows.Rows.after.Goals as goal

@@ -1,5 +1,3 @@
-use Rattle.ksm_pages.proofs.Names.{arith}
-use Rattle.ksm_pages.proofs.Names.{rules}
 use Rattle.ksm_pages.proofs.Filing.{rows_rise}
 use Rattle.ksm_pages.proofs.Gathering.{rows_framed, rows_listed}
 use Rattle.ksm_pages.proofs.rows.Rows.are_lawful.Goals as goal

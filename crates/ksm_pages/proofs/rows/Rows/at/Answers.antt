@@ -1,5 +1,4 @@
-use Rattle.ksm_pages.proofs.Names.{arith}
-use Rattle.ksm_pages.proofs.Names.{held_at, held_of, IsUnder, same_page_eq, Some, sym, ◌∙◌}
+use Rattle.ksm_pages.proofs.Names.{arith, held_at, held_of, IsUnder, same_page_eq, Some, sym, ◌∙◌}
 use Rattle.ksm_pages.proofs.Writing.{row_there}
 use Rattle.ksm_pages.proofs.rows.Rows.at.Goals as goal
 

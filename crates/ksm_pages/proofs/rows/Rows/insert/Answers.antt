@@ -1,4 +1,4 @@
-use Rattle.ksm_pages.proofs.Names.{None, ap, arith, Entry, false, get, held_in, held_of, mapped, rules, Some, subst, sym, true, with_held, ◌∙◌, ◌≡◌}
+use Rattle.ksm_pages.proofs.Names.{arith, Entry, false, get, None, rules, Some, true, ◌≡◌}
 use Rattle.slab.specs.Slab.{Updates as Fills}
 use Rattle.ksm_pages.specs.declared.row.Kind.TheVariants as kinds
 use Rattle.ksm_pages.proofs.Writing.{no_name, rests_now, still_put, viewed_put}

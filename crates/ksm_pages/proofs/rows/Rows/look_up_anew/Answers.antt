@@ -1,4 +1,3 @@
-use Rattle.ksm_pages.proofs.Names.{arith}
 use Rattle.ksm_pages.proofs.Names.{ap, held_at, held_of, is_some, refl, rules, Some, sym, ◌∙◌}
 use Rattle.ksm_pages.proofs.Filing.{held_nowhere, under}
 use Rattle.ksm_pages.proofs.Writing.{row_there}

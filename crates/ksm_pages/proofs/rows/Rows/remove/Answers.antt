@@ -1,5 +1,4 @@
-use Rattle.ksm_pages.proofs.Names.{arith}
-use Rattle.ksm_pages.proofs.Names.{ap, is_some, rules, sym, ◌∙◌}
+use Rattle.ksm_pages.proofs.Names.{rules}
 use Rattle.ksm_pages.proofs.Writing.{can_be, nothing_gone, still_gone, viewed_gone}
 use Rattle.ksm_pages.proofs.Options.{some_mapped}
 use Rattle.ksm_pages.proofs.rows.Rows.remove.Goals as goal

@@ -1,4 +1,3 @@
-use Rattle.ksm_pages.proofs.Names.{arith}
 use Rattle.ksm_pages.proofs.Names.{ap, held_in, map, on_row, RowsView, rules, settled, ◌∙◌}
 use Rattle.ksm_pages.proofs.Settling.{anew_rows, anew_seen, next_rows, next_seen, retained_all}
 use Rattle.ksm_pages.proofs.rows.Rows.settle_all.Goals as goal

@@ -1,4 +1,4 @@
-use Rattle.ksm_pages.proofs.Names.{ap, arith, held_of, mapped, refl, rules, Some, sym}
+use Rattle.ksm_pages.proofs.Names.{arith, refl, rules, sym}
 use Rattle.ksm_pages.proofs.Writing.{can_be, kept, listed_now, nothing, rests_now, still, viewed}
 use Rattle.ksm_pages.proofs.rows.Rows.settle_on.Goals as goal
 

@@ -1,4 +1,3 @@
-use Rattle.ksm_pages.proofs.Names.{arith}
 use Rattle.ksm_pages.proofs.Names.{ap, bytes_eq, Entry, held_in, List, refl, rules, with_value, ℕ, ◌&&◌, ◌∙◌}
 use Rattle.ksm_pages.proofs.Writing.{nothing, untouched, viewed_same}
 use Rattle.ksm_pages.proofs.rows.Rows.store.Goals as goal

@@ -1,4 +1,3 @@
-use Rattle.ksm_pages.proofs.Names.{arith}
 use Rattle.ksm_pages.proofs.Names.{ap, false, held_in, map, on_row, refl, RowsView, rules, settled, ◌∙◌}
 use Rattle.ksm_tree.proofs.Alike.{map_mapped}
 use Rattle.ksm_pages.proofs.Settling.{plain_rows, plain_seen, retained_all}
