@@ -84,7 +84,8 @@ module _ (p : PagesValue) (guest : Option ℕ) (cursor : Option GuestPage) where
           → (after_cursor start page ≡ true → IfSome guest (λ h. h ≤ page.guest)) → find next p.rows ≡ None
       next_past {g} is differs begun = find_nothing next p.rows (λ k d lt. false_from_ne_true _ (λ passes.
           let x = get_or p.rows k d in
-          let not_before = guests_rise x.page r.page (first_found (λ (s : Row). s.page) behind p.rows r rise there.1 k d lt (less x passes)) in
+          let not_before = guests_rise x.page r.page
+          (first_found (λ (s : Row). s.page) behind p.rows r rise there.1 k d lt (less x passes)) in
           grind (arith, not_before, later)))
         where
           later : g ≤ page.guest

@@ -38,7 +38,8 @@ module _ (s : Inside) (are : AreLawful s) {p : PagesValue} (seen_as : view_of s 
         restless = rows.restless;
       })
   entered apart still rows put =
-      let lain = ap (λ held. frame_of (lodgings_of (of_dup s) held)) put ∙ lodged_put _ _ _ are.order (nothing_held h.row.page s.rows.held away) in
+      let lain = ap (λ held. frame_of (lodgings_of (of_dup s) held)) put
+      ∙ lodged_put _ _ _ are.order (nothing_held h.row.page s.rows.held away) in
       grind (arith, comes, rows_with, ordered_with, tied_inserted, away, row_inserted)
 
 -- where a page comes to lie on a frame, that frame may be named as the one on which the page lies now

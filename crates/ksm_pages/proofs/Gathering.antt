@@ -40,7 +40,8 @@ module _ (slab : Slab Entry) (order : List Named) (rise : AreAscending order) (f
     -- an entry that is not behind it is its own, or was not behind the last
     passed : (key : ℕ) {e : Entry} → get slab key ≡ Some e → comes_before n.page e.page ≡ false → (e.page ≡ n.page) ⊎ (after_cursor last e.page ≡ false)
     passed key {e} stands not_behind =
-        let first = find_all (is_of e.page) (λ m. after_cursor last m.page ≡ true → comes_before m.page n.page ≡ false) order (named_of key e) (grind (arith, named_under))
+        let first = find_all (is_of e.page) (λ m. after_cursor last m.page ≡ true → comes_before m.page n.page ≡ false)
+        order (named_of key e) (grind (arith, named_under))
         (first_found (λ m. m.page) (λ m. after_cursor last m.page) order n rise found) in
         grind (arith, first, one_before, same_page_eq)
 
@@ -66,7 +67,8 @@ module _ (slab : Slab Entry) (order : List Named) (rise : AreAscending order) (f
       (find_all _ (λ m. after_cursor last m.page ≡ false) _ _ (named_under slab _ filed _ e stands) (find_none _ order none))
 
   -- what holds of the row of each entry holds of all rows
-  pub rows_all : (pass : ℕ) (P : Held → Type 0) → ((key : ℕ) (e : Entry) → get slab key ≡ Some e → P (held_of pass e)) → All P (held_in pass slab order)
+  pub rows_all : (pass : ℕ) (P : Held → Type 0) → ((key : ℕ) (e : Entry) → get slab key ≡ Some e → P (held_of pass e))
+      → All P (held_in pass slab order)
   rows_all pass P each = All-map P _ order (λ k d lt.
       let u = under_named slab _ (all_stand slab _ rise filed k d lt) in
       rw u.stands (each _ u.entry u.stands))
@@ -75,7 +77,8 @@ module _ (slab : Slab Entry) (order : List Named) (rise : AreAscending order) (f
   pub rows_listed : (pass : ℕ) (pages : List GuestPage) → AreListed slab pages → AreAllListed (rows_of (held_in pass slab order)) pages
   rows_listed pass pages listed =
       All-map (λ r. may_change r ≡ true → has_item r.page pages ≡ true) _ _
-      (rows_all pass (λ h. may_change h.row ≡ true → has_item h.row.page pages ≡ true) (λ k e stands may. listed k e stands (grind (arith, restless_as pass e))))
+      (rows_all pass (λ h. may_change h.row ≡ true → has_item h.row.page pages ≡ true)
+      (λ k e stands may. listed k e stands (grind (arith, restless_as pass e))))
 
   -- a row has a frame of its own exactly where it is not shared
   pub rows_framed : (pass : ℕ) → All (λ h. is_some h.frame ≡ not (shared_state h.row.state)) (held_in pass slab order)

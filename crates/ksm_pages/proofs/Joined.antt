@@ -17,7 +17,8 @@ pub let_out_alone : (state : PageState) (page : GuestPage) {dups : List Dup} →
 let_out_alone state page alone = grind arith
 
 -- a dup with room for an item is found by its number, and has fewer items than there are references at most
-pub room_found : (s : Inside) → AreLawful s → {p : PagesValue} → view_of s ≡ p → {number : ℕ} → HasRoom p.rows p.dups number
+pub room_found : (s : Inside) → AreLawful s → {p : PagesValue} → view_of s ≡ p → {number : ℕ}
+    → HasRoom p.rows p.dups number
     → (is_some (dup_of number s.dups.dups) ≡ true) × (length (items_numbered number s.dups.dups) < MOST_REFERENCES)
 room_found s are seen_as {number} required = go _ refl
   where
@@ -28,11 +29,13 @@ room_found s are seen_as {number} required = go _ refl
         → (is_some (dup_of number s.dups.dups) ≡ true) × (length (items_numbered number s.dups.dups) < MOST_REFERENCES)
     go None is =
         let none = row_found (has_number number) (λ (r : DupRow). r.number == number) (λ d. refl) s.dups.dups in
-        let at = find_none (λ (r : DupRow). r.number == number) (dup_rows s.dups.dups) (sym none ∙ ap (option_map (λ d. d.row)) is) room.1.0 room.0 room.1.1 in
+        let at = find_none (λ (r : DupRow). r.number == number) (dup_rows s.dups.dups)
+        (sym none ∙ ap (option_map (λ d. d.row)) is) room.1.0 room.0 room.1.1 in
         absurd (grind (arith, nat_tests, at, room.1.2, room.2))
     go (Some d) is =
         let counted = tied_count (rows_of s.rows.held) s.dups.dups number d are.tied is in
-        (ap is_some is, omega (arith, counted, ap (λ n. count_by (λ r. merged_into n r.state) (rows_of s.rows.held)) (number_found number s.dups.dups d is ∙ sym room.2), room.3))
+        (ap is_some is, omega (arith, counted, ap (λ n. count_by (λ r. merged_into n r.state) (rows_of s.rows.held))
+        (number_found number s.dups.dups d is ∙ sym room.2), room.3))
 
 item_seat : (of : ℕ → Option ℕ) (number : ℕ) {r : Row} → merged_into number r.state ≡ true → (o : Option Held)
     → option_map (λ (h : Held). h.row) o ≡ Some r → seat of o ≡ of number
@@ -54,7 +57,8 @@ module _ (s : Inside) (are : AreLawful s) (page : GuestPage) {h : Held} (found :
     {joined later : DupsState} (into : joined ≡ record s.dups { dups = change_items number (with_item page) s.dups.dups })
     (out : later ≡ record joined { dups = let_out h.row.state h.row.page joined.dups; waiting = later.waiting })
     (stopped : IsStopped s.knobs h.row joined.waiting later.waiting) {rows : RowsView}
-    (turned : rows ≡ record s.rows { held = change_held page (mapped (Merged number) None) s.rows.held }) {p : PagesValue} (seen_as : view_of s ≡ p) where
+    (turned : rows ≡ record s.rows { held = change_held page (mapped (Merged number) None) s.rows.held })
+    {p : PagesValue} (seen_as : view_of s ≡ p) where
   -- once a page with a frame of its own joined a dup, the pages are lawful, and the page lies where the dup's items do
   pub joins : Comes s rows later (record (seen p) {
     rows = change_row page (λ r. record r { state = Merged number }) p.rows;
@@ -63,9 +67,11 @@ module _ (s : Inside) (are : AreLawful s) (page : GuestPage) {h : Held} (found :
   })
   joins =
       let at = of_page s are _ found in
-      let rest : later ≡ record s.dups { dups = change_items number (with_item page) s.dups.dups; waiting = later.waiting } = grind arith in
+      let rest : later ≡ record s.dups
+      { dups = change_items number (with_item page) s.dups.dups; waiting = later.waiting } = grind arith in
       let waits = subst (λ w. IsStopped s.knobs h.row w later.waiting) (λ i. (into i).waiting) stopped in
-      turned_so s are page found seen_as rows (mapped (Merged number) None) (λ r. record r { state = Merged number }) (λ x. refl) (λ r. refl)
+      turned_so s are page found seen_as rows (mapped (Merged number) None) (λ r. record r { state = Merged number })
+          (λ x. refl) (λ r. refl)
       (λ i. (turned i).held) rest (rows_items _ _ _) _ refl
       (tied_joined _ _ _ are.order (row_there s are _ found) _ _ _ (own_not_merged _ alone) at refl are.tied)
       (stops s are page found _ at refl _ waits) refl
@@ -75,6 +81,7 @@ module _ (s : Inside) (are : AreLawful s) (page : GuestPage) {h : Held} (found :
       (now ≡ record (seen p) { rows = change_row page (λ r. record r { state = Merged number }) p.rows; frame = now.frame })
       × All (λ r. merged_into number r.state ≡ true → now.frame ≡ lies_on page ((seen p).frame r.page) (seen p).frame) p.rows
   told_joined =
-      let lain = subst (λ (v : PagesValue). All (λ r. merged_into number r.state ≡ true → frame_of v.lodgings r.page ≡ of_dup s number) v.rows) seen_as
+      let lain = subst (λ (v : PagesValue). All
+      (λ r. merged_into number r.state ≡ true → frame_of v.lodgings r.page ≡ of_dup s number) v.rows) seen_as
       (item_lies _ _ are.order _) in
       grind (arith, joins)

@@ -33,8 +33,10 @@ pub record Comes (s : Inside) (rows : RowsView) (later : DupsState) (new : Pages
 
 -- other rows come, and dups that have other items at most: the pages are lawful if the new rows are in order and tied to the new
 -- dups, and the right pages wait
-pub comes : (s : Inside) → AreLawful s → (rows : RowsView) {now : List Row} → rows_of rows.held ≡ now → {ds : List Dup} {later : DupsState}
-    → later ≡ record s.dups { dups = ds; waiting = later.waiting } → dup_rows ds ≡ dup_rows s.dups.dups → InPageOrder now → AreTied now ds
+pub comes : (s : Inside) → AreLawful s → (rows : RowsView) {now : List Row} → rows_of rows.held ≡ now
+    → {ds : List Dup} {later : DupsState}
+    → later ≡ record s.dups { dups = ds; waiting = later.waiting } → dup_rows ds ≡ dup_rows s.dups.dups
+    → InPageOrder now → AreTied now ds
     → AreWaiting s.knobs now later.waiting → {lay : Frames} → frame_of (lodgings_of (of_dup s) rows.held) ≡ lay
     → Comes s rows later (record (seen (view_of s)) { rows = now; frame = lay; restless = rows.restless })
 comes s are rows {now} is {ds} {later} rest alike order tied waits lain = record {
@@ -42,7 +44,8 @@ comes s are rows {now} is {ds} {later} rest alike order tied waits lain = record
   told_as =
       let same : dup_rows later.dups ≡ dup_rows s.dups.dups = (λ i. dup_rows (rest i).dups) ∙ alike in
       let lies_so = ap (λ rs. frame_of (lodgings_of (lodging rs s.frames.items) rows.held)) same ∙ lain in
-      λ i. record (seen (view_of s)) { rows = is i; frame = lies_so i; dups = same i; next = (rest i).next; restless = rows.restless };
+      λ i. record (seen (view_of s))
+          { rows = is i; frame = lies_so i; dups = same i; next = (rest i).next; restless = rows.restless };
 }
 
 -- a page that comes to lie where it lay does not move
@@ -87,22 +90,28 @@ module _ (s : Inside) (are : AreLawful s) (page : GuestPage) {h : Held} (found :
     lies = grind (arith, frame_by)
 
   -- once the row of the page no longer waits, and the page has stopped, the right pages wait
-  pub stops : (row : Row) → row.page ≡ page → waiting_state row.state ≡ false → (w : List WaitingPage) → IsStopped s.knobs old s.dups.waiting w
+  pub stops : (row : Row) → row.page ≡ page → waiting_state row.state ≡ false → (w : List WaitingPage)
+      → IsStopped s.knobs old s.dups.waiting w
       → AreWaiting s.knobs (change_row page (λ _. row) (rows_of s.rows.held)) w
   stops row at still w stopped = rw (← at) (row_stopped s.knobs _ _ are.waits _ row old (rw at row_there) still stopped)
 
   module _ {p : PagesValue} (seen_as : view_of s ≡ p) (rows : RowsView) where
     -- once a page's row changed, the page is seen with the new row, on the frame that the new row says
-    pub turned_so : (f : Held → Held) (g : Row → Row) → ((x : Held) → (f x).row ≡ g x.row) → ((r : Row) → (g r).page ≡ r.page)
-        → rows.held ≡ change_held page f s.rows.held → {ds : List Dup} {later : DupsState} → later ≡ record s.dups { dups = ds; waiting = later.waiting }
-        → dup_rows ds ≡ dup_rows s.dups.dups → (to : Row → Row) → g old ≡ to old → AreTied (change_row page (λ _. to old) (rows_of s.rows.held)) ds
-        → AreWaiting s.knobs (change_row page (λ _. to old) (rows_of s.rows.held)) later.waiting → {frame : Option ℕ} → seat (of_dup s) (Some (f h)) ≡ frame
+    pub turned_so : (f : Held → Held) (g : Row → Row) → ((x : Held) → (f x).row ≡ g x.row)
+        → ((r : Row) → (g r).page ≡ r.page)
+        → rows.held ≡ change_held page f s.rows.held → {ds : List Dup} {later : DupsState}
+        → later ≡ record s.dups { dups = ds; waiting = later.waiting }
+        → dup_rows ds ≡ dup_rows s.dups.dups → (to : Row → Row) → g old ≡ to old
+        → AreTied (change_row page (λ _. to old) (rows_of s.rows.held)) ds
+        → AreWaiting s.knobs (change_row page (λ _. to old) (rows_of s.rows.held)) later.waiting → {frame : Option ℕ}
+        → seat (of_dup s) (Some (f h)) ≡ frame
         → Comes s rows later (record (seen p) { rows = change_row page to p.rows; frame = lies_on page frame (frame_of p.lodgings); restless = rows.restless })
     turned_so f g is same turned rest alike to agree tied waits lodged =
         let before = rows_of s.rows.held in
         let by_g = ap rows_of turned ∙ rows_changed _ f g _ is in
         let as_old = changed_to page to _ are.order row_there in
-        let new = by_g ∙ changed_to _ g _ are.order row_there ∙ ap (λ r. change_row page (λ _. r) before) agree ∙ sym as_old in
+        let new = by_g ∙ changed_to _ g _ are.order row_there ∙ ap (λ r. change_row page (λ _. r) before) agree
+        ∙ sym as_old in
         let lain = ap (λ held. frame_of (lodgings_of (of_dup s) held)) turned
         ∙ lodged_changed _ f (λ x. (λ i. (is x i).page) ∙ same x.row) _ _ found
         ∙ ap (λ o. lies_on page o (frame_of (lodgings_of (of_dup s) s.rows.held))) lodged in
@@ -113,4 +122,5 @@ pub stays_there : {s : Inside} {rows : RowsView} {later : DupsState} (p : PagesV
     → Comes s rows later (record (seen p) { rows = now; frame = lies_on page (frame_of p.lodgings page) (frame_of p.lodgings); restless = rows.restless })
     → Comes s rows later (record (seen p) { rows = now; restless = rows.restless })
 stays_there {s} {rows} {later} p page {now} =
-    subst (λ lay. Comes s rows later (record (seen p) { rows = now; frame = lay; restless = rows.restless })) (lies_same page)
+    subst (λ lay. Comes s rows later (record (seen p) { rows = now; frame = lay; restless = rows.restless }))
+        (lies_same page)

@@ -39,5 +39,6 @@ lodged_gone page of_dup held = lodged_one _ _ _ _ (find_gone page_of page _) (λ
 -- a change of the row of a page writes there what the change makes of the old row
 pub changed_to : (page : GuestPage) (g : Row → Row) (rows : List Row) {old : Row} → InPageOrder rows → row_at page rows ≡ Some old → change_row page g rows ≡ change_row page (λ _. g old) rows
 changed_to page g rows {old} rise found =
-    let one = find_all _ (λ r. All (λ s. same_page s.page r.page ≡ true → s ≡ r) rows) rows old found (one_of_each_page rows rise) in
+    let one = find_all _ (λ r. All (λ s. same_page s.page r.page ≡ true → s ≡ r) rows) rows old found
+    (one_of_each_page rows rise) in
     grind (arith, map_alike, same_page_eq, find_passes)

@@ -5,7 +5,8 @@ use Rattle.ksm_pages.proofs.Names.{Waiting, waiting_page, waiting_state, Waiting
 use Rattle.std.specs.Option.{is_some}
 use Rattle.ksm_pages.proofs.Options.{none_mapped}
 
-module _ (knobs : Knobs) (rows : List Row) (w : List WaitingPage) (row : Row) (rise : InPageOrder rows) (are : AreWaiting knobs rows w) where
+module _ (knobs : Knobs) (rows : List Row) (w : List WaitingPage) (row : Row) (rise : InPageOrder rows)
+    (are : AreWaiting knobs rows w) where
   abbrev waits : Option GuestPage
   waits = waiting_page (tree_of knobs row) row.bytes w
 
@@ -20,10 +21,12 @@ module _ (knobs : Knobs) (rows : List Row) (w : List WaitingPage) (row : Row) (r
       go : (o : Option GuestPage) → waits ≡ o → option_map (λ r. r.page) (partner knobs rows row) ≡ other o
       go None at = grind (arith, partner_found knobs rows w row rise are)
       go (Some page) at =
-          grind (arith, partner_found knobs rows w row rise are, look_up_found knobs rows w _ _ page are at, find_passes, same_page_eq)
+          grind (arith, partner_found knobs rows w row rise are, look_up_found knobs rows w _ _ page are at,
+          find_passes, same_page_eq)
 
   -- where a row does not wait, the page that waits in its tree with its bytes is that of its partner
-  pub partner_page : row_at row.page rows ≡ Some row → waiting_state row.state ≡ false → waits ≡ option_map (λ r. r.page) (partner knobs rows row)
+  pub partner_page : row_at row.page rows ≡ Some row → waiting_state row.state ≡ false
+      → waits ≡ option_map (λ r. r.page) (partner knobs rows row)
   partner_page found still = grind (arith, partner_seen, own_found knobs rows w row found are)
 
   module _ {met : GuestPage} (is : met ≡ unwrap_or waits row.page) where
@@ -49,6 +52,9 @@ module _ (knobs : Knobs) (rows : List Row) (w : List WaitingPage) (row : Row) (r
         now = record row { state = Waiting }
 
         go : (o : Option GuestPage) → waits ≡ o → AreWaiting knobs (change_row row.page (λ _. now) rows) new
-        go None at = row_begun knobs rows w are new now row found (grind (arith, own_found knobs rows w row found are)) refl at (grind arith)
+        go None at = row_begun knobs rows w are new now row found (grind (arith, own_found knobs rows w row found are))
+            refl at (grind arith)
         go (Some page) at =
-            rw (again (ap is_some at)) (row_kept knobs rows w are now row found (refl, refl, refl, grind (arith, own_found knobs rows w row found are)))
+            rw (again (ap is_some at))
+            (row_kept knobs rows w are now row found
+            (refl, refl, refl, grind (arith, own_found knobs rows w row found are)))

@@ -17,7 +17,8 @@ use Rattle.ksm_pages.proofs.Options.{mapped_some, mapped_twice, some_mapped}
 -- where no row waits, the waiting pages are right for any knobs
 pub knobs_free : (knobs tuned : Knobs) (rows : List Row) (w : List WaitingPage) → AreWaiting knobs rows w → All (λ r. waiting_state r.state ≡ false) rows → AreWaiting tuned rows w
 knobs_free knobs tuned rows w are still t b q =
-    grind (arith, are t b q, λ (r : Row) (found : row_at q rows ≡ Some r). find_all _ (λ s. waiting_state s.state ≡ false) rows r found still)
+    grind (arith, are t b q, λ (r : Row) (found : row_at q rows ≡ Some r). find_all _
+    (λ s. waiting_state s.state ≡ false) rows r found still)
 
 -- ---------------------------------------------------------------- dups
 
@@ -80,5 +81,6 @@ module _ (rows : List Row) (dups : List Dup) (place : ℕ) (tied : AreTied rows 
   items_there {row} rise is =
       let live = live_placed rows place _ (tied_counted rows _ tied) in
       let one = found_passing place is_live dups rise in
-      let items = λ (d : Dup) (there : dup_at place dups ≡ Some d). find_all (stands_at place) (λ e. e.items ≡ items_of rows e.row) dups d there tied in
+      let items = λ (d : Dup) (there : dup_at place dups ≡ Some d). find_all (stands_at place)
+      (λ e. e.items ≡ items_of rows e.row) dups d there tied in
       grind (arith, live, one, items)

@@ -32,7 +32,8 @@ set_away (y ∷ ys) (suc i) zero x away = refl
 set_away (y ∷ ys) (suc i) (suc j) x away = set_away ys i j x (λ same. away (ap suc same))
 
 -- a dup that may be there, and stands elsewhere, keeps its frame where one is written at a place
-pub frame_away : (frames : List ℕ) (place frame : ℕ) (o : Option DupRow) → ((e : DupRow) → o ≡ Some e → (e.place == place) ≡ false)
+pub frame_away : (frames : List ℕ) (place frame : ℕ) (o : Option DupRow)
+    → ((e : DupRow) → o ≡ Some e → (e.place == place) ≡ false)
     → option_and_then (λ d. slice_get (set frames place frame) d.place) o ≡ option_and_then (λ d. slice_get frames d.place) o
 frame_away frames place frame None away = refl
 frame_away frames place frame (Some e) away = set_away _ _ _ _ (differ_by (away e refl))

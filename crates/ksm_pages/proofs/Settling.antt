@@ -14,7 +14,8 @@ use Rattle.ksm_pages.proofs.Writing.{left_fits}
 pub retained_all : {T F : Type 0} (step : F → ℕ → MutBor T → Bool → MutBor T → F → Type 0) (g : T → T) → ((f : F) (k : ℕ) (old : T) (keep : Bool) (new : T) (next : F) → CalledAt step f k old keep new next → (keep ≡ true) × (new ≡ g old))
     → (f : F) (key : ℕ) (slots kept : List (Option T)) → RetainsFrom step f key slots kept → kept ≡ map (option_map g) slots
 retained_all step g says f key [] kept r = r
-retained_all step g says f key (None ∷ rest) kept (later, is, r) = grind (arith, is, retained_all step g says f (key + 1) rest later r)
+retained_all step g says f key (None ∷ rest) kept (later, is, r) =
+    grind (arith, is, retained_all step g says f (key + 1) rest later r)
 retained_all step g says f key (Some old ∷ rest) kept (keep, new, next, called, later, is, r) =
     grind (arith, is, says f key old keep new next called, retained_all step g says next (key + 1) rest later r)
 
@@ -31,7 +32,8 @@ tally_settled : (held : List Held) {tally : Tally} → IsTally (rows_of held) ta
     → IsTally (rows_of (map (on_row settled) held)) (record tally { waiting = 0 })
 tally_settled held are = record {
   merged = are.merged ∙ sym (counts_alike _ merged_state merged_state (λ h. grind arith) held);
-  waiting = sym (counts_alike (on_row settled) waiting_state (λ s. false) (λ h. grind arith) held ∙ count_none (λ r. false) (rows_of held) (λ k d lt. refl));
+  waiting = sym (counts_alike (on_row settled) waiting_state (λ s. false) (λ h. grind arith) held
+      ∙ count_none (λ r. false) (rows_of held) (λ k d lt. refl));
   zero = are.zero ∙ sym (counts_alike _ zero_state zero_state (λ h. grind arith) held);
 }
 
@@ -45,7 +47,8 @@ tally_kept f same held are = record {
 }
 
 module _ {slab : Slab Entry} {order : List Named} {restless : Listing} {tally : Tally} {pass : ℕ} (are : IsRows slab order restless tally pass)
-    (later : Slab Entry) (after : ℕ) (g : Entry → Entry) (slots : later.slots ≡ map (option_map g) slab.slots) (same : (e : Entry) → (g e).page ≡ e.page)
+    (later : Slab Entry) (after : ℕ) (g : Entry → Entry) (slots : later.slots ≡ map (option_map g) slab.slots)
+    (same : (e : Entry) → (g e).page ≡ e.page)
     (flag : (e : Entry) → (g e).mergeable ≡ e.mergeable) (kind : (e : Entry) → (g e).kind ≡ e.kind) where
   all : (k : ℕ) → get later k ≡ option_map g (get slab k)
   all k = ap (λ xs. get_or xs k None) slots ∙ get_or-map (option_map g) slab.slots k None
@@ -62,14 +65,17 @@ module _ {slab : Slab Entry} {order : List Named} {restless : Listing} {tally : 
   pub all_listed : restless.known ≡ true → AreListed later restless.pages
   all_listed known = search (rules, all_from, all)
 
-  module _ (f : Held → Held) (is : (k : ℕ) (e : Entry) → get slab k ≡ Some e → held_of after (g e) ≡ f (held_of pass e)) where
+  module _ (f : Held → Held)
+      (is : (k : ℕ) (e : Entry) → get slab k ≡ Some e → held_of after (g e) ≡ f (held_of pass e)) where
     -- once each entry is changed so that its row is changed by f, all rows are changed by f
     pub all_seen : held_in after later order ≡ map f (held_in pass slab order)
     all_seen = search (rules, map_mapped, all_stand, all)
 
     -- the rows are lawful then, with a tally of the rows that are changed so
-    pub all_rows : ((k : ℕ) (e : Entry) → get slab k ≡ Some e → (g e).kind ≡ kinds.Own → (g e).number ≤ after) → 1 ≤ after
-        → {new : Tally} → IsTally (rows_of (map f (held_in pass slab order))) new → IsRows later order restless new after
+    pub all_rows : ((k : ℕ) (e : Entry) → get slab k ≡ Some e → (g e).kind ≡ kinds.Own → (g e).number ≤ after)
+        → 1 ≤ after
+        → {new : Tally} → IsTally (rows_of (map f (held_in pass slab order))) new
+        → IsRows later order restless new after
     all_rows fits counting tallied = record {
       ascending = are.ascending;
       filed = all_filed;

@@ -61,14 +61,18 @@ module _ {s : Inside} {p : PagesValue} {page : GuestPage} {later : DupsState} {f
     out = grind (arith, at, it.left.dups)
 
     module _ (rows : RowsView) where
-      left_so : (f : Held → Held) (g : Row → Row) → ((x : Held) → (f x).row ≡ g x.row) → ((r : Row) → (g r).page ≡ r.page)
-          → rows.held ≡ change_held page f s.rows.held → (to : Row → Row) → g it.held.row ≡ to it.held.row → merged_state (to it.held.row).state ≡ false
-          → waiting_state (to it.held.row).state ≡ false → {frame : Option ℕ} → seat (of_dup s) (Some (f it.held)) ≡ frame
+      left_so : (f : Held → Held) (g : Row → Row) → ((x : Held) → (f x).row ≡ g x.row)
+          → ((r : Row) → (g r).page ≡ r.page)
+          → rows.held ≡ change_held page f s.rows.held → (to : Row → Row) → g it.held.row ≡ to it.held.row
+          → merged_state (to it.held.row).state ≡ false
+          → waiting_state (to it.held.row).state ≡ false → {frame : Option ℕ}
+          → seat (of_dup s) (Some (f it.held)) ≡ frame
           → Comes s rows later (record (seen p) { rows = change_row page to p.rows; frame = lies_on page frame (frame_of p.lodgings); restless = rows.restless })
       left_so f g is same turned to agree apart still =
           turned_so s it.lawful page it.found it.seen_as rows f g is same turned out (rows_out _ _ _) to agree
           (tied_left _ _ _ it.lawful.order there _ _ apart it.lawful.tied)
-          (stops s it.lawful page it.found _ ((λ i. (sym agree i).page) ∙ same it.held.row ∙ at) still _ it.left.waiting)
+          (stops s it.lawful page it.found _ ((λ i. (sym agree i).page) ∙ same it.held.row ∙ at) still _
+          it.left.waiting)
 
       -- a page that has left comes to another state and lies where that state and its frame say
       pub moved : (state : PageState) (own : Option ℕ) → merged_state state ≡ false → waiting_state state ≡ false
@@ -79,7 +83,8 @@ module _ {s : Inside} {p : PagesValue} {page : GuestPage} {later : DupsState} {f
             restless = rows.restless;
           })
       moved state own apart still turned =
-          left_so (mapped state own) (λ r. record r { state = state }) (λ x. refl) (λ r. refl) turned _ refl apart still refl
+          left_so (mapped state own) (λ r. record r { state = state }) (λ x. refl) (λ r. refl) turned _ refl apart
+              still refl
 
       -- a page that has left comes to be Private, on the frame of its own that it had
       pub rested : (g to : Row → Row) → ((r : Row) → (g r).page ≡ r.page) → ((r : Row) → (to r).state ≡ Private) → IsAlone page p.rows
@@ -90,7 +95,8 @@ module _ {s : Inside} {p : PagesValue} {page : GuestPage} {later : DupsState} {f
           let alone = alone_found s it.seen_as _ it.found alone_seen in
           let private = rest it.held.row in
           let own = lies s it.lawful page it.found it.seen_as in
-          stays_there p page (left_so (on_row g) g (λ x. refl) same turned to (agree alone) (grind (arith, private)) (grind (arith, private))
+          stays_there p page (left_so (on_row g) g (λ x. refl) same turned to (agree alone) (grind (arith, private))
+          (grind (arith, private))
           (grind (arith, agree alone, private, alone, own)))
 
       -- a page that has left and whose row is gone is seen no more, and lies on no frame
@@ -102,8 +108,10 @@ module _ {s : Inside} {p : PagesValue} {page : GuestPage} {later : DupsState} {f
           })
       parted gone =
           rw (← it.seen_as)
-          (comes s it.lawful rows (ap rows_of gone ∙ rows_without page _) out (rows_out _ _ _) (ordered_without _ _ it.lawful.order)
-          (tied_dropped _ _ _ it.lawful.order there _ it.lawful.tied) (row_dropped s.knobs _ _ it.lawful.waits _ _ _ there it.left.waiting)
+          (comes s it.lawful rows (ap rows_of gone ∙ rows_without page _) out (rows_out _ _ _)
+          (ordered_without _ _ it.lawful.order)
+          (tied_dropped _ _ _ it.lawful.order there _ it.lawful.tied)
+          (row_dropped s.knobs _ _ it.lawful.waits _ _ _ there it.left.waiting)
           (ap (λ held. frame_of (lodgings_of (of_dup s) held)) gone ∙ lodged_gone _ _ _))
 
 -- ---------------------------------------------------------------- rows that change where they lie
@@ -114,7 +122,8 @@ module _ (s : Inside) (are : AreLawful s) {p : PagesValue} (seen_as : view_of s 
 
   -- where rows change, but for pages and dups, and the right pages wait, all rows are seen changed so
   pub still : (f : Row → Row) → ((r : Row) → (f r).page ≡ r.page) → ((r : Row) → settled_state (f r).state ≡ settled_state r.state)
-      → (rows : RowsView) → rows.held ≡ map (on_row f) s.rows.held → (later : DupsState) → later ≡ record s.dups { waiting = later.waiting }
+      → (rows : RowsView) → rows.held ≡ map (on_row f) s.rows.held → (later : DupsState)
+      → later ≡ record s.dups { waiting = later.waiting }
       → AreWaiting s.knobs (map f before) later.waiting
       → Comes s rows later (record (seen p) { rows = map f p.rows; restless = rows.restless })
   still f pages like rows turned later rest waits =
@@ -153,4 +162,5 @@ module _ (s : Inside) (are : AreLawful s) {p : PagesValue} (seen_as : view_of s 
           go None is = refl
           go (Some r) is =
               cond_both _ _ _ (λ x. waits_there s.knobs t b (Some r) ≡ waits_there s.knobs t b (Some x))
-              (λ at. sym (alike r (grind (arith, same_page_eq r.page, find_passes (λ x. same_page x.page q) before r is)) t b)) (λ _. refl)
+              (λ at. sym (alike r (grind (arith, same_page_eq r.page, find_passes (λ x. same_page x.page q) before r
+              is)) t b)) (λ _. refl)

@@ -162,11 +162,14 @@ module _ {s : Inside} {p : PagesValue} {page : GuestPage} {e : Entry} {group : �
           waits_then =
               let lay = lies s it.lawful page it.found it.seen_as in
               let here = ap (λ q. row_at q before) at_row ∙ there in
-              let now_waits = met_waits s.knobs _ _ row it.lawful.order it.lawful.waits met_is here (ap (same_page met) at_row ∙ own)
+              let now_waits = met_waits s.knobs _ _ row it.lawful.order it.lawful.waits met_is here
+              (ap (same_page met) at_row ∙ own)
               (added (tree_of s.knobs row) row.bytes it.numbered) (λ that. (λ i. (same_again that i).waiting)) in
-              stays_there p page (turned_so s it.lawful page it.found it.seen_as rows (on_row to) to (λ x. refl) (λ r. refl) (λ i. (turned i).held) kept refl to refl
+              stays_there p page (turned_so s it.lawful page it.found it.seen_as rows (on_row to) to (λ x. refl)
+              (λ r. refl) (λ i. (turned i).held) kept refl to refl
               (subst (AreTied (change_row page (λ _. to row) before)) (let_out_alone row.state page alone)
-              (tied_left _ _ _ it.lawful.order there _ _ refl it.lawful.tied)) (rw (← at_row) now_waits) (grind (arith, lay, alone)))
+              (tied_left _ _ _ it.lawful.order there _ _ refl it.lawful.tied)) (rw (← at_row) now_waits)
+              (grind (arith, lay, alone)))
 
           -- a row that stays, without a dup, not for Zero and without a partner, is found to wait
           pub finds_waits : Finds (seen p) (seen (view_of (record s { rows = rows; dups = later }))) page finds.Waits

@@ -178,7 +178,8 @@ module _ (s : Inside) (are : AreRows s) where
         → {from to : PageState} {tally : Tally} → from ≡ state_of e.kind e.number s.pass → to ≡ state_of now.kind now.number s.pass
         → IsMoved from to s.tally tally → IsRows (with_value s.entries key now) s.order s.restless tally s.pass
     kept_forgotten e' is same flag kind {from} {to} {tally} was told moved =
-        rw is (kept _ same was (grind arith) moved flag (left_fits _ _ _) (λ may. sym (ap₂ (λ m k. m && is_own k) flag kind) ∙ may) _ refl)
+        rw is (kept _ same was (grind arith) moved flag (left_fits _ _ _)
+        (λ may. sym (ap₂ (λ m k. m && is_own k) flag kind) ∙ may) _ refl)
 
     -- the row of an entry that is changed, and then forgets its pass, is seen changed and settled
     pub viewed_forgotten : (e' : Entry) {now : Entry} → now ≡ forgotten e' → e'.page ≡ e.page → (f : Row → Row)
@@ -225,8 +226,10 @@ pub no_name : (s : Inside) → AreRows s → (page : GuestPage) {v : RowsView} �
 no_name s are page seen_as absent = grind (arith, none_mapped, held_found)
 
 -- the row of a page came, with a frame of its own, under a key where nothing stood, once there was room for it
-module _ (s : Inside) (are : AreRows s) {v : RowsView} (seen_as : view_of s ≡ v) {room : Slab Entry} (rest : room ≡ record s.entries { capacity = room.capacity })
-    {key : ℕ} {e : Entry} {later : Slab Entry} (vacant : get room key ≡ None) (absent : held_at e.page v.held ≡ None) (fills : Fills room later key (Some e)) where
+module _ (s : Inside) (are : AreRows s) {v : RowsView} (seen_as : view_of s ≡ v) {room : Slab Entry}
+    (rest : room ≡ record s.entries { capacity = room.capacity })
+    {key : ℕ} {e : Entry} {later : Slab Entry} (vacant : get room key ≡ None) (absent : held_at e.page v.held ≡ None)
+    (fills : Fills room later key (Some e)) where
   abbrev before : List Held
   before = held_in s.pass s.entries s.order
 

@@ -18,7 +18,8 @@ invariant_of-self c =
 pub returns-clause-waits : goal.returns-clause-waits
 returns-clause-waits c _ =
     finds_waits (known c) (λ t b is. grind arith)
-    c.if-not-entry.false (grind arith) c.meet.ensures.met c.meet.ensures.again (own c) c.meet.ensures.kept c.meet.ensures.added
+    c.if-not-entry.false (grind arith) c.meet.ensures.met c.meet.ensures.again (own c) c.meet.ensures.kept
+    c.meet.ensures.added
     _ c.wait.ensures
 
 pub returns-then-not-is_restless-clause-gone : goal.returns-then-not-is_restless-clause-gone

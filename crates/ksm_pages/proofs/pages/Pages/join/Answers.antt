@@ -28,7 +28,8 @@ alone c = alone_found c.self.inside c.self.view_is _ (found c) c.requires.alone
 pub invariant_of-self-2 : goal.invariant_of-self-2
 invariant_of-self-2 c =
     let b = (goal.at.invariant_of-self-2 c).After-left_by in
-    (joins c.self.inside c.self.invariant _ (found b) (alone b) _ c.in_ok-place.ensures.joined c.left_by.ensures.dups c.left_by.ensures.waiting
+    (joins c.self.inside c.self.invariant _ (found b) (alone b) _ c.in_ok-place.ensures.joined c.left_by.ensures.dups
+    c.left_by.ensures.waiting
     c.merge.ensures c.self.view_is).lawful
 
 pub returns-clause-left : goal.returns-clause-left

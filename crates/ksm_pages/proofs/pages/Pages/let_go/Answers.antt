@@ -19,10 +19,12 @@ gone c = grind (arith, alone_left)
 
 pub invariant_of-self : goal.invariant_of-self
 invariant_of-self c =
-    (rested (gone c) c.set_mergeable.new.self as_gone as_let_go (λ r. refl) (λ r. refl) c.requires (went (gone c).held.row)
+    (rested (gone c) c.set_mergeable.new.self as_gone as_let_go (λ r. refl) (λ r. refl) c.requires
+    (went (gone c).held.row)
     (turned c)).lawful
 
 pub returns : goal.returns
 returns c =
-    (rested (gone c) c.set_mergeable.new.self as_gone as_let_go (λ r. refl) (λ r. refl) c.requires (went (gone c).held.row)
+    (rested (gone c) c.set_mergeable.new.self as_gone as_let_go (λ r. refl) (λ r. refl) c.requires
+    (went (gone c).held.row)
     (turned c)).told_as

@@ -7,7 +7,8 @@ gone : (c : goal.After-settle_on)
 gone c = grind (arith, known_left)
 
 pub invariant_of-self : goal.invariant_of-self
-invariant_of-self c = (moved (gone c) c.settle_on.new.self Private (Some c.args.frame) refl refl (held_as c.settle_on.ensures)).lawful
+invariant_of-self c = (moved (gone c) c.settle_on.new.self Private (Some c.args.frame) refl refl
+    (held_as c.settle_on.ensures)).lawful
 
 pub returns-clause-left : goal.returns-clause-left
 returns-clause-left c = lay (gone c) c.deref.ensures.value

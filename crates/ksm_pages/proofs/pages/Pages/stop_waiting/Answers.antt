@@ -9,12 +9,14 @@ gone : (c : goal.After-stop_waiting)
 gone c = alone_left c.self.invariant c.self.view_is c.requires c.leave.ensures
 
 -- the page waits no more
-stopped : (c : goal.After-stop_waiting) → Comes c.self.inside c.stop_waiting.new.self c.leave.new.dups (record (seen c.args.self.now) {
+stopped : (c : goal.After-stop_waiting)
+    → Comes c.self.inside c.stop_waiting.new.self c.leave.new.dups (record (seen c.args.self.now) {
   rows = change_row c.args.spot.page on_its_own c.args.self.now.rows;
   restless = c.stop_waiting.new.self.restless;
 })
 stopped c =
-    rested (gone c) c.stop_waiting.new.self settled on_its_own (λ r. refl) (λ r. refl) c.requires (λ own. grind (arith, own))
+    rested (gone c) c.stop_waiting.new.self settled on_its_own (λ r. refl) (λ r. refl) c.requires
+    (λ own. grind (arith, own))
     (held_as c.stop_waiting.ensures)
 
 pub invariant_of-self : goal.invariant_of-self

@@ -55,9 +55,11 @@ returns-then-is_for_zero-clause-found c =
 
 pub invariant_of-self-then-eq : goal.invariant_of-self-then-eq
 invariant_of-self-then-eq c =
-    (waits_then (known (goal.at.invariant_of-self-then-eq c).After-best_of) c.in_default-best_of.ensures.best c.if-not-entry.false
+    (waits_then (known (goal.at.invariant_of-self-then-eq c).After-best_of) c.in_default-best_of.ensures.best
+    c.if-not-entry.false
     (sym c.if-is_for_zero.ensures) c.meet-other.ensures.met c.meet-other.ensures.again (sym c.if-eq.ensures)
-    c.meet-other.ensures.kept c.meet-other.ensures.added c.remember.new.rows (c.remember.ensures ∙ c.wait.ensures)).lawful
+    c.meet-other.ensures.kept c.meet-other.ensures.added c.remember.new.rows
+    (c.remember.ensures ∙ c.wait.ensures)).lawful
 
 pub returns-then-eq-clause-found : goal.returns-then-eq-clause-found
 returns-then-eq-clause-found c =

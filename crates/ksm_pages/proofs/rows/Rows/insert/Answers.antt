@@ -8,10 +8,12 @@ pub insert-requires : goal.insert-requires
 insert-requires c = search (rules, no_name)
 
 abbrev fresh : goal.After-add → Entry
-fresh c = record { page = c.args.page; bytes = c.args.bytes; number = 0; at = c.args.frame; home = c.args.home; group = 4294967295; kind = kinds.Own; mergeable = true; unchanged = false }
+fresh c = record { page = c.args.page; bytes = c.args.bytes; number = 0; at = c.args.frame; home = c.args.home;
+    group = 4294967295; kind = kinds.Own; mergeable = true; unchanged = false }
 
 -- the entry came under the key that was vacant
-came : (c : goal.After-add) → (get c.reserve_one.new.slab c.in-Ok.key ≡ None) × Fills c.reserve_one.new.slab c.insert_reserved.new.self c.in-Ok.key (Some (fresh c))
+came : (c : goal.After-add)
+    → (get c.reserve_one.new.slab c.in-Ok.key ≡ None) × Fills c.reserve_one.new.slab c.insert_reserved.new.self c.in-Ok.key (Some (fresh c))
 came c =
     let key : c.insert_reserved.result ≡ c.in-Ok.key = search rules in
     grind arith
@@ -19,10 +21,12 @@ came c =
 pub invariant_of-self-2 : goal.invariant_of-self-2
 invariant_of-self-2 c =
     rw c.in_ok-insert.ensures.added
-    (still_put c.self.inside c.self.invariant c.self.view_is c.reserve_one.ensures.rest (came c).0 c.requires.absent (came c).1
+    (still_put c.self.inside c.self.invariant c.self.view_is c.reserve_one.ensures.rest (came c).0 c.requires.absent
+    (came c).1
     (rests_now _ c.self.invariant.counting) (omega arith) c.add.ensures.added)
 
 pub returns-clause-added : goal.returns-clause-added
 returns-clause-added c =
-    let now = viewed_put c.self.inside c.self.invariant c.self.view_is c.reserve_one.ensures.rest (came c).0 c.requires.absent (came c).1 c.add.new.self in
+    let now = viewed_put c.self.inside c.self.invariant c.self.view_is c.reserve_one.ensures.rest (came c).0
+    c.requires.absent (came c).1 c.add.new.self in
     grind (arith, now, c.in_ok-insert.ensures.added, rests_now c.self.inside.pass c.self.invariant.counting)

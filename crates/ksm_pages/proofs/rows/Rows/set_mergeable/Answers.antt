@@ -16,7 +16,8 @@ returns-then-was-mergeable c = search (rules, viewed c.self.inside c.self.invari
 pub invariant_of-self-then-restless : goal.invariant_of-self-then-restless
 invariant_of-self-then-restless c =
     let s = c.self.inside in
-    search (rules, c.mark.ensures, still_marked s c.self.invariant c.in-Some.ensures.there, listed_now s c.self.invariant c.in-Some.ensures.there)
+    search (rules, c.mark.ensures, still_marked s c.self.invariant c.in-Some.ensures.there, listed_now s
+    c.self.invariant c.in-Some.ensures.there)
 
 pub invariant_of-self-else-restless : goal.invariant_of-self-else-restless
 invariant_of-self-else-restless c =
@@ -29,9 +30,11 @@ invariant_of-self-else-restless c =
 pub returns-then-restless : goal.returns-then-restless
 returns-then-restless c =
     rw c.mark.ensures
-    (viewed_marked c.self.inside c.self.invariant c.in-Some.ensures.there c.index_mut-entry.ensures.value _ refl _ refl _ _ c.self.view_is)
+    (viewed_marked c.self.inside c.self.invariant c.in-Some.ensures.there c.index_mut-entry.ensures.value _ refl _ refl
+    _ _ c.self.view_is)
 
 pub returns-else-restless : goal.returns-else-restless
 returns-else-restless c =
     rw c.mark.ensures
-    (viewed_marked c.self.inside c.self.invariant c.in-Some.ensures.there c.index_mut-entry.ensures.value _ refl _ refl _ _ c.self.view_is)
+    (viewed_marked c.self.inside c.self.invariant c.in-Some.ensures.there c.index_mut-entry.ensures.value _ refl _ refl
+    _ _ c.self.view_is)
