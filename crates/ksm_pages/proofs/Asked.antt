@@ -1,8 +1,11 @@
 -- What is asked of the pages: the place of a page's dup, and the first page after a cursor.
-use Rattle.ksm_pages.proofs.Names.{[], after_cursor, All-cons, ap, arith, Bool, cases_Bool, comes_before, each_at_page, Entry, false, find, find_all, find_none, find_nothing, find_passes, get_or}
-use Rattle.ksm_pages.proofs.Names.{GuestPage, held_at, held_of, inl, InPageOrder, inr, Inside, is_next, IsHeld, Kind, List, None, none-some, of_guest, Option, option_map, PagesValue, pairs_head}
-use Rattle.ksm_pages.proofs.Names.{pairs_tail, place_of, Row, row_at, rows_of, same_page, same_page_eq, seen, Some, state_of, subst, sym, true, ℕ, ◌∙◌, ◌∷◌, ◌≡◌, ◌≤◌}
+use Rattle.ksm_pages.proofs.Names.{after_cursor, ap, arith, Bool, comes_before, each_at_page, Entry, false, filter_passes, find, find-append, find_all, find_none, find_nothing, find_passes, get_or}
+use Rattle.ksm_pages.proofs.Names.{GuestPage, held_at, held_of, InPageOrder, Inside, is_next, IsHeld, Kind, List, None, none-some, of_guest, Option, option_map, pages_ordered, PagesValue, place_of}
+use Rattle.ksm_pages.proofs.Names.{Row, row_at, rows_of, same_page_eq, seen, Some, state_of, sym, true, ℕ, [], ◌∙◌, ◌∷◌, ◌≡◌, ◌≤◌}
 use Rattle.ksm_pages.proofs.Options.{mapped_some, none_mapped}
+use Rattle.ksm_pages.proofs.Found.{first_found}
+use Rattle.std.proofs.lemmas.Bool.{false_from_ne_true}
+use Rattle.ksm_rmap.proofs.Ordered.{found_parts}
 use Rattle.std.specs.Prelude.{IfSome, MatchOption, option_and_then}
 use Rattle.ksm_tree.specs.Dups.{rows_of as dup_rows}
 use Rattle.ksm_pages.specs.declared.pages.Held.{Held as Told}
@@ -28,22 +31,14 @@ find_narrower p q less (y ∷ ys) x is passes = grind (arith, less y, find_narro
 pub first_at : (next : Row → Bool) (page : GuestPage) → ((r : Row) → r.page ≡ page → next r ≡ true)
     → ((r : Row) → comes_before r.page page ≡ true → next r ≡ false) → (rows : List Row) → InPageOrder rows → (r : Row)
     → row_at page rows ≡ Some r → find next rows ≡ Some r
-first_at next page here ahead [] up r found = cc
-first_at next page here ahead (x ∷ xs) up r found = elim (cases_Bool _) [
-  | inl is ↦
-      let passes = here x (same_page_eq _ _ is) in
-      grind (arith, is, passes, found)
-  | inr other ↦
-      let there : row_at page xs ≡ Some r = grind arith in
-      let before =
-      find_all _ (λ s. comes_before x.page s.page ≡ true) _ r there (pairs_head (λ (a b : Row). comes_before a.page b.page ≡ true) x _ up) in
-      let out = ahead x (ap (comes_before x.page) (sym (same_page_eq _ _ (find_passes (λ s. same_page s.page page) xs r there))) ∙ before) in
-      grind (arith, out, (first_at _ page here ahead xs (pairs_tail (λ (a b : Row). comes_before a.page b.page ≡ true) x xs up) r there))
-]
+first_at next page here ahead rows up r found =
+    let none = find_nothing next _ (λ k d lt. ahead _ (filter_passes (λ r. comes_before r.page page) rows k d lt)) in
+    let parts = found_parts pages_ordered (λ (r : Row). r.page) page rows r up found in
+    grind (arith, parts, none, find-append, here r, find_passes, same_page_eq)
 
--- of two pages in order the first is of no later guest
-guests_rise : (p q : GuestPage) → comes_before p q ≡ true → p.guest ≤ q.guest
-guests_rise p q before = grind arith
+-- a page that does not come before another is of no earlier guest
+guests_rise : (p q : GuestPage) → comes_before p q ≡ false → q.guest ≤ p.guest
+guests_rise p q ahead = grind arith
 
 module _ (p : PagesValue) (guest : Option ℕ) (cursor : Option GuestPage) where
   abbrev next : Row → Bool
@@ -59,7 +54,7 @@ module _ (p : PagesValue) (guest : Option ℕ) (cursor : Option GuestPage) where
   told_next up is None gone =
       let at = mapped_some _ _ is in
       absurd (none-some at.0 (sym gone ∙ ap (λ q. row_at q p.rows) (sym at.2) ∙ find_all _ (λ x. row_at x.page p.rows ≡ Some x) _ _ at.1 (each_at_page _ up)))
-  told_next up is (Some held) of_it = (subst (λ q. IsHeld (seen p) q held) (sym of_it.spot) of_it, is ∙ ap Some (sym of_it.spot))
+  told_next up is (Some held) of_it = grind arith
 
   module _ (s : Inside) (are : AreLawful s) (seen_as : view_of s ≡ p) (start : Option GuestPage)
       (same : (row : Row) → of_guest guest row ≡ true → after_cursor start row.page ≡ after_cursor cursor row.page) where
@@ -67,15 +62,15 @@ module _ (p : PagesValue) (guest : Option ℕ) (cursor : Option GuestPage) where
     behind r = after_cursor start r.page
 
     rise : InPageOrder p.rows
-    rise = rw (← seen_as) are.order
+    rise = grind arith
 
     less : (r : Row) → next r ≡ true → behind r ≡ true
-    less r is = grind (arith, cases_Bool)
+    less r is = grind arith
 
     -- where no row is behind the start, none comes next
     pub next_none : None ≡ option_map (λ (r : Row). r.page) (find behind (rows_of s.rows.held)) → {told : Option Told} → told ≡ None
         → IsNext told
-    next_none none is = grind (arith, find_nothing, find_none, none_mapped, cases_Bool, less)
+    next_none none is = grind (arith, find_nothing, find_none, none_mapped, less)
 
     module _ (page : GuestPage) (first : Some page ≡ option_map (λ (r : Row). r.page) (find behind (rows_of s.rows.held))) where
       there : (r : Row) × (find behind p.rows ≡ Some r) × (page ≡ r.page)
@@ -87,24 +82,14 @@ module _ (p : PagesValue) (guest : Option ℕ) (cursor : Option GuestPage) where
       -- where the first row behind the start is of another guest, no row comes next
       pub next_past : {g : ℕ} → guest ≡ Some g → (page.guest ≡ g → ⊥)
           → (after_cursor start page ≡ true → IfSome guest (λ h. h ≤ page.guest)) → find next p.rows ≡ None
-      next_past {g} is differs begun = past _ rise there.1
+      next_past {g} is differs begun = find_nothing next p.rows (λ k d lt. false_from_ne_true _ (λ passes.
+          let x = get_or p.rows k d in
+          let not_before = guests_rise x.page r.page
+          (first_found (λ (s : Row). s.page) behind p.rows r rise there.1 k d lt (less x passes)) in
+          grind (arith, not_before, later)))
         where
           later : g ≤ page.guest
           later = grind (arith, find_passes)
-
-          other : (x : Row) → page.guest ≤ x.page.guest → next x ≡ false
-          other x le = grind (arith, later)
-
-          past : (xs : List Row) → InPageOrder xs → find behind xs ≡ Some r → find next xs ≡ None
-          past [] up found = absurd (none-some r found)
-          past (x ∷ xs) up found = elim (cases_Bool (behind x)) [
-            | inl yes_it ↦
-                let is_first : x ≡ r = grind arith in
-                let at = (λ i. (there.2 i).guest) ∙ (λ i. (sym is_first i).page.guest) in
-                find_nothing next (x ∷ xs) (All-cons (λ y. next y ≡ false) x xs (other x (omega arith))
-                (λ k d lt. let le = guests_rise x.page (get_or xs k d).page (pairs_head (λ (a b : Row). comes_before a.page b.page ≡ true) x xs up k d lt) in other (get_or xs k d) (omega (arith, at, le))))
-            | inr not_it ↦ grind (arith, (past xs (pairs_tail (λ (a b : Row). comes_before a.page b.page ≡ true) x xs up) (grind arith)))
-          ]
 
       -- where the first row behind the start is of the guest, what is told of that row is what comes next
       pub next_told : ((x : Row) → x.page ≡ page → of_guest guest x ≡ true) → (told : Option Told)

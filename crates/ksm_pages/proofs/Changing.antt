@@ -1,6 +1,6 @@
 -- The rows of what is held, once that of one page came, went or changed.
-use Rattle.ksm_pages.proofs.Names.{[], arith, Bool, change_held, change_row, Entry, GuestPage, Held, held_at, held_in, List, map-append, marked, Named, None, option_map, refl, Row, row_at, rows_of}
-use Rattle.ksm_pages.proofs.Names.{rules, Slab, sym, with_held, with_row, without_held, without_page, ℕ, ◌∙◌, ◌∷◌, ◌≡◌, Option}
+use Rattle.ksm_pages.proofs.Names.{arith, Bool, change_held, change_row, Entry, GuestPage, Held, held_at, held_in, List, map, map-append, marked, Named, None, on_row, Option, option_map, refl, Row}
+use Rattle.ksm_pages.proofs.Names.{row_at, rows_of, rules, Slab, with_held, with_row, without_held, without_page, ℕ, [], ◌∷◌, ◌≡◌}
 use Rattle.ksm_pages.proofs.Options.{none_mapped}
 use Rattle.ksm_tree.proofs.Alike.{filter_mapped, find_mapped, map_mapped}
 
@@ -8,6 +8,11 @@ use Rattle.ksm_tree.proofs.Alike.{filter_mapped, find_mapped, map_mapped}
 pub rows_changed : (page : GuestPage) (f : Held → Held) (g : Row → Row) (held : List Held) → ((h : Held) → (f h).row ≡ g h.row) → rows_of (change_held page f held) ≡ change_row page g (rows_of held)
 rows_changed page f g [] is = refl
 rows_changed page f g (h ∷ hs) is = grind (arith, rows_changed page f g hs is)
+
+-- where each row is changed, so are the rows of what is held
+pub rows_mapped : (f : Row → Row) (held : List Held) → rows_of (map (on_row f) held) ≡ map f (rows_of held)
+rows_mapped f [] = refl
+rows_mapped f (h ∷ hs) = grind (arith, rows_mapped f hs)
 
 -- the row of a page among the rows is the row of what is held of that page
 pub row_found : (page : GuestPage) (held : List Held) → row_at page (rows_of held) ≡ option_map (λ h. h.row) (held_at page held)
@@ -19,7 +24,7 @@ row_told page held is = search (rules, row_found)
 
 -- nothing is held of a page without a row
 pub nothing_held : (page : GuestPage) (held : List Held) → row_at page (rows_of held) ≡ None → held_at page held ≡ None
-nothing_held page held absent = none_mapped _ _ (sym (row_found page held) ∙ absent)
+nothing_held page held absent = grind (arith, none_mapped, row_found)
 
 -- what is held without a page has the rows without the row of that page
 pub rows_without : (page : GuestPage) (held : List Held) → rows_of (without_held page held) ≡ without_page page (rows_of held)

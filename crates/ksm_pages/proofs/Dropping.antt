@@ -1,8 +1,8 @@
 -- The pages once the stale dup at a place went.
-use Rattle.ksm_pages.proofs.Names.{[], All, All-head, All-tail, all_rows, ap, AreTied, arith, Bool, Dup, dup_at, dup_numbered, DupRow, elsewhere, eq-eqb, eqb-true, false, filter, find, find_all}
-use Rattle.ksm_pages.proofs.Names.{find_nothing, find_passes, frame_of, frame_seen, get_or, GuestPage, Held, is_live, is_some, is_stale, IsVacant, item_count, length, List, list_any, lodging}
-use Rattle.ksm_pages.proofs.Names.{lodgings_of, Merged, merged_into, nat_lt, nat_tests, None, none_counted, not, Option, option_and_then, option_map, PageState, refl, Row, row_at, rows_of, slice_get}
-use Rattle.ksm_pages.proofs.Names.{Some, stands_at, sym, tied_counted, true, ℕ, ◌&&◌, ◌==◌, ◌∙◌, ◌∷◌, ◌≡◌, filter_all, find_none}
+use Rattle.ksm_pages.proofs.Names.{All, All-head, All-tail, all_rows, ap, AreTied, arith, Bool, Dup, dup_at, dup_numbered, DupRow, elsewhere, eq-eqb, eqb-true, false, filter, filter_all, find}
+use Rattle.ksm_pages.proofs.Names.{find_all, find_none, find_nothing, find_passes, frame_of, frame_seen, get_or, GuestPage, Held, is_live, is_some, is_stale, IsVacant, item_count, length, List}
+use Rattle.ksm_pages.proofs.Names.{list_any, lodging, lodgings_of, Merged, merged_into, nat_lt, nat_tests, None, none_counted, not, Option, option_map, PageState, refl, Row, row_at, rows_of, Some}
+use Rattle.ksm_pages.proofs.Names.{stands_at, sym, tied_counted, true, ℕ, [], ◌&&◌, ◌==◌, ◌∙◌, ◌∷◌, ◌≡◌}
 use Rattle.ksm_tree.specs.Dups.{rows_of as dup_rows}
 use Rattle.ksm_pages.proofs.Changing.{row_found}
 use Rattle.ksm_pages.proofs.Found.{find_kept}
@@ -75,5 +75,4 @@ lodged_alike {of} {to} held same = λ i page. (frame_by of held page ∙ go page
 pub lodged_dropped : {place : ℕ} (frames : List ℕ) (dups : List DupRow) (held : List Held) → IsVacant place (rows_of held) dups
     → frame_of (lodgings_of (lodging (filter (elsewhere place) dups) frames) held) ≡ frame_of (lodgings_of (lodging dups frames) held)
 lodged_dropped frames dups held vacant =
-    lodged_alike _ (λ page r n there merged. ap (option_and_then (λ (d : DupRow). slice_get frames d.place)) (find_kept _ _ _ _ refl
-    (λ e is. ap not (not_vacant _ _ page vacant there merged e is))))
+    lodged_alike _ (λ page r n there merged. grind (arith, find_kept, not_vacant))

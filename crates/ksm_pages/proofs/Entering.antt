@@ -1,13 +1,12 @@
 -- The pages once one came with a row and a frame of its own.
-use Rattle.ksm_pages.proofs.Names.{AllPairs, ap, arith, comes_before, Err, false, frame_of, GuestPage, Held, held_at, InPageOrder, Inside, length-map, lies_on, List, lodgings_of, merged_state, None}
-use Rattle.ksm_pages.proofs.Names.{Ok, OnErr, OnOk, Option, ordered_with, PagesValue, PagesView, Result, Row, row_at, row_inserted, rows_of, RowsView, rules, seen, Some, sym, tied_inserted, true}
-use Rattle.ksm_pages.proofs.Names.{waiting_state, with_held, with_row, ℕ, ◌∙◌, ◌≡◌, ap₂, holds}
+use Rattle.ksm_pages.proofs.Names.{AllPairs, ap, ap₂, arith, comes_before, Err, false, frame_of, GuestPage, Held, held_at, holds, InPageOrder, Inside, length-map, lies_on, List, lodgings_of}
+use Rattle.ksm_pages.proofs.Names.{merged_state, None, Ok, OnErr, OnOk, Option, ordered_with, PagesValue, PagesView, Result, Row, row_at, row_inserted, rows_of, RowsView, rules, seen, Some, sym}
+use Rattle.ksm_pages.proofs.Names.{tied_inserted, true, waiting_state, with_held, with_row, ℕ, ◌∙◌, ◌≡◌}
 use Rattle.std.proofs.Math.ListN.{get_or-map}
 use Rattle.ksm_pages.proofs.Changing.{nothing_held, rows_with}
 use Rattle.ksm_pages.proofs.Found.{find_put, find_put_other}
-use Rattle.ksm_pages.proofs.Leaving.{AreLawful, of_dup, view_of}
+use Rattle.ksm_pages.proofs.Leaving.{AreLawful, Comes, comes, of_dup, view_of}
 use Rattle.ksm_pages.proofs.Lodgings.{frame_by, lodged_one, seat}
-use Rattle.ksm_pages.proofs.Turning.{Comes}
 
 -- what is kept of rows in order is in order
 held_rise : (held : List Held) → InPageOrder (rows_of held) → AllPairs (λ h g. comes_before h.row.page g.row.page ≡ true) held
@@ -39,27 +38,9 @@ module _ (s : Inside) (are : AreLawful s) {p : PagesValue} (seen_as : view_of s 
         restless = rows.restless;
       })
   entered apart still rows put =
-      let now = ap rows_of put ∙ rows_with h _ in
-      let lain =
-      ap (λ held. frame_of (lodgings_of (of_dup s) held)) put
+      let lain = ap (λ held. frame_of (lodgings_of (of_dup s) held)) put
       ∙ lodged_put _ _ _ are.order (nothing_held h.row.page s.rows.held away) in
-      record {
-        lawful = record {
-          small = are.small;
-          order = rw now (ordered_with _ _ are.order);
-          tied = rw now (tied_inserted _ _ _ are.order away apart are.tied);
-          places = are.places;
-          waits = rw now (row_inserted s.knobs _ _ are.waits _ away still);
-          room = are.room;
-        };
-        told_as =
-            (λ i. record (seen (view_of (record s { rows = rows }))) { rows = now i; frame = lain i })
-            ∙ ap (λ (v : PagesValue). record (seen v) {
-              rows = with_row h.row v.rows;
-              frame = lies_on h.row.page (seat (of_dup s) (Some h)) (frame_of v.lodgings);
-              restless = rows.restless;
-            }) seen_as;
-      }
+      grind (arith, comes, rows_with, ordered_with, tied_inserted, away, row_inserted)
 
 -- where a page comes to lie on a frame, that frame may be named as the one on which the page lies now
 pub but_there : {new : PagesView} (old : PagesView) (rows : List Row) (page : GuestPage) (o : Option ℕ)

@@ -1,8 +1,8 @@
 -- Entries under keys and the order of their pages: what is found, and what one entry that came, went or changed leaves.
-use Rattle.ksm_pages.proofs.Names.{All, All-append, All-cons, All-filter, ap, ap₂, AreAscending, AreFiled, arith, Bool, cases_Bool, change_held, comes_before, Decides-eqb, Entry, false, filter}
+use Rattle.ksm_pages.proofs.Names.{All, All-append, All-cons, All-filter, All-head, All-tail, ap, ap₂, AreAscending, AreFiled, arith, Bool, cases_Bool, change_held, comes_before, Entry, false, filter}
 use Rattle.ksm_pages.proofs.Names.{filter_passes, find, find_all, find_passes, get, get_or, GuestPage, Held, held_at, held_in, held_of, held_under, if◌then◌else◌, inl, InPageOrder, inr, is_of}
 use Rattle.ksm_pages.proofs.Names.{IsUnder, key_in, List, map, map-append, marked, Named, named_of, None, not, option_map, refl, rows_of, rules, same_page, same_page_eq, same_page_refl, same_page_sym}
-use Rattle.ksm_pages.proofs.Names.{same_Some, Slab, Some, sym, true, true≢false, with_held, with_named, without_held, without_named, ℕ, ◌++◌, ◌==◌, ◌∙◌, ◌∷◌, ◌≡◌, ◌≢◌}
+use Rattle.ksm_pages.proofs.Names.{same_Some, Slab, Some, sym, true, with_held, with_named, without_held, without_named, ℕ, [], ◌==◌, ◌∙◌, ◌∷◌, ◌≡◌, ◌≢◌}
 use Rattle.ksm_pages.proofs.Options.{mapped_some, none_mapped}
 use Rattle.slab.specs.Slab.{Updates as Fills}
 use Rattle.ksm_tree.proofs.Numbering.{full}
@@ -18,7 +18,7 @@ held_by pass slab n = held_under pass (get slab n.key)
 
 -- numbers that are told apart differ
 pub differ_by : {m n : ℕ} → (m == n) ≡ false → m ≢ n
-differ_by told same = true≢false (sym ((Decides-eqb _ _).1 same) ∙ told)
+differ_by told same = grind arith
 
 -- a name of the order says what the entry under the name's key says
 abbrev pub Stands : Slab Entry → Named → Type 0
@@ -49,12 +49,12 @@ filed_by slab order stand named n = (
 -- what holds of the entry that a slab was given, and of all others that stood, holds of all that stand now
 pub all_filled : {slab later : Slab Entry} {key : ℕ} {e : Entry} → Fills slab later key (Some e) → {P : ℕ → Entry → Type 0} → P key e
     → ((k : ℕ) (f : Entry) → get slab k ≡ Some f → k ≢ key → P k f) → (k : ℕ) (f : Entry) → get later k ≡ Some f → P k f
-all_filled {slab} {later} {key} {e} fills {P} new others k f stands = search (rules, cases_Bool, Decides-eqb, differ_by)
+all_filled {slab} {later} {key} {e} fills {P} new others k f stands = grind (arith, differ_by)
 
 module _ (slab : Slab Entry) (order : List Named) (filed : AreFiled slab order) where
   -- an entry that stands under a key is found in the order, by its page, under that key
   pub named_under : (key : ℕ) (e : Entry) → get slab key ≡ Some e → find (is_of e.page) order ≡ Some (named_of key e)
-  named_under key e stands = (filed (named_of key e)).1 (ap (option_map (named_of key)) stands)
+  named_under key e stands = (filed (named_of key e)).1 (grind arith)
 
   -- entries of one page stand under one key
   pub one_key : {k l : ℕ} {e f : Entry} → get slab k ≡ Some e → get slab l ≡ Some f → e.page ≡ f.page → k ≡ l
@@ -67,7 +67,7 @@ module _ (slab : Slab Entry) (order : List Named) (filed : AreFiled slab order) 
       let at = mapped_some _ _ told in
       let of_it = same_page_eq _ _ (find_passes (is_of page) order _ at.1) in
       let u = under_named slab _ ((filed at.0).0 (ap (λ p. find (is_of p) order) of_it ∙ at.1)) in
-      record { entry = u.entry; stands = ap (get slab) (sym at.2) ∙ u.stands; of_page = u.of_page ∙ of_it }
+      grind arith
 
 module _ (slab : Slab Entry) (order : List Named) (rise : AreAscending order) (filed : AreFiled slab order) where
   -- each page that the order names stands under its key
@@ -104,7 +104,7 @@ module _ (slab : Slab Entry) (order : List Named) (rise : AreAscending order) (f
       -- where one entry is written anew, the row of its page is changed, and no other
       pub written : (pass : ℕ) (f : Held → Held) → held_of pass e' ≡ f (held_of pass e) → held_in pass later order ≡ change_held e.page f (held_in pass slab order)
       written pass f is =
-          grind (arith, map_mapped, all_stand, cases_Bool, Decides-eqb, same_page_refl, differ_by, page_under, under_named, elsewhere)
+          grind (arith, map_mapped, all_stand, same_page_refl, differ_by, page_under, under_named, elsewhere)
 
       -- where one entry is written anew and its mergeable flag stays, pages are named as their entries say
       pub filed_kept : e'.mergeable ≡ e.mergeable → AreFiled later order
@@ -118,7 +118,7 @@ module _ (slab : Slab Entry) (order : List Named) (rise : AreAscending order) (f
 
       -- where one entry is written anew and its page marked with its flag, pages are named as their entries say
       pub filed_marked : AreFiled later (marked e.page e'.mergeable order)
-      filed_marked n = grind (arith, find_marked, fills, filed n, elsewhere, named_under slab order filed, same_page_eq)
+      filed_marked n = grind (arith, find_marked, elsewhere, named_under, same_page_eq)
 
     -- ---------------------------------------------------------------- one entry gone
 
@@ -128,7 +128,7 @@ module _ (slab : Slab Entry) (order : List Named) (rise : AreAscending order) (f
       away k d lt =
           let stands = All-filter _ (Stands slab) _ all_stand k d lt in
           let passes = filter_passes _ order k d lt in
-          (stands, λ at. true≢false (sym passes ∙ ap not (ap (λ p. same_page p e.page) (grind arith) ∙ same_page_refl e.page)))
+          grind (arith, same_page_refl)
 
       -- where one entry is gone with the name of its page, the row of that page is gone, and no other
       pub taken : (pass : ℕ) → held_in pass later (without_named e.page order) ≡ without_held e.page (held_in pass slab order)
@@ -140,9 +140,9 @@ module _ (slab : Slab Entry) (order : List Named) (rise : AreAscending order) (f
       pub filed_taken : AreFiled later (without_named e.page order)
       filed_taken =
           filed_by later _
-          (λ k d lt. let n = get_or (without_named e.page order) k d in ap (option_map (named_of n.key)) (fills.others n.key (away k d lt).1) ∙ (away k d lt).0)
+          (λ k d lt. grind (arith, away))
           (λ k f stands.
-          let apart : k ≢ key = λ at. full _ _ (ap (get later) at ∙ fills.changed) stands in
+          let apart : k ≢ key = grind (arith, full) in
           let was = sym (fills.others k apart) ∙ stands in
           find_gone_other page_of _ _ order (same_page_sym e.page f.page ∙ elsewhere was apart) ∙ named_under slab _ filed k f was)
 
@@ -155,21 +155,25 @@ module _ (slab : Slab Entry) (order : List Named) (rise : AreAscending order) (f
 
     -- where an entry came under a vacant key with a name, the rows have its row at the place of its page
     pub put : (pass : ℕ) → held_in pass later (with_named (named_of key e) order) ≡ with_held (held_of pass e) (held_in pass slab order)
-    put pass =
-        map-append (held_by pass later) (filter (λ n. comes_before n.page e.page) order) (named_of key e ∷ filter (λ n. comes_before e.page n.page) order)
-        ∙ ap₂ (λ front back. front ++ back) (part _) (ap₂ (λ h hs. h ∷ hs) (ap (held_under pass) fills.changed) (part _))
+    put pass = grind (arith, map-append, fills.changed, part (λ page. comes_before page e.page),
+        part (comes_before e.page))
       where
         part : (test : GuestPage → Bool) → map (held_by pass later) (filter (λ n. test n.page) order) ≡ filter (λ h. test h.row.page) (held_in pass slab order)
-        part test =
-            map_alike _ _ _ (λ k d lt.
-            ap (held_under pass) (fills.others (get_or (filter (λ (m : Named). test m.page) order) k d).key (taken_key (All-filter _ (Stands slab) _ all_stand k d lt))))
-            ∙ sym (filter_mapped _ _ _ _ (λ k d lt. ap test (page_under _ slab (all_stand k d lt))))
+        part test = go order all_stand
+          where
+            go : (ns : List Named) → All (Stands slab) ns
+                → map (held_by pass later) (filter (λ n. test n.page) ns) ≡ filter (λ h. test h.row.page) (held_in pass slab ns)
+            go [] stand = refl
+            go (n ∷ ns) stand =
+                let here = All-head (Stands slab) n ns stand in
+                grind (arith, go ns (All-tail (Stands slab) n ns stand), fills.others n.key (taken_key here),
+                page_under pass slab here)
 
     -- where an entry came under a vacant key with a name, all pages are named as their entries say
     pub filed_put : AreFiled later (with_named (named_of key e) order)
     filed_put =
         filed_by later _ (All-append (Stands later) _ _ (part_stands _)
-        (All-cons (Stands later) (named_of key e) _ (ap (option_map (named_of key)) fills.changed) (part_stands (comes_before e.page))))
+        (All-cons (Stands later) (named_of key e) _ (grind arith) (part_stands (comes_before e.page))))
         (all_filled fills (find_put page_of _ _ order refl)
         (λ k f was apart. find_put_other _ _ f.page _ _ refl rise absent (differ k f was) ∙ named_under slab _ filed k f was))
       where

@@ -1,9 +1,10 @@
--- Lists in the order of their pages: what a search finds once one came, went or changed.
-use Rattle.ksm_pages.proofs.Names.{[], All, All-cons, AllPairs, ap, arith, Bool, comes_before, cond, false, filter, filter_passes, find, find-append, find_nothing, find_over, get_or, GuestPage}
-use Rattle.ksm_pages.proofs.Names.{if◌then◌else◌, List, map, None, not, pages_ordered, pairs_head, pairs_tail, refl, same_page, same_page_eq, same_page_refl, Some, sym, true, ◌++◌, ◌∙◌, ◌∷◌, ◌≡◌}
-use Rattle.ksm_pages.proofs.Names.{Option, find_passes, option_map, same_page_sym}
-use Rattle.ksm_rmap.proofs.Ordered.{absent_parts}
-use Rattle.ksm_tree.proofs.Alike.{find_mapped}
+-- Lists in the order of their pages: what a search finds once one came, went or changed, and what a write at a page's place leaves.
+use Rattle.ksm_pages.proofs.Names.{All, All-cons, AllPairs, ap, arith, before_irrefl, Bool, both_ways, cases_lt, comes_before, cond, count_by-le-length, false, filter, filter_passes, find}
+use Rattle.ksm_pages.proofs.Names.{find-append, find_none, find_nothing, find_over, find_passes, get_or, GuestPage, if◌then◌else◌, IsPartitionedBy, length, length-filter, length-insert, List, map}
+use Rattle.ksm_pages.proofs.Names.{map-append, None, not, not-true, Option, option_map, pages_ordered, pairs_head, pairs_tail, refl, rules, same_page, same_page_eq, same_page_refl, same_page_sym, set}
+use Rattle.ksm_pages.proofs.Names.{set-append_seam, Some, suc, sym, true, zero, ℕ, [], ◌++◌, ◌+◌, ◌<◌, ◌∙◌, ◌∷◌, ◌≡◌, ◌≤◌}
+use Rattle.ksm_rmap.proofs.Ordered.{absent_parts, found_at, found_parts, insert_at, none_same, none_same_low}
+use Rattle.ksm_tree.proofs.Alike.{change_none, find_mapped, pairs_mapped}
 
 -- what a search finds among all it finds among those that are kept, where the one found is kept
 pub find_kept : {X : Type 0} (test keep : X → Bool) (xs : List X) (o : Option X) → find test xs ≡ o
@@ -20,14 +21,23 @@ module _ {X : Type 0} (key : X → GuestPage) where
 
   -- in a list in order, a search for the page of an element finds that element
   pub each_found : (xs : List X) → AllPairs Before xs → All (λ x. find (is_of_page (key x)) xs ≡ Some x) xs
-  each_found [] rise = λ k d lt. absurd (omega arith)
+  each_found [] rise = grind arith
   each_found (x ∷ xs) rise =
       All-cons (λ z. find (is_of_page (key z)) (x ∷ xs) ≡ Some z) x _
-      (ap (λ b. cond b (Some x) (find (is_of_page (key x)) xs)) (same_page_refl (key x)))
+      (grind (arith, same_page_refl))
       (λ k d lt.
       let z = get_or xs k d in
       let apart = pages_ordered.apart (key x) (key z) (pairs_head Before x _ rise k d lt) in
       ap (λ b. cond b (Some x) (find (is_of_page (key z)) xs)) apart ∙ each_found xs (pairs_tail Before x _ rise) k d lt)
+
+  -- no element that passes a test comes before the one that a search finds first
+  pub first_found : (p : X → Bool) (xs : List X) (x : X) → AllPairs Before xs → find p xs ≡ Some x
+      → All (λ y. p y ≡ true → comes_before (key y) (key x) ≡ false) xs
+  first_found p [] x rise found k d lt = absurd (omega arith)
+  first_found p (y ∷ ys) x rise found zero d lt = grind (arith, before_irrefl)
+  first_found p (y ∷ ys) x rise found (suc k) d lt =
+      let rest = first_found p ys x (pairs_tail Before y ys rise) in
+      grind (arith, rest, pairs_head Before y ys rise k d, pages_ordered.asym)
 
   module _ (page : GuestPage) where
     abbrev low : X → Bool
@@ -39,6 +49,38 @@ module _ {X : Type 0} (key : X → GuestPage) where
     abbrev is_it : X → Bool
     is_it y = same_page (key y) page
 
+    abbrev place : List X → ℕ
+    place xs = length (filter low xs)
+
+    -- in a list in order, those not behind the page stand before all others
+    pub parted_behind : (xs : List X) → AllPairs Before xs → IsPartitionedBy (λ y. not (high y)) xs
+    parted_behind xs rise i j d le lt later = search (rules, cases_lt, both_ways, not-true, pages_ordered)
+
+    -- a change of a page that is not there leaves the list
+    pub absent_unchanged : (f : X → X) {xs : List X} → find is_it xs ≡ None → xs ≡ map (λ y. if is_it y then f y else y) xs
+    absent_unchanged f absent = sym (change_none _ f _ (find_none _ _ absent))
+
+    -- a write behind those before a page that is there changes the element of that page, and no other
+    pub write_at : (f : X → X) {xs : List X} → AllPairs Before xs → {s t : List X} → s ≡ xs → t ≡ xs → {n : ℕ} → n ≡ place s → (d : X) → n < length t
+        → is_it (get_or t n d) ≡ true → set xs n (f (get_or xs n d)) ≡ map (λ y. if is_it y then f y else y) xs
+    write_at f {xs} rise {s} {t} read again {n} count d within here =
+        let x = get_or xs n d in
+        let split = found_parts pages_ordered key page _ x rise (grind (arith, found_at, pages_ordered)) in
+        let ahead = change_none is_it f _ (none_same_low pages_ordered key page _ (filter_passes low xs)) in
+        let behind = change_none is_it f _ (none_same pages_ordered key page _ (filter_passes high xs)) in
+        grind (arith, split, ahead, behind, set-append_seam (filter low xs) x (filter high xs) (f x), map-append)
+
+    -- a list in order stays in order where the element of a page is changed, but for its page
+    pub write_rises : (f : X → X) → ((y : X) → key (f y) ≡ key y) → (xs : List X) → AllPairs Before xs → AllPairs Before (map (λ y. if is_it y then f y else y) xs)
+    write_rises f same xs rise =
+        search (rules, pairs_mapped Before Before (λ y. search rules))
+
+    -- with an element of a page that was not there, a list is one longer
+    pub length_with : (x : X) (xs : List X) → AllPairs Before xs → find is_it xs ≡ None → length (filter low xs ++ x ∷ filter high xs) ≡ length xs + 1
+    length_with x xs rise absent =
+        let few : place xs ≤ length xs = omega (arith, length-filter low xs, count_by-le-length low xs) in
+        ap length (sym (insert_at pages_ordered key page xs rise refl refl refl x absent)) ∙ length-insert _ _ _ few
+
     -- in a list with one more element of the page, a search for the page finds that element
     pub find_put : (x : X) (xs : List X) → key x ≡ page → find is_it (filter low xs ++ x ∷ filter high xs) ≡ Some x
     find_put x xs at = grind (arith, find_nothing, filter_passes, find-append, same_page_refl)
@@ -46,7 +88,7 @@ module _ {X : Type 0} (key : X → GuestPage) where
     -- with one more element of a page, a search for another page finds what it found before
     pub find_put_other : (other : GuestPage) (x : X) (xs : List X) → key x ≡ page → AllPairs Before xs → find is_it xs ≡ None → same_page page other ≡ false → find (is_of_page other) (filter low xs ++ x ∷ filter high xs) ≡ find (is_of_page other) xs
     find_put_other other x xs at rise absent differ =
-        find_over (is_of_page other) (filter low xs) (filter high xs) x (ap (λ p. same_page p other) at ∙ differ)
+        find_over (is_of_page other) (filter low xs) (filter high xs) x (grind arith)
         ∙ ap (find (is_of_page other)) (sym (absent_parts pages_ordered key page _ rise absent))
 
     -- without the elements of the page, a search for the page finds nothing
@@ -59,7 +101,7 @@ module _ {X : Type 0} (key : X → GuestPage) where
 
     -- without the elements of a page, a search for another page finds what it found before
     pub find_gone_other : (other : GuestPage) (xs : List X) → same_page page other ≡ false → find (is_of_page other) (filter (λ y. not (is_it y)) xs) ≡ find (is_of_page other) xs
-    find_gone_other other xs differ = find_kept _ _ _ _ refl (λ y is. ap not (not_it _ _ differ is))
+    find_gone_other other xs differ = grind (arith, find_kept, not_it)
 
     -- the element of the page is changed, but for its page
     module _ (f : X → X) (same : (y : X) → key (f y) ≡ key y) where

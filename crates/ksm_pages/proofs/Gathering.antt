@@ -1,15 +1,16 @@
 -- A walk along the order that lists the pages that a visit may change.
-use Rattle.ksm_pages.proofs.Names.{[], after_cursor, All, All-cons, All-map, ap, AreAllListed, AreAscending, AreFiled, AreListed, arith, before_irrefl, Bool, cases_Bool, comes_before, Entry, false}
-use Rattle.ksm_pages.proofs.Names.{filter, find, find_all, find_none, find_passes, get, get_or, GuestPage, has_item, Held, held_in, held_of, held_under, inl, inr, is_of, is_restless, is_some}
-use Rattle.ksm_pages.proofs.Names.{IsAddedTo, IsUnder, length, List, Listing, Named, named_of, None, not, Option, option_map, pairs_head, pairs_tail, rows_of, rules, same_page_refl, same_Some}
-use Rattle.ksm_pages.proofs.Names.{shared_state, Slab, Some, sym, true, ℕ, ◌&&◌, ◌<◌, ◌∙◌, ◌∷◌, ◌≡◌, ◌≤◌, ◌⊎◌}
+use Rattle.ksm_pages.proofs.Names.{after_cursor, All, All-map, ap, AreAllListed, AreAscending, AreFiled, AreListed, arith, before_irrefl, Bool, comes_before, Entry, false, filter, find, find_all}
+use Rattle.ksm_pages.proofs.Names.{find_none, find_passes, get, GuestPage, has_item, Held, held_in, held_of, inl, inr, is_of, is_restless, is_some, IsAddedTo, IsUnder, length, List, Listing, Named}
+use Rattle.ksm_pages.proofs.Names.{named_of, None, not, one_before, Option, option_map, rows_of, rules, same_page_eq, same_page_refl, same_Some, shared_state, Slab, Some, sym, true, ℕ, [], ◌<◌, ◌∙◌}
+use Rattle.ksm_pages.proofs.Names.{◌∷◌, ◌≡◌, ◌≤◌, ◌⊎◌}
 use Rattle.ksm_pages.specs.Paged.{is_restless as may_change}
+use Rattle.ksm_pages.proofs.Found.{first_found}
 use Rattle.ksm_pages.proofs.Filing.{all_stand, named_under, one_key, under_named}
 use Rattle.ksm_pages.proofs.Listings.{with_has}
 
 -- a visit may change a row exactly where it may change its entry
 pub restless_as : (pass : ℕ) (e : Entry) → may_change (held_of pass e).row ≡ is_restless e
-restless_as pass e = ap (λ b. e.mergeable && b) (grind arith)
+restless_as pass e = grind arith
 
 -- of the pages up to a cursor those that a visit may change are listed
 abbrev pub AreListedUpTo : Slab Entry → Option GuestPage → Listing → Type 0
@@ -26,20 +27,6 @@ filter_fewer p q [] x found out less = cc
 filter_fewer p q (y ∷ ys) x found out less =
     grind (arith, found, out, less y, filter_fewer p q ys x, filter_least p q ys less)
 
--- what a search finds first comes before all others that pass
-first_found : (p : Named → Bool) (order : List Named) (n : Named) → AreAscending order → find p order ≡ Some n → All (λ m. p m ≡ true → (m.page ≡ n.page) ⊎ (comes_before n.page m.page ≡ true)) order
-first_found p [] n rise found = λ k d lt. absurd (omega arith)
-first_found p (y ∷ ys) n rise found =
-    elim (cases_Bool (p y)) [
-      | inl passes ↦
-          let same : y ≡ n = grind arith in
-          All-cons (λ m. p m ≡ true → (m.page ≡ n.page) ⊎ (comes_before n.page m.page ≡ true)) y ys (λ also. inl (λ i. (same i).page))
-          (λ k d lt also. inr ((λ i. comes_before (sym same i).page (get_or ys k d).page) ∙ pairs_head (λ a b. comes_before a.page b.page ≡ true) y ys rise k d lt))
-      | inr fails ↦
-          All-cons (λ m. p m ≡ true → (m.page ≡ n.page) ⊎ (comes_before n.page m.page ≡ true)) y ys (λ also. absurd (grind arith))
-          (first_found p ys n (pairs_tail (λ a b. comes_before a.page b.page ≡ true) y ys rise) (grind arith))
-    ]
-
 module _ (slab : Slab Entry) (order : List Named) (rise : AreAscending order) (filed : AreFiled slab order) where
   module _ (last : Option GuestPage) {n : Named} (found : find (λ m. after_cursor last m.page) order ≡ Some n) where
     -- the next page behind the cursor has an entry under the key that the order names
@@ -52,13 +39,11 @@ module _ (slab : Slab Entry) (order : List Named) (rise : AreAscending order) (f
 
     -- an entry that is not behind it is its own, or was not behind the last
     passed : (key : ℕ) {e : Entry} → get slab key ≡ Some e → comes_before n.page e.page ≡ false → (e.page ≡ n.page) ⊎ (after_cursor last e.page ≡ false)
-    passed key {e} stands not_behind = elim (cases_Bool _) [
-      | inl after ↦
-          let first = find_all (is_of e.page) (λ m. after_cursor last m.page ≡ true → (m.page ≡ n.page) ⊎ (comes_before n.page m.page ≡ true)) order (named_of key e) (named_under slab order filed key e stands)
-          (first_found (λ m. after_cursor last m.page) order n rise found) in
-          grind arith
-      | inr before ↦ inr before
-    ]
+    passed key {e} stands not_behind =
+        let first = find_all (is_of e.page) (λ m. after_cursor last m.page ≡ true → comes_before m.page n.page ≡ false)
+        order (named_of key e) (grind (arith, named_under))
+        (first_found (λ m. m.page) (λ m. after_cursor last m.page) order n rise found) in
+        grind (arith, first, one_before, same_page_eq)
 
     module _ {old new : Listing} (listed : AreListedUpTo slab last old) where
       -- where the next page is added, the pages up to that page are listed that a visit may change
@@ -72,7 +57,7 @@ module _ (slab : Slab Entry) (order : List Named) (rise : AreAscending order) (f
             let u = next_stands in
             let is_it = same_Some f e (sym stands ∙ ap (get slab) (one_key slab _ filed stands u.stands (same ∙ sym u.of_page)) ∙ here) in
             absurd (grind arith)
-        | inr before ↦ (λ i. has_item f.page (is i).pages) ∙ listed ((λ i. (sym is i).known) ∙ known) key f stands may before
+        | inr before ↦ (λ i. has_item f.page (is i).pages) ∙ listed (grind arith) key f stands may before
       ]
 
   -- where no page is behind the cursor, all pages are listed that a visit may change
@@ -81,20 +66,20 @@ module _ (slab : Slab Entry) (order : List Named) (rise : AreAscending order) (f
       listed known key e stands may
       (find_all _ (λ m. after_cursor last m.page ≡ false) _ _ (named_under slab _ filed _ e stands) (find_none _ order none))
 
+  -- what holds of the row of each entry holds of all rows
+  pub rows_all : (pass : ℕ) (P : Held → Type 0) → ((key : ℕ) (e : Entry) → get slab key ≡ Some e → P (held_of pass e))
+      → All P (held_in pass slab order)
+  rows_all pass P each = All-map P _ order (λ k d lt.
+      let u = under_named slab _ (all_stand slab _ rise filed k d lt) in
+      rw u.stands (each _ u.entry u.stands))
+
   -- where the pages of all entries that a visit may change are listed, so are the pages of all such rows
   pub rows_listed : (pass : ℕ) (pages : List GuestPage) → AreListed slab pages → AreAllListed (rows_of (held_in pass slab order)) pages
   rows_listed pass pages listed =
       All-map (λ r. may_change r ≡ true → has_item r.page pages ≡ true) _ _
-      (All-map (λ (h : Held). may_change h.row ≡ true → has_item h.row.page pages ≡ true) _ _
-      (λ k d lt. at _ (all_stand slab _ rise filed k d lt)))
-    where
-      at : (n : Named) → option_map (named_of n.key) (get slab n.key) ≡ Some n → may_change (held_under pass (get slab n.key)).row ≡ true → has_item (held_under pass (get slab n.key)).row.page pages ≡ true
-      at n stands may = grind arith
+      (rows_all pass (λ h. may_change h.row ≡ true → has_item h.row.page pages ≡ true)
+      (λ k e stands may. listed k e stands (grind (arith, restless_as pass e))))
 
   -- a row has a frame of its own exactly where it is not shared
   pub rows_framed : (pass : ℕ) → All (λ h. is_some h.frame ≡ not (shared_state h.row.state)) (held_in pass slab order)
-  rows_framed pass =
-      All-map (λ (h : Held). is_some h.frame ≡ not (shared_state h.row.state)) _ _ (λ k d lt. at _ (all_stand slab _ rise filed k d lt))
-    where
-      at : (n : Named) → option_map (named_of n.key) (get slab n.key) ≡ Some n → is_some (held_under pass (get slab n.key)).frame ≡ not (shared_state (held_under pass (get slab n.key)).row.state)
-      at n stands = grind arith
+  rows_framed pass = rows_all pass (λ h. is_some h.frame ≡ not (shared_state h.row.state)) (λ k e stands. grind arith)

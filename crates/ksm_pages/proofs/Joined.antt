@@ -1,13 +1,11 @@
 -- The pages once a page with a frame of its own joined a dup.
-use Rattle.ksm_pages.proofs.Names.{All, ap, AreKept, AreTied, arith, both_ways, change_held, change_items, change_row, count_by, Dup, dup_numbered, dup_of, DupRow, DupsState, each_at_page, Entry}
-use Rattle.ksm_pages.proofs.Names.{eq-eqb, false, find_none, frame_of, get_or, GuestPage, HasRoom, Held, held_at, held_of, InPageOrder, Inside, is_some, IsStopped, items_in, length, let_out, lies_on}
-use Rattle.ksm_pages.proofs.Names.{List, Listing, lodging, lodgings_of, mapped, Merged, merged_into, merged_state, MOST_REFERENCES, None, number_found, Option, option_map, PageState, PagesValue}
-use Rattle.ksm_pages.proofs.Names.{PagesView, refl, Row, row_at, row_found, row_stopped, rows_items, rows_of, RowsView, seen, shared_state, Some, subst, sym, tied_count, tied_joined, true, true≢false}
-use Rattle.ksm_pages.proofs.Names.{with_item, ℕ, ◌<◌, ◌==◌, ◌∙◌, ◌≡◌}
-use Rattle.ksm_tree.specs.Dups.{items_of as items_numbered, rows_of as dup_rows}
+use Rattle.ksm_tree.specs.Dups.{has_number, items_of as items_numbered, rows_of as dup_rows}
+use Rattle.ksm_pages.proofs.Names.{All, ap, arith, change_held, change_items, change_row, count_by, Dup, dup_of, DupRow, DupsState, each_at_page, Entry, false, find_none, frame_of, GuestPage, HasRoom}
+use Rattle.ksm_pages.proofs.Names.{Held, held_at, held_of, InPageOrder, Inside, is_some, IsStopped, length, let_out, lies_on, List, lodgings_of, mapped, Merged, merged_into, merged_state}
+use Rattle.ksm_pages.proofs.Names.{MOST_REFERENCES, nat_tests, None, number_found, Option, option_map, PageState, PagesValue, refl, Row, row_found, rows_items, rows_of, RowsView, seen, shared_state}
+use Rattle.ksm_pages.proofs.Names.{Some, subst, sym, tied_count, tied_joined, true, with_item, ℕ, ◌<◌, ◌==◌, ◌∙◌, ◌≡◌}
 use Rattle.ksm_pages.proofs.Changing.{row_found as found_rows}
-use Rattle.ksm_pages.proofs.Options.{some_mapped}
-use Rattle.ksm_pages.proofs.Leaving.{AreLawful, lawful_turned, of_dup, of_page, row_there, told, view_of}
+use Rattle.ksm_pages.proofs.Leaving.{AreLawful, Comes, of_dup, of_page, row_there, stops, turned_so, view_of}
 use Rattle.ksm_pages.proofs.Lodgings.{frame_by, seat}
 
 -- a page with a frame of its own is not merged
@@ -18,32 +16,26 @@ own_not_merged s e = grind arith
 pub let_out_alone : (state : PageState) (page : GuestPage) {dups : List Dup} → shared_state state ≡ false → let_out state page dups ≡ dups
 let_out_alone state page alone = grind arith
 
-known_at : {number : ℕ} (ds : List DupRow) (o : Option DupRow) → dup_numbered number ds ≡ o → (k : ℕ) (d : DupRow) → k < length ds
-    → (get_or ds k d).number ≡ number → is_some o ≡ true
-known_at {number} ds None is k d lt at =
-    absurd (both_ways ((get_or ds k d).number == number) (find_none _ _ is k d lt) (eq-eqb (get_or ds k d).number number at))
-known_at ds (Some e) is k d lt at = refl
+-- a dup with room for an item is found by its number, and has fewer items than there are references at most
+pub room_found : (s : Inside) → AreLawful s → {p : PagesValue} → view_of s ≡ p → {number : ℕ}
+    → HasRoom p.rows p.dups number
+    → (is_some (dup_of number s.dups.dups) ≡ true) × (length (items_numbered number s.dups.dups) < MOST_REFERENCES)
+room_found s are seen_as {number} required = go _ refl
+  where
+    room : HasRoom (rows_of s.rows.held) (dup_rows s.dups.dups) number
+    room = subst (λ (v : PagesValue). HasRoom v.rows v.dups number) (sym seen_as) required
 
-has_known : (rows : List Row) (dups : List Dup) {number : ℕ} → HasRoom rows (dup_rows dups) number → is_some (dup_of number dups) ≡ true
-has_known rows dups room =
-    sym (some_mapped (λ (d : Dup). d.row) _) ∙ ap is_some (row_found _ _ (λ d. refl) dups)
-    ∙ known_at _ _ refl _ _ room.1.1 ((λ i. (room.1.2 i).number) ∙ room.2)
-
-found_room : (rows : List Row) (dups : List Dup) {number : ℕ} (o : Option Dup) → AreTied rows dups → dup_of number dups ≡ o
-    → HasRoom rows (dup_rows dups) number → (is_some o ≡ true) × (length (items_in o) < MOST_REFERENCES)
-found_room rows dups None tied is room = absurd (true≢false (sym (has_known rows dups room) ∙ ap is_some is))
-found_room rows dups {number} (Some d) tied is room =
-    (refl, omega (arith, (ap (λ o. length (items_in o)) (sym is) ∙ tied_count rows dups number d tied is), (ap (λ n. count_by (λ r. merged_into n r.state) rows) (number_found number dups d is ∙ sym room.2)), room.3))
-
--- a dup with room for an item is found by its number
-pub known_room : (rows : List Row) (dups : List Dup) {number : ℕ} → AreTied rows dups → HasRoom rows (dup_rows dups) number
-    → is_some (dup_of number dups) ≡ true
-known_room rows dups tied room = (found_room rows _ _ tied refl room).0
-
--- a dup with room has fewer items than there are references at most
-pub fewer_room : (rows : List Row) (dups : List Dup) {number : ℕ} → AreTied rows dups → HasRoom rows (dup_rows dups) number
-    → length (items_numbered number dups) < MOST_REFERENCES
-fewer_room rows dups tied room = (found_room rows _ _ tied refl room).1
+    go : (o : Option Dup) → dup_of number s.dups.dups ≡ o
+        → (is_some (dup_of number s.dups.dups) ≡ true) × (length (items_numbered number s.dups.dups) < MOST_REFERENCES)
+    go None is =
+        let none = row_found (has_number number) (λ (r : DupRow). r.number == number) (λ d. refl) s.dups.dups in
+        let at = find_none (λ (r : DupRow). r.number == number) (dup_rows s.dups.dups)
+        (sym none ∙ ap (option_map (λ d. d.row)) is) room.1.0 room.0 room.1.1 in
+        absurd (grind (arith, nat_tests, at, room.1.2, room.2))
+    go (Some d) is =
+        let counted = tied_count (rows_of s.rows.held) s.dups.dups number d are.tied is in
+        (ap is_some is, omega (arith, counted, ap (λ n. count_by (λ r. merged_into n r.state) (rows_of s.rows.held))
+        (number_found number s.dups.dups d is ∙ sym room.2), room.3))
 
 item_seat : (of : ℕ → Option ℕ) (number : ℕ) {r : Row} → merged_into number r.state ≡ true → (o : Option Held)
     → option_map (λ (h : Held). h.row) o ≡ Some r → seat of o ≡ of number
@@ -64,45 +56,32 @@ module _ (s : Inside) (are : AreLawful s) (page : GuestPage) {h : Held} (found :
     (alone : shared_state h.row.state ≡ false) (number : ℕ)
     {joined later : DupsState} (into : joined ≡ record s.dups { dups = change_items number (with_item page) s.dups.dups })
     (out : later ≡ record joined { dups = let_out h.row.state h.row.page joined.dups; waiting = later.waiting })
-    (stopped : IsStopped s.knobs h.row joined.waiting later.waiting) where
-  now_in : later.dups ≡ change_items number (with_item page) s.dups.dups
-  now_in = grind arith
-
-  joined_dups : dup_rows later.dups ≡ dup_rows s.dups.dups
-  joined_dups = ap dup_rows now_in ∙ rows_items _ _ _
-
-  joined_next : later.next ≡ s.dups.next
-  joined_next = grind arith
-
-  -- the pages are lawful once a page with a frame of its own joined a dup
-  pub lawful_joined : (rows : RowsView) → rows.held ≡ change_held page (mapped (Merged number) None) s.rows.held
-      → AreKept s.shape s.knobs (rows_of rows.held) later s.frames.items
-  lawful_joined rows turned =
+    (stopped : IsStopped s.knobs h.row joined.waiting later.waiting) {rows : RowsView}
+    (turned : rows ≡ record s.rows { held = change_held page (mapped (Merged number) None) s.rows.held })
+    {p : PagesValue} (seen_as : view_of s ≡ p) where
+  -- once a page with a frame of its own joined a dup, the pages are lawful, and the page lies where the dup's items do
+  pub joins : Comes s rows later (record (seen p) {
+    rows = change_row page (λ r. record r { state = Merged number }) p.rows;
+    frame = lies_on page (of_dup s number) (frame_of p.lodgings);
+    restless = rows.restless;
+  })
+  joins =
       let at = of_page s are _ found in
-      lawful_turned s are _ found (mapped (Merged number) None) (λ r. record r { state = Merged number }) (λ x. refl)
-      (λ r. refl) rows turned ((λ i. (out i).places) ∙ (λ i. (into i).places))
-      (rw now_in (tied_joined _ _ _ are.order (row_there s are _ found) _ _ _ (own_not_merged _ alone) at refl are.tied)) (rw (← at)
-      (row_stopped s.knobs _ _ are.waits _ _ _ (ap (λ q. row_at q (rows_of s.rows.held)) at ∙ row_there s are _ found) refl
-      (subst (λ w. IsStopped s.knobs h.row w later.waiting) (λ i. (into i).waiting) stopped)))
+      let rest : later ≡ record s.dups
+      { dups = change_items number (with_item page) s.dups.dups; waiting = later.waiting } = grind arith in
+      let waits = subst (λ w. IsStopped s.knobs h.row w later.waiting) (λ i. (into i).waiting) stopped in
+      turned_so s are page found seen_as rows (mapped (Merged number) None) (λ r. record r { state = Merged number })
+          (λ x. refl) (λ r. refl)
+      (λ i. (turned i).held) rest (rows_items _ _ _) _ refl
+      (tied_joined _ _ _ are.order (row_there s are _ found) _ _ _ (own_not_merged _ alone) at refl are.tied)
+      (stops s are page found _ at refl _ waits) refl
 
-  -- once a page joined a dup, it lies where the dup's items do, and else all is seen as it was
-  pub told_joined : {rows : RowsView} → rows ≡ record s.rows { held = change_held page (mapped (Merged number) None) s.rows.held }
-      → {p : PagesValue} → view_of s ≡ p
-      → let now = seen (view_of (record s { rows = rows; dups = later })) in
+  -- but for the row and the frame of the page, all is seen as it was, and the page lies where each item does
+  pub told_joined : let now = seen (view_of (record s { rows = rows; dups = later })) in
       (now ≡ record (seen p) { rows = change_row page (λ r. record r { state = Merged number }) p.rows; frame = now.frame })
       × All (λ r. merged_into number r.state ≡ true → now.frame ≡ lies_on page ((seen p).frame r.page) (seen p).frame) p.rows
-  told_joined {rows} turned {p} seen_as =
-      let item : Row → Row = λ r. record r { state = Merged number } in
-      let lies_there = lies_on page (of_dup s number) (frame_of p.lodgings) in
-      let whole =
-      told s are _ found _ item (λ x. refl) (λ r. refl) rows (λ i. (turned i).held) seen_as later joined_dups joined_next _ refl refl
-      ∙ ap (λ (l : Listing). record (seen p) { rows = change_row page item p.rows; frame = lies_there; restless = l })
-      ((λ i. (turned i).restless) ∙ (λ i. (seen_as i).restless)) in
-      let frame : frame_of (lodgings_of (lodging (dup_rows later.dups) s.frames.items) rows.held) ≡ lies_there = ap
-      (λ (v : PagesView). v.frame) whole in
+  told_joined =
       let lain = subst (λ (v : PagesValue). All
       (λ r. merged_into number r.state ≡ true → frame_of v.lodgings r.page ≡ of_dup s number) v.rows) seen_as
-      (item_lies _ _ are.order _) in (
-        whole ∙ (λ i. record (seen p) { rows = change_row page item p.rows; frame = sym frame i }),
-        λ k r lt merged. frame ∙ ap (λ o. lies_on page o (frame_of p.lodgings)) (sym (lain k r lt merged)),
-      )
+      (item_lies _ _ are.order _) in
+      grind (arith, joins)

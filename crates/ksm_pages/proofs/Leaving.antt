@@ -1,11 +1,10 @@
 -- The pages once the row of one page changed, or went: they are lawful still, and what is seen of them is changed so.
-use Rattle.ksm_pages.proofs.Names.{ap, ap₂, AreKept, AreTied, AreWaiting, arith, change_held, change_row, DupsState, false, find_passes, frame_of, Frames, GuestPage, Held, held_at, if◌then◌else◌}
-use Rattle.ksm_pages.proofs.Names.{InPageOrder, Inside, is_some, IsAlone, IsKnown, IsStopped, let_out, lies_on, lodging, lodgings_of, MatchOption, merged_state, None, Option, option_map, ordered_map}
-use Rattle.ksm_pages.proofs.Names.{ordered_without, PagesValue, Row, row_at, row_dropped, row_stopped, rows_of, rows_out, RowsView, same_page, same_page_eq, seen, shared_state, Some, subst, sym}
-use Rattle.ksm_pages.proofs.Names.{tied_dropped, tied_left, true, waiting_state, without_held, without_page, ℕ, ◌∙◌, ◌≡◌}
+use Rattle.ksm_pages.proofs.Names.{ap, AreKept, AreTied, AreWaiting, arith, change_held, change_row, Dup, DupsState, false, find_passes, frame_of, Frames, GuestPage, Held, held_at, InPageOrder}
+use Rattle.ksm_pages.proofs.Names.{Inside, is_some, IsAlone, IsKnown, IsStopped, lies_on, List, lodging, lodgings_of, MatchOption, None, Option, option_map, ordered_change, PagesValue, PagesView, Row}
+use Rattle.ksm_pages.proofs.Names.{row_at, row_stopped, rows_of, RowsView, same_page_eq, seen, shared_state, Some, subst, sym, true, waiting_state, WaitingPage, ℕ, ◌∙◌, ◌≡◌}
 use Rattle.ksm_tree.specs.Dups.{rows_of as dup_rows}
-use Rattle.ksm_pages.proofs.Changing.{row_told, rows_changed, rows_without}
-use Rattle.ksm_pages.proofs.Lodgings.{changed_to, frame_by, lodged_changed, lodged_gone, seat}
+use Rattle.ksm_pages.proofs.Changing.{row_told, rows_changed}
+use Rattle.ksm_pages.proofs.Lodgings.{changed_to, frame_by, lodged_changed, seat}
 
 -- where the items of each dup lie
 abbrev pub of_dup : Inside → ℕ → Option ℕ
@@ -27,6 +26,28 @@ view_of s = record {
 abbrev pub AreLawful : Inside → Type 0
 AreLawful s = AreKept s.shape s.knobs (rows_of s.rows.held) s.dups s.frames.items
 
+-- the pages with other rows and dups are lawful, and are seen as the new view says
+pub record Comes (s : Inside) (rows : RowsView) (later : DupsState) (new : PagesView) : Type 0 where
+  pub lawful : AreKept s.shape s.knobs (rows_of rows.held) later s.frames.items
+  pub told_as : seen (view_of (record s { rows = rows; dups = later })) ≡ new
+
+-- other rows come, and dups that have other items at most: the pages are lawful if the new rows are in order and tied to the new
+-- dups, and the right pages wait
+pub comes : (s : Inside) → AreLawful s → (rows : RowsView) {now : List Row} → rows_of rows.held ≡ now
+    → {ds : List Dup} {later : DupsState}
+    → later ≡ record s.dups { dups = ds; waiting = later.waiting } → dup_rows ds ≡ dup_rows s.dups.dups
+    → InPageOrder now → AreTied now ds
+    → AreWaiting s.knobs now later.waiting → {lay : Frames} → frame_of (lodgings_of (of_dup s) rows.held) ≡ lay
+    → Comes s rows later (record (seen (view_of s)) { rows = now; frame = lay; restless = rows.restless })
+comes s are rows {now} is {ds} {later} rest alike order tied waits lain = record {
+  lawful = grind arith;
+  told_as =
+      let same : dup_rows later.dups ≡ dup_rows s.dups.dups = (λ i. dup_rows (rest i).dups) ∙ alike in
+      let lies_so = ap (λ rs. frame_of (lodgings_of (lodging rs s.frames.items) rows.held)) same ∙ lain in
+      λ i. record (seen (view_of s))
+          { rows = is i; frame = lies_so i; dups = same i; next = (rest i).next; restless = rows.restless };
+}
+
 -- a page that comes to lie where it lay does not move
 pub lies_same : (page : GuestPage) {frames : Frames} → lies_on page (frames page) frames ≡ frames
 lies_same page = grind arith
@@ -37,7 +58,7 @@ module _ (s : Inside) {p : PagesValue} (seen_as : view_of s ≡ p) (page : Guest
 
   -- the row of a page that is seen is the row of what is held of the page
   pub row_seen : {o : Option Held} → held_at page s.rows.held ≡ o → row_at page p.rows ≡ option_map (λ g. g.row) o
-  row_seen is = ap (row_at page) (sym rows_seen) ∙ row_told page _ is
+  row_seen is = grind (arith, rows_seen, row_told)
 
   -- a page that has a row among those seen is held
   pub known_there : held_at page s.rows.held ≡ None → IsKnown page p.rows → true ≡ false
@@ -68,93 +89,38 @@ module _ (s : Inside) (are : AreLawful s) (page : GuestPage) {h : Held} (found :
     pub lies : seat (of_dup s) (Some h) ≡ frame_of p.lodgings page
     lies = grind (arith, frame_by)
 
-  module _ (f : Held → Held) (g : Row → Row) (is : (x : Held) → (f x).row ≡ g x.row) (same : (r : Row) → (g r).page ≡ r.page) (rows : RowsView) (turned : rows.held ≡ change_held page f s.rows.held) where
-    -- once a page's row changed, the rows are those with the new row in place of the old one
-    pub rows_turned : rows_of rows.held ≡ change_row page (λ _. g old) (rows_of s.rows.held)
-    rows_turned = ap rows_of turned ∙ rows_changed _ f g _ is ∙ changed_to _ _ _ are.order row_there
+  -- once the row of the page no longer waits, and the page has stopped, the right pages wait
+  pub stops : (row : Row) → row.page ≡ page → waiting_state row.state ≡ false → (w : List WaitingPage)
+      → IsStopped s.knobs old s.dups.waiting w
+      → AreWaiting s.knobs (change_row page (λ _. row) (rows_of s.rows.held)) w
+  stops row at still w stopped = rw (← at) (row_stopped s.knobs _ _ are.waits _ row old (rw at row_there) still stopped)
 
-    -- a change of the row of one page alone leaves the page of every row
-    pub keeps : (r : Row) → (if same_page r.page page then g r else r).page ≡ r.page
-    keeps r = grind arith
+  module _ {p : PagesValue} (seen_as : view_of s ≡ p) (rows : RowsView) where
+    -- once a page's row changed, the page is seen with the new row, on the frame that the new row says
+    pub turned_so : (f : Held → Held) (g : Row → Row) → ((x : Held) → (f x).row ≡ g x.row)
+        → ((r : Row) → (g r).page ≡ r.page)
+        → rows.held ≡ change_held page f s.rows.held → {ds : List Dup} {later : DupsState}
+        → later ≡ record s.dups { dups = ds; waiting = later.waiting }
+        → dup_rows ds ≡ dup_rows s.dups.dups → (to : Row → Row) → g old ≡ to old
+        → AreTied (change_row page (λ _. to old) (rows_of s.rows.held)) ds
+        → AreWaiting s.knobs (change_row page (λ _. to old) (rows_of s.rows.held)) later.waiting → {frame : Option ℕ}
+        → seat (of_dup s) (Some (f h)) ≡ frame
+        → Comes s rows later (record (seen p) { rows = change_row page to p.rows; frame = lies_on page frame (frame_of p.lodgings); restless = rows.restless })
+    turned_so f g is same turned rest alike to agree tied waits lodged =
+        let before = rows_of s.rows.held in
+        let by_g = ap rows_of turned ∙ rows_changed _ f g _ is in
+        let as_old = changed_to page to _ are.order row_there in
+        let new = by_g ∙ changed_to _ g _ are.order row_there ∙ ap (λ r. change_row page (λ _. r) before) agree
+        ∙ sym as_old in
+        let lain = ap (λ held. frame_of (lodgings_of (of_dup s) held)) turned
+        ∙ lodged_changed _ f (λ x. (λ i. (is x i).page) ∙ same x.row) _ _ found
+        ∙ ap (λ o. lies_on page o (frame_of (lodgings_of (of_dup s) s.rows.held))) lodged in
+        grind (arith, comes, ordered_change)
 
-    -- once a page's row changed, the pages are lawful if the dups and waiting pages are those of the new rows
-    pub lawful_turned : {later : DupsState} → later.places ≡ s.dups.places → AreTied (change_row page (λ _. g old) (rows_of s.rows.held)) later.dups
-        → AreWaiting s.knobs (change_row page (λ _. g old) (rows_of s.rows.held)) later.waiting → AreKept s.shape s.knobs (rows_of rows.held) later s.frames.items
-    lawful_turned {later} places tied waits =
-        let changed = sym rows_turned in
-        record {
-          small = are.small;
-          order = subst InPageOrder ((changed_to _ _ _ are.order row_there) ∙ changed) (ordered_map _ _ keeps are.order);
-          tied = rw (← changed) tied;
-          places = places ∙ are.places;
-          waits = rw (← changed) waits;
-          room = are.room;
-        }
-
-    module _ {p : PagesValue} (seen_as : view_of s ≡ p) (later : DupsState) (dups : dup_rows later.dups ≡ dup_rows s.dups.dups) (next : later.next ≡ s.dups.next)
-        (to : Row → Row) (agree : g old ≡ to old) where
-      -- once a page's row changed, the page is seen with the new row, on the frame that the new row says
-      pub told : {frame : Option ℕ} → seat (of_dup s) (Some (f h)) ≡ frame
-          → seen (view_of (record s { rows = rows; dups = later })) ≡ record (seen p) { rows = change_row page to p.rows; frame = lies_on page frame (frame_of p.lodgings); restless = rows.restless }
-      told {frame} lodged =
-          let new = rows_turned ∙ ap (λ r. change_row page (λ _. r) (rows_of s.rows.held)) agree ∙ sym (changed_to _ _ _ are.order row_there) in
-          let lain =
-          ap₂ (λ ds held. frame_of (lodgings_of (lodging ds s.frames.items) held)) dups turned
-          ∙ lodged_changed _ f (λ x. (λ i. (is x i).page) ∙ same x.row) _ _ found
-          ∙ ap (λ o. lies_on page o (frame_of (lodgings_of (of_dup s) s.rows.held))) lodged in
-          (λ i. record (seen (view_of (record s { rows = rows; dups = later }))) { rows = new i; frame = lain i; dups = dups i; next = next i })
-          ∙ ap (λ (v : PagesValue). record (seen v) { rows = change_row page to v.rows; frame = lies_on page frame (frame_of v.lodgings); restless = rows.restless }) seen_as
-
-      -- where the new row of a page says the old frame, the page is seen with the new row, and no page moves
-      pub told_still : seat (of_dup s) (Some (f h)) ≡ seat (of_dup s) (Some h)
-          → seen (view_of (record s { rows = rows; dups = later })) ≡ record (seen p) { rows = change_row page to p.rows; restless = rows.restless }
-      told_still stays =
-          told (stays ∙ lies seen_as)
-          ∙ ap (λ (frames : Frames). record (seen p) { rows = change_row page to p.rows; frame = frames; restless = rows.restless }) (lies_same _)
-
-  -- the page left its dup, or stopped waiting
-  module _ {later : DupsState} (out : later ≡ record s.dups { dups = let_out old.state old.page s.dups.dups; waiting = later.waiting }) (stopped : IsStopped s.knobs old s.dups.waiting later.waiting) where
-    -- once a page was let out, the dups are as they were, but for their items
-    pub same_dups : dup_rows later.dups ≡ dup_rows s.dups.dups
-    same_dups = (λ i. dup_rows (out i).dups) ∙ rows_out _ _ _
-
-    -- once a page was let out, the number of the next dup is what it was
-    pub same_next : later.next ≡ s.dups.next
-    same_next = λ i. (out i).next
-
-    dups_out : later.dups ≡ let_out old.state page s.dups.dups
-    dups_out = grind (arith, of_page)
-
-    -- once a page was let out and its new row is neither merged nor waiting, the pages are lawful
-    pub lawful_left : (f : Held → Held) (g : Row → Row) → ((x : Held) → (f x).row ≡ g x.row) → ((r : Row) → (g r).page ≡ r.page) → (rows : RowsView) → rows.held ≡ change_held page f s.rows.held
-        → merged_state (g old).state ≡ false → waiting_state (g old).state ≡ false → AreKept s.shape s.knobs (rows_of rows.held) later s.frames.items
-    lawful_left f g is same rows turned alone still =
-        let at = same old ∙ of_page in
-        lawful_turned f g is same rows turned (λ i. (out i).places) (rw dups_out (tied_left _ _ _ are.order row_there _ _ alone are.tied))
-        (rw (← at) (row_stopped s.knobs _ _ are.waits _ _ _ (ap (λ q. row_at q (rows_of s.rows.held)) at ∙ row_there) still stopped))
-
-    module _ (rows : RowsView) (gone : rows.held ≡ without_held page s.rows.held) where
-      rows_gone : rows_of rows.held ≡ without_page page (rows_of s.rows.held)
-      rows_gone = ap rows_of gone ∙ rows_without page _
-
-      -- once a page was let out and its row is gone, the pages are lawful
-      pub lawful_gone : AreKept s.shape s.knobs (rows_of rows.held) later s.frames.items
-      lawful_gone =
-          let to = sym rows_gone in
-          record {
-            small = are.small;
-            order = rw (← to) (ordered_without _ _ are.order);
-            tied = rw (← to) (rw dups_out (tied_dropped _ _ _ are.order row_there _ are.tied));
-            places = (λ i. (out i).places) ∙ are.places;
-            waits = rw (← to) (row_dropped s.knobs _ _ are.waits _ _ _ row_there stopped);
-            room = are.room;
-          }
-
-      -- once a page was let out and its row is gone, the page is seen without a row and lies on no frame
-      pub told_gone : {p : PagesValue} → view_of s ≡ p
-          → seen (view_of (record s { rows = rows; dups = later })) ≡ record (seen p) { rows = without_page page p.rows; frame = lies_on page None (frame_of p.lodgings); restless = rows.restless }
-      told_gone seen_as =
-          let lain =
-          ap₂ (λ ds held. frame_of (lodgings_of (lodging ds s.frames.items) held)) same_dups gone ∙ lodged_gone _ _ _ in
-          (λ i. record (seen (view_of (record s { rows = rows; dups = later }))) { rows = rows_gone i; frame = lain i; dups = same_dups i; next = same_next i })
-          ∙ ap (λ (v : PagesValue). record (seen v) { rows = without_page page v.rows; frame = lies_on page None (frame_of v.lodgings); restless = rows.restless }) seen_as
+-- a page that comes to lie where it lay does not move
+pub stays_there : {s : Inside} {rows : RowsView} {later : DupsState} (p : PagesValue) (page : GuestPage) {now : List Row}
+    → Comes s rows later (record (seen p) { rows = now; frame = lies_on page (frame_of p.lodgings page) (frame_of p.lodgings); restless = rows.restless })
+    → Comes s rows later (record (seen p) { rows = now; restless = rows.restless })
+stays_there {s} {rows} {later} p page {now} =
+    subst (λ lay. Comes s rows later (record (seen p) { rows = now; frame = lay; restless = rows.restless }))
+        (lies_same page)

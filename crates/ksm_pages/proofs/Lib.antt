@@ -1,6 +1,5 @@
 pub mod Names
 pub mod Options
-pub mod Keyed
 pub mod Ranked
 pub mod Found
 pub mod Tallying

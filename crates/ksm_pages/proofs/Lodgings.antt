@@ -1,9 +1,7 @@
 -- Where the pages lie, once the row of one was changed, came or went, and the dups kept their frames.
-use Rattle.ksm_pages.proofs.Names.{All, ap, arith, change_held, change_row, find_all, find_passes, frame_of, frame_seen, GuestPage, Held, held_at, holds, if◌then◌else◌, InPageOrder, lies_on, List}
-use Rattle.ksm_pages.proofs.Names.{Lodging, lodgings_of, nat_tests, None, one_of_each_page, Option, option_and_then, option_map, refl, Row, row_at, same_page, same_page_eq, same_page_sym, Some, true}
-use Rattle.ksm_pages.proofs.Names.{without_held, ℕ, ◌∙◌, ◌≡◌, false}
-use Rattle.ksm_tree.proofs.Alike.{find_mapped, map_alike}
-use Rattle.ksm_tree.proofs.Indexed.{cond_if}
+use Rattle.ksm_pages.proofs.Names.{All, arith, change_held, change_row, false, find_all, find_passes, frame_of, frame_seen, GuestPage, Held, held_at, if◌then◌else◌, InPageOrder, lies_on, List}
+use Rattle.ksm_pages.proofs.Names.{lodgings_of, None, one_of_each_page, Option, refl, Row, row_at, rules, same_page, same_page_eq, same_page_sym, Some, true, without_held, ℕ, [], ◌∷◌, ◌≡◌}
+use Rattle.ksm_tree.proofs.Alike.{map_alike}
 use Rattle.ksm_pages.proofs.Found.{find_changed, find_changed_other, find_gone, find_gone_other}
 
 -- where what is held of a page lies: on a frame, or on none where nothing is held
@@ -11,18 +9,10 @@ abbrev pub seat : (ℕ → Option ℕ) → Option Held → Option ℕ
 seat of_dup None = None
 seat of_dup (Some h) = frame_seen of_dup h.row.state h.frame
 
-abbrev lodging_by : (ℕ → Option ℕ) → Held → Lodging
-lodging_by of_dup h = record { page = h.row.page; frame = frame_seen of_dup h.row.state h.frame }
-
 -- a page lies where what is held of it says
 pub frame_by : (of_dup : ℕ → Option ℕ) (held : List Held) (page : GuestPage) → frame_of (lodgings_of of_dup held) page ≡ seat of_dup (held_at page held)
-frame_by of_dup held page =
-    ap (option_and_then (λ (l : Lodging). l.frame)) (find_mapped _ (λ l. same_page l.page page) (holds page) _ (λ k d lt. refl))
-    ∙ go (held_at page held)
-  where
-    go : (o : Option Held) → option_and_then (λ (l : Lodging). l.frame) (option_map (lodging_by of_dup) o) ≡ seat of_dup o
-    go None = refl
-    go (Some h) = refl
+frame_by of_dup [] page = refl
+frame_by of_dup (h ∷ held) page = grind (arith, frame_by of_dup held page)
 
 -- where something else is held of one page, and of any other what was, only that page moves
 pub lodged_one : (of_dup : ℕ → Option ℕ) (page : GuestPage) (held later : List Held) {o : Option Held} → held_at page later ≡ o
@@ -31,7 +21,7 @@ pub lodged_one : (of_dup : ℕ → Option ℕ) (page : GuestPage) (held later : 
 lodged_one of_dup page held later {o} here others = λ i p. at p i
   where
     at : (p : GuestPage) → frame_of (lodgings_of of_dup later) p ≡ (if same_page p page then seat of_dup o else frame_of (lodgings_of of_dup held) p)
-    at p = grind (arith, nat_tests, cond_if, same_page_eq, frame_by, same_page_sym)
+    at p = search (rules, same_page_eq, frame_by, same_page_sym)
 
 abbrev page_of : Held → GuestPage
 page_of h = h.row.page
@@ -48,13 +38,7 @@ lodged_gone page of_dup held = lodged_one _ _ _ _ (find_gone page_of page _) (λ
 
 -- a change of the row of a page writes there what the change makes of the old row
 pub changed_to : (page : GuestPage) (g : Row → Row) (rows : List Row) {old : Row} → InPageOrder rows → row_at page rows ≡ Some old → change_row page g rows ≡ change_row page (λ _. g old) rows
-changed_to page g rows {old} rise found = map_alike _ _ _ (λ k d lt. at _ (only k d lt))
-  where
-    at_page : same_page old.page page ≡ true
-    at_page = find_passes (λ r. same_page r.page page) _ _ found
-
-    only : All (λ r. same_page r.page old.page ≡ true → r ≡ old) rows
-    only = find_all _ (λ r. All (λ s. same_page s.page r.page ≡ true → s ≡ r) rows) _ _ found (one_of_each_page _ rise)
-
-    at : (r : Row) → (same_page r.page old.page ≡ true → r ≡ old) → (if same_page r.page page then g r else r) ≡ (if same_page r.page page then g old else r)
-    at r is = grind (arith, cond_if, same_page_eq, at_page)
+changed_to page g rows {old} rise found =
+    let one = find_all _ (λ r. All (λ s. same_page s.page r.page ≡ true → s ≡ r) rows) rows old found
+    (one_of_each_page rows rise) in
+    grind (arith, map_alike, same_page_eq, find_passes)

@@ -1,11 +1,10 @@
 -- The pages once the items of a dup went to another frame.
-use Rattle.ksm_pages.proofs.Names.{[], All, All-head, All-tail, ap, arith, dup_numbered, DupRow, each_has_number, eqb-true, false, find_all, find_passes, frame_of, frame_seen, Held, held_at}
-use Rattle.ksm_pages.proofs.Names.{if◌then◌else◌, InPlaceOrder, is_item, items_on, length, List, list_any, lodging, lodgings_of, Merged, merged_into, nat_tests, None, one_of_each_place, Option}
-use Rattle.ksm_pages.proofs.Names.{option_and_then, option_map, PageState, Private, refl, rows_of, set, slice_get, Some, sym, true, Waiting, Zero, ℕ, ◌<◌, ◌==◌, ◌∙◌, ◌∷◌, ◌≡◌}
-use Rattle.ksm_tree.proofs.Indexed.{cond_if}
+use Rattle.ksm_pages.proofs.Names.{All, All-head, All-tail, arith, dup_numbered, DupRow, each_has_number, eqb-true, false, find_all, find_passes, frame_of, Held, held_at, if◌then◌else◌, InPlaceOrder}
+use Rattle.ksm_pages.proofs.Names.{is_item, items_on, length, List, list_any, lodging, lodgings_of, nat_tests, None, one_of_each_place, Option, option_map, refl, rows_of, set, Some, sym, true, ℕ, []}
+use Rattle.ksm_pages.proofs.Names.{◌<◌, ◌==◌, ◌∙◌, ◌∷◌, ◌≡◌}
 use Rattle.ksm_pages.proofs.Changing.{row_found}
 use Rattle.ksm_pages.proofs.Lodgings.{frame_by, seat}
-use Rattle.ksm_pages.proofs.Paired.{set_away, set_there}
+use Rattle.ksm_pages.proofs.Paired.{frame_away, set_there}
 
 -- a place where a dup stands is below the bound of all places
 pub any_below : (place n : ℕ) (dups : List DupRow) → All (λ d. d.place < n) dups → list_any (λ d. d.place == place) dups ≡ true → place < n
@@ -26,24 +25,14 @@ module _ (dups : List DupRow) (rise : InPlaceOrder dups) (frames : List ℕ) (pl
     moved = grind (arith, set_there)
 
     stayed : (n : ℕ) → (n == d.number) ≡ false → of_now n ≡ of n
-    stayed n other = go _ refl
-      where
-        go : (o : Option DupRow) → dup_numbered n dups ≡ o
-            → option_and_then (λ e. slice_get (set frames place frame) e.place) o ≡ option_and_then (λ e. slice_get frames e.place) o
-        go None is = refl
-        go (Some e) is = grind (arith, nat_tests, is, at, other, set_away, find_passes, find_all (λ x. x.number == n) (λ x. (x.place == d.place) ≡ true → x ≡ d) dups e is one)
+    stayed n other = frame_away frames place frame _ (λ e is.
+        grind (arith, nat_tests, other, find_passes (λ x. x.number == n) dups e is,
+        find_all _ (λ x. (x.place == d.place) ≡ true → x ≡ d) dups e is one))
 
     -- a row merged into the dup lies on the new frame, and any other where it lay
     seats : (o : Option Held) → seat of_now o ≡ (if is_item d.number (option_map (λ h. h.row) o) then Some frame else seat of o)
     seats None = refl
-    seats (Some h) = at_state h.row.state h.frame
-      where
-        at_state : (state : PageState) (own : Option ℕ)
-            → frame_seen of_now state own ≡ (if merged_into d.number state then Some frame else frame_seen of state own)
-        at_state Private own = refl
-        at_state Waiting own = refl
-        at_state Zero own = refl
-        at_state (Merged n) own = cond_if _ _ _ _ (λ same. ap of_now (eqb-true n d.number same) ∙ moved) (stayed n)
+    seats (Some h) = grind (arith, eqb-true, moved, stayed)
 
     lie_now : (held : List Held)
         → frame_of (lodgings_of of_now held) ≡ items_on d.number frame (rows_of held) (frame_of (lodgings_of of held))

@@ -4,7 +4,7 @@ pub use Rattle.ksm_base.proofs.Orders.{each_has_number, filter_none, one_of_each
 pub use Rattle.ksm_base.proofs.Pages.{before_irrefl, one_before, same_page_eq, same_page_refl, same_page_sym}
 pub use Rattle.ksm_base.proofs.RowCounts.{each_at_page, filter_all}
 pub use Rattle.ksm_base.proofs.Sums.{states-add}
-pub use Rattle.ksm_base.specs.Apply.{fresh_row, let_go, stored, unshared}
+pub use Rattle.ksm_base.specs.Apply.{fresh_row, let_go, stored}
 pub use Rattle.ksm_base.specs.Counting.{counters_from, shared_count}
 pub use Rattle.ksm_base.specs.Reading.{items_of, place_of}
 pub use Rattle.ksm_base.specs.Rows.{all_zero, change_row, change_rows, comes_before, dup_numbered, has_items, InPageOrder, InPlaceOrder, item_count, merged_into, merged_state, private_state, row_at}
@@ -18,16 +18,14 @@ pub use Rattle.ksm_base.specs.declared.row.DupRow.{DupRow}
 pub use Rattle.ksm_base.specs.declared.row.PageState.{PageState}
 pub use Rattle.ksm_base.specs.declared.row.PageState.TheVariants.{Merged, Private, Waiting, Zero}
 pub use Rattle.ksm_base.specs.declared.row.Row.{Row}
-pub use Rattle.ksm_pages.specs.Filed.{AreBegun, AreFiled, AreListed, CanMove, held_in, held_under, is_useless, IsCalm, IsInVain, IsMoved, IsRows, IsTally, IsUnder, key_in, named_of, one_if}
-pub use Rattle.ksm_pages.specs.Ahead.{EndsAt, last_of, mergeable_pages, pages_behind, pages_between}
-pub use Rattle.ksm_pages.specs.Held.{AreInOrder, change_held, forgotten, Held, held_at, held_of, holds, is_own, is_restless, IsAddedTo, Listing, mapped, number_left, on_row, own_state, pages_of}
-pub use Rattle.ksm_pages.specs.Held.{rows_of, RowsView, state_of, with_held, without_held}
+pub use Rattle.ksm_pages.specs.Filed.{AreBegun, AreFiled, AreListed, CanMove, held_in, held_under, is_useless, IsInVain, IsMoved, IsRows, IsTally, IsUnder, key_in, named_of, one_if}
+pub use Rattle.ksm_pages.specs.Ahead.{last_of, mergeable_pages, pages_behind, pages_between}
+pub use Rattle.ksm_pages.specs.Held.{AreInOrder, change_held, forgotten, Held, held_at, held_of, holds, is_own, is_restless, IsAddedTo, Listing, mapped, number_left, on_row, pages_of, rows_of}
+pub use Rattle.ksm_pages.specs.Held.{RowsView, state_of, with_held, without_held}
 pub use Rattle.ksm_pages.specs.Left.{IsLeft}
 pub use Rattle.ksm_pages.specs.Ordered.{AreAscending, is_of, key_of, marked, named_by, page_of, visited, with_named, without_named}
 pub use Rattle.ksm_pages.specs.Paged.{AreAllListed, AreKept, elsewhere, Finds, FindsAt, frame_of, frame_seen, Frames, HasRoom, is_item, is_next, IsAlone, IsHeld, IsKnown, IsVacant, items_on, lies_on}
-pub use Rattle.ksm_pages.specs.Paged.{Lodging, lodging, lodgings_of, MayPair, of_guest, page_beside, PagesValue, PagesView, paired, seen}
-pub use Rattle.ksm_pages.specs.declared.ahead.Ahead.{Ahead}
-pub use Rattle.ksm_pages.specs.declared.ahead.Ahead.TheVariants.{At, End}
+pub use Rattle.ksm_pages.specs.Paged.{lodging, lodgings_of, MayPair, of_guest, page_beside, PagesValue, PagesView, paired, seen}
 pub use Rattle.ksm_pages.specs.declared.named.Named.{Named}
 pub use Rattle.ksm_pages.specs.declared.pages.Find.{Find}
 pub use Rattle.ksm_pages.specs.declared.pages.Pages.TheInside.{Inside}
@@ -37,10 +35,10 @@ pub use Rattle.ksm_pages.specs.declared.row.Spot.{Spot}
 pub use Rattle.ksm_pages.specs.declared.tally.Tally.{Tally}
 pub use Rattle.ksm_rmap.proofs.Ordered.{point_is_count, with_found}
 pub use Rattle.ksm_rmap.proofs.Pages.{pages_ordered}
-pub use Rattle.ksm_rmap.specs.Items.{has_item, with_item, without_item}
+pub use Rattle.ksm_rmap.specs.Items.{has_item, with_item}
 pub use Rattle.ksm_tree.proofs.Bridge.{best_found, choice_alike, choice_exists, live_count, live_placed, stale_alike}
 pub use Rattle.ksm_tree.proofs.Changes.{all_rows, row_found, rows_items, rows_new, rows_out, rows_without}
-pub use Rattle.ksm_tree.proofs.Indexed.{found_passing, passing, stands_numbered}
+pub use Rattle.ksm_tree.proofs.Indexed.{found_passing, stands_numbered}
 pub use Rattle.ksm_tree.proofs.Rows.{place_kept, place_new}
 pub use Rattle.ksm_tree.proofs.Tied.{tied_counted}
 pub use Rattle.ksm_tree.proofs.Ties.{number_found, tied_absent, tied_count, tied_dropped, tied_inserted, tied_joined, tied_left, tied_made, tied_mapped, tied_pruned}
@@ -49,16 +47,16 @@ pub use Rattle.ksm_tree.specs.Bridge.{AreTied, let_out}
 pub use Rattle.ksm_tree.specs.Choosing.{best_of, found_at}
 pub use Rattle.ksm_tree.specs.Dups.{AreDups, change_items, dup_at, dup_of, DupsState, is_live, is_stale, items_in, stands_at, with_new}
 pub use Rattle.ksm_tree.specs.Numbered.{number_of}
-pub use Rattle.ksm_tree.specs.Waits.{AreWaiting, IsAdded, IsStopped, names, waiting_page, WaitingPage, waits_there}
+pub use Rattle.ksm_tree.specs.Waits.{AreWaiting, IsAdded, IsStopped, waiting_page, WaitingPage, waits_there}
 pub use Rattle.ksm_tree.specs.declared.dup.Best.{Best}
 pub use Rattle.ksm_tree.specs.declared.dup.Dup.{Dup}
 pub use Rattle.slab.proofs.SlabLemmas.{Updates-with_value}
 pub use Rattle.slab.specs.Slab.{CalledAt, get, RetainsFrom, Slab, with_value}
-pub use Rattle.std.proofs.Common.{[], add-one, ap, ap₂, arith, Bool, drop, false, get_or, inl, inr, is_some, length, length-set, List, map, MutBor, ne_eqb, None, Option, refl, rules, Some, subst, suc}
-pub use Rattle.std.proofs.Common.{sym, take, true, true≢false, zero, ℕ, ◌++◌, ◌+◌, ◌-◌, ◌<◌, ◌^◌, ◌∙◌, ◌∷◌, ◌≡◌, ◌≢◌, ◌≤◌, ◌⊎◌}
+pub use Rattle.std.proofs.Common.{add-one, ap, ap₂, arith, Bool, drop, false, get_or, inl, inr, is_some, length, length-set, List, map, MutBor, None, Option, refl, rules, Some, subst, suc, sym, take}
+pub use Rattle.std.proofs.Common.{true, true≢false, zero, ℕ, [], ◌++◌, ◌+◌, ◌-◌, ◌<◌, ◌^◌, ◌∙◌, ◌∷◌, ◌≡◌, ◌≢◌, ◌≤◌, ◌⊎◌}
 pub use Rattle.std.proofs.Math.Seq.{set-append_seam}
 pub use Rattle.std.proofs.lemmas.Bool.{and_parts, both_ways, cases_Bool, cases_lt, cond_both, eq-eqb, eqb-true, le-ltb, not-true}
-pub use Rattle.std.proofs.lemmas.Bool.Decides.{Decides-eqb, nat_tests}
+pub use Rattle.std.proofs.lemmas.Bool.Decides.{nat_tests}
 pub use Rattle.std.proofs.lemmas.Fn.{filter_same}
 pub use Rattle.std.proofs.lemmas.List.{append-nil, append_assoc, drop_all, get_or-set_same, get_or_default, length-append, length-map, length-take-le, map-append}
 pub use Rattle.std.proofs.lemmas.List.Edits.{length-insert}
@@ -67,10 +65,10 @@ pub use Rattle.std.proofs.lemmas.List.Folds.{find-append, list_any-append}
 pub use Rattle.std.proofs.lemmas.List.Kept.{AllPairs-filter}
 pub use Rattle.std.proofs.lemmas.List.Sorted.{IsPartitionPoint-from_clause}
 pub use Rattle.std.proofs.lemmas.List.Sums.{count_by-le-length, length-filter}
-pub use Rattle.std.proofs.lemmas.Map.Views.{any-filter_same, Contains-from_any}
+pub use Rattle.std.proofs.lemmas.Map.Views.{any-filter_same}
 pub use Rattle.std.proofs.lemmas.Option.{none-some, same_Some, slice_get-get_or, slice_get-map, slice_get_past, unwrap_or-slice_get}
 pub use Rattle.std.specs.List.{list_any}
 pub use Rattle.std.specs.List.Sorted.{IsPartitionedBy}
-pub use Rattle.std.specs.Option.{IfSome, MatchOption, option_and_then, option_or, unwrap_or}
-pub use Rattle.std.specs.Prelude.{All, AllPairs, bytes_eq, cond, Contains, count_by, Err, filter, find, if◌then◌else◌, insert, nat_lt, not, Ok, OnErr, OnOk, option_map, Result, set, slice_get, ⊤}
-pub use Rattle.std.specs.Prelude.{◌&&◌, ◌==◌, ◌||◌}
+pub use Rattle.std.specs.Option.{IfSome, MatchOption, option_and_then, unwrap_or}
+pub use Rattle.std.specs.Prelude.{All, AllPairs, bytes_eq, cond, count_by, Err, filter, find, if◌then◌else◌, insert, nat_lt, not, Ok, OnErr, OnOk, option_map, Result, set, slice_get, ⊤, ◌&&◌, ◌==◌}
+pub use Rattle.std.specs.Prelude.{◌||◌}

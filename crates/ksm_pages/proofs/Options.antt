@@ -1,11 +1,10 @@
 -- Options that are mapped.
-use Rattle.ksm_pages.proofs.Names.{arith, MatchOption, None, Option, option_map, refl, Some, ◌≡◌}
+use Rattle.ksm_pages.proofs.Names.{arith, MatchOption, None, Option, option_map, Some, ◌≡◌}
 use Rattle.std.specs.Option.{is_some}
 
 -- an option is full once it is mapped exactly where it was full
 pub some_mapped : {X Y : Type 0} (f : X → Y) (o : Option X) → is_some (option_map f o) ≡ is_some o
-some_mapped f None = refl
-some_mapped f (Some x) = refl
+some_mapped f o = grind arith
 
 -- an option that is empty once it is mapped was empty
 pub none_mapped : {X Y : Type 0} (f : X → Y) (o : Option X) → option_map f o ≡ None → o ≡ None
@@ -17,8 +16,7 @@ mapped_some f o none = grind arith
 
 -- two maps of an option, one after the other, are one map
 pub mapped_twice : {X Y Z : Type 0} (f : Y → Z) (g : X → Y) (o : Option X) → option_map f (option_map g o) ≡ option_map (λ x. f (g x)) o
-mapped_twice f g None = refl
-mapped_twice f g (Some x) = refl
+mapped_twice f g o = grind arith
 
 -- where an option tells whether another is full, and with what, it is full exactly where that is
 pub both_full : {X Y : Type 0} (f : X → Y) (o : Option X) (p : Option Y) → MatchOption o (p ≡ None) (λ x. p ≡ Some (f x)) → is_some o ≡ is_some p

@@ -1,8 +1,8 @@
 -- What is read of the pages: rows and dups found by their pages, places and numbers.
-use Rattle.ksm_pages.proofs.Names.{All, ap, AreDups, AreTied, AreWaiting, arith, cases_Bool, cond, Dup, dup_at, dup_numbered, dup_of, DupRow, DupsState, each_has_number, false, find, find_all}
-use Rattle.ksm_pages.proofs.Names.{found_passing, has_items, Held, inl, InPageOrder, InPlaceOrder, inr, is_live, is_some, is_stale, items_in, items_of, Knobs, length, List, list_any, live_placed}
-use Rattle.ksm_pages.proofs.Names.{lodging, lodgings_of, merged_into, None, Option, option_and_then, option_map, passing, refl, Row, row_at, rows_of, slice_get, slice_get-get_or, Some, stale_alike}
-use Rattle.ksm_pages.proofs.Names.{stands_at, stands_numbered, sym, tied_counted, true, unwrap_or-slice_get, waiting_state, WaitingPage, waits_there, ℕ, ◌&&◌, ◌<◌, ◌==◌, ◌∙◌, ◌≡◌}
+use Rattle.ksm_pages.proofs.Names.{All, ap, AreDups, AreTied, AreWaiting, arith, Dup, dup_at, dup_numbered, dup_of, DupRow, DupsState, each_has_number, false, find, find_all, found_passing, has_items}
+use Rattle.ksm_pages.proofs.Names.{Held, InPageOrder, InPlaceOrder, is_live, is_some, is_stale, items_in, items_of, Knobs, length, List, list_any, live_placed, lodging, lodgings_of, merged_into, None}
+use Rattle.ksm_pages.proofs.Names.{Option, option_and_then, option_map, refl, Row, row_at, rows_of, slice_get, slice_get-get_or, Some, stale_alike, stands_at, stands_numbered, sym, tied_counted, true}
+use Rattle.ksm_pages.proofs.Names.{unwrap_or-slice_get, waiting_state, WaitingPage, ℕ, ◌&&◌, ◌<◌, ◌==◌, ◌∙◌, ◌≡◌}
 use Rattle.std.proofs.Common.{unwrap_or}
 use Rattle.ksm_base.specs.Rows.{is_stale as is_stale_row}
 use Rattle.ksm_tree.specs.Dups.{rows_of as dup_rows}
@@ -16,18 +16,16 @@ use Rattle.ksm_pages.proofs.Options.{mapped_some, mapped_twice, some_mapped}
 
 -- where no row waits, the waiting pages are right for any knobs
 pub knobs_free : (knobs tuned : Knobs) (rows : List Row) (w : List WaitingPage) → AreWaiting knobs rows w → All (λ r. waiting_state r.state ≡ false) rows → AreWaiting tuned rows w
-knobs_free knobs tuned rows w are still t b q = are t b q ∙ go _ refl
-  where
-    go : (o : Option Row) → row_at q rows ≡ o → waits_there knobs t b o ≡ waits_there tuned t b o
-    go None found = refl
-    go (Some r) found = grind (arith, (find_all _ (λ s. waiting_state s.state ≡ false) rows r found still))
+knobs_free knobs tuned rows w are still t b q =
+    grind (arith, are t b q, λ (r : Row) (found : row_at q rows ≡ Some r). find_all _
+    (λ s. waiting_state s.state ≡ false) rows r found still)
 
 -- ---------------------------------------------------------------- dups
 
 -- the dup with a number stands at the place that the dup row with that number tells
 pub place_numbered : (number : ℕ) (dups : List Dup) → option_map (λ d. d.row.place) (dup_of number dups) ≡ option_map (λ d. d.place) (dup_numbered number (dup_rows dups))
 place_numbered number dups =
-    sym (mapped_twice (λ (d : DupRow). d.place) (λ (d : Dup). d.row) _)
+    sym (grind (arith, mapped_twice))
     ∙ ap (option_map (λ (d : DupRow). d.place)) (dup_row_found _ _ (λ d. refl) dups)
 
 -- a dup that stands at a place with a number is the one with that number
@@ -54,10 +52,7 @@ stale_at rows dups tied =
 
 -- the frame of a dup that there may be is read at its place, whether the place is taken first or not
 pub kept_at_place : (frames : List ℕ) (o : Option DupRow) → option_and_then (slice_get frames) (option_map (λ d. d.place) o) ≡ option_and_then (λ d. slice_get frames d.place) o
-kept_at_place frames None = refl
-kept_at_place frames (Some d) = refl
-
--- ---------------------------------------------------------------- the row of a page
+kept_at_place frames o = grind arith
 
 -- ---------------------------------------------------------------- the dups at their places
 
@@ -73,7 +68,7 @@ items_lodge held {s} frames rise lawful as_many {frame} is k e lt at i f lt_row 
     item_lies _ _ rise _ i f lt_row merged ∙ lodges
   where
     within : (p : ℕ) → p < length frames → slice_get frames p ≡ Some (unwrap_or (slice_get frames p) 0)
-    within p lt = slice_get-get_or _ p _ lt ∙ ap Some (sym (unwrap_or-slice_get frames p _))
+    within p lt = grind (arith, slice_get-get_or, unwrap_or-slice_get)
 
 module _ (rows : List Row) (dups : List Dup) (place : ℕ) (tied : AreTied rows dups) where
   -- no dup with items stands at a place where none is found
@@ -84,16 +79,8 @@ module _ (rows : List Row) (dups : List Dup) (place : ℕ) (tied : AreTied rows 
   pub items_there : {row : DupRow} → InPlaceOrder (dup_rows dups) → Some row ≡ option_map (λ (d : Dup). d.row) (find (λ d. stands_at place d && is_live d) dups)
       → option_map (items_of rows) (find (λ d. d.place == place && has_items rows d) (dup_rows dups)) ≡ Some (items_in (dup_at place dups))
   items_there {row} rise is =
-      ap (option_map (items_of rows)) (sym (live_placed rows _ _ (tied_counted rows _ tied)))
-      ∙ go _ refl (is ∙ ap (option_map (λ (d : Dup). d.row)) (found_passing _ _ _ rise))
-    where
-      go : (o : Option Dup) → dup_at place dups ≡ o → Some row ≡ option_map (λ (d : Dup). d.row) (passing is_live o)
-          → option_map (items_of rows) (option_map (λ (d : Dup). d.row) (find (λ d. stands_at place d && is_live d) dups)) ≡ Some (items_in (dup_at place dups))
-      go None there no_it = absurd (grind arith)
-      go (Some d) there one = elim (cases_Bool _) [
-        | inl live ↦
-            ap (λ o. option_map (items_of rows) (option_map (λ (d : Dup). d.row) o)) (found_passing _ _ _ rise ∙ ap (passing is_live) there ∙ ap (λ b. cond b (Some d) None) live)
-            ∙ ap Some (sym (find_all _ (λ e. e.items ≡ items_of rows e.row) _ d there tied))
-            ∙ ap (λ o. Some (items_in o)) (sym there)
-        | inr stale ↦ absurd (grind arith)
-      ]
+      let live = live_placed rows place _ (tied_counted rows _ tied) in
+      let one = found_passing place is_live dups rise in
+      let items = λ (d : Dup) (there : dup_at place dups ≡ Some d). find_all (stands_at place)
+      (λ e. e.items ≡ items_of rows e.row) dups d there tied in
+      grind (arith, live, one, items)

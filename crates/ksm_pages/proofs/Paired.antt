@@ -1,9 +1,9 @@
 -- The pages once two of them became the items of a new dup.
-use Rattle.ksm_pages.proofs.Names.{[], All, ap, ap₂, AreDups, AreKept, arith, at_others, cases_Bool, change_held, change_row, change_rows, dup_numbered, DupRow, DupsState, Entry, false, find}
-use Rattle.ksm_pages.proofs.Names.{find_all, frame_of, Frames, GuestPage, Held, held_at, held_of, InPageOrder, InPlaceOrder, Inside, is_live, IsStopped, length, length-set, let_out, lies_on, List}
-use Rattle.ksm_pages.proofs.Names.{lodging, lodgings_of, mapped, MatchOption, MayPair, Merged, merged_into, None, not, Option, option_and_then, option_map, ordered_change, PagesValue, paired}
-use Rattle.ksm_pages.proofs.Names.{place_kept, place_new, refl, Row, row_at, row_stopped, rows_new, rows_of, RowsView, rules, same_page, same_page_eq, seen, set, slice_get, Some, stands_at, subst}
-use Rattle.ksm_pages.proofs.Names.{suc, sym, tied_made, tree_of, true, with_dup, with_item, with_new, zero, ℕ, ◌&&◌, ◌+◌, ◌<◌, ◌==◌, ◌||◌, ◌∙◌, ◌∷◌, ◌≡◌, ◌≢◌, get_or-set_same, slice_get-get_or}
+use Rattle.ksm_pages.proofs.Names.{All, ap, ap₂, AreDups, AreKept, arith, at_others, change_held, change_row, change_rows, dup_numbered, DupRow, DupsState, Entry, false, find, find_all, frame_of}
+use Rattle.ksm_pages.proofs.Names.{Frames, get_or-set_same, GuestPage, Held, held_at, held_of, InPageOrder, InPlaceOrder, Inside, is_live, IsStopped, length, length-set, let_out, lies_on, List}
+use Rattle.ksm_pages.proofs.Names.{lodging, lodgings_of, mapped, MatchOption, MayPair, Merged, merged_into, None, Option, option_and_then, option_map, ordered_change, PagesValue, paired, place_kept}
+use Rattle.ksm_pages.proofs.Names.{place_new, refl, Row, row_at, row_stopped, rows_new, rows_of, RowsView, rules, same_page, same_page_eq, seen, set, slice_get, slice_get-get_or, Some, stands_at}
+use Rattle.ksm_pages.proofs.Names.{subst, suc, sym, tied_made, tree_of, true, with_dup, with_item, with_new, zero, ℕ, [], ◌&&◌, ◌+◌, ◌<◌, ◌==◌, ◌||◌, ◌∙◌, ◌∷◌, ◌≡◌, ◌≢◌}
 use Rattle.std.specs.Vec.{with_item as with_frame}
 use Rattle.ksm_tree.specs.Dups.{rows_of as dup_rows}
 use Rattle.ksm_tree.proofs.Alike.{map_mapped}
@@ -31,6 +31,13 @@ set_away (y ∷ ys) zero (suc j) x away = refl
 set_away (y ∷ ys) (suc i) zero x away = refl
 set_away (y ∷ ys) (suc i) (suc j) x away = set_away ys i j x (λ same. away (ap suc same))
 
+-- a dup that may be there, and stands elsewhere, keeps its frame where one is written at a place
+pub frame_away : (frames : List ℕ) (place frame : ℕ) (o : Option DupRow)
+    → ((e : DupRow) → o ≡ Some e → (e.place == place) ≡ false)
+    → option_and_then (λ d. slice_get (set frames place frame) d.place) o ≡ option_and_then (λ d. slice_get frames d.place) o
+frame_away frames place frame None away = refl
+frame_away frames place frame (Some e) away = set_away _ _ _ _ (differ_by (away e refl))
+
 module _ (dups : List DupRow) (dup : DupRow) (frames : List ℕ) (frame : ℕ) where
   abbrev of_now : ℕ → Option ℕ
   of_now = lodging (with_dup dup dups) (set frames dup.place frame)
@@ -44,22 +51,16 @@ module _ (dups : List DupRow) (dup : DupRow) (frames : List ℕ) (frame : ℕ) w
       → ((e : DupRow) → dup_numbered n dups ≡ Some e → (e.place == dup.place) ≡ false) → of_now n ≡ lodging dups frames n
   lodged_kept rise n other away =
       sym (kept_at_place (set frames dup.place frame) (dup_numbered n (with_dup dup dups)))
-      ∙ ap (option_and_then (slice_get (set frames dup.place frame))) (place_kept n dup _ rise other
-      ∙ ap (option_map (λ d. d.place)) (find_kept _ _ _ _ refl (λ e is. ap not (away e is))))
+      ∙ ap (option_and_then (slice_get (set frames dup.place frame))) (grind (arith, place_kept, find_kept))
       ∙ kept_at_place _ (dup_numbered n dups)
-      ∙ go _ away
-    where
-      go : (o : Option DupRow) → ((e : DupRow) → o ≡ Some e → (e.place == dup.place) ≡ false)
-          → option_and_then (λ d. slice_get (set frames dup.place frame) d.place) o ≡ option_and_then (λ d. slice_get frames d.place) o
-      go None apart = refl
-      go (Some e) apart = set_away _ _ _ _ (differ_by (apart e refl))
+      ∙ frame_away frames dup.place frame _ away
 
 -- ---------------------------------------------------------------- two rows
 
 -- two changes of rows of two pages are one of both
 pub both_changed : (q p : GuestPage) (f : Row → Row) → ((r : Row) → (f r).page ≡ r.page) → same_page q p ≡ false → (rows : List Row)
     → change_row p f (change_row q f rows) ≡ change_rows (λ r. same_page r.page q || same_page r.page p) f rows
-both_changed q p f same apart rows = grind (arith, map_mapped, cases_Bool, same_page_eq)
+both_changed q p f same apart rows = grind (arith, map_mapped, same_page_eq)
 
 -- two pages have rows, of which something is so
 abbrev IsOfBoth : (Row → Row → Type 0) → Option Row → Option Row → Type 0
@@ -84,7 +85,7 @@ module _ (s : Inside) {p : PagesValue} (seen_as : view_of s ≡ p) (place : ℕ)
       → MayPair (seen (view_of s)) place a.row b.row
   may_both {a} {b} found also =
       subst (λ v. MayPair (seen v) place a.row b.row) (sym seen_as)
-      (subst (IsOfBoth (MayPair (seen p) place) (Some a.row)) (row_seen s seen_as _ also) (may_first found))
+      (grind (arith, row_seen, seen_as, may_first))
 
 -- the dups with a new one of two pages
 abbrev with_pair : DupRow → GuestPage → GuestPage → DupsState → DupsState
@@ -157,7 +158,7 @@ module _ {s : Inside} {p : PagesValue} {place : ℕ} {first second : GuestPage} 
 
   -- the first of two pages that can pair lies on the frame of its own
   pub lay_first : frame_of p.lodgings first ≡ Some one.at
-  lay_first = sym (lies s are _ it.found it.seen_as) ∙ own_first
+  lay_first = grind (arith, lies, own_first)
 
   -- the second of two pages that can pair lies on the frame of its own
   pub lay_second : frame_of p.lodgings second ≡ Some other.at
@@ -211,10 +212,10 @@ module _ {s : Inside} {p : PagesValue} {place : ℕ} {first second : GuestPage} 
     half_rows = rows_changed _ _ _ _ (λ h. refl)
 
     both_rows : rows_of rows.held ≡ change_row b.row.page item (rows_of half)
-    both_rows = ap rows_of now_held ∙ rows_changed _ _ _ _ (λ h. refl)
+    both_rows = grind (arith, now_held, rows_changed)
 
     half_order : InPageOrder (rows_of half)
-    half_order = rw half_rows (ordered_change _ _ _ (λ r. refl) are.order)
+    half_order = grind (arith, half_rows, ordered_change)
 
     abbrev one_row : List Row
     one_row = change_row a.row.page (λ _. item a.row) before
@@ -252,7 +253,7 @@ module _ {s : Inside} {p : PagesValue} {place : ℕ} {first second : GuestPage} 
     lay = frame_of (lodgings_of (of_dup s) s.rows.held)
 
     lies_first : lay a.row.page ≡ Some frame
-    lies_first = frame_by _ _ a.row.page ∙ ap (seat (of_dup s)) found_first ∙ own_first
+    lies_first = grind (arith, frame_by, found_first, own_first)
 
     new_frame : of_new s.dups.next ≡ Some frame
     new_frame =
@@ -271,12 +272,9 @@ module _ {s : Inside} {p : PagesValue} {place : ℕ} {first second : GuestPage} 
 
     now_lie : frame_of (lodgings_of of_new rows.held) ≡ lies_on b.row.page (lay a.row.page) lay
     now_lie =
-        ap (λ held. frame_of (lodgings_of of_new held)) now_held
-        ∙ lodged_changed _ _ (λ h. refl) _ _ found_second
-        ∙ ap (lies_on b.row.page (of_new s.dups.next))
-        (lodged_changed _ _ (λ h. refl) _ _ found_first ∙ ap (lies_on a.row.page (of_new s.dups.next)) others)
-        ∙ ap (λ o. lies_on b.row.page o (lies_on a.row.page o lay)) (new_frame ∙ sym lies_first)
-        ∙ ap (lies_on b.row.page (lay a.row.page)) (lies_same _)
+        let two = lodged_changed b.row.page into (λ h. refl) of_new half found_second in
+        let one_moved = lodged_changed a.row.page into (λ h. refl) of_new s.rows.held found_first in
+        grind (arith, now_held, two, one_moved, others, new_frame, lies_first, lies_same a.row.page {frames = lay})
 
     told : seen (view_of (record s { rows = rows; dups = later; frames = with_frame s.frames place frame }))
         ≡ paired place a.row b.row (seen (view_of s))

@@ -1,14 +1,14 @@
 -- The pages in order as the items that are kept for them: what stands before a key, what comes behind it, and in between.
-use Rattle.ksm_pages.proofs.Names.{[], after_cursor, All, All-head, All-tail, ap, arith, Bool, comes_before, count_by, count_none, drop, false, filter, filter_all, find, get_or, GuestPage}
-use Rattle.ksm_pages.proofs.Names.{if◌then◌else◌, is_of, is_some, key_of, last_of, length, length-filter, length-map, List, map, marked, Named, named_by, nat_lt, nat_tests, None, none-some, not}
-use Rattle.ksm_pages.proofs.Names.{Option, option_map, page_of, pages_behind, pages_between, pairs_head, pairs_tail, refl, rules, same_Some, slice_get, slice_get-map, slice_get_past, Some, suc, sym}
-use Rattle.ksm_pages.proofs.Names.{take, true, visited, with_named, zero, ℕ, ◌&&◌, ◌+◌, ◌-◌, ◌<◌, ◌^◌, ◌∙◌, ◌∷◌, ◌≡◌, ◌≤◌}
+use Rattle.ksm_pages.proofs.Names.{after_cursor, All, All-head, All-tail, ap, arith, Bool, comes_before, count_by, count_none, drop, false, filter, filter_all, find, get_or, GuestPage, if◌then◌else◌}
+use Rattle.ksm_pages.proofs.Names.{is_of, is_some, key_of, last_of, length, length-filter, length-map, List, map, marked, Named, named_by, nat_lt, nat_tests, None, not, Option, option_map, page_of}
+use Rattle.ksm_pages.proofs.Names.{pages_behind, pages_between, pairs_head, pairs_tail, refl, rules, slice_get, slice_get-get_or, slice_get-map, slice_get_past, Some, suc, sym, take, true, visited}
+use Rattle.ksm_pages.proofs.Names.{with_named, zero, ℕ, [], ◌&&◌, ◌+◌, ◌-◌, ◌<◌, ◌^◌, ◌∙◌, ◌∷◌, ◌≡◌, ◌≤◌}
 use Rattle.std.proofs.lemmas.List.{drop-map, length-drop, length-take-le, nil_from_length, take-map}
 use Rattle.std.proofs.lemmas.List.Kept.{AllPairs-filter}
 use Rattle.ksm_base.proofs.Edits.{count_more}
-use Rattle.ksm_tree.proofs.Alike.{filter_mapped, find_mapped, map_mapped, pairs_mapped}
+use Rattle.ksm_tree.proofs.Alike.{filter_mapped, find_mapped, pairs_mapped}
 use Rattle.ksm_pages.specs.Ordered.{AreAscending as AreInOrder}
-use Rattle.ksm_pages.proofs.Keyed.{length_with}
+use Rattle.ksm_pages.proofs.Found.{length_with}
 use Rattle.ksm_order.specs.declared.item.Item.{Item}
 use Rattle.ksm_order.specs.Listed.{AreAscending, is_at, is_from, key_at, marked as kept_marked, up_to, with_item, with_mark, without}
 use Rattle.ksm_order.proofs.Parts.{up_to_few}
@@ -37,15 +37,8 @@ found_by page few items = grind (arith, find_mapped, is_its)
 
 pub marked_by : (page : GuestPage) → page.page < 2 ^ 32 → (mark : Bool) → (items : List Item)
     → marked page mark (map named_by items) ≡ map named_by (with_mark (key_of page) mark items)
-marked_by page few mark items =
-    let change : Item → Item = λ x. if is_at (key_of page) x then record x { marked = mark } else x in
-    map_mapped _ _ (λ x. named_by (change x)) _
-    (λ k d lt. ap (λ b. if b then record (named_by (get_or items k d)) { mergeable = mark } else named_by (get_or items k d)) (is_its _ few (get_or items k d)) ∙ chosen _ _ _)
-    ∙ sym (map_mapped _ _ _ _ (λ k d lt. refl))
-  where
-    chosen : (mark : Bool) (x : Item) (b : Bool) → (if b then record (named_by x) { mergeable = mark } else named_by x) ≡ named_by (if b then record x { marked = mark } else x)
-    chosen mark x true = refl
-    chosen mark x false = refl
+marked_by page few mark [] = refl
+marked_by page few mark (x ∷ items) = grind (arith, is_its page few x, marked_by page few mark items)
 
 -- ---------------------------------------------------------------- those that a scan visits
 
@@ -54,7 +47,8 @@ abbrev pub page_by : Item → GuestPage
 page_by x = page_of x.key
 
 pub visited_by : (items : List Item) → visited (map named_by items) ≡ map page_by (kept_marked items)
-visited_by items = ap (map (λ (n : Named). n.page)) (filter_mapped named_by _ (λ x. x.marked) items (λ k d lt. refl)) ∙ map_mapped _ _ _ _ (λ k d lt. refl)
+visited_by [] = refl
+visited_by (x ∷ items) = grind (arith, visited_by items)
 
 -- one more is counted where it passes
 count_suc : (p : Item → Bool) (x : Item) (xs : List Item)
@@ -86,17 +80,10 @@ module _ (key : ℕ) where
   kept_from (x ∷ xs) rise =
       rw (count_suc below x xs) (grind (arith, nat_tests, kept_from xs (pairs_tail Less x xs rise), none_below x xs rise))
 
-  abbrev nothing : List Item
-  nothing = []
-
-  take_none : (n : ℕ) → nothing ≡ take n nothing
-  take_none zero = refl
-  take_none (suc n) = refl
-
   -- also of those behind the first so many
   pub kept_between : (n : ℕ) (xs : List Item) → AreAscending xs → filter below (drop n xs) ≡ take (count_by below xs - n) (drop n xs)
-  kept_between zero xs rise = kept_first _ rise ∙ ap (λ m. take m xs) (omega arith)
-  kept_between (suc n) [] rise = take_none _
+  kept_between zero xs rise = grind (arith, kept_first)
+  kept_between (suc n) [] rise = grind arith
   kept_between (suc n) (x ∷ xs) rise =
       grind (arith, nat_tests, kept_between n xs (pairs_tail Less x xs rise), count_more below x xs, none_below x xs rise)
 
@@ -114,26 +101,18 @@ longer_by n x items rise absent same =
 
 -- there is a key at each place of a list
 pub some_at : (xs : List Item) (place : ℕ) → place < length xs → key_at xs place ≡ None → ⊥
-some_at [] place lt none = absurd (omega arith)
-some_at (x ∷ xs) zero lt none = none-some _ (sym none)
-some_at (x ∷ xs) (suc n) lt none = some_at xs n (omega arith) none
+some_at xs place lt none = grind (arith, slice_get-get_or xs place (record { key = 0; value = 0; marked = false }) lt)
 
--- what stands at a place of a rest, and of a beginning
+-- what stands at a place of a rest
 pub get_dropped : {X : Type 0} (n k : ℕ) (xs : List X) → slice_get (drop n xs) k ≡ slice_get xs (n + k)
-get_dropped zero k xs = ap (slice_get xs) (omega arith)
-get_dropped (suc n) k [] = slice_get_past [] k (omega arith) ∙ sym (slice_get_past [] (suc n + k) (omega arith))
+get_dropped zero k xs = grind arith
+get_dropped (suc n) k [] = grind (arith, slice_get_past)
 get_dropped (suc n) k (x ∷ xs) = grind (arith, get_dropped n k xs)
-
-pub get_taken : {X : Type 0} (m k : ℕ) (xs : List X) → k < m → slice_get (take m xs) k ≡ slice_get xs k
-get_taken zero k xs lt = absurd (omega arith)
-get_taken (suc m) k [] lt = refl
-get_taken (suc m) zero (x ∷ xs) lt = refl
-get_taken (suc m) (suc k) (x ∷ xs) lt = get_taken m k xs (omega arith)
 
 -- a key at a place is that of one of the items
 pub small_at : (P : ℕ → Type 0) (xs : List Item) (place : ℕ) {key : ℕ} → All (λ x. P x.key) xs → key_at xs place ≡ Some key → P key
 small_at P [] place all is = absurd (grind arith)
-small_at P (x ∷ xs) zero all is = rw (← same_Some _ _ is) (All-head (λ y. P y.key) x _ all)
+small_at P (x ∷ xs) zero all is = grind (arith, All-head (λ y. P y.key) x xs all)
 small_at P (x ∷ xs) (suc n) all is = small_at P xs n (All-tail (λ y. P y.key) x _ all) is
 
 -- without an item that is there, the list has one fewer
@@ -155,18 +134,13 @@ last_of_take (p ∷ pages) (suc n) cursor is = last_of_take pages n (Some p) is
 -- the page at a place of those that a scan visits
 module _ (items : List Item) {now : List Named} (seen_as : map named_by items ≡ now) where
   pub visited_is : visited now ≡ map page_by (kept_marked items)
-  visited_is = ap visited (sym seen_as) ∙ visited_by items
+  visited_is = grind (arith, visited_by)
 
   pub visited_many : length (visited now) ≡ count_by (λ x. x.marked) items
-  visited_many = ap length visited_is ∙ length-map (kept_marked items) page_by ∙ length-filter (λ (x : Item). x.marked) items
+  visited_many = grind (arith, visited_is, length-map, length-filter)
 
   pub visited_at : (place : ℕ) {key : ℕ} → key_at (kept_marked items) place ≡ Some key → slice_get (visited now) place ≡ Some (page_of key)
-  visited_at place {key} is =
-      ap (λ pages. slice_get pages place) visited_is ∙ slice_get-map page_by (kept_marked items) place ∙ at _ is
-    where
-      at : (o : Option Item) → option_map (λ x. x.key) o ≡ Some key → option_map page_by o ≡ Some (page_of key)
-      at None none = cc
-      at (Some x) same = ap (option_map page_of) same
+  visited_at place {key} is = grind (arith, visited_is, slice_get-map)
 
   -- where so many visited pages do not come behind a cursor, those behind it are the others
   pub behind_is : (cursor : Option GuestPage) (key : ℕ) → ((n : ℕ) → after_cursor cursor (page_of n) ≡ not (nat_lt n key)) → AreAscending items
@@ -176,7 +150,7 @@ module _ (items : List Item) {now : List Named} (seen_as : map named_by items �
       rw visited_is
       (filter_mapped page_by (after_cursor cursor) (is_from key) kept (λ k d lt. from (get_or kept k d).key)
       ∙ ap (map page_by) (kept_from key kept (AllPairs-filter Less _ _ rise) ∙ ap (λ n. drop n kept) (sym (counted_marked key items)))
-      ∙ sym (drop-map page_by (up_to key items) kept))
+      ∙ sym (grind (arith, drop-map)))
 
   -- those behind a cursor and before a page, where it is known how many visited ones come before each
   module _ (cursor : Option GuestPage) (page : GuestPage) (few : page.page < 2 ^ 32) (rise : AreAscending items)
@@ -187,7 +161,7 @@ module _ (items : List Item) {now : List Named} (seen_as : map named_by items �
         let whole = ap (drop passed) visited_is ∙ drop-map page_by passed kept in
         let count = many ∙ counted_marked (key_of page) items in
         ap (filter (λ p. comes_before p page)) (ahead ∙ whole)
-        ∙ filter_mapped page_by (λ p. comes_before p page) (below (key_of page)) _ (λ k d lt. before_its _ few (get_or (drop passed kept) k d))
+        ∙ filter_mapped page_by (λ p. comes_before p page) (below (key_of page)) _ (λ k d lt. grind (arith, before_its))
         ∙ ap (map page_by) (kept_between (key_of page) _ _ (AllPairs-filter Less _ _ rise) ∙ ap (λ n. take (n - passed) (drop passed kept)) (sym count))
         ∙ sym (take-map _ _ _) ∙ ap (take (before - passed)) (sym whole)
 
@@ -205,4 +179,4 @@ module _ (items : List Item) {now : List Named} (seen_as : map named_by items �
         let m = before - passed - 1 in
         let more : before - passed ≡ suc m = omega arith in
         ap (last_of cursor) (passed_is ∙ ap (λ n. take n (drop passed (visited now))) more)
-        ∙ last_of_take _ m cursor (get_dropped passed m (visited now) ∙ ap (slice_get (visited now)) (omega arith) ∙ visited_at _ is)
+        ∙ last_of_take _ m cursor (grind (arith, get_dropped, visited_at))

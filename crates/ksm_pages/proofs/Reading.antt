@@ -1,6 +1,6 @@
 -- What is read of the rows along their order.
-use Rattle.ksm_pages.proofs.Names.{All, All-filter, ap, AreAscending, AreFiled, Bool, count_by, Entry, find, find_all, get, GuestPage, held_in, held_under, List, map, mergeable_pages, Named, None}
-use Rattle.ksm_pages.proofs.Names.{Option, option_map, refl, Row, rows_of, Slab, Some, visited, ℕ, ◌-◌, ◌∙◌, ◌≡◌}
+use Rattle.ksm_pages.proofs.Names.{All, All-filter, ap, AreAscending, AreFiled, arith, Bool, count_by, Entry, find, find_all, get, GuestPage, held_in, held_under, List, map, mergeable_pages, Named}
+use Rattle.ksm_pages.proofs.Names.{None, Option, option_map, refl, Row, rows_of, Slab, Some, visited, ℕ, ◌∙◌, ◌≡◌}
 use Rattle.ksm_tree.proofs.Alike.{count_mapped, filter_mapped, find_mapped, map_mapped}
 use Rattle.ksm_pages.proofs.Filing.{all_stand, flag_under, page_under}
 
@@ -12,10 +12,10 @@ module _ (pass : ℕ) (slab : Slab Entry) (order : List Named) (rise : AreAscend
   row_by n = (held_under pass (get slab n.key)).row
 
   all_pages : All (λ n. (row_by n).page ≡ n.page) order
-  all_pages k d lt = page_under _ slab (all_stand slab _ rise filed k d lt)
+  all_pages k d lt = grind (arith, page_under, all_stand)
 
   all_flags : All (λ n. (row_by n).mergeable ≡ n.mergeable) order
-  all_flags k d lt = flag_under _ slab (all_stand slab _ rise filed k d lt)
+  all_flags k d lt = grind (arith, flag_under, all_stand)
 
   -- the rows, one for each page of the order
   rows_by : rows_of (held_in pass slab order) ≡ map row_by order
@@ -25,7 +25,7 @@ module _ (pass : ℕ) (slab : Slab Entry) (order : List Named) (rise : AreAscend
   pub page_found : (test : GuestPage → Bool) → option_map (λ r. r.page) (find (λ r. test r.page) (rows_of (held_in pass slab order))) ≡ option_map page_of (find (λ n. test n.page) order)
   page_found test =
       ap (λ rows. option_map (λ (r : Row). r.page) (find (λ r. test r.page) rows)) rows_by
-      ∙ ap (option_map (λ (r : Row). r.page)) (find_mapped _ _ _ _ (λ k d lt. ap test (all_pages k d lt)))
+      ∙ ap (option_map (λ (r : Row). r.page)) (grind (arith, find_mapped, all_pages))
       ∙ go _ refl
     where
       go : (o : Option Named) → find (λ n. test n.page) order ≡ o → option_map (λ (r : Row). r.page) (option_map row_by o) ≡ option_map page_of o
@@ -34,7 +34,7 @@ module _ (pass : ℕ) (slab : Slab Entry) (order : List Named) (rise : AreAscend
 
   -- as many rows are mergeable as pages are named so in the order
   pub flags_counted : count_by (λ r. r.mergeable) (rows_of (held_in pass slab order)) ≡ count_by (λ n. n.mergeable) order
-  flags_counted = ap (count_by (λ r. r.mergeable)) rows_by ∙ count_mapped _ _ _ _ all_flags
+  flags_counted = grind (arith, rows_by, count_mapped, all_flags)
 
   -- the pages that a scan visits are the same in the rows and in the order
   pub pages_by : mergeable_pages (rows_of (held_in pass slab order)) ≡ visited order

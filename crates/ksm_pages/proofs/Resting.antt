@@ -1,12 +1,5 @@
 -- Rows that wait no more, and the row of a page that has one.
-use Rattle.ksm_pages.proofs.Names.{arith, bytes_eq, false, frame_seen, let_go, List, Merged, Option, PageState, Private, refl, Row, settled, settled_state, shared_state, stored, Waiting}
-use Rattle.ksm_pages.proofs.Names.{waiting_state, Zero, ℕ, ◌&&◌, ◌≡◌}
-
--- two readings of a state, the first of it settled, agree where they do at each kind of state
-pub settled_by : {X : Type 0} (p q : PageState → X) → p Private ≡ q Private → p Private ≡ q Waiting → ((n : ℕ) → p (Merged n) ≡ q (Merged n))
-    → p Zero ≡ q Zero
-    → (s : PageState) → p (settled_state s) ≡ q s
-settled_by p q own waits merged zero_too s = grind arith
+use Rattle.ksm_pages.proofs.Names.{arith, bytes_eq, false, frame_seen, let_go, List, Option, PageState, Private, Row, settled, settled_state, shared_state, stored, waiting_state, ℕ, ◌&&◌, ◌≡◌}
 
 -- a row with a frame of its own is Private once it is settled
 pub rests : (state : PageState) → shared_state state ≡ false → settled_state state ≡ Private
@@ -26,11 +19,11 @@ went r alone = grind arith
 
 -- a state that is settled twice is the state settled once
 pub settled_again : (state : PageState) → settled_state (settled_state state) ≡ settled_state state
-settled_again = settled_by settled_state _ refl refl (λ n. refl) refl
+settled_again state = grind arith
 
 -- a settled state is not Waiting
 pub settled_still : (state : PageState) → waiting_state (settled_state state) ≡ false
-settled_still = settled_by waiting_state _ refl refl (λ n. refl) refl
+settled_still state = grind arith
 
 -- a page in two states that settle to one lies on the same frame
 pub lies_alike : (of_dup : ℕ → Option ℕ) (a b : PageState) (own : Option ℕ) → settled_state a ≡ settled_state b

@@ -1,8 +1,8 @@
 -- Spots in the order of their pages: the pages of them, once one was put in, written or taken away.
-use Rattle.ksm_pages.proofs.Names.{[], add-one, ap, append-nil, append_assoc, ap₂, AreInOrder, arith, Bool, cases_Bool, comes_before, drop, drop_all, Entry, false, filter, find, find_filter}
-use Rattle.ksm_pages.proofs.Names.{find_passes, get, get_or, get_or_default, GuestPage, has_item, if◌then◌else◌, insert, is_some, is_useless, IsInVain, length, length-append, length-map}
-use Rattle.ksm_pages.proofs.Names.{length-take-le, List, Listing, map, Named, None, not, not-true, Option, pages_of, pages_ordered, point_is_count, refl, rules, same_page, same_page_eq, set, Slab}
-use Rattle.ksm_pages.proofs.Names.{Some, Spot, sym, take, true, true≢false, ℕ, ◌++◌, ◌+◌, ◌-◌, ◌<◌, ◌∙◌, ◌∷◌, ◌≡◌, ◌≤◌, ◌⊎◌}
+use Rattle.ksm_pages.proofs.Names.{add-one, ap, append-nil, append_assoc, ap₂, AreInOrder, arith, Bool, comes_before, drop, drop_all, Entry, false, filter, find, find_filter, find_passes, get, get_or}
+use Rattle.ksm_pages.proofs.Names.{get_or_default, GuestPage, has_item, if◌then◌else◌, insert, is_some, is_useless, IsInVain, length, length-append, length-map, length-take-le, List, Listing, map}
+use Rattle.ksm_pages.proofs.Names.{Named, None, not, not-true, Option, pages_of, pages_ordered, point_is_count, refl, rules, same_page, same_page_eq, set, Slab, Some, Spot, sym, take, true}
+use Rattle.ksm_pages.proofs.Names.{true≢false, ℕ, [], ◌++◌, ◌+◌, ◌-◌, ◌<◌, ◌∙◌, ◌∷◌, ◌≡◌, ◌≤◌, ◌⊎◌}
 use Rattle.std.specs.List.{copy_within}
 use Rattle.std.specs.Option.{is_none}
 use Rattle.std.proofs.Math.Seq.{take-append_seam, take-suc}
@@ -23,11 +23,11 @@ pages_rise spots rise = pairs_mapped _ (λ p q. comes_before p q ≡ true) (λ s
 
 -- the pages of spots that pass a test are the pages of those spots whose page passes
 pub pages_kept : (test : GuestPage → Bool) (spots : List Spot) → filter test (pages_of spots) ≡ pages_of (filter (λ s. test s.page) spots)
-pages_kept test spots = filter_mapped _ test (λ s. test s.page) _ (λ k d lt. refl)
+pages_kept test spots = grind (arith, filter_mapped)
 
 -- as many spots have a page that passes a test as their pages pass
 pub many_kept : (test : GuestPage → Bool) (spots : List Spot) → length (filter (λ s. test s.page) spots) ≡ length (filter test (pages_of spots))
-many_kept test spots = sym (length-map (filter (λ (s : Spot). test s.page) spots) page_of) ∙ ap length (sym (pages_kept test _))
+many_kept test spots = grind (arith, length-map, pages_kept)
 
 -- a page is among the pages of spots exactly where a search finds a spot of that page
 pub listed_found : (page : GuestPage) (spots : List Spot) → has_item page (pages_of spots) ≡ is_some (find (λ s. same_page s.page page) spots)
@@ -61,7 +61,7 @@ module _ (spot : Spot) (spots : List Spot) (rise : AreInOrder spots) where
 
 no_value : {X : Type 0} (found : Option X) → is_none found ≡ true → found ≡ None
 no_value None is = refl
-no_value (Some x) is = absurd (true≢false (sym is))
+no_value (Some x) is = grind arith
 
 -- a page that is swept out of the list is there in vain
 vain_of : {entries : Slab Entry} (order : List Named) (s : Spot) → is_useless order s (get entries s.key) ≡ true → IsInVain entries order s.page
@@ -70,8 +70,7 @@ vain_of {entries} order s useless = search (rules, no_value, same_page_eq, not-t
 -- a page of the spots stays once useless spots are swept out, or is there in vain
 pub swept : {entries : Slab Entry} (order : List Named) (spots : List Spot) {page : GuestPage} → has_item page (pages_of spots) ≡ true
     → (has_item page (pages_of (filter (λ s. not (is_useless order s (get entries s.key))) spots)) ≡ true) ⊎ IsInVain entries order page
-swept {entries} order spots {page} has =
-    search (rules, listed_found, cases_Bool, same_page_eq, find_passes, vain_of, find_filter)
+swept {entries} order spots {page} has = grind (arith, listed_found, same_page_eq, find_passes, vain_of, find_filter)
 
 -- one more behind a list, the elements from an index on moved up by one, and that one written there: it is put in
 pub moved_up : {X : Type 0} (xs : List X) (at : ℕ) (x : X) → at ≤ length xs → set (copy_within (xs ++ x ∷ []) at (length xs) (at + 1)) at x ≡ insert xs at x

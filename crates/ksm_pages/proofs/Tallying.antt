@@ -1,6 +1,6 @@
 -- The tally of rows once one came, went or changed.
-use Rattle.ksm_pages.proofs.Names.{arith, Bool, CanMove, change_row, count_by, count_by-le-length, GuestPage, if◌then◌else◌, InPageOrder, IsMoved, IsTally, length, length-map, List, None, one_if}
-use Rattle.ksm_pages.proofs.Names.{Private, Row, row_at, rules, same_page, Some, Tally, with_row, without_page, ℕ, ◌+◌, ◌<◌, ◌^◌, ◌≡◌, ◌≤◌}
+use Rattle.ksm_pages.proofs.Names.{arith, Bool, CanMove, change_row, count_by, count_by-le-length, GuestPage, InPageOrder, IsMoved, IsTally, length, length-map, List, None, one_if, Private, Row}
+use Rattle.ksm_pages.proofs.Names.{row_at, rules, Some, Tally, with_row, without_page, ℕ, ◌+◌, ◌<◌, ◌^◌, ◌≡◌, ◌≤◌}
 use Rattle.ksm_base.proofs.RowCounts.{count_change_row, count_with_row, count_without_page}
 
 module _ {rows : List Row} (rise : InPageOrder rows) (page : GuestPage) {old : Row} (found : row_at page rows ≡ Some old) {tally : Tally} (later : Tally) (are : IsTally rows tally) where
@@ -13,7 +13,7 @@ module _ {rows : List Row} (rise : InPageOrder rows) (page : GuestPage) {old : R
     counts p = count_change_row _ _ _ _ _ rise found
 
     most : (p : Row → Bool) → count_by p changed ≤ length rows
-    most p = omega (arith, count_by-le-length p changed, length-map rows (λ r. if same_page r.page page then new else r))
+    most p = grind (arith, count_by-le-length, length-map)
 
     room : length rows < 2 ^ 64 → (p : Row → Bool) {n : ℕ} → n ≡ count_by p rows → n + one_if (p new) < 2 ^ 64 + one_if (p old)
     room few p is = omega (arith, counts p, most p, is, few)
@@ -23,17 +23,10 @@ module _ {rows : List Row} (rise : InPageOrder rows) (page : GuestPage) {old : R
 
     -- a tally of the rows can take one row from its state to another
     pub can_move : length rows < 2 ^ 64 → CanMove old.state new.state tally
-    can_move few = record {
-      merged = has _ are.merged;
-      merged_room = room few _ are.merged;
-      waiting = has _ are.waiting;
-      waiting_room = room few _ are.waiting;
-      zero = has _ are.zero;
-      zero_room = room few _ are.zero;
-    }
+    can_move few = search (rules, has, room few)
 
     meets : (p : Row → Bool) {n m : ℕ} → n ≡ count_by p rows → m + one_if (p old) ≡ n + one_if (p new) → m ≡ count_by p changed
-    meets p is moved = omega (arith, counts p, is, moved)
+    meets p is moved = grind (arith, counts)
 
     -- a tally moved from a row's old state to its new one counts the rows with that row changed
     pub tally_changed : IsMoved old.state new.state tally later → IsTally changed later

@@ -1,19 +1,14 @@
 -- The pages once a call changed the row of one page: they are lawful, and what is seen of them changed so.
-use Rattle.ksm_pages.proofs.Names.{[], All-map, ap, AreKept, AreTied, AreWaiting, arith, at_mapped, change_held, change_row, cond_both, DupsState, false, find_passes, frame_of, frame_seen, get_or}
-use Rattle.ksm_pages.proofs.Names.{GuestPage, Held, held_at, holds, if◌then◌else◌, Inside, IsAlone, IsKnown, IsLeft, lies_on, List, Listing, lodging, lodgings_of, map, mapped, MatchOption}
-use Rattle.ksm_pages.proofs.Names.{merged_state, None, none_waiting, on_row, Option, option_map, ordered_map, PageState, PagesValue, PagesView, Private, refl, Row, row_at, rows_of, RowsView, rules}
-use Rattle.ksm_pages.proofs.Names.{same_page, same_page_eq, seen, settled_state, shared_state, Some, subst, sym, tied_mapped, true≢false, waiting_state, waits_there, without_held, without_page, ℕ, ⊤}
-use Rattle.ksm_pages.proofs.Names.{◌∙◌, ◌≡◌}
+use Rattle.ksm_pages.proofs.Names.{All-map, ap, AreWaiting, arith, at_mapped, change_held, change_row, cond_both, DupsState, false, find_passes, frame_of, frame_seen, get_or, GuestPage, Held, held_at}
+use Rattle.ksm_pages.proofs.Names.{if◌then◌else◌, Inside, IsAlone, IsKnown, IsLeft, let_out, lies_on, List, lodgings_of, map, mapped, MatchOption, merged_state, None, none_waiting, on_row, Option}
+use Rattle.ksm_pages.proofs.Names.{option_map, ordered_map, ordered_without, PageState, PagesValue, Private, refl, Row, row_at, row_dropped, rows_of, rows_out, RowsView, same_page, same_page_eq, seen}
+use Rattle.ksm_pages.proofs.Names.{settled_state, shared_state, Some, sym, tied_dropped, tied_left, tied_mapped, waiting_state, waits_there, without_held, without_page, ℕ, [], ⊤, ◌∙◌, ◌≡◌}
 use Rattle.std.proofs.lemmas.Bool.{some_since}
-use Rattle.ksm_tree.specs.Dups.{rows_of as dup_rows}
 use Rattle.ksm_tree.proofs.Alike.{map_alike, map_mapped}
-use Rattle.ksm_pages.proofs.Leaving.{AreLawful, alone_found, known_there, lawful_gone, lawful_left, lies, of_dup, same_dups, told, told_gone, told_still, view_of}
-use Rattle.ksm_pages.proofs.Resting.{lies_alike, rests, settled_again, settled_still}
-
--- the pages with other rows and dups are lawful, and are seen as the new view says
-pub record Comes (s : Inside) (rows : RowsView) (later : DupsState) (new : PagesView) : Type 0 where
-  pub lawful : AreKept s.shape s.knobs (rows_of rows.held) later s.frames.items
-  pub told_as : seen (view_of (record s { rows = rows; dups = later })) ≡ new
+use Rattle.ksm_pages.proofs.Changing.{rows_mapped, rows_without}
+use Rattle.ksm_pages.proofs.Lodgings.{lodged_gone, seat}
+use Rattle.ksm_pages.proofs.Leaving.{alone_found, AreLawful, Comes, comes, known_there, lies, of_dup, of_page, row_there, stays_there, stops, turned_so, view_of}
+use Rattle.ksm_pages.proofs.Resting.{lies_alike, settled_again, settled_still}
 
 -- equal values of the rows hold the same
 pub held_as : {old new : RowsView} → new ≡ old → new.held ≡ old.held
@@ -49,68 +44,75 @@ module _ {s : Inside} {p : PagesValue} {page : GuestPage} {later : DupsState} {f
   -- a page with a frame of its own, which was let out, has left
   pub alone_left : AreLawful s → view_of s ≡ p → IsAlone page p.rows
       → MatchOption (held_at page s.rows.held) ⊤ (IsLeft s.knobs frames s.dups later lone) → HasLeft s p page later frames lone
-  alone_left are seen_as alone = known_left are seen_as (some_since _ _ _ alone true≢false)
+  alone_left are seen_as alone = grind (arith, known_left, some_since)
 
   module _ (it : HasLeft s p page later frames lone) where
     -- a page that has left lay on the frame that is told
     pub lay : frames ≡ s.frames.items → lone ≡ frame_of p.lodgings page
     lay same = grind (arith, lies)
 
-    dups_same : dup_rows later.dups ≡ dup_rows s.dups.dups
-    dups_same = search (rules, same_dups)
+    at : it.held.row.page ≡ page
+    at = of_page s it.lawful page it.found
 
-    next_same : later.next ≡ s.dups.next
-    next_same = grind arith
+    there : row_at page (rows_of s.rows.held) ≡ Some it.held.row
+    there = row_there s it.lawful page it.found
 
-    module _ (rows : RowsView) {restless : Listing} (listed : rows.restless ≡ restless) where
+    out : later ≡ record s.dups { dups = let_out it.held.row.state page s.dups.dups; waiting = later.waiting }
+    out = grind (arith, at, it.left.dups)
+
+    module _ (rows : RowsView) where
+      left_so : (f : Held → Held) (g : Row → Row) → ((x : Held) → (f x).row ≡ g x.row)
+          → ((r : Row) → (g r).page ≡ r.page)
+          → rows.held ≡ change_held page f s.rows.held → (to : Row → Row) → g it.held.row ≡ to it.held.row
+          → merged_state (to it.held.row).state ≡ false
+          → waiting_state (to it.held.row).state ≡ false → {frame : Option ℕ}
+          → seat (of_dup s) (Some (f it.held)) ≡ frame
+          → Comes s rows later (record (seen p) { rows = change_row page to p.rows; frame = lies_on page frame (frame_of p.lodgings); restless = rows.restless })
+      left_so f g is same turned to agree apart still =
+          turned_so s it.lawful page it.found it.seen_as rows f g is same turned out (rows_out _ _ _) to agree
+          (tied_left _ _ _ it.lawful.order there _ _ apart it.lawful.tied)
+          (stops s it.lawful page it.found _ ((λ i. (sym agree i).page) ∙ same it.held.row ∙ at) still _
+          it.left.waiting)
+
       -- a page that has left comes to another state and lies where that state and its frame say
       pub moved : (state : PageState) (own : Option ℕ) → merged_state state ≡ false → waiting_state state ≡ false
           → rows.held ≡ change_held page (mapped state own) s.rows.held
           → Comes s rows later (record (seen p) {
             rows = change_row page (λ r. record r { state = state }) p.rows;
             frame = lies_on page (frame_seen (of_dup s) state own) (frame_of p.lodgings);
-            restless = restless;
+            restless = rows.restless;
           })
       moved state own apart still turned =
-          let to = λ (r : Row). record r { state = state } in
-          record {
-            lawful = lawful_left s it.lawful _ it.found it.left.dups it.left.waiting _ to (λ x. refl) (λ r. refl) rows turned apart still;
-            told_as =
-                told s it.lawful _ it.found _ to (λ x. refl) (λ r. refl) rows turned it.seen_as later dups_same next_same _ refl refl
-                ∙ ap (λ (l : Listing). record (seen p) {
-                  rows = change_row page to p.rows;
-                  frame = lies_on page (frame_seen (of_dup s) state own) (frame_of p.lodgings);
-                  restless = l;
-                }) listed;
-          }
+          left_so (mapped state own) (λ r. record r { state = state }) (λ x. refl) (λ r. refl) turned _ refl apart
+              still refl
 
       -- a page that has left comes to be Private, on the frame of its own that it had
       pub rested : (g to : Row → Row) → ((r : Row) → (g r).page ≡ r.page) → ((r : Row) → (to r).state ≡ Private) → IsAlone page p.rows
           → (shared_state it.held.row.state ≡ false → g it.held.row ≡ to it.held.row)
           → rows.held ≡ change_held page (on_row g) s.rows.held
-          → Comes s rows later (record (seen p) { rows = change_row page to p.rows; restless = restless })
+          → Comes s rows later (record (seen p) { rows = change_row page to p.rows; restless = rows.restless })
       rested g to same rest alone_seen agree turned =
           let alone = alone_found s it.seen_as _ it.found alone_seen in
-          let private = (λ i. (agree alone i).state) ∙ rest it.held.row in
-          let stays = ap (λ st. frame_seen (of_dup s) st it.held.frame) (private ∙ sym (rests _ alone))
-          ∙ (grind arith) in
-          record {
-            lawful = lawful_left s it.lawful _ it.found it.left.dups it.left.waiting _ g
-                (λ x. refl) same rows turned (ap merged_state private) (ap waiting_state private);
-            told_as =
-                told_still s it.lawful _ it.found _ g
-                (λ x. refl) same rows turned it.seen_as later dups_same next_same _ (agree alone) stays
-                ∙ (λ i. record (seen p) { rows = change_row page to p.rows; restless = (listed i) });
-          }
+          let private = rest it.held.row in
+          let own = lies s it.lawful page it.found it.seen_as in
+          stays_there p page (left_so (on_row g) g (λ x. refl) same turned to (agree alone) (grind (arith, private))
+          (grind (arith, private))
+          (grind (arith, agree alone, private, alone, own)))
 
-    -- a page that has left and whose row is gone is seen no more, and lies on no frame
-    pub parted : (rows : RowsView) → rows.held ≡ without_held page s.rows.held
-        → Comes s rows later (record (seen p) {
-          rows = without_page page p.rows;
-          frame = lies_on page None (frame_of p.lodgings);
-          restless = rows.restless;
-        })
-    parted rows gone = search (rules, lawful_gone, told_gone)
+      -- a page that has left and whose row is gone is seen no more, and lies on no frame
+      pub parted : rows.held ≡ without_held page s.rows.held
+          → Comes s rows later (record (seen p) {
+            rows = without_page page p.rows;
+            frame = lies_on page None (frame_of p.lodgings);
+            restless = rows.restless;
+          })
+      parted gone =
+          rw (← it.seen_as)
+          (comes s it.lawful rows (ap rows_of gone ∙ rows_without page _) out (rows_out _ _ _)
+          (ordered_without _ _ it.lawful.order)
+          (tied_dropped _ _ _ it.lawful.order there _ it.lawful.tied)
+          (row_dropped s.knobs _ _ it.lawful.waits _ _ _ there it.left.waiting)
+          (ap (λ held. frame_of (lodgings_of (of_dup s) held)) gone ∙ lodged_gone _ _ _))
 
 -- ---------------------------------------------------------------- rows that change where they lie
 
@@ -120,55 +122,24 @@ module _ (s : Inside) (are : AreLawful s) {p : PagesValue} (seen_as : view_of s 
 
   -- where rows change, but for pages and dups, and the right pages wait, all rows are seen changed so
   pub still : (f : Row → Row) → ((r : Row) → (f r).page ≡ r.page) → ((r : Row) → settled_state (f r).state ≡ settled_state r.state)
-      → (rows : RowsView) → rows.held ≡ map (on_row f) s.rows.held
-      → {restless : Listing} → rows.restless ≡ restless → (later : DupsState) → later ≡ record s.dups { waiting = later.waiting }
+      → (rows : RowsView) → rows.held ≡ map (on_row f) s.rows.held → (later : DupsState)
+      → later ≡ record s.dups { waiting = later.waiting }
       → AreWaiting s.knobs (map f before) later.waiting
-      → Comes s rows later (record (seen p) { rows = map f p.rows; restless = restless })
-  still f pages like rows turned {restless = restless} listed later rest waits =
-      record {
-        lawful = record {
-          small = are.small;
-          order = rw changed (ordered_map f _ pages are.order);
-          tied = subst (λ rs. AreTied rs later.dups) (sym changed) (subst (AreTied (map f before)) (λ i. (sym rest i).dups)
-              (tied_mapped f _ _ (λ k d lt. let r = get_or before k d in (pages r, λ number. (grind arith))) are.tied));
-          places = (λ i. (rest i).places) ∙ are.places;
-          waits = rw changed waits;
-          room = are.room;
-        };
-        told_as =
-            (λ i. record (seen (view_of (record s { rows = rows; dups = later }))) {
-              rows = changed i;
-              frame = lain i;
-              dups = dups i;
-              next = ap (λ (d : DupsState). d.next) rest i;
-              restless = listed i;
-            })
-            ∙ (λ i. record (seen (seen_as i)) { rows = map f (seen_as i).rows; restless = restless });
-      }
-    where
-      changed : rows_of rows.held ≡ map f before
-      changed =
-          ap rows_of turned
-          ∙ map_mapped _ _ (λ h. f h.row) _ (λ k d lt. refl)
-          ∙ sym (map_mapped _ _ _ _ (λ k d lt. refl))
-
-      dups : dup_rows later.dups ≡ dup_rows s.dups.dups
-      dups = λ i. dup_rows (rest i).dups
-
-      lain : frame_of (lodgings_of (lodging (dup_rows later.dups) s.frames.items) rows.held) ≡ frame_of (lodgings_of (of_dup s) s.rows.held)
-      lain = grind (arith, dups, map_mapped, lies_alike)
+      → Comes s rows later (record (seen p) { rows = map f p.rows; restless = rows.restless })
+  still f pages like rows turned later rest waits =
+      rw (← seen_as)
+      (comes s are rows (ap rows_of turned ∙ rows_mapped f s.rows.held) rest refl (ordered_map f _ pages are.order)
+      (tied_mapped f _ _ (λ k d lt. (pages _, λ number. grind (arith, like (get_or before k d)))) are.tied) waits
+      (grind (arith, map_mapped, lies_alike)))
 
   -- where every row is settled by a change and no page waits any more, all rows are seen changed so
   pub rest_all : (f : Row → Row) → ((r : Row) → (f r).page ≡ r.page) → ((r : Row) → (f r).state ≡ settled_state r.state) → (rows : RowsView)
-      → rows.held ≡ map (on_row f) s.rows.held
-      → {restless : Listing} → rows.restless ≡ restless → {later : DupsState} → later ≡ record s.dups { waiting = [] }
-      → Comes s rows later (record (seen p) { rows = map f p.rows; restless = restless })
-  rest_all f pages states rows turned listed cleared =
-      still f pages (λ r. ap settled_state (states r) ∙ settled_again _) _ turned listed _
-      (cleared ∙ (λ i. record s.dups { waiting = (sym cleared i).waiting }))
-      (subst (AreWaiting s.knobs (map f before)) (λ i. (sym cleared i).waiting)
-      (none_waiting s.knobs _ (All-map (λ r. waiting_state r.state ≡ false) f _
-      (λ k d lt. ap waiting_state (states (get_or before k d)) ∙ settled_still _))))
+      → rows.held ≡ map (on_row f) s.rows.held → {later : DupsState} → later ≡ record s.dups { waiting = [] }
+      → Comes s rows later (record (seen p) { rows = map f p.rows; restless = rows.restless })
+  rest_all f pages states rows turned cleared =
+      still f pages (λ r. grind (arith, states r, settled_again)) _ turned _ (grind arith)
+      (rw cleared (none_waiting s.knobs _ (All-map (λ r. waiting_state r.state ≡ false) f _
+      (λ k d lt. grind (arith, states (get_or before k d), settled_still)))))
 
   -- where a row changes, but for its page, state and where it waits, only that row is seen changed
   pub stays : (page : GuestPage) (g : Row → Row) → ((r : Row) → (g r).page ≡ r.page) → ((r : Row) → (g r).state ≡ r.state)
@@ -178,23 +149,18 @@ module _ (s : Inside) (are : AreLawful s) {p : PagesValue} (seen_as : view_of s 
       → Comes s rows s.dups (record (seen p) { rows = change_row page g p.rows; restless = rows.restless })
   stays page g same states alike rows turned =
       still f (λ r. grind (arith, same r)) (λ r. grind (arith, states r)) rows
-      (turned ∙ map_alike _ _ _ (λ k d lt. each _)) refl _ refl waiting
+      (grind (arith, map_alike)) _ refl waiting
     where
       f : Row → Row
       f r = if same_page r.page page then g r else r
 
-      each : (h : Held) → (if holds page h then on_row g h else h) ≡ on_row f h
-      each h = grind arith
-
       waiting : AreWaiting s.knobs (map f before) s.dups.waiting
-      waiting t b q =
-          are.waits t b q ∙ go _ refl
-          ∙ ap (waits_there s.knobs t b) (sym (at_mapped f q before (λ k d lt. grind (arith, same (get_or before k d)))))
+      waiting t b q = are.waits t b q ∙ go _ refl
+          ∙ ap (waits_there s.knobs t b) (grind (arith, at_mapped, f))
         where
           go : (o : Option Row) → row_at q before ≡ o → waits_there s.knobs t b o ≡ waits_there s.knobs t b (option_map f o)
           go None is = refl
           go (Some r) is =
               cond_both _ _ _ (λ x. waits_there s.knobs t b (Some r) ≡ waits_there s.knobs t b (Some x))
-              (λ at. let here = sym (same_page_eq _ _ at) ∙ same_page_eq _ q
-              (find_passes (λ r. same_page r.page q) _ r is) in
-              sym (alike r ((λ i. row_at page (sym seen_as i).rows) ∙ ap (λ q. row_at q before) here ∙ is) t b)) (λ _. refl)
+              (λ at. sym (alike r (grind (arith, same_page_eq r.page, find_passes (λ x. same_page x.page q) before r
+              is)) t b)) (λ _. refl)

@@ -1,19 +1,17 @@
 -- What a visit finds of a row that it may change, and the pages once the row waits.
-use Rattle.ksm_pages.proofs.Names.{all_zero, ap, AreKept, AreTied, AreWaiting, arith, Best, best_dup, best_found, best_of, Bool, change_held, change_row, Dup, DupsState, Entry, false, Find, Finds}
-use Rattle.ksm_pages.proofs.Names.{FindsAt, found_at, GuestPage, Held, held_at, held_of, Inside, is_for_zero, IsAdded, IsAlone, List, MatchOption, None, not, number_of, on_row, Option, option_map}
+use Rattle.ksm_pages.proofs.Names.{all_zero, and_parts, ap, AreTied, arith, Best, best_dup, best_found, best_of, Bool, change_held, change_row, Dup, DupsState, Entry, false, Find, Finds, FindsAt}
+use Rattle.ksm_pages.proofs.Names.{found_at, GuestPage, Held, held_at, held_of, Inside, is_for_zero, IsAdded, IsAlone, List, MatchOption, None, not, not-true, number_of, on_row, Option, option_map}
 use Rattle.ksm_pages.proofs.Names.{PagesValue, PagesView, partner, Private, refl, Row, row_at, rows_of, RowsView, rules, same_page, seen, shared_state, Some, subst, sym, tied_counted, tied_left}
-use Rattle.ksm_pages.proofs.Names.{tree_of, true, unwrap_or, Waiting, waiting_page, ℕ, ◌&&◌, ◌==◌, ◌∙◌, ◌≡◌, and_parts, not-true}
+use Rattle.ksm_pages.proofs.Names.{tree_of, true, unwrap_or, Waiting, waiting_page, ℕ, ◌&&◌, ◌==◌, ◌∙◌, ◌≡◌}
 use Rattle.ksm_pages.proofs.Options.{none_mapped}
 use Rattle.std.specs.Option.{is_some}
-use Rattle.ksm_tree.specs.Dups.{rows_of as dup_rows}
 use Rattle.ksm_pages.specs.declared.pages.Find.TheVariants as finds
 use Rattle.ksm_pages.specs.Held.{is_restless as is_restless_entry}
 use Rattle.ksm_pages.specs.Paged.{is_restless, visited}
 use Rattle.ksm_pages.proofs.Gathering.{restless_as}
 use Rattle.ksm_pages.proofs.Joined.{let_out_alone}
-use Rattle.ksm_pages.proofs.Leaving.{AreLawful, lawful_turned, of_page, row_seen, row_there, told_still, view_of}
+use Rattle.ksm_pages.proofs.Leaving.{AreLawful, Comes, lies, of_page, row_seen, row_there, stays_there, turned_so, view_of}
 use Rattle.ksm_pages.proofs.Meeting.{met_other, met_own, met_partner, met_waits}
-use Rattle.ksm_pages.proofs.Resting.{lies_alike, rests}
 
 -- ---------------------------------------------------------------- groups that got other numbers
 
@@ -24,7 +22,7 @@ module _ (s : Inside) {later : DupsState} (kept : later ≡ record s.dups { numb
 
   -- groups that got other numbers leave what is seen of the pages as it was
   pub seen_numbered : view_of (record s { dups = later }) ≡ view_of s
-  seen_numbered = λ i. view_of (record s { dups = (kept i) })
+  seen_numbered = grind arith
 
 -- ---------------------------------------------------------------- one row
 
@@ -39,7 +37,7 @@ finds_row s {p} seen_as page found new what is = rw (row_seen s seen_as _ found)
 pub finds_gone : (s : Inside) {p : PagesValue} → view_of s ≡ p → (page : GuestPage) (e : Entry)
     → held_at page s.rows.held ≡ Some (held_of s.rows.pass e)
     → is_restless_entry e ≡ false → Finds (seen p) (seen p) page finds.Gone
-finds_gone s seen_as page e found calm = finds_row s seen_as _ found _ _ (restless_as _ e ∙ calm, refl)
+finds_gone s seen_as page e found calm = search (rules, finds_row, restless_as)
 
 -- a row that a visit may change has a frame of its own
 pub is_alone : (s : Inside) → AreLawful s → (page : GuestPage) (e : Entry) → held_at page s.rows.held ≡ Some (held_of s.rows.pass e)
@@ -64,7 +62,7 @@ pub asked : {s : Inside} → AreLawful s → {p : PagesValue} → view_of s ≡ 
     → IsAsked (record s { dups = later }) p page e group
 asked {s} are seen_as {e} found restless {later = later} kept {group = group} in_tree numbered = record {
   lawful = lawful_numbered s kept are;
-  seen_as = seen_numbered s kept ∙ seen_as;
+  seen_as = grind arith;
   found = found;
   restless = restless;
   numbered = rw (← in_tree (held_of s.rows.pass e).row refl) numbered;
@@ -105,7 +103,7 @@ module _ {s : Inside} {p : PagesValue} {page : GuestPage} {e : Entry} {group : �
   best_is : best_dup p.knobs p.rows p.dups row ≡ option_map (λ d. d.row) (best (tree_of s.knobs row) row.bytes)
   best_is =
       ap (λ (v : PagesValue). best_dup v.knobs v.rows v.dups row) (sym it.seen_as)
-      ∙ sym (best_found before s.knobs row _ (tied_counted before _ it.lawful.tied))
+      ∙ sym (search (rules, best_found, tied_counted))
 
   -- where the group of an asked row has a best dup, the visit finds that dup
   pub finds_dup : (b : Best) → IsOfGroup (λ tree bytes. Some b ≡ option_map found_at (best tree bytes))
@@ -128,7 +126,7 @@ module _ {s : Inside} {p : PagesValue} {page : GuestPage} {e : Entry} {group : �
 
       -- without a best dup, an unchanged row of zeroes is found to become Zero, if zero pages are used
       pub finds_zero : (s.knobs.use_zero_pages == 1 && all_zero e.bytes) ≡ true → Finds (seen p) (seen (view_of s)) page finds.Zero
-      finds_zero zeroes = finds_at _ _ (may, no_best, stayed, zero_as ∙ zeroes, ap seen it.seen_as)
+      finds_zero zeroes = grind (arith, finds_at, may, no_best, zero_as)
 
       module _ (other : (s.knobs.use_zero_pages == 1 && all_zero e.bytes) ≡ false) {met : GuestPage} {later : DupsState}
           (is : IsOfGroup (λ tree bytes. met ≡ unwrap_or (waiting_page tree bytes s.dups.waiting) page))
@@ -140,7 +138,7 @@ module _ {s : Inside} {p : PagesValue} {page : GuestPage} {e : Entry} {group : �
         met_is = grind (arith, at_row)
 
         same_again : is_some waits ≡ true → later ≡ s.dups
-        same_again = again (tree_of s.knobs row) row.bytes it.numbered
+        same_again = grind arith
 
         -- a row that stays, without a dup and not for Zero, finds another page that waits with its bytes as partner
         pub finds_partner : same_page met page ≡ false
@@ -151,7 +149,7 @@ module _ {s : Inside} {p : PagesValue} {page : GuestPage} {e : Entry} {group : �
             let partner_is = subst (λ (v : PagesValue). MatchOption (partner v.knobs v.rows row) (true ≡ false)
             (λ w. met ≡ w.page)) it.seen_as (met_partner s.knobs _ _ row it.lawful.order it.lawful.waits met_is from) in
             let same = (λ i. seen (view_of (record s { dups = (same_again (ap is_some that) i) }))) ∙ ap seen it.seen_as in
-            finds_at _ _ (may, no_best, stayed, zero_as ∙ other, partner_is, same)
+            grind (arith, finds_at, may, no_best, zero_as)
 
         module _ (own : same_page met page ≡ true) (kept : later ≡ record s.dups { waiting = later.waiting })
             (added : IsOfGroup (λ tree bytes. IsAdded tree bytes met s.dups.waiting later.waiting)) (rows : RowsView)
@@ -159,34 +157,23 @@ module _ {s : Inside} {p : PagesValue} {page : GuestPage} {e : Entry} {group : �
           abbrev to : Row → Row
           to r = record r { state = Waiting }
 
-          same_own : same_page met row.page ≡ true
-          same_own = ap (same_page met) at_row ∙ own
-
-          held_now : rows.held ≡ change_held page (on_row to) s.rows.held
-          held_now = λ i. (turned i).held
-
-          now_waits : AreWaiting s.knobs (change_row page (λ _. to row) before) later.waiting
-          now_waits =
-              rw (← at_row)
-              (met_waits s.knobs _ _ _ it.lawful.order it.lawful.waits met_is (ap (λ q. row_at q before) at_row ∙ there) same_own
-              (added (tree_of s.knobs row) row.bytes it.numbered) (λ that. (λ i. (same_again that i).waiting)))
-
-          -- the pages are lawful once the row waits
-          pub lawful_waits : AreKept s.shape s.knobs (rows_of rows.held) later s.frames.items
-          lawful_waits =
-              lawful_turned s it.lawful _ it.found _ to (λ x. refl) (λ r. refl) rows held_now (λ i. (kept i).places)
-              (subst (AreTied (change_row page (λ _. to row) before)) (let_out_alone _ _ alone ∙ (λ i. (sym kept i).dups))
-              (tied_left _ _ _ it.lawful.order there _ _ refl it.lawful.tied)) now_waits
+          -- the pages are lawful once the row waits, and are seen so
+          pub waits_then : Comes s rows later (record (seen p) { rows = change_row page to p.rows; restless = rows.restless })
+          waits_then =
+              let lay = lies s it.lawful page it.found it.seen_as in
+              let here = ap (λ q. row_at q before) at_row ∙ there in
+              let now_waits = met_waits s.knobs _ _ row it.lawful.order it.lawful.waits met_is here
+              (ap (same_page met) at_row ∙ own)
+              (added (tree_of s.knobs row) row.bytes it.numbered) (λ that. (λ i. (same_again that i).waiting)) in
+              stays_there p page (turned_so s it.lawful page it.found it.seen_as rows (on_row to) to (λ x. refl)
+              (λ r. refl) (λ i. (turned i).held) kept refl to refl
+              (subst (AreTied (change_row page (λ _. to row) before)) (let_out_alone row.state page alone)
+              (tied_left _ _ _ it.lawful.order there _ _ refl it.lawful.tied)) (rw (← at_row) now_waits)
+              (grind (arith, lay, alone)))
 
           -- a row that stays, without a dup, not for Zero and without a partner, is found to wait
           pub finds_waits : Finds (seen p) (seen (view_of (record s { rows = rows; dups = later }))) page finds.Waits
           finds_waits =
-              let met_none = met_own s.knobs _ _ row it.lawful.order it.lawful.waits met_is same_own in
+              let met_none = met_own s.knobs _ _ row it.lawful.order it.lawful.waits met_is (rw at_row own) in
               let none_waits = (λ i. partner (sym it.seen_as i).knobs (sym it.seen_as i).rows row) ∙ met_none in
-              let listed = (λ i. (turned i).restless) ∙ (λ i. (it.seen_as i).restless) in
-              let now =
-              told_still s it.lawful _ it.found _ to (λ x. refl) (λ r. refl) rows held_now it.seen_as later
-              (λ i. dup_rows (kept i).dups) (λ i. (kept i).next) _ refl (lies_alike _ Waiting _ _ (sym (rests _ alone)))
-              ∙ (λ i. record (seen p) { rows = change_row page to p.rows; restless = (listed i) })
-              ∙ ap (λ q. visited q to (seen p)) (sym at_row) in
-              finds_at _ _ (may, no_best, stayed, zero_as ∙ other, none_waits, now)
+              grind (arith, finds_at, may, no_best, zero_as, waits_then, at_row)

@@ -2,15 +2,15 @@
 use Rattle.ksm_pages.proofs.Options.{none_mapped}
 use Rattle.ksm_pages.proofs.Names.{ap, ap₂, AreBegun, AreListed, arith, Bool, CanMove, change_held, Entry, false, find, forgotten, get, GuestPage, has_item, Held, held_at, held_in, held_of}
 use Rattle.ksm_pages.proofs.Names.{held_under, IfSome, inl, InPageOrder, inr, is_of, is_own, is_restless, is_some, IsAddedTo, IsInVain, IsMoved, IsRows, IsTally, IsUnder, key_in, Kind, length}
-use Rattle.ksm_pages.proofs.Names.{length-map, List, Listing, marked, Named, named_of, ne_eqb, None, number_left, on_row, option_map, own_state, pages_ordered, PageState, Private, refl, Row, row_at}
-use Rattle.ksm_pages.proofs.Names.{rows_of, RowsView, rules, same_page_refl, same_Some, settled, shared_state, Slab, Some, state_of, sym, Tally, true, true≢false, Updates-with_value, Waiting}
-use Rattle.ksm_pages.proofs.Names.{with_held, with_named, with_value, without_held, without_named, ℕ, ◌&&◌, ◌<◌, ◌^◌, ◌∙◌, ◌≡◌, ◌≢◌, ◌≤◌, ◌⊎◌}
+use Rattle.ksm_pages.proofs.Names.{length-map, List, Listing, marked, Named, named_of, nat_tests, None, number_left, on_row, option_map, pages_ordered, PageState, Private, refl, Row, row_at, rows_of}
+use Rattle.ksm_pages.proofs.Names.{RowsView, rules, same_page_refl, same_Some, settled, shared_state, Slab, Some, state_of, sym, Tally, true, true≢false, Updates-with_value, Waiting, with_held}
+use Rattle.ksm_pages.proofs.Names.{with_named, with_value, without_held, without_named, ℕ, ◌&&◌, ◌<◌, ◌^◌, ◌∙◌, ◌≡◌, ◌≢◌, ◌≤◌, ◌⊎◌}
 use Rattle.slab.specs.Slab.{Updates as Fills}
 use Rattle.ksm_pages.specs.declared.row.Kind.TheVariants as kinds
 use Rattle.ksm_pages.specs.declared.rows.Rows.TheInside.{Inside}
 use Rattle.ksm_pages.proofs.Changing.{marked_same, row_told, rows_changed, rows_with, rows_without}
 use Rattle.ksm_pages.proofs.Filing.{all_filled, filed_kept, filed_marked, filed_put, filed_taken, held_found, held_nowhere, named_under, one_key, put, rows_rise, taken, written}
-use Rattle.ksm_pages.proofs.Keyed.{absent_unchanged, write_rises}
+use Rattle.ksm_pages.proofs.Found.{absent_unchanged, write_rises}
 use Rattle.ksm_rmap.proofs.Ordered.{absent_kept, with_rises, without_rises}
 use Rattle.ksm_pages.proofs.Listings.{with_has}
 use Rattle.ksm_pages.proofs.Tallying.{can_move, tally_changed, tally_gone, tally_put}
@@ -27,22 +27,13 @@ view_of s = view s.pass s.entries s.order s.restless
 abbrev pub AreRows : Inside → Type 0
 AreRows s = IsRows s.entries s.order s.restless s.tally s.pass
 
--- a test and false never hold together, so anything follows
-pub never : {P : Type 0} (b : Bool) → (b && false) ≡ true → P
-never true both = absurd (grind arith)
-never false both = absurd (grind arith)
-
 -- a row with a frame of its own waits where its number is that of the pass
 pub waits_now : {kind : Kind} (pass : ℕ) → kind ≡ kinds.Own → state_of kind pass pass ≡ Waiting
 waits_now pass own = grind arith
 
--- a row with a frame of its own is Private where its number is not that of the pass
-pub rests_apart : {number : ℕ} (pass : ℕ) → number ≢ pass → state_of kinds.Own number pass ≡ Private
-rests_apart {number} pass apart = ap own_state (ne_eqb number pass apart)
-
 -- a row with a frame of its own and number 0 is Private in any pass from 1 on
 pub rests_now : (pass : ℕ) → 1 ≤ pass → state_of kinds.Own 0 pass ≡ Private
-rests_now pass counting = rests_apart _ (λ same. absurd (omega arith))
+rests_now pass counting = grind (arith, nat_tests)
 
 -- an entry with a frame of its own that has forgotten its pass has a number not beyond any pass
 pub left_fits : (kind : Kind) (number pass : ℕ) → kind ≡ kinds.Own → number_left kind number ≤ pass
@@ -51,21 +42,20 @@ left_fits kind number pass own = grind arith
 -- a change of a page without a row leaves what is seen of the rows as it is
 pub nothing : (s : Inside) → AreRows s → (page : GuestPage) → None ≡ key_in s.order page → (f : Held → Held) {v : RowsView} → view_of s ≡ v → v ≡ record v { held = change_held page f v.held }
 nothing s are page told f is =
-    let absent = held_nowhere s.entries _ are.ascending are.filed _ _ (sym told) in
-    sym is
-    ∙ ap (λ held. record { held = held; restless = s.restless; pass = s.pass }) (absent_unchanged (λ (h : Held). h.row.page) page _ absent)
-    ∙ (λ i. record (is i) { held = change_held page f (is i).held })
+    let absent = held_nowhere s.entries s.order are.ascending are.filed s.pass page (sym told) in
+    let same = absent_unchanged (λ (h : Held). h.row.page) page f absent in
+    grind (arith, same)
 
 -- what is listed later was listed before
 listed_known : (old : Listing) {now : Listing} (pages : List GuestPage) → now ≡ record old { pages = pages } → now.known ≡ true → old.known ≡ true
-listed_known old pages is known = (λ i. (sym is i).known) ∙ known
+listed_known old pages is known = grind arith
 
 module _ (s : Inside) (are : AreRows s) where
   abbrev held : List Held
   held = held_in s.pass s.entries s.order
 
   rise : InPageOrder (rows_of held)
-  rise = rows_rise s.entries _ are.ascending are.filed _
+  rise = grind (arith, rows_rise)
 
   module _ {page : GuestPage} {key : ℕ} (there : IsUnder s.entries page key) {e : Entry} (stood : get s.entries key ≡ Some e) where
     -- the entry is that of the page
@@ -90,7 +80,7 @@ module _ (s : Inside) (are : AreRows s) where
     can_be is {state} few =
         let many : length (rows_of held) < 2 ^ 64 =
         omega (arith, length-map held (λ (h : Held). h.row), length-map s.order (λ (n : Named). held_under s.pass (get s.entries n.key)), few) in
-        rw is (can_move rise _ found_row s.tally are.counted (record (held_of s.pass e).row { state = state }) many)
+        rw is (can_move rise _ found_row s.tally are.counted (search rules) many)
 
     -- ---------------------------------------------------------------- the entry changed
 
@@ -103,12 +93,6 @@ module _ (s : Inside) (are : AreRows s) where
 
       held_later : (f : Held → Held) → held_of s.pass e' ≡ f (held_of s.pass e) → held_in s.pass later s.order ≡ change_held page f held
       held_later f is = grind (arith, written, fills, of_page)
-
-      module _ {from to : PageState} {tally : Tally} (was : from ≡ state_of e.kind e.number s.pass) (is : to ≡ state_of e'.kind e'.number s.pass) (moved : IsMoved from to s.tally tally) where
-        tallied : IsTally (rows_of (held_in s.pass later s.order)) tally
-        tallied =
-            rw (ap rows_of (held_later _ refl) ∙ rows_changed _ (λ _. held_of s.pass e') _ _ (λ h. refl))
-            (tally_changed rise _ found_row _ are.counted _ (rw (← was) (rw (← is) moved)))
 
       begun_still : (e'.kind ≡ kinds.Own → e'.number ≤ s.pass) → AreBegun later s.pass
       begun_still fits = search (rules, fills)
@@ -126,21 +110,21 @@ module _ (s : Inside) (are : AreRows s) where
       pub listed_calm : is_restless e' ≡ false → {now : Listing} → now ≡ s.restless → now.known ≡ true → AreListed later now.pages
       listed_calm calm is known = search (rules, listed_still)
 
-      -- rows with an entry written anew are lawful where its flag stays, the list is right and the tally moved
-      pub still : e'.mergeable ≡ e.mergeable → (e'.kind ≡ kinds.Own → e'.number ≤ s.pass) → {now : Listing}
-          → (now.known ≡ true → AreListed later now.pages)
-          → {from to : PageState} {tally : Tally} → from ≡ state_of e.kind e.number s.pass → to ≡ state_of e'.kind e'.number s.pass
-          → IsMoved from to s.tally tally → IsRows later s.order now tally s.pass
-      still flag fits listed was is moved = search (rules, filed_kept, fills, tallied, begun_still)
+      module _ {from to : PageState} {tally : Tally} (was : from ≡ state_of e.kind e.number s.pass) (is : to ≡ state_of e'.kind e'.number s.pass) (moved : IsMoved from to s.tally tally) where
+        tallied : IsTally (rows_of (held_in s.pass later s.order)) tally
+        tallied =
+            rw (ap rows_of (held_later _ refl) ∙ rows_changed _ (λ _. held_of s.pass e') _ _ (λ h. refl))
+            (tally_changed rise _ found_row _ are.counted _ (grind arith))
 
-      -- rows with an entry written anew are lawful under the old list where no visit may change what none could before
-      pub kept : e'.mergeable ≡ e.mergeable → (e'.kind ≡ kinds.Own → e'.number ≤ s.pass) → (is_restless e' ≡ true → is_restless e ≡ true)
-          → (now : Listing) → now ≡ s.restless
-          → {from to : PageState} {tally : Tally} → from ≡ state_of e.kind e.number s.pass → to ≡ state_of e'.kind e'.number s.pass
-          → IsMoved from to s.tally tally → IsRows later s.order now tally s.pass
-      kept flag fits less now is =
-          still flag fits (rw is (λ known. listed_still _ (λ k f stands apart. are.listed known k f stands)
-          (λ may. ap (λ p. has_item p s.restless.pages) (sym of_page) ∙ are.listed known key e stood (less may))))
+        -- rows with an entry written anew are lawful where its flag stays, the list is right and the tally moved
+        pub still : e'.mergeable ≡ e.mergeable → (e'.kind ≡ kinds.Own → e'.number ≤ s.pass) → {now : Listing}
+            → (now.known ≡ true → AreListed later now.pages) → IsRows later s.order now tally s.pass
+        still flag fits listed = search (rules, filed_kept, fills, tallied, begun_still)
+
+        -- rows with an entry written anew are lawful under the old list where no visit may change what none could before
+        pub kept : e'.mergeable ≡ e.mergeable → (e'.kind ≡ kinds.Own → e'.number ≤ s.pass) → (is_restless e' ≡ true → is_restless e ≡ true)
+            → (now : Listing) → now ≡ s.restless → IsRows later s.order now tally s.pass
+        kept flag fits less now is = still flag fits (grind (arith, listed_still, of_page))
 
       module _ (kind : e'.kind ≡ e.kind) (number : e'.number ≡ e.number) where
         fits_still : e'.kind ≡ kinds.Own → e'.number ≤ s.pass
@@ -150,11 +134,11 @@ module _ (s : Inside) (are : AreRows s) where
         same_state = grind arith
 
         unmoved : {state : PageState} → IsMoved state state s.tally s.tally
-        unmoved = record { merged = refl; waiting = refl; zero = refl }
+        unmoved = search rules
 
         -- rows with an entry written anew are lawful under the old list and tally where its flag and state stay
         pub untouched : e'.mergeable ≡ e.mergeable → IsRows later s.order s.restless s.tally s.pass
-        untouched flag = kept flag fits_still (λ may. sym (ap₂ (λ m k. m && is_own k) flag kind) ∙ may) _ refl refl same_state (unmoved)
+        untouched flag = kept refl same_state unmoved flag fits_still (λ may. grind arith) _ refl
 
         -- rows with an entry written anew are lawful where the order marks its page so, and its state stays
         pub still_marked : {now : Listing} → (now.known ≡ true → AreListed later now.pages)
@@ -163,7 +147,7 @@ module _ (s : Inside) (are : AreRows s) where
           ascending = write_rises _ page _ (λ n. refl) _ are.ascending;
           filed = rw (← of_page) (filed_marked _ _ are.ascending are.filed stood fills same);
           listed = listed;
-          counted = rw (marked_same _ later _ _ _) (tallied refl same_state (unmoved));
+          counted = rw (marked_same _ later _ _ _) (tallied refl same_state unmoved);
           begun = begun_still fits_still;
           counting = are.counting;
         }
@@ -179,7 +163,7 @@ module _ (s : Inside) (are : AreRows s) where
           → view s.pass later s.order now ≡ record v { held = change_held page f v.held }
       viewed_same f is same_list {v} seen_as =
           viewed f is _ seen_as
-          ∙ ap (λ l. record v { held = change_held page f v.held; restless = l }) (same_list ∙ (λ i. (seen_as i).restless))
+          ∙ ap (λ l. record v { held = change_held page f v.held; restless = l }) (grind arith)
 
       -- with an entry written anew and its page marked, the rows are seen with f at that page, and the new list
       pub viewed_marked : (f : Held → Held) → held_of s.pass e' ≡ f (held_of s.pass e) → (m : Bool) (now : Listing) {v : RowsView}
@@ -194,8 +178,8 @@ module _ (s : Inside) (are : AreRows s) where
         → {from to : PageState} {tally : Tally} → from ≡ state_of e.kind e.number s.pass → to ≡ state_of now.kind now.number s.pass
         → IsMoved from to s.tally tally → IsRows (with_value s.entries key now) s.order s.restless tally s.pass
     kept_forgotten e' is same flag kind {from} {to} {tally} was told moved =
-        rw is (kept _ same flag (left_fits _ _ _) (λ may. sym (ap₂ (λ m k. m && is_own k) flag kind) ∙ may)
-        _ refl was (told ∙ (λ i. state_of (is i).kind (is i).number s.pass)) moved)
+        rw is (kept _ same was (grind arith) moved flag (left_fits _ _ _)
+        (λ may. sym (ap₂ (λ m k. m && is_own k) flag kind) ∙ may) _ refl)
 
     -- the row of an entry that is changed, and then forgets its pass, is seen changed and settled
     pub viewed_forgotten : (e' : Entry) {now : Entry} → now ≡ forgotten e' → e'.page ≡ e.page → (f : Row → Row)
@@ -219,7 +203,7 @@ module _ (s : Inside) (are : AreRows s) where
       still_gone {from} {tally} was moved = record {
         ascending = without_rises pages_ordered (λ (n : Named). n.page) page _ are.ascending;
         filed = rw (← of_page) (filed_taken _ _ are.ascending are.filed stood fills);
-        listed = λ known k f stands may. are.listed known k f (stood_before stands).0 may;
+        listed = grind (arith, stood_before);
         counted = rw (ap rows_of held_gone ∙ rows_without page held) (tally_gone rise _ found_row _ are.counted (rw (← was) moved));
         begun = λ k f stands. are.begun k f (stood_before stands).0;
         counting = are.counting;
@@ -233,31 +217,27 @@ module _ (s : Inside) (are : AreRows s) where
 -- where a page has no row, the rows without that page are seen as before
 pub nothing_gone : (s : Inside) → AreRows s → (page : GuestPage) → None ≡ key_in s.order page → {v : RowsView} → view_of s ≡ v → v ≡ record v { held = without_held page v.held }
 nothing_gone s are page told is =
-    sym is
-    ∙ ap (λ held. record { held = held; restless = s.restless; pass = s.pass })
-    (absent_kept pages_ordered (λ (h : Held). h.row.page) page _ (held_nowhere s.entries _ are.ascending are.filed _ _ (sym told)))
-    ∙ (λ i. record (is i) { held = without_held page (is i).held })
-
--- a slab with more room has the same rows
-pub with_room : (s : Inside) → AreRows s → {room : Slab Entry} → room ≡ record s.entries { capacity = room.capacity } → IsRows room s.order s.restless s.tally s.pass
-with_room s are is =
-    rw is
-    (record { ascending = are.ascending; filed = are.filed; listed = are.listed; counted = are.counted; begun = are.begun; counting = are.counting })
-
--- a slab with more room is seen to have the same rows
-pub seen_with_room : (s : Inside) {v : RowsView} → view_of s ≡ v → {room : Slab Entry}
-    → room ≡ record s.entries { capacity = room.capacity } → view_of (record s { entries = room }) ≡ v
-seen_with_room s seen_as is = ap (λ slab. view_of (record s { entries = slab })) is ∙ seen_as
+    let absent = held_nowhere s.entries s.order are.ascending are.filed s.pass page (sym told) in
+    let same = absent_kept pages_ordered (λ (h : Held). h.row.page) page _ absent in
+    grind (arith, same)
 
 -- a page that is seen without a row has no name in the order
 pub no_name : (s : Inside) → AreRows s → (page : GuestPage) {v : RowsView} → view_of s ≡ v → held_at page v.held ≡ None → find (is_of page) s.order ≡ None
 no_name s are page seen_as absent = grind (arith, none_mapped, held_found)
 
--- the row of a page came, with a frame of its own, under a key where nothing stood
-module _ (s : Inside) (are : AreRows s) {v : RowsView} (seen_as : view_of s ≡ v) {key : ℕ} {e : Entry} {later : Slab Entry} (vacant : get s.entries key ≡ None)
-    (absent : held_at e.page v.held ≡ None) (fills : Fills s.entries later key (Some e)) where
+-- the row of a page came, with a frame of its own, under a key where nothing stood, once there was room for it
+module _ (s : Inside) (are : AreRows s) {v : RowsView} (seen_as : view_of s ≡ v) {room : Slab Entry}
+    (rest : room ≡ record s.entries { capacity = room.capacity })
+    {key : ℕ} {e : Entry} {later : Slab Entry} (vacant : get room key ≡ None) (absent : held_at e.page v.held ≡ None)
+    (fills : Fills room later key (Some e)) where
   abbrev before : List Held
   before = held_in s.pass s.entries s.order
+
+  free : get s.entries key ≡ None
+  free = (λ i. get (sym rest i) key) ∙ vacant
+
+  filled : Fills s.entries later key (Some e)
+  filled = record { changed = fills.changed; others = λ k apart. fills.others k apart ∙ (λ i. get (rest i) k) }
 
   held_absent : held_at e.page before ≡ None
   held_absent = grind arith
@@ -266,22 +246,17 @@ module _ (s : Inside) (are : AreRows s) {v : RowsView} (seen_as : view_of s ≡ 
   not_named = no_name s are _ seen_as absent
 
   held_put : held_in s.pass later (with_named (named_of key e) s.order) ≡ with_held (held_of s.pass e) before
-  held_put = put _ _ are.ascending are.filed vacant not_named fills _
+  held_put = put _ _ are.ascending are.filed free not_named filled _
 
   -- rows are lawful once a Private entry came under a vacant key, with a name and a place in the list
   pub still_put : state_of e.kind e.number s.pass ≡ Private → e.number ≤ s.pass → {now : Listing} → IsAddedTo e.page s.restless now → IsRows later (with_named (named_of key e) s.order) now s.tally s.pass
   still_put alone fits added = record {
     ascending = with_rises pages_ordered (λ (n : Named). n.page) _ (named_of key e) _ refl are.ascending;
-    filed = filed_put _ _ are.ascending are.filed vacant not_named fills;
-    listed = λ known. elim added [
-      | inl is ↦
-          rw is (all_filled fills (λ may. with_has e.page e.page s.restless.pages (inl (same_page_refl e.page)))
-          (λ k f stands apart may. with_has f.page e.page s.restless.pages (inr (are.listed (listed_known s.restless _ is known) k f stands may))))
-      | inr is ↦ absurd (grind arith)
-    ];
+    filed = filed_put _ _ are.ascending are.filed free not_named filled;
+    listed = grind (arith, all_filled filled, with_has, same_page_refl, listed_known);
     counted = rw (ap rows_of held_put ∙ rows_with (held_of s.pass e) before)
         (tally_put _ (row_told e.page before held_absent) alone are.counted);
-    begun = all_filled fills (λ own. fits) (λ k f stands apart. are.begun k f stands);
+    begun = all_filled filled (λ own. fits) (λ k f stands apart. are.begun k f stands);
     counting = are.counting;
   }
 
@@ -289,14 +264,10 @@ module _ (s : Inside) (are : AreRows s) {v : RowsView} (seen_as : view_of s ≡ 
   pub viewed_put : (now : Listing) → view s.pass later (with_named (named_of key e) s.order) now ≡ record v { held = with_held (held_of s.pass e) v.held; restless = now }
   viewed_put now = grind (arith, held_put)
 
--- rows are lawful under another list that has all pages that a visit may change
-pub relisted : (s : Inside) → AreRows s → {now : Listing} → (now.known ≡ true → AreListed s.entries now.pages) → IsRows s.entries s.order now s.tally s.pass
-relisted s are listed = search rules
-
 -- rows are lawful under a list that lost only pages that were there in vain
 pub swept_rows : (s : Inside) → AreRows s → {now : Listing} → now.known ≡ s.restless.known
     → ((page : GuestPage) → has_item page s.restless.pages ≡ true → (has_item page now.pages ≡ true) ⊎ IsInVain s.entries s.order page) → IsRows s.entries s.order now s.tally s.pass
-swept_rows s are {now} known kept = relisted s are listed
+swept_rows s are {now} known kept = search (rules, listed)
   where
     listed : now.known ≡ true → AreListed s.entries now.pages
     listed is k e stands may = elim (kept _ (are.listed (sym known ∙ is) k e stands may)) [
@@ -305,5 +276,5 @@ swept_rows s are {now} known kept = relisted s are listed
       | inr (inr calm) ↦
           let at = one_key s.entries _ are.filed calm.stands stands calm.of_page in
           let same = same_Some _ e (sym calm.stands ∙ ap (get s.entries) at ∙ stands) in
-          absurd (true≢false (sym may ∙ ap is_restless (sym same) ∙ calm.calm))
+          absurd (grind arith)
     ]

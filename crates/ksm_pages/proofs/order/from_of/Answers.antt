@@ -1,8 +1,8 @@
-use Rattle.ksm_pages.proofs.Names.{after_cursor, ap, arith, page_of, rules, ◌∙◌}
+use Rattle.ksm_pages.proofs.Names.{arith, rules}
 use Rattle.ksm_pages.proofs.order.from_of.Goals as goal
 
 pub returns-in-Some : goal.returns-in-Some
 returns-in-Some c = search rules
 
 pub returns-in-None : goal.returns-in-None
-returns-in-None c = λ key. ap (λ o. after_cursor o (page_of key)) c.in-None.is ∙ grind arith
+returns-in-None c = grind arith

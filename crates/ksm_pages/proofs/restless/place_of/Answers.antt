@@ -8,7 +8,7 @@ returns-clause-count c =
     let spots = c.args.spots.now in
     let split = parted pages_ordered (λ s. s.page) page _ c.requires in
     let point = IsPartitionPoint-from_clause (λ s. comes_before s.page page) spots _ c.partition_point.ensures.partitioned split (λ a r q k. search rules) in
-    point_is_count (λ s. comes_before s.page page) spots _ c.partition_point.ensures.bound point.0 point.1
+    search (rules, point_is_count)
 
 pub returns-then-comes_before-clause-count : goal.returns-then-comes_before-clause-count
 returns-then-comes_before-clause-count c =

@@ -1,7 +1,7 @@
-use Rattle.ksm_pages.proofs.Names.{ap, is_some, sym, ◌∙◌}
+use Rattle.ksm_pages.proofs.Names.{ap, arith, is_some, sym}
 use Rattle.ksm_pages.proofs.Gathering.{all_passed, fewer_behind, next_stands, one_added, one_passed}
 use Rattle.ksm_pages.proofs.rows.gather.Goals as goal
-use Rattle.ksm_pages.proofs.rows.gather.Goals.{then-is_restless, else-is_restless}
+use Rattle.ksm_pages.proofs.rows.gather.Goals.{else-is_restless, then-is_restless}
 
 pub index-requires : goal.index-requires
 index-requires c = ap is_some (next_stands c.args.entries.now _ c.requires.ascending c.requires.filed _ (sym c.in-Some.ensures)).stands
@@ -18,7 +18,7 @@ loop-named-preserved c =
           (rw w.restless-is w.add.ensures.added)
       | else-is_restless w ↦
           one_passed slab _ c.requires.ascending c.requires.filed _ (sym c.in-Some.ensures) c.loop-named.invariant
-          c.index.ensures (sym c.is_restless.ensures ∙ w.if-is_restless.false) w.restless-is
+          c.index.ensures (grind arith) w.restless-is
     ]
 
 pub returns : goal.returns

@@ -1,4 +1,4 @@
-use Rattle.ksm_pages.proofs.Names.{All-filter, length, length-filter, pages_behind, rules, sym, visited, ◌-◌, ◌<◌, ◌^◌, ◌∙◌, ◌≡◌}
+use Rattle.ksm_pages.proofs.Names.{All-filter, arith, length, length-filter, pages_behind, rules, sym, visited, ◌-◌, ◌<◌, ◌^◌, ◌∙◌, ◌≡◌}
 use Rattle.std.proofs.lemmas.List.{length-drop}
 use Rattle.ksm_order.specs.declared.item.Item.{Item}
 use Rattle.ksm_pages.proofs.Ranked.{get_dropped, small_at, some_at, visited_at, visited_many}
@@ -13,7 +13,7 @@ pub overflow_sub-left : goal.overflow_sub-left
 overflow_sub-left c = search (rules, visited_many)
 
 pub returns-then-left-visits : goal.returns-then-left-visits
-returns-then-left-visits c = (sym (many (goal.at.returns-then-left-visits c).After-count), c.if-left-visits.true)
+returns-then-left-visits c = grind (arith, many)
 
 pub page_of-requires : goal.page_of-requires
 page_of-requires c = small_at (λ n. n < 2 ^ 48) _ _

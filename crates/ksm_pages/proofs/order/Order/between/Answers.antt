@@ -19,7 +19,7 @@ returns-then-before-passed-clause-count c = search (rules, many)
 pub returns-then-before-passed-clause-last : goal.returns-then-before-passed-clause-last
 returns-then-before-passed-clause-last c =
     sym (ap (last_of c.args.cursor) (passed_none _ c.self.view_is _ _ c.key_of.ensures.few c.self.invariant.ascending
-    _ c.passed-passed.ensures.ahead (before (goal.at.returns-then-before-passed-clause-last c).After-up_to-before) c.if-before-passed.true))
+    _ c.passed-passed.ensures.ahead (grind (arith, before)) c.if-before-passed.true))
 
 pub page_of-requires : goal.page_of-requires
 page_of-requires c = small_at (λ n. n < 2 ^ 48) _ _

@@ -1,5 +1,5 @@
 use Rattle.ksm_tree.proofs.Alike.{filter_mapped}
-use Rattle.ksm_pages.proofs.Names.{All-append, All-cons, All-filter, ap, arith, find, is_of, length, map, map-append, Named, named_by, None, rules, true, with_named, ◌+◌, ◌<◌, ◌^◌, ◌∙◌, ◌≡◌}
+use Rattle.ksm_pages.proofs.Names.{All-append, All-cons, All-filter, ap, arith, find, is_of, length, map, map-append, Named, named_by, None, rules, true, with_named, ◌+◌, ◌<◌, ◌^◌, ◌≡◌}
 use Rattle.ksm_order.specs.declared.item.Item.{Item}
 use Rattle.ksm_order.specs.Listed.{with_item}
 use Rattle.ksm_order.proofs.Changes.{with_rises}
@@ -14,7 +14,7 @@ abbrev named : After-key_of → Named
 named c = record { page = c.args.page; key = c.args.key; mergeable = true }
 
 absent : (c : After-key_of) → find (is_of c.args.page) (map named_by c.self.inside.pages) ≡ None
-absent c = ap (find (is_of c.args.page)) c.self.view_is ∙ c.requires.absent
+absent c = grind arith
 
 put : (c : After-key_of) → with_named (named c) (map named_by c.self.inside.pages) ≡ map named_by (with_item (item c) c.self.inside.pages)
 put c = grind (arith, filter_mapped, before_its, behind_its, map-append)

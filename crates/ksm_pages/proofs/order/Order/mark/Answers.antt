@@ -10,7 +10,7 @@ invariant_of-self c =
     let mark = c.args.mergeable in
     let Small : Item → Type 0 = λ y. y.key < 2 ^ 48 in
     record {
-      ascending = rw c.set_mark.ensures (mark_rises _ _ _ c.self.invariant.ascending);
+      ascending = grind (arith, mark_rises);
       long = omega (arith, c.self.invariant.long, ap length c.set_mark.ensures, length-map c.self.inside.pages (mark_of key mark));
       small = rw c.set_mark.ensures (All-map Small _ _ (λ k d lt. rw (same_key key mark _) (c.self.invariant.small k d lt)));
     }

@@ -1,4 +1,4 @@
-use Rattle.ksm_pages.proofs.Names.{after_cursor, ap, arith, drop, filter_all, None, pages_behind, refl, sym, visited, ◌∙◌}
+use Rattle.ksm_pages.proofs.Names.{ap, arith, drop, filter_all, sym, visited, ◌∙◌}
 use Rattle.ksm_order.proofs.Parts.{up_to_few}
 use Rattle.ksm_pages.proofs.Ranked.{behind_is, visited_many}
 use Rattle.ksm_pages.proofs.order.Order.passed.Goals as goal
@@ -13,4 +13,4 @@ returns-in-Some c =
     }
 
 pub returns-in-None-clause-ahead : goal.returns-in-None-clause-ahead
-returns-in-None-clause-ahead c = ap (λ o. pages_behind o (visited c.args.self.now)) c.in-None.is ∙ filter_all (after_cursor None) _ (λ k d lt. refl)
+returns-in-None-clause-ahead c = grind (arith, filter_all)

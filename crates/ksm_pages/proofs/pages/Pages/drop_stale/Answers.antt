@@ -1,5 +1,5 @@
-use Rattle.ksm_pages.proofs.Names.{ap, DupRow, DupsState, elsewhere, filter, frame_of, IsVacant, List, lodging, lodgings_of, PagesValue, rows_of, rows_without, rules, seen, subst, sym, tied_pruned}
-use Rattle.ksm_pages.proofs.Names.{◌∙◌}
+use Rattle.ksm_pages.proofs.Names.{ap, arith, DupRow, DupsState, elsewhere, filter, frame_of, IsVacant, List, lodging, lodgings_of, PagesValue, rows_of, rows_without, rules, seen, subst, sym}
+use Rattle.ksm_pages.proofs.Names.{tied_pruned, ◌∙◌}
 use Rattle.ksm_tree.specs.Dups.{rows_of as dup_rows}
 use Rattle.ksm_pages.proofs.Dropping.{all_elsewhere, lodged_dropped, stale_there}
 use Rattle.ksm_pages.proofs.Paging.{any_at}
@@ -20,7 +20,7 @@ returns-then-is_some c =
     let dropped = (λ i. dup_rows (c.drop_stale.ensures i).dups) ∙ rows_without place _ in
     let lain =
     ap (λ (ds : List DupRow). frame_of (lodgings_of (lodging ds s.frames.items) s.rows.held)) dropped
-    ∙ lodged_dropped _ _ _ (subst (λ (v : PagesValue). IsVacant place v.rows v.dups) (sym c.self.view_is) c.requires) in
+    ∙ lodged_dropped _ _ _ (grind arith) in
     (λ i. record (seen (view_of s)) { dups = dropped i; frame = lain i; next = ap (λ (d : DupsState). d.next) c.drop_stale.ensures i })
     ∙ ap (λ (v : PagesValue). record (seen v) { dups = filter (elsewhere place) v.dups }) c.self.view_is
 

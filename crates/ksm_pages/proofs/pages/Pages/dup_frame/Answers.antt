@@ -1,4 +1,4 @@
-use Rattle.ksm_pages.proofs.Names.{ap, List, slice_get, sym, ℕ, ◌∙◌}
+use Rattle.ksm_pages.proofs.Names.{arith, sym, ◌∙◌}
 use Rattle.std.proofs.Common.{unwrap_or}
 use Rattle.ksm_pages.proofs.Paging.{items_lodge}
 use Rattle.ksm_pages.proofs.pages.Pages.dup_frame.Goals as goal
@@ -6,5 +6,4 @@ use Rattle.ksm_pages.proofs.pages.Pages.dup_frame.Goals as goal
 pub returns : goal.returns
 returns c =
     rw (← c.self.view_is) (items_lodge _ _ c.self.invariant.order c.at.ensures.lawful (c.self.invariant.places ∙ sym c.self.invariant.room)
-    (c.unwrap_or.ensures ∙ ap (λ o. unwrap_or o 0) c.frame_at.ensures
-    ∙ ap (λ (frames : List ℕ). unwrap_or (slice_get frames c.args.place) 0) c.deref.ensures.value))
+    (grind (arith, unwrap_or)))

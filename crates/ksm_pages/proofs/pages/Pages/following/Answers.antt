@@ -1,4 +1,4 @@
-use Rattle.ksm_pages.proofs.Names.{ap, find_passes, held_of, option_map, Row, same_page, same_page_eq, Some, ◌∙◌}
+use Rattle.ksm_pages.proofs.Names.{arith, find_passes, held_of, same_page_eq}
 use Rattle.ksm_pages.proofs.Asked.{first_at}
 use Rattle.ksm_pages.proofs.Leaving.{row_seen}
 use Rattle.ksm_pages.proofs.pages.Pages.following.Goals as goal
@@ -8,6 +8,4 @@ returns-in-Some c =
     let s = c.self.inside in
     let r = (held_of s.rows.pass c.in-Some.field-0.now).row in
     let found = row_seen s c.self.view_is _ c.in-Some.ensures in
-    ap (option_map (λ (x : Row). x.page))
-    (first_at _ _ c.in_ok-page.ensures.next c.in_ok-page.ensures.least _ c.lie_in_order.ensures.rise r found)
-    ∙ ap Some (same_page_eq _ _ (find_passes (λ x. same_page x.page c.in_ok-page.page) _ r found))
+    grind (arith, first_at, same_page_eq, find_passes)

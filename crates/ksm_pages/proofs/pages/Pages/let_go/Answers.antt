@@ -1,7 +1,7 @@
-use Rattle.ksm_pages.proofs.Names.{change_held, false, on_row, refl, Row, settled, ◌≡◌}
+use Rattle.ksm_pages.proofs.Names.{arith, change_held, false, on_row, refl, Row, settled, ◌≡◌}
 use Rattle.ksm_base.specs.Apply.{let_go as as_let_go}
 use Rattle.ksm_pages.proofs.Resting.{went}
-use Rattle.ksm_pages.proofs.Turning.{HasLeft, alone_left, and_then, held_as, rested}
+use Rattle.ksm_pages.proofs.Turning.{alone_left, and_then, HasLeft, held_as, rested}
 use Rattle.ksm_pages.proofs.pages.Pages.let_go.Goals as goal
 
 abbrev as_gone : Row → Row
@@ -15,14 +15,16 @@ turned c =
 
 gone : (c : goal.After-set_mergeable)
     → HasLeft c.self.inside c.args.self.now c.args.spot.page c.leave.new.dups c.deref.result.now c.leave.result
-gone c = alone_left c.self.invariant c.self.view_is c.requires c.leave.ensures
+gone c = grind (arith, alone_left)
 
 pub invariant_of-self : goal.invariant_of-self
 invariant_of-self c =
-    (rested (gone c) c.set_mergeable.new.self refl as_gone as_let_go (λ r. refl) (λ r. refl) c.requires (went (gone c).held.row)
+    (rested (gone c) c.set_mergeable.new.self as_gone as_let_go (λ r. refl) (λ r. refl) c.requires
+    (went (gone c).held.row)
     (turned c)).lawful
 
 pub returns : goal.returns
 returns c =
-    (rested (gone c) c.set_mergeable.new.self refl as_gone as_let_go (λ r. refl) (λ r. refl) c.requires (went (gone c).held.row)
+    (rested (gone c) c.set_mergeable.new.self as_gone as_let_go (λ r. refl) (λ r. refl) c.requires
+    (went (gone c).held.row)
     (turned c)).told_as

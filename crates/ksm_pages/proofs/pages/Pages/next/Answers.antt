@@ -12,7 +12,7 @@ returns-in_err-spot c =
 pub returns-in-Some-guest : goal.returns-in-Some-guest
 returns-in-Some-guest c =
     next_past _ _ _ c.self.inside c.self.invariant c.self.view_is _ c.start_of.ensures.same
-    _ c.in_ok-spot.ensures c.in-Some-guest.is c.if-spot-guest.true (c.start_of.ensures.begun c.in_ok-spot.spot.page (omega arith))
+    _ c.in_ok-spot.ensures c.in-Some-guest.is c.if-spot-guest.true (grind arith)
 
 pub returns-in_default-guest : goal.returns-in_default-guest
 returns-in_default-guest c =

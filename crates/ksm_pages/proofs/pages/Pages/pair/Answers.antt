@@ -1,5 +1,5 @@
-use Rattle.ksm_pages.proofs.Names.{ap, held_of, rules, Some, sym, true≢false, ◌∙◌, ◌≡◌}
-use Rattle.ksm_pages.proofs.Paired.{CanPair, are_apart, both_merged, can_pair, first_there, is_free, lawful_paired, lay_first, lay_second, second_there, told_paired}
+use Rattle.ksm_pages.proofs.Names.{arith, rules, true≢false, ◌≡◌}
+use Rattle.ksm_pages.proofs.Paired.{are_apart, both_merged, can_pair, CanPair, first_there, is_free, lawful_paired, lay_first, lay_second, second_there, told_paired}
 use Rattle.ksm_pages.proofs.pages.Pages.pair.Goals as goal
 use Rattle.ksm_pages.proofs.pages.Pages.pair.Goals.{in_default-via-in-Some+in_default, in_default-via-in_default}
 
@@ -18,7 +18,7 @@ begun c =
 
 pub found-requires-clause-may : goal.found-requires-clause-may
 found-requires-clause-may c = record {
-  below = rw (begun c).kept.places (begun c).may.inside;
+  below = grind (arith, begun);
   free = is_free (begun c);
   apart = are_apart (begun c);
   number = (begun c).may.number;
@@ -28,8 +28,8 @@ pairs : (c : goal.After-self-1)
     → CanPair (record c.self.inside { dups = c.group.new.self }) c.args.self.now c.args.place c.args.first.page c.args.second.page
     c.pass-pass.result c.in-Some-Some.one.now c.in-Some-Some.other.now
 pairs c = can_pair c.self.invariant c.self.view_is c.requires.first
-    (c.in-Some-Some.ensures ∙ ap (λ n. Some (held_of n c.in-Some-Some.one.now)) (sym c.pass-pass.ensures))
-    (c.in-Some-Some.ensures' ∙ ap (λ n. Some (held_of n c.in-Some-Some.other.now)) (sym c.pass-pass.ensures)) c.group.ensures.kept
+    (grind arith)
+    (grind arith) c.group.ensures.kept
 
 turned : (c : goal.After-self-1)
     → c.merge-2.new.self ≡ record c.self.inside.rows

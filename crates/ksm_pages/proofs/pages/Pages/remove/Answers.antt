@@ -1,10 +1,10 @@
-use Rattle.ksm_pages.proofs.Names.{lies_on, None, seen, without_page, ◌∙◌}
+use Rattle.ksm_pages.proofs.Names.{arith}
 use Rattle.ksm_pages.proofs.Turning.{HasLeft, held_as, known_left, lay, parted}
 use Rattle.ksm_pages.proofs.pages.Pages.remove.Goals as goal
 
 gone : (c : goal.After-remove)
     → HasLeft c.self.inside c.args.self.now c.args.spot.page c.leave-left.new.dups c.deref.result.now c.leave-left.result
-gone c = known_left c.self.invariant c.self.view_is c.requires c.leave-left.ensures
+gone c = grind (arith, known_left)
 
 pub invariant_of-self : goal.invariant_of-self
 invariant_of-self c = (parted (gone c) c.remove.new.self (held_as c.remove.ensures)).lawful
@@ -13,8 +13,4 @@ pub returns-clause-left : goal.returns-clause-left
 returns-clause-left c = lay (gone c) c.deref.ensures.value
 
 pub returns-clause-gone : goal.returns-clause-gone
-returns-clause-gone c =
-    let seen_now = seen c.args.self.now in
-    let listed = (λ i. (c.remove.ensures i).restless) ∙ (λ i. (c.self.view_is i).restless) in
-    (parted (gone c) c.remove.new.self (held_as c.remove.ensures)).told_as
-    ∙ (λ i. record seen_now { rows = without_page c.args.spot.page seen_now.rows; frame = lies_on c.args.spot.page None seen_now.frame; restless = listed i })
+returns-clause-gone c = grind (arith, (parted (gone c) c.remove.new.self (held_as c.remove.ensures)).told_as)

@@ -1,4 +1,4 @@
-use Rattle.ksm_pages.proofs.Names.{ap, AreDups, arith, Frames, Inside, length, list_any, PagesValue, seen, sym, true, ℕ, ◌<◌, ◌==◌, ◌∙◌, ◌≡◌}
+use Rattle.ksm_pages.proofs.Names.{ap, AreDups, arith, Frames, Inside, length, list_any, PagesValue, rules, seen, sym, true, ℕ, ◌<◌, ◌==◌, ◌∙◌, ◌≡◌}
 use Rattle.ksm_pages.proofs.Leaving.{AreLawful, view_of}
 use Rattle.ksm_pages.proofs.Moving.{any_below, items_moved}
 use Rattle.ksm_pages.proofs.pages.Pages.set_dup_frame.Goals as goal
@@ -8,7 +8,7 @@ inside : (s : Inside) (p : PagesValue) → view_of s ≡ p → AreLawful s → A
     → list_any (λ d. d.place == place) p.dups ≡ true → place < length s.frames.items
 inside s p seen_as are lawful place there =
     rw (← are.places ∙ sym are.room) (any_below _ _ _ lawful.places_below
-    (ap (λ (v : PagesValue). list_any (λ d. d.place == place) v.dups) seen_as ∙ there))
+    (grind arith))
 
 pub index_mut-requires : goal.index_mut-requires
 index_mut-requires c =
@@ -19,4 +19,4 @@ returns c =
     let s = c.self.inside in
     let fits = inside s _ c.self.view_is c.self.invariant c.at.ensures.lawful _ c.requires in
     rw (← c.self.view_is) (λ k d lt at. ap (λ (f : Frames). record (seen (view_of s)) { frame = f })
-    (items_moved _ c.at.ensures.lawful.in_place_order _ _ _ fits _ k d lt at))
+    (search (rules, items_moved)))

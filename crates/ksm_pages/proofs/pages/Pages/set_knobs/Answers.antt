@@ -1,4 +1,4 @@
-use Rattle.ksm_pages.proofs.Names.{All, false, inl, inr, knobs_tuned, PagesValue, rules, subst, sym, waiting_state, ◌∙◌, ◌≡◌}
+use Rattle.ksm_pages.proofs.Names.{All, arith, false, inl, inr, knobs_tuned, PagesValue, rules, subst, sym, waiting_state, ◌≡◌}
 use Rattle.ksm_pages.proofs.Paging.{knobs_free}
 use Rattle.ksm_pages.proofs.pages.Pages.set_knobs.Goals as goal
 
@@ -13,7 +13,7 @@ invariant_of-self c =
       places = c.self.invariant.places;
       waits = elim c.requires [
         | inl same ↦ knobs_tuned s.knobs _ _ c.self.invariant.waits c.args.knobs
-            (same ∙ sym (λ i. (c.self.view_is i).knobs.merge_across_nodes))
+            (grind arith)
         | inr still ↦ knobs_free s.knobs c.args.knobs _ _ c.self.invariant.waits
             (subst (λ (v : PagesValue). All (λ r. waiting_state r.state ≡ false) v.rows) (sym c.self.view_is) still)
       ];

@@ -1,5 +1,6 @@
-use Rattle.ksm_pages.proofs.Names.{ap, change_row, held_of, refl, rules, seen, Some, stored, sym, ◌∙◌}
-use Rattle.ksm_pages.proofs.Turning.{Comes, HasLeft, found_left, held_as, rested}
+use Rattle.ksm_pages.proofs.Names.{ap, arith, change_row, held_of, refl, seen, Some, stored, sym, ◌∙◌}
+use Rattle.ksm_pages.proofs.Leaving.{Comes}
+use Rattle.ksm_pages.proofs.Turning.{found_left, HasLeft, held_as, rested}
 use Rattle.ksm_pages.proofs.pages.Pages.store.Goals as goal
 
 -- a Private page is in nothing, and leaves nothing
@@ -7,7 +8,7 @@ alone : (c : goal.After-store) → HasLeft c.self.inside c.args.self.now c.args.
 alone c =
     found_left c.self.invariant c.self.view_is
     (c.in-Some.ensures ∙ ap (λ n. Some (held_of n c.in-Some.entry.now)) (sym c.pass.ensures))
-    (record { dups = search rules; waiting = search rules; frame = search rules })
+    (grind arith)
 
 -- it gets its bytes
 written : (c : goal.After-store) → Comes c.self.inside c.store.new.self c.self.inside.dups (record (seen c.args.self.now) {
@@ -16,7 +17,7 @@ written : (c : goal.After-store) → Comes c.self.inside c.store.new.self c.self
 })
 unfolding alone
 written c =
-    rested (alone c) c.store.new.self refl _ (stored c.args.bytes.now) (λ r. refl) (λ r. refl) c.requires
+    rested (alone c) c.store.new.self _ (stored c.args.bytes.now) (λ r. refl) (λ r. refl) c.requires
     (λ _. ap (λ st. record (stored c.args.bytes.now (alone c).held.row) { state = st }) (sym c.in-Private.ensures)) (held_as c.store.ensures)
 
 pub invariant_of-self : goal.invariant_of-self

@@ -1,7 +1,7 @@
 use Rattle.ksm_pages.proofs.Names.{change_row, refl, rules, seen, settled, stored}
-use Rattle.ksm_pages.proofs.Leaving.{alone_there}
+use Rattle.ksm_pages.proofs.Leaving.{alone_there, Comes}
 use Rattle.ksm_pages.proofs.Resting.{put_bytes, stored_settled}
-use Rattle.ksm_pages.proofs.Turning.{Comes, HasLeft, and_then, held_as, rested}
+use Rattle.ksm_pages.proofs.Turning.{and_then, HasLeft, held_as, rested}
 use Rattle.ksm_pages.proofs.pages.Pages.store_any.Goals as goal
 
 pub returns-in_default : goal.returns-in_default
@@ -17,7 +17,7 @@ settled_too : (c : goal.After-store) → Comes c.self.inside c.store.new.self c.
   restless = c.store.new.self.restless;
 })
 settled_too c =
-    rested (left c) c.store.new.self refl (λ r. put_bytes c.args.bytes.now (settled r)) _ (λ r. refl) (λ r. refl) c.requires
+    rested (left c) c.store.new.self (λ r. put_bytes c.args.bytes.now (settled r)) _ (λ r. refl) (λ r. refl) c.requires
     (stored_settled c.args.bytes.now (left c).held.row)
     (and_then _ _ _ (λ r. refl) _ (held_as c.stop_waiting.ensures) (held_as c.store.ensures))
 

@@ -1,6 +1,6 @@
-use Rattle.ksm_pages.proofs.Names.{ap, ap₂, arith, held_of, List, lodging, refl, rules, Some, sym, ℕ, ◌∙◌}
+use Rattle.ksm_pages.proofs.Names.{arith, held_of, lodging, refl, rules}
 use Rattle.ksm_tree.specs.Dups.{rows_of as dup_rows}
-use Rattle.ksm_pages.proofs.Lodgings.{frame_by, seat}
+use Rattle.ksm_pages.proofs.Lodgings.{frame_by}
 use Rattle.ksm_pages.proofs.Changing.{row_told}
 use Rattle.ksm_pages.proofs.pages.Pages.told.Goals as goal
 
@@ -20,8 +20,5 @@ returns c =
       spot = c.in_ok-spot.ensures.0;
       home = refl;
       shared = grind arith;
-      frame = c.frame_of.ensures
-          ∙ ap₂ (λ (frames : List ℕ) pass. seat (lodging (dup_rows s.dups.dups) frames) (Some (held_of pass e))) c.deref.ensures.value c.pass.ensures
-          ∙ ap (seat of_dup) (sym c.in_ok-spot.ensures.1)
-          ∙ sym (frame_by of_dup s.rows.held page);
+      frame = grind (arith, frame_by);
     })

@@ -7,10 +7,10 @@ use Rattle.ksm_pages.proofs.pages.Pages.unshare_all.Goals as goal
 pub invariant_of-self : goal.invariant_of-self
 invariant_of-self c =
     (rest_all c.self.inside c.self.invariant c.self.view_is _ (λ r. refl) (λ r. refl) c.unshare_all.new.self
-    (held_as c.unshare_all.ensures) refl c.clear_waiting.ensures).lawful
+    (held_as c.unshare_all.ensures) c.clear_waiting.ensures).lawful
 
 pub returns : goal.returns
 returns c =
     (rest_all c.self.inside c.self.invariant c.self.view_is _ (λ r. refl) (λ r. refl) c.unshare_all.new.self
-    (held_as c.unshare_all.ensures) refl c.clear_waiting.ensures).told_as
+    (held_as c.unshare_all.ensures) c.clear_waiting.ensures).told_as
     ∙ ap (λ rows. record (seen c.args.self.now) { rows = rows; restless = c.unshare_all.new.self.restless }) (grind (arith, map_alike, rests))

@@ -1,11 +1,10 @@
 use Rattle.ksm_pages.proofs.Gathering.{restless_as}
-use Rattle.ksm_pages.proofs.Names.{ap, arith, held_of, Private, refl, Row, rules, seen, settled, Some, sym, true, ◌∙◌}
+use Rattle.ksm_pages.proofs.Names.{arith, Private, refl, Row, rules, seen, settled, sym, true, ◌∙◌}
 use Rattle.ksm_pages.specs.Paged.{visited}
-use Rattle.ksm_pages.proofs.Leaving.{row_seen, view_of}
-use Rattle.ksm_pages.proofs.Resting.{rests}
-use Rattle.ksm_pages.proofs.Turning.{Comes, found_left, held_as, rested}
+use Rattle.ksm_pages.proofs.Leaving.{Comes, row_seen, view_of}
+use Rattle.ksm_pages.proofs.Turning.{found_left, held_as, rested}
 use Rattle.ksm_tree.proofs.Numbers.{on_err}
-use Rattle.ksm_pages.proofs.Visiting.{IsAsked, asked, finds_changed, finds_dup, finds_gone, finds_partner, finds_waits, finds_zero, is_alone, lawful_waits}
+use Rattle.ksm_pages.proofs.Visiting.{asked, finds_changed, finds_dup, finds_gone, finds_partner, finds_waits, finds_zero, is_alone, IsAsked, waits_then}
 use Rattle.ksm_pages.proofs.pages.Pages.visit.Goals as goal
 use Rattle.ksm_pages.proofs.pages.Pages.visit.Goals.{After-best_of}
 
@@ -37,12 +36,10 @@ went : (c : goal.After-become_unchanged)
     Comes s c.become_unchanged.new.self c.left_by.new.dups (visited c.args.spot.page found (seen (view_of s)))
 went c it =
     let s = record c.self.inside { dups = c.group.new.self } in
-    let row = (held_of c.pass-pass.result c.in-Some.entry.now).row in
-    let there = it.found ∙ ap (λ n. Some (held_of n c.in-Some.entry.now)) (sym c.pass-pass.ensures) in
-    rested (found_left {s = s} {p = view_of s} it.lawful refl there c.left_by.ensures) c.become_unchanged.new.self
-    (λ i. (c.become_unchanged.ensures i).restless)
-    kept found (λ r. refl) (λ r. refl) (is_alone s it.lawful _ c.in-Some.entry.now it.found it.restless)
-    (λ alone i. record row { unchanged = true; state = rests _ alone i }) (held_as c.become_unchanged.ensures)
+    let left = found_left {s = s} {p = view_of s} it.lawful refl (rw c.pass-pass.ensures it.found) c.left_by.ensures in
+    let now = rested left c.become_unchanged.new.self kept found (λ r. refl) (λ r. refl)
+    (grind (arith, is_alone)) (λ alone. grind (arith, alone)) (held_as c.become_unchanged.ensures) in
+    grind arith
 
 pub invariant_of-self-then-not-entry : goal.invariant_of-self-then-not-entry
 invariant_of-self-then-not-entry c = search (rules, went, known)
@@ -58,9 +55,11 @@ returns-then-is_for_zero-clause-found c =
 
 pub invariant_of-self-then-eq : goal.invariant_of-self-then-eq
 invariant_of-self-then-eq c =
-    lawful_waits (known (goal.at.invariant_of-self-then-eq c).After-best_of) c.in_default-best_of.ensures.best c.if-not-entry.false
+    (waits_then (known (goal.at.invariant_of-self-then-eq c).After-best_of) c.in_default-best_of.ensures.best
+    c.if-not-entry.false
     (sym c.if-is_for_zero.ensures) c.meet-other.ensures.met c.meet-other.ensures.again (sym c.if-eq.ensures)
-    c.meet-other.ensures.kept c.meet-other.ensures.added c.remember.new.rows (c.remember.ensures ∙ c.wait.ensures)
+    c.meet-other.ensures.kept c.meet-other.ensures.added c.remember.new.rows
+    (c.remember.ensures ∙ c.wait.ensures)).lawful
 
 pub returns-then-eq-clause-found : goal.returns-then-eq-clause-found
 returns-then-eq-clause-found c =
@@ -71,7 +70,7 @@ returns-then-eq-clause-found c =
 pub returns-clause-found : goal.returns-clause-found
 returns-clause-found c =
     finds_partner (known (goal.at.returns-clause-found c).After-best_of) c.in_default-best_of.ensures.best c.if-not-entry.false
-    (sym c.if-is_for_zero.ensures) c.meet-other.ensures.met c.meet-other.ensures.again (sym c.if-eq.ensures)
+    (grind arith) c.meet-other.ensures.met c.meet-other.ensures.again (sym c.if-eq.ensures)
 
 pub returns-in_err-group-clause-restless : goal.returns-in_err-group-clause-restless
 returns-in_err-group-clause-restless c = grind (arith, on_err, row_seen, restless_as)

@@ -6,7 +6,7 @@ use Rattle.ksm_pages.proofs.pages.Pages.waits.Goals.{After-state}
 -- whether the row waits is told by its state
 told : (c : After-state) (b : Bool) → b ≡ waiting_state c.state.result
     → MatchOption (row_at c.args.spot.page c.args.self.now.rows) (b ≡ false) (λ r. b ≡ waiting_state r.state)
-told c b is = grind (arith, row_seen, c.self.view_is, c.in-Some.ensures, c.state.ensures, c.pass.ensures)
+told c b is = grind (arith, row_seen)
 
 pub returns-in-Waiting : goal.returns-in-Waiting
 returns-in-Waiting c = search (rules, told)

@@ -1,6 +1,6 @@
-use Rattle.ksm_pages.proofs.Names.{ap, comes_before, filter, find, inl, is_some, Listing, map-append, pages_of, pages_ordered, refl, rules, same_page, Spot, sym, with_found, with_item, ◌++◌, ◌∙◌, ◌∷◌}
-use Rattle.ksm_pages.proofs.Names.{◌≡◌}
-use Rattle.ksm_pages.proofs.Keyed.{write_at}
+use Rattle.ksm_pages.proofs.Names.{ap, arith, comes_before, filter, find, inl, is_some, Listing, map-append, pages_of, pages_ordered, refl, rules, same_page, Spot, sym, with_found, with_item, ◌++◌}
+use Rattle.ksm_pages.proofs.Names.{◌∙◌, ◌∷◌, ◌≡◌}
+use Rattle.ksm_pages.proofs.Found.{write_at}
 use Rattle.ksm_rmap.proofs.Ordered.{insert_at, none_of}
 use Rattle.ksm_pages.proofs.Spots.{listed_found, page_of, pages_kept, pages_rise, put_rises, same_pages, unlisted}
 use Rattle.ksm_pages.proofs.restless.Restless.add.Goals as goal
@@ -19,7 +19,7 @@ returns-then-found c =
     record {
       added = inl (ap (λ ps. record { pages = ps; known = c.self.inside.known }) (same ∙ with_found pages_ordered _ _ (pages_rise _ c.self.invariant) has)
           ∙ ap (λ (l : Listing). record l { pages = with_item spot.page l.pages }) c.self.view_is);
-      again = λ _. ap (λ ps. record { pages = ps; known = c.self.inside.known }) same ∙ c.self.view_is;
+      again = grind arith;
     }
 
 -- the spot is put in at its place
@@ -27,7 +27,7 @@ put : (c : In-Ok) → c.put_in.new.spots.items ≡ filter (λ s. comes_before s.
 put c =
     c.in-Ok.ensures.put
     ∙ insert_at pages_ordered page_of c.args.spot.page _ c.self.invariant c.as_slice.ensures.value c.as_slice-2.ensures.value c.place_near-at.ensures.count
-    _ (none_of _ (sym c.if-found.ensures.found))
+    _ (grind (arith, none_of))
 
 pub invariant_of-self-in-Ok : goal.invariant_of-self-in-Ok
 invariant_of-self-in-Ok c = search (rules, put, put_rises)

@@ -1,12 +1,12 @@
-use Rattle.ksm_pages.proofs.Names.{[], after_cursor, ap, comes_before, filter, filter_none, GuestPage, IsPartitionPoint-from_clause, length, List, Listing, None, not, Option, point_is_count, refl}
-use Rattle.ksm_pages.proofs.Names.{rules, sym, ◌∙◌, ◌≡◌}
-use Rattle.ksm_pages.proofs.Keyed.{parted_behind}
+use Rattle.ksm_pages.proofs.Names.{after_cursor, ap, arith, comes_before, filter, filter_none, GuestPage, IsPartitionPoint-from_clause, length, List, Listing, None, not, Option, point_is_count, rules}
+use Rattle.ksm_pages.proofs.Names.{sym, [], ◌∙◌, ◌≡◌}
+use Rattle.ksm_pages.proofs.Found.{parted_behind}
 use Rattle.ksm_pages.proofs.Spots.{many_kept, page_of}
 use Rattle.ksm_pages.proofs.restless.Restless.up_to.Goals as goal
 
 -- all pages come after an empty cursor
 none_up_to : (pages : List GuestPage) → filter (λ p. not (after_cursor None p)) pages ≡ []
-none_up_to pages = filter_none (λ p. not (after_cursor None p)) pages (λ k d lt. refl)
+none_up_to pages = grind (arith, filter_none)
 
 pub returns-in-None : goal.returns-in-None
 returns-in-None c =

@@ -1,4 +1,4 @@
-use Rattle.ksm_pages.proofs.Names.{held_at, held_of, IsUnder, same_page_eq, Some, sym, ◌∙◌}
+use Rattle.ksm_pages.proofs.Names.{arith, held_at, held_of, IsUnder, same_page_eq, Some, sym, ◌∙◌}
 use Rattle.ksm_pages.proofs.Writing.{row_there}
 use Rattle.ksm_pages.proofs.rows.Rows.at.Goals as goal
 
@@ -7,7 +7,7 @@ returns-in-Some c =
     let s = c.self.inside in
     let page = c.args.spot.page in
     let e = c.in-Some.entry.now in
-    let there : IsUnder s.entries page c.args.spot.key = record { entry = e; stands = sym c.in-Some.ensures; of_page = same_page_eq _ _ (sym c.if-eq.ensures) } in
+    let there : IsUnder s.entries page c.args.spot.key = grind (arith, same_page_eq) in
     (λ i. held_at page (sym c.self.view_is i).held)
     ∙ row_there s c.self.invariant there (sym c.in-Some.ensures)
     ∙ (λ i. Some (held_of (c.self.view_is i).pass e))

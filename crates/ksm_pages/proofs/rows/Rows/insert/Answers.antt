@@ -1,32 +1,32 @@
-use Rattle.ksm_pages.proofs.Names.{ap, arith, Entry, false, get, held_in, held_of, mapped, rules, Some, subst, sym, true, with_held, ◌∙◌, ◌≡◌}
+use Rattle.ksm_pages.proofs.Names.{arith, Entry, false, get, None, rules, Some, true, ◌≡◌}
 use Rattle.slab.specs.Slab.{Updates as Fills}
 use Rattle.ksm_pages.specs.declared.row.Kind.TheVariants as kinds
-use Rattle.ksm_pages.proofs.Writing.{no_name, rests_now, seen_with_room, still_put, viewed_put, with_room}
+use Rattle.ksm_pages.proofs.Writing.{no_name, rests_now, still_put, viewed_put}
 use Rattle.ksm_pages.proofs.rows.Rows.insert.Goals as goal
 
 pub insert-requires : goal.insert-requires
 insert-requires c = search (rules, no_name)
 
+abbrev fresh : goal.After-add → Entry
+fresh c = record { page = c.args.page; bytes = c.args.bytes; number = 0; at = c.args.frame; home = c.args.home;
+    group = 4294967295; kind = kinds.Own; mergeable = true; unchanged = false }
+
+-- the entry came under the key that was vacant
+came : (c : goal.After-add)
+    → (get c.reserve_one.new.slab c.in-Ok.key ≡ None) × Fills c.reserve_one.new.slab c.insert_reserved.new.self c.in-Ok.key (Some (fresh c))
+came c =
+    let key : c.insert_reserved.result ≡ c.in-Ok.key = search rules in
+    grind arith
+
 pub invariant_of-self-2 : goal.invariant_of-self-2
 invariant_of-self-2 c =
-    let s = c.self.inside in
-    let e : Entry = record { page = c.args.page; bytes = c.args.bytes; number = 0; at = c.args.frame; home = c.args.home; group = 4294967295; kind = kinds.Own; mergeable = true; unchanged = false } in
-    let key : c.insert_reserved.result ≡ c.in-Ok.key = search rules in
-    let fills = subst (λ n. Fills c.reserve_one.new.slab c.insert_reserved.new.self n (Some e)) key c.insert_reserved.ensures.updates in
-    let vacant = ap (λ n. get c.reserve_one.new.slab n) (sym key) ∙ c.insert_reserved.ensures.was_vacant in
     rw c.in_ok-insert.ensures.added
-    (still_put (record s { entries = c.reserve_one.new.slab }) (with_room s c.self.invariant c.reserve_one.ensures.rest)
-    (seen_with_room s c.self.view_is c.reserve_one.ensures.rest) vacant c.requires.absent fills
+    (still_put c.self.inside c.self.invariant c.self.view_is c.reserve_one.ensures.rest (came c).0 c.requires.absent
+    (came c).1
     (rests_now _ c.self.invariant.counting) (omega arith) c.add.ensures.added)
 
 pub returns-clause-added : goal.returns-clause-added
 returns-clause-added c =
-    let s = c.self.inside in
-    let e : Entry = record { page = c.args.page; bytes = c.args.bytes; number = 0; at = c.args.frame; home = c.args.home; group = 4294967295; kind = kinds.Own; mergeable = true; unchanged = false } in
-    let key : c.insert_reserved.result ≡ c.in-Ok.key = search rules in
-    let fills = subst (λ n. Fills c.reserve_one.new.slab c.insert_reserved.new.self n (Some e)) key c.insert_reserved.ensures.updates in
-    let vacant = ap (λ n. get c.reserve_one.new.slab n) (sym key) ∙ c.insert_reserved.ensures.was_vacant in
-    ap (λ order. record { held = held_in s.pass c.insert_reserved.new.self order; restless = c.add.new.self; pass = s.pass }) c.in_ok-insert.ensures.added
-    ∙ viewed_put (record s { entries = c.reserve_one.new.slab }) (with_room s c.self.invariant c.reserve_one.ensures.rest)
-    (seen_with_room s c.self.view_is c.reserve_one.ensures.rest) vacant c.requires.absent fills _
-    ∙ (λ i. record c.args.self.now { held = with_held (mapped (rests_now _ c.self.invariant.counting i) (Some c.args.frame) (held_of s.pass e)) c.args.self.now.held; restless = c.add.new.self })
+    let now = viewed_put c.self.inside c.self.invariant c.self.view_is c.reserve_one.ensures.rest (came c).0
+    c.requires.absent (came c).1 c.add.new.self in
+    grind (arith, now, c.in_ok-insert.ensures.added, rests_now c.self.inside.pass c.self.invariant.counting)

@@ -1,5 +1,5 @@
-use Rattle.ksm_pages.proofs.Names.{refl, rules}
-use Rattle.ksm_pages.proofs.Writing.{can_be, kept, never, nothing, viewed_same}
+use Rattle.ksm_pages.proofs.Names.{arith, refl, rules}
+use Rattle.ksm_pages.proofs.Writing.{can_be, kept, nothing, viewed_same}
 use Rattle.ksm_pages.proofs.rows.Rows.merge.Goals as goal
 
 pub returns-in_default : goal.returns-in_default
@@ -11,7 +11,7 @@ change-requires c = search (rules, can_be c.self.inside c.self.invariant c.in-So
 pub invariant_of-self : goal.invariant_of-self
 invariant_of-self c =
     kept c.self.inside c.self.invariant c.in-Some.ensures.there c.index_mut-entry.ensures.value _ refl
-    refl (λ is. cc) (λ may. never _ may) _ c.let_be.ensures c.state-old.ensures refl c.change.ensures
+    c.state-old.ensures refl c.change.ensures refl (λ is. cc) (λ may. absurd (grind arith)) _ c.let_be.ensures
 
 pub returns : goal.returns
 returns c = search (rules, viewed_same)

@@ -1,4 +1,4 @@
-use Rattle.ksm_pages.proofs.Names.{[], ap, ap₂, Bool, change_held, cond, false, GuestPage, Held, List, refl, rules, true, ◌∙◌, ◌∷◌, ◌≡◌}
+use Rattle.ksm_pages.proofs.Names.{ap, ap₂, Bool, change_held, cond, false, GuestPage, Held, List, refl, rules, true, [], ◌∙◌, ◌∷◌, ◌≡◌}
 use Rattle.ksm_pages.proofs.Writing.{untouched, viewed_same}
 use Rattle.ksm_pages.proofs.rows.Rows.remember.Goals as goal
 

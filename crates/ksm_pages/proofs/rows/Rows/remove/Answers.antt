@@ -1,4 +1,4 @@
-use Rattle.ksm_pages.proofs.Names.{ap, is_some, rules, sym, ◌∙◌}
+use Rattle.ksm_pages.proofs.Names.{rules}
 use Rattle.ksm_pages.proofs.Writing.{can_be, nothing_gone, still_gone, viewed_gone}
 use Rattle.ksm_pages.proofs.Options.{some_mapped}
 use Rattle.ksm_pages.proofs.rows.Rows.remove.Goals as goal
@@ -10,9 +10,7 @@ pub change-requires : goal.change-requires
 change-requires c = search (rules, can_be c.self.inside c.self.invariant c.in-Some.ensures.there)
 
 pub remove-requires : goal.remove-requires
-remove-requires c = record {
-  there = sym (some_mapped _ _) ∙ ap is_some (sym c.in-Some.ensures.told);
-}
+remove-requires c = search (rules, some_mapped)
 
 pub invariant_of-self : goal.invariant_of-self
 invariant_of-self c =

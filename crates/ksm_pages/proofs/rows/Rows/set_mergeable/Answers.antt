@@ -1,4 +1,4 @@
-use Rattle.ksm_pages.proofs.Names.{ap, arith, held_in, refl, rules, sym, with_value, ◌∙◌}
+use Rattle.ksm_pages.proofs.Names.{arith, refl, rules, sym, ◌∙◌}
 use Rattle.ksm_pages.proofs.Writing.{listed_calm, listed_now, nothing, still_marked, untouched, viewed, viewed_marked}
 use Rattle.ksm_pages.proofs.rows.Rows.set_mergeable.Goals as goal
 
@@ -16,10 +16,8 @@ returns-then-was-mergeable c = search (rules, viewed c.self.inside c.self.invari
 pub invariant_of-self-then-restless : goal.invariant_of-self-then-restless
 invariant_of-self-then-restless c =
     let s = c.self.inside in
-    let there = c.in-Some.ensures.there in
-    let stood = c.index_mut-entry.ensures.value in
-    rw c.mark.ensures
-    (still_marked s c.self.invariant there stood _ refl refl refl (listed_now s c.self.invariant there stood _ refl c.add.ensures.added))
+    search (rules, c.mark.ensures, still_marked s c.self.invariant c.in-Some.ensures.there, listed_now s
+    c.self.invariant c.in-Some.ensures.there)
 
 pub invariant_of-self-else-restless : goal.invariant_of-self-else-restless
 invariant_of-self-else-restless c =
@@ -31,14 +29,12 @@ invariant_of-self-else-restless c =
 
 pub returns-then-restless : goal.returns-then-restless
 returns-then-restless c =
-    let s = c.self.inside in
-    let e' = record c.index_mut-entry.result.now { mergeable = c.args.mergeable } in
-    ap (λ order. record { held = held_in s.pass (with_value s.entries c.in-Some.key e') order; restless = c.add.new.self; pass = s.pass }) c.mark.ensures
-    ∙ viewed_marked s c.self.invariant c.in-Some.ensures.there c.index_mut-entry.ensures.value _ refl _ refl _ _ c.self.view_is
+    rw c.mark.ensures
+    (viewed_marked c.self.inside c.self.invariant c.in-Some.ensures.there c.index_mut-entry.ensures.value _ refl _ refl
+    _ _ c.self.view_is)
 
 pub returns-else-restless : goal.returns-else-restless
 returns-else-restless c =
-    let s = c.self.inside in
-    let e' = record c.index_mut-entry.result.now { mergeable = c.args.mergeable } in
-    ap (λ order. record { held = held_in s.pass (with_value s.entries c.in-Some.key e') order; restless = c.let_be.new.self; pass = s.pass }) c.mark.ensures
-    ∙ viewed_marked s c.self.invariant c.in-Some.ensures.there c.index_mut-entry.ensures.value _ refl _ refl _ _ c.self.view_is
+    rw c.mark.ensures
+    (viewed_marked c.self.inside c.self.invariant c.in-Some.ensures.there c.index_mut-entry.ensures.value _ refl _ refl
+    _ _ c.self.view_is)

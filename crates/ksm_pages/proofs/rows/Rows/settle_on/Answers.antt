@@ -1,4 +1,4 @@
-use Rattle.ksm_pages.proofs.Names.{ap, arith, held_of, mapped, refl, rules, Some, sym}
+use Rattle.ksm_pages.proofs.Names.{arith, refl, rules, sym}
 use Rattle.ksm_pages.proofs.Writing.{can_be, kept, listed_now, nothing, rests_now, still, viewed}
 use Rattle.ksm_pages.proofs.rows.Rows.settle_on.Goals as goal
 
@@ -13,24 +13,20 @@ invariant_of-self c =
     let s = c.self.inside in
     let there = c.in-Some.ensures.there in
     let stood = c.index_mut-entry.ensures.value in
-    still s c.self.invariant there stood _ refl refl (λ own. omega arith) (listed_now s c.self.invariant there stood _ refl c.add.ensures.added)
-    c.state-old.ensures (sym (rests_now _ c.self.invariant.counting)) c.change.ensures
+    still s c.self.invariant there stood _ refl c.state-old.ensures (sym (rests_now _ c.self.invariant.counting))
+    c.change.ensures refl
+    (λ own. omega arith) (listed_now s c.self.invariant there stood _ refl c.add.ensures.added)
 
 pub invariant_of-self-else-restless-was_restless : goal.invariant_of-self-else-restless-was_restless
 invariant_of-self-else-restless-was_restless c =
-    kept c.self.inside c.self.invariant c.in-Some.ensures.there c.index_mut-entry.ensures.value _ refl refl (λ own. omega arith)
-    (λ may. grind arith) _ refl c.state-old.ensures (sym (rests_now _ c.self.invariant.counting)) c.change.ensures
+    kept c.self.inside c.self.invariant c.in-Some.ensures.there c.index_mut-entry.ensures.value _ refl
+    c.state-old.ensures (grind (arith, rests_now)) c.change.ensures refl (λ own. omega arith) (λ may. grind arith) _
+    refl
 
 pub returns-then-restless-was_restless : goal.returns-then-restless-was_restless
 returns-then-restless-was_restless c =
-    let s = c.self.inside in
-    let e = c.index_mut-entry.result.now in
-    viewed s c.self.invariant c.in-Some.ensures.there c.index_mut-entry.ensures.value _ refl
-    _ (ap (λ st. mapped st (Some c.args.frame) (held_of s.pass e)) (rests_now _ c.self.invariant.counting)) _ c.self.view_is
+    search (rules, rests_now, viewed c.self.inside c.self.invariant c.in-Some.ensures.there)
 
 pub returns-else-restless-was_restless : goal.returns-else-restless-was_restless
 returns-else-restless-was_restless c =
-    let s = c.self.inside in
-    let e = c.index_mut-entry.result.now in
-    viewed s c.self.invariant c.in-Some.ensures.there c.index_mut-entry.ensures.value _ refl
-    _ (ap (λ st. mapped st (Some c.args.frame) (held_of s.pass e)) (rests_now _ c.self.invariant.counting)) _ c.self.view_is
+    search (rules, rests_now, viewed c.self.inside c.self.invariant c.in-Some.ensures.there)

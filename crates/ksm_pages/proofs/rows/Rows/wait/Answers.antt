@@ -16,7 +16,7 @@ invariant_of-self c =
     let s = c.self.inside in
     let waits = waits_now _ (own_there s c.self.invariant c.in-Some.ensures.there c.index_mut-entry.ensures.value c.self.view_is c.requires.own) in
     kept s c.self.invariant c.in-Some.ensures.there c.index_mut-entry.ensures.value _ refl
-    refl (λ own. omega arith) (λ may. may) _ refl c.state_alone-old.ensures (sym waits) c.change.ensures
+    c.state_alone-old.ensures (sym waits) c.change.ensures refl (λ own. omega arith) (λ may. may) _ refl
 
 pub returns : goal.returns
 returns c = search (rules, waits_now, own_there, viewed_same)
