@@ -1,9 +1,9 @@
 -- The steps of a pass over what is due, and what it comes to in the words of a part of a pass.
-use Rattle.ksm_book.proofs.Names.{[], after_cursor, All, ap, AreAscending, AreDue, Bool, BookState, BookValue, Comes, cond_both, Deed, doing, due_visited, due_visits, false, filter, filter_none}
+use Rattle.ksm_book.proofs.Names.{after_cursor, All, ap, AreAscending, AreDue, BookState, BookValue, Bool, Comes, cond_both, Deed, doing, due_visited, due_visits, false, filter, filter_none}
 use Rattle.ksm_book.proofs.Names.{GuestPage, has_item, hidden_from, is_none, IsSound, IsStill, List, None, not, Option, pages_ahead, pages_visited, part_visited, pass_begun, Reached, ReachedBefore}
-use Rattle.ksm_book.proofs.Names.{refl, restless_at, Some, StaysBefore, StopsDue, StopsInPart, subst, sym, true, with_none_waiting, ◌∙◌, ◌≡◌}
-use Rattle.ksm_book.specs.Scanned.{HasVisited, StaysStill, StopsBefore, ahead_before, ahead_up_to}
-use Rattle.ksm_book.proofs.DueAlike.{due_goes}
+use Rattle.ksm_book.proofs.Names.{refl, restless_at, Some, StaysBefore, StopsDue, StopsInPart, subst, sym, true, with_none_waiting, [], ◌∙◌, ◌≡◌}
+use Rattle.ksm_book.specs.Scanned.{ahead_before, ahead_up_to, HasVisited, StaysStill, StopsBefore}
+use Rattle.ksm_book.proofs.DueAlike.{due_keeps}
 use Rattle.ksm_book.proofs.DueKept.{undue_stay}
 use Rattle.ksm_book.proofs.DuePasses.{ahead_all, all_visited, before_part, before_visited, next_visited, whole_part}
 use Rattle.ksm_book.proofs.Dues.{IsFirst}
@@ -42,7 +42,7 @@ module _ (old mid : BookValue) (sound : IsSound old.state) (start : old.state.cu
     known page restless =
         let done = filter (λ p. not (after_cursor last p)) (pages_ahead s.0) in
         let begins = subst (λ (b : BookState). b.cursor ≡ None) before.0 start in
-        rw (← ((due_goes done s sound_now).mergeable ∙ sym (ahead_all s sound_now begins)))
+        rw (← ((due_keeps done s sound_now).1.mergeable ∙ sym (ahead_all s sound_now begins)))
         (restless_mergeable page (passed_to last s).0.rows restless)
 
   -- where no page behind the last is due, all pages ahead were visited

@@ -1,6 +1,6 @@
 -- What a visit leaves due, by what was found of the page; and what is due where all restless pages are listed.
-use Rattle.ksm_book.proofs.Names.{ap, AreAllListed, AreDue, BookState, BookView, false, FindsAt, GuestPage, InPageOrder, IsDueNoMore, KeeperView, List, MatchOption, None, Option, PagesView, refl}
-use Rattle.ksm_book.proofs.Names.{restless_row, Row, row_at, Some, state_of, subst, sym, true, true≢false, ℕ, ◌∙◌, ◌∷◌, ◌≡◌}
+use Rattle.ksm_book.proofs.Names.{ap, AreAllListed, AreDue, arith, BookState, BookView, FindsAt, GuestPage, InPageOrder, IsDueNoMore, KeeperView, List, MatchOption, None, Option, PagesView, refl}
+use Rattle.ksm_book.proofs.Names.{restless_row, Row, row_at, Some, state_of, subst, sym, true≢false, ℕ, ◌∙◌, ◌∷◌, ◌≡◌}
 use Rattle.ksm_pages.specs.declared.pages.Find.TheVariants as finds
 use Rattle.ksm_pages.specs.Paged.{Finds}
 use Rattle.ksm_book.proofs.DueKept.{calm_undue, waits_undue}
@@ -12,7 +12,7 @@ pub waits_due : {p q : PagesView} {k : KeeperView} {cursor : Option GuestPage} {
 waits_due {p} {cursor = cursor} {passes} {page = page} at pages was =
     let so = at.so in
     rw so.5
-    (waits_undue (state_of p cursor passes) _ (there_is at) so.0 so.1 so.2 so.3 at.sound.rows_rise pages
+    (waits_undue (state_of p cursor passes) _ (there_is at) at.sound.rows_rise (grind arith) pages
     (rw (page_is at) (subst (λ (x : BookView). AreDue x.state (page ∷ pages)) (sym at.is) was)))
 
 -- a page found gone is not due
