@@ -1,12 +1,12 @@
 -- Visits of pages do what those of the definitions do, where the rows further on that still wait are hidden from these.
-use Rattle.ksm_book.proofs.Names.{after_cursor, All, All-cons, All-map, ap, AreAscending, arith, before_irrefl, best_dup, BookState, Bool, cases_Bool, change_row, change_rows, comes_before, cond_both}
-use Rattle.ksm_book.proofs.Names.{count_mapped, Deed, doing, due_row_visited, due_visited, due_visits, dup_frame, DupRow, each_at_page, false, find_all, find_mapped, find_none, find_nothing}
-use Rattle.ksm_book.proofs.Names.{find_passes, Frames, get_or, get_or_from_slice_get, GuestPage, handled, has_item, HasStayed, hidden, if◌then◌else◌, inl, InPageOrder, inr, is_best, is_for_zero}
-use Rattle.ksm_book.proofs.Names.{is_no_rival, is_restless, is_stale, IsSound, item_count, Knobs, List, map_alike, map_mapped, may_join, mergeable_pages, Merged, merged_into, new_place, None, not}
-use Rattle.ksm_book.proofs.Names.{not_both, one_before, Option, option_map, page, page_visited, pages_visited, PageState, paired, pairs_head, pairs_tail, partner, place_count, refl, restless_at}
-use Rattle.ksm_book.proofs.Names.{restless_row, Row, row_at, row_visited, row_visiting, same_page, same_page_eq, same_page_refl, settled, settled_calmer, slice_get_within, Some, sound_changed}
-use Rattle.ksm_book.proofs.Names.{sound_row_visited, stayed, subst, sym, taken_over, takes_over, tree_of, true, true≢false, visited, Waiting, waiting_not_private, waiting_state, waits_for}
-use Rattle.ksm_book.proofs.Names.{waits_tells, with_dup, Zero, ℕ, [], ◌&&◌, ◌++◌, ◌+◌, ◌==◌, ◌||◌, ◌∙◌, ◌∷◌, ◌≡◌}
+use Rattle.ksm_book.proofs.Names.{after_cursor, All, All-cons, All-map, ap, AreAscending, arith, before_irrefl, best_dup, BookState, Bool, cases_Bool, change_row, change_rows, comes_before}
+use Rattle.ksm_book.proofs.Names.{comes_later, cond_both, count_mapped, Deed, doing, due_row_visited, due_visited, due_visits, dup_frame, dup_of_row, DupRow, each_at_page, false, find_all}
+use Rattle.ksm_book.proofs.Names.{find_mapped, find_none, find_nothing, find_passes, Frames, get_or, get_or_from_slice_get, GuestPage, handled, has_item, HasStayed, hidden, if◌then◌else◌, inl}
+use Rattle.ksm_book.proofs.Names.{InPageOrder, inr, is_best, is_for_zero, is_no_rival, is_restless, is_stale, IsSound, item_count, Knobs, List, map_alike, map_mapped, may_join, mergeable_pages}
+use Rattle.ksm_book.proofs.Names.{Merged, merged_into, new_place, None, not, not_both, one_before, Option, option_map, page, page_visited, pages_visited, PageState, paired, pairs_head, pairs_tail}
+use Rattle.ksm_book.proofs.Names.{partner, place_count, refl, restless_at, restless_row, Row, row_at, row_visited, row_visiting, same_page, same_page_eq, same_page_refl, settled, settled_calmer}
+use Rattle.ksm_book.proofs.Names.{slice_get_within, Some, sound_changed, sound_row_visited, stayed, subst, sym, taken_over, takes_over, true, true≢false, visited, Waiting, waiting_not_private}
+use Rattle.ksm_book.proofs.Names.{waiting_state, waits_for, waits_tells, with_dup, Zero, ℕ, [], ◌&&◌, ◌++◌, ◌+◌, ◌==◌, ◌||◌, ◌∙◌, ◌∷◌, ◌≡◌}
 use Rattle.ksm_base.specs.declared.row.PageState.TheVariants.{Private}
 use Rattle.ksm_book.proofs.ByPage.{found_page, row_of_page}
 use Rattle.ksm_book.proofs.Doing.{then_idle}
@@ -38,6 +38,20 @@ pub at_own_page : (page : GuestPage) (rows : List Row) → InPageOrder rows
 at_own_page page rows rise k d lt same = ap (λ q. row_at q rows) (same_page_eq page _ same)
     ∙ each_at_page rows rise k d lt
 
+-- what is so of a page whose row no visit may change, and of that of each row that one may, is so of each page
+pub by_row : (P : GuestPage → Type 0) (page : GuestPage) (rows : List Row) → (restless_at page rows ≡ false → P page)
+    → ((r : Row) → row_at r.page rows ≡ Some r → is_restless r ≡ true → P r.page) → P page
+by_row P page rows calm some = by _ refl
+  where
+    by : (o : Option Row) → row_at page rows ≡ o → P page
+    by None found = calm (ap restless_row found)
+    by (Some r) found = elim (cases_Bool (is_restless r)) [
+      | inl restless ↦
+          let at = found_page page rows r found in
+          subst P at (some r (ap (λ q. row_at q rows) at ∙ found) restless)
+      | inr stays ↦ calm (ap restless_row found ∙ stays)
+    ]
+
 -- the row, which waits no more where it passes a test
 abbrev calmed : (Row → Bool) → Row → Row
 calmed test r = if test r then settled r else r
@@ -68,7 +82,7 @@ module _ (t : GuestPage → Bool) (b : BookState) where
       same _ (mergeable_has b.rows k d lt (s.mergeable k d lt (waiting_not_private _ waits))))
 
   -- whether rows wait that are veiled makes no difference
-  veiled_over : (test : Row → Bool) → All (λ r. test r ≡ true → t r.page ≡ true) b.rows
+  pub veiled_over : (test : Row → Bool) → All (λ r. test r ≡ true → t r.page ≡ true) b.rows
       → veiled t (record b { rows = change_rows test settled b.rows }) ≡ veiled t b
   veiled_over test are =
       λ i. record b { rows = map_mapped veil (calmed test) veil b.rows (λ k d lt. grind (arith, are k d lt)) i }
@@ -170,9 +184,6 @@ module _ (b : BookState) (r : Row) where
       stays None found = refl
       stays (Some w) found = grind (arith, near_found near w found)
 
-  place_kept : new_place (place_count b.shape) covered.rows b.dups ≡ new_place (place_count b.shape) b.rows b.dups
-  place_kept = new_place_kept (λ x. is_on x.page) b.rows (place_count b.shape) b.dups
-
   -- with what waits for it in the book it is paired alike
   paired_alike : NoneVeiled → (o : Option Row) → partner b.knobs b.rows r ≡ o
       → paired o covered (settled r) ≡ veiled (comes_before r.page) (paired o b r)
@@ -183,7 +194,8 @@ module _ (b : BookState) (r : Row) where
         rows = change_alike (λ q. same_page q w.page || same_page q r.page) (λ x. record x { state = Merged b.next })
             (λ x. refl) (λ x. refl)
             (grind arith) (grind (arith, same_page_eq, not_both, before_irrefl)) t;
-        dups = with_dup (record { number = b.next; place = place_kept t; tree = tree_of b.knobs r; bytes = r.bytes })
+        dups = with_dup (dup_of_row b.knobs b.next
+            (new_place_kept (λ x. is_on x.page) b.rows (place_count b.shape) b.dups t) r)
             b.dups;
         next = b.next + 1;
       }
@@ -200,8 +212,9 @@ module _ (b : BookState) (r : Row) where
 
     deed_alike : (frame : Frames) → row_visiting covered frame (settled r) ≡ row_visiting b frame r
     deed_alike frame =
-        grind (arith, best_kept (λ x. is_on x.page) b.rows b.knobs r b.dups, partner_alike, place_kept, dup_frame_kept
-        (λ x. is_on x.page) b.rows frame)
+        let test : Row → Bool = λ x. is_on x.page in
+        grind (arith, best_kept test b.rows b.knobs r b.dups, partner_alike, dup_frame_kept test b.rows frame,
+        new_place_kept test b.rows (place_count b.shape) b.dups)
 
     -- its visit does the same where the rows from it on are veiled; after it its own is not
     visit_alike : (deed : Deed) → visited doing (covered, deed) (Some (settled r))
@@ -263,7 +276,7 @@ module _ (b : BookState) (r : Row) where
         found = freed_found found;
         goes = calmed_goes waits b.rows;
         is = λ deed. grind (arith, taken_is restless takes deed);
-        covers = veiled_over is_on b waits (far takes);
+        covers = veiled_over is_on b waits (λ k d lt is. grind (arith, side _ refl k d lt is, not_both));
         near = λ _ _ _ k d lt. grind (arith, none_waits k d lt);
       })
     | inr stays ↦ (b, record {
@@ -272,27 +285,19 @@ module _ (b : BookState) (r : Row) where
         goes = goes_same;
         is = λ deed. grind arith;
         covers = refl;
-        near = λ none unchanged zeroes k d lt is. near_by stays none unchanged zeroes _ refl k d lt is;
+        near = λ none unchanged zeroes k d lt is.
+            grind (arith, side _ refl k d lt is, one_before, waits_tells b.knobs r (get_or b.rows k d) is);
       })
   ]
     where
       is_on : GuestPage → Bool
       is_on q = not (comes_before q r.page)
 
-      far : takes_over b r ≡ true → All (λ x. waits x ≡ true → is_on x.page ≡ true) b.rows
-      far takes k d lt is = by _ refl
-        where
-          by : (o : Option Row) → partner b.knobs b.rows r ≡ o → is_on (get_or b.rows k d).page ≡ true
-          by None none = grind arith
-          by (Some w) at = grind (arith, one_waits b r w s at k d lt is, not_both)
-
-      near_by : takes_over b r ≡ false → best_dup b.knobs b.rows b.dups r ≡ None → r.unchanged ≡ true
-          → is_for_zero b.knobs r ≡ false
-          → (o : Option Row) → partner b.knobs b.rows r ≡ o
-          → All (λ x. waits x ≡ true → comes_before x.page r.page ≡ true) b.rows
-      near_by stays none unchanged zeroes None at k d lt is = grind (arith, find_none)
-      near_by stays none unchanged zeroes (Some w) at k d lt is =
-          grind (arith, one_waits b r w s at k d lt is, one_before, waits_tells b.knobs r (get_or b.rows k d) is)
+      -- all that wait for it come behind it, if the one that is found does
+      side : (o : Option Row) → partner b.knobs b.rows r ≡ o
+          → All (λ x. waits x ≡ true → comes_before r.page x.page ≡ comes_later r.page o) b.rows
+      side None none k d lt is = grind (arith, find_none)
+      side (Some w) at k d lt is = rw (one_waits b r w s at k d lt is)
 
 -- ---------------------------------------------------------------- one visit
 
@@ -331,28 +336,17 @@ module _ (b : BookState) (s : IsSound b) (deed : Deed) where
       )
 
   pub one_due : (page : GuestPage) → IsAlike b deed page
-  one_due page = by _ refl
+  one_due page = by_row (IsAlike b deed) page b.rows calmly row_due
     where
-      at_page : row_at page (veiled (λ q. not (comes_before q page)) b).rows
-          ≡ option_map (calmed (λ x. not (comes_before x.page page))) (row_at page b.rows)
-      at_page = calmed_at (λ x. not (comes_before x.page page)) b.rows page
-
       calmly : restless_at page b.rows ≡ false → IsAlike b deed page
-      calmly calm = rw (calm_stays (b, deed) page calm) (s, goes_same, grind (arith, at_page) ∙ (λ t. (still t, deed)))
+      calmly calm =
+          let at = calmed_at (λ x. not (comes_before x.page page)) b.rows page in
+          rw (calm_stays (b, deed) page calm) (s, goes_same, grind (arith, at) ∙ (λ t. (still t, deed)))
         where
           still : veiled (λ q. not (comes_before q page)) b ≡ veiled (comes_before page) b
           still = veiled_alike _ b _ (λ k d lt waits.
               grind (arith, at_own_page page b.rows s.rows_rise k d lt, s.mergeable k d lt, one_before, not_both,
               before_irrefl))
-
-      by : (o : Option Row) → row_at page b.rows ≡ o → IsAlike b deed page
-      by None found = calmly (ap restless_row found)
-      by (Some r) found = elim (cases_Bool (is_restless r)) [
-        | inl restless ↦
-            let at = found_page page b.rows r found in
-            subst (IsAlike b deed) at (row_due r (ap (λ q. row_at q b.rows) at ∙ found) restless)
-        | inr calm ↦ calmly (ap restless_row found ∙ calm)
-      ]
 
 -- our visits of some pages keep the book sound, and which pages scans visit
 pub due_keeps : (pages : List GuestPage) (s : BookState × Deed) → IsSound s.0

@@ -1,71 +1,49 @@
 -- Passes that visit only the pages that are due: what waits on is left as it is, and what is due stays so.
-use Rattle.ksm_book.proofs.Names.{All, All-cons, All-head, All-tail, all_changed, all_with_dup, ap, AreDue, arith, best_dup, BookState, Bool, both_ways, bytes_eq, bytes_eq-Decides, cases_Bool}
-use Rattle.ksm_book.proofs.Names.{change_row, change_rows, cond_both, count_by, count_mapped, Deed, doing, due_row_visited, due_visited, due_visits, DupRow, eqb-true, false, find, find_all, find_none}
-use Rattle.ksm_book.proofs.Names.{find_nothing, find_passes, get_or, GuestPage, handled, has_item, HasStayed, inl, InPageOrder, inr, is_for_zero, is_restless, IsDueNoMore, IsSound, item_count, Knobs}
-use Rattle.ksm_book.proofs.Names.{List, list_all, list_all-from_AllPass, made_dup, may_join, Merged, merged_into, merged_state, nat_le, nat_lt, nat_tests, None, not, not_an_item, one_of_each_page}
-use Rattle.ksm_book.proofs.Names.{Option, ordered_change, paired, partner, refl, restless_at, restless_row, Row, row_at, row_visited, same_page, same_page_refl, same_page_sym, settled, Some, stayed}
-use Rattle.ksm_book.proofs.Names.{taken_over, takes_over, tree_of, true, Waiting, waiting_state, waits_for, waits_on, waits_tells, WaitsFor, with_dup, Zero, ℕ, [], ◌&&◌, ◌+◌, ◌==◌, ◌||◌, ◌∙◌, ◌∷◌}
-use Rattle.ksm_book.proofs.Names.{◌≡◌, ◌⊎◌}
+use Rattle.ksm_book.proofs.Names.{All, All-cons, All-head, All-tail, all_changed, all_with_dup, ap, AreDue, arith, best_dup, BookState, Bool, bytes_eq, bytes_eq-Decides, cases_Bool, change_row}
+use Rattle.ksm_book.proofs.Names.{change_rows, cond_both, count_by, count_mapped, Deed, doing, due_visited, due_visits, dup_of_row, DupRow, eqb-true, false, find_all, find_none, find_nothing}
+use Rattle.ksm_book.proofs.Names.{find_passes, get_or, GuestPage, handled, has_item, HasStayed, inl, InPageOrder, inr, is_best, is_for_zero, is_restless, IsDueNoMore, IsSound, item_count, Knobs, List}
+use Rattle.ksm_book.proofs.Names.{list_all-from_AllPass, made_dup, may_join, Merged, merged_into, merged_state, nat_le, nat_lt, nat_tests, None, not, not_an_item, one_of_each_page, Option}
+use Rattle.ksm_book.proofs.Names.{ordered_change, paired, partner, refl, restless_at, Row, row_at, row_visited, same_page, same_page_refl, same_page_sym, settled, Some, stayed, subst, sym, taken_over}
+use Rattle.ksm_book.proofs.Names.{takes_over, tree_of, true, Waiting, waiting_state, waits_for, waits_on, waits_tells, WaitsFor, with_dup, Zero, ℕ, [], ◌&&◌, ◌+◌, ◌==◌, ◌||◌, ◌∙◌, ◌∷◌, ◌≡◌, ◌⊎◌}
+use Rattle.ksm_book.proofs.DueAlike.{at_own_page, by_counts, by_row, calm_stays, freed, freed_found, freed_stays, one_waits}
 use Rattle.ksm_base.specs.declared.row.PageState.TheVariants.{Private}
-use Rattle.ksm_book.proofs.ByPage.{found_page, row_of_page}
+use Rattle.ksm_book.proofs.ByPage.{row_of_page}
 use Rattle.ksm_book.proofs.Doing.{then_idle}
-use Rattle.ksm_book.proofs.DueAlike.{at_own_page, by_counts, calm_stays, freed, freed_found, freed_stays, one_waits}
 use Rattle.ksm_book.proofs.RowVisits.{restless_own}
 use Rattle.ksm_book.proofs.Singles.{change_still}
 use Rattle.ksm_pages.proofs.Joined.{own_not_merged}
 
--- ---------------------------------------------------------------- the best of those that pass a test
-
-module _ {X : Type 0} (p : X → Bool) (better : X → X → Bool) (total : (x y : X) → better x y ≡ false → better y x ≡ true)
-    (on : (x y z : X) → better x y ≡ true → better y z ≡ true → better x z ≡ true) where
-  -- it passes the test, and of those that pass none is better
-  abbrev is_top : List X → X → Bool
-  is_top xs x = p x && list_all (λ y. not (p y) || better x y) xs
-
-  -- it passes the test, and is no worse than those of a list that pass
-  record Tops (xs : List X) (x : X) : Type 0 where
-    passes : p x ≡ true
-    over : All (λ y. p y ≡ true → better x y ≡ true) xs
-
-  -- where something is so of all of a list, none passes the test, or one of which that is so is best
-  top_in : (P : X → Type 0) (xs : List X) → All P xs → All (λ x. p x ≡ false) xs ⊎ ((x : X) × P x × Tops xs x)
-  top_in P [] all = inl (λ k d lt. absurd (omega arith))
-  top_in P (y ∷ ys) all =
-      let here = All-head P y ys all in
-      let add : (x : X) → (p y ≡ true → better x y ≡ true) → Tops ys x → Tops (y ∷ ys) x = λ x beats t. record {
-        passes = t.passes;
-        over = All-cons (λ z. p z ≡ true → better x z ≡ true) y ys beats t.over;
-      } in
-      elim (cases_Bool (p y)) [
-        | inl passes ↦ elim (top_in P ys (All-tail P y ys all)) [
-          | inl none ↦ inr (y, here, record { passes = passes; over = grind (arith, total y y, none) })
-          | inr t ↦ elim (cases_Bool (better y t.0)) [
-            | inl more ↦ inr (y, here, record { passes = passes; over = grind (arith, total y y, on y t.0, t.2.over) })
-            | inr less ↦ inr (t.0, t.1, add t.0 (λ _. total y t.0 less) t.2)
-          ]
-        ]
-        | inr fails ↦ elim (top_in P ys (All-tail P y ys all)) [
-          | inl none ↦ inl (All-cons (λ x. p x ≡ false) y ys fails none)
-          | inr t ↦ inr (t.0, t.1, add t.0 (λ is. absurd (both_ways (p y) fails is)) t.2)
-        ]
-      ]
-
-  no_rival : (x y : X) → (p y ≡ true → better x y ≡ true) → (not (p y) || better x y) ≡ true
-  no_rival x y over = grind arith
-
-  -- where a search for the best finds nothing, none passes the test
-  no_top : (xs : List X) → find (is_top xs) xs ≡ None → All (λ x. p x ≡ false) xs
-  no_top xs none = grind (arith, top_in (λ x. is_top xs x ≡ false) xs
-      (find_none _ xs none), list_all-from_AllPass, no_rival)
-
 -- ---------------------------------------------------------------- the dups that a row may join
 
-worse_total : (n m i j : ℕ) → (nat_lt m n || (m == n && nat_le i j)) ≡ false → (nat_lt n m || (n == m && nat_le j i)) ≡ true
-worse_total n m i j less = grind arith
+-- dups that pass a test, with how many items each has
+module _ (may : DupRow → Bool) (items : DupRow → ℕ) where
+  -- the second may not be joined, or is no better than the first
+  abbrev rival : DupRow → DupRow → Bool
+  rival d e = not (may e) || (nat_lt (items e) (items d) || (items e == items d && nat_le d.number e.number))
 
-worse_on : (n m k i j l : ℕ) → (nat_lt m n || (m == n && nat_le i j)) ≡ true → (nat_lt k m || (k == m && nat_le j l)) ≡ true
-    → (nat_lt k n || (k == n && nat_le i l)) ≡ true
-worse_on n m k i j l first second = grind arith
+  through : (e b d : DupRow) → may b ≡ true → rival e b ≡ true → rival b d ≡ true → rival e d ≡ true
+  through e b d passes above r = grind (arith, nat_tests)
+
+  -- where something is so of all of some dups, none passes the test, or there is a best one, of which that is so
+  top_in : (P : DupRow → Type 0) (dups : List DupRow) → All P dups
+      → All (λ d. may d ≡ false) dups ⊎ ((d : DupRow) × P d × (may d ≡ true) × All (λ e. rival d e ≡ true) dups)
+  top_in P [] all = inl (λ k d lt. absurd (omega arith))
+  top_in P (d ∷ dups) all =
+      let here = All-head P d dups all in
+      let top : (e : DupRow) → rival e d ≡ true → All (λ x. rival e x ≡ true) dups
+      → All (λ x. rival e x ≡ true) (d ∷ dups)
+      = λ e. All-cons (λ x. rival e x ≡ true) d dups in
+      elim (top_in P dups (All-tail P d dups all)) [
+        | inl none ↦ elim (cases_Bool (may d)) [
+          | inl is ↦ inr (d, here, is, top d (grind (arith, nat_tests)) (λ k x lt. grind (arith, none k x lt)))
+          | inr fails ↦ inl (All-cons (λ x. may x ≡ false) d dups fails none)
+        ]
+        | inr t ↦ elim (cases_Bool (rival t.0 d)) [
+          | inl above ↦ inr (t.0, t.1, t.2, top t.0 above t.3)
+          | inr worse ↦ inr (d, here, grind arith, top d (grind (arith, nat_tests)) (λ k x lt.
+              through d t.0 (get_or dups k x) t.2 (grind (arith, nat_tests)) (t.3 k x lt)))
+        ]
+      ]
 
 module _ (knobs : Knobs) (rows : List Row) (row : Row) where
   -- the row may join none of these dups
@@ -73,14 +51,13 @@ module _ (knobs : Knobs) (rows : List Row) (row : Row) where
   JoinsNone dups = All (λ d. may_join knobs rows row d ≡ false) dups
 
   -- where there is no best dup, there is none that the row may join
-  pub none_to_join : (dups : List DupRow) → best_dup knobs rows dups row ≡ None → JoinsNone dups
+  none_to_join : (dups : List DupRow) → best_dup knobs rows dups row ≡ None → JoinsNone dups
   none_to_join dups none =
-      no_top _ _ (λ d e. worse_total (item_count rows d) (item_count rows e) d.number e.number)
-      (λ d e f. worse_on (item_count rows d) (item_count rows e)
-      (item_count rows f) d.number e.number f.number) dups none
+      grind (arith, top_in (may_join knobs rows row) (item_count rows) (λ d. is_best knobs rows dups row d ≡ false) dups
+      (find_none _ dups none), list_all-from_AllPass)
 
   -- where there is no dup that the row may join, there is no best one
-  pub none_is_best : (dups : List DupRow) → JoinsNone dups → best_dup knobs rows dups row ≡ None
+  none_is_best : (dups : List DupRow) → JoinsNone dups → best_dup knobs rows dups row ≡ None
   none_is_best dups none = find_nothing _ _ (λ k d lt. rw (none k d lt))
 
 -- a row that waits on does so beside other rows and dups, where it may join none then
@@ -104,6 +81,10 @@ pub count_kept : (number : ℕ) (test : Row → Bool) (f : Row → Row) (rows : 
     → All (λ r. test r ≡ true → merged_into number (f r).state ≡ merged_into number r.state) rows
     → count_by (λ r. merged_into number r.state) (change_rows test f rows) ≡ count_by (λ r. merged_into number r.state) rows
 count_kept number test f rows same = grind (arith, count_mapped)
+
+-- the row, which is merged into a number
+abbrev merge : ℕ → Row → Row
+merge number r = record r { state = Merged number }
 
 -- the row is not merged, nor is it once it is changed
 abbrev pub IsSingle : (Row → Row) → Row → Type 0
@@ -177,24 +158,27 @@ module _ (b : BookState) (sound : IsSound b) (row : Row) (found : row_at row.pag
     -- rows become merged, its own among them: the others wait on that did, where they may join no dup then
     merged_due : (test : Row → Bool) (number : ℕ) (dups : List DupRow) (next : ℕ)
         → All (λ r. test r ≡ false → waiting_state r.state ≡ true → JoinsNone b.knobs b.rows r b.dups
-        → JoinsNone b.knobs (change_rows test (λ r. record r { state = Merged number }) b.rows) r dups) b.rows
-        → Due (record b {
-          rows = change_rows test (λ r. record r { state = Merged number }) b.rows;
-          dups = dups;
-          next = next;
-        })
+        → JoinsNone b.knobs (change_rows test (merge number) b.rows) r dups) b.rows
+        → Due (record b { rows = change_rows test (merge number) b.rows; dups = dups; next = next })
     merged_due test number dups next still =
-        let f : Row → Row = λ r. record r { state = Merged number } in
-        let new = change_rows test f b.rows in
+        let new = change_rows test (merge number) b.rows in
         all_changed (λ r. is_restless r ≡ true → has_item r.page (row.page ∷ pages) ≡ false
-        → waits_on (record b { rows = new; dups = dups; next = next }) r ≡ true) test f b.rows (grind arith)
+        → waits_on (record b { rows = new; dups = dups; next = next }) r ≡ true) test (merge number) b.rows
+        (grind arith)
         (λ k d lt fails calm out.
         let on = was k d lt calm out in
         on_still b new dups next (get_or b.rows k d) (still k d lt fails (grind arith)) on)
 
+    -- a dup of another number has as many items then, where rows become merged that were not
+    other_count : (test : Row → Bool) (number : ℕ) → All (λ r. test r ≡ true → merged_state r.state ≡ false) b.rows
+        → (e : DupRow) → (e.number == number) ≡ false
+        → item_count (change_rows test (merge number) b.rows) e ≡ item_count b.rows e
+    other_count test number single e other = count_kept e.number test (merge number) b.rows
+        (λ k d lt passes. grind (arith, nat_tests, single k d lt passes, not_an_item))
+
     -- the row joins a dup, which has an item and room: a row that may join none is of another tree or content
     joined_due : (dup : DupRow) → best_dup b.knobs b.rows b.dups row ≡ Some dup
-        → Due (record b { rows = change_row row.page (λ r. record r { state = Merged dup.number }) b.rows })
+        → Due (record b { rows = change_row row.page (merge dup.number) b.rows })
     joined_due dup best = merged_due of_page dup.number b.dups b.next
         (λ k d lt _ _ none j e lt_e. each (get_or b.rows k d) (get_or b.dups j e) (none j e lt_e))
       where
@@ -204,54 +188,45 @@ module _ (b : BookState) (sound : IsSound b) (row : Row) (found : row_at row.pag
         joins_it : may_join b.knobs b.rows row dup ≡ true
         joins_it = grind (arith, find_passes)
 
-        f : Row → Row
-        f r = record r { state = Merged dup.number }
-
-        same_count : (e : DupRow) → (e.number == dup.number) ≡ false
-            → item_count (change_rows of_page f b.rows) e ≡ item_count b.rows e
-        same_count e other = count_kept e.number of_page f b.rows
-            (λ k d lt same. grind (arith, only k d lt same, not_an_item, unmerged))
-
         same_number : (e : DupRow) → (e.number == dup.number) ≡ true → item_count b.rows e ≡ item_count b.rows dup
         same_number e same = ap (λ n. count_by (λ r. merged_into n r.state) b.rows) (eqb-true _ _ same)
 
         each : (r : Row) (e : DupRow) → may_join b.knobs b.rows r e ≡ false
-            → may_join b.knobs (change_rows of_page f b.rows) r e ≡ false
-        each r e none = grind (arith, joins_it, same_count e, same_number e)
+            → may_join b.knobs (change_rows of_page (merge dup.number) b.rows) r e ≡ false
+        each r e none = grind (arith, joins_it, same_number e,
+            other_count of_page dup.number (λ k d lt same. rw (only k d lt same) unmerged) e)
 
     -- the row makes a dup with the one that waits for it: no other row that waits is of its tree and content
     made_due : (place : ℕ) (w : Row) → partner b.knobs b.rows row ≡ Some w → Due (made_dup place b w row)
     made_due place w waits = merged_due test b.next (with_dup new b.dups) (b.next + 1) (λ k d lt fails waiting none.
-        all_with_dup (λ e. may_join b.knobs (change_rows test f b.rows) (get_or b.rows k d) e ≡ false) new b.dups
-        (grind (arith, apart k d lt fails waiting)) (λ j e lt_e. grind (arith, same_count j e lt_e, none j e lt_e)))
+        all_with_dup (λ e. may_join b.knobs (change_rows test (merge b.next) b.rows) (get_or b.rows k d) e
+        ≡ false) new b.dups
+        (grind (arith, apart k d lt fails waiting)) (λ j e lt_e.
+        grind (arith, nat_tests, none j e lt_e, sound.numbers j e lt_e, other_count test b.next single
+        (get_or b.dups j e))))
       where
         test : Row → Bool
         test r = same_page r.page w.page || same_page r.page row.page
 
-        f : Row → Row
-        f r = record r { state = Merged b.next }
-
         new : DupRow
-        new = record { number = b.next; place = place; tree = tree_of b.knobs row; bytes = row.bytes }
+        new = dup_of_row b.knobs b.next place row
 
         waiter : WaitsFor b.knobs row w
         waiter = waits_tells _ row w (grind (arith, find_passes))
 
-        waiter_only : All (λ r. same_page r.page w.page ≡ true → r ≡ w) b.rows
-        waiter_only = find_all (waits_for b.knobs row)
+        single : All (λ r. test r ≡ true → merged_state r.state ≡ false) b.rows
+        single k d lt passes =
+            let waiter_only = find_all (waits_for b.knobs row)
             (λ r. All (λ t. same_page t.page r.page ≡ true → t ≡ r) b.rows) b.rows w waits
-            (one_of_each_page _ sound.rows_rise)
+            (one_of_each_page _ sound.rows_rise) in
+            grind (arith, waiter_only k d lt, only k d lt, unmerged, waiter.state)
 
         apart : All (λ r. test r ≡ false → waiting_state r.state ≡ true
             → (new.tree == tree_of b.knobs r && bytes_eq new.bytes r.bytes) ≡ false) b.rows
         apart k d lt fails waiting =
-            grind (arith, nat_tests, one_waits b row w sound waits k d lt, same_page_refl, bytes_eq-Decides row.bytes
-            (get_or b.rows k d).bytes, bytes_eq-Decides (get_or b.rows k d).bytes row.bytes)
-
-        same_count : All (λ e. item_count (change_rows test f b.rows) e ≡ item_count b.rows e) b.dups
-        same_count j e lt_e = count_kept (get_or b.dups j e).number test f b.rows (λ k d lt passes.
-            grind (arith, nat_tests, sound.numbers j e lt_e, waiter_only k d lt, only k d lt, not_an_item, unmerged,
-            waiter.state))
+            let r = get_or b.rows k d in
+            grind (arith, nat_tests, one_waits b row w sound waits k d lt, same_page_refl,
+            bytes_eq-Decides row.bytes r.bytes, bytes_eq-Decides r.bytes row.bytes)
 
     paired_due : (o : Option Row) → partner b.knobs b.rows row ≡ o → Due (paired o b row)
     paired_due (Some w) waits = made_due _ w waits
@@ -276,62 +251,43 @@ module _ (b : BookState) (sound : IsSound b) (row : Row) (found : row_at row.pag
 pub visited_due : (s : BookState × Deed) (page : GuestPage) (pages : List GuestPage) → IsSound s.0 → AreDue s.0 (page ∷ pages)
     → ((r : Row) → row_at page s.0.rows ≡ Some r → takes_over s.0 r ≡ false)
     → AreDue (due_visited doing s page).0 (page ∷ pages)
-visited_due s page pages sound due none = by _ refl
-  where
-    by : (o : Option Row) → row_at page s.0.rows ≡ o → AreDue (due_row_visited doing s o).0 (page ∷ pages)
-    by None found = due
-    by (Some r) found = elim (cases_Bool (is_restless r)) [
-      | inl restless ↦
-          let at : r.page ≡ page = found_page page s.0.rows r found in
-          let there : row_at r.page s.0.rows ≡ Some r = ap (λ p. row_at p s.0.rows) at ∙ found in
-          let was : AreDue s.0 (r.page ∷ pages) = rw at due in
-          grind (arith, none r found, at, row_due s.0 sound r there restless pages was)
-      | inr calm ↦ grind (arith, due)
-    ]
+visited_due s page pages sound =
+    by_row (λ p. AreDue s.0 (p ∷ pages) → ((r : Row) → row_at p s.0.rows ≡ Some r → takes_over s.0 r ≡ false)
+    → AreDue (due_visited doing s p).0 (p ∷ pages)) page s.0.rows (λ calm due _.
+    subst (λ (z : BookState × Deed). AreDue z.0 (page ∷ pages)) (sym (calm_stays s page calm)) due)
+    (λ r found restless due none. grind (arith, none r found, row_due s.0 sound r found restless pages due))
 
 -- ---------------------------------------------------------------- visits of pages that are not due
-
--- the visit of a page that waits on changes nothing
-on_stays : (s : BookState × Deed) (page : GuestPage) (r : Row) → IsSound s.0 → row_at page s.0.rows ≡ Some r
-    → waits_on s.0 r ≡ true → is_restless r ≡ true → due_visited doing s page ≡ s
-on_stays s page r sound found is restless = grind (arith, found_page, alone, still, then_idle)
-  where
-    alone : partner s.0.knobs s.0.rows r ≡ None
-    alone = find_all (λ x. same_page x.page page)
-        (λ x. waiting_state x.state ≡ true → partner s.0.knobs s.0.rows x ≡ None)
-        s.0.rows r found sound.waiting (grind arith)
-
-    still : change_row page (λ x. record x { state = Waiting }) s.0.rows ≡ s.0.rows
-    still = change_still _ _ _ (grind (arith, row_of_page page s.0.rows r sound.rows_rise found))
 
 -- visits of pages of which none is due change nothing
 pub undue_stay : (pages : List GuestPage) (s : BookState × Deed) (due : List GuestPage) → IsSound s.0 → AreDue s.0 due
     → All (λ p. has_item p due ≡ false) pages → due_visits doing s pages ≡ s
 undue_stay [] s due sound are out = refl
 undue_stay (page ∷ pages) s due sound are out =
-    rw (one _ refl) (undue_stay pages s due sound are (All-tail (λ p. has_item p due ≡ false) page _ out))
+    rw (by_row (λ p. has_item p due ≡ false → due_visited doing s p ≡ s) page s.0.rows
+    (λ calm _. calm_stays s page calm) on_stays
+    (All-head (λ p. has_item p due ≡ false) page pages out))
+    (undue_stay pages s due sound are (All-tail (λ p. has_item p due ≡ false) page pages out))
   where
-    one : (o : Option Row) → row_at page s.0.rows ≡ o → due_visited doing s page ≡ s
-    one None found = calm_stays s _ (ap restless_row found)
-    one (Some r) found = elim (cases_Bool (is_restless r)) [
-      | inl restless ↦
-          let on = find_all (λ x. same_page x.page page)
-          (λ x. is_restless x ≡ true → has_item x.page due ≡ false → waits_on s.0 x ≡ true) s.0.rows r found are restless
-          (grind (arith, found_page, All-head)) in
-          on_stays s _ r sound found on restless
-      | inr calm ↦ grind arith
-    ]
+    -- the visit of a page that waits on changes nothing
+    on_stays : (r : Row) → row_at r.page s.0.rows ≡ Some r → is_restless r ≡ true → has_item r.page due ≡ false
+        → due_visited doing s r.page ≡ s
+    on_stays r found restless out =
+        let among = λ (P : Row → Type 0). find_all (λ x. same_page x.page r.page) P s.0.rows r found in
+        let on : waits_on s.0 r ≡ true =
+        among (λ x. is_restless x ≡ true → has_item x.page due ≡ false → waits_on s.0 x ≡ true) are restless out in
+        let alone : partner s.0.knobs s.0.rows r ≡ None =
+        among (λ x. waiting_state x.state ≡ true → partner s.0.knobs s.0.rows x ≡ None) sound.waiting (grind arith) in
+        let still : change_row r.page (λ x. record x { state = Waiting }) s.0.rows ≡ s.0.rows =
+        change_still _ _ _ (grind (arith, row_of_page r.page s.0.rows r sound.rows_rise found)) in
+        grind (arith, then_idle)
 
 -- ---------------------------------------------------------------- a row that begins to wait
-
--- the book once a row waits
-abbrev pub waits_now : BookState → Row → BookState
-waits_now b row = record b { rows = change_row row.page (λ r. record r { state = Waiting }) b.rows }
 
 -- a row whose bytes have stayed is due no longer once it waits
 pub waits_undue : (b : BookState) (row : Row) → row_at row.page b.rows ≡ Some row → InPageOrder b.rows
     → HasStayed b false row
-    → IsDueNoMore row.page b (waits_now b row)
+    → IsDueNoMore row.page b (record b { rows = change_row row.page (λ r. record r { state = Waiting }) b.rows })
 waits_undue b row found rise h pages was =
     own_due b row.page (λ r. record r { state = Waiting }) row rise found
         (own_not_merged _ (restless_own row h.restless), refl)

@@ -1,7 +1,7 @@
 -- Rows that wait no more: that of a page with a frame of its own, and those from a page on, one after another.
-use Rattle.ksm_book.proofs.Names.{[], All, BookValue, change_row, Comes, comes_before, every_row, false, find, GuestPage, InPageOrder, IsAlone, is_next, IsLaid, IsSound, KeeperView, List, MatchOption}
-use Rattle.ksm_book.proofs.Names.{None, not, on_its_own, Option, option_map, ordered_change, PagesValue, PagesView, refl, Row, row_at, same_page, seen, settled, settled_calmer, shared_state, Some}
-use Rattle.ksm_book.proofs.Names.{sound_changed, state_of, sym, true, true≢false, ℕ, ◌∙◌, ◌∷◌, ◌++◌, ◌≡◌, ◌⊎◌, if◌then◌else◌, map_alike, arith}
+use Rattle.ksm_book.proofs.Names.{All, arith, BookValue, change_row, Comes, comes_before, every_row, false, find, GuestPage, if◌then◌else◌, InPageOrder, is_next, IsAlone, IsLaid, IsSound, KeeperView}
+use Rattle.ksm_book.proofs.Names.{List, map_alike, MatchOption, None, not, on_its_own, Option, option_map, ordered_change, PagesValue, PagesView, refl, Row, row_at, same_page, seen, settled}
+use Rattle.ksm_book.proofs.Names.{settled_calmer, shared_state, Some, sound_changed, state_of, sym, true, true≢false, ℕ, [], ◌++◌, ◌∙◌, ◌∷◌, ◌≡◌, ◌⊎◌}
 use Rattle.ksm_book.specs.Due.{hidden_from}
 use Rattle.ksm_book.proofs.Along.{along_cut, along_end, FitsPage, IsAlong, IsCut}
 use Rattle.ksm_book.proofs.ByPage.{row_of_page}

@@ -1,6 +1,6 @@
 use Rattle.ksm_book.proofs.DuePasses.{less_room}
 use Rattle.ksm_book.proofs.DueSteps.{all_come, next_comes, next_stops, none_passed}
-use Rattle.std.proofs.Common.{rules, refl, ◌∙◌}
+use Rattle.std.proofs.Common.{refl, rules, ◌∙◌}
 use Rattle.ksm_book.proofs.state.State.visit_all_due.Goals as goal
 
 pub loop-spot-init : goal.loop-spot-init
