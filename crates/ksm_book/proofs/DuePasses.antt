@@ -1,16 +1,16 @@
 -- A pass over what is due comes to what the pass of the definitions comes to.
+use Rattle.ksm_book.proofs.Scanned.{begun_ahead, restless_mergeable}
 use Rattle.ksm_book.proofs.Names.{after_cursor, All, All-filter, AllPairs-filter, ap, AreAscending, AreDue, arith, before_irrefl, BookState, Bool, cases_Bool, comes_before, Deed, doing, due_visited}
 use Rattle.ksm_book.proofs.Names.{due_visits, false, filter, filter_all, filter_passes, get_or, GuestPage, has_item, hidden_from, if◌then◌else◌, inl, inr, is_none, IsSound, List, mergeable_pages}
 use Rattle.ksm_book.proofs.Names.{nat_lt, None, not, not-true, one_before, Option, pages_ahead, pages_visited, part_before, part_visited, pass_begun, refl, restless_at, same_page, same_page_eq, Some}
-use Rattle.ksm_book.proofs.Names.{subst, sym, true, true≢false, with_none_waiting, ℕ, [], ◌&&◌, ◌*◌, ◌++◌, ◌+◌, ◌-◌, ◌<◌, ◌^◌, ◌∙◌, ◌∷◌, ◌≡◌}
-use Rattle.ksm_book.specs.Scanned.{ahead_before}
+use Rattle.ksm_book.proofs.Names.{sym, true, true≢false, with_none_waiting, ℕ, [], ◌&&◌, ◌*◌, ◌++◌, ◌+◌, ◌-◌, ◌<◌, ◌^◌, ◌∙◌, ◌∷◌, ◌≡◌}
+use Rattle.ksm_book.specs.Scanned.{ahead_before, ahead_up_to, up_to}
 use Rattle.ksm_book.proofs.Along.{FitsPage}
 use Rattle.ksm_book.proofs.DueAlike.{all_has, along, calm_stays, due_keeps, unveiled, veiled}
 use Rattle.ksm_book.proofs.DueKept.{undue_stay}
 use Rattle.ksm_book.proofs.Dues.{IsFirst}
 use Rattle.ksm_book.proofs.Folded.{ascending_ahead, every_page}
 use Rattle.ksm_book.proofs.PagesAhead.{Before, before_down, GoesDown, has_filter, parted, same_pages}
-use Rattle.ksm_book.proofs.Scanned.{begun_ahead}
 
 -- ---------------------------------------------------------------- visits of some pages and of others
 
@@ -19,57 +19,6 @@ pub visits_on : (some more : List GuestPage) (s : BookState × Deed)
     → due_visits doing s (some ++ more) ≡ due_visits doing (due_visits doing s some) more
 visits_on [] more s = refl
 visits_on (page ∷ some) more s = visits_on some more (due_visited doing s page)
-
--- ---------------------------------------------------------------- a pass as it begins
-
--- a book as a pass begins, with what was done
-module _ (s : BookState × Deed) (sound : IsSound s.0) (start : s.0.cursor ≡ None) where
-  -- the pages that scans visit
-  abbrev all : List GuestPage
-  all = mergeable_pages s.0.rows
-
-  -- all of them are ahead
-  pub ahead_all : pages_ahead s.0 ≡ all
-  ahead_all = rw start (every_page s.0.rows)
-
-  begun_all : pages_ahead (pass_begun s.0) ≡ all
-  begun_all = begun_ahead s.0 ∙ ahead_all
-
-  rises : AreAscending all
-  rises = subst AreAscending ahead_all (ascending_ahead s.0 sound.rows_rise)
-
-  -- the visits of the pages that fail a test which goes up, where the others are veiled
-  alike : (e : GuestPage → Bool) → ((p q : GuestPage) → e q ≡ true → e p ≡ false → comes_before p q ≡ true)
-      → (pages : List GuestPage) → AreAscending pages
-      → ((q : GuestPage) → has_item q pages ≡ (not (e q) && has_item q all))
-      → pages_visited doing (pass_begun s.0, s.1) pages
-      ≡ (veiled e (due_visits doing s pages).0, (due_visits doing s pages).1)
-  alike e up pages rise are =
-      ap (λ z. pages_visited doing (if is_none z then with_none_waiting s.0 else s.0, s.1) pages) start
-      ∙ along e up pages None s sound (record { rise = rise; are = are; behind = λ q is. refl })
-
-  -- the visits of all pages
-  pub whole_part : due_visits doing s (pages_ahead s.0) ≡ part_visited None s
-  whole_part =
-      grind (arith, ahead_all, begun_all, unveiled (due_visits doing s all).0, alike (λ _. false)
-      (λ p q is _. absurd (true≢false (sym is))) all rises (λ q. refl))
-
-  -- the visits of the pages before one, once no row from there on waits
-  pub before_part : (page : GuestPage) → (
-    hidden_from page (due_visits doing s (ahead_before page s.0)).0,
-    (due_visits doing s (ahead_before page s.0)).1,
-  ) ≡ part_before page s
-  before_part page =
-      let low : GuestPage → Bool = λ p. comes_before p page in
-      rw (ahead_all, begun_all)
-      (sym (alike (λ p. not (comes_before p page)) (up page) (filter low all) (AllPairs-filter Before low all rises)
-      (λ q. grind (arith, has_filter))))
-    where
-      up : (page p q : GuestPage) → not (comes_before q page) ≡ true → not (comes_before p page) ≡ false
-          → comes_before p q ≡ true
-      up page p q is fails = grind arith
-
--- ---------------------------------------------------------------- visits of what is due
 
 -- where a page is not behind a cursor, no page before that page is
 cursor_down : (cursor : Option GuestPage) → GoesDown (λ p. not (after_cursor cursor p))
@@ -81,83 +30,136 @@ passing : (t u : GuestPage → Bool) (pages : List GuestPage) → ((q : GuestPag
 passing t u [] stronger = refl
 passing t u (p ∷ pages) stronger = grind (arith, passing t u pages stronger, stronger p)
 
--- of pages in order those not behind a cursor were visited, and some pages are due then
-module _ (s : BookState × Deed) (sound : IsSound s.0) (pages : List GuestPage) (rise : AreAscending pages)
-    (cursor : Option GuestPage) (due : List GuestPage) where
-  abbrev passed : GuestPage → Bool
-  passed p = not (after_cursor cursor p)
+-- a book as a pass begins, with what was done
+module _ (s : BookState × Deed) (sound : IsSound s.0) (start : s.0.cursor ≡ None) where
+  -- the pages ahead
+  abbrev all : List GuestPage
+  all = pages_ahead s.0
 
-  -- the book after these visits
-  abbrev pub reached : BookState × Deed
-  reached = due_visits doing s (filter passed pages)
+  rises : AreAscending all
+  rises = ascending_ahead s.0 sound.rows_rise
 
-  module _ (are : AreDue reached.0 due) where
-    -- visits of more pages change nothing more where none of those that come to them is due
-    more_visited : (t : GuestPage → Bool) → ((q : GuestPage) → passed q ≡ true → t q ≡ true)
-        → ((q : GuestPage) → t q ≡ true → passed q ≡ false → has_item q due ≡ false)
-        → due_visits doing s (filter t pages) ≡ reached
-    more_visited t more none =
-        let rest = filter (λ p. not (passed p)) (filter t pages) in
-        ap (due_visits doing s) (parted passed (cursor_down cursor) (filter t pages)
-        (AllPairs-filter Before t pages rise)
-        ∙ ap (λ l. l ++ rest) (passing t passed pages more))
-        ∙ visits_on (filter passed pages) rest s
-        ∙ undue_stay rest reached due (due_keeps (filter passed pages) s sound).0 are (λ k d lt.
-        none (get_or rest k d) (All-filter (λ p. not (passed p)) (λ q. t q ≡ true) _ (filter_passes t pages) k d lt)
-        (not-true _ (filter_passes (λ p. not (passed p)) (filter t pages) k d lt)))
+  -- they are those that scans visit
+  all_mergeable : all ≡ mergeable_pages s.0.rows
+  all_mergeable = rw start (every_page s.0.rows)
 
-    -- where no page behind the cursor is due, all pages were visited
-    pub all_visited : All (λ p. after_cursor cursor p ≡ false) due → due_visits doing s pages ≡ reached
-    all_visited none =
-        ap (due_visits doing s) (sym (filter_all (λ _. true) pages (λ k d lt. refl)))
-        ∙ more_visited (λ _. true) (λ q is. refl)
-        (λ q _ behind. grind (arith, all_has (λ p. after_cursor cursor p ≡ false) due none q))
+  -- a page that a visit may change after some visits is one of them
+  pub known : (pages : List GuestPage) (page : GuestPage) → restless_at page (due_visits doing s pages).0.rows ≡ true
+      → has_item page all ≡ true
+  known pages page restless =
+      rw (← ((due_keeps pages s sound).1.mergeable ∙ sym all_mergeable)) (restless_mergeable page _ restless)
 
-    module _ (page : GuestPage) (first : IsFirst cursor due page) where
-      abbrev low : GuestPage → Bool
-      low p = comes_before p page
+  -- ---------------------------------------------------------------- the visits of the definitions
 
-      -- the pages before it were visited
-      pub before_visited : due_visits doing s (filter low pages) ≡ reached
-      before_visited =
-          more_visited low (λ q is. grind arith)
-          (λ q is behind. grind (arith, all_has
-          (λ p. after_cursor cursor p ≡ true → comes_before p page ≡ false) due first.2 q))
+  -- the visits of the pages that fail a test which goes up, where the others are veiled
+  alike : (e : GuestPage → Bool) → ((p q : GuestPage) → e q ≡ true → e p ≡ false → comes_before p q ≡ true)
+      → (pages : List GuestPage) → AreAscending pages
+      → ((q : GuestPage) → has_item q pages ≡ (not (e q) && has_item q all))
+      → pages_visited doing (pass_begun s.0, s.1) pages
+      ≡ (veiled e (due_visits doing s pages).0, (due_visits doing s pages).1)
+  alike e up pages rise are =
+      ap (λ z. pages_visited doing (if is_none z then with_none_waiting s.0 else s.0, s.1) pages) start
+      ∙ along e up pages None s sound
+      (record { rise = rise; are = λ q. grind (arith, are q, all_mergeable); behind = λ q is. refl })
 
-      -- with its visit the pages up to it were visited
-      pub next_visited : (restless_at page reached.0.rows ≡ true → has_item page pages ≡ true)
-          → due_visits doing s (filter (λ p. not (after_cursor (Some page) p)) pages) ≡ due_visited doing reached page
-      next_visited known =
-          ap (due_visits doing s) (parted low (before_down page) up_to (AllPairs-filter Before is_up pages rise)
-          ∙ ap (λ l. l ++ rest) (passing is_up low pages (λ q is. grind arith)))
-          ∙ visits_on (filter low pages) rest s ∙ ap (λ z. due_visits doing z rest) before_visited ∙ last
+  -- the visits of all pages
+  pub whole_part : due_visits doing s all ≡ part_visited None s
+  whole_part =
+      let is : ahead_up_to None (pass_begun s.0) ≡ all = filter_all (up_to None) _ (λ k d lt. refl) ∙ begun_ahead s.0 in
+      grind (arith, is, unveiled (due_visits doing s all).0,
+      alike (λ _. false) (λ p q is _. absurd (true≢false (sym is))) all rises (λ q. refl))
+
+  -- the visits of the pages before one, once no row from there on waits
+  pub before_part : (page : GuestPage) → (
+    hidden_from page (due_visits doing s (ahead_before page s.0)).0,
+    (due_visits doing s (ahead_before page s.0)).1,
+  ) ≡ part_before page s
+  before_part page =
+      let low : GuestPage → Bool = λ p. comes_before p page in
+      rw (begun_ahead s.0)
+      (sym (alike (λ p. not (comes_before p page)) up (filter low all) (AllPairs-filter Before low all rises)
+      (λ q. grind (arith, has_filter))))
+    where
+      up : (p q : GuestPage) → not (comes_before q page) ≡ true → not (comes_before p page) ≡ false
+          → comes_before p q ≡ true
+      up p q is fails = grind arith
+
+  -- ---------------------------------------------------------------- visits of what is due
+
+  -- those not behind a cursor were visited, and some pages are due then
+  module _ (cursor : Option GuestPage) (due : List GuestPage) where
+    abbrev passed : GuestPage → Bool
+    passed p = not (after_cursor cursor p)
+
+    -- the book after these visits
+    abbrev pub reached : BookState × Deed
+    reached = due_visits doing s (filter passed all)
+
+    module _ (are : AreDue reached.0 due) where
+      -- visits of more pages change nothing more where none of those that come to them is due
+      more_visited : (t : GuestPage → Bool) → ((q : GuestPage) → passed q ≡ true → t q ≡ true)
+          → ((q : GuestPage) → t q ≡ true → after_cursor cursor q ≡ true → has_item q due ≡ false)
+          → due_visits doing s (filter t all) ≡ reached
+      more_visited t more none =
+          let rest = filter (λ p. not (passed p)) (filter t all) in
+          ap (due_visits doing s) (parted passed (cursor_down cursor) (filter t all)
+          (AllPairs-filter Before t all rises)
+          ∙ ap (λ l. l ++ rest) (passing t passed all more))
+          ∙ visits_on (filter passed all) rest s
+          ∙ undue_stay rest reached due (due_keeps (filter passed all) s sound).0 are (λ k d lt.
+          none (get_or rest k d) (All-filter (λ p. not (passed p)) (λ q. t q ≡ true) _ (filter_passes t all) k d lt)
+          (not-false (filter_passes (λ p. not (passed p)) (filter t all) k d lt)))
         where
-          is_up : GuestPage → Bool
-          is_up p = not (comes_before page p)
+          not-false : {b : Bool} → not (not b) ≡ true → b ≡ true
+          not-false is = grind arith
 
-          up_to : List GuestPage
-          up_to = filter is_up pages
+      -- where no page behind the cursor is due, all pages were visited
+      pub all_visited : All (λ p. after_cursor cursor p ≡ false) due → due_visits doing s all ≡ reached
+      all_visited none =
+          ap (due_visits doing s) (sym (filter_all (λ _. true) all (λ k d lt. refl)))
+          ∙ more_visited (λ _. true) (λ q is. refl)
+          (λ q _ behind. grind (arith, all_has (λ p. after_cursor cursor p ≡ false) due none q))
 
-          -- of those up to it no other is left than it
-          rest : List GuestPage
-          rest = filter (λ p. not (low p)) up_to
+      module _ (page : GuestPage) (first : IsFirst cursor due page) where
+        abbrev low : GuestPage → Bool
+        low p = comes_before p page
 
-          rest_has : (q : GuestPage) → has_item q rest ≡ (same_page page q && has_item page pages)
-          rest_has q = grind (arith, has_filter, same_page_eq page q, one_before, before_irrefl)
+        -- the pages before it were visited
+        pub before_visited : due_visits doing s (ahead_before page s.0) ≡ reached
+        before_visited =
+            more_visited low (λ q is. grind arith) (λ q is behind.
+            grind (arith, all_has (λ p. after_cursor cursor p ≡ true → comes_before p page ≡ false) due first.2 q))
 
-          rises : AreAscending rest
-          rises = AllPairs-filter Before _ _ (AllPairs-filter Before is_up pages rise)
+        -- with its visit the pages up to it were visited
+        pub next_visited : due_visits doing s (filter (λ p. not (after_cursor (Some page) p)) all)
+            ≡ due_visited doing reached page
+        next_visited =
+            ap (due_visits doing s) (parted low (before_down page) (filter up all) (AllPairs-filter Before up all rises)
+            ∙ ap (λ l. l ++ rest) (passing up low all (λ q is. grind arith)))
+            ∙ visits_on (filter low all) rest s ∙ ap (λ z. due_visits doing z rest) before_visited ∙ last
+          where
+            up : GuestPage → Bool
+            up p = not (comes_before page p)
 
-          last : due_visits doing reached rest ≡ due_visited doing reached page
-          last = elim (cases_Bool (has_item page pages)) [
-            | inl there ↦ ap (due_visits doing reached)
-                (same_pages rest (page ∷ []) rises (λ i j d less lt. absurd (omega arith))
-                (λ q. grind (arith, rest_has q)))
-            | inr out ↦
-                ap (due_visits doing reached) (same_pages rest [] rises (λ i j d less lt. absurd (omega arith))
-                (λ q. grind (arith, rest_has q)))
-                ∙ sym (calm_stays reached page (grind arith))
-          ]
+            -- of those up to it no other is left than it
+            rest : List GuestPage
+            rest = filter (λ p. not (low p)) (filter up all)
+
+            rest_is : (pages : List GuestPage) → AreAscending pages
+                → ((q : GuestPage) → (same_page page q && has_item page all) ≡ has_item q pages) → rest ≡ pages
+            rest_is pages rise has =
+                same_pages rest pages (AllPairs-filter Before _ _ (AllPairs-filter Before up all rises)) rise
+                (λ q. grind (arith, has_filter, same_page_eq page q, one_before, before_irrefl) ∙ has q)
+
+            last : due_visits doing reached rest ≡ due_visited doing reached page
+            last = elim (cases_Bool (has_item page all)) [
+              | inl there ↦
+                  ap (due_visits doing reached) (rest_is (page ∷ []) (λ i j d less lt. absurd (omega arith))
+                  (grind arith))
+              | inr out ↦
+                  ap (due_visits doing reached) (rest_is [] (λ i j d less lt. absurd (omega arith)) (grind arith))
+                  ∙ sym (calm_stays reached page (grind (arith, known (filter passed all) page)))
+            ]
 
 -- ---------------------------------------------------------------- how far a walk can go
 
