@@ -30,12 +30,10 @@ less_due page b c old new gone no_more due = no_more new (more_due b old (page �
 
 -- by what was found, the page shares a frame once it was visited
 abbrev pub shares : GuestPage → Find → Bool
-shares page finds.Gone = false
 shares page (Dup best) = true
-shares page finds.Changed = false
 shares page finds.Zero = true
 shares page (Partner other) = comes_before other page
-shares page finds.Waits = false
+shares page _ = false
 
 -- the row of a page that shares a frame from now on is none that a visit may change
 calm_then : (page : GuestPage) (rows : List Row) (row : Row) (test : Row → Bool) (state : PageState) → shared_state state ≡ true
@@ -75,9 +73,7 @@ module _ (p q : PagesView) (cursor : Option GuestPage) (passes : ℕ) (page : Gu
         grind (arith, w.1, not_both),
         rw ((stayed_is b p.frame row false stays).0 ∙ ap (λ o. paired o b row) w.1) calm,
       )
-  calm_by finds.Gone is row so found of_page = absurd (true≢false (sym is))
-  calm_by finds.Changed is row so found of_page = absurd (true≢false (sym is))
-  calm_by finds.Waits is row so found of_page = absurd (true≢false (sym is))
+  calm_by _ is row so found of_page = absurd (true≢false (sym is))
 
 module _ (f : Find) (q : PagesView) {p : PagesView} {k : KeeperView} {cursor : Option GuestPage} {passes : ℕ}
     (v w : BookValue)
@@ -132,12 +128,9 @@ module _ {p q : PagesView} {k : KeeperView} {cursor : Option GuestPage} {passes 
 
 -- what was found of a page where the search changed nothing
 abbrev pub is_still : Find → Bool
-is_still finds.Gone = true
-is_still (Dup best) = true
 is_still finds.Changed = false
-is_still finds.Zero = true
-is_still (Partner other) = true
 is_still finds.Waits = false
+is_still _ = true
 
 -- the search changed nothing then
 pub still_found : (p q : PagesView) (page : GuestPage) (f : Find) → Finds p q page f → is_still f ≡ true → q ≡ p

@@ -1,6 +1,7 @@
 -- A store to a page with a frame of its own: where the page is due, if it waited, what is due stays so.
-use Rattle.ksm_book.proofs.Names.{AreDue, arith, BookState, Bool, change_row, false, find_all, GuestPage, has_item, InPageOrder, is_restless, IsAlone, List, MatchOption, None, Option, refl, Row}
-use Rattle.ksm_book.proofs.Names.{row_at, same_page, same_page_refl, shared_state, Some, stored, true, true≢false, waiting_state, waits_on, ℕ, ◌||◌, ◌≡◌}
+use Rattle.ksm_book.proofs.RowVisits.{filled_by}
+use Rattle.ksm_book.proofs.Names.{AreDue, arith, BookState, Bool, change_row, false, find_all, GuestPage, has_item, InPageOrder, is_restless, IsAlone, List, MatchOption, refl, row_at, same_page}
+use Rattle.ksm_book.proofs.Names.{same_page_refl, shared_state, stored, true, true≢false, waiting_state, waits_on, ℕ, ◌||◌, ◌≡◌}
 use Rattle.ksm_book.proofs.ByPage.{found_page}
 use Rattle.ksm_book.proofs.DueKept.{more_due, own_due}
 use Rattle.ksm_pages.proofs.Joined.{own_not_merged}
@@ -11,18 +12,12 @@ stored_due : (b : BookState) (page : GuestPage) (bytes : List ℕ) (pages : List
     → AreDue b pages → MatchOption (row_at page b.rows) (true ≡ false)
     (λ r. waiting_state r.state ≡ true → has_item page pages ≡ true)
     → AreDue (record b { rows = change_row page (stored bytes) b.rows }) pages
-stored_due b page bytes pages rise alone was waits = by _ refl alone waits
-  where
-    by : (o : Option Row) → row_at page b.rows ≡ o → MatchOption o (true ≡ false) (λ r. shared_state r.state ≡ false)
-        → MatchOption o (true ≡ false) (λ r. waiting_state r.state ≡ true → has_item page pages ≡ true)
-        → AreDue (record b { rows = change_row page (stored bytes) b.rows }) pages
-    by None found none _ = absurd (true≢false none)
-    by (Some row) found own waits =
-        let on = find_all (λ r. same_page r.page page)
-        (λ r. is_restless r ≡ true → has_item r.page pages ≡ false → waits_on b r ≡ true)
-        b.rows row found was in
-        own_due b page (stored bytes) row rise found (own_not_merged _ own, refl) pages pages
-        (λ restless out. grind (arith, on, found_page page b.rows row found, own, waits)) (λ p _ is. is) was
+stored_due b page bytes pages rise alone was waits =
+    let own = filled_by (λ r. shared_state r.state ≡ false) alone in
+    let on = find_all (λ r. same_page r.page page)
+    (λ r. is_restless r ≡ true → has_item r.page pages ≡ false → waits_on b r ≡ true) b.rows own.0 own.1 was in
+    own_due b page (stored bytes) own.0 rise own.1 (own_not_merged _ own.2, refl) pages pages
+    (λ restless out. grind (arith, on, found_page page b.rows own.0 own.1, own, waits)) (λ p _ is. is) was
 
 -- where the page does not wait, what is due stays so
 pub stored_calm : (b : BookState) (page : GuestPage) (pages : List GuestPage) (waits : Bool) → InPageOrder b.rows → IsAlone page b.rows

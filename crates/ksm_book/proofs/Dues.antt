@@ -1,7 +1,7 @@
 -- The pages that are due, as they are kept: which there are once one came or went, and the first behind a cursor.
-use Rattle.ksm_book.proofs.Names.{after_cursor, All, All-cons, All-map, any-filter_same, append-nil, AreDue, arith, before_irrefl, BookState, Bool, cases_Bool, comes_before, Err, false, filter, find}
-use Rattle.ksm_book.proofs.Names.{get_or, GuestPage, has_item, if◌then◌else◌, inl, inr, is_some, length, List, list_any, map, MatchOption, None, not, not_both, Ok, Option, pages_ordered, pairs_head}
-use Rattle.ksm_book.proofs.Names.{pairs_tail, refl, Result, same_page, same_page_refl, Some, subst, sym, true, [], ◌&&◌, ◌++◌, ◌==◌, ◌||◌, ◌∙◌, ◌∷◌, ◌≡◌}
+use Rattle.ksm_book.proofs.Names.{after_cursor, All, All-cons, All-map, any-filter_same, any_found, append-nil, AreDue, arith, before_irrefl, BookState, Bool, cases_Bool, comes_before, Err, false}
+use Rattle.ksm_book.proofs.Names.{filter, find, get_or, GuestPage, has_item, if◌then◌else◌, inl, inr, is_some, length, List, list_any, map, MatchOption, None, not, not_both, Ok, Option, pages_ordered}
+use Rattle.ksm_book.proofs.Names.{pairs_head, pairs_tail, refl, Result, same_page, same_page_refl, Some, true, [], ◌&&◌, ◌++◌, ◌==◌, ◌||◌, ◌∙◌, ◌∷◌, ◌≡◌}
 use Rattle.std.proofs.lemmas.List.Folds.{list_any-append}
 use Rattle.std.specs.Prelude.{OnErr, OnOk}
 use Rattle.ksm_pages.specs.Held.{pages_of}
@@ -21,13 +21,7 @@ any_named x (m ∷ order) = rw (any_named x order)
 
 -- a page is there exactly where a search finds it
 pub has_found : (x : GuestPage) (order : List Named) → has_item x (pages_in order) ≡ is_some (find (is_of x) order)
-has_found x [] = refl
-has_found x (m ∷ order) = grind (arith, has_found x order)
-
-joined : (x : GuestPage) (some more : List Named)
-    → has_item x (pages_in (some ++ more)) ≡ (has_item x (pages_in some) || has_item x (pages_in more))
-joined x [] more = refl
-joined x (m ∷ some) more = grind (arith, joined x some more)
+has_found x order = any_named x order ∙ any_found (is_of x) order
 
 picked : (u : GuestPage → Bool) (x : GuestPage) (order : List Named)
     → has_item x (pages_in (filter (λ m. u m.page) order)) ≡ (u x && has_item x (pages_in order))
@@ -36,7 +30,9 @@ picked u x order = grind (arith, any_named, any-filter_same)
 -- a page that is put in is there, and the others as before
 pub has_put : (n : Named) (order : List Named) (x : GuestPage)
     → has_item x (pages_in (with_named n order)) ≡ (same_page n.page x || has_item x (pages_in order))
-has_put n order x = grind (arith, picked (λ p. comes_before p n.page) x order, picked (λ p. comes_before n.page p) x order, joined)
+has_put n order x =
+    grind (arith, picked (λ p. comes_before p n.page) x order, picked (λ p. comes_before n.page p) x order,
+    any_named x, list_any-append)
 
 -- a page that is taken out is there no more, and the others as before
 pub has_taken : (page : GuestPage) (order : List Named) (x : GuestPage)
@@ -60,8 +56,7 @@ has_already page pages has x = grind arith
 -- the pages stay in order where one is put in, or memory was refused
 pub inserted_rises : {T E : Type 0} (r : Result T E) (n : Named) (old new : List Named) → AreAscending old
     → OnOk r (new ≡ with_named n old) → OnErr r (new ≡ old) → AreAscending new
-inserted_rises (Ok u) n old new rise added kept = subst AreAscending (sym added) (put_rises n old rise)
-inserted_rises (Err e) n old new rise added kept = subst AreAscending (sym kept) rise
+inserted_rises r n old new rise added kept = grind (arith, put_rises n old rise)
 
 -- ---------------------------------------------------------------- pages that were added
 
@@ -133,9 +128,6 @@ module _ (cursor : Option GuestPage) where
     over not_yet None none = grind arith
     over not_yet (Some n) (has, after, first) = grind arith
 
-    is_found : (b : Bool) → behind m ≡ b → find behind (m ∷ order) ≡ (if b then Some m else find behind order)
-    is_found b is = rw is
-
   -- a search in pages in order finds the first page behind the cursor, if there is one
   pub first_found : (order : List Named) → AreAscending order → TellsFirst cursor (pages_in order) (find behind order)
   first_found [] rise = λ k d lt. absurd (omega arith)
@@ -143,6 +135,6 @@ module _ (cursor : Option GuestPage) where
     | inl is ↦
         grind (arith, here)
     | inr not_yet ↦
-        subst (TellsFirst cursor (pages_in (m ∷ order))) (sym (is_found m _ rise false not_yet))
-        (over m _ rise not_yet _ (first_found order (pairs_tail (λ a b. comes_before a.page b.page ≡ true) m _ rise)))
+        rw not_yet (over m order rise not_yet _
+        (first_found order (pairs_tail (λ a b. comes_before a.page b.page ≡ true) m _ rise)))
   ]
