@@ -1,10 +1,10 @@
 -- Visits of pages do what those of the definitions do, where the rows further on that still wait are hidden from these.
 use Rattle.ksm_book.proofs.Names.{after_cursor, All, All-cons, All-map, ap, AreAscending, arith, before_irrefl, best_dup, BookState, Bool, cases_Bool, change_row, change_rows, comes_before}
 use Rattle.ksm_book.proofs.Names.{comes_later, cond_both, count_mapped, Deed, doing, due_row_visited, due_visited, due_visits, dup_frame, dup_of_row, DupRow, each_at_page, false, find_all}
-use Rattle.ksm_book.proofs.Names.{find_mapped, find_none, find_nothing, find_passes, Frames, get_or, get_or_from_slice_get, GuestPage, handled, has_item, HasStayed, hidden, if◌then◌else◌, inl}
-use Rattle.ksm_book.proofs.Names.{InPageOrder, inr, is_best, is_for_zero, is_no_rival, is_restless, is_stale, IsSound, item_count, Knobs, List, map_alike, map_mapped, may_join, mergeable_pages}
-use Rattle.ksm_book.proofs.Names.{Merged, merged_into, new_place, None, not, not_both, one_before, Option, option_map, page, page_visited, pages_visited, PageState, paired, pairs_head, pairs_tail}
-use Rattle.ksm_book.proofs.Names.{partner, place_count, refl, restless_at, restless_row, Row, row_at, row_visited, row_visiting, same_page, same_page_eq, same_page_refl, settled, settled_calmer}
+use Rattle.ksm_book.proofs.Names.{find_mapped, find_none, find_nothing, find_passes, Frames, get_or, get_or_from_slice_get, GuestPage, handled, has_item, HasStayed, hidden, hidden_from, if◌then◌else◌}
+use Rattle.ksm_book.proofs.Names.{inl, InPageOrder, inr, is_best, is_for_zero, is_no_rival, is_restless, is_stale, IsSound, item_count, List, map_alike, map_mapped, may_join, mergeable_pages, Merged}
+use Rattle.ksm_book.proofs.Names.{merged_into, new_place, None, not, not_both, one_before, Option, option_map, page, page_visited, pages_visited, PageState, paired, pairs_head, pairs_tail, partner}
+use Rattle.ksm_book.proofs.Names.{place_count, refl, restless_at, restless_row, Row, row_at, row_visited, row_visiting, same_page, same_page_eq, same_page_refl, settled, settled_calmer}
 use Rattle.ksm_book.proofs.Names.{slice_get_within, Some, sound_changed, sound_row_visited, stayed, subst, sym, taken_over, takes_over, true, true≢false, visited, Waiting, waiting_not_private}
 use Rattle.ksm_book.proofs.Names.{waiting_state, waits_for, waits_tells, with_dup, Zero, ℕ, [], ◌&&◌, ◌++◌, ◌+◌, ◌==◌, ◌||◌, ◌∙◌, ◌∷◌, ◌≡◌}
 use Rattle.ksm_base.specs.declared.row.PageState.TheVariants.{Private}
@@ -90,45 +90,45 @@ module _ (t : GuestPage → Bool) (b : BookState) where
 -- what the best dup of a row goes by
 pub ruleset by_counts = (best_dup, is_best, is_no_rival, may_join, is_no_worse)
 
-module _ (test : Row → Bool) (rows : List Row) where
+-- where rows of a book wait no more
+module _ (test : Row → Bool) (b : BookState) where
   abbrev calm_rows : List Row
-  calm_rows = change_rows test settled rows
+  calm_rows = change_rows test settled b.rows
 
-  calmed_at : (page : GuestPage) → row_at page calm_rows ≡ option_map (calmed test) (row_at page rows)
-  calmed_at page = find_mapped (calmed test) (λ r. same_page r.page page) (λ r. same_page r.page page) rows
+  calmed_at : (page : GuestPage) → row_at page calm_rows ≡ option_map (calmed test) (row_at page b.rows)
+  calmed_at page = find_mapped (calmed test) (λ r. same_page r.page page) (λ r. same_page r.page page) b.rows
       (grind arith)
 
-  calmed_goes : Goes rows calm_rows
+  calmed_goes : Goes b.rows calm_rows
   calmed_goes = change_goes _ (grind arith) (grind arith)
 
-  count_kept : (d : DupRow) → item_count calm_rows d ≡ item_count rows d
+  count_kept : (d : DupRow) → item_count calm_rows d ≡ item_count b.rows d
   count_kept d = grind (arith, count_mapped)
 
-  best_kept : (knobs : Knobs) (row : Row) (dups : List DupRow)
-      → best_dup knobs calm_rows dups row ≡ best_dup knobs rows dups row
-  best_kept knobs row dups = simp (count_kept, by_counts)
+  best_kept : (r : Row) → best_dup b.knobs calm_rows b.dups r ≡ best_dup b.knobs b.rows b.dups r
+  best_kept r = simp (count_kept, by_counts)
 
-  new_place_kept : (places : ℕ) (dups : List DupRow) → new_place places calm_rows dups ≡ new_place places rows dups
-  new_place_kept places dups = simp (count_kept, new_place, is_stale)
+  place_kept : new_place (place_count b.shape) calm_rows b.dups ≡ new_place (place_count b.shape) b.rows b.dups
+  place_kept = simp (count_kept, new_place, is_stale)
 
-  dup_frame_kept : (frame : Frames) (number : ℕ) → dup_frame frame calm_rows number ≡ dup_frame frame rows number
+  dup_frame_kept : (frame : Frames) (number : ℕ) → dup_frame frame calm_rows number ≡ dup_frame frame b.rows number
   dup_frame_kept frame number =
       let into : Row → Bool = λ r. merged_into number r.state in
-      grind (arith, find_mapped (calmed test) into into rows (grind arith))
+      grind (arith, find_mapped (calmed test) into into b.rows (grind arith))
 
 -- ---------------------------------------------------------------- the visit of a row where those from it on are veiled
 
 module _ (b : BookState) (r : Row) where
-  -- the page of the row, or one behind it
-  abbrev is_on : GuestPage → Bool
-  is_on q = not (comes_before q r.page)
+  -- a row of its page, or of one behind it
+  abbrev is_on : Row → Bool
+  is_on x = not (comes_before x.page r.page)
 
   -- the book where the rows from it on are veiled
   abbrev covered : BookState
-  covered = veiled is_on b
+  covered = hidden_from r.page b
 
   abbrev cover : Row → Row
-  cover = calmed (λ x. is_on x.page)
+  cover = calmed is_on
 
   -- no row that waits for it is veiled then
   abbrev NoneVeiled : Type 0
@@ -194,9 +194,7 @@ module _ (b : BookState) (r : Row) where
         rows = change_alike (λ q. same_page q w.page || same_page q r.page) (λ x. record x { state = Merged b.next })
             (λ x. refl) (λ x. refl)
             (grind arith) (grind (arith, same_page_eq, not_both, before_irrefl)) t;
-        dups = with_dup (dup_of_row b.knobs b.next
-            (new_place_kept (λ x. is_on x.page) b.rows (place_count b.shape) b.dups t) r)
-            b.dups;
+        dups = with_dup (dup_of_row b.knobs b.next (place_kept is_on b t) r) b.dups;
         next = b.next + 1;
       }
 
@@ -211,15 +209,13 @@ module _ (b : BookState) (r : Row) where
         own_alike (λ x. record x { unchanged = true; state = Private }) (λ x. refl) (λ x. refl))
 
     deed_alike : (frame : Frames) → row_visiting covered frame (settled r) ≡ row_visiting b frame r
-    deed_alike frame =
-        let test : Row → Bool = λ x. is_on x.page in
-        grind (arith, best_kept test b.rows b.knobs r b.dups, partner_alike, dup_frame_kept test b.rows frame,
-        new_place_kept test b.rows (place_count b.shape) b.dups)
+    deed_alike frame = grind (arith, best_kept is_on b r, partner_alike, dup_frame_kept is_on b frame,
+        place_kept is_on b)
 
     -- its visit does the same where the rows from it on are veiled; after it its own is not
     visit_alike : (deed : Deed) → visited doing (covered, deed) (Some (settled r))
         ≡ (veiled (comes_before r.page) (visited doing (b, deed) (Some r)).0, (visited doing (b, deed) (Some r)).1)
-    visit_alike deed = grind (arith, best_kept (λ x. is_on x.page) b.rows b.knobs r b.dups, handled_alike, deed_alike)
+    visit_alike deed = grind (arith, best_kept is_on b r, handled_alike, deed_alike)
 
 -- ---------------------------------------------------------------- a row takes over
 
@@ -247,17 +243,17 @@ module _ (b : BookState) (r : Row) where
 
   -- the row is found there where it was found
   pub freed_found : row_at r.page b.rows ≡ Some r → row_at r.page freed.rows ≡ Some r
-  freed_found found = grind (arith, calmed_at waits b.rows r.page)
+  freed_found found = grind (arith, calmed_at waits b r.page)
 
   -- where it takes over, its visit there makes it wait
   pub taken_is : is_restless r ≡ true → takes_over b r ≡ true → (deed : Deed)
       → visited doing (freed, deed) (Some r) ≡ (taken_over b r, deed)
-  taken_is is takes deed = grind (arith, best_kept waits b.rows b.knobs r b.dups,
+  taken_is is takes deed = grind (arith, best_kept waits b r,
       find_nothing waits freed.rows none_waits, then_idle)
 
   -- it has stayed there
   pub freed_stays : is_restless r ≡ true → takes_over b r ≡ true → HasStayed freed false r
-  freed_stays is takes = grind (arith, best_kept waits b.rows b.knobs r b.dups)
+  freed_stays is takes = grind (arith, best_kept waits b r)
 
   -- a book in which the visit of the row does what our visit of it does
   record Opens (o : BookState) : Type 0 where
@@ -274,9 +270,10 @@ module _ (b : BookState) (r : Row) where
     | inl takes ↦ (freed, record {
         sound = sound_changed b _ _ settled_calmer (λ x home. home) s;
         found = freed_found found;
-        goes = calmed_goes waits b.rows;
+        goes = calmed_goes waits b;
         is = λ deed. grind (arith, taken_is restless takes deed);
-        covers = veiled_over is_on b waits (λ k d lt is. grind (arith, side _ refl k d lt is, not_both));
+        covers = veiled_over (λ q. not (comes_before q r.page)) b waits
+            (λ k d lt is. grind (arith, side _ refl k d lt is, not_both));
         near = λ _ _ _ k d lt. grind (arith, none_waits k d lt);
       })
     | inr stays ↦ (b, record {
@@ -290,9 +287,6 @@ module _ (b : BookState) (r : Row) where
       })
   ]
     where
-      is_on : GuestPage → Bool
-      is_on q = not (comes_before q r.page)
-
       -- all that wait for it come behind it, if the one that is found does
       side : (o : Option Row) → partner b.knobs b.rows r ≡ o
           → All (λ x. waits x ≡ true → comes_before r.page x.page ≡ comes_later r.page o) b.rows
@@ -312,7 +306,7 @@ abbrev pub IsAlike : BookState → Deed → GuestPage → Type 0
 IsAlike b deed page =
     let due : BookState × Deed = due_visited doing (b, deed) page in
     IsSound due.0 × Goes b.rows due.0.rows
-    × (page_visited doing (veiled (λ q. not (comes_before q page)) b, deed) page
+    × (page_visited doing (hidden_from page b, deed) page
     ≡ (veiled (comes_before page) due.0, due.1))
 
 module _ (b : BookState) (s : IsSound b) (deed : Deed) where
@@ -320,7 +314,7 @@ module _ (b : BookState) (s : IsSound b) (deed : Deed) where
   row_due r found restless =
       let o : (c : BookState) × Opens b r c = opened b r s found restless in
       let is = o.1.is deed ∙ ap (due_row_visited doing (b, deed)) (sym found) in
-      let at = calmed_at (λ x. not (comes_before x.page r.page)) b.rows r.page
+      let at = calmed_at (is_on b r) b r.page
       ∙ ap (option_map (cover b r)) found ∙ ap (λ z. Some (if not z then settled r else r)) (before_irrefl r.page) in
       (
         subst (λ (z : BookState × Deed). IsSound z.0) is
@@ -340,10 +334,10 @@ module _ (b : BookState) (s : IsSound b) (deed : Deed) where
     where
       calmly : restless_at page b.rows ≡ false → IsAlike b deed page
       calmly calm =
-          let at = calmed_at (λ x. not (comes_before x.page page)) b.rows page in
+          let at = calmed_at (λ x. not (comes_before x.page page)) b page in
           rw (calm_stays (b, deed) page calm) (s, goes_same, grind (arith, at) ∙ (λ t. (still t, deed)))
         where
-          still : veiled (λ q. not (comes_before q page)) b ≡ veiled (comes_before page) b
+          still : hidden_from page b ≡ veiled (comes_before page) b
           still = veiled_alike _ b _ (λ k d lt waits.
               grind (arith, at_own_page page b.rows s.rows_rise k d lt, s.mergeable k d lt, one_before, not_both,
               before_irrefl))

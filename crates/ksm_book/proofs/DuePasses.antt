@@ -30,24 +30,29 @@ passing : (t u : GuestPage → Bool) (pages : List GuestPage) → ((q : GuestPag
 passing t u [] stronger = refl
 passing t u (p ∷ pages) stronger = grind (arith, passing t u pages stronger, stronger p)
 
--- a book as a pass begins, with what was done
-module _ (s : BookState × Deed) (sound : IsSound s.0) (start : s.0.cursor ≡ None) where
+-- a book is sound, and a pass begins there
+pub record Starts (b : BookState) : Type 0 where
+  pub sound : IsSound b
+  pub cursor : b.cursor ≡ None
+
+-- such a book, with what was done
+module _ (s : BookState × Deed) (start : Starts s.0) where
   -- the pages ahead
   abbrev all : List GuestPage
   all = pages_ahead s.0
 
   rises : AreAscending all
-  rises = ascending_ahead s.0 sound.rows_rise
+  rises = ascending_ahead s.0 start.sound.rows_rise
 
   -- they are those that scans visit
   all_mergeable : all ≡ mergeable_pages s.0.rows
-  all_mergeable = rw start (every_page s.0.rows)
+  all_mergeable = rw start.cursor (every_page s.0.rows)
 
   -- a page that a visit may change after some visits is one of them
   pub known : (pages : List GuestPage) (page : GuestPage) → restless_at page (due_visits doing s pages).0.rows ≡ true
       → has_item page all ≡ true
   known pages page restless =
-      rw (← ((due_keeps pages s sound).1.mergeable ∙ sym all_mergeable)) (restless_mergeable page _ restless)
+      rw (← ((due_keeps pages s start.sound).1.mergeable ∙ sym all_mergeable)) (restless_mergeable page _ restless)
 
   -- ---------------------------------------------------------------- the visits of the definitions
 
@@ -58,8 +63,8 @@ module _ (s : BookState × Deed) (sound : IsSound s.0) (start : s.0.cursor ≡ N
       → pages_visited doing (pass_begun s.0, s.1) pages
       ≡ (veiled e (due_visits doing s pages).0, (due_visits doing s pages).1)
   alike e up pages rise are =
-      ap (λ z. pages_visited doing (if is_none z then with_none_waiting s.0 else s.0, s.1) pages) start
-      ∙ along e up pages None s sound
+      ap (λ z. pages_visited doing (if is_none z then with_none_waiting s.0 else s.0, s.1) pages) start.cursor
+      ∙ along e up pages None s start.sound
       (record { rise = rise; are = λ q. grind (arith, are q, all_mergeable); behind = λ q is. refl })
 
   -- the visits of all pages
@@ -106,7 +111,7 @@ module _ (s : BookState × Deed) (sound : IsSound s.0) (start : s.0.cursor ≡ N
           (AllPairs-filter Before t all rises)
           ∙ ap (λ l. l ++ rest) (passing t passed all more))
           ∙ visits_on (filter passed all) rest s
-          ∙ undue_stay rest reached due (due_keeps (filter passed all) s sound).0 are (λ k d lt.
+          ∙ undue_stay rest reached due (due_keeps (filter passed all) s start.sound).0 are (λ k d lt.
           none (get_or rest k d) (All-filter (λ p. not (passed p)) (λ q. t q ≡ true) _ (filter_passes t all) k d lt)
           (not-false (filter_passes (λ p. not (passed p)) (filter t all) k d lt)))
         where

@@ -1,10 +1,10 @@
 -- The steps of a pass over what is due, and what it comes to in the words of a part of a pass.
+use Rattle.ksm_book.proofs.DuePasses.{all_visited, before_part, before_visited, known, next_visited, Starts, whole_part}
 use Rattle.ksm_book.proofs.Names.{after_cursor, All, ap, AreDue, BookState, BookValue, Bool, Comes, cond_both, Deed, doing, due_visited, due_visits, false, filter, filter_none, GuestPage, hidden_from}
 use Rattle.ksm_book.proofs.Names.{is_none, IsSound, IsStill, List, None, not, Option, pages_ahead, pages_visited, part_visited, pass_begun, Reached, ReachedBefore, refl, restless_at, Some}
 use Rattle.ksm_book.proofs.Names.{StaysBefore, StopsDue, StopsInPart, subst, sym, true, with_none_waiting, [], ◌∙◌, ◌≡◌}
 use Rattle.ksm_book.specs.Scanned.{ahead_before, ahead_up_to, HasVisited, StaysStill, StopsBefore}
 use Rattle.ksm_book.proofs.DueKept.{undue_stay}
-use Rattle.ksm_book.proofs.DuePasses.{all_visited, before_part, before_visited, known, next_visited, whole_part}
 use Rattle.ksm_book.proofs.Dues.{IsFirst}
 use Rattle.ksm_book.proofs.Folded.{still_on}
 use Rattle.ksm_book.proofs.PartBegun.{begins_still}
@@ -22,12 +22,8 @@ none_passed v from s before =
 
 -- a pass begins at a book
 module _ (old : BookValue) (sound : IsSound old.state) (start : old.state.cursor ≡ None) where
-  module _ (from : BookValue) (s : BookState × Deed) (before : Reached from old s) where
-    is_sound : IsSound s.0
-    is_sound = subst IsSound before.0 sound
-
-    begins_pass : s.0.cursor ≡ None
-    begins_pass = subst (λ (b : BookState). b.cursor ≡ None) before.0 start
+  starts : {b : BookState} → old.state ≡ b → Starts b
+  starts same = subst Starts same (record { sound = sound; cursor = start })
 
   -- it has come to another
   module _ (mid : BookValue) (last : Option GuestPage) (due : List GuestPage) (are : AreDue mid.state due)
@@ -40,7 +36,7 @@ module _ (old : BookValue) (sound : IsSound old.state) (start : old.state.cursor
         → Comes old mid (λ s. due_visits doing s (pages_ahead s.0))
     all_come none from s before =
         subst (Reached from mid)
-        (sym (all_visited s (is_sound from s before) (begins_pass from s before) last due (are_now from s before) none))
+        (sym (all_visited s (starts before.0) last due (are_now from s before) none))
         (comes from s before)
 
     module _ (new : BookValue) (page : GuestPage) (first : IsFirst last due page) where
@@ -48,18 +44,19 @@ module _ (old : BookValue) (sound : IsSound old.state) (start : old.state.cursor
       pub next_comes : Comes mid new (λ s. due_visited doing s page) → Comes old new (passed_to (Some page))
       next_comes visit from s before =
           subst (Reached from new)
-          (sym (next_visited s (is_sound from s before) (begins_pass from s before) last due
+          (sym (next_visited s (starts before.0) last due
           (are_now from s before) page first))
           (visit from (passed_to last s) (comes from s before))
 
       -- where that page was not visited, those before it were
       pub next_stops : StaysBefore page mid new → restless_at page mid.state.rows ≡ true → StopsDue old new page
       next_stops stays restless = record {
-        ahead = known (at_first old) sound start (filter (λ p. not (after_cursor last p)) (pages_ahead old.state)) page
+        ahead = known (at_first old) (starts refl)
+            (filter (λ p. not (after_cursor last p)) (pages_ahead old.state)) page
             (rw (← (comes old (at_first old) (begins old)).0) restless);
         comes = λ from s before.
             subst (ReachedBefore page from new)
-            (sym (before_visited s (is_sound from s before) (begins_pass from s before) last due
+            (sym (before_visited s (starts before.0) last due
             (are_now from s before) page first))
             (stays from (passed_to last s) (comes from s before));
       }
@@ -68,14 +65,14 @@ module _ (old : BookValue) (sound : IsSound old.state) (start : old.state.cursor
   pub whole_comes : (new : BookValue) → Comes old new (λ s. due_visits doing s (pages_ahead s.0))
       → Comes old new (part_visited None)
   whole_comes new visits from s before =
-      subst (Reached from new) (whole_part s (is_sound from s before) (begins_pass from s before)) (visits from s before)
+      subst (Reached from new) (whole_part s (starts before.0)) (visits from s before)
 
   -- where nothing is due, the whole pass changes nothing but which rows wait
   pub whole_still : AreDue old.state [] → StaysStill old (part_visited None)
   whole_still are from s before =
       subst (IsStill s)
-      (sym (undue_stay (pages_ahead s.0) s [] (is_sound from s before) (rw (← before.0) are) (λ k d lt. refl))
-      ∙ whole_part s (is_sound from s before) (begins_pass from s before))
+      (sym (undue_stay (pages_ahead s.0) s [] (starts before.0).sound (rw (← before.0) are) (λ k d lt. refl))
+      ∙ whole_part s (starts before.0))
       (assumption)
 
   -- where the visits of what is due stopped before a page, and no row from there on waits any more, so did the pass
@@ -88,7 +85,7 @@ module _ (old : BookValue) (sound : IsSound old.state) (start : old.state.cursor
         let made = due_visits doing s (ahead_before page s.0) in
         let there = stops.comes from s before in
         subst (Reached from new)
-        ((λ t. (there.0 t, made.1)) ∙ before_part s (is_sound from s before) (begins_pass from s before) page)
+        ((λ t. (there.0 t, made.1)) ∙ before_part s (starts before.0) page)
         (hides from (mid.state, made.1) (refl, there.1));
   }
 

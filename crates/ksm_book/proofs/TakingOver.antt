@@ -5,7 +5,7 @@ use Rattle.ksm_book.proofs.Names.{page_visited, PageState, partner, Reached, Row
 use Rattle.ksm_book.proofs.Names.{taken_over, takes_over, TakesOverFrom, true, view_of, waiting_state, waits_for, waits_tells, WaitsFor, ◌&&◌, ◌||◌, ◌∙◌, ◌∷◌, ◌≡◌}
 use Rattle.ksm_book.proofs.DueAlike.{freed_found, one_waits, taken_is, veiled_over}
 use Rattle.ksm_book.proofs.ByPage.{found_page, row_of_page}
-use Rattle.ksm_book.proofs.DueKept.{AreAmong, more_due, taken_due}
+use Rattle.ksm_book.proofs.DueKept.{more_due, taken_due}
 use Rattle.ksm_book.proofs.Reached.{comes_to}
 
 -- in a sound book the row of a page is to wait in the stead of that of another page
@@ -99,20 +99,14 @@ module _ (v m w : BookValue) {page other : GuestPage} (at : Takes v.state page o
   module _ (old more new : List GuestPage)
       (added : (p : GuestPage) → has_item p more ≡ (same_page other p || has_item p old))
       (gone : (p : GuestPage) → has_item p new ≡ (has_item p more && not (same_page page p))) where
-    kept : AreAmong old (page ∷ new)
-    kept p is = grind (arith, is, is)
-
     same_kept : (p : GuestPage) → same_page other p ≡ true → has_item p new ≡ true
     same_kept p same = grind (arith, same_page_sym page other, before_differs page other (later at))
-
-    other_kept : (p : GuestPage) → has_item p (at.waiter.page ∷ new) ≡ true → has_item p new ≡ true
-    other_kept p is = grind (arith, same_kept)
 
     -- the other page is due then, and the first one no longer
     pub taken_leaves : Comes m w (λ s. page_visited doing s page) → AreDue v.state old → AreDue w.state new
     taken_leaves visits due =
         let state = comes_to v w _ (taken_comes visits) ∙ (λ t. (due_is at (idle (view_of v).frame) t).0) in
         rw state
-        (more_due (taken_over v.state at.row) (at.waiter.page ∷ new) new other_kept
+        (more_due (taken_over v.state at.row) (at.waiter.page ∷ new) new (λ p is. grind (arith, same_kept p, at.is))
         (taken_due _ _ _ new at.sound (there at) at.restless at.takes at.waits
-        (rw (page_is at) (more_due v.state old (page ∷ new) kept due))))
+        (rw (page_is at) (more_due v.state old (page ∷ new) (λ p is. grind (arith, added p, gone p)) due))))
