@@ -1,12 +1,12 @@
 -- Visits of pages do what those of the definitions do, where the rows further on that still wait are hidden from these.
 use Rattle.ksm_book.proofs.Names.{after_cursor, All, All-cons, All-map, ap, AreAscending, arith, before_irrefl, best_dup, BookState, Bool, cases_Bool, change_row, change_rows, comes_before}
-use Rattle.ksm_book.proofs.Names.{comes_later, cond_both, count_mapped, Deed, doing, due_row_visited, due_visited, due_visits, dup_frame, dup_of_row, DupRow, each_at_page, false, find_all}
-use Rattle.ksm_book.proofs.Names.{find_mapped, find_none, find_nothing, find_passes, Frames, get_or, get_or_from_slice_get, GuestPage, handled, has_item, HasStayed, hidden, hidden_from, if◌then◌else◌}
-use Rattle.ksm_book.proofs.Names.{inl, InPageOrder, inr, is_best, is_for_zero, is_no_rival, is_restless, is_stale, IsSound, item_count, List, map_alike, map_mapped, may_join, mergeable_pages, Merged}
-use Rattle.ksm_book.proofs.Names.{merged_into, new_place, None, not, not_both, one_before, Option, option_map, page, page_visited, pages_visited, PageState, paired, pairs_head, pairs_tail, partner}
-use Rattle.ksm_book.proofs.Names.{place_count, refl, restless_at, restless_row, Row, row_at, row_visited, row_visiting, same_page, same_page_eq, same_page_refl, settled, settled_calmer}
-use Rattle.ksm_book.proofs.Names.{slice_get_within, Some, sound_changed, sound_row_visited, stayed, subst, sym, taken_over, takes_over, true, true≢false, visited, Waiting, waiting_not_private}
-use Rattle.ksm_book.proofs.Names.{waiting_state, waits_for, waits_tells, with_dup, Zero, ℕ, [], ◌&&◌, ◌++◌, ◌+◌, ◌==◌, ◌||◌, ◌∙◌, ◌∷◌, ◌≡◌}
+use Rattle.ksm_book.proofs.Names.{comes_later, cond_both, count_mapped, Deed, doing, due_visited, due_visits, dup_frame, DupRow, each_at_page, false, find_all, find_mapped, find_none, find_nothing}
+use Rattle.ksm_book.proofs.Names.{find_passes, Frames, get_or, get_or_from_slice_get, GuestPage, handled, has_item, HasStayed, hidden, hidden_from, if◌then◌else◌, inl, InPageOrder, inr, is_best}
+use Rattle.ksm_book.proofs.Names.{is_for_zero, is_no_rival, is_restless, is_stale, IsSound, item_count, List, made_dup, map_alike, map_mapped, may_join, mergeable_pages, merged_into, new_place, None}
+use Rattle.ksm_book.proofs.Names.{not, not_both, one_before, Option, option_map, page, page_visited, pages_visited, paired, pairs_head, pairs_tail, partner, place_count, refl, restless_at}
+use Rattle.ksm_book.proofs.Names.{restless_row, Row, row_at, row_visited, row_visiting, same_page, same_page_eq, same_page_refl, settled, settled_calmer, slice_get_within, Some, sound_changed}
+use Rattle.ksm_book.proofs.Names.{sound_row_visited, stayed, subst, sym, taken_over, takes_over, true, true≢false, visited, waiting_not_private, waiting_state, waits_for, waits_tells, Zero, ℕ, []}
+use Rattle.ksm_book.proofs.Names.{◌&&◌, ◌++◌, ◌+◌, ◌==◌, ◌||◌, ◌∙◌, ◌∷◌, ◌≡◌}
 use Rattle.ksm_base.specs.declared.row.PageState.TheVariants.{Private}
 use Rattle.ksm_book.proofs.ByPage.{found_page, row_of_page}
 use Rattle.ksm_book.proofs.Doing.{then_idle}
@@ -136,37 +136,35 @@ module _ (b : BookState) (r : Row) where
 
   -- a change of rows, its own among them and none behind it, that makes the same of a row whether the row waits or not,
   -- comes to the same where they are veiled; but that its own is not then
-  change_alike : (by : GuestPage → Bool) (f : Row → Row) → ((x : Row) → (f x).page ≡ x.page)
-      → ((x : Row) → f (settled x) ≡ f x)
-      → ((q : GuestPage) → same_page q r.page ≡ true → by q ≡ true)
+  change_alike : (by : GuestPage → Bool) (f : Row → Row) (dups : List DupRow) (next : ℕ)
+      → ((x : Row) → (f x).page ≡ x.page)
+      → ((x : Row) → f (settled x) ≡ f x) → ((q : GuestPage) → same_page q r.page ≡ true → by q ≡ true)
       → ((q : GuestPage) → by q ≡ true → comes_before r.page q ≡ false)
-      → change_rows (λ x. by x.page) f covered.rows
-      ≡ change_rows (λ x. comes_before r.page x.page) settled (change_rows (λ x. by x.page) f b.rows)
-  change_alike by f keeps same own apart =
-      map_mapped _ _ either _ (λ k d lt. first (get_or b.rows k d))
-      ∙ sym (map_mapped _ _ either _ (λ k d lt. second (get_or b.rows k d)))
+      → record covered { rows = change_rows (λ x. by x.page) f covered.rows; dups = dups; next = next }
+      ≡ veiled (comes_before r.page) (record b { rows = change_rows
+      (λ x. by x.page) f b.rows; dups = dups; next = next })
+  change_alike by f dups next keeps same own apart = λ t. record b { rows = rows t; dups = dups; next = next }
     where
-      either : Row → Row
-      either x = if by x.page then f x else calmed (λ y. comes_before r.page y.page) x
+      change : Row → Row
+      change x = if by x.page then f x else x
 
-      first : (x : Row) → (if by (cover x).page then f (cover x) else cover x) ≡ either x
-      first x = grind (arith, one_before, not_both)
+      after : Row → Row
+      after = calmed (λ x. comes_before r.page x.page)
 
-      second : (x : Row) → calmed (λ y. comes_before r.page y.page) (if by x.page then f x else x) ≡ either x
-      second x = grind arith
+      each : (x : Row) → change (cover x) ≡ after (change x)
+      each x = grind (arith, one_before, not_both)
+
+      rows : change_rows (λ x. by x.page) f covered.rows
+          ≡ change_rows (λ x. comes_before r.page x.page) settled (change_rows (λ x. by x.page) f b.rows)
+      rows = map_mapped change cover (λ x. after (change x)) b.rows (λ k d lt. each (get_or b.rows k d))
+          ∙ sym (map_mapped after change (λ x. after (change x)) b.rows (λ k d lt. refl))
 
   -- so does a change of the row itself
   own_alike : (f : Row → Row) → ((x : Row) → (f x).page ≡ x.page) → ((x : Row) → f (settled x) ≡ f x)
       → record covered { rows = change_row r.page f covered.rows }
       ≡ veiled (comes_before r.page) (record b { rows = change_row r.page f b.rows })
-  own_alike f keeps same =
-      λ t. record b { rows = change_alike (λ q. same_page q r.page) f keeps same (λ q is. is)
-          (λ q is. rw (same_page_eq q _ is) (before_irrefl r.page)) t }
-
-  becomes_alike : (state : PageState)
-      → record covered { rows = change_row r.page (λ x. record x { state = state }) covered.rows }
-      ≡ veiled (comes_before r.page) (record b { rows = change_row r.page (λ x. record x { state = state }) b.rows })
-  becomes_alike state = own_alike _ (λ x. refl) (λ x. refl)
+  own_alike f keeps same = change_alike (λ q. same_page q r.page) f b.dups b.next keeps same (λ q is. is)
+      (λ q is. rw (same_page_eq q _ is) (before_irrefl r.page))
 
   -- what waits for it comes before it then
   near_found : NoneVeiled → (w : Row) → partner b.knobs b.rows r ≡ Some w → comes_before w.page r.page ≡ true
@@ -187,16 +185,12 @@ module _ (b : BookState) (r : Row) where
   -- with what waits for it in the book it is paired alike
   paired_alike : NoneVeiled → (o : Option Row) → partner b.knobs b.rows r ≡ o
       → paired o covered (settled r) ≡ veiled (comes_before r.page) (paired o b r)
-  paired_alike near None found = becomes_alike Waiting
+  paired_alike near None found = own_alike _ (λ x. refl) (λ x. refl)
   paired_alike near (Some w) found =
       let before = near_found near w found in
-      λ t. record b {
-        rows = change_alike (λ q. same_page q w.page || same_page q r.page) (λ x. record x { state = Merged b.next })
-            (λ x. refl) (λ x. refl)
-            (grind arith) (grind (arith, same_page_eq, not_both, before_irrefl)) t;
-        dups = with_dup (dup_of_row b.knobs b.next (place_kept is_on b t) r) b.dups;
-        next = b.next + 1;
-      }
+      ap (λ place. made_dup place covered w (settled r)) (place_kept is_on b)
+      ∙ change_alike (λ q. same_page q w.page || same_page q r.page) _ _ _ (λ x. refl) (λ x. refl) (grind arith)
+      (grind (arith, same_page_eq, not_both, before_irrefl))
 
   -- a visit may change the row, and no row that waits for it is veiled if it is to wait
   module _ (is : is_restless r ≡ true)
@@ -204,8 +198,9 @@ module _ (b : BookState) (r : Row) where
       → NoneVeiled) where
     handled_alike : (o : Option DupRow) → best_dup b.knobs b.rows b.dups r ≡ o
         → handled o covered (settled r) ≡ veiled (comes_before r.page) (handled o b r)
-    handled_alike (Some d) best = becomes_alike (Merged d.number)
-    handled_alike None none = grind (arith, becomes_alike Zero, partner_alike, paired_alike,
+    handled_alike (Some d) best = own_alike _ (λ x. refl) (λ x. refl)
+    handled_alike None none = grind (arith, partner_alike, paired_alike,
+        own_alike (λ x. record x { state = Zero }) (λ x. refl) (λ x. refl),
         own_alike (λ x. record x { unchanged = true; state = Private }) (λ x. refl) (λ x. refl))
 
     deed_alike : (frame : Frames) → row_visiting covered frame (settled r) ≡ row_visiting b frame r
@@ -255,43 +250,11 @@ module _ (b : BookState) (r : Row) where
   pub freed_stays : is_restless r ≡ true → takes_over b r ≡ true → HasStayed freed false r
   freed_stays is takes = grind (arith, best_kept waits b r)
 
-  -- a book in which the visit of the row does what our visit of it does
-  record Opens (o : BookState) : Type 0 where
-    sound : IsSound o
-    found : row_at r.page o.rows ≡ Some r
-    goes : Goes b.rows o.rows
-    is : (deed : Deed) → visited doing (o, deed) (Some r) ≡ due_row_visited doing (b, deed) (Some r)
-    covers : covered o r ≡ covered b r
-    near : best_dup o.knobs o.rows o.dups r ≡ None → r.unchanged ≡ true → is_for_zero o.knobs r ≡ false → NoneVeiled o r
-
-  -- there is one: where the row takes over no row waits for it there, and else it is the book itself
-  opened : IsSound b → row_at r.page b.rows ≡ Some r → is_restless r ≡ true → (o : BookState) × Opens o
-  opened s found restless = elim (cases_Bool (takes_over b r)) [
-    | inl takes ↦ (freed, record {
-        sound = sound_changed b _ _ settled_calmer (λ x home. home) s;
-        found = freed_found found;
-        goes = calmed_goes waits b;
-        is = λ deed. grind (arith, taken_is restless takes deed);
-        covers = veiled_over (λ q. not (comes_before q r.page)) b waits
-            (λ k d lt is. grind (arith, side _ refl k d lt is, not_both));
-        near = λ _ _ _ k d lt. grind (arith, none_waits k d lt);
-      })
-    | inr stays ↦ (b, record {
-        sound = s;
-        found = found;
-        goes = goes_same;
-        is = λ deed. grind arith;
-        covers = refl;
-        near = λ none unchanged zeroes k d lt is.
-            grind (arith, side _ refl k d lt is, one_before, waits_tells b.knobs r (get_or b.rows k d) is);
-      })
-  ]
-    where
-      -- all that wait for it come behind it, if the one that is found does
-      side : (o : Option Row) → partner b.knobs b.rows r ≡ o
-          → All (λ x. waits x ≡ true → comes_before r.page x.page ≡ comes_later r.page o) b.rows
-      side None none k d lt is = grind (arith, find_none)
-      side (Some w) at k d lt is = rw (one_waits b r w s at k d lt is)
+  -- in a sound book all rows that wait for it come behind it, if the one that is found does
+  side : IsSound b → (o : Option Row) → partner b.knobs b.rows r ≡ o
+      → All (λ x. waits x ≡ true → comes_before r.page x.page ≡ comes_later r.page o) b.rows
+  side s None none k d lt is = grind (arith, find_none)
+  side s (Some w) at k d lt is = rw (one_waits b r w s at k d lt is)
 
 -- ---------------------------------------------------------------- one visit
 
@@ -310,24 +273,40 @@ IsAlike b deed page =
     ≡ (veiled (comes_before page) due.0, due.1))
 
 module _ (b : BookState) (s : IsSound b) (deed : Deed) where
-  row_due : (r : Row) → row_at r.page b.rows ≡ Some r → is_restless r ≡ true → IsAlike b deed r.page
-  row_due r found restless =
-      let o : (c : BookState) × Opens b r c = opened b r s found restless in
-      let is = o.1.is deed ∙ ap (due_row_visited doing (b, deed)) (sym found) in
-      let at = calmed_at (is_on b r) b r.page
-      ∙ ap (option_map (cover b r)) found ∙ ap (λ z. Some (if not z then settled r else r)) (before_irrefl r.page) in
+  -- that is so where in another book the visit of the row by the definitions does what ours does, and rows that wait
+  -- for it
+  -- come before it if it is to wait
+  by_visit : (r : Row) → is_restless r ≡ true → (o : BookState) → IsSound o → row_at r.page o.rows ≡ Some r
+      → Goes b.rows o.rows → covered b r ≡ covered o r
+      → (best_dup o.knobs o.rows o.dups r ≡ None → r.unchanged ≡ true → is_for_zero o.knobs r ≡ false → NoneVeiled o r)
+      → visited doing (o, deed) (Some r) ≡ due_visited doing (b, deed) r.page → IsAlike b deed r.page
+  by_visit r restless o sound found goes covers near is =
+      let at = calmed_at (is_on o r) o r.page ∙ ap (option_map (cover o r)) found
+      ∙ ap (λ z. Some (if not z then settled r else r)) (before_irrefl r.page) in
       (
         subst (λ (z : BookState × Deed). IsSound z.0) is
-            (cond_both {A = BookState × Deed} _ (row_visited o.0 r, doing o.0 deed r) (o.0, deed) (λ z. IsSound z.0)
-            (λ _. sound_row_visited o.0 r (grind (arith, row_of_page, o.1.found, o.1.sound)) o.1.sound)
-            (λ _. o.1.sound)),
+            (cond_both {A = BookState × Deed} _ (row_visited o r, doing o deed r) (o, deed) (λ z. IsSound z.0)
+            (λ _. sound_row_visited o r (grind (arith, row_of_page)) sound) (λ _. sound)),
         subst (λ (z : BookState × Deed). Goes b.rows z.0.rows) is
-            (goes_on o.1.goes (grind (arith, pages_go doing (r.page ∷ []) (o.0, deed) o.1.sound.rows_rise, o.1.found))),
-        ap (visited doing (covered b r, deed)) at
-            ∙ ap (λ c. visited doing (c, deed) (Some (settled r))) (sym o.1.covers)
-            ∙ visit_alike o.0 r restless o.1.near deed
-            ∙ (λ t. (veiled (comes_before r.page) (is t).0, (is t).1)),
+            (goes_on goes (grind (arith, pages_go doing (r.page ∷ []) (o, deed) sound.rows_rise))),
+        ap (λ c. page_visited doing (c, deed) r.page) covers ∙ ap (visited doing (covered o r, deed)) at
+            ∙ visit_alike o r restless near deed ∙ (λ t. (veiled (comes_before r.page) (is t).0, (is t).1)),
       )
+
+  -- where the row takes over, that is the book where no row waits for it, and else the book itself
+  row_due : (r : Row) → row_at r.page b.rows ≡ Some r → is_restless r ≡ true → IsAlike b deed r.page
+  row_due r found restless = elim (cases_Bool (takes_over b r)) [
+    | inl takes ↦
+        by_visit r restless (freed b r) (sound_changed b _ _ settled_calmer (λ x home. home) s) (freed_found b r found)
+        (calmed_goes (waits b r) b)
+        (sym (veiled_over (λ q. not (comes_before q r.page)) b (waits b r)
+        (λ k d lt is. grind (arith, side b r s _ refl k d lt is, not_both))))
+        (λ _ _ _ k d lt. grind (arith, none_waits b r k d lt)) (grind (arith, taken_is b r restless takes deed))
+    | inr stays ↦
+        by_visit r restless b s found goes_same refl (λ none unchanged zeroes k d lt is.
+        grind (arith, side b r s _ refl k d lt is, one_before, waits_tells b.knobs r (get_or b.rows k d) is))
+        (grind arith)
+  ]
 
   pub one_due : (page : GuestPage) → IsAlike b deed page
   one_due page = by_row (IsAlike b deed) page b.rows calmly row_due
