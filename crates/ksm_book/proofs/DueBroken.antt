@@ -1,14 +1,14 @@
 -- A page that is stored to while it is merged or Zero, comes or goes: of the others only one that waits in its tree with its
 -- bytes may come to join its dup by that, so no other page becomes due.
-use Rattle.ksm_book.proofs.Names.{All, All-filter, all_changed, all_with_row, Answer, AreDue, arith, BookState, BookView, bytes_eq, bytes_eq-Decides, change_row, count_with_row, count_without_page}
-use Rattle.ksm_book.proofs.Names.{Drop, dup_of_item, DupRow, Err, false, find_all, find_none, fresh_row, get_or, GuestPage, has_item, is_restless, IsCarried, IsDupOf, IsSound, item_count, List}
+use Rattle.ksm_book.proofs.Names.{All, All-filter, all_changed, all_with_row, Answer, AreDue, arith, BookState, BookView, Bool, bytes_eq, bytes_eq-Decides, change_row, count_with_row}
+use Rattle.ksm_book.proofs.Names.{count_without_page, Drop, dup_of_item, DupRow, Err, false, find_all, find_none, fresh_row, get_or, GuestPage, has_item, IsCarried, IsDupOf, IsSound, item_count, List}
 use Rattle.ksm_book.proofs.Names.{merged_into, merged_state, nat_tests, None, Ok, Option, partner, refl, Register, Row, row_at, same_page, same_page_refl, same_page_sym, Some, stored, sym, tree_of}
 use Rattle.ksm_book.proofs.Names.{true, waiting_state, waits_for, waits_on, with_row, without_page, ℕ, ◌&&◌, ◌==◌, ◌||◌, ◌≡◌}
+use Rattle.ksm_book.proofs.DueKept.{count_kept, more_due, on_still, WaitsElse}
 use Rattle.ksm_pages.specs.Paged.{IsKnown, page_beside}
 use Rattle.ksm_tree.specs.Waits.{names}
 use Rattle.ksm_book.proofs.ByPage.{found_page, row_of_page}
 use Rattle.ksm_book.proofs.DueAlike.{one_waits}
-use Rattle.ksm_book.proofs.DueKept.{AreAmong, count_kept, more_due, on_still}
 
 -- ---------------------------------------------------------------- the row of a page leaves its dup
 
@@ -42,17 +42,17 @@ module _ (b : BookState) (sound : IsSound b) (page : GuestPage) (row : Row) (fou
   -- of other rows each dup into which the row is not merged has as many items; that page is due, with what was
   module _ (now : List Row) (counts : (e : DupRow) → merged_into e.number row.state ≡ false
       → item_count now e ≡ item_count b.rows e)
-      (old new : List GuestPage) (was : AreDue b old) (more : AreAmong old new)
-      (covers : (p : GuestPage) → names p beside ≡ true → has_item p new ≡ true) where
+      (old new : List GuestPage) (was : AreDue b old)
+      (covers : (p : GuestPage) → (names p beside || has_item p old) ≡ true → has_item p new ≡ true) where
     -- each other row waits on beside those rows
-    left_still : All (λ r. is_restless r ≡ true → has_item r.page new ≡ false
-        → waits_on (record b { rows = now }) r ≡ true) b.rows
+    left_still : All (WaitsElse (record b { rows = now }) new) b.rows
     left_still k d lt restless out =
         let r = get_or b.rows k d in
-        let apart : names r.page beside ≡ false = grind (arith, covers r.page) in
-        let on : waits_on b r ≡ true = was k d lt restless (grind (arith, more r.page)) in
-        on_still b now b.dups b.next r (λ none j e lt_e. grind
-        (arith, none j e lt_e, counts (get_or b.dups j e), is_of_dup k d lt (grind arith) apart j e lt_e)) on
+        let apart : (names r.page beside || has_item r.page old) ≡ false = grind (arith, covers r.page) in
+        let on : waits_on b r ≡ true = was k d lt restless (grind arith) in
+        on_still b now b.dups b.next r (λ none j e lt_e.
+        grind (arith, none j e lt_e, counts (get_or b.dups j e), is_of_dup k d lt (grind arith)
+        (grind arith) j e lt_e)) on
 
 -- ---------------------------------------------------------------- the page is stored to, or dropped
 
@@ -66,36 +66,28 @@ module _ (b : BookState) (page : GuestPage) (old new : List GuestPage) (was : Ar
       → ((p : GuestPage) → has_item p later ≡ (same_page page p || has_item p new))
       → (bytes : List ℕ) → AreDue (record b { rows = change_row page (stored bytes) b.rows }) later
   left_broken later added bytes =
-      all_changed (λ r. is_restless r ≡ true → has_item r.page later ≡ false
-      → waits_on (record b { rows = change_row page (stored bytes) b.rows }) r ≡ true) (λ r. same_page r.page page)
-      (stored bytes) b.rows
-      (grind (arith, same_page_sym))
-      (λ k d lt _. left_still b sound page row found (change_row page (stored bytes) b.rows) counts old later was
-      (λ p is. grind (arith, told p, added p)) (λ p is. grind (arith, told p, added p)) k d lt)
-    where
-      counts : (e : DupRow) → merged_into e.number row.state ≡ false
-          → item_count (change_row page (stored bytes) b.rows) e ≡ item_count b.rows e
-      counts e none = count_kept e.number (λ r. same_page r.page page) (stored bytes) b.rows (λ k d lt same.
-          rw (row_of_page _ _ row sound.rows_rise found k d lt same) (sym none))
+      let of_page : Row → Bool = λ r. same_page r.page page in
+      let now = change_row page (stored bytes) b.rows in
+      all_changed (WaitsElse (record b { rows = now }) later) of_page (stored bytes) b.rows
+          (grind (arith, same_page_sym))
+      (λ k d lt _. left_still b sound page row found now (λ e none.
+      count_kept e.number of_page (stored bytes) b.rows (λ i x lt_x same.
+      rw (row_of_page _ _ row sound.rows_rise found i x lt_x same) (sym none)))
+      old later was (λ p is. grind (arith, told p, added p)) k d lt)
 
   -- and once the other is dropped
   pub left_dropped : AreDue (record b { rows = without_page page b.rows }) new
-  left_dropped = All-filter _
-      (λ r. is_restless r ≡ true → has_item r.page new ≡ false
-      → waits_on (record b { rows = without_page page b.rows }) r ≡ true) _
-      (left_still b sound _ row found (without_page page b.rows) counts old new was (λ p is. grind (arith, told p))
-      (λ p is. grind (arith, told p)))
-    where
-      counts : (e : DupRow) → merged_into e.number row.state ≡ false
-          → item_count (without_page page b.rows) e ≡ item_count b.rows e
-      counts e none = grind (arith, count_without_page
-          (λ r. merged_into e.number r.state) page b.rows row sound.rows_rise found)
+  left_dropped =
+      let now = without_page page b.rows in
+      All-filter _ (WaitsElse (record b { rows = now }) new) _ (left_still b sound page row found now (λ e none.
+      grind (arith, count_without_page (λ r. merged_into e.number r.state) page b.rows row sound.rows_rise found))
+      old new was (λ p is. grind (arith, told p)))
 
 -- ---------------------------------------------------------------- a page comes
 
 -- where the page was added to what is due
-module _ (b : BookState) (page : GuestPage) (old new : List GuestPage) (added : (p : GuestPage) → has_item p new ≡ (same_page page p || has_item p old))
-    (was : AreDue b old) where
+module _ (b : BookState) (page : GuestPage) (old new : List GuestPage)
+    (added : (p : GuestPage) → has_item p new ≡ (same_page page p || has_item p old)) (was : AreDue b old) where
   -- that is so of the book as it is
   pub added_due : AreDue b new
   added_due = more_due b old new (λ p is. grind (arith, added p)) was
@@ -106,11 +98,8 @@ module _ (b : BookState) (page : GuestPage) (old new : List GuestPage) (added : 
   added_come absent node bytes =
       let fresh = fresh_row page node bytes in
       let now = with_row fresh b.rows in
-      all_with_row (λ r. is_restless r ≡ true → has_item r.page new ≡ false
-          → waits_on (record b { rows = now }) r ≡ true) fresh b.rows
-      (grind (arith, added page, same_page_refl))
-      (λ k d lt restless out.
-      on_still b now b.dups b.next (get_or b.rows k d) (λ none i x lt_x.
+      all_with_row (WaitsElse (record b { rows = now }) new) fresh b.rows (grind (arith, added page, same_page_refl))
+      (λ k d lt restless out. on_still b now b.dups b.next (get_or b.rows k d) (λ none i x lt_x.
       grind (arith, none i x lt_x, count_with_row
       (λ s. merged_into (get_or b.dups i x).number s.state) fresh b.rows absent))
       (added_due k d lt restless out))

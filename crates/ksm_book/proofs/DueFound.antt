@@ -1,9 +1,9 @@
 -- The visit of a page that is due, by what was found of it: it takes over from none, but where a row further on waits
 -- for it; and which pages are due then.
-use Rattle.ksm_book.proofs.Names.{ap, AreDue, arith, BookState, BookValue, BookView, Bool, change_rows, Comes, comes_before, Deed, doing, due_visited, Dup, false, Find, find_mapped, find_passes}
-use Rattle.ksm_book.proofs.Names.{FindsAt, GuestPage, has_item, HasStayed, if◌then◌else◌, is_restless, IsDueNoMore, IsSound, KeeperView, List, MatchOption, Merged, not, not_both, one_before, Option}
-use Rattle.ksm_book.proofs.Names.{PageState, PagesView, paired, Partner, Reached, refl, restless_at, Row, row_at, row_visited, same_page, same_page_refl, shared_state, Some, state_of, StaysBefore}
-use Rattle.ksm_book.proofs.Names.{subst, sym, takes_over, TakesOverFrom, true, true≢false, view_of, VisitsPage, waits_for, waits_tells, Zero, ℕ, ◌&&◌, ◌||◌, ◌∙◌, ◌∷◌, ◌≡◌}
+use Rattle.ksm_book.proofs.Names.{ap, AreDue, arith, BookState, BookValue, BookView, Bool, change_row, change_rows, Comes, comes_before, Deed, doing, due_visited, Dup, false, Find, find_mapped}
+use Rattle.ksm_book.proofs.Names.{find_passes, FindsAt, GuestPage, has_item, HasStayed, if◌then◌else◌, is_restless, IsDueNoMore, IsSound, KeeperView, List, MatchOption, Merged, not, not_both}
+use Rattle.ksm_book.proofs.Names.{one_before, Option, PageState, PagesView, paired, Partner, Reached, refl, restless_at, Row, row_at, row_visited, same_page, same_page_refl, shared_state, Some}
+use Rattle.ksm_book.proofs.Names.{state_of, StaysBefore, subst, sym, takes_over, TakesOverFrom, true, true≢false, view_of, VisitsPage, waits_for, waits_tells, Zero, ℕ, ◌&&◌, ◌||◌, ◌∙◌, ◌∷◌, ◌≡◌}
 use Rattle.ksm_base.specs.declared.row.PageState.TheVariants.{Private}
 use Rattle.ksm_pages.specs.declared.pages.Find.TheVariants as finds
 use Rattle.ksm_pages.specs.Paged.{Finds}
@@ -35,45 +35,42 @@ shares page finds.Zero = true
 shares page (Partner other) = comes_before other page
 shares page _ = false
 
--- the row of a page that shares a frame from now on is none that a visit may change
-calm_then : (page : GuestPage) (rows : List Row) (row : Row) (test : Row → Bool) (state : PageState) → shared_state state ≡ true
-    → row_at page rows ≡ Some row → test row ≡ true
-    → restless_at page (change_rows test (λ r. record r { state = state }) rows) ≡ false
-calm_then page rows row test state shared found passes =
-    let f : Row → Row = λ r. if test r then record r { state = state } else r in
-    let of_page : Row → Bool = λ r. same_page r.page page in
-    grind (arith, find_mapped f of_page of_page rows (grind arith))
-
-module _ (p q : PagesView) (cursor : Option GuestPage) (passes : ℕ) (page : GuestPage) where
+module _ (p q : PagesView) (cursor : Option GuestPage) (passes : ℕ) (page : GuestPage) (row : Row)
+    (found : row_at page p.rows ≡ Some row) where
   abbrev b : BookState
   b = state_of p cursor passes
 
+  -- the row of a page that shares a frame from now on is none that a visit may change
+  calm_then : (test : Row → Bool) (state : PageState) → shared_state state ≡ true → test row ≡ true
+      → restless_at page (change_rows test (λ r. record r { state = state }) p.rows) ≡ false
+  calm_then test state shared passes =
+      let f : Row → Row = λ r. if test r then record r { state = state } else r in
+      let of_page : Row → Bool = λ r. same_page r.page page in
+      grind (arith, find_mapped f of_page of_page p.rows (grind arith))
+
+  calm_own : (state : PageState) → shared_state state ≡ true
+      → restless_at page (change_row row.page (λ r. record r { state = state }) p.rows) ≡ false
+  calm_own state shared = calm_then (λ r. same_page r.page row.page) state shared (same_page_refl row.page)
+
   -- its row takes over from none then, and no visit may change it any more
-  calm_by : (f : Find) → shares page f ≡ true → (row : Row) → FindsAt p q row f → row_at page p.rows ≡ Some row
-      → row.page ≡ page
-      → (is_restless row ≡ true) × (q ≡ p) × (takes_over b row ≡ false)
-      × (restless_at page (row_visited b row).rows ≡ false)
-  calm_by (Dup best) is row so found of_page =
+  calm_by : (f : Find) → shares page f ≡ true → FindsAt p q row f → row.page ≡ page → (is_restless row ≡ true) × (q ≡ p)
+      × (takes_over b row ≡ false) × (restless_at page (row_visited b row).rows ≡ false)
+  calm_by (Dup best) is so of_page =
       let d = filled_by _ so.1 in
-      let calm = calm_then page p.rows row (λ r. same_page r.page row.page) (Merged d.0.number) refl found
-      (same_page_refl row.page) in
-      (so.0, so.2, grind (arith, d.1), rw (visited_by b p.frame row _ so.0 d.1).0 calm)
-  calm_by finds.Zero is row so found of_page =
-      let calm = calm_then page p.rows row (λ r. same_page r.page row.page) Zero refl found (same_page_refl row.page) in
-      (so.0, so.4, grind (arith, so), rw (stayed_is b p.frame row true (grind (arith, so))).0 calm)
-  calm_by (Partner other) is row so found of_page =
+      (so.0, so.2, grind (arith, d.1), rw (visited_by b p.frame row _ so.0 d.1).0 (calm_own (Merged d.0.number) refl))
+  calm_by finds.Zero is so of_page =
+      (so.0, so.4, grind (arith, so), rw (stayed_is b p.frame row true (grind (arith, so))).0 (calm_own Zero refl))
+  calm_by (Partner other) is so of_page =
       let w = filled_by _ so.4 in
-      let stays : HasStayed b false row = grind (arith, so) in
-      let calm = calm_then page p.rows row (λ r. same_page r.page w.0.page || same_page r.page row.page)
-      (Merged p.next) refl found
-      (grind (arith, same_page_refl)) in
-      (
+      let stays : HasStayed b false row = grind (arith, so) in (
         so.0,
         so.5,
         grind (arith, w.1, not_both),
-        rw ((stayed_is b p.frame row false stays).0 ∙ ap (λ o. paired o b row) w.1) calm,
+        rw ((stayed_is b p.frame row false stays).0 ∙ ap (λ o. paired o b row) w.1)
+            (calm_then (λ r. same_page r.page w.0.page || same_page r.page row.page) (Merged p.next) refl
+            (grind (arith, same_page_refl))),
       )
-  calm_by _ is row so found of_page = absurd (true≢false (sym is))
+  calm_by _ is so of_page = absurd (true≢false (sym is))
 
 module _ (f : Find) (q : PagesView) {p : PagesView} {k : KeeperView} {cursor : Option GuestPage} {passes : ℕ}
     (v w : BookValue)
@@ -82,7 +79,7 @@ module _ (f : Find) (q : PagesView) {p : PagesView} {k : KeeperView} {cursor : O
     (did : VisitsPage (book q k cursor passes) (view_of w) page) where
   by : (is_restless at.row ≡ true) × (q ≡ p) × (takes_over (state_of p cursor passes) at.row ≡ false)
       × (restless_at page (row_visited (state_of p cursor passes) at.row).rows ≡ false)
-  by = calm_by p q cursor passes page f is at.row at.so at.found (page_is at)
+  by = calm_by p q cursor passes page at.row at.found f is at.so (page_is at)
 
   none : (r : Row) → row_at page v.state.rows ≡ Some r → takes_over v.state r ≡ false
   none = grind (arith, by)

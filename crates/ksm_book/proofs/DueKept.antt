@@ -68,6 +68,10 @@ on_still b new dups next r joins_none is = grind (arith, none_is_best, none_to_j
 
 -- ---------------------------------------------------------------- which pages are due
 
+-- where a visit may change the row, it is of one of these pages, or waits on
+abbrev pub WaitsElse : BookState → List GuestPage → Row → Type 0
+WaitsElse b pages r = is_restless r ≡ true → has_item r.page pages ≡ false → waits_on b r ≡ true
+
 -- the pages of one list are among those of another
 abbrev pub AreAmong : List GuestPage → List GuestPage → Type 0
 AreAmong some more = (p : GuestPage) → has_item p some ≡ true → has_item p more ≡ true
@@ -111,7 +115,7 @@ module _ (b : BookState) (test : Row → Bool) (f : Row → Row)
       → All (λ r. test r ≡ false → has_item r.page due ≡ true → has_item r.page more ≡ true) b.rows
       → AreDue b due → AreDue after more
   single_due due more ours others was =
-      all_changed (λ r. is_restless r ≡ true → has_item r.page more ≡ false → waits_on after r ≡ true) test f b.rows
+      all_changed (WaitsElse after more) test f b.rows
       (λ k d lt passes restless out. on_kept (f (get_or b.rows k d)) ∙ ours k d lt passes restless out)
       (λ k d lt fails restless out. on_kept (get_or b.rows k d)
       ∙ was k d lt restless (grind (arith, others k d lt fails)))
@@ -162,9 +166,9 @@ module _ (b : BookState) (sound : IsSound b) (row : Row) (found : row_at row.pag
         → Due (record b { rows = change_rows test (merge number) b.rows; dups = dups; next = next })
     merged_due test number dups next still =
         let new = change_rows test (merge number) b.rows in
-        all_changed (λ r. is_restless r ≡ true → has_item r.page (row.page ∷ pages) ≡ false
-        → waits_on (record b { rows = new; dups = dups; next = next }) r ≡ true) test (merge number) b.rows
-        (grind arith)
+        all_changed (WaitsElse (record b { rows = new; dups = dups; next = next }) (row.page ∷ pages)) test
+            (merge number)
+        b.rows (grind arith)
         (λ k d lt fails calm out.
         let on = was k d lt calm out in
         on_still b new dups next (get_or b.rows k d) (still k d lt fails (grind arith)) on)
@@ -275,7 +279,7 @@ undue_stay (page ∷ pages) s due sound are out =
     on_stays r found restless out =
         let among = λ (P : Row → Type 0). find_all (λ x. same_page x.page r.page) P s.0.rows r found in
         let on : waits_on s.0 r ≡ true =
-        among (λ x. is_restless x ≡ true → has_item x.page due ≡ false → waits_on s.0 x ≡ true) are restless out in
+        among (WaitsElse s.0 due) are restless out in
         let alone : partner s.0.knobs s.0.rows r ≡ None =
         among (λ x. waiting_state x.state ≡ true → partner s.0.knobs s.0.rows x ≡ None) sound.waiting (grind arith) in
         let still : change_row r.page (λ x. record x { state = Waiting }) s.0.rows ≡ s.0.rows =

@@ -82,12 +82,8 @@ module _ (s : BookState × Deed) (start : Starts s.0) where
   before_part page =
       let low : GuestPage → Bool = λ p. comes_before p page in
       rw (begun_ahead s.0)
-      (sym (alike (λ p. not (comes_before p page)) up (filter low all) (AllPairs-filter Before low all rises)
-      (λ q. grind (arith, has_filter))))
-    where
-      up : (p q : GuestPage) → not (comes_before q page) ≡ true → not (comes_before p page) ≡ false
-          → comes_before p q ≡ true
-      up p q is fails = grind arith
+      (sym (alike (λ p. not (comes_before p page)) (λ p q is fails. grind arith) (filter low all)
+      (AllPairs-filter Before low all rises) (λ q. grind (arith, has_filter))))
 
   -- ---------------------------------------------------------------- visits of what is due
 
@@ -103,7 +99,7 @@ module _ (s : BookState × Deed) (start : Starts s.0) where
     module _ (are : AreDue reached.0 due) where
       -- visits of more pages change nothing more where none of those that come to them is due
       more_visited : (t : GuestPage → Bool) → ((q : GuestPage) → passed q ≡ true → t q ≡ true)
-          → ((q : GuestPage) → t q ≡ true → after_cursor cursor q ≡ true → has_item q due ≡ false)
+          → ((q : GuestPage) → t q ≡ true → passed q ≡ false → has_item q due ≡ false)
           → due_visits doing s (filter t all) ≡ reached
       more_visited t more none =
           let rest = filter (λ p. not (passed p)) (filter t all) in
@@ -113,10 +109,7 @@ module _ (s : BookState × Deed) (start : Starts s.0) where
           ∙ visits_on (filter passed all) rest s
           ∙ undue_stay rest reached due (due_keeps (filter passed all) s start.sound).0 are (λ k d lt.
           none (get_or rest k d) (All-filter (λ p. not (passed p)) (λ q. t q ≡ true) _ (filter_passes t all) k d lt)
-          (not-false (filter_passes (λ p. not (passed p)) (filter t all) k d lt)))
-        where
-          not-false : {b : Bool} → not (not b) ≡ true → b ≡ true
-          not-false is = grind arith
+          (not-true _ (filter_passes (λ p. not (passed p)) (filter t all) k d lt)))
 
       -- where no page behind the cursor is due, all pages were visited
       pub all_visited : All (λ p. after_cursor cursor p ≡ false) due → due_visits doing s all ≡ reached

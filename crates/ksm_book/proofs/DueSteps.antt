@@ -1,8 +1,8 @@
 -- The steps of a pass over what is due, and what it comes to in the words of a part of a pass.
+use Rattle.ksm_book.proofs.Names.{after_cursor, All, ap, AreDue, arith, BookState, BookValue, Bool, Comes, Deed, doing, due_visited, due_visits, false, filter, filter_none, GuestPage, hidden_from}
+use Rattle.ksm_book.proofs.Names.{IsSound, IsStill, List, None, not, Option, pages_ahead, pages_visited, part_visited, pass_begun, Reached, ReachedBefore, refl, restless_at, Some, StaysBefore}
+use Rattle.ksm_book.proofs.Names.{StopsDue, StopsInPart, subst, sym, true, [], ◌∙◌, ◌≡◌}
 use Rattle.ksm_book.proofs.DuePasses.{all_visited, before_part, before_visited, known, next_visited, Starts, whole_part}
-use Rattle.ksm_book.proofs.Names.{after_cursor, All, ap, AreDue, BookState, BookValue, Bool, Comes, cond_both, Deed, doing, due_visited, due_visits, false, filter, filter_none, GuestPage, hidden_from}
-use Rattle.ksm_book.proofs.Names.{is_none, IsSound, IsStill, List, None, not, Option, pages_ahead, pages_visited, part_visited, pass_begun, Reached, ReachedBefore, refl, restless_at, Some}
-use Rattle.ksm_book.proofs.Names.{StaysBefore, StopsDue, StopsInPart, subst, sym, true, with_none_waiting, [], ◌∙◌, ◌≡◌}
 use Rattle.ksm_book.specs.Scanned.{ahead_before, ahead_up_to, HasVisited, StaysStill, StopsBefore}
 use Rattle.ksm_book.proofs.DueKept.{undue_stay}
 use Rattle.ksm_book.proofs.Dues.{IsFirst}
@@ -95,9 +95,7 @@ module _ (old mid : BookValue) (begins_so : Comes old mid (λ s. (pass_begun s.0
   begins_as = comes_to old mid (λ s. (pass_begun s.0, s.1)) begins_so
 
   pub begun_cursor : mid.state.cursor ≡ old.state.cursor
-  begun_cursor =
-      rw begins_as
-      (cond_both (is_none old.state.cursor) (with_none_waiting old.state) old.state (λ b. b.cursor ≡ old.state.cursor) (λ _. refl) (λ _. refl))
+  begun_cursor = grind (arith, begins_as)
 
   -- the visits behind that are those of the part
   pub part_visits : (new : BookValue) (last : Option GuestPage) (quiet : Bool)

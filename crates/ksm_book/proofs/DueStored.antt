@@ -1,9 +1,9 @@
 -- A store to a page with a frame of its own: where the page is due, if it waited, what is due stays so.
+use Rattle.ksm_book.proofs.DueKept.{more_due, own_due, WaitsElse}
 use Rattle.ksm_book.proofs.RowVisits.{filled_by}
-use Rattle.ksm_book.proofs.Names.{AreDue, arith, BookState, Bool, change_row, false, find_all, GuestPage, has_item, InPageOrder, is_restless, IsAlone, List, MatchOption, refl, row_at, same_page}
-use Rattle.ksm_book.proofs.Names.{same_page_refl, shared_state, stored, true, true≢false, waiting_state, waits_on, ℕ, ◌||◌, ◌≡◌}
+use Rattle.ksm_book.proofs.Names.{AreDue, arith, BookState, Bool, change_row, false, find_all, GuestPage, has_item, InPageOrder, IsAlone, List, MatchOption, refl, row_at, same_page, same_page_refl}
+use Rattle.ksm_book.proofs.Names.{shared_state, stored, true, true≢false, waiting_state, ℕ, ◌||◌, ◌≡◌}
 use Rattle.ksm_book.proofs.ByPage.{found_page}
-use Rattle.ksm_book.proofs.DueKept.{more_due, own_due}
 use Rattle.ksm_pages.proofs.Joined.{own_not_merged}
 
 -- where the page is due, if its row waits, what is due stays so
@@ -14,8 +14,7 @@ stored_due : (b : BookState) (page : GuestPage) (bytes : List ℕ) (pages : List
     → AreDue (record b { rows = change_row page (stored bytes) b.rows }) pages
 stored_due b page bytes pages rise alone was waits =
     let own = filled_by (λ r. shared_state r.state ≡ false) alone in
-    let on = find_all (λ r. same_page r.page page)
-    (λ r. is_restless r ≡ true → has_item r.page pages ≡ false → waits_on b r ≡ true) b.rows own.0 own.1 was in
+    let on = find_all (λ r. same_page r.page page) (WaitsElse b pages) b.rows own.0 own.1 was in
     own_due b page (stored bytes) own.0 rise own.1 (own_not_merged _ own.2, refl) pages pages
     (λ restless out. grind (arith, on, found_page page b.rows own.0 own.1, own, waits)) (λ p _ is. is) was
 

@@ -39,11 +39,7 @@ pub has_taken : (page : GuestPage) (order : List Named) (x : GuestPage)
     → has_item x (pages_in (without_named page order)) ≡ (has_item x (pages_in order) && not (same_page page x))
 has_taken page order x = picked (λ p. not (same_page p page)) x order ∙ (grind arith)
 
--- the pages stay in order with a page put in
-pub put_rises : (n : Named) (order : List Named) → AreAscending order → AreAscending (with_named n order)
-put_rises n order rise = with_rises pages_ordered (λ (m : Named). m.page) _ n _ refl rise
-
--- and with a page taken out
+-- the pages stay in order with a page taken out
 pub taken_rises : (page : GuestPage) (order : List Named) → AreAscending order
     → AreAscending (without_named page order)
 taken_rises page order rise = without_rises pages_ordered (λ (m : Named). m.page) page _ rise
@@ -53,10 +49,11 @@ pub has_already : (page : GuestPage) (pages : List GuestPage) → has_item page 
     → (x : GuestPage) → has_item x pages ≡ (same_page page x || has_item x pages)
 has_already page pages has x = grind arith
 
--- the pages stay in order where one is put in, or memory was refused
+-- and where one is put in, or memory was refused
 pub inserted_rises : {T E : Type 0} (r : Result T E) (n : Named) (old new : List Named) → AreAscending old
     → OnOk r (new ≡ with_named n old) → OnErr r (new ≡ old) → AreAscending new
-inserted_rises r n old new rise added kept = grind (arith, put_rises n old rise)
+inserted_rises r n old new rise added kept =
+    grind (arith, with_rises pages_ordered (λ (m : Named). m.page) n.page n old refl rise)
 
 -- ---------------------------------------------------------------- pages that were added
 
@@ -102,9 +99,6 @@ module _ (cursor : Option GuestPage) where
   behind n = after_cursor cursor n.page
 
   module _ (m : Named) (order : List Named) (rise : AreAscending (m ∷ order)) where
-    there : has_item m.page (pages_in (m ∷ order)) ≡ true
-    there = rw (same_page_refl m.page)
-
     head : All (λ (n : Named). comes_before m.page n.page ≡ true) order
     head = pairs_head (λ (a b : Named). comes_before a.page b.page ≡ true) m _ rise
 
@@ -116,7 +110,7 @@ module _ (cursor : Option GuestPage) where
     -- a page behind the cursor that stands first is the first there
     here : after_cursor cursor m.page ≡ true → IsFirst cursor (pages_in (m ∷ order)) m.page
     here is = (
-      there,
+      rw (same_page_refl m.page),
       is,
       All-cons (λ p. after_cursor cursor p ≡ true → comes_before p m.page ≡ false) m.page (pages_in order)
           (λ _. before_irrefl m.page) later,

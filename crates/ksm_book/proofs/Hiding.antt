@@ -103,10 +103,6 @@ module _ {page : GuestPage} {old now : BookValue} {last : Option GuestPage} (h :
         → (shared_state row.state ≡ true) ⊎ (comes_before at page ≡ true) → IsHiding page old now (Some at)
     hiding_over row found why =
         hiding_on now (sym (change_still at _ _ (grind (arith, row_of_page, now_rise)))) h.comes refl refl
-      where
-        stays : {r : Row} → r ≡ row → same_page r.page at ≡ true
-            → (shared_state row.state ≡ true) ⊎ (comes_before at page ≡ true) → hides page r ≡ r
-        stays is same h3 = grind arith
 
     -- any other page waits no more
     pub hiding_more : (next : BookValue) → comes_before at page ≡ false

@@ -1,8 +1,8 @@
 -- A page waits in the stead of one further on: what becomes of the book, and which pages are due then.
 use Rattle.ksm_book.proofs.Names.{All, ap, AreDue, arith, before_differs, BookState, BookValue, Bool, change_row, change_rows, Comes, comes_before, Deed, doing, due_visited, each_at_page, false}
 use Rattle.ksm_book.proofs.Names.{find_all, find_passes, GuestPage, has_item, hidden_from, idle, if◌then◌else◌, is_restless, IsAlone, IsSound, List, map_alike, MatchOption, not, not_both}
-use Rattle.ksm_book.proofs.Names.{page_visited, PageState, partner, Reached, Row, row_at, same_page, same_page_eq, same_page_refl, same_page_sym, settled, shared_state, Some, StaysBefore, subst, sym}
-use Rattle.ksm_book.proofs.Names.{taken_over, takes_over, TakesOverFrom, true, view_of, waiting_state, waits_for, waits_tells, WaitsFor, ◌&&◌, ◌||◌, ◌∙◌, ◌∷◌, ◌≡◌}
+use Rattle.ksm_book.proofs.Names.{page_visited, partner, Reached, Row, row_at, same_page, same_page_eq, same_page_refl, same_page_sym, settled, Some, StaysBefore, subst, sym, taken_over, takes_over}
+use Rattle.ksm_book.proofs.Names.{TakesOverFrom, true, view_of, waits_for, waits_tells, WaitsFor, ◌&&◌, ◌||◌, ◌∙◌, ◌∷◌, ◌≡◌}
 use Rattle.ksm_book.proofs.DueAlike.{freed_found, one_waits, taken_is, veiled_over}
 use Rattle.ksm_book.proofs.ByPage.{found_page, row_of_page}
 use Rattle.ksm_book.proofs.DueKept.{more_due, taken_due}
@@ -26,10 +26,6 @@ pub takes_from : {b : BookState} {page other : GuestPage} → IsSound b
     → MatchOption (row_at page b.rows) (true ≡ false) (TakesOverFrom b other) → Takes b page other
 takes_from sound told = grind arith
 
--- a row that waits has a frame of its own
-waits_alone : (state : PageState) → waiting_state state ≡ true → shared_state state ≡ false
-waits_alone state is = grind arith
-
 same_tests : (p q : Bool) → (p ≡ true → q ≡ true) → (q ≡ true → p ≡ true) → p ≡ q
 same_tests p q to from = grind arith
 
@@ -52,7 +48,7 @@ module _ {b : BookState} {page other : GuestPage} (at : Takes b page other) wher
 
   -- it has a frame of its own
   pub other_alone : IsAlone other b.rows
-  other_alone = rw waits_at (waits_alone _ tells.state)
+  other_alone = rw waits_at (grind (arith, tells))
 
   later : comes_before page other ≡ true
   later = grind (arith, page_is)
