@@ -1,12 +1,12 @@
 -- Visits of pages do what those of the definitions do, where the rows further on that still wait are hidden from these.
-use Rattle.ksm_book.proofs.Names.{after_cursor, All, All-cons, All-map, ap, AreAscending, arith, before_irrefl, best_dup, BookState, Bool, cases_Bool, change_row, change_rows, comes_before}
-use Rattle.ksm_book.proofs.Names.{comes_later, cond_both, count_mapped, Deed, doing, due_visited, due_visits, dup_frame, DupRow, each_at_page, false, find_all, find_mapped, find_none, find_nothing}
-use Rattle.ksm_book.proofs.Names.{find_passes, Frames, get_or, get_or_from_slice_get, GuestPage, handled, has_item, HasStayed, hidden, hidden_from, if◌then◌else◌, inl, InPageOrder, inr, is_best}
-use Rattle.ksm_book.proofs.Names.{is_for_zero, is_no_rival, is_restless, is_stale, IsSound, item_count, List, made_dup, map_alike, map_mapped, may_join, mergeable_pages, merged_into, new_place, None}
-use Rattle.ksm_book.proofs.Names.{not, not_both, one_before, Option, option_map, page, page_visited, pages_visited, paired, pairs_head, pairs_tail, partner, place_count, refl, restless_at}
-use Rattle.ksm_book.proofs.Names.{restless_row, Row, row_at, row_visited, row_visiting, same_page, same_page_eq, same_page_refl, settled, settled_calmer, slice_get_within, Some, sound_changed}
-use Rattle.ksm_book.proofs.Names.{sound_row_visited, stayed, subst, sym, taken_over, takes_over, true, true≢false, visited, waiting_not_private, waiting_state, waits_for, waits_tells, Zero, ℕ, []}
-use Rattle.ksm_book.proofs.Names.{◌&&◌, ◌++◌, ◌+◌, ◌==◌, ◌||◌, ◌∙◌, ◌∷◌, ◌≡◌}
+use Rattle.ksm_book.proofs.Scanned.{restless_mergeable}
+use Rattle.ksm_book.proofs.Names.{after_cursor, All, All-map, ap, AreAscending, arith, before_irrefl, best_dup, BookState, Bool, cases_Bool, change_row, change_rows, comes_before, comes_later}
+use Rattle.ksm_book.proofs.Names.{cond_both, count_mapped, Deed, doing, due_visited, due_visits, dup_frame, DupRow, each_at_page, false, find_all, find_mapped, find_none, find_nothing, find_passes}
+use Rattle.ksm_book.proofs.Names.{Frames, get_or, get_or_from_slice_get, GuestPage, handled, has_item, HasStayed, hidden, hidden_from, if◌then◌else◌, inl, InPageOrder, inr, is_best, is_for_zero}
+use Rattle.ksm_book.proofs.Names.{is_no_rival, is_restless, is_stale, IsSound, item_count, List, made_dup, map_alike, map_mapped, may_join, mergeable_pages, merged_into, new_place, None, not}
+use Rattle.ksm_book.proofs.Names.{not_both, one_before, Option, option_map, page, page_visited, pages_visited, paired, pairs_head, pairs_tail, partner, place_count, refl, restless_at, restless_row}
+use Rattle.ksm_book.proofs.Names.{Row, row_at, row_visited, row_visiting, same_page, same_page_eq, same_page_refl, settled, settled_calmer, slice_get_within, Some, sound_changed, sound_row_visited}
+use Rattle.ksm_book.proofs.Names.{stayed, subst, sym, taken_over, takes_over, true, true≢false, visited, waiting_state, waits_for, waits_tells, Zero, ℕ, [], ◌&&◌, ◌++◌, ◌+◌, ◌==◌, ◌||◌, ◌∙◌, ◌∷◌, ◌≡◌}
 use Rattle.ksm_base.specs.declared.row.PageState.TheVariants.{Private}
 use Rattle.ksm_book.proofs.ByPage.{found_page, row_of_page}
 use Rattle.ksm_book.proofs.Doing.{then_idle}
@@ -17,13 +17,6 @@ use Rattle.std.proofs.lemmas.List.{map-id}
 use Rattle.ksm_base.specs.Visit.{is_no_worse}
 
 -- ---------------------------------------------------------------- rows that wait no more
-
--- each mergeable row is of one of the pages that scans visit
-pub mergeable_has : (rows : List Row) → All (λ r. r.mergeable ≡ true → has_item r.page (mergeable_pages rows) ≡ true) rows
-mergeable_has [] = λ k d lt. absurd (omega arith)
-mergeable_has (r ∷ rows) =
-    All-cons (λ x. x.mergeable ≡ true → has_item x.page (mergeable_pages (r ∷ rows)) ≡ true) r rows (λ is. grind arith)
-    (λ k d lt is. grind (arith, mergeable_has rows k d lt is))
 
 -- what is so of all of some pages is so of one that is there
 pub all_has : (P : GuestPage → Type 0) (pages : List GuestPage) → All P pages → (q : GuestPage)
@@ -79,7 +72,7 @@ module _ (t : GuestPage → Bool) (b : BookState) where
       → ((q : GuestPage) → has_item q (mergeable_pages b.rows) ≡ true → t q ≡ u q) → veiled t b ≡ veiled u b
   veiled_same u s same =
       veiled_alike u (λ k d lt waits.
-      same _ (mergeable_has b.rows k d lt (s.mergeable k d lt (waiting_not_private _ waits))))
+      same _ (restless_mergeable _ b.rows (grind (arith, each_at_page b.rows s.rows_rise k d lt, s.mergeable k d lt))))
 
   -- whether rows wait that are veiled makes no difference
   pub veiled_over : (test : Row → Bool) → All (λ r. test r ≡ true → t r.page ≡ true) b.rows

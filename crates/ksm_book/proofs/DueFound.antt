@@ -84,19 +84,19 @@ module _ (f : Find) (q : PagesView) {p : PagesView} {k : KeeperView} {cursor : O
   none : (r : Row) → row_at page v.state.rows ≡ Some r → takes_over v.state r ≡ false
   none = grind (arith, by)
 
-  -- where the row was visited in the book as it was, that is the visit of what is due
-  pub shared_due_comes : Comes v w (λ s. due_visited doing s page)
-  shared_due_comes from s before = grind (arith, none, shared_comes v w at by.0 q by.1 did from s before)
+  comes : Comes v w (λ s. due_visited doing s page)
+  comes from s before = grind (arith, none, shared_comes v w at by.0 q by.1 did from s before)
 
-  -- and the page is due no longer
-  pub shared_leaves : (old new : List GuestPage) → Without page old new → AreDue v.state old → AreDue w.state new
-  shared_leaves old new gone =
-      let becomes = comes_to v w _ shared_due_comes in
+  -- where the row was visited in the book as it was, that is the visit of what is due, and the page is due no longer
+  pub shared_due : Comes v w (λ s. due_visited doing s page)
+      × ((old new : List GuestPage) → Without page old new → AreDue v.state old → AreDue w.state new)
+  shared_due =
+      let becomes = comes_to v w _ comes in
       let sound = subst (λ (x : BookView). IsSound x.state) at.is at.sound in
-      less_due page v.state w.state old new gone (λ pages was.
+      (comes, λ old new gone. less_due page v.state w.state old new gone (λ pages was.
       calm_undue w.state page (subst IsSound (sym becomes) (one_due v.state sound _ page).0).rows_rise
       (grind (arith, by)) pages
-      (subst (λ c. AreDue c (page ∷ pages)) (sym becomes) (visited_due (first v) page pages sound was none)))
+      (subst (λ c. AreDue c (page ∷ pages)) (sym becomes) (visited_due (first v) page pages sound was none))))
 
 -- ---------------------------------------------------------------- by what was found
 

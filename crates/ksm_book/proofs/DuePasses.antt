@@ -1,4 +1,5 @@
 -- A pass over what is due comes to what the pass of the definitions comes to.
+use Rattle.std.proofs.lemmas.List.Sums.{fold-append}
 use Rattle.ksm_book.proofs.Scanned.{begun_ahead, restless_mergeable}
 use Rattle.ksm_book.proofs.Names.{after_cursor, All, All-filter, AllPairs-filter, ap, AreAscending, AreDue, arith, before_irrefl, BookState, Bool, cases_Bool, comes_before, Deed, doing, due_visited}
 use Rattle.ksm_book.proofs.Names.{due_visits, false, filter, filter_all, filter_passes, get_or, GuestPage, has_item, hidden_from, if◌then◌else◌, inl, inr, is_none, IsSound, List, mergeable_pages}
@@ -11,14 +12,6 @@ use Rattle.ksm_book.proofs.DueKept.{undue_stay}
 use Rattle.ksm_book.proofs.Dues.{IsFirst}
 use Rattle.ksm_book.proofs.Folded.{ascending_ahead, every_page}
 use Rattle.ksm_book.proofs.PagesAhead.{Before, before_down, GoesDown, has_filter, parted, same_pages}
-
--- ---------------------------------------------------------------- visits of some pages and of others
-
--- visits of some pages and then of others
-pub visits_on : (some more : List GuestPage) (s : BookState × Deed)
-    → due_visits doing s (some ++ more) ≡ due_visits doing (due_visits doing s some) more
-visits_on [] more s = refl
-visits_on (page ∷ some) more s = visits_on some more (due_visited doing s page)
 
 -- where a page is not behind a cursor, no page before that page is
 cursor_down : (cursor : Option GuestPage) → GoesDown (λ p. not (after_cursor cursor p))
@@ -106,7 +99,7 @@ module _ (s : BookState × Deed) (start : Starts s.0) where
           ap (due_visits doing s) (parted passed (cursor_down cursor) (filter t all)
           (AllPairs-filter Before t all rises)
           ∙ ap (λ l. l ++ rest) (passing t passed all more))
-          ∙ visits_on (filter passed all) rest s
+          ∙ fold-append (due_visited doing) s (filter passed all) rest
           ∙ undue_stay rest reached due (due_keeps (filter passed all) s start.sound).0 are (λ k d lt.
           none (get_or rest k d) (All-filter (λ p. not (passed p)) (λ q. t q ≡ true) _ (filter_passes t all) k d lt)
           (not-true _ (filter_passes (λ p. not (passed p)) (filter t all) k d lt)))
@@ -134,7 +127,8 @@ module _ (s : BookState × Deed) (start : Starts s.0) where
         next_visited =
             ap (due_visits doing s) (parted low (before_down page) (filter up all) (AllPairs-filter Before up all rises)
             ∙ ap (λ l. l ++ rest) (passing up low all (λ q is. grind arith)))
-            ∙ visits_on (filter low all) rest s ∙ ap (λ z. due_visits doing z rest) before_visited ∙ last
+            ∙ fold-append (due_visited doing) s (filter low all) rest
+            ∙ ap (λ z. due_visits doing z rest) before_visited ∙ last
           where
             up : GuestPage → Bool
             up p = not (comes_before page p)

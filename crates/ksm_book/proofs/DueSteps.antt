@@ -25,6 +25,12 @@ module _ (old : BookValue) (sound : IsSound old.state) (start : old.state.cursor
   starts : {b : BookState} → old.state ≡ b → Starts b
   starts same = subst Starts same (record { sound = sound; cursor = start })
 
+  -- what comes to the same where a pass starts is reached with it
+  comes_by : {f g : BookState × Deed → BookState × Deed} (new : BookValue)
+      → ((s : BookState × Deed) → Starts s.0 → new.state ≡ (f s).0 → f s ≡ g s) → Comes old new f → Comes old new g
+  comes_by new same comes from s before =
+      let there = comes from s before in subst (Reached from new) (same s (starts before.0) there.0) there
+
   -- it has come to another
   module _ (mid : BookValue) (last : Option GuestPage) (due : List GuestPage) (are : AreDue mid.state due)
       (comes : Comes old mid (passed_to last)) where
@@ -34,10 +40,7 @@ module _ (old : BookValue) (sound : IsSound old.state) (start : old.state.cursor
     -- where no page behind the last is due, all pages ahead were visited
     pub all_come : All (λ p. after_cursor last p ≡ false) due
         → Comes old mid (λ s. due_visits doing s (pages_ahead s.0))
-    all_come none from s before =
-        subst (Reached from mid)
-        (sym (all_visited s (starts before.0) last due (are_now from s before) none))
-        (comes from s before)
+    all_come none = comes_by mid (λ s start is. sym (all_visited s start last due (rw (← is) are) none)) comes
 
     module _ (new : BookValue) (page : GuestPage) (first : IsFirst last due page) where
       -- with the visit of the first page behind the last that is due, the pages up to it were visited
@@ -64,8 +67,7 @@ module _ (old : BookValue) (sound : IsSound old.state) (start : old.state.cursor
   -- where all that is due was visited, the whole pass was made
   pub whole_comes : (new : BookValue) → Comes old new (λ s. due_visits doing s (pages_ahead s.0))
       → Comes old new (part_visited None)
-  whole_comes new visits from s before =
-      subst (Reached from new) (whole_part s (starts before.0)) (visits from s before)
+  whole_comes new = comes_by new (λ s start is. whole_part s start)
 
   -- where nothing is due, the whole pass changes nothing but which rows wait
   pub whole_still : AreDue old.state [] → StaysStill old (part_visited None)

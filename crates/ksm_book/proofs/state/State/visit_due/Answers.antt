@@ -3,7 +3,7 @@ use Rattle.ksm_book.proofs.Names.{true, true≢false, view_of, VisitsPage, ◌�
 use Rattle.ksm_pages.specs.declared.pages.Find.TheVariants as finds
 use Rattle.ksm_tree.proofs.Numbers.{on_err}
 use Rattle.ksm_book.specs.contracts.state.State.{the_view}
-use Rattle.ksm_book.proofs.DueFound.{changed_keeps, comes_as, is_still, less_due, partner_takes, shared_due_comes, shared_leaves, shares, stays_as, still_found, Without}
+use Rattle.ksm_book.proofs.DueFound.{changed_keeps, comes_as, is_still, less_due, partner_takes, shared_due, shares, stays_as, still_found, Without}
 use Rattle.ksm_book.proofs.Singles.{book}
 use Rattle.ksm_book.proofs.DueVisits.{gone_due, waits_due}
 use Rattle.ksm_book.proofs.PageVisits.{changed_leads, finds_it, waits_leads}
@@ -40,8 +40,8 @@ shared : (c : In_ok-visit) → shares c.args.spot.page c.in_ok-visit.field-0 ≡
     → AreDue c.args.self.now.state old → AreDue w.state new)
 shared c is w did =
     let found = c.in_ok-visit.field-0 in
-    let met = met_by c found (λ gone. true≢false (sym is ∙ ap (shares c.args.spot.page) gone)) refl in
-    (shared_due_comes found _ c.args.self.now w is met did, shared_leaves found _ c.args.self.now w is met did)
+    let some = λ (gone : found ≡ finds.Gone). true≢false (sym is ∙ ap (shares c.args.spot.page) gone) in
+    shared_due found _ c.args.self.now w is (met_by c found some refl) did
 
 pub invariant_of-self-in-Gone : goal.invariant_of-self-in-Gone
 invariant_of-self-in-Gone c =
