@@ -1,12 +1,12 @@
 -- Visits of pages do what those of the definitions do, where the rows further on that still wait are hidden from these.
 use Rattle.ksm_book.proofs.Scanned.{restless_mergeable}
 use Rattle.ksm_book.proofs.Names.{after_cursor, All, All-map, ap, AreAscending, arith, before_irrefl, best_dup, BookState, Bool, cases_Bool, change_row, change_rows, comes_before, comes_later}
-use Rattle.ksm_book.proofs.Names.{cond_both, count_mapped, Deed, doing, due_visited, due_visits, dup_frame, DupRow, each_at_page, false, find_all, find_mapped, find_none, find_nothing, find_passes}
-use Rattle.ksm_book.proofs.Names.{Frames, get_or, get_or_from_slice_get, GuestPage, handled, has_item, HasStayed, hidden, hidden_from, if◌then◌else◌, inl, InPageOrder, inr, is_best, is_for_zero}
-use Rattle.ksm_book.proofs.Names.{is_no_rival, is_restless, is_stale, IsSound, item_count, List, made_dup, map_alike, map_mapped, may_join, mergeable_pages, merged_into, new_place, None, not}
-use Rattle.ksm_book.proofs.Names.{not_both, one_before, Option, option_map, page, page_visited, pages_visited, paired, pairs_head, pairs_tail, partner, place_count, refl, restless_at, restless_row}
-use Rattle.ksm_book.proofs.Names.{Row, row_at, row_visited, row_visiting, same_page, same_page_eq, same_page_refl, settled, settled_calmer, slice_get_within, Some, sound_changed, sound_row_visited}
-use Rattle.ksm_book.proofs.Names.{stayed, subst, sym, taken_over, takes_over, true, true≢false, visited, waiting_state, waits_for, waits_tells, Zero, ℕ, [], ◌&&◌, ◌++◌, ◌+◌, ◌==◌, ◌||◌, ◌∙◌, ◌∷◌, ◌≡◌}
+use Rattle.ksm_book.proofs.Names.{count_mapped, Deed, doing, due_visited, due_visits, dup_frame, DupRow, each_at_page, false, find_all, find_mapped, find_none, find_nothing, find_passes, Frames}
+use Rattle.ksm_book.proofs.Names.{get_or, get_or_from_slice_get, GuestPage, handled, has_item, HasStayed, hidden, hidden_from, if◌then◌else◌, inl, InPageOrder, inr, is_best, is_for_zero, is_no_rival}
+use Rattle.ksm_book.proofs.Names.{is_restless, is_stale, IsSound, item_count, List, made_dup, map_alike, map_mapped, may_join, mergeable_pages, merged_into, new_place, None, not, not_both, one_before}
+use Rattle.ksm_book.proofs.Names.{Option, option_map, page, page_visited, pages_visited, paired, pairs_head, pairs_tail, partner, place_count, refl, restless_at, restless_row, Row, row_at}
+use Rattle.ksm_book.proofs.Names.{row_visiting, same_page, same_page_eq, same_page_refl, settled, settled_calmer, slice_get_within, Some, sound_changed, sound_row_visited, stayed, subst, sym}
+use Rattle.ksm_book.proofs.Names.{taken_over, takes_over, true, true≢false, visited, waiting_state, waits_for, waits_tells, Zero, ℕ, [], ◌&&◌, ◌++◌, ◌+◌, ◌==◌, ◌||◌, ◌∙◌, ◌∷◌, ◌≡◌}
 use Rattle.ksm_base.specs.declared.row.PageState.TheVariants.{Private}
 use Rattle.ksm_book.proofs.ByPage.{found_page, row_of_page}
 use Rattle.ksm_book.proofs.Doing.{then_idle}
@@ -278,8 +278,7 @@ module _ (b : BookState) (s : IsSound b) (deed : Deed) where
       ∙ ap (λ z. Some (if not z then settled r else r)) (before_irrefl r.page) in
       (
         subst (λ (z : BookState × Deed). IsSound z.0) is
-            (cond_both {A = BookState × Deed} _ (row_visited o r, doing o deed r) (o, deed) (λ z. IsSound z.0)
-            (λ _. sound_row_visited o r (grind (arith, row_of_page)) sound) (λ _. sound)),
+            (rw restless (sound_row_visited o r (grind (arith, row_of_page)) sound)),
         subst (λ (z : BookState × Deed). Goes b.rows z.0.rows) is
             (goes_on goes (grind (arith, pages_go doing (r.page ∷ []) (o, deed) sound.rows_rise))),
         ap (λ c. page_visited doing (c, deed) r.page) covers ∙ ap (visited doing (covered o r, deed)) at

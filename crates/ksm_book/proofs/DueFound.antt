@@ -1,16 +1,15 @@
 -- The visit of a page that is due, by what was found of it: it takes over from none, but where a row further on waits
 -- for it; and which pages are due then.
 use Rattle.ksm_book.proofs.Names.{ap, AreDue, arith, BookState, BookValue, BookView, Bool, change_row, change_rows, Comes, comes_before, Deed, doing, due_visited, Dup, false, Find, find_mapped}
-use Rattle.ksm_book.proofs.Names.{find_passes, FindsAt, GuestPage, has_item, HasStayed, if◌then◌else◌, is_restless, IsDueNoMore, IsSound, KeeperView, List, MatchOption, Merged, not, not_both}
-use Rattle.ksm_book.proofs.Names.{one_before, Option, PageState, PagesView, paired, Partner, Reached, refl, restless_at, Row, row_at, row_visited, same_page, same_page_refl, shared_state, Some}
+use Rattle.ksm_book.proofs.Names.{find_passes, FindsAt, GuestPage, has_item, HasStayed, if◌then◌else◌, is_restless, IsDueNoMore, KeeperView, List, MatchOption, Merged, not, not_both, one_before}
+use Rattle.ksm_book.proofs.Names.{Option, PageState, PagesView, paired, Partner, Reached, refl, restless_at, Row, row_at, row_visited, same_page, same_page_refl, shared_state, Some, sound_row_visited}
 use Rattle.ksm_book.proofs.Names.{state_of, StaysBefore, subst, sym, takes_over, TakesOverFrom, true, true≢false, view_of, VisitsPage, waits_for, waits_tells, Zero, ℕ, ◌&&◌, ◌||◌, ◌∙◌, ◌∷◌, ◌≡◌}
+use Rattle.ksm_book.proofs.ByPage.{row_of_page}
 use Rattle.ksm_base.specs.declared.row.PageState.TheVariants.{Private}
 use Rattle.ksm_pages.specs.declared.pages.Find.TheVariants as finds
 use Rattle.ksm_pages.specs.Paged.{Finds}
-use Rattle.ksm_book.proofs.DueAlike.{one_due}
-use Rattle.ksm_book.proofs.DueKept.{calm_undue, more_due, own_due, visited_due}
+use Rattle.ksm_book.proofs.DueKept.{calm_undue, more_due, own_due, row_due}
 use Rattle.ksm_book.proofs.PageVisits.{shared_comes}
-use Rattle.ksm_book.proofs.Reached.{comes_to, first}
 use Rattle.ksm_book.proofs.RowVisits.{filled_by, Meets, page_is, restless_own, stayed_is, there_is, visited_by}
 use Rattle.ksm_book.proofs.Singles.{book}
 use Rattle.ksm_pages.proofs.Joined.{own_not_merged}
@@ -90,13 +89,16 @@ module _ (f : Find) (q : PagesView) {p : PagesView} {k : KeeperView} {cursor : O
   -- where the row was visited in the book as it was, that is the visit of what is due, and the page is due no longer
   pub shared_due : Comes v w (λ s. due_visited doing s page)
       × ((old new : List GuestPage) → Without page old new → AreDue v.state old → AreDue w.state new)
-  shared_due =
-      let becomes = comes_to v w _ comes in
-      let sound = subst (λ (x : BookView). IsSound x.state) at.is at.sound in
-      (comes, λ old new gone. less_due page v.state w.state old new gone (λ pages was.
-      calm_undue w.state page (subst IsSound (sym becomes) (one_due v.state sound _ page).0).rows_rise
-      (grind (arith, by)) pages
-      (subst (λ c. AreDue c (page ∷ pages)) (sym becomes) (visited_due (first v) page pages sound was none))))
+  shared_due = (comes, λ old new gone. less_due page v.state w.state old new gone (λ pages was.
+      let now = row_visited (state_of p cursor passes) at.row in
+      let state : w.state ≡ now = grind arith in
+      let due : AreDue (state_of p cursor passes) (at.row.page ∷ pages) =
+      rw (page_is at) (subst (λ (x : BookView). AreDue x.state (page ∷ pages)) (sym at.is) was) in
+      let left = row_due (state_of p cursor passes) at.sound at.row (there_is at) by.0 pages due in
+      let sound = sound_row_visited (state_of p cursor passes) at.row
+      (grind (arith, row_of_page, there_is at, by)) at.sound in
+      subst (λ (c : BookState). AreDue c pages) (sym state)
+      (calm_undue now page sound.rows_rise by.3 pages (subst (λ g. AreDue now (g ∷ pages)) (page_is at) left))))
 
 -- ---------------------------------------------------------------- by what was found
 

@@ -3,8 +3,8 @@ use Rattle.ksm_book.proofs.Names.{All, All-cons, All-head, All-tail, all_changed
 use Rattle.ksm_book.proofs.Names.{change_rows, cond_both, count_by, count_mapped, Deed, doing, due_visited, due_visits, dup_of_row, DupRow, eqb-true, false, find_all, find_none, find_nothing}
 use Rattle.ksm_book.proofs.Names.{find_passes, get_or, GuestPage, handled, has_item, HasStayed, inl, InPageOrder, inr, is_best, is_for_zero, is_restless, IsDueNoMore, IsSound, item_count, Knobs, List}
 use Rattle.ksm_book.proofs.Names.{list_all-from_AllPass, made_dup, may_join, Merged, merged_into, merged_state, nat_le, nat_lt, nat_tests, None, not, not_an_item, one_of_each_page, Option}
-use Rattle.ksm_book.proofs.Names.{ordered_change, paired, partner, refl, restless_at, Row, row_at, row_visited, same_page, same_page_refl, same_page_sym, settled, Some, stayed, subst, sym, taken_over}
-use Rattle.ksm_book.proofs.Names.{takes_over, tree_of, true, Waiting, waiting_state, waits_for, waits_on, waits_tells, WaitsFor, with_dup, Zero, ℕ, [], ◌&&◌, ◌+◌, ◌==◌, ◌||◌, ◌∙◌, ◌∷◌, ◌≡◌, ◌⊎◌}
+use Rattle.ksm_book.proofs.Names.{ordered_change, paired, partner, refl, restless_at, Row, row_at, row_visited, same_page, same_page_refl, same_page_sym, settled, Some, stayed, taken_over, takes_over}
+use Rattle.ksm_book.proofs.Names.{tree_of, true, Waiting, waiting_state, waits_for, waits_on, waits_tells, WaitsFor, with_dup, Zero, ℕ, [], ◌&&◌, ◌+◌, ◌==◌, ◌||◌, ◌∙◌, ◌∷◌, ◌≡◌, ◌⊎◌}
 use Rattle.ksm_book.proofs.DueAlike.{at_own_page, by_counts, by_row, calm_stays, freed, freed_found, freed_stays, one_waits}
 use Rattle.ksm_base.specs.declared.row.PageState.TheVariants.{Private}
 use Rattle.ksm_book.proofs.ByPage.{row_of_page}
@@ -248,18 +248,8 @@ module _ (b : BookState) (sound : IsSound b) (row : Row) (found : row_at row.pag
         (λ _. alone_due (λ r. record r { unchanged = true; state = Private }) refl refl)
 
     -- the visit of a row leaves due what was, and its own page
-    row_due : Due (row_visited b row)
+    pub row_due : Due (row_visited b row)
     row_due = grind (arith, handled_due)
-
--- where the row of a page takes over from none, its visit leaves due what was, and that page
-pub visited_due : (s : BookState × Deed) (page : GuestPage) (pages : List GuestPage) → IsSound s.0 → AreDue s.0 (page ∷ pages)
-    → ((r : Row) → row_at page s.0.rows ≡ Some r → takes_over s.0 r ≡ false)
-    → AreDue (due_visited doing s page).0 (page ∷ pages)
-visited_due s page pages sound =
-    by_row (λ p. AreDue s.0 (p ∷ pages) → ((r : Row) → row_at p s.0.rows ≡ Some r → takes_over s.0 r ≡ false)
-    → AreDue (due_visited doing s p).0 (p ∷ pages)) page s.0.rows (λ calm due _.
-    subst (λ (z : BookState × Deed). AreDue z.0 (page ∷ pages)) (sym (calm_stays s page calm)) due)
-    (λ r found restless due none. grind (arith, none r found, row_due s.0 sound r found restless pages due))
 
 -- ---------------------------------------------------------------- visits of pages that are not due
 
