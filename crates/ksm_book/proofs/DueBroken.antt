@@ -48,11 +48,11 @@ module _ (b : BookState) (sound : IsSound b) (page : GuestPage) (row : Row) (fou
     left_still : All (WaitsElse (record b { rows = now }) new) b.rows
     left_still k d lt restless out =
         let r = get_or b.rows k d in
-        let apart : (names r.page beside || has_item r.page old) ≡ false = grind (arith, covers r.page) in
-        let on : waits_on b r ≡ true = was k d lt restless (grind arith) in
-        on_still b now b.dups b.next r (λ none j e lt_e.
-        grind (arith, none j e lt_e, counts (get_or b.dups j e), is_of_dup k d lt (grind arith)
-        (grind arith) j e lt_e)) on
+        let apart : names r.page beside ≡ false = grind (arith, covers r.page) in
+        let on : waits_on b r ≡ true = was k d lt restless (grind (arith, covers r.page)) in
+        let waiting : waiting_state r.state ≡ true = grind arith in
+        on_still b now b.dups b.next r (λ none j e lt_e. let dup = get_or b.dups j e in
+        grind (arith, none j e lt_e, counts dup, is_of_dup k d lt waiting apart j e lt_e)) on
 
 -- ---------------------------------------------------------------- the page is stored to, or dropped
 
@@ -100,8 +100,8 @@ module _ (b : BookState) (page : GuestPage) (old new : List GuestPage)
       let now = with_row fresh b.rows in
       all_with_row (WaitsElse (record b { rows = now }) new) fresh b.rows (grind (arith, added page, same_page_refl))
       (λ k d lt restless out. on_still b now b.dups b.next (get_or b.rows k d) (λ none i x lt_x.
-      grind (arith, none i x lt_x, count_with_row
-      (λ s. merged_into (get_or b.dups i x).number s.state) fresh b.rows absent))
+      let number = (get_or b.dups i x).number in
+      grind (arith, none i x lt_x, count_with_row (λ s. merged_into number s.state) fresh b.rows absent))
       (added_due k d lt restless out))
 
 -- a page that has a row has one

@@ -166,9 +166,8 @@ module _ (b : BookState) (sound : IsSound b) (row : Row) (found : row_at row.pag
         → Due (record b { rows = change_rows test (merge number) b.rows; dups = dups; next = next })
     merged_due test number dups next still =
         let new = change_rows test (merge number) b.rows in
-        all_changed (WaitsElse (record b { rows = new; dups = dups; next = next }) (row.page ∷ pages)) test
-            (merge number)
-        b.rows (grind arith)
+        let c = record b { rows = new; dups = dups; next = next } in
+        all_changed (WaitsElse c (row.page ∷ pages)) test (merge number) b.rows (grind arith)
         (λ k d lt fails calm out.
         let on = was k d lt calm out in
         on_still b new dups next (get_or b.rows k d) (still k d lt fails (grind arith)) on)
@@ -203,11 +202,10 @@ module _ (b : BookState) (sound : IsSound b) (row : Row) (found : row_at row.pag
     -- the row makes a dup with the one that waits for it: no other row that waits is of its tree and content
     made_due : (place : ℕ) (w : Row) → partner b.knobs b.rows row ≡ Some w → Due (made_dup place b w row)
     made_due place w waits = merged_due test b.next (with_dup new b.dups) (b.next + 1) (λ k d lt fails waiting none.
-        all_with_dup (λ e. may_join b.knobs (change_rows test (merge b.next) b.rows) (get_or b.rows k d) e
-        ≡ false) new b.dups
-        (grind (arith, apart k d lt fails waiting)) (λ j e lt_e.
-        grind (arith, nat_tests, none j e lt_e, sound.numbers j e lt_e, other_count test b.next single
-        (get_or b.dups j e))))
+        let r = get_or b.rows k d in
+        all_with_dup (λ e. may_join b.knobs (change_rows test (merge b.next) b.rows) r e ≡ false) new b.dups
+        (grind (arith, apart k d lt fails waiting)) (λ j e lt_e. let old = get_or b.dups j e in
+        grind (arith, nat_tests, none j e lt_e, sound.numbers j e lt_e, other_count test b.next single old)))
       where
         test : Row → Bool
         test r = same_page r.page w.page || same_page r.page row.page
