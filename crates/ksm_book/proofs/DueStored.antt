@@ -2,7 +2,7 @@
 use Rattle.ksm_book.proofs.DueKept.{more_due, own_due, WaitsElse}
 use Rattle.ksm_book.proofs.RowVisits.{filled_by}
 use Rattle.ksm_book.proofs.Names.{AreDue, arith, BookState, Bool, change_row, false, find_all, GuestPage, has_item, InPageOrder, IsAlone, List, MatchOption, refl, row_at, same_page, same_page_refl}
-use Rattle.ksm_book.proofs.Names.{shared_state, stored, true, true≢false, waiting_state, ℕ, ◌||◌, ◌≡◌}
+use Rattle.ksm_book.proofs.Names.{shared_state, stored, true, waiting_state, ℕ, ◌||◌, ◌≡◌}
 use Rattle.ksm_book.proofs.ByPage.{found_page}
 use Rattle.ksm_pages.proofs.Joined.{own_not_merged}
 

@@ -1,7 +1,7 @@
 -- The pages that are due, as they are kept: which there are once one came or went, and the first behind a cursor.
 use Rattle.ksm_book.proofs.Names.{after_cursor, All, All-cons, All-map, any-filter_same, any_found, append-nil, AreDue, arith, before_irrefl, BookState, Bool, cases_Bool, comes_before, Err, false}
-use Rattle.ksm_book.proofs.Names.{filter, find, get_or, GuestPage, has_item, if◌then◌else◌, inl, inr, is_some, length, List, list_any, map, MatchOption, None, not, not_both, Ok, Option, pages_ordered}
-use Rattle.ksm_book.proofs.Names.{pairs_head, pairs_tail, refl, Result, same_page, same_page_refl, Some, true, [], ◌&&◌, ◌++◌, ◌==◌, ◌||◌, ◌∙◌, ◌∷◌, ◌≡◌}
+use Rattle.ksm_book.proofs.Names.{filter, find, get_or, GuestPage, has_item, inl, inr, is_some, length, List, list_any, map, MatchOption, None, not, not_both, Ok, Option, pages_ordered, pairs_head}
+use Rattle.ksm_book.proofs.Names.{pairs_tail, refl, Result, same_page, same_page_refl, Some, true, [], ◌&&◌, ◌++◌, ◌==◌, ◌||◌, ◌∙◌, ◌∷◌, ◌≡◌}
 use Rattle.std.proofs.lemmas.List.Folds.{list_any-append}
 use Rattle.std.specs.Prelude.{OnErr, OnOk}
 use Rattle.ksm_pages.specs.Held.{pages_of}

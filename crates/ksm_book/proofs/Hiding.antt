@@ -2,7 +2,7 @@
 use Rattle.ksm_book.proofs.DueAlike.{at_own_page}
 use Rattle.ksm_book.proofs.Names.{All, arith, BookValue, change_row, Comes, comes_before, every_row, false, find, GuestPage, if◌then◌else◌, InPageOrder, is_next, IsAlone, IsLaid, IsSound, KeeperView}
 use Rattle.ksm_book.proofs.Names.{List, map_alike, None, not, on_its_own, Option, option_map, ordered_change, PagesValue, PagesView, refl, Row, row_at, same_page, same_page_sym, seen, settled}
-use Rattle.ksm_book.proofs.Names.{settled_calmer, shared_state, Some, sound_changed, state_of, sym, true, true≢false, ℕ, [], ◌++◌, ◌∙◌, ◌∷◌, ◌≡◌, ◌⊎◌}
+use Rattle.ksm_book.proofs.Names.{settled_calmer, shared_state, Some, sound_changed, state_of, sym, true, ℕ, [], ◌++◌, ◌∙◌, ◌∷◌, ◌≡◌, ◌⊎◌}
 use Rattle.ksm_book.specs.Due.{hidden_from}
 use Rattle.ksm_book.proofs.Along.{along_cut, along_end, FitsPage, IsAlong, IsCut}
 use Rattle.ksm_book.proofs.ByPage.{row_of_page}
