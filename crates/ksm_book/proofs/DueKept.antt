@@ -72,12 +72,9 @@ on_still b new dups next r joins_none is = grind (arith, none_is_best, none_to_j
 abbrev pub WaitsElse : BookState → List GuestPage → Row → Type 0
 WaitsElse b pages r = is_restless r ≡ true → has_item r.page pages ≡ false → waits_on b r ≡ true
 
--- the pages of one list are among those of another
-abbrev pub AreAmong : List GuestPage → List GuestPage → Type 0
-AreAmong some more = (p : GuestPage) → has_item p some ≡ true → has_item p more ≡ true
-
 -- where some pages are due, more may be
-pub more_due : (b : BookState) (some more : List GuestPage) → AreAmong some more → AreDue b some → AreDue b more
+pub more_due : (b : BookState) (some more : List GuestPage)
+    → ((p : GuestPage) → has_item p some ≡ true → has_item p more ≡ true) → AreDue b some → AreDue b more
 more_due b some more has due = grind arith
 
 -- a change that merges no other rows into a number leaves the count of those merged into it
@@ -110,8 +107,7 @@ module _ (b : BookState) (test : Row → Bool) (f : Row → Row)
 
   -- of the changed rows those are due that a visit may change, if they do not wait on
   pub single_due : (due more : List GuestPage)
-      → All (λ r. test r ≡ true → is_restless (f r) ≡ true → has_item (f r).page more ≡ false
-      → waits_on b (f r) ≡ true) b.rows
+      → All (λ r. test r ≡ true → WaitsElse b more (f r)) b.rows
       → All (λ r. test r ≡ false → has_item r.page due ≡ true → has_item r.page more ≡ true) b.rows
       → AreDue b due → AreDue after more
   single_due due more ours others was =
@@ -124,8 +120,7 @@ module _ (b : BookState) (test : Row → Bool) (f : Row → Row)
 module _ (b : BookState) (page : GuestPage) (f : Row → Row) (row : Row) (rise : InPageOrder b.rows)
     (found : row_at page b.rows ≡ Some row) (single : IsSingle f row) where
   -- the page is due then, if a visit may change its row and it does not wait on; the others are as they were
-  pub own_due : (due more : List GuestPage)
-      → (is_restless (f row) ≡ true → has_item (f row).page more ≡ false → waits_on b (f row) ≡ true)
+  pub own_due : (due more : List GuestPage) → WaitsElse b more (f row)
       → ((p : GuestPage) → same_page p page ≡ false → has_item p due ≡ true → has_item p more ≡ true)
       → AreDue b due → AreDue (record b { rows = change_row page f b.rows }) more
   own_due due more ours others was =
