@@ -266,8 +266,8 @@ IsAlike b deed page =
     ≡ (veiled (comes_before page) due.0, due.1))
 
 module _ (b : BookState) (s : IsSound b) (deed : Deed) where
-  -- that is so where the visit of the row by the definitions does in another book what ours does, and the rows that wait
-  -- for it come before it if it is to wait
+  -- that is so where the visit of the row by the definitions does in another book what ours does, and the rows that
+  -- wait for it come before it if it is to wait
   by_visit : (r : Row) → is_restless r ≡ true → (o : BookState) → IsSound o → row_at r.page o.rows ≡ Some r
       → Goes b.rows o.rows → covered b r ≡ covered o r
       → (best_dup o.knobs o.rows o.dups r ≡ None → r.unchanged ≡ true → is_for_zero o.knobs r ≡ false → NoneVeiled o r)
