@@ -1,66 +1,71 @@
 -- A pass over what is due comes to what the pass of the definitions comes to.
-use Rattle.ksm_book.proofs.Names.{[], after_cursor, All, All-filter, ap, append-nil, AreAscending, AreDue, arith, BookState, Bool, cases_Bool, comes_before, Deed, doing, due_visited, due_visits}
-use Rattle.ksm_book.proofs.Names.{false, filter, filter_all, filter_passes, filter-append, get_or, get_or_from_slice_get, GuestPage, has_item, hidden, hidden_from, inl, inr, IsSound, List}
-use Rattle.ksm_book.proofs.Names.{list_any_at, map_alike, mergeable_pages, nat_lt, None, not, not-true, Option, pages_ahead, pages_visited, part_before, part_visited, pass_begun, refl, restless_at}
-use Rattle.ksm_book.proofs.Names.{Row, same_page, same_Some, settled, slice_get, slice_get_within, Some, subst, suc, sym, take, true, zero, ℕ, ◌++◌, ◌*◌, ◌+◌, ◌-◌, ◌<◌, ◌^◌, ◌∙◌, ◌∷◌, ◌≡◌}
-use Rattle.ksm_book.proofs.Names.{if◌then◌else◌}
-use Rattle.ksm_book.specs.Scanned.{ahead_before}
+use Rattle.std.proofs.lemmas.List.Sums.{fold-append}
+use Rattle.ksm_book.proofs.Scanned.{begun_ahead, restless_mergeable}
+use Rattle.ksm_book.proofs.Names.{after_cursor, All, All-filter, AllPairs-filter, ap, AreAscending, AreDue, arith, before_irrefl, BookState, Bool, cases_Bool, comes_before, Deed, doing, due_visited}
+use Rattle.ksm_book.proofs.Names.{due_visits, false, filter, filter_all, filter_passes, get_or, GuestPage, has_item, hidden_from, if◌then◌else◌, inl, inr, is_none, IsSound, List, mergeable_pages}
+use Rattle.ksm_book.proofs.Names.{nat_lt, None, not, not-true, one_before, Option, pages_ahead, pages_visited, part_before, part_visited, pass_begun, refl, restless_at, same_page, same_page_eq, Some}
+use Rattle.ksm_book.proofs.Names.{sym, true, true≢false, with_none_waiting, ℕ, [], ◌&&◌, ◌*◌, ◌++◌, ◌+◌, ◌-◌, ◌<◌, ◌^◌, ◌∙◌, ◌∷◌, ◌≡◌}
+use Rattle.ksm_book.specs.Scanned.{ahead_before, ahead_up_to, up_to}
 use Rattle.ksm_book.proofs.Along.{FitsPage}
-use Rattle.ksm_book.proofs.DueAlike.{due_alike, due_goes, due_visits_sound, hidden_all, hidden_none, mergeable_has, stays_settled}
-use Rattle.ksm_book.proofs.DueKept.{calm_stays, undue_stay}
+use Rattle.ksm_book.proofs.DueAlike.{all_has, along, calm_stays, due_keeps, unveiled, veiled}
+use Rattle.ksm_book.proofs.DueKept.{undue_stay}
 use Rattle.ksm_book.proofs.Dues.{IsFirst}
 use Rattle.ksm_book.proofs.Folded.{ascending_ahead, every_page}
-use Rattle.ksm_book.proofs.PagesAhead.{GoesDown, before_down, filter_same, has_filter, parted, place_of, place_splits}
-use Rattle.ksm_book.proofs.Scanned.{begun_ahead}
+use Rattle.ksm_book.proofs.PagesAhead.{Before, before_down, GoesDown, has_filter, parted, same_pages}
 
--- ---------------------------------------------------------------- visits of some pages and of others
+-- where a page is not behind a cursor, no page before that page is
+cursor_down : (cursor : Option GuestPage) → GoesDown (λ p. not (after_cursor cursor p))
+cursor_down cursor p q before fails = grind (arith, not-true)
 
--- visits of some pages and then of others
-pub visits_on : (some more : List GuestPage) (s : BookState × Deed)
-    → due_visits doing s (some ++ more) ≡ due_visits doing (due_visits doing s some) more
-visits_on [] more s = refl
-visits_on (page ∷ some) more s = visits_on some more (due_visited doing s page)
+-- of those that pass a test those that pass a stronger one
+passing : (t u : GuestPage → Bool) (pages : List GuestPage) → ((q : GuestPage) → u q ≡ true → t q ≡ true)
+    → filter u (filter t pages) ≡ filter u pages
+passing t u [] stronger = refl
+passing t u (p ∷ pages) stronger = grind (arith, passing t u pages stronger, stronger p)
 
--- ---------------------------------------------------------------- a pass as it begins
+-- a book is sound, and a pass begins there
+pub record Starts (b : BookState) : Type 0 where
+  pub sound : IsSound b
+  pub cursor : b.cursor ≡ None
 
--- of the rows of pages that scans visit those from one on are hidden: no row from there on waits
-hidden_rest : (b : BookState) → IsSound b → (page : GuestPage) → (pages : List GuestPage) → mergeable_pages b.rows ≡ pages
-    → hidden (filter (λ p. not (comes_before p page)) pages) b ≡ hidden_from page b
-hidden_rest b sound page pages are = λ t. record b { rows = map_alike f g _ each t }
-  where
-    rest : List GuestPage
-    rest = filter (λ p. not (comes_before p page)) pages
-
-    f : Row → Row
-    f r = if has_item r.page rest then settled r else r
-
-    g : Row → Row
-    g r = if not (comes_before r.page page) then settled r else r
-
-    each : All (λ r. f r ≡ g r) b.rows
-    each k d lt = grind (arith, mergeable_has, has_filter, stays_settled)
-
--- a book as a pass begins, with what was done
-module _ (s : BookState × Deed) (sound : IsSound s.0) (start : s.0.cursor ≡ None) where
-  -- the pages that scans visit
+-- such a book, with what was done
+module _ (s : BookState × Deed) (start : Starts s.0) where
+  -- the pages ahead
   abbrev all : List GuestPage
-  all = mergeable_pages s.0.rows
+  all = pages_ahead s.0
 
-  -- all of them are ahead
-  pub ahead_all : pages_ahead s.0 ≡ all
-  ahead_all = rw start (every_page s.0.rows)
+  rises : AreAscending all
+  rises = ascending_ahead s.0 start.sound.rows_rise
 
-  begun_all : pages_ahead (pass_begun s.0) ≡ all
-  begun_all = begun_ahead s.0 ∙ ahead_all
+  -- they are those that scans visit
+  all_mergeable : all ≡ mergeable_pages s.0.rows
+  all_mergeable = rw start.cursor (every_page s.0.rows)
 
-  -- the visits of the first pages, where the others are hidden
-  alike : (done rest : List GuestPage) → all ≡ done ++ rest
-      → pages_visited doing (pass_begun s.0, s.1) done ≡ (hidden rest (due_visits doing s done).0, (due_visits doing s done).1)
-  alike done rest is = grind (arith, hidden_all s.0 sound, due_alike done rest s sound is)
+  -- a page that a visit may change after some visits is one of them
+  pub known : (pages : List GuestPage) (page : GuestPage) → restless_at page (due_visits doing s pages).0.rows ≡ true
+      → has_item page all ≡ true
+  known pages page restless =
+      rw (← ((due_keeps pages s start.sound).1.mergeable ∙ sym all_mergeable)) (restless_mergeable page _ restless)
+
+  -- ---------------------------------------------------------------- the visits of the definitions
+
+  -- the visits of the pages that fail a test which goes up, where the others are veiled
+  alike : (e : GuestPage → Bool) → ((p q : GuestPage) → e q ≡ true → e p ≡ false → comes_before p q ≡ true)
+      → (pages : List GuestPage) → AreAscending pages
+      → ((q : GuestPage) → has_item q pages ≡ (not (e q) && has_item q all))
+      → pages_visited doing (pass_begun s.0, s.1) pages
+      ≡ (veiled e (due_visits doing s pages).0, (due_visits doing s pages).1)
+  alike e up pages rise are =
+      ap (λ z. pages_visited doing (if is_none z then with_none_waiting s.0 else s.0, s.1) pages) start.cursor
+      ∙ along e up pages None s start.sound
+      (record { rise = rise; are = λ q. grind (arith, are q, all_mergeable); behind = λ q is. refl })
 
   -- the visits of all pages
-  pub whole_part : due_visits doing s (pages_ahead s.0) ≡ part_visited None s
-  whole_part = grind (arith, ahead_all, hidden_none (due_visits doing s all).0, alike all [] (sym (append-nil all)), begun_all)
+  pub whole_part : due_visits doing s all ≡ part_visited None s
+  whole_part =
+      let is : ahead_up_to None (pass_begun s.0) ≡ all = filter_all (up_to None) _ (λ k d lt. refl) ∙ begun_ahead s.0 in
+      grind (arith, is, unveiled (due_visits doing s all).0,
+      alike (λ _. false) (λ p q is _. absurd (true≢false (sym is))) all rises (λ q. refl))
 
   -- the visits of the pages before one, once no row from there on waits
   pub before_part : (page : GuestPage) → (
@@ -68,109 +73,85 @@ module _ (s : BookState × Deed) (sound : IsSound s.0) (start : s.0.cursor ≡ N
     (due_visits doing s (ahead_before page s.0)).1,
   ) ≡ part_before page s
   before_part page =
-      let t : GuestPage → Bool = λ p. comes_before p page in
-      let done = filter t all in
-      let ascends = subst AreAscending ahead_all (ascending_ahead s.0 sound.rows_rise) in
-      rw begun_all
-      ((λ i. (hidden_from page (due_visits doing s (filter t (ahead_all i))).0, (due_visits doing s (filter t (ahead_all i))).1))
-      ∙ (grind (arith, hidden_rest, due_visits_sound, due_goes))
-      ∙ sym (alike done (filter (λ p. not (t p)) all) (parted t (before_down _) all ascends)))
+      let low : GuestPage → Bool = λ p. comes_before p page in
+      rw (begun_ahead s.0)
+      (sym (alike (λ p. not (comes_before p page)) (λ p q is fails. grind arith) (filter low all)
+      (AllPairs-filter Before low all rises) (λ q. grind (arith, has_filter))))
 
--- ---------------------------------------------------------------- visits of what is due
+  -- ---------------------------------------------------------------- visits of what is due
 
--- where a page is not behind a cursor, no page before that page is
-cursor_down : (cursor : Option GuestPage) → GoesDown (λ p. not (after_cursor cursor p))
-cursor_down cursor p q before fails = grind (arith, not-true)
+  -- those not behind a cursor were visited, and some pages are due then
+  module _ (cursor : Option GuestPage) (due : List GuestPage) where
+    abbrev passed : GuestPage → Bool
+    passed p = not (after_cursor cursor p)
 
--- a page that does not come before one behind the cursor is behind the cursor
-no_earlier : (c : Option GuestPage) (p q : GuestPage) → after_cursor c p ≡ true → comes_before q p ≡ false → after_cursor c q ≡ true
-no_earlier c p q behind no_less = grind arith
+    -- the book after these visits
+    abbrev pub reached : BookState × Deed
+    reached = due_visits doing s (filter passed all)
 
--- of pages in order those not behind a cursor were visited, and some pages are due then
-module _ (s : BookState × Deed) (sound : IsSound s.0) (pages : List GuestPage) (rise : AreAscending pages)
-    (cursor : Option GuestPage) (due : List GuestPage) where
-  abbrev passed : GuestPage → Bool
-  passed p = not (after_cursor cursor p)
+    module _ (are : AreDue reached.0 due) where
+      -- visits of more pages change nothing more where none of those that come to them is due
+      more_visited : (t : GuestPage → Bool) → ((q : GuestPage) → passed q ≡ true → t q ≡ true)
+          → ((q : GuestPage) → t q ≡ true → passed q ≡ false → has_item q due ≡ false)
+          → due_visits doing s (filter t all) ≡ reached
+      more_visited t more none =
+          let rest = filter (λ p. not (passed p)) (filter t all) in
+          ap (due_visits doing s) (parted passed (cursor_down cursor) (filter t all)
+          (AllPairs-filter Before t all rises)
+          ∙ ap (λ l. l ++ rest) (passing t passed all more))
+          ∙ fold-append (due_visited doing) s (filter passed all) rest
+          ∙ undue_stay rest reached due (due_keeps (filter passed all) s start.sound).0 are (λ k d lt.
+          none (get_or rest k d) (All-filter (λ p. not (passed p)) (λ q. t q ≡ true) _ (filter_passes t all) k d lt)
+          (not-true _ (filter_passes (λ p. not (passed p)) (filter t all) k d lt)))
 
-  abbrev left : List GuestPage
-  left = filter (λ p. not (passed p)) pages
+      -- where no page behind the cursor is due, all pages were visited
+      pub all_visited : All (λ p. after_cursor cursor p ≡ false) due → due_visits doing s all ≡ reached
+      all_visited none =
+          ap (due_visits doing s) (sym (filter_all (λ _. true) all (λ k d lt. refl)))
+          ∙ more_visited (λ _. true) (λ q is. refl)
+          (λ q _ behind. grind (arith, all_has (λ p. after_cursor cursor p ≡ false) due none q))
 
-  -- the book after these visits
-  abbrev pub reached : BookState × Deed
-  reached = due_visits doing s (filter passed pages)
+      module _ (page : GuestPage) (first : IsFirst cursor due page) where
+        abbrev low : GuestPage → Bool
+        low p = comes_before p page
 
-  module _ (are : AreDue reached.0 due) where
-    -- visits of pages left change nothing where none of them is due
-    stay : (u : GuestPage → Bool) → ((q : GuestPage) → after_cursor cursor q ≡ true → u q ≡ true → has_item q due ≡ false)
-        → due_visits doing reached (filter u left) ≡ reached
-    stay u none =
-        undue_stay _ _ due (grind (arith, due_visits_sound)) are
-        (λ k d lt. none (get_or (filter u left) k d)
-        (not-false (All-filter u (λ q. not (passed q) ≡ true) _ (filter_passes (λ p. not (passed p)) pages) k d lt))
-        (filter_passes u _ k d lt))
-      where
-        not-false : {b : Bool} → not (not b) ≡ true → b ≡ true
-        not-false is = grind arith
+        -- the pages before it were visited
+        pub before_visited : due_visits doing s (ahead_before page s.0) ≡ reached
+        before_visited =
+            more_visited low (λ q is. grind arith) (λ q is behind.
+            grind (arith, all_has (λ p. after_cursor cursor p ≡ true → comes_before p page ≡ false) due first.2 q))
 
-    -- where no page behind the cursor is due, all pages were visited
-    pub all_visited : All (λ p. after_cursor cursor p ≡ false) due → due_visits doing s pages ≡ reached
-    all_visited none =
-        ap (due_visits doing s) (parted _ (cursor_down cursor) _ rise) ∙ visits_on (filter passed pages) left s
-        ∙ ap (due_visits doing reached) (sym (filter_all (λ _. true) left (λ k d lt. refl)))
-        ∙ stay (λ _. true) (λ q behind _. undue_by (after_cursor cursor) q behind none)
-      where
-        undue_by : (t : GuestPage → Bool) (q : GuestPage) → t q ≡ true → All (λ p. t p ≡ false) due → has_item q due ≡ false
-        undue_by t q is fails = grind (arith, place_of, get_or_from_slice_get, slice_get_within)
+        -- with its visit the pages up to it were visited
+        pub next_visited : due_visits doing s (filter (λ p. not (after_cursor (Some page) p)) all)
+            ≡ due_visited doing reached page
+        next_visited =
+            ap (due_visits doing s) (parted low (before_down page) (filter up all) (AllPairs-filter Before up all rises)
+            ∙ ap (λ l. l ++ rest) (passing up low all (λ q is. grind arith)))
+            ∙ fold-append (due_visited doing) s (filter low all) rest
+            ∙ ap (λ z. due_visits doing z rest) before_visited ∙ last
+          where
+            up : GuestPage → Bool
+            up p = not (comes_before page p)
 
-    module _ (page : GuestPage) (first : IsFirst cursor due page) where
-      abbrev low : GuestPage → Bool
-      low p = comes_before p page
+            -- of those up to it no other is left than it
+            rest : List GuestPage
+            rest = filter (λ p. not (low p)) (filter up all)
 
-      -- no page that is left and comes before it is due
-      not_due : (q : GuestPage) → after_cursor cursor q ≡ true → low q ≡ true → has_item q due ≡ false
-      not_due q behind before = grind (arith, place_of, get_or_from_slice_get, slice_get_within)
+            rest_is : (pages : List GuestPage) → AreAscending pages
+                → ((q : GuestPage) → (same_page page q && has_item page all) ≡ has_item q pages) → rest ≡ pages
+            rest_is pages rise has =
+                same_pages rest pages (AllPairs-filter Before _ _ (AllPairs-filter Before up all rises)) rise
+                (λ q. grind (arith, has_filter, same_page_eq page q, one_before, before_irrefl) ∙ has q)
 
-      -- what was passed comes before it
-      passed_low : (q : GuestPage) → passed q ≡ true → low q ≡ true
-      passed_low q is = grind arith
-
-      -- the pages before it were visited
-      pub before_visited : due_visits doing s (filter low pages) ≡ reached
-      before_visited =
-          ap (λ l. due_visits doing s (filter low l)) (parted _ (cursor_down cursor) _ rise)
-          ∙ ap (due_visits doing s) (filter-append low (filter passed pages) left
-          ∙ ap (λ l. l ++ filter low left) (filter_all low _
-          (λ k d lt. passed_low _ (filter_passes passed pages k d lt))))
-          ∙ visits_on (filter passed pages) (filter low left) s
-          ∙ stay low not_due
-
-      -- with its visit the pages up to it were visited
-      pub next_visited : (restless_at page reached.0.rows ≡ true → has_item page pages ≡ true)
-          → due_visits doing s (filter (λ p. not (after_cursor (Some page) p)) pages) ≡ due_visited doing reached page
-      next_visited known = elim (cases_Bool (has_item page pages)) [
-        | inl there ↦
-            let at = place_of _ _ there in
-            let splits = place_splits _ _ _ rise at.1 in
-            rw (← before_visited)
-            (grind (arith, take_one, splits.0, visits_on (filter low pages) (page ∷ []) s))
-        | inr out ↦
-            ap (due_visits doing s) (filter_same _ low _ (λ k d lt. others _ (absent _ _ out k d lt))) ∙ before_visited
-            ∙ sym (calm_stays _ _ (calm out))
-      ]
-        where
-          calm : has_item page pages ≡ false → restless_at page reached.0.rows ≡ false
-          calm out = grind arith
-
-          others : (q : GuestPage) → same_page q page ≡ false → not (comes_before page q) ≡ low q
-          others q differ = grind arith
-
-          absent : (x : GuestPage) (ps : List GuestPage) → has_item x ps ≡ false → All (λ q. same_page q x ≡ false) ps
-          absent x ps out k d lt = grind (arith, list_any_at)
-
-          take_one : (ps : List GuestPage) (n : ℕ) (p : GuestPage) → slice_get ps n ≡ Some p → take (suc n) ps ≡ take n ps ++ p ∷ []
-          take_one [] n p is = cc
-          take_one (q ∷ ps) zero p is = rw (same_Some q p is)
-          take_one (q ∷ ps) (suc n) p is = rw (take_one ps n p is)
+            last : due_visits doing reached rest ≡ due_visited doing reached page
+            last = elim (cases_Bool (has_item page all)) [
+              | inl there ↦
+                  ap (due_visits doing reached) (rest_is (page ∷ []) (λ i j d less lt. absurd (omega arith))
+                  (grind arith))
+              | inr out ↦
+                  ap (due_visits doing reached) (rest_is [] (λ i j d less lt. absurd (omega arith)) (grind arith))
+                  ∙ sym (calm_stays reached page (grind (arith, known (filter passed all) page)))
+            ]
 
 -- ---------------------------------------------------------------- how far a walk can go
 

@@ -1,16 +1,15 @@
 -- The steps of a pass over what is due, and what it comes to in the words of a part of a pass.
-use Rattle.ksm_book.proofs.Names.{[], after_cursor, All, ap, AreAscending, AreDue, Bool, BookState, BookValue, Comes, cond_both, Deed, doing, due_visited, due_visits, false, filter, filter_none}
-use Rattle.ksm_book.proofs.Names.{GuestPage, has_item, hidden_from, is_none, IsSound, IsStill, List, None, not, Option, pages_ahead, pages_visited, part_visited, pass_begun, Reached, ReachedBefore}
-use Rattle.ksm_book.proofs.Names.{refl, restless_at, Some, StaysBefore, StopsDue, StopsInPart, subst, sym, true, with_none_waiting, ◌∙◌, ◌≡◌}
-use Rattle.ksm_book.specs.Scanned.{HasVisited, StaysStill, StopsBefore, ahead_before, ahead_up_to}
-use Rattle.ksm_book.proofs.DueAlike.{due_goes}
+use Rattle.ksm_book.proofs.Names.{after_cursor, All, ap, AreDue, arith, BookState, BookValue, Bool, Comes, Deed, doing, due_visited, due_visits, false, filter, filter_none, GuestPage, hidden_from}
+use Rattle.ksm_book.proofs.Names.{IsSound, IsStill, List, None, not, Option, pages_ahead, pages_visited, part_visited, pass_begun, Reached, ReachedBefore, refl, restless_at, Some, StaysBefore}
+use Rattle.ksm_book.proofs.Names.{StopsDue, StopsInPart, subst, sym, true, [], ◌∙◌, ◌≡◌}
+use Rattle.ksm_book.proofs.DuePasses.{all_visited, before_part, before_visited, known, next_visited, Starts, whole_part}
+use Rattle.ksm_book.specs.Scanned.{ahead_before, ahead_up_to, HasVisited, StaysStill, StopsBefore}
 use Rattle.ksm_book.proofs.DueKept.{undue_stay}
-use Rattle.ksm_book.proofs.DuePasses.{ahead_all, all_visited, before_part, before_visited, next_visited, whole_part}
 use Rattle.ksm_book.proofs.Dues.{IsFirst}
-use Rattle.ksm_book.proofs.Folded.{ascending_ahead, still_on}
+use Rattle.ksm_book.proofs.Folded.{still_on}
 use Rattle.ksm_book.proofs.PartBegun.{begins_still}
-use Rattle.ksm_book.proofs.Reached.{begins, comes_to}
-use Rattle.ksm_book.proofs.Scanned.{begun_ahead, restless_mergeable}
+use Rattle.ksm_book.proofs.Reached.{begins, comes_to, first as at_first}
+use Rattle.ksm_book.proofs.Scanned.{begun_ahead}
 
 -- the pages ahead that are not behind a cursor were visited
 abbrev pub passed_to : Option GuestPage → BookState × Deed → BookState × Deed
@@ -21,80 +20,66 @@ pub none_passed : (v : BookValue) → Comes v v (passed_to None)
 none_passed v from s before =
     rw (filter_none (λ p. not (after_cursor None p)) (pages_ahead s.0) (λ k d lt. refl)) before
 
--- a pass begins at a book, and has come to another
-module _ (old mid : BookValue) (sound : IsSound old.state) (start : old.state.cursor ≡ None) (last : Option GuestPage) (due : List GuestPage)
-    (are : AreDue mid.state due) (comes : Comes old mid (passed_to last)) where
-  module _ (from : BookValue) (s : BookState × Deed) (before : Reached from old s) where
-    sound_now : IsSound s.0
-    sound_now = subst IsSound before.0 sound
-
-    rise : AreAscending (pages_ahead s.0)
-    rise = ascending_ahead s.0 sound_now.rows_rise
-
-    there : Reached from mid (passed_to last s)
-    there = comes from s before
-
-    are_now : AreDue (passed_to last s).0 due
-    are_now = rw (← there.0) are
-
-    -- a page that a visit may change is one of those ahead
-    known : (page : GuestPage) → restless_at page (passed_to last s).0.rows ≡ true → has_item page (pages_ahead s.0) ≡ true
-    known page restless =
-        let done = filter (λ p. not (after_cursor last p)) (pages_ahead s.0) in
-        let begins = subst (λ (b : BookState). b.cursor ≡ None) before.0 start in
-        rw (← ((due_goes done s sound_now).mergeable ∙ sym (ahead_all s sound_now begins)))
-        (restless_mergeable page (passed_to last s).0.rows restless)
-
-  -- where no page behind the last is due, all pages ahead were visited
-  pub all_come : All (λ p. after_cursor last p ≡ false) due → Comes old mid (λ s. due_visits doing s (pages_ahead s.0))
-  all_come none from s before =
-      subst (Reached from mid) (sym (all_visited s (sound_now from s before) _ (rise from s before) _ due (are_now from s before) none))
-      (there from s before)
-
-  module _ (new : BookValue) (page : GuestPage) (first : IsFirst last due page) where
-    -- with the visit of the first page behind the last that is due, the pages up to it were visited
-    pub next_comes : Comes mid new (λ s. due_visited doing s page) → Comes old new (passed_to (Some page))
-    next_comes visit from s before =
-        subst (Reached from new)
-        (sym (next_visited s (sound_now from s before) _ (rise from s before) _ due (are_now from s before) _ first
-        (known from s before _))) (visit from (passed_to last s) (there from s before))
-
-    -- where that page was not visited, those before it were
-    pub next_stops : StaysBefore page mid new → restless_at page mid.state.rows ≡ true → StopsDue old new page
-    next_stops stays restless = record {
-      ahead = known old _ (begins old) _ (rw (← (there old _ (begins old)).0) restless);
-      comes = λ from s before.
-          subst (ReachedBefore page from new)
-          (sym (before_visited s (sound_now from s before) _ (rise from s before) _ due (are_now from s before) _ first))
-          (stays from (passed_to last s) (there from s before));
-    }
-
--- ---------------------------------------------------------------- a part of a pass
-
+-- a pass begins at a book
 module _ (old : BookValue) (sound : IsSound old.state) (start : old.state.cursor ≡ None) where
-  module _ (from : BookValue) (s : BookState × Deed) (before : Reached from old s) where
-    abbrev is_sound : IsSound s.0
-    is_sound = subst IsSound before.0 sound
+  starts : {b : BookState} → old.state ≡ b → Starts b
+  starts same = subst Starts same (record { sound = sound; cursor = start })
 
-    abbrev begins_pass : s.0.cursor ≡ None
-    begins_pass = subst (λ (b : BookState). b.cursor ≡ None) before.0 start
+  -- what comes to the same where a pass starts is reached with it
+  comes_by : {f g : BookState × Deed → BookState × Deed} (new : BookValue)
+      → ((s : BookState × Deed) → Starts s.0 → new.state ≡ (f s).0 → f s ≡ g s) → Comes old new f → Comes old new g
+  comes_by new same comes from s before =
+      let there = comes from s before in subst (Reached from new) (same s (starts before.0) there.0) there
+
+  -- it has come to another
+  module _ (mid : BookValue) (last : Option GuestPage) (due : List GuestPage) (are : AreDue mid.state due)
+      (comes : Comes old mid (passed_to last)) where
+    are_now : (from : BookValue) (s : BookState × Deed) → Reached from old s → AreDue (passed_to last s).0 due
+    are_now from s before = rw (← (comes from s before).0) are
+
+    -- where no page behind the last is due, all pages ahead were visited
+    pub all_come : All (λ p. after_cursor last p ≡ false) due
+        → Comes old mid (λ s. due_visits doing s (pages_ahead s.0))
+    all_come none = comes_by mid (λ s start is. sym (all_visited s start last due (rw (← is) are) none)) comes
+
+    module _ (new : BookValue) (page : GuestPage) (first : IsFirst last due page) where
+      -- with the visit of the first page behind the last that is due, the pages up to it were visited
+      pub next_comes : Comes mid new (λ s. due_visited doing s page) → Comes old new (passed_to (Some page))
+      next_comes visit from s before =
+          subst (Reached from new)
+          (sym (next_visited s (starts before.0) last due
+          (are_now from s before) page first))
+          (visit from (passed_to last s) (comes from s before))
+
+      -- where that page was not visited, those before it were
+      pub next_stops : StaysBefore page mid new → restless_at page mid.state.rows ≡ true → StopsDue old new page
+      next_stops stays restless = record {
+        ahead = known (at_first old) (starts refl)
+            (filter (λ p. not (after_cursor last p)) (pages_ahead old.state)) page
+            (rw (← (comes old (at_first old) (begins old)).0) restless);
+        comes = λ from s before.
+            subst (ReachedBefore page from new)
+            (sym (before_visited s (starts before.0) last due
+            (are_now from s before) page first))
+            (stays from (passed_to last s) (comes from s before));
+      }
 
   -- where all that is due was visited, the whole pass was made
-  pub whole_comes : (new : BookValue) → Comes old new (λ s. due_visits doing s (pages_ahead s.0)) → Comes old new (part_visited None)
-  whole_comes new visits from s before =
-      subst (Reached from new) (whole_part s (is_sound from s before) (begins_pass from s before)) (visits from s before)
+  pub whole_comes : (new : BookValue) → Comes old new (λ s. due_visits doing s (pages_ahead s.0))
+      → Comes old new (part_visited None)
+  whole_comes new = comes_by new (λ s start is. whole_part s start)
 
   -- where nothing is due, the whole pass changes nothing but which rows wait
   pub whole_still : AreDue old.state [] → StaysStill old (part_visited None)
   whole_still are from s before =
       subst (IsStill s)
-      (sym (undue_stay (pages_ahead s.0) s [] (is_sound from s before) (rw (← before.0) are) (λ k d lt. refl))
-      ∙ whole_part s (is_sound from s before) (begins_pass from s before))
+      (sym (undue_stay (pages_ahead s.0) s [] (starts before.0).sound (rw (← before.0) are) (λ k d lt. refl))
+      ∙ whole_part s (starts before.0))
       (assumption)
 
   -- where the visits of what is due stopped before a page, and no row from there on waits any more, so did the pass
-  pub part_stops : (mid new : BookValue) (page : GuestPage) → StopsDue old mid page → Comes mid new (λ s. (hidden_from page s.0, s.1))
-      → StopsInPart old new None page
+  pub part_stops : (mid new : BookValue) (page : GuestPage) → StopsDue old mid page
+      → Comes mid new (λ s. (hidden_from page s.0, s.1)) → StopsInPart old new None page
   part_stops mid new page stops hides = record {
     within = refl;
     ahead = stops.ahead;
@@ -102,7 +87,7 @@ module _ (old : BookValue) (sound : IsSound old.state) (start : old.state.cursor
         let made = due_visits doing s (ahead_before page s.0) in
         let there = stops.comes from s before in
         subst (Reached from new)
-        ((λ t. (there.0 t, made.1)) ∙ before_part s (is_sound from s before) (begins_pass from s before) page)
+        ((λ t. (there.0 t, made.1)) ∙ before_part s (starts before.0) page)
         (hides from (mid.state, made.1) (refl, there.1));
   }
 
@@ -112,9 +97,7 @@ module _ (old mid : BookValue) (begins_so : Comes old mid (λ s. (pass_begun s.0
   begins_as = comes_to old mid (λ s. (pass_begun s.0, s.1)) begins_so
 
   pub begun_cursor : mid.state.cursor ≡ old.state.cursor
-  begun_cursor =
-      rw begins_as
-      (cond_both (is_none old.state.cursor) (with_none_waiting old.state) old.state (λ b. b.cursor ≡ old.state.cursor) (λ _. refl) (λ _. refl))
+  begun_cursor = grind (arith, begins_as)
 
   -- the visits behind that are those of the part
   pub part_visits : (new : BookValue) (last : Option GuestPage) (quiet : Bool)

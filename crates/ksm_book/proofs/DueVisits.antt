@@ -1,6 +1,6 @@
 -- What a visit leaves due, by what was found of the page; and what is due where all restless pages are listed.
-use Rattle.ksm_book.proofs.Names.{ap, AreAllListed, AreDue, BookState, BookView, false, FindsAt, GuestPage, InPageOrder, IsDueNoMore, KeeperView, List, MatchOption, None, Option, PagesView, refl}
-use Rattle.ksm_book.proofs.Names.{restless_row, Row, row_at, Some, state_of, subst, sym, true, true≢false, ℕ, ◌∙◌, ◌∷◌, ◌≡◌}
+use Rattle.ksm_book.proofs.Names.{AreAllListed, AreDue, arith, BookState, BookView, false, FindsAt, GuestPage, InPageOrder, IsDueNoMore, KeeperView, List, Option, PagesView, restless_at, state_of}
+use Rattle.ksm_book.proofs.Names.{subst, sym, true≢false, ℕ, ◌∙◌, ◌∷◌, ◌≡◌}
 use Rattle.ksm_pages.specs.declared.pages.Find.TheVariants as finds
 use Rattle.ksm_pages.specs.Paged.{Finds}
 use Rattle.ksm_book.proofs.DueKept.{calm_undue, waits_undue}
@@ -12,21 +12,16 @@ pub waits_due : {p q : PagesView} {k : KeeperView} {cursor : Option GuestPage} {
 waits_due {p} {cursor = cursor} {passes} {page = page} at pages was =
     let so = at.so in
     rw so.5
-    (waits_undue (state_of p cursor passes) _ (there_is at) so.0 so.1 so.2 so.3 at.sound.rows_rise pages
+    (waits_undue (state_of p cursor passes) _ (there_is at) at.sound.rows_rise (grind arith) pages
     (rw (page_is at) (subst (λ (x : BookView). AreDue x.state (page ∷ pages)) (sym at.is) was)))
 
 -- a page found gone is not due
 pub gone_due : (p q : PagesView) (cursor : Option GuestPage) (passes : ℕ) (page : GuestPage) → InPageOrder p.rows
     → Finds p q page finds.Gone → IsDueNoMore page (state_of p cursor passes) (state_of q cursor passes)
-gone_due p q cursor passes page rise is = by _ refl is
-  where
-    b : BookState
-    b = state_of p cursor passes
-
-    by : (o : Option Row) → row_at page p.rows ≡ o → MatchOption o ((finds.Gone ≡ finds.Gone) × (q ≡ p)) (λ r. FindsAt p q r finds.Gone)
-        → IsDueNoMore page b (state_of q cursor passes)
-    by None found told = rw told.1 (calm_undue b _ rise (ap restless_row found))
-    by (Some r) found told = rw told.1 (calm_undue b _ rise (ap restless_row found ∙ told.0))
+gone_due p q cursor passes page rise is =
+    let same : q ≡ p = grind arith in
+    let calm : restless_at page p.rows ≡ false = grind arith in
+    rw same (calm_undue (state_of p cursor passes) page rise calm)
 
 -- where all restless pages are listed, no other is due
 pub listed_due : (b : BookState) (pages : List GuestPage) → AreAllListed b.rows pages → AreDue b pages

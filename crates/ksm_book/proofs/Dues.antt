@@ -1,7 +1,7 @@
 -- The pages that are due, as they are kept: which there are once one came or went, and the first behind a cursor.
-use Rattle.ksm_book.proofs.Names.{[], after_cursor, All, All-cons, All-map, any-filter_same, append-nil, AreDue, arith, BookState, length, before_irrefl, Bool, cases_Bool, comes_before, Err, false}
-use Rattle.ksm_book.proofs.Names.{filter, find, get_or, GuestPage, has_item, inl, inr, is_some, List, list_any, map, MatchOption, None, not, not_both, Ok, Option, pages_ordered, pairs_head}
-use Rattle.ksm_book.proofs.Names.{pairs_tail, refl, Result, same_page, same_page_refl, Some, subst, sym, true, ◌&&◌, ◌++◌, ◌||◌, ◌==◌, ◌∙◌, ◌∷◌, ◌≡◌, if◌then◌else◌}
+use Rattle.ksm_book.proofs.Names.{after_cursor, All, All-cons, All-map, any-filter_same, any_found, append-nil, AreDue, arith, before_irrefl, BookState, Bool, cases_Bool, comes_before, Err, false}
+use Rattle.ksm_book.proofs.Names.{filter, find, get_or, GuestPage, has_item, inl, inr, is_some, length, List, list_any, map, MatchOption, None, not, not_both, Ok, Option, pages_ordered, pairs_head}
+use Rattle.ksm_book.proofs.Names.{pairs_tail, refl, Result, same_page, same_page_refl, Some, true, [], ◌&&◌, ◌++◌, ◌==◌, ◌||◌, ◌∙◌, ◌∷◌, ◌≡◌}
 use Rattle.std.proofs.lemmas.List.Folds.{list_any-append}
 use Rattle.std.specs.Prelude.{OnErr, OnOk}
 use Rattle.ksm_pages.specs.Held.{pages_of}
@@ -21,13 +21,7 @@ any_named x (m ∷ order) = rw (any_named x order)
 
 -- a page is there exactly where a search finds it
 pub has_found : (x : GuestPage) (order : List Named) → has_item x (pages_in order) ≡ is_some (find (is_of x) order)
-has_found x [] = refl
-has_found x (m ∷ order) = grind (arith, has_found x order)
-
-joined : (x : GuestPage) (some more : List Named)
-    → has_item x (pages_in (some ++ more)) ≡ (has_item x (pages_in some) || has_item x (pages_in more))
-joined x [] more = refl
-joined x (m ∷ some) more = grind (arith, joined x some more)
+has_found x order = any_named x order ∙ any_found (is_of x) order
 
 picked : (u : GuestPage → Bool) (x : GuestPage) (order : List Named)
     → has_item x (pages_in (filter (λ m. u m.page) order)) ≡ (u x && has_item x (pages_in order))
@@ -36,18 +30,16 @@ picked u x order = grind (arith, any_named, any-filter_same)
 -- a page that is put in is there, and the others as before
 pub has_put : (n : Named) (order : List Named) (x : GuestPage)
     → has_item x (pages_in (with_named n order)) ≡ (same_page n.page x || has_item x (pages_in order))
-has_put n order x = grind (arith, picked (λ p. comes_before p n.page) x order, picked (λ p. comes_before n.page p) x order, joined)
+has_put n order x =
+    grind (arith, picked (λ p. comes_before p n.page) x order, picked (λ p. comes_before n.page p) x order,
+    any_named x, list_any-append)
 
 -- a page that is taken out is there no more, and the others as before
 pub has_taken : (page : GuestPage) (order : List Named) (x : GuestPage)
     → has_item x (pages_in (without_named page order)) ≡ (has_item x (pages_in order) && not (same_page page x))
 has_taken page order x = picked (λ p. not (same_page p page)) x order ∙ (grind arith)
 
--- the pages stay in order with a page put in
-pub put_rises : (n : Named) (order : List Named) → AreAscending order → AreAscending (with_named n order)
-put_rises n order rise = with_rises pages_ordered (λ (m : Named). m.page) _ n _ refl rise
-
--- and with a page taken out
+-- the pages stay in order with a page taken out
 pub taken_rises : (page : GuestPage) (order : List Named) → AreAscending order
     → AreAscending (without_named page order)
 taken_rises page order rise = without_rises pages_ordered (λ (m : Named). m.page) page _ rise
@@ -57,11 +49,11 @@ pub has_already : (page : GuestPage) (pages : List GuestPage) → has_item page 
     → (x : GuestPage) → has_item x pages ≡ (same_page page x || has_item x pages)
 has_already page pages has x = grind arith
 
--- the pages stay in order where one is put in, or memory was refused
+-- and where one is put in, or memory was refused
 pub inserted_rises : {T E : Type 0} (r : Result T E) (n : Named) (old new : List Named) → AreAscending old
     → OnOk r (new ≡ with_named n old) → OnErr r (new ≡ old) → AreAscending new
-inserted_rises (Ok u) n old new rise added kept = subst AreAscending (sym added) (put_rises n old rise)
-inserted_rises (Err e) n old new rise added kept = subst AreAscending (sym kept) rise
+inserted_rises r n old new rise added kept =
+    grind (arith, with_rises pages_ordered (λ (m : Named). m.page) n.page n old refl rise)
 
 -- ---------------------------------------------------------------- pages that were added
 
@@ -107,9 +99,6 @@ module _ (cursor : Option GuestPage) where
   behind n = after_cursor cursor n.page
 
   module _ (m : Named) (order : List Named) (rise : AreAscending (m ∷ order)) where
-    there : has_item m.page (pages_in (m ∷ order)) ≡ true
-    there = rw (same_page_refl m.page)
-
     head : All (λ (n : Named). comes_before m.page n.page ≡ true) order
     head = pairs_head (λ (a b : Named). comes_before a.page b.page ≡ true) m _ rise
 
@@ -121,7 +110,7 @@ module _ (cursor : Option GuestPage) where
     -- a page behind the cursor that stands first is the first there
     here : after_cursor cursor m.page ≡ true → IsFirst cursor (pages_in (m ∷ order)) m.page
     here is = (
-      there,
+      rw (same_page_refl m.page),
       is,
       All-cons (λ p. after_cursor cursor p ≡ true → comes_before p m.page ≡ false) m.page (pages_in order)
           (λ _. before_irrefl m.page) later,
@@ -133,9 +122,6 @@ module _ (cursor : Option GuestPage) where
     over not_yet None none = grind arith
     over not_yet (Some n) (has, after, first) = grind arith
 
-    is_found : (b : Bool) → behind m ≡ b → find behind (m ∷ order) ≡ (if b then Some m else find behind order)
-    is_found b is = rw is
-
   -- a search in pages in order finds the first page behind the cursor, if there is one
   pub first_found : (order : List Named) → AreAscending order → TellsFirst cursor (pages_in order) (find behind order)
   first_found [] rise = λ k d lt. absurd (omega arith)
@@ -143,6 +129,6 @@ module _ (cursor : Option GuestPage) where
     | inl is ↦
         grind (arith, here)
     | inr not_yet ↦
-        subst (TellsFirst cursor (pages_in (m ∷ order))) (sym (is_found m _ rise false not_yet))
-        (over m _ rise not_yet _ (first_found order (pairs_tail (λ a b. comes_before a.page b.page ≡ true) m _ rise)))
+        rw not_yet (over m order rise not_yet _
+        (first_found order (pairs_tail (λ a b. comes_before a.page b.page ≡ true) m _ rise)))
   ]

@@ -1,7 +1,8 @@
 -- Rows that wait no more: that of a page with a frame of its own, and those from a page on, one after another.
-use Rattle.ksm_book.proofs.Names.{[], All, BookValue, change_row, Comes, comes_before, every_row, false, find, GuestPage, InPageOrder, IsAlone, is_next, IsLaid, IsSound, KeeperView, List, MatchOption}
-use Rattle.ksm_book.proofs.Names.{None, not, on_its_own, Option, option_map, ordered_change, PagesValue, PagesView, refl, Row, row_at, same_page, seen, settled, settled_calmer, shared_state, Some}
-use Rattle.ksm_book.proofs.Names.{sound_changed, state_of, sym, true, true≢false, ℕ, ◌∙◌, ◌∷◌, ◌++◌, ◌≡◌, ◌⊎◌, if◌then◌else◌, map_alike, arith}
+use Rattle.ksm_book.proofs.DueAlike.{at_own_page}
+use Rattle.ksm_book.proofs.Names.{All, arith, BookValue, change_row, Comes, comes_before, every_row, false, find, GuestPage, if◌then◌else◌, InPageOrder, is_next, IsAlone, IsLaid, IsSound, KeeperView}
+use Rattle.ksm_book.proofs.Names.{List, map_alike, None, not, on_its_own, Option, option_map, ordered_change, PagesValue, PagesView, refl, Row, row_at, same_page, same_page_sym, seen, settled}
+use Rattle.ksm_book.proofs.Names.{settled_calmer, shared_state, Some, sound_changed, state_of, sym, true, ℕ, [], ◌++◌, ◌∙◌, ◌∷◌, ◌≡◌, ◌⊎◌}
 use Rattle.ksm_book.specs.Due.{hidden_from}
 use Rattle.ksm_book.proofs.Along.{along_cut, along_end, FitsPage, IsAlong, IsCut}
 use Rattle.ksm_book.proofs.ByPage.{row_of_page}
@@ -19,13 +20,8 @@ alike_at page f g rows same = grind (arith, map_alike)
 -- it waits no more where it comes to be on its own
 pub alone_settled : (page : GuestPage) (rows : List Row) → InPageOrder rows → IsAlone page rows
     → change_row page on_its_own rows ≡ change_row page settled rows
-alone_settled page rows rise alone = by _ refl alone
-  where
-    by : (o : Option Row) → row_at page rows ≡ o → MatchOption o (true ≡ false) (λ r. shared_state r.state ≡ false)
-        → change_row page on_its_own rows ≡ change_row page settled rows
-    by None found none = absurd (true≢false none)
-    by (Some row) found own =
-        alike_at _ _ _ _ (grind (arith, row_of_page))
+alone_settled page rows rise alone =
+    alike_at _ _ _ rows (λ k d lt same. grind (arith, at_own_page page rows rise k d lt, same_page_sym))
 
 module _ {p q : PagesView} (page : GuestPage) (goes : q ≡ record p { rows = change_row page settled p.rows }) where
   -- the book stays sound where a page waits no more
@@ -85,10 +81,19 @@ module _ {page : GuestPage} {old now : BookValue} {last : Option GuestPage} (h :
     cut : IsCut every_row (hides page) old.state.rows now.state.rows h.done at
     cut = along_cut _ (hides_kept _) h.along rise at told
 
-    -- once the row of the page is changed, the cursor goes on to it
-    along_on : {rows : List Row} → rows ≡ change_row at (hides page) now.state.rows
-        → IsAlong every_row (hides page) old.state.rows rows (Some at) (cut.before ++ cut.row ∷ []) cut.rest
-    along_on same = rw same cut.next
+    -- once its row is changed, the cursor goes on to it
+    hiding_on : (next : BookValue) → next.state.rows ≡ change_row at (hides page) now.state.rows
+        → Comes old next (λ s. (record s.0 { rows = next.state.rows }, s.1))
+        → next.keeper.table ≡ now.keeper.table → next.restless ≡ now.restless → IsHiding page old next (Some at)
+    hiding_on next rows comes own restless = record {
+      done = cut.before ++ cut.row ∷ [];
+      left = cut.rest;
+      along = rw rows cut.next;
+      comes = comes;
+      own = own ∙ h.own;
+      restless = restless ∙ h.restless;
+      fits = fits;
+    }
 
     now_rise : InPageOrder now.state.rows
     now_rise = grind (arith, cut.stop, ordered_change)
@@ -96,36 +101,17 @@ module _ {page : GuestPage} {old now : BookValue} {last : Option GuestPage} (h :
     -- a shared page, or one that comes before, is left as it is
     pub hiding_over : (row : Row) → row_at at now.state.rows ≡ Some row
         → (shared_state row.state ≡ true) ⊎ (comes_before at page ≡ true) → IsHiding page old now (Some at)
-    hiding_over row found why = record {
-      done = cut.before ++ cut.row ∷ [];
-      left = cut.rest;
-      along = along_on (sym (change_still at _ _ (grind (arith, row_of_page, now_rise))));
-      comes = h.comes;
-      own = h.own;
-      restless = h.restless;
-      fits = fits;
-    }
-      where
-        stays : {r : Row} → r ≡ row → same_page r.page at ≡ true
-            → (shared_state row.state ≡ true) ⊎ (comes_before at page ≡ true) → hides page r ≡ r
-        stays is same h3 = grind arith
+    hiding_over row found why =
+        hiding_on now (sym (change_still at _ _ (grind (arith, row_of_page, now_rise)))) h.comes refl refl
 
     -- any other page waits no more
     pub hiding_more : (next : BookValue) → comes_before at page ≡ false
         → Comes now next (λ s. (record s.0 { rows = change_row at settled s.0.rows }, s.1))
         → next.keeper.table ≡ now.keeper.table → next.restless ≡ now.restless → IsHiding page old next (Some at)
-    hiding_more next behind stops own restless = record {
-      done = cut.before ++ cut.row ∷ [];
-      left = cut.rest;
-      along = along_on (rows ∙ alike_at at _ _ _
-          (grind arith));
-      comes = λ from s before.
-          let reached = stops from (record s.0 { rows = now.state.rows }, s.1) (h.comes from s before) in
-          (grind arith, reached.1);
-      own = own ∙ h.own;
-      restless = restless ∙ h.restless;
-      fits = fits;
-    }
+    hiding_more next behind stops own restless =
+        hiding_on next (rows ∙ alike_at at _ _ _ (grind arith)) (λ from s before.
+        let reached = stops from (record s.0 { rows = now.state.rows }, s.1) (h.comes from s before) in
+        (grind (arith, reached.0), reached.1)) own restless
       where
         rows : next.state.rows ≡ change_row at settled now.state.rows
         rows = rw (comes_to now next _ stops)

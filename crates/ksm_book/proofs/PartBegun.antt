@@ -1,6 +1,6 @@
 -- The beginning of a part of a pass: it changes only which rows wait, and what is due stays so where the cursor moves.
-use Rattle.ksm_book.proofs.Names.{AreDue, BookState, BookValue, Comes, cond_both, Deed, GuestPage, InPageOrder, IsStill, List, pages_ahead, pass_begun, pass_ended_at_last, Reached, visit_begun, ◌≡◌}
-use Rattle.ksm_book.proofs.Names.{arith}
+use Rattle.ksm_book.proofs.Names.{AreDue, arith, BookState, BookValue, Comes, cond_both, Deed, GuestPage, InPageOrder, IsStill, List, pages_ahead, pass_begun, pass_ended_at_last, Reached, visit_begun}
+use Rattle.ksm_book.proofs.Names.{◌≡◌}
 use Rattle.ksm_book.proofs.Folded.{settled_twice}
 use Rattle.ksm_book.proofs.Reached.{comes_to, first, in_order}
 use Rattle.ksm_book.proofs.Scanned.{begun_ahead}

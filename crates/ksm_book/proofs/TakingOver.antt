@@ -1,11 +1,11 @@
 -- A page waits in the stead of one further on: what becomes of the book, and which pages are due then.
-use Rattle.ksm_book.proofs.Names.{All, AreDue, arith, before_differs, BookState, BookValue, both_ways, cases_Bool, change_row, change_rows, Comes, comes_before, cond_both, Deed, doing, due_visited}
-use Rattle.ksm_book.proofs.Names.{each_at_page, false, find_all, find_passes, get_or, GuestPage, has_item, idle, inl, inr, is_restless, IsAlone, IsSound, List, map_alike, map_mapped, MatchOption, not}
-use Rattle.ksm_book.proofs.Names.{not_both, page_visited, PageState, partner, Reached, refl, Row, row_at, same_page, same_page_refl, same_page_sym, settled, shared_state, Some, StaysBefore, subst}
-use Rattle.ksm_book.proofs.Names.{sym, taken_over, takes_over, TakesOverFrom, true, view_of, waiting_state, waits_for, WaitsFor, waits_tells, ◌&&◌, ◌∙◌, ◌∷◌, ◌≡◌, ◌||◌, if◌then◌else◌}
+use Rattle.ksm_book.proofs.Names.{All, ap, AreDue, arith, before_differs, BookState, BookValue, Bool, change_row, change_rows, Comes, comes_before, Deed, doing, due_visited, each_at_page, false}
+use Rattle.ksm_book.proofs.Names.{find_all, find_passes, GuestPage, has_item, hidden_from, idle, is_restless, IsAlone, IsSound, List, map_alike, MatchOption, not, not_both, page_visited, partner}
+use Rattle.ksm_book.proofs.Names.{Reached, Row, row_at, same_page, same_page_eq, same_page_refl, same_page_sym, settled, Some, StaysBefore, subst, sym, taken_over, takes_over, TakesOverFrom, true}
+use Rattle.ksm_book.proofs.Names.{view_of, waits_for, waits_tells, WaitsFor, ◌&&◌, ◌||◌, ◌∙◌, ◌∷◌, ◌≡◌}
+use Rattle.ksm_book.proofs.DueAlike.{freed_found, one_waits, taken_is, veiled_over}
 use Rattle.ksm_book.proofs.ByPage.{found_page, row_of_page}
-use Rattle.ksm_book.proofs.DueAlike.{freed_found, one_waits, taken_is}
-use Rattle.ksm_book.proofs.DueKept.{more_due, taken_due, AreAmong}
+use Rattle.ksm_book.proofs.DueKept.{more_due, taken_due}
 use Rattle.ksm_book.proofs.Reached.{comes_to}
 
 -- in a sound book the row of a page is to wait in the stead of that of another page
@@ -26,9 +26,8 @@ pub takes_from : {b : BookState} {page other : GuestPage} → IsSound b
     → MatchOption (row_at page b.rows) (true ≡ false) (TakesOverFrom b other) → Takes b page other
 takes_from sound told = grind arith
 
--- a row that waits has a frame of its own
-waits_alone : (state : PageState) → waiting_state state ≡ true → shared_state state ≡ false
-waits_alone state is = grind arith
+same_tests : (p q : Bool) → (p ≡ true → q ≡ true) → (q ≡ true → p ≡ true) → p ≡ q
+same_tests p q to from = grind arith
 
 module _ {b : BookState} {page other : GuestPage} (at : Takes b page other) where
   page_is : at.row.page ≡ page
@@ -49,21 +48,16 @@ module _ {b : BookState} {page other : GuestPage} (at : Takes b page other) wher
 
   -- it has a frame of its own
   pub other_alone : IsAlone other b.rows
-  other_alone = rw waits_at (waits_alone _ tells.state)
+  other_alone = rw waits_at (grind (arith, tells))
 
   later : comes_before page other ≡ true
   later = grind (arith, page_is)
 
   -- the rows of the other page are those that wait for the row
   agree : All (λ r. same_page r.page other ≡ waits_for b.knobs at.row r) b.rows
-  agree k d lt = let r = get_or b.rows k d in elim (cases_Bool (same_page r.page other)) [
-    | inl same ↦ same ∙ sym (rw (row_of_page _ _ _ at.sound.rows_rise waits_at k d lt same) passes)
-    | inr apart ↦ elim (cases_Bool (waits_for b.knobs at.row r)) [
-      | inl waits ↦ absurd (both_ways (same_page r.page other) apart
-          (rw (one_waits b at.row _ at.sound at.waits k d lt waits ∙ sym at.is) (same_page_refl other)))
-      | inr none ↦ apart ∙ sym none
-    ]
-  ]
+  agree k d lt = same_tests _ _
+      (λ same. rw (row_of_page _ _ _ at.sound.rows_rise waits_at k d lt same) passes)
+      (λ waits. rw (one_waits b at.row _ at.sound at.waits k d lt waits ∙ sym at.is) (same_page_refl other))
 
   freed_rows : change_row other settled b.rows ≡ change_rows (waits_for b.knobs at.row) settled b.rows
   freed_rows = grind (arith, map_alike, agree)
@@ -92,41 +86,23 @@ module _ (v m w : BookValue) {page other : GuestPage} (at : Takes v.state page o
   pub taken_refused : Comes m w (λ s. s) → StaysBefore page v w
   taken_refused none = λ from s before.
       let reached = none from (once_freed other s) (first from s before) in
-      (grind (arith, still s.0.rows), reached.1)
-    where
-      hides : Row → Row
-      hides r = if not (comes_before r.page page) then settled r else r
-
-      behind : (r : Row) → same_page r.page other ≡ true → not (comes_before r.page page) ≡ true
-      behind r same = grind (arith, later at, not_both)
-
-      again : (r : Row) → same_page r.page other ≡ true → hides (settled r) ≡ hides r
-      again r same = grind (arith, behind r same)
-
-      still : (rows : List Row)
-          → change_rows (λ r. not (comes_before r.page page)) settled (change_row other settled rows)
-          ≡ change_rows (λ r. not (comes_before r.page page)) settled rows
-      still rows = map_mapped _ _ _ _
-          (λ k d lt. let r = get_or rows k d in
-          cond_both _ _ r (λ x. hides x ≡ hides r) (again r) (λ _. refl))
+      (
+        ap (hidden_from page) reached.0 ∙ veiled_over (λ q. not (comes_before q page)) s.0 (λ r. same_page r.page other)
+            (λ k d lt same. rw (same_page_eq _ other same) (ap not (not_both page other (later at)))),
+        reached.1,
+      )
 
   module _ (old more new : List GuestPage)
       (added : (p : GuestPage) → has_item p more ≡ (same_page other p || has_item p old))
       (gone : (p : GuestPage) → has_item p new ≡ (has_item p more && not (same_page page p))) where
-    kept : AreAmong old (page ∷ new)
-    kept p is = grind (arith, is, is)
-
     same_kept : (p : GuestPage) → same_page other p ≡ true → has_item p new ≡ true
     same_kept p same = grind (arith, same_page_sym page other, before_differs page other (later at))
-
-    other_kept : (p : GuestPage) → has_item p (at.waiter.page ∷ new) ≡ true → has_item p new ≡ true
-    other_kept p is = grind (arith, same_kept)
 
     -- the other page is due then, and the first one no longer
     pub taken_leaves : Comes m w (λ s. page_visited doing s page) → AreDue v.state old → AreDue w.state new
     taken_leaves visits due =
         let state = comes_to v w _ (taken_comes visits) ∙ (λ t. (due_is at (idle (view_of v).frame) t).0) in
         rw state
-        (more_due (taken_over v.state at.row) (at.waiter.page ∷ new) new other_kept
+        (more_due (taken_over v.state at.row) (at.waiter.page ∷ new) new (λ p is. grind (arith, same_kept p, at.is))
         (taken_due _ _ _ new at.sound (there at) at.restless at.takes at.waits
-        (rw (page_is at) (more_due v.state old (page ∷ new) kept due))))
+        (rw (page_is at) (more_due v.state old (page ∷ new) (λ p is. grind (arith, added p, gone p)) due))))

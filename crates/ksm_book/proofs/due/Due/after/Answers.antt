@@ -1,4 +1,4 @@
-use Rattle.ksm_book.proofs.Names.{ap, DueView, subst, sym, ◌∙◌, ◌≡◌, arith}
+use Rattle.ksm_book.proofs.Names.{ap, arith, DueView, subst, sym, ◌∙◌, ◌≡◌}
 use Rattle.ksm_book.proofs.Dues.{first_found, none_added, pages_in, TellsFirst}
 use Rattle.ksm_book.proofs.due.Due.after.Goals as goal
 use Rattle.ksm_book.proofs.due.Due.after.Goals.{After-after}

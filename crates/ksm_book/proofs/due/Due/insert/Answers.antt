@@ -1,4 +1,4 @@
-use Rattle.ksm_book.proofs.Names.{ap, is_some, sym, true, ◌∙◌, arith}
+use Rattle.ksm_book.proofs.Names.{ap, arith, is_some, sym, true, ◌∙◌}
 use Rattle.ksm_pages.specs.Held.{pages_of}
 use Rattle.ksm_pages.specs.declared.named.Named.{Named}
 use Rattle.ksm_book.proofs.Dues.{has_already, has_first, has_found, inserted_has, inserted_rises, pages_in}

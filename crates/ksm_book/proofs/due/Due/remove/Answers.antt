@@ -1,4 +1,4 @@
-use Rattle.ksm_book.proofs.Names.{ap, DueView, has_item, not, same_page, sym, ◌&&◌, ◌∙◌, arith}
+use Rattle.ksm_book.proofs.Names.{ap, arith, DueView, has_item, not, same_page, sym, ◌&&◌, ◌∙◌}
 use Rattle.ksm_book.proofs.Dues.{has_found, has_taken, none_added, pages_in, taken_rises}
 use Rattle.ksm_book.proofs.due.Due.remove.Goals as goal
 

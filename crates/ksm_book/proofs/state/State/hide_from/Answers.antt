@@ -1,8 +1,8 @@
-use Rattle.ksm_book.proofs.Names.{arith, BookValue, find, is_next, None, option_map, row_at, Row, rules, Some, subst, ◌≡◌}
+use Rattle.ksm_book.proofs.Names.{arith, BookValue, find, is_next, None, option_map, Row, row_at, rules, Some, subst, ◌≡◌}
 use Rattle.ksm_book.proofs.Along.{FitsPage, further, not_far}
 use Rattle.ksm_book.proofs.Hiding.{hiding_end, hiding_more, hiding_over}
 use Rattle.ksm_book.proofs.state.State.hide_from.Goals as goal
-use Rattle.ksm_book.proofs.state.State.hide_from.Goals.{then-not-held+then-not-comes_before, else-not-held}
+use Rattle.ksm_book.proofs.state.State.hide_from.Goals.{else-not-held, then-not-held+then-not-comes_before}
 
 pub pages-smaller : goal.pages-smaller
 pages-smaller c =
