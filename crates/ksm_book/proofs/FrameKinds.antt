@@ -28,36 +28,24 @@ other_after sh k _ n f on ne = absurd on
 -- a frame's new note is of a kind asked for exactly if the old one was: so is what is known of the frame then
 turned : (asked : Kind → Bool) (k : Ledger) (f : ℕ) (note : Note) → asked note.kind ≡ asked (frame_at k f).kind
     → asked (frame_at (with_frame k f note) f).kind ≡ asked (frame_at k f).kind
-turned asked k f note same = elim (cases_lt f _) [
-  | inl within ↦ rw (get_or-set_same k.frames f note blank within) same
-  | inr beyond ↦ ap (λ (n : Note). asked n.kind)
-      (get_or_past _ f _ (omega (arith, length-set k.frames f note)) ∙ sym (get_or_past _ f _ beyond))
-]
+turned asked k f note same = grind (arith, cases_lt, get_or-set_same, get_or_past, length-set)
 
 -- ---------------------------------------------------------------- a set after a step on a frame
 
 module _ {v w : KeeperView} (e : KeeperStep) (found frame : ℕ) (is : w ≡ did v e found) (on : TurnsOn e frame) (asked : Kind → Bool) {words : List ℕ} (are : IsSetOf asked v words) where
   of_set : {words' : List ℕ} → length words' ≡ length words → ((f : ℕ) → f < frames_of v.table.shape → has words' f ≡ asked (frame_at w.ledger f).kind) → IsSetOf asked w words'
-  of_set long marked =
-      let table = ap (λ (z : KeeperView). z.table) is in
-      record { room = rw table (rw long are.room); marked = λ f lt. marked f (rw (← table) lt) }
+  of_set long marked = grind arith
 
   others : (f : ℕ) → f ≢ frame → frame_at w.ledger f ≡ frame_at v.ledger f
-  others f ne = rw is (other_after v.table.shape v.ledger e found f on ne)
+  others f ne = grind (arith, other_after)
 
   -- the set is right again once the frame of the step is marked by its kind
   set_marked : {words' : List ℕ} → Marks words words' frame (asked (frame_at w.ledger frame).kind) → IsSetOf asked w words'
-  set_marked {words'} marks = of_set marks.room (λ f lt. elim (cases_eq f _) [
-    | inl same ↦ ap (has words') same ∙ marks.here ∙ ap (λ g. asked (frame_at w.ledger g).kind) (sym same)
-    | inr differs ↦ rw (others f differs) (marks.others f differs ∙ are.marked f lt)
-  ])
+  set_marked {words'} marks = grind (arith, of_set, others)
 
   -- the set is right still where the frame's kind is among those asked for exactly if it was
   set_stays : asked (frame_at w.ledger frame).kind ≡ asked (frame_at v.ledger frame).kind → IsSetOf asked w words
-  set_stays same = of_set refl (λ f lt. are.marked f lt ∙ elim (cases_eq f _) [
-    | inl here ↦ rw here (sym same)
-    | inr differs ↦ ap (λ (n : Note). asked n.kind) (sym (others f differs))
-  ])
+  set_stays same = grind (arith, of_set, others)
 
 -- ---------------------------------------------------------------- both sets after a step on a frame
 
@@ -93,7 +81,7 @@ module _ {v w : KeeperView} (found frame : ℕ) {free dying : List ℕ} (are : A
 
   module _ (is : w ≡ did v (Sub frame) found) where
     lowered_note : frame < length v.ledger.frames → frame_at w.ledger frame ≡ lowered (note v frame)
-    lowered_note within = rw is (get_or-set_same v.ledger.frames frame (lowered (note v frame)) blank within)
+    lowered_note within = grind (arith, get_or-set_same)
 
     -- a frame in use that has lost its last reference, and was put among the dying ones: both sets are right
     pub sets_taken : MayLeave v frame → (frame_at w.ledger frame).base ≡ 0 → {dying' : List ℕ} → Marks dying dying' frame true → AreSets w free dying'

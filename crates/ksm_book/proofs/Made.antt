@@ -10,7 +10,7 @@ replayed_append sh k (x ∷ xs) ys = replayed_append sh (ledger_after sh k x.0 x
 
 -- two parts, one after the other, are made as one
 pub stepped_then : (v : KeeperView) (xs ys : Log) → stepped (stepped v xs) ys ≡ stepped v (xs ++ ys)
-stepped_then v xs ys = grind (arith, replayed_append v.table.shape v.ledger xs ys, append_assoc v.log xs ys)
+stepped_then v xs ys = grind (arith, replayed_append, append_assoc)
 
 needed_more : (ms ns : List ℕ) (o : Option ℕ) (sh : Shape) (k : Ledger) → IsNeeded sh k ms o → IsNeeded sh k (ms ++ ns) o × (needed_after (ms ++ ns) o ≡ needed_after ms o ++ ns)
 needed_more ms ns o sh k h = grind arith
@@ -55,19 +55,15 @@ made_none {v} e = grind (arith, append-nil)
 
 -- a keeper that went on by one step has made that step and no other
 pub made_one : (v w : KeeperView) (e : KeeperStep) (found : ℕ) → w ≡ did v e found → MakesSteps v w (e ∷ [])
-made_one v w e found is = record { part = (e, found) ∷ []; after = is; are = refl }
+made_one v w e found is = grind arith
 
 -- a keeper that went on by a part of the log has made the steps of that part
 pub made_part : (v w : KeeperView) (part : Log) → w ≡ stepped v part → MakesSteps v w (steps_of part)
-made_part v w part is = record { part = part; after = is; are = refl }
+made_part v w part is = grind arith
 
 -- two pieces of work, one after the other, have made the steps of both
 pub made_then : {u v w : KeeperView} {xs ys : List KeeperStep} → MakesSteps u v xs → MakesSteps v w ys → MakesSteps u w (xs ++ ys)
-made_then {u} a b = record {
-  part = a.part ++ b.part;
-  after = grind (arith, b.after, a.after, stepped_then);
-  are = map-append (λ (e : KeeperStep × ℕ). e.0) a.part b.part ∙ (λ i. a.are i ++ b.are i);
-}
+made_then {u} a b = grind (arith, stepped_then, map-append)
 
 -- where no step was made, nothing changed
 pub none_made : {v w : KeeperView} → MakesSteps v w [] → w ≡ v

@@ -13,7 +13,6 @@ use Rattle.ksm_pages.proofs.Options.{mapped_some, none_mapped}
 pub stale_vacant : (rows : List Row) (dups : List DupRow) (d : DupRow) → InPlaceOrder dups → find (is_stale rows) dups ≡ Some d → IsVacant d.place rows dups
 stale_vacant rows dups d rise found k x lt same =
     let once = find_all (is_stale rows) (λ e. All (λ y. (y.place == e.place) ≡ true → y ≡ e) dups) dups d found (one_of_each_place dups rise) in
-    let is = once k x lt (grind (arith, eq-eqb)) in
     grind (arith, eqb-true, find_passes)
 
 -- where no stale dup is found, all dups have items
@@ -87,14 +86,14 @@ module _ {p q : PagesView} {k l : KeeperView} {count : ℕ} (h : Drops p q k l c
   rows_are = rw h.pages
 
   stale : (d : DupRow) × (find (is_stale q.rows) q.dups ≡ Some d) × (d.place ≡ place)
-  stale = mapped_some _ _ (sym told)
+  stale = grind arith
 
   found : find (is_stale p.rows) q.dups ≡ Some stale.0
-  found = grind (arith, rows_are)
+  found = grind arith
 
   -- no dup with items stands at the place of the first stale dup
   pub drop_vacant : IsVacant place q.rows q.dups
-  drop_vacant = rw (← stale.2) (stale_vacant q.rows _ _ h.rise stale.1)
+  drop_vacant = grind (arith, stale, stale_vacant)
 
   inside : place < frames_of q.shape
   inside = rw (← stale.2) (find_all _ (λ d. d.place < frames_of q.shape) _ _ stale.1 (λ n d lt. (h.laid.placed.each_dup n d lt).place))
@@ -139,7 +138,7 @@ module _ {p q : PagesView} {k l : KeeperView} {count : ℕ} (h : Drops p q k l c
         pages = grind (arith, goes, h.pages, dups);
         live = grind (arith, dups, live_elsewhere, h.live);
         gone = h.gone ++ stale.0 ∷ [];
-        all = rw dups (grind (arith, h.all, next, append_assoc));
+        all = grind (arith, next, append_assoc);
         many = omega (arith, length-append h.gone (stale.0 ∷ []));
         made = grind (arith, map-append (λ (d : DupRow). Withdraw d.place) h.gone (stale.0 ∷ []), made_then h.made one);
         first = h.first;
@@ -152,7 +151,7 @@ module _ {p q : PagesView} {k l : KeeperView} {count : ℕ} (h : Drops p q k l c
 module _ {p q : PagesView} {k l : KeeperView} {count : ℕ} (h : Drops p q k l count)
     (told : None ≡ option_map (λ d. d.place) (find (is_stale q.rows) q.dups)) where
   none : find (is_stale p.rows) q.dups ≡ None
-  none = grind (arith, none_mapped)
+  none = grind arith
 
   -- where no stale dup is left, the dups are those with items, as many went as were stale, and just the steps of a pruning were made
   pub dropped : (q ≡ record p { dups = filter (has_items p.rows) p.dups }) × (count ≡ count_by (is_stale p.rows) p.dups)

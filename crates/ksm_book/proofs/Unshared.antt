@@ -64,7 +64,7 @@ module _ {p q : PagesView} {k : KeeperView} (cursor : Option GuestPage) (passes 
 stopped_rows : (at : Option Row) (rows : List Row)
     → change_rows (λ r. of_guest None r && is_before at r) (left_by None) rows
     ≡ change_rows (λ r. shared_state r.state && is_before at r) unshared rows
-stopped_rows at rows = map_alike _ _ _ (λ i d lt. grind arith)
+stopped_rows at rows = grind arith
 
 -- a run of 2
 module _ {p m : PagesView} {k l : KeeperView} (cursor : Option GuestPage) (passes : ℕ) {count : ℕ} {stop : Option Fault}
@@ -78,23 +78,20 @@ module _ {p m : PagesView} {k l : KeeperView} (cursor : Option GuestPage) (passe
   -- whatever it does to the rows and knobs once the pages have left
   carried : (q : PagesView) (cursor' : Option GuestPage) → q.frame ≡ m.frame → state_of q cursor' passes ≡ unshare_stopped stop count b
       → IsCarried (book p k cursor passes) (book q l cursor' passes) (SetRun 2) (Ok (Unmerged count stop))
-  carried q cursor' frame state =
-      record {
+  carried q cursor' frame state = record {
         own = unshares_own u;
         answer = grind arith;
         state = state;
-        steps = rw frame u.unmerges;
+        steps = grind arith;
       }
 
   across : knobs.merge_across_nodes ≡ m.knobs.merge_across_nodes
-  across = rw same (sym (rw u.pages))
+  across = grind arith
 
   -- `SetRun` 2 is carried out, and all lies lawfully, where the unsharing of all rows stopped and run is 0 then
   pub unshare_stops : is_some stop ≡ true → {q : PagesView} → q ≡ record m { knobs = record knobs { run = 0 } }
       → IsCarried (book p k cursor passes) (book q l cursor passes) (SetRun 2) (Ok (Unmerged count stop)) × IsLaid q l
-  unshare_stops some {q} goes =
-      let rows = stopped_rows u.at p.rows
-      ∙ ap (λ o. change_rows (λ r. shared_state r.state && is_before o r) unshared p.rows) (sym (stop_is met _ _ u.stands)) in (
+  unshare_stops some {q} goes = (
         carried q _ (rw goes) (grind arith),
         rw goes (retuned (inl across) u.laid),
       )
