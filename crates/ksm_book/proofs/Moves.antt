@@ -1,13 +1,13 @@
 -- What each step of a command does to a placement.
-use Rattle.ksm_book.proofs.Names.{Agrees, All, All-filter, All-map, all_with_row, ap, arith, cases_lt, change_row, cond_both, DupFits, DupRow, false, filter, filter_passes, find_all, find_none}
-use Rattle.ksm_book.proofs.Names.{FitsBase, frame_at, Frames, frames_of, GenerationFits, get_or, get_or-set_other, get_or-set_same, GuestPage, if◌then◌else◌, in_hand, inl, InPageOrder, inr, is_frame}
-use Rattle.ksm_book.proofs.Names.{IsInLife, IsServed, item_count, kind_for, Ledger, length, length-set, lies_on, List, lt-ltb, map, Merged, merged_into, named_at, nat_lt, None, not, Note, Option}
-use Rattle.ksm_book.proofs.Names.{ordered_change, PAGE_WORDS, place_frame, Placed, Private, refl, Row, row_at, RowFits, same_page, same_page_refl, set, Shape, shared_state, Some, Stable, subst, sym}
-use Rattle.ksm_book.proofs.Names.{true, uses, with_dup, with_frame, with_row, without_page, Zero, zero_state, ℕ, ◌+◌, ◌/◌, ◌<◌, ◌∙◌, ◌∷◌, ◌≡◌, ◌≢◌, count_alike, Contains, Contains-append_left}
-use Rattle.ksm_book.proofs.Names.{Contains-append_right, suc, all_with_dup}
+use Rattle.ksm_book.proofs.Names.{Agrees, All, All-filter, All-map, all_with_dup, all_with_row, ap, arith, cases_lt, change_row, Contains, Contains-append_left, Contains-append_right, count_alike}
+use Rattle.ksm_book.proofs.Names.{DupFits, DupRow, false, filter, filter_passes, find_all, find_none, FitsBase, frame_at, Frames, frames_of, GenerationFits, get_or, get_or-set_other, get_or-set_same}
+use Rattle.ksm_book.proofs.Names.{GuestPage, in_hand, inl, InPageOrder, inr, is_frame, IsInLife, IsServed, item_count, kind_for, Ledger, length, length-set, lies_on, List, lt-ltb, map, Merged}
+use Rattle.ksm_book.proofs.Names.{merged_into, named_at, nat_lt, None, not, Note, Option, ordered_change, PAGE_WORDS, place_frame, Placed, Private, refl, Row, row_at, RowFits, same_page}
+use Rattle.ksm_book.proofs.Names.{same_page_refl, set, Shape, shared_state, Some, Stable, subst, suc, sym, true, uses, with_dup, with_frame, with_row, without_page, Zero, zero_state, ℕ, ◌+◌, ◌/◌, ◌<◌}
+use Rattle.ksm_book.proofs.Names.{◌∙◌, ◌∷◌, ◌≡◌, ◌≢◌}
 use Rattle.ksm_book.proofs.Noted.{at_it, at_other, noted}
-use Rattle.ksm_book.proofs.ByPage.{all_changed_row, at_changed, change_twice, lies_again, lies_still, one_same, row_of_page, uses_some, found_page, off_page, on_page, uses_changed, uses_come}
-use Rattle.ksm_book.proofs.ByPage.{uses_gone, uses_mapped}
+use Rattle.ksm_book.proofs.ByPage.{all_changed_row, at_changed, change_twice, found_page, lies_again, lies_still, on_page, one_same, row_of_page, uses_changed, uses_come, uses_gone, uses_mapped}
+use Rattle.ksm_book.proofs.ByPage.{uses_some}
 use Rattle.ksm_base.proofs.Changes.{contains_filter}
 use Rattle.std.proofs.lemmas.List.Elements.{Contains-get_or}
 

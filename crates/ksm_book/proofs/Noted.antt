@@ -1,7 +1,6 @@
 -- What becomes of rows and dups that lie lawfully, where the note of one frame changes.
-use Rattle.ksm_book.proofs.Names.{All-weaker, ap, arith, DupFits, DupRow, FitsBase, frame_at, Frames, frames_of, GenerationFits, get_or, get_or-set_other, get_or-set_same, in_hand, inl, inr, IsInLife}
-use Rattle.ksm_book.proofs.Names.{IsServed, Ledger, length, length-set, List, None, Note, Option, PAGE_WORDS, place_frame, place_life, Placed, Private, refl, Row, Shape, Some, uses, with_frame, ℕ}
-use Rattle.ksm_book.proofs.Names.{Agrees, RowFits, ◌+◌, ◌<◌, ◌∙◌, ◌≡◌, ◌≢◌, ◌≤◌, ◌⊎◌}
+use Rattle.ksm_book.proofs.Names.{All-weaker, ap, arith, DupFits, DupRow, FitsBase, frame_at, Frames, frames_of, GenerationFits, get_or-set_other, get_or-set_same, in_hand, IsServed, Ledger, length}
+use Rattle.ksm_book.proofs.Names.{length-set, List, None, Note, Option, PAGE_WORDS, Placed, Private, refl, Row, Shape, Some, uses, with_frame, ℕ, ◌+◌, ◌<◌, ◌≡◌, ◌≢◌, ◌≤◌, ◌⊎◌}
 use mathlib.Core.Logic.{dite}
 use native.Mathlib.Decide.{ℕ_discrete}
 use Rattle.ksm_book.proofs.ByPage.{uses_some}

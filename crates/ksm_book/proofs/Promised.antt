@@ -1,17 +1,14 @@
 -- A lawful placement says the sentences that are promised, and so a new dup finds a place.
-use Rattle.ksm_book.proofs.Names.{Agrees, RowFits, Merged, suc, eqb-true, find_passes, eq-eqb, [], All, All-filter, All-head, All-map, All-tail, AllPairs, AllPairs-cons, AllPairs-filter, ap, arith, BookState, Bool, cases_Bool}
-use Rattle.ksm_book.proofs.Names.{Contains, Contains-append_left, Contains-append_right, count_by, count_more, counts_one, dup_frames, DupRow, false, Filling, filter, filter_passes, FitsBase}
-use Rattle.ksm_book.proofs.Names.{frame_at, frame_number, Frames, get_or, GuestPage, has_items, HasItsOwn, home_of_item, inl, inr, is_frame, is_in_use, is_some, IsOutlived, IsServed, IsSound}
-use Rattle.ksm_book.proofs.Names.{item_count, Kind, kind_for, Ledger, length, LieOn, Life, life_or, List, lt-ltb, map, merged_into, named_at, None, none_counted, not, not-true, Option, own_frames}
-use Rattle.ksm_book.proofs.Names.{PageState, pairs_append, place_frame, Placed, Private, refl, Row, row_at, shared_state, Some, Stable, StandsOn, subst, sym, true, uses, zero_state, ℕ, ◌++◌, ◌+◌, ◌<◌}
-use Rattle.ksm_book.proofs.Names.{◌==◌, ◌∙◌, ◌∷◌, ◌≡◌, ◌≢◌, ◌≤◌, if◌then◌else◌, get_or-map, length-map, All-append, frames_of, FindsPlace, place_or, find, is_stale, cond_both, ltb-true, find_all}
-use Rattle.ksm_book.proofs.Names.{empty_from, length-le_from_distinct_below, IsDistinct-from_apart, Contains-from_any, eqb, length-append, All-contains_itself, pairs_mapped}
+use Rattle.ksm_book.proofs.Names.{Agrees, All, All-append, All-contains_itself, All-filter, All-map, AllPairs, AllPairs-cons, AllPairs-filter, ap, arith, BookState, Bool, cases_Bool, Contains}
+use Rattle.ksm_book.proofs.Names.{Contains-append_left, Contains-append_right, Contains-from_any, count_by, count_more, counts_one, dup_frames, DupRow, eq-eqb, eqb, eqb-true, false, filter}
+use Rattle.ksm_book.proofs.Names.{filter_passes, find, find_all, find_passes, FindsPlace, frame_at, frame_number, Frames, frames_of, get_or, get_or-map, GuestPage, has_items, HasItsOwn, home_of_item}
+use Rattle.ksm_book.proofs.Names.{inl, inr, is_frame, is_in_use, is_stale, IsDistinct-from_apart, IsOutlived, IsSound, item_count, Ledger, length-append, length-le_from_distinct_below, length-map}
+use Rattle.ksm_book.proofs.Names.{LieOn, List, lt-ltb, map, Merged, merged_into, None, none_counted, not, own_frames, pairs_append, pairs_mapped, place_frame, Placed, Private, Row, row_at, RowFits}
+use Rattle.ksm_book.proofs.Names.{shared_state, Some, Stable, StandsOn, subst, suc, true, uses, ℕ, [], ◌++◌, ◌<◌, ◌==◌, ◌∙◌, ◌∷◌, ◌≡◌, ◌≢◌, ◌≤◌}
 use Rattle.ksm_base.proofs.Changes.{contains_filter}
-use Rattle.ksm_book.proofs.Laying.{number_of_kind}
 use Rattle.ksm_book.proofs.Moves.{base_is_items, stale_is_loose}
-use Rattle.ksm_book.proofs.Standing.{Lives, frames_apart, lives, empty_from_most}
+use Rattle.ksm_book.proofs.Standing.{empty_from_most, frames_apart, Lives, lives}
 use Rattle.ksm_book.proofs.Sharing.{first_found}
-use Rattle.std.proofs.lemmas.List.Elements.{Contains-get_or}
 use Rattle.ksm_book.proofs.Pruning.{none_stale}
 
 -- what passes a test is among those that pass, and so is what is made of it

@@ -1,8 +1,7 @@
 -- A dup moves to another frame, with all of its items.
-use Rattle.ksm_book.proofs.Names.{Agrees, All, ap, arith, Bool, cond, count_none, DupFits, DupRow, Dying, eq-eqb, FitsBase, frame_at, Frames, frames_of, Free, GenerationFits, get_or, get_or-set_other}
-use Rattle.ksm_book.proofs.Names.{get_or-set_same, GuestPage, instead, is_frame, is_some, IsInLife, IsServed, kind_for, Ledger, length, length-set, Life, life_or, List, named_at, ne_eqb, node_of}
-use Rattle.ksm_book.proofs.Names.{None, none_counted, Note, Option, PAGE_WORDS, place_frame, place_life, Placed, Private, refl, Row, RowFits, same_Some, set, Shape, Some, Stable, subst, sym, uses, ℕ}
-use Rattle.ksm_book.proofs.Names.{◌+◌, ◌<◌, ◌∙◌, ◌≡◌, ◌≢◌, ◌≤◌, count_alike}
+use Rattle.ksm_book.proofs.Names.{Agrees, All, arith, cond, count_alike, count_none, DupFits, DupRow, Dying, eq-eqb, frame_at, Frames, frames_of, Free, get_or-set_other, get_or-set_same, GuestPage}
+use Rattle.ksm_book.proofs.Names.{instead, is_frame, IsInLife, IsServed, Ledger, length-set, Life, List, named_at, ne_eqb, node_of, None, none_counted, Note, place_frame, Placed, refl, Row, RowFits}
+use Rattle.ksm_book.proofs.Names.{same_Some, set, Shape, Some, Stable, uses, ℕ, ◌+◌, ◌<◌, ◌≡◌, ◌≢◌, ◌≤◌}
 use mathlib.Core.Logic.{dite}
 use native.Mathlib.Decide.{ℕ_discrete}
 use Rattle.ksm_book.proofs.ByPage.{frame_cases, not_on}

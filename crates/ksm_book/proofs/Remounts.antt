@@ -1,16 +1,13 @@
 -- A dup with items, and where its pages lie before and after it moves.
-use Rattle.ksm_book.proofs.Names.{any_found, find_none, list_any_at, [], All, ap, arith, Bool, count_in, did, dup_frame, dup_numbered, DupFits, DupRow, Dying, each_has_number, eq-eqb, find_all, find_passes, Err, Finds}
-use Rattle.ksm_book.proofs.Names.{FindsHeld, FindsNone, HasRemounted, InUse, MayMount, MayMove, NoFrame, Ok, frame_at, frames_of, Free, Freeze, get_or, get_or-set_other, GuestPage, has_items, instead}
-use Rattle.ksm_book.proofs.Names.{is_frame, is_item, IsInLife, IsLaid, IsLoose, IsLowestFree, item_count, items_on, KeeperView, Ledger, length, length-set, Life, life_or, List, list_any, lying}
-use Rattle.ksm_book.proofs.Names.{MakesSteps, merged_into, mounting, Moves, ne_eqb, None, Note, Option, PagesView, place_frame, Placed, Publish, refl, Row, row_at, same_Some, set, Shape, Some, spent}
-use Rattle.ksm_book.proofs.Names.{Stable, subst, sym, true, with_frame, ℕ, ◌&&◌, ◌+◌, ◌<◌, ◌==◌, ◌∙◌, ◌∷◌, ◌≡◌, ◌≢◌, ◌≤◌, if◌then◌else◌, once_mounted, All-contains_itself, Contains}
-use mathlib.Core.Logic.{dite}
-use native.Mathlib.Decide.{ℕ_discrete}
+use Rattle.ksm_book.proofs.Names.{All, All-contains_itself, ap, arith, Bool, Contains, count_in, did, dup_frame, dup_numbered, DupFits, DupRow, each_has_number, Err, find_all, find_passes, Finds}
+use Rattle.ksm_book.proofs.Names.{FindsHeld, FindsNone, frame_at, frames_of, Freeze, get_or-set_other, GuestPage, has_items, HasRemounted, instead, InUse, is_frame, IsInLife, IsLaid, IsLowestFree}
+use Rattle.ksm_book.proofs.Names.{item_count, items_on, KeeperView, length-set, List, list_any, list_any_at, lying, MakesSteps, MayMount, MayMove, merged_into, mounting, Moves, NoFrame, None, Note}
+use Rattle.ksm_book.proofs.Names.{Ok, once_mounted, PagesView, place_frame, Placed, Publish, refl, Row, row_at, Shape, Some, spent, Stable, subst, sym, true, with_frame, ℕ, ◌&&◌, ◌<◌, ◌==◌, ◌∙◌, ◌≡◌}
+use Rattle.ksm_book.proofs.Names.{◌≢◌, ◌≤◌}
 use Rattle.ksm_book.proofs.ByPage.{found_page, same_frames}
 use Rattle.ksm_book.proofs.Filling.{at_again}
 use Rattle.ksm_book.proofs.Keeping.{searched_placed, searched_spends, spent_kept}
-use Rattle.ksm_book.proofs.Laying.{kept, shape_same}
-use Rattle.ksm_book.proofs.Made.{made_one}
+use Rattle.ksm_book.proofs.Laying.{kept}
 use Rattle.ksm_book.proofs.Moves.{base_is_items, lies_as_item}
 use Rattle.ksm_book.proofs.Remounted.{dead, next, remounted}
 use Rattle.ksm_book.proofs.Resettled.{turned}

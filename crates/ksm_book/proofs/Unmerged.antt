@@ -1,16 +1,15 @@
 -- Pages that leave their dups, or the zero page, one after another.
-use Rattle.ksm_book.proofs.Names.{[], All, ap, append-nil, arith, Bool, change_row, change_rows, cond-false, cond-true, false, Fault, filter, filter-append, filter_none, find, GuestPage, HasLeft}
-use Rattle.ksm_book.proofs.Names.{Held, inl, InPageOrder, inr, is_next, is_of, is_shared_of, is_some, IsAlone, IsHeld, IsKnown, IsLaid, KeeperView, left_by, length, length-append, let_go, List, lying}
-use Rattle.ksm_book.proofs.Names.{Mapped, MayNotLeave, NoFrame, None, not, not-false, not-true, of_guest, on_its_own, Option, option_map, PagesView, refl, Resettled, ResettlesEach, Row, row_at}
-use Rattle.ksm_book.proofs.Names.{same_page, same_Some, shared_of, shared_state, slice_get, Some, subst, suc, sym, take, take-append_seam, true, Unshares, ℕ, ◌&&◌, ◌++◌, ◌+◌, ◌<◌, ◌∙◌, ◌∷◌, ◌≡◌, ◌≤◌}
-use Rattle.ksm_book.proofs.Names.{if◌then◌else◌, Contains-append_right}
+use Rattle.ksm_book.proofs.Names.{All, ap, append-nil, arith, Bool, change_row, change_rows, Contains-append_right, false, Fault, filter, filter-append, filter_none, find, GuestPage, HasLeft, Held}
+use Rattle.ksm_book.proofs.Names.{InPageOrder, is_next, is_of, is_shared_of, is_some, IsAlone, IsHeld, IsKnown, IsLaid, KeeperView, left_by, length, length-append, let_go, List, lying, Mapped}
+use Rattle.ksm_book.proofs.Names.{MayNotLeave, None, not, of_guest, on_its_own, Option, option_map, PagesView, refl, Resettled, ResettlesEach, Row, row_at, same_page, same_Some, shared_state}
+use Rattle.ksm_book.proofs.Names.{slice_get, Some, take-append_seam, true, Unshares, ℕ, [], ◌++◌, ◌+◌, ◌<◌, ◌∷◌, ◌≡◌, ◌≤◌}
 use Rattle.ksm_base.proofs.Edits.{count_more}
 use Rattle.ksm_base.specs.Counting.{mergeable_count}
 use Rattle.ksm_base.specs.declared.row.PageState.TheVariants.{Private}
 use Rattle.std.proofs.lemmas.List.Sums.{count_by-le-length}
-use Rattle.ksm_book.proofs.Along.{FitsPage, IsAlong, IsCut, along_cut, along_end, further, position}
+use Rattle.ksm_book.proofs.Along.{along_cut, along_end, FitsPage, further, IsAlong, IsCut, position}
 use Rattle.ksm_book.proofs.ByPage.{row_of_page}
-use Rattle.ksm_book.proofs.Laying.{LodgesAs, laid_changed}
+use Rattle.ksm_book.proofs.Laying.{laid_changed, LodgesAs}
 use Rattle.ksm_book.proofs.Shown.{each_does, unmerges_own}
 use Rattle.ksm_book.proofs.Singles.{alone_now, change_still, found_resettled, settled_then}
 
