@@ -1,6 +1,6 @@
 -- What is answered where a dup is to move.
-use Rattle.ksm_book.proofs.Names.{Answer, arith, BookState, IsCarried, crosses, Done, DupRow, Err, false, Fault, find, find_passes, GuestPage, has_items, HasRemounted, InUse, KeeperView, live_dup_at}
-use Rattle.ksm_book.proofs.Names.{MayMove, MoveDup, NoFrame, Ok, Option, PagesView, Some, state_of, ℕ, ◌&&◌, ◌==◌, ◌≡◌}
+use Rattle.ksm_book.proofs.Names.{Answer, arith, BookState, crosses, Done, DupRow, Err, false, Fault, find, find_passes, GuestPage, has_items, HasRemounted, IsCarried, KeeperView, live_dup_at}
+use Rattle.ksm_book.proofs.Names.{MayMove, MoveDup, Ok, Option, PagesView, Some, state_of, ℕ, ◌&&◌, ◌==◌, ◌≡◌}
 use Rattle.ksm_book.proofs.Singles.{book}
 
 module _ (b : BookState) (place node : ℕ) (dup : DupRow) (found : Some dup ≡ live_dup_at b place) where
@@ -32,6 +32,4 @@ module _ (p q : PagesView) (k l : KeeperView) (cursor : Option GuestPage) (passe
 
   -- it answers the fault for which the dup stayed
   pub fault_carried : {X : Type 0} (fault : Fault) → HasRemounted {X = X} p q k l dup node (Err fault) → Carries (Err fault)
-  fault_carried (NoFrame n) h = grind arith
-  fault_carried InUse h = grind arith
-  fault_carried _ h = absurd h.moves
+  fault_carried fault h = grind arith

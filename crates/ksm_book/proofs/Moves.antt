@@ -3,11 +3,10 @@ use Rattle.ksm_book.proofs.Names.{Agrees, All, All-filter, All-map, all_with_dup
 use Rattle.ksm_book.proofs.Names.{DupFits, DupRow, false, filter, filter_passes, find_all, find_none, FitsBase, frame_at, Frames, frames_of, GenerationFits, get_or, get_or-set_other, get_or-set_same}
 use Rattle.ksm_book.proofs.Names.{GuestPage, in_hand, inl, InPageOrder, inr, is_frame, IsInLife, IsServed, item_count, kind_for, Ledger, length, length-set, lies_on, List, lt-ltb, map, Merged}
 use Rattle.ksm_book.proofs.Names.{merged_into, named_at, nat_lt, None, not, Note, Option, ordered_change, PAGE_WORDS, place_frame, Placed, Private, refl, Row, row_at, RowFits, same_page}
-use Rattle.ksm_book.proofs.Names.{same_page_refl, set, Shape, shared_state, Some, Stable, subst, suc, sym, true, uses, with_dup, with_frame, with_row, without_page, Zero, zero_state, ℕ, ◌+◌, ◌/◌, ◌<◌}
-use Rattle.ksm_book.proofs.Names.{◌∙◌, ◌∷◌, ◌≡◌, ◌≢◌}
+use Rattle.ksm_book.proofs.Names.{same_page_refl, set, Shape, shared_state, Some, Stable, suc, sym, true, uses, with_dup, with_frame, with_row, without_page, Zero, zero_state, ℕ, ◌+◌, ◌/◌, ◌<◌, ◌∙◌}
+use Rattle.ksm_book.proofs.Names.{◌∷◌, ◌≡◌, ◌≢◌}
 use Rattle.ksm_book.proofs.Noted.{at_it, at_other, noted}
-use Rattle.ksm_book.proofs.ByPage.{all_changed_row, at_changed, change_twice, found_page, lies_again, lies_still, on_page, one_same, row_of_page, uses_changed, uses_come, uses_gone, uses_mapped}
-use Rattle.ksm_book.proofs.ByPage.{uses_some}
+use Rattle.ksm_book.proofs.ByPage.{all_changed_row, at_changed, change_twice, found_page, lies_again, lies_still, on_page, row_of_page, uses_changed, uses_come, uses_gone, uses_mapped, uses_some}
 use Rattle.ksm_base.proofs.Changes.{contains_filter}
 use Rattle.std.proofs.lemmas.List.Elements.{Contains-get_or}
 
@@ -128,7 +127,7 @@ module _ {sh : Shape} {across : ℕ} {k : Ledger} {rows : List Row} {frame : Fra
       (g : ℕ) (lies : frame page ≡ Some g) (own : (frame_at k g).kind ≡ Private) where
     -- the row is served by its frame
     fits : Serves sh k dups row g
-    fits = subst (IsServed sh k dups row) (ap frame (found_page _ _ row found) ∙ lies) (find_all _ (λ r. IsServed sh k dups r (frame r.page)) _ row found p.each_row)
+    fits = grind (arith, found_page, find_all _ (λ r. IsServed sh k dups r (frame r.page)) _ row found p.each_row)
 
     abbrev bared : Row → Row
     bared r = record r { state = Zero }
@@ -141,13 +140,13 @@ module _ {sh : Shape} {across : ℕ} {k : Ledger} {rows : List Row} {frame : Fra
 
     -- without the page its frame is in the hand
     lifted : Placed sh across k bare off dups (Some g)
-    lifted = subst (Placed sh across k bare off dups) lies (swapped None _ row rise found (λ r. refl) p refl)
+    lifted = rw (← lies) (swapped None _ row rise found (λ r. refl) p refl)
 
     one : (frame_at k g).base ≡ 1
     one = grind arith
 
     unused : uses g off bare ≡ 0
-    unused = omega (arith, one, lifted.bases g, one_same g refl)
+    unused = grind (arith, one, lifted.bases g)
 
     -- meanwhile its note changes
     module _ (fr : Note) (life : fr.generation ≡ (frame_at k g).generation) where
@@ -166,13 +165,11 @@ module _ {sh : Shape} {across : ℕ} {k : Ledger} {rows : List Row} {frame : Fra
         → IsServed sh k' dups' (c row) (Some g) → Placed sh across k' (change_row page c rows) frame dups' None
     back {k'} {dups'} c keeps q served =
         let d : Row → Row = λ r. record (c row) { page = r.page } in
-        let same : d row ≡ c row = grind arith in
-        let again = change_twice _ _ d c _ (λ r. refl) (grind (arith, row_of_page)) in
-        let there = lies_again page None (Some g) frame ∙ lies_still _ _ _ lies in
-        subst (λ (z : List Row × Frames × Option ℕ). Placed sh across k' z.0 z.1 dups' z.2)
-        (λ t. (again t, there t, on_page page None frame page (same_page_refl page) t))
-        (swapped _ d _ (ordered_change _ _ _ (λ r. refl) rise)
-        (at_changed page bared rows row (λ r. refl) found) (λ r. refl) q (rw same served))
+        let again : change_row page d bare ≡ change_row page c rows = change_twice _ _ d c _ (λ r. refl) (grind (arith, row_of_page)) in
+        let there : lies_on page (Some g) off ≡ frame = lies_again page None (Some g) frame ∙ lies_still _ _ _ lies in
+        let here : off page ≡ None = on_page page None frame page (same_page_refl page) in
+        let s = swapped (Some g) {page = page} d _ (ordered_change _ _ _ (λ r. refl) rise) (at_changed page bared rows row (λ r. refl) found) (λ r. refl) q (grind arith) in
+        grind arith
 
     -- rows and dups lie lawfully where a row that is not shared gets new bytes, and its frame holds them
     pub written_in : (c : Row → Row) → ((r : Row) → (c r).page ≡ r.page) → (fr : Note) → fr.kind ≡ Private → fr.base ≡ (frame_at k g).base → fr.generation ≡ (frame_at k g).generation → length fr.content ≡ PAGE_WORDS
@@ -180,20 +177,8 @@ module _ {sh : Shape} {across : ℕ} {k : Ledger} {rows : List Row} {frame : Fra
         → Placed sh across (with_frame k g fr) (change_row page c rows) frame dups None
     written_in c keeps fr kind base life wide mapped is alone home bytes was =
         let here = turned_note fr life in
-        let q = turned fr life wide (base ∙ one)
-        (grind arith)
-        (grind arith) in
-        back c keeps q (
-          record {
-            mapped = mapped;
-            frame = fits.0.frame;
-            kind = rw here (kind ∙ sym is);
-            content = rw here (sym bytes);
-            given = grind arith;
-            node = λ _. fits.0.node was ∙ sym home;
-          },
-          own_agrees q _ g alone (rw here kind),
-        )
+        let q = turned fr life wide (grind (arith, one)) (grind arith) (grind arith) in
+        back c keeps q (grind (arith, fits), own_agrees q _ g alone (rw here kind))
 
     -- the note of the row's frame once it is Stable
     abbrev stable : Note

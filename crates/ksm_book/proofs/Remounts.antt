@@ -2,8 +2,7 @@
 use Rattle.ksm_book.proofs.Names.{All, All-contains_itself, ap, arith, Bool, Contains, count_in, did, dup_frame, dup_numbered, DupFits, DupRow, each_has_number, Err, find_all, find_passes, Finds}
 use Rattle.ksm_book.proofs.Names.{FindsHeld, FindsNone, frame_at, frames_of, Freeze, get_or-set_other, GuestPage, has_items, HasRemounted, instead, InUse, is_frame, IsInLife, IsLaid, IsLowestFree}
 use Rattle.ksm_book.proofs.Names.{item_count, items_on, KeeperView, length-set, List, list_any, list_any_at, lying, MakesSteps, MayMount, MayMove, merged_into, mounting, Moves, NoFrame, None, Note}
-use Rattle.ksm_book.proofs.Names.{Ok, once_mounted, PagesView, place_frame, Placed, Publish, refl, Row, row_at, Shape, Some, spent, Stable, subst, sym, true, with_frame, ℕ, ◌&&◌, ◌<◌, ◌==◌, ◌∙◌, ◌≡◌}
-use Rattle.ksm_book.proofs.Names.{◌≢◌, ◌≤◌}
+use Rattle.ksm_book.proofs.Names.{Ok, once_mounted, PagesView, place_frame, Placed, Publish, refl, Row, row_at, Shape, Some, spent, Stable, true, with_frame, ℕ, ◌&&◌, ◌<◌, ◌==◌, ◌∙◌, ◌≡◌, ◌≢◌, ◌≤◌}
 use Rattle.ksm_book.proofs.ByPage.{found_page, same_frames}
 use Rattle.ksm_book.proofs.Filling.{at_again}
 use Rattle.ksm_book.proofs.Keeping.{searched_placed, searched_spends, spent_kept}
@@ -55,7 +54,7 @@ module _ {v : PagesView} {k : KeeperView} {dup : DupRow} {node g : ℕ} (may : M
   module _ {w : KeeperView} {f : ℕ} (to : Finds k w node f) where
     abbrev p : Placed sh across w.ledger v.rows v.frame dups None
     p = kept k may.laid.same w None
-        (λ a rows frame ds. searched_placed node (subst (λ (x : Shape). node < x.nodes) (sym may.laid.same) may.exists) to.reaped a
+        (λ a rows frame ds. searched_placed node (rw may.laid.same may.exists) to.reaped a
         rows frame ds None) may.laid.placed
 
     more_spent : spent k.ledger ≤ spent w.ledger
@@ -71,9 +70,8 @@ module _ {v : PagesView} {k : KeeperView} {dup : DupRow} {node g : ℕ} (may : M
     live = among (λ d. (item_count v.rows d ≡ 0 → ⊥) → Lives w.ledger dups sh v.rows v.frame d) (lives p) (λ none. omega (arith, item_some))
 
     item_lies : v.frame live.item.page ≡ Some g
-    item_lies = find_all by_item (λ r. by_item r ≡ true → v.frame r.page ≡ Some g) v.rows live.item live.first
-        (among (λ d. d.place ≡ dup.place → All (λ r. merged_into d.number r.state ≡ true → v.frame r.page ≡ Some g) v.rows) lie refl)
-        live.merged
+    item_lies = grind (arith, live, find_all by_item (λ r. by_item r ≡ true → v.frame r.page ≡ Some g) v.rows live.item live.first
+        (among (λ d. d.place ≡ dup.place → All (λ r. merged_into d.number r.state ≡ true → v.frame r.page ≡ Some g) v.rows) lie refl))
 
     -- the frame of the dup is its first item's
     dup_frame_is : dup_frame v.frame v.rows dup.number ≡ g
@@ -125,12 +123,7 @@ module _ {v : PagesView} {k : KeeperView} {dup : DupRow} {node g : ℕ} (may : M
         found_held = grind (arith, dup_frame_is, still, known)
 
         laid_lost : IsLaid v u
-        laid_lost = record {
-          small = may.laid.small;
-          same = grind arith;
-          placed = rw still p;
-          spent = grind (arith, more_spent, still);
-        }
+        laid_lost = grind (arith, more_spent, still, p)
 
         -- where the exchange found another count than the keeper's references, the dup stays
         pub stays : {X : Type 0} → HasRemounted {X = X} v v k u dup node (Err InUse)

@@ -1,5 +1,5 @@
 -- Pages that leave their dups, or the zero page, one after another.
-use Rattle.ksm_book.proofs.Names.{All, ap, append-nil, arith, Bool, change_row, change_rows, Contains-append_right, false, Fault, filter, filter-append, filter_none, find, GuestPage, HasLeft, Held}
+use Rattle.ksm_book.proofs.Names.{All, append-nil, arith, Bool, change_row, change_rows, Contains-append_right, false, Fault, filter, filter-append, filter_none, find, GuestPage, HasLeft, Held}
 use Rattle.ksm_book.proofs.Names.{InPageOrder, is_next, is_of, is_shared_of, is_some, IsAlone, IsHeld, IsKnown, IsLaid, KeeperView, left_by, length, length-append, let_go, List, lying, Mapped}
 use Rattle.ksm_book.proofs.Names.{MayNotLeave, None, not, of_guest, on_its_own, Option, option_map, PagesView, refl, Resettled, ResettlesEach, Row, row_at, same_page, same_Some, shared_state}
 use Rattle.ksm_book.proofs.Names.{slice_get, Some, take-append_seam, true, Unshares, ℕ, [], ◌++◌, ◌+◌, ◌<◌, ◌∷◌, ◌≡◌, ◌≤◌}
@@ -11,7 +11,7 @@ use Rattle.ksm_book.proofs.Along.{along_cut, along_end, FitsPage, further, IsAlo
 use Rattle.ksm_book.proofs.ByPage.{row_of_page}
 use Rattle.ksm_book.proofs.Laying.{laid_changed, LodgesAs}
 use Rattle.ksm_book.proofs.Shown.{each_does, unmerges_own}
-use Rattle.ksm_book.proofs.Singles.{alone_now, change_still, found_resettled, settled_then}
+use Rattle.ksm_book.proofs.Singles.{change_still, found_resettled, settled_then}
 
 -- where all rows are mergeable, none changes by becoming so
 pub stay_in_scan : (test : Row → Bool) (rows : List Row) → mergeable_count rows ≡ length rows
@@ -70,11 +70,11 @@ module _ {p : PagesView} {k : KeeperView} (guest : Option ℕ) {page : GuestPage
 
     -- a shared page that was resettled has a row
     pub left_known : IsKnown page m.rows
-    left_known = ap is_some now
+    left_known = grind (arith, now)
 
     -- a shared page that was resettled has a frame of its own
     pub left_lone : IsAlone page m.rows
-    left_lone = alone_now m.rows page _ now refl
+    left_lone = grind (arith, now)
 
     left_shared : (q : PagesView) (d : Row → Row) → q ≡ record m { rows = change_row page d m.rows; restless = q.restless }
         → ((x : Row) → shared_state x.state ≡ true → d (on_its_own x) ≡ left_by guest x) → (d (on_its_own row)).state ≡ Private
@@ -172,7 +172,7 @@ module _ {p q : PagesView} {k l : KeeperView} {guest : Option ℕ} {count : ℕ}
     unsharing_stop {v} {w} {fault} h = record {
       at = Some r;
       fault = grind (arith, cut.there);
-      stands = rw all_met (grind (arith, seam, cut.there));
+      stands = grind (arith, all_met, seam, cut.there);
       pages = grind (arith, cut.stop);
       unmerges = grind (arith, all_met, cut.there, take-append_seam);
       laid = h.turned.laid;

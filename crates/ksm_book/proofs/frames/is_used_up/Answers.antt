@@ -1,4 +1,4 @@
-use Rattle.ksm_book.proofs.Names.{ap, arith, dying_from, dying_kind, FindsNone, free_kind, KeeperView, NoneOf, Shape, subst, ℕ, ◌*◌, ◌+◌, ◌-◌, ◌∙◌, ◌≡◌, refl}
+use Rattle.ksm_book.proofs.Names.{ap, arith, dying_from, dying_kind, FindsNone, free_kind, KeeperView, NoneOf, refl, Shape, ℕ, ◌*◌, ◌+◌, ◌-◌, ◌∙◌, ◌≡◌}
 use Rattle.ksm_book.proofs.Made.{made_none}
 use Rattle.ksm_book.proofs.Sweeps.{passed}
 use Rattle.ksm_book.proofs.frames.is_used_up.Goals as goal
@@ -23,4 +23,4 @@ in_vain v node none =
     }
 
 pub returns-in-None : goal.returns-in-None
-returns-in-None c used_up = in_vain _ _ (subst (HasNone c.args.keeper.now c.args.node) c.requires.shape (c.in_default.ensures, c.in-None.ensures))
+returns-in-None c used_up = grind (arith, in_vain)

@@ -1,4 +1,4 @@
-use Rattle.ksm_book.proofs.Names.{[], ap, arith, dying_from, MakesSteps, map, map-append, Reap, subst, sym, ◌-◌, ◌∙◌, ◌∷◌}
+use Rattle.ksm_book.proofs.Names.{ap, arith, dying_from, MakesSteps, map, map-append, Reap, subst, sym, [], ◌-◌, ◌∙◌, ◌∷◌}
 use Rattle.ksm_book.proofs.FrameKinds.{other_if}
 use Rattle.ksm_book.proofs.Made.{made_one, made_then}
 use Rattle.ksm_book.proofs.Sweeps.{next_reaped, passed}
@@ -15,7 +15,6 @@ dying-preserved c =
     let is = c.reap.ensures.1 in
     let first = c.in-Some.ensures in
     let low = first.low_is in
-    let high = first.high_is in
     record {
       low = omega arith;
       high = omega arith;

@@ -1,5 +1,5 @@
-use Rattle.ksm_book.proofs.Names.{ap, frame_at, holding, KeeperView, length, Open, PAGE_WORDS, puts, Raise, raised, Shape, subst, ◌<◌, ◌∙◌, ◌≡◌, Provides, opened, rules}
-use Rattle.ksm_book.proofs.Filling.{at_again, found_inside, raised_ready, follow, found_within, took}
+use Rattle.ksm_book.proofs.Names.{ap, frame_at, holding, KeeperView, length, Open, opened, PAGE_WORDS, Provides, puts, Raise, raised, rules, Shape, subst, ◌<◌, ◌∙◌, ◌≡◌}
+use Rattle.ksm_book.proofs.Filling.{at_again, follow, found_inside, found_within, raised_ready, took}
 use Rattle.ksm_book.proofs.Made.{made_one, made_part, made_then}
 use Rattle.ksm_book.proofs.frames.take_frame.Goals as goal
 
@@ -20,7 +20,6 @@ write-requires-clause-wide c = (ready c).2
 
 pub open-requires-clause-may : goal.open-requires-clause-may
 open-requires-clause-may c =
-    let frame = c.in_ok-frame.frame in
     let r = c.raise.new.self in
     let now = raised_ready _ _ _ _ (rw (← c.requires.shape) c.requires.node)
     c.requires.lawful c.in_ok-frame.ensures r _ c.raise.ensures.1 in (
@@ -46,7 +45,6 @@ returns-clause-provides c = provided c
 
 pub returns-clause-took : goal.returns-clause-took
 returns-clause-took c =
-    let frame = c.in_ok-frame.frame in
     let less = subst (λ (s : Shape). c.args.node < s.nodes) c.requires.shape c.requires.node in
     let within = found_within c.args.keeper.now c.find_frame.new.keeper _ _ less c.requires.lawful c.in_ok-frame.ensures in
     took less c.requires.lawful (search rules) (provided c) (follow _ _ within _ opened (rw c.open.ensures)
