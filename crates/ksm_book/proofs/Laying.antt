@@ -34,7 +34,8 @@ module _ {sh : Shape} {across : ℕ} {v w : KeeperView} {rows : List Row} {frame
   pub moved_there : (page : GuestPage) (c : Row → Row) → InPageOrder rows → Houses c page node bytes rows → Placed sh across w.ledger (change_row page c rows) (lies_on page (Some g) frame) dups (frame page)
   moved_there page c rise houses =
       let found : (row : Row) × (row_at page rows ≡ Some row) = grind arith in
-      swapped (Some g) c found.0 rise found.1 houses.pages in_new_hand (serves _ (grind arith) (grind arith) (grind arith))
+      swapped (Some g) c found.0 rise found.1 houses.pages in_new_hand
+      (serves _ (grind arith) (grind arith) (grind arith))
 
   -- where a new row comes on the frame taken, rows and dups lie lawfully
   pub come_there : (r : Row) → row_at r.page rows ≡ None → r.state ≡ OwnPage → r.home ≡ node → r.bytes ≡ bytes → Placed sh across w.ledger (with_row r rows) (lies_on r.page (Some g) frame) dups None
@@ -83,7 +84,8 @@ module _ {p : PagesView} {k : KeeperView} (h : IsLaid p k) where
 
   -- pages lie lawfully where each row changes into one that may stand in its stead on its frame
   pub laid_mapped : (c : Row → Row) (restless : Listing) → ((r : Row) → (c r).page ≡ r.page) → All (λ r. LodgesAs (c r) r) p.rows → IsLaid (record p { rows = map c p.rows; restless = restless }) k
-  laid_mapped c restless keeps lodges = laid_rows k refl (omega arith) (remapped None c keeps h.placed (grind (arith, lodged_as h.placed)))
+  laid_mapped c restless keeps lodges =
+      laid_rows k refl (omega arith) (remapped None c keeps h.placed (grind (arith, lodged_as h.placed)))
 
   -- pages lie lawfully where the row of a page changes into one that may stand in its stead on its frame
   pub laid_changed : (page : GuestPage) (row : Row) (c : Row → Row) (restless : Listing) → InPageOrder p.rows → row_at page p.rows ≡ Some row
@@ -104,7 +106,8 @@ module _ {p : PagesView} {k : KeeperView} (h : IsLaid p k) where
   laid_written page row c restless w g rise found keeps lies e ledger wide alone home is =
       let served = served_at h.placed page row found in
       laid_rows w e (grind (arith, spent_kept))
-      (rw ledger (written_in h.placed _ row rise found g lies (grind arith) c keeps (holding (frame_at k.ledger g) (c row).bytes) (grind arith) refl refl wide
+      (rw ledger (written_in h.placed _ row rise found g lies (grind arith) c keeps
+      (holding (frame_at k.ledger g) (c row).bytes) (grind arith) refl refl wide
       (grind arith) (grind arith) (grind arith) home refl alone))
 
 -- a frame of the kind that a row has which is not Zero may be read

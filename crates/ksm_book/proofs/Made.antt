@@ -13,7 +13,8 @@ stepped_then v xs ys = grind (arith, replayed_append, append_assoc)
 
 gives_append : (sh : Shape) (k : Ledger) (ms ns : List ℕ) (xs ys : Log) → Gives sh k ms xs → Gives sh (replayed sh k xs) ns ys → Gives sh k (ms ++ ns) (xs ++ ys)
 gives_append sh k ms ns [] ys h h' = rw h h'
-gives_append sh k ms ns (x ∷ xs) ys h h' = grind (arith, gives_append sh (ledger_after sh k x.0 x.1) (needed_after ms (given_by x.0)) ns xs ys)
+gives_append sh k ms ns (x ∷ xs) ys h h' =
+    grind (arith, gives_append sh (ledger_after sh k x.0 x.1) (needed_after ms (given_by x.0)) ns xs ys)
 
 -- two parts, one after the other, gave the frames of both
 pub chained : {u v w : KeeperView} {ms ns : List ℕ} {xs ys : Log} → Allocates u v ms xs → Allocates v w ns ys → Allocates u w (ms ++ ns) (xs ++ ys)
@@ -28,7 +29,12 @@ pub along_one : (step : ℕ → ℕ → KeeperStep × ℕ) (v w w' : KeeperView)
     → w' ≡ stepped w (step i (get_or ws i 0) ∷ []) → w' ≡ stepped v (along step 0 (take (i + 1) ws))
 along_one step v w w' i ws lt so_far is =
     let place : 0 + length (take i ws) ≡ i = omega (arith, length-take-le i ws (omega arith)) in
-    grind (arith, take_more ws i 0 lt, stepped_then v (along step 0 (take i ws)) (step i (get_or ws i 0) ∷ []), along_push step 0 (get_or ws i 0) (take i ws))
+    grind (
+      arith,
+      take_more ws i 0 lt,
+      stepped_then v (along step 0 (take i ws)) (step i (get_or ws i 0) ∷ []),
+      along_push step 0 (get_or ws i 0) (take i ws),
+    )
 
 -- one word more of a list is written over another
 pub word_written : (ws cs : List ℕ) (i : ℕ) → length cs ≡ length ws → i < length ws → set (take i ws ++ drop i cs) i (get_or ws i 0) ≡ take (i + 1) ws ++ drop (i + 1) cs
@@ -68,7 +74,8 @@ first_made {v} {w} {e} {es} m = by _ m.after m.are
   where
     by : (part : Log) → w ≡ stepped v part → steps_of part ≡ e ∷ es → (found : ℕ) × MakesSteps (did v e found) w es
     by [] after are = absurd (grind arith)
-    by (s ∷ part) after are = (s.1, record { part = part; after = grind (arith, stepped_then v (s ∷ []) part); are = grind arith })
+    by (s ∷ part) after are =
+        (s.1, record { part = part; after = grind (arith, stepped_then v (s ∷ []) part); are = grind arith })
 
 -- a keeper that made one step went on by that step, with some word that it found
 pub step_made : {v w : KeeperView} {e : KeeperStep} → MakesSteps v w (e ∷ []) → (found : ℕ) × (w ≡ did v e found)

@@ -62,13 +62,16 @@ module _ {sh : Shape} {across : ℕ} {k : Ledger} {rows : List Row} {frame : Fra
       → Placed sh across k rows frame dups o → IsServed sh k dups (c row) o → Placed sh across k (change_row page c rows) (lies_on page o frame) dups (frame page)
   swapped o {page} c row rise found keeps p new =
       let at = ap (λ q. same_page q page) (keeps row ∙ found_page _ rows row found) ∙ same_page_refl page in
-      rehoused p (all_changed_row (At sh k dups frame) (At sh k dups (lies_on page o frame)) _ c _ row rise found p.each_row (grind arith) (grind arith))
+      rehoused p
+      (all_changed_row (At sh k dups frame) (At sh k dups (lies_on page o frame)) _ c _ row rise found p.each_row
+      (grind arith) (grind arith))
       (λ f. p.bases f ∙ sym (grind (arith, uses_changed)))
 
   -- rows and dups lie lawfully where each row changes, keeps its page, and is served by its frame still
   pub remapped : (hand : Option ℕ) (c : Row → Row) → ((r : Row) → (c r).page ≡ r.page) → Placed sh across k rows frame dups hand
       → All (λ r. At sh k dups frame r → IsServed sh k dups (c r) (frame r.page)) rows → Placed sh across k (map c rows) frame dups hand
-  remapped hand c keeps p new = rehoused p (All-map (At sh k dups frame) c rows (grind arith)) (λ f. rw (uses_mapped f frame c rows keeps) (p.bases f))
+  remapped hand c keeps p new = rehoused p (All-map (At sh k dups frame) c rows (grind arith))
+      (λ f. rw (uses_mapped f frame c rows keeps) (p.bases f))
 
   -- rows and dups lie lawfully where a new row comes on the frame in hand
   pub inserted : (o : Option ℕ) (row : Row) → row_at row.page rows ≡ None → Placed sh across k rows frame dups o → IsServed sh k dups row o
@@ -98,28 +101,36 @@ module _ {sh : Shape} {across : ℕ} {k : Ledger} {rows : List Row} {frame : Fra
     named_off q ne = grind (arith, get_or-set_other)
 
     module _ (apart : All (λ e. e.place ≢ d.place) dups) where
-      named_anew : uses g frame rows ≡ 0 → (frame_at k g).content ≡ d.bytes → (across ≡ 0 → g / sh.frames_per_node ≡ d.tree) → All (λ r. merged_into d.number r.state ≡ false) rows
+      named_anew : uses g frame rows ≡ 0 → (frame_at k g).content ≡ d.bytes
+          → (across ≡ 0 → g / sh.frames_per_node ≡ d.tree) → All (λ r. merged_into d.number r.state ≡ false) rows
           → Placed sh across named rows frame (with_dup d dups) (Some g)
       named_anew unused bytes tree fresh = record {
         frames_long = p.frames_long;
         places_long = grind (arith, length-set);
         widths = p.widths;
         lives = p.lives;
-        each_row = λ i x lt. let r : Row = get_or rows i x in served_as sh k named dups (with_dup d dups) r r (frame r.page) refl (λ f is m. (
-          grind arith,
-          all_with_dup (Agrees named r f) d dups (grind (arith, named_is, uses_some g frame rows i x lt)) (λ n y l. grind (arith, named_off)),
-        )) (p.each_row i x lt);
-        each_dup = all_with_dup (DupFits sh across named) d dups (grind (arith, named_is)) (λ n x l. grind (arith, named_off));
+        each_row = λ i x lt. let r : Row = get_or rows i x in
+            served_as sh k named dups (with_dup d dups) r r (frame r.page) refl (λ f is m. (
+              grind arith,
+              all_with_dup (Agrees named r f) d dups (grind (arith, named_is, uses_some g frame rows i x lt))
+                  (λ n y l. grind (arith, named_off)),
+            )) (p.each_row i x lt);
+        each_dup = all_with_dup (DupFits sh across named) d dups (grind (arith, named_is))
+            (λ n x l. grind (arith, named_off));
         bases = p.bases;
         kinds = p.kinds;
         empty = grind (arith, all_without, named_off);
       }
 
       -- a row on that frame is its first item
-      first_item : (r : Row) → All (λ e. IsInLife k e.place → g ≢ place_frame k e.place) dups → RowFits sh k r g → r.state ≡ Merged d.number
+      first_item : (r : Row) → All (λ e. IsInLife k e.place → g ≢ place_frame k e.place) dups → RowFits sh k r g
+          → r.state ≡ Merged d.number
           → All (λ e. ¬ (e.number ≡ d.number)) dups → IsServed sh named (with_dup d dups) r (Some g)
-      first_item r off fits item numbers =
-          (grind arith, all_with_dup (Agrees named r g) d dups (grind (arith, named_is)) (λ n x l. grind (arith, named_off)))
+      first_item r off fits item numbers = (
+        grind arith,
+        all_with_dup (Agrees named r g) d dups (grind (arith, named_is))
+            (λ n x l. grind (arith, named_off)),
+      )
 
 -- the row of a page leaves its frame, and comes back changed; items of dups
 module _ {sh : Shape} {across : ℕ} {k : Ledger} {rows : List Row} {frame : Frames} {dups : List DupRow} where
@@ -165,10 +176,12 @@ module _ {sh : Shape} {across : ℕ} {k : Ledger} {rows : List Row} {frame : Fra
         → IsServed sh k' dups' (c row) (Some g) → Placed sh across k' (change_row page c rows) frame dups' None
     back {k'} {dups'} c keeps q served =
         let d : Row → Row = λ r. record (c row) { page = r.page } in
-        let again : change_row page d bare ≡ change_row page c rows = change_twice _ _ d c _ (λ r. refl) (grind (arith, row_of_page)) in
+        let again : change_row page d bare ≡ change_row page c rows =
+        change_twice _ _ d c _ (λ r. refl) (grind (arith, row_of_page)) in
         let there : lies_on page (Some g) off ≡ frame = lies_again page None (Some g) frame ∙ lies_still _ _ _ lies in
         let here : off page ≡ None = on_page page None frame page (same_page_refl page) in
-        let s = swapped (Some g) {page = page} d _ (ordered_change _ _ _ (λ r. refl) rise) (at_changed page bared rows row (λ r. refl) found) (λ r. refl) q (grind arith) in
+        let s = swapped (Some g) {page = page} d _ (ordered_change _ _ _ (λ r. refl) rise)
+        (at_changed page bared rows row (λ r. refl) found) (λ r. refl) q (grind arith) in
         grind arith
 
     -- rows and dups lie lawfully where a row that is not shared gets new bytes, and its frame holds them
@@ -196,8 +209,10 @@ module _ {sh : Shape} {across : ℕ} {k : Ledger} {rows : List Row} {frame : Fra
         let q = turned stable refl (p.widths g) one (grind arith) (omega (arith, one)) in
         let kind = ap (λ (x : Note). x.kind) here in
         back c keeps
-        (named_anew q kind served.frame _ (lived g) d inside apart unused (grind arith) (λ z. served.node was ∙ home z) (All-map (λ r. merged_into d.number r.state ≡ false) _ rows (grind arith)))
-        (first_item q kind served.frame _ (lived g) d inside apart (c row) (λ n x l. grind arith) (grind arith) item numbers)
+        (named_anew q kind served.frame _ (lived g) d inside apart unused (grind arith)
+        (λ z. served.node was ∙ home z) (All-map (λ r. merged_into d.number r.state ≡ false) _ rows (grind arith)))
+        (first_item q kind served.frame _ (lived g) d inside apart (c row) (λ n x l. grind arith)
+        (grind arith) item numbers)
 
   module _ (p : Placed sh across k rows frame dups None) (n : ℕ) (d : DupRow) (lt : n < length dups) where
     abbrev dup : DupRow

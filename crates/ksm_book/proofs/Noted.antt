@@ -48,9 +48,11 @@ module _ {sh : Shape} {across : ℕ} {k : Ledger} {rows : List Row} {frame : Fra
 
     -- a frame on which a row lies is as it was
     on : (f : ℕ) → (f ≡ g → 1 ≤ uses g frame rows) → Stays (frame_at next f) (frame_at k f)
-    on f used = dite (ℕ_discrete f g) (λ e. rw (e, at_it) (n.same (used e))) (λ ne. rw (at_other f ne) (refl, refl, refl))
+    on f used = dite (ℕ_discrete f g) (λ e. rw (e, at_it) (n.same (used e)))
+        (λ ne. rw (at_other f ne) (refl, refl, refl))
 
-    served : (r : Row) (o : Option ℕ) → (o ≡ Some g → 1 ≤ uses g frame rows) → IsServed sh k dups r o → IsServed sh next dups r o
+    served : (r : Row) (o : Option ℕ) → (o ≡ Some g → 1 ≤ uses g frame rows) → IsServed sh k dups r o
+        → IsServed sh next dups r o
     served r None used h = h
     served r (Some f) used h = let same = on f (λ e. used (ap Some e)) in grind arith
 

@@ -12,7 +12,8 @@ use Rattle.ksm_book.proofs.Sharing.{first_found}
 use Rattle.ksm_book.proofs.Pruning.{none_stale}
 
 -- what passes a test is among those that pass, and so is what is made of it
-passing : {X : Type 0} (f : X → ℕ) (test : X → Bool) (xs : List X) {x : X} → Contains xs x → test x ≡ true → Contains (map f (filter test xs)) (f x)
+passing : {X : Type 0} (f : X → ℕ) (test : X → Bool) (xs : List X) {x : X} → Contains xs x → test x ≡ true
+    → Contains (map f (filter test xs)) (f x)
 passing f test xs at passes =
     let kept = contains_filter _ xs _ at passes in
     (kept.0, omega (arith, length-map (filter test xs) f), get_or-map f _ _ _ _ kept.1 ∙ ap f kept.2)
@@ -26,10 +27,16 @@ once_each (x ∷ xs) once =
     (once_each xs (λ k d lt. grind (arith, once (suc k) d, count_more (λ g. g == get_or xs k d) x xs)))
 
 -- a frame is a row's own at most as often as rows lie on it
-own_more : (f : ℕ) (frame : Frames) (r : Row) (rows : List Row) → (shared_state r.state ≡ false → (g : ℕ) × (frame r.page ≡ Some g))
-    → count_by (λ g. g == f) (own_frames rows frame) ≤ uses f frame rows → count_by (λ g. g == f) (own_frames (r ∷ rows) frame) ≤ uses f frame (r ∷ rows)
+own_more : (f : ℕ) (frame : Frames) (r : Row) (rows : List Row)
+    → (shared_state r.state ≡ false → (g : ℕ) × (frame r.page ≡ Some g))
+    → count_by (λ g. g == f) (own_frames rows frame) ≤ uses f frame rows → count_by (λ g. g == f)
+    (own_frames (r ∷ rows) frame) ≤ uses f frame (r ∷ rows)
 own_more f frame r rows has rest =
-    grind (arith, count_more (λ s. is_frame f (frame s.page)) r rows, count_more (λ g. g == f) (frame_number (frame r.page)) (own_frames rows frame))
+    grind (
+      arith,
+      count_more (λ s. is_frame f (frame s.page)) r rows,
+      count_more (λ g. g == f) (frame_number (frame r.page)) (own_frames rows frame),
+    )
 
 own_count : (f : ℕ) (frame : Frames) (rows : List Row) → All (λ r. shared_state r.state ≡ false → (g : ℕ) × (frame r.page ≡ Some g)) rows → count_by (λ g. g == f) (own_frames rows frame) ≤ uses f frame rows
 own_count f frame [] all = omega arith
@@ -40,7 +47,11 @@ all_own : (P : ℕ → Type 0) (rows : List Row) (frame : Frames) → All (λ r.
 all_own P rows frame all =
     let test : Row → Bool = λ r. not (shared_state r.state) in
     All-map P (λ r. frame_number (frame r.page)) (filter test rows)
-    (grind (arith, filter_passes, All-filter test (λ r. shared_state r.state ≡ false → P (frame_number (frame r.page))) rows all))
+    (grind (
+      arith,
+      filter_passes,
+      All-filter test (λ r. shared_state r.state ≡ false → P (frame_number (frame r.page))) rows all,
+    ))
 
 module _ (b : BookState) (k : Ledger) (s : IsSound b) (frame : Frames) (p : Placed b.shape b.knobs.merge_across_nodes k b.rows frame b.dups None) where
   abbrev across : ℕ
@@ -77,7 +88,12 @@ module _ (b : BookState) (k : Ledger) (s : IsSound b) (frame : Frames) (p : Plac
   Live d = Lives k b.dups b.shape b.rows frame d
 
   live_kept : All Live (filter (has_items b.rows) b.dups)
-  live_kept = grind (arith, filter_passes, All-filter (has_items b.rows) (λ d. has_items b.rows d ≡ true → Live d) b.dups dup_lives)
+  live_kept =
+      grind (
+        arith,
+        filter_passes,
+        All-filter (has_items b.rows) (λ d. has_items b.rows d ≡ true → Live d) b.dups dup_lives,
+      )
 
   shown_kinds : All (λ f. (frame_at k f).kind ≡ Stable) shown
   shown_kinds = All-map (λ f. (frame_at k f).kind ≡ Stable) _ _ (λ i d lt. (live_kept i d lt).kind)
@@ -101,17 +117,22 @@ module _ (b : BookState) (k : Ledger) (s : IsSound b) (frame : Frames) (p : Plac
         let fits : RowFits b.shape k r f × All (Agrees k r f) b.dups = grind arith in
         let number : (n : ℕ) × (r.state ≡ Merged n) = grind arith in
         let its = s.items has.0 r has.1 _ (rw has.2 number.1) in
-        let at = find_all (λ d. d.number == number.0) (Contains b.dups) b.dups its.0 its.1.stands (All-contains_itself b.dups) in
+        let at = find_all (λ d. d.number == number.0) (Contains b.dups) b.dups its.0 its.1.stands
+        (All-contains_itself b.dups) in
         let into : merged_into its.0.number r.state ≡ true = grind (arith, find_passes, eq-eqb) in
-        let there = passing (λ d. place_frame k d.place) _ _ at (lt-ltb 0 (item_count b.rows its.0) (counts_one _ _ has.0 r has.1 (rw has.2 into))) in
+        let there =
+        passing (λ d. place_frame k d.place) _ _ at
+        (lt-ltb 0 (item_count b.rows its.0) (counts_one _ _ has.0 r has.1 (rw has.2 into))) in
         Contains-append_right own _ f (subst (Contains shown) (grind arith) there)
-    | inr alone ↦ Contains-append_left own _ f (subst (Contains own) (ap frame_number on) (passing (λ z. frame_number (frame z.page)) _ _ has (ap not alone)))
+    | inr alone ↦ Contains-append_left own _ f
+        (subst (Contains own) (ap frame_number on) (passing (λ z. frame_number (frame z.page)) _ _ has (ap not alone)))
   ]
 
   in_use_listed : (f : ℕ) → is_in_use (frame_at k f).kind ≡ true → Contains (own ++ shown) f
   in_use_listed f used =
       let first = first_found (λ r. is_frame f (frame r.page)) b.rows (grind (arith, p.kinds f, p.bases f)) in
-      let has = find_all (λ r. is_frame f (frame r.page)) (Contains b.rows) b.rows first.0 first.1 (All-contains_itself b.rows) in
+      let has = find_all (λ r. is_frame f (frame r.page)) (Contains b.rows) b.rows first.0 first.1
+      (All-contains_itself b.rows) in
       listed f first.0 has (grind (arith, find_passes))
 
   outlived : All (λ d. has_items b.rows d ≡ false → IsOutlived k d.place) b.dups
@@ -122,14 +143,22 @@ module _ (b : BookState) (k : Ledger) (s : IsSound b) (frame : Frames) (p : Plac
   lie_on absent = grind (arith, stands, all_distinct, in_use_listed, outlived)
 
   inside : All (λ f. f < frames_of b.shape) (own ++ shown)
-  inside = All-append (λ f. f < frames_of b.shape) own _ (all_own (λ f. f < frames_of b.shape) b.rows frame (grind (arith, owns))) (All-map (λ f. f < frames_of b.shape) _ _ (grind arith))
+  inside = All-append (λ f. f < frames_of b.shape) own _
+      (all_own (λ f. f < frames_of b.shape) b.rows frame (grind (arith, owns)))
+      (All-map (λ f. f < frames_of b.shape) _ _ (grind arith))
 
   -- beside a page with a frame of its own a new dup finds a place: where no dup is stale, each has a frame, and the page's is one more
   pub finds_place : FindsPlace b
   finds_place row has alone =
-      let mine = passing (λ r. frame_number (frame r.page)) (λ r. not (shared_state r.state)) b.rows has (ap not alone) in
+      let mine = passing (λ r. frame_number (frame r.page)) (λ r. not (shared_state r.state)) b.rows has
+      (ap not alone) in
       let most = length-le_from_distinct_below (own ++ shown) (frames_of b.shape)
       (grind (arith, IsDistinct-from_apart, all_distinct))
-      (λ q in_it. grind (arith, Contains-from_any {eq = eqb} (λ x y e. eqb-true x y e) q (own ++ shown) in_it, inside)) in
-      let stale = λ (d : DupRow) (is : find (is_stale b.rows) b.dups ≡ Some d). find_all _ (λ e. e.place < frames_of b.shape) b.dups d is (grind arith) in
+      (λ q in_it. grind (
+        arith,
+        Contains-from_any {eq = eqb} (λ x y e. eqb-true x y e) q (own ++ shown) in_it,
+        inside,
+      )) in
+      let stale = λ (d : DupRow) (is : find (is_stale b.rows) b.dups ≡ Some d). find_all _
+      (λ e. e.place < frames_of b.shape) b.dups d is (grind arith) in
       grind (arith, stale, length-append, length-map, none_stale, empty_from_most)

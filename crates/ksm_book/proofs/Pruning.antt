@@ -25,7 +25,8 @@ none_stale rows dups none = filter_all _ _ (λ k x lt. grind (arith, find_none _
 -- a stale dup less is no dup with items less
 pub live_elsewhere : (rows : List Row) (place : ℕ) (dups : List DupRow) → IsVacant place rows dups → filter (has_items rows) (filter (elsewhere place) dups) ≡ filter (has_items rows) dups
 live_elsewhere rows place [] vacant = refl
-live_elsewhere rows place (d ∷ ds) vacant = grind (arith, vacant 0 d, live_elsewhere rows place ds (λ k x lt. vacant (suc k) x (omega arith)))
+live_elsewhere rows place (d ∷ ds) vacant =
+    grind (arith, vacant 0 d, live_elsewhere rows place ds (λ k x lt. vacant (suc k) x (omega arith)))
 
 -- the first stale dup is the first to go
 pub first_stale : (rows : List Row) (dups : List DupRow) (d : DupRow) → InPlaceOrder dups → find (is_stale rows) dups ≡ Some d
@@ -40,7 +41,8 @@ few_from : (m n : ℕ) (dups : List DupRow) → m ≤ n → InPlaceOrder dups �
 few_from m n [] le rise all = omega arith
 few_from m n (d ∷ ds) le rise all =
     let here = all 0 d (omega arith) in
-    let tail = few_from (d.place + 1) n ds (omega arith) (pairs_tail Rises d ds rise) (λ i e lt. grind (arith, rise 0 (suc i) e, all (suc i) e)) in
+    let tail = few_from (d.place + 1) n ds (omega arith) (pairs_tail Rises d ds rise)
+    (λ i e lt. grind (arith, rise 0 (suc i) e, all (suc i) e)) in
     omega arith
 
 -- so far so many stale dups went, and rows and dups lie lawfully

@@ -86,13 +86,16 @@ module _ {sh : Shape} {across : ℕ} {k : Ledger} {rows : List Row} {frame : Fra
     still_row : (r : Row) (f : ℕ) → f ≢ g → f ≢ left → RowFits sh k r f → RowFits sh next r f
     still_row r f ng nl was = grind (arith, at_other)
 
-    moved_agrees : (r : Row) (e : DupRow) → All (Agrees k r left) dups → DupFits sh across k e → (e.place ≢ q → e.number ≢ moving.number) → Agrees k r left e → Agrees next r g e
+    moved_agrees : (r : Row) (e : DupRow) → All (Agrees k r left) dups → DupFits sh across k e
+        → (e.place ≢ q → e.number ≢ moving.number) → Agrees k r left e → Agrees next r g e
     moved_agrees r e all m others a = grind (arith, at_g, named, named_off, off, among (Agrees k r left) all)
 
-    still_agrees : (r : Row) (f : ℕ) (e : DupRow) → f ≢ g → f ≢ left → DupFits sh across k e → Agrees k r f e → Agrees next r f e
+    still_agrees : (r : Row) (f : ℕ) (e : DupRow) → f ≢ g → f ≢ left → DupFits sh across k e → Agrees k r f e
+        → Agrees next r f e
     still_agrees r f e ng nl m a = grind (arith, named, named_off, off, at_other)
 
-    serves : (r : Row) (f : ℕ) → f ≢ g → Serves sh k dups r f → IsServed sh next dups r (cond (is_frame left (Some f)) (Some g) (Some f))
+    serves : (r : Row) (f : ℕ) → f ≢ g → Serves sh k dups r f
+        → IsServed sh next dups r (cond (is_frame left (Some f)) (Some g) (Some f))
     serves r f far h = dite (ℕ_discrete f left)
         (λ e. grind (arith, eq-eqb, moved_row, moved_agrees))
         (λ ne. grind (arith, ne_eqb, still_row, still_agrees))

@@ -70,8 +70,13 @@ module _ {v : PagesView} {k : KeeperView} {dup : DupRow} {node g : ℕ} (may : M
     live = among (λ d. (item_count v.rows d ≡ 0 → ⊥) → Lives w.ledger dups sh v.rows v.frame d) (lives p) (λ none. omega (arith, item_some))
 
     item_lies : v.frame live.item.page ≡ Some g
-    item_lies = grind (arith, live, find_all by_item (λ r. by_item r ≡ true → v.frame r.page ≡ Some g) v.rows live.item live.first
-        (among (λ d. d.place ≡ dup.place → All (λ r. merged_into d.number r.state ≡ true → v.frame r.page ≡ Some g) v.rows) lie refl))
+    item_lies = grind (
+      arith,
+      live,
+      find_all by_item (λ r. by_item r ≡ true → v.frame r.page ≡ Some g) v.rows live.item live.first
+          (among (λ d. d.place ≡ dup.place → All
+          (λ r. merged_into d.number r.state ≡ true → v.frame r.page ≡ Some g) v.rows) lie refl),
+    )
 
     -- the frame of the dup is its first item's
     dup_frame_is : dup_frame v.frame v.rows dup.number ≡ g
@@ -86,17 +91,22 @@ module _ {v : PagesView} {k : KeeperView} {dup : DupRow} {node g : ℕ} (may : M
 
     -- the dup's items are the rows on its frame
     on_it : All (λ r. is_frame g (v.frame r.page) ≡ merged_into dup.number r.state) v.rows
-    on_it = rw on_frame (among (λ d. IsInLife w.ledger d.place → All (λ r. is_frame (place_frame w.ledger d.place) (v.frame r.page) ≡ merged_into d.number r.state) v.rows)
+    on_it = rw on_frame
+        (among (λ d. IsInLife w.ledger d.place → All
+        (λ r. is_frame (place_frame w.ledger d.place) (v.frame r.page) ≡ merged_into d.number r.state) v.rows)
         (lies_as_item p) live.life)
 
     base : n.base ≡ item_count v.rows dup
-    base = rw on_frame (among (λ d. IsInLife w.ledger d.place → (frame_at w.ledger (place_frame w.ledger d.place)).base ≡ item_count v.rows d)
+    base = rw on_frame
+        (among (λ d. IsInLife w.ledger d.place →
+        (frame_at w.ledger (place_frame w.ledger d.place)).base ≡ item_count v.rows d)
         (base_is_items p) live.life)
 
     -- so they go from there
     items_go : (f' : ℕ) → items_on dup.number f' v.rows v.frame ≡ instead g f' v.frame
     items_go f' = same_frames _ _ (λ page.
-        let at = λ (r : Row) (found : row_at page v.rows ≡ Some r). find_all _ (λ s. is_frame g (v.frame s.page) ≡ merged_into dup.number s.state) _ r found on_it in
+        let at = λ (r : Row) (found : row_at page v.rows ≡ Some r). find_all _
+        (λ s. is_frame g (v.frame s.page) ≡ merged_into dup.number s.state) _ r found on_it in
         grind (arith, at, found_page))
 
     -- the frame that the dup is to leave is one of the table and Stable, so the exchange of its count may be tried
@@ -163,7 +173,8 @@ module _ {v : PagesView} {k : KeeperView} {dup : DupRow} {node g : ℕ} (may : M
           goes_there : q.frame ≡ instead g f v.frame
           goes_there = rw goes (items_go f)
 
-          moves : (before : KeeperView) × (x ≡ did before (Publish dup.place f) 0) → Moves (lying v k) (lying q x) v.rows dup node
+          moves : (before : KeeperView) × (x ≡ did before (Publish dup.place f) 0)
+              → Moves (lying v k) (lying q x) v.rows dup node
           moves named = grind (arith, dup_frame_is, known, may_mount, base, at_g, goes_there)
 
           ledger_is : x.ledger ≡ next p dup among g f on_frame
@@ -173,7 +184,8 @@ module _ {v : PagesView} {k : KeeperView} {dup : DupRow} {node g : ℕ} (may : M
           laid_moved_dup = rw (goes ∙ ap (λ fr. record v { frame = fr }) (items_go f)) (record {
             small = may.laid.small;
             same = grind arith;
-            placed = rw ledger_is (remounted p dup among g f on_frame inside lowest.free live.life known.1 (grind (arith, dup_fits, on_frame)) numbers);
+            placed = rw ledger_is (remounted p dup among g f on_frame inside lowest.free live.life known.1
+                (grind (arith, dup_fits, on_frame)) numbers);
             spent = grind (arith, spent_kept, more_spent);
           })
 

@@ -18,7 +18,12 @@ pub stay_in_scan : (test : Row → Bool) (rows : List Row) → mergeable_count r
     → rows ≡ change_rows test (λ r. record r { mergeable = true }) rows
 stay_in_scan test [] all = refl
 stay_in_scan test (r ∷ rows) all =
-    grind (arith, stay_in_scan test rows, count_more (λ s. s.mergeable) r rows, count_by-le-length (λ (s : Row). s.mergeable) rows)
+    grind (
+      arith,
+      stay_in_scan test rows,
+      count_more (λ s. s.mergeable) r rows,
+      count_by-le-length (λ (s : Row). s.mergeable) rows,
+    )
 
 -- a row that is left keeps its page
 pub page_left : (guest : Option ℕ) (r : Row) → (left_by guest r).page ≡ r.page
@@ -48,7 +53,8 @@ module _ {p : PagesView} {k : KeeperView} (guest : Option ℕ) {page : GuestPage
     -- a page with a frame of its own gets none
     left_own : (q : PagesView) → q ≡ record p { rows = change_row page (left_by guest) p.rows; restless = q.restless }
         → HasLeft p q k k guest page 0
-    left_own q goes = grind (arith, alone, laid_changed h page row (left_by guest) q.restless rise told.found, page_left, lodges)
+    left_own q goes =
+        grind (arith, alone, laid_changed h page row (left_by guest) q.restless rise told.found, page_left, lodges)
 
     -- a row with a frame of its own is left as it is where all pages are asked for
     pub left_still : is_some guest ≡ false → HasLeft p p k k guest page 0
@@ -81,7 +87,8 @@ module _ {p : PagesView} {k : KeeperView} (guest : Option ℕ) {page : GuestPage
         → (d (on_its_own row)).home ≡ row.home → (d (on_its_own row)).bytes ≡ row.bytes → HasLeft p q k l guest page 1
     left_shared q d goes same state home content =
         let got : Resettled p m k l page row.home row.bytes = grind (arith, same_Some) in
-        let s = settled_then h rise told.found got d (left_by guest) goes (page_left guest) (same row shared) (grind (arith, same row shared)) in
+        let s = settled_then h rise told.found got d (left_by guest) goes (page_left guest) (same row shared)
+        (grind (arith, same row shared)) in
         grind (arith, shared, s)
 
     -- a shared row of a guest is left once its page was resettled and it is let go, and one frame is given for it

@@ -33,11 +33,21 @@ module _ {sh : Shape} {across : ℕ} {k : Ledger} {rows : List Row} {frame : Fra
     lives = p.lives;
     each_row = λ i r0 lt.
         let r = get_or rows i r0 in
-        served_as sh k _ _ _ r r _ refl (λ f is both. (grind arith, staying (Agrees k r f) (Agrees emptied r f) (grind (arith, named_off)) both.1)) (p.each_row i r0 lt);
+        served_as sh k _ _ _ r r _ refl
+        (λ f is both. (
+          grind arith,
+          staying (Agrees k r f) (Agrees emptied r f)
+              (grind (arith, named_off)) both.1,
+        )) (p.each_row i r0 lt);
     each_dup = staying (DupFits sh across k) (DupFits sh across emptied) (grind (arith, named_off)) p.each_dup;
     bases = p.bases;
     kinds = p.kinds;
     empty = λ r h. dite (ℕ_discrete r q)
         (grind (arith, get_or-set_same))
-        (λ ne. named_off r ne ∙ p.empty r (λ n x lt. grind (arith, contains_filter (elsewhere q) dups (get_or dups n x) (Contains-get_or _ n x lt), h)));
+        (λ ne. named_off r ne ∙ p.empty r
+        (λ n x lt. grind (
+          arith,
+          contains_filter (elsewhere q) dups (get_or dups n x) (Contains-get_or _ n x lt),
+          h,
+        )));
   }

@@ -7,7 +7,7 @@ opened sh = record { shape = sh; rows = []; frame = nowhere; dups = []; knobs = 
 
 pub invariant_of-result : goal.invariant_of-result
 invariant_of-result c = (
-      grind (arith, c.in-Ok.ensures.opened, sound_opening),
-      rw c.in-Ok.ensures.opened
-          (rw c.in_ok-keeper.ensures.begun (first_laid c.requires.shape c.requires.same c.requires.new)),
-    )
+  grind (arith, c.in-Ok.ensures.opened, sound_opening),
+  rw c.in-Ok.ensures.opened
+      (rw c.in_ok-keeper.ensures.begun (first_laid c.requires.shape c.requires.same c.requires.new)),
+)
