@@ -41,10 +41,12 @@ module _ {sh : Shape} {across : ℕ} {k : Ledger} {rows : List Row} {frame : Fra
   pub at_other : (h : ℕ) → h ≢ g → frame_at next h ≡ frame_at k h
   at_other h ne = get_or-set_other k.frames g h new _ ne
 
+  ruleset notes = (at_it, at_other)
+
   module _ (hand' : Option ℕ) (n : Follows sh.last_generation (uses g frame rows) (in_hand g hand') old new) where
     -- a frame that a dup's place names serves the dup still
     fits : (d : DupRow) → DupFits sh across k d → DupFits sh across next d
-    fits d m = grind (arith, at_it, at_other, n.life)
+    fits d m = grind (arith, notes, n.life)
 
     -- a frame on which a row lies is as it was
     on : (f : ℕ) → (f ≡ g → 1 ≤ uses g frame rows) → Stays (frame_at next f) (frame_at k f)
@@ -61,11 +63,11 @@ module _ {sh : Shape} {across : ℕ} {k : Ledger} {rows : List Row} {frame : Fra
     noted other = record {
       frames_long = grind (arith, length-set);
       places_long = p.places_long;
-      widths = grind (arith, at_it, at_other, n.wide);
-      lives = grind (arith, at_it, at_other, n.lived);
+      widths = grind (arith, notes, n.wide);
+      lives = grind (arith, notes, n.lived);
       each_row = λ i x lt. served _ _ (uses_some g frame rows i x lt) (p.each_row i x lt);
       each_dup = All-weaker (DupFits sh across k) (DupFits sh across next) fits dups p.each_dup;
-      bases = grind (arith, at_it, at_other, n.base);
-      kinds = grind (arith, at_it, at_other, n.fits);
+      bases = grind (arith, notes, n.base);
+      kinds = grind (arith, notes, n.fits);
       empty = p.empty;
     }

@@ -29,8 +29,8 @@ once_each (x ∷ xs) once =
 -- a frame is a row's own at most as often as rows lie on it
 own_more : (f : ℕ) (frame : Frames) (r : Row) (rows : List Row)
     → (shared_state r.state ≡ false → (g : ℕ) × (frame r.page ≡ Some g))
-    → count_by (λ g. g == f) (own_frames rows frame) ≤ uses f frame rows → count_by (λ g. g == f)
-    (own_frames (r ∷ rows) frame) ≤ uses f frame (r ∷ rows)
+    → count_by (λ g. g == f) (own_frames rows frame) ≤ uses f frame rows
+    → count_by (λ g. g == f) (own_frames (r ∷ rows) frame) ≤ uses f frame (r ∷ rows)
 own_more f frame r rows has rest =
     grind (
       arith,
@@ -159,6 +159,6 @@ module _ (b : BookState) (k : Ledger) (s : IsSound b) (frame : Frames) (p : Plac
         Contains-from_any {eq = eqb} (λ x y e. eqb-true x y e) q (own ++ shown) in_it,
         inside,
       )) in
-      let stale = λ (d : DupRow) (is : find (is_stale b.rows) b.dups ≡ Some d). find_all _
-      (λ e. e.place < frames_of b.shape) b.dups d is (grind arith) in
+      let stale = λ (d : DupRow) (is : find (is_stale b.rows) b.dups ≡ Some d).
+      find_all _ (λ e. e.place < frames_of b.shape) b.dups d is (grind arith) in
       grind (arith, stale, length-append, length-map, none_stale, empty_from_most)

@@ -69,6 +69,8 @@ module _ {sh : Shape} {across : ℕ} {k : Ledger} {rows : List Row} {frame : Fra
     at_other : (h : ℕ) → h ≢ g → h ≢ left → frame_at next h ≡ frame_at k h
     at_other h ng nl = grind (arith, get_or-set_other)
 
+    ruleset notes = (at_g, at_left, at_other)
+
     named : named_at next q ≡ Some life
     named = grind (arith, get_or-set_same)
 
@@ -77,7 +79,7 @@ module _ {sh : Shape} {across : ℕ} {k : Ledger} {rows : List Row} {frame : Fra
 
     -- another place that names a frame in its life did so before
     off : (e : DupRow) → DupFits sh across k e → e.place ≢ q → IsInLife next e.place → IsInLife k e.place × (place_frame k e.place ≢ g)
-    off e m ne l = grind (arith, named_off, at_g, at_left, at_other)
+    off e m ne l = grind (arith, named_off, notes)
 
     -- a row on the frame that is left lies on the one that comes, and any other stays where it is
     moved_row : (r : Row) → RowFits sh k r left → RowFits sh next r g
@@ -101,15 +103,15 @@ module _ {sh : Shape} {across : ℕ} {k : Ledger} {rows : List Row} {frame : Fra
         (λ ne. grind (arith, ne_eqb, still_row, still_agrees))
 
     dup_fits : (e : DupRow) → DupFits sh across k e → DupFits sh across next e
-    dup_fits e m = grind (arith, at_g, named, named_off, off, at_left, at_other)
+    dup_fits e m = grind (arith, notes, named, named_off, off)
 
     -- rows and dups lie lawfully once a dup has moved from its Stable frame to a free one, with all of its items
     pub remounted : Placed sh across next rows (instead left g frame) dups None
     remounted = record {
       frames_long = grind (arith, length-set);
       places_long = grind (arith, length-set);
-      widths = grind (arith, at_g, at_left, at_other);
-      lives = grind (arith, at_g, at_left, at_other);
+      widths = grind (arith, notes);
+      lives = grind (arith, notes);
       each_row = grind (arith, serves);
       each_dup = λ m x l. dup_fits _ (p.each_dup m x l);
       bases = λ h. dite (ℕ_discrete h g)
@@ -117,6 +119,6 @@ module _ {sh : Shape} {across : ℕ} {k : Ledger} {rows : List Row} {frame : Fra
           (λ ng. dite (ℕ_discrete h left)
           (λ e. rw (e, at_left, uses_old left g frame rows apart) refl)
           (λ nl. rw (at_other h ng nl, uses_still left g frame rows h nl ng) (p.bases h)));
-      kinds = grind (arith, at_g, at_left, at_other);
+      kinds = grind (arith, notes);
       empty = grind (arith, named_off);
     }

@@ -70,13 +70,9 @@ module _ {v : PagesView} {k : KeeperView} {dup : DupRow} {node g : ℕ} (may : M
     live = among (λ d. (item_count v.rows d ≡ 0 → ⊥) → Lives w.ledger dups sh v.rows v.frame d) (lives p) (λ none. omega (arith, item_some))
 
     item_lies : v.frame live.item.page ≡ Some g
-    item_lies = grind (
-      arith,
-      live,
-      find_all by_item (λ r. by_item r ≡ true → v.frame r.page ≡ Some g) v.rows live.item live.first
-          (among (λ d. d.place ≡ dup.place → All
-          (λ r. merged_into d.number r.state ≡ true → v.frame r.page ≡ Some g) v.rows) lie refl),
-    )
+    item_lies = find_all by_item (λ r. by_item r ≡ true → v.frame r.page ≡ Some g) v.rows live.item live.first
+        (among (λ d. d.place ≡ dup.place → All (λ r. merged_into d.number r.state ≡ true → v.frame r.page ≡ Some g) v.rows) lie refl)
+        live.merged
 
     -- the frame of the dup is its first item's
     dup_frame_is : dup_frame v.frame v.rows dup.number ≡ g
@@ -98,15 +94,14 @@ module _ {v : PagesView} {k : KeeperView} {dup : DupRow} {node g : ℕ} (may : M
 
     base : n.base ≡ item_count v.rows dup
     base = rw on_frame
-        (among (λ d. IsInLife w.ledger d.place →
-        (frame_at w.ledger (place_frame w.ledger d.place)).base ≡ item_count v.rows d)
+        (among (λ d. IsInLife w.ledger d.place → (frame_at w.ledger (place_frame w.ledger d.place)).base ≡ item_count v.rows d)
         (base_is_items p) live.life)
 
     -- so they go from there
     items_go : (f' : ℕ) → items_on dup.number f' v.rows v.frame ≡ instead g f' v.frame
     items_go f' = same_frames _ _ (λ page.
-        let at = λ (r : Row) (found : row_at page v.rows ≡ Some r). find_all _
-        (λ s. is_frame g (v.frame s.page) ≡ merged_into dup.number s.state) _ r found on_it in
+        let at = λ (r : Row) (found : row_at page v.rows ≡ Some r).
+        find_all _ (λ s. is_frame g (v.frame s.page) ≡ merged_into dup.number s.state) _ r found on_it in
         grind (arith, at, found_page))
 
     -- the frame that the dup is to leave is one of the table and Stable, so the exchange of its count may be tried
