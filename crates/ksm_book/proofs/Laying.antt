@@ -1,8 +1,8 @@
 -- What becomes of pages that lie lawfully, where the keeper makes its steps.
 use Rattle.ksm_book.proofs.Names.{All, arith, blank, cases_lt, change_row, cond_both, default_knobs, DupRow, false, find_all, first_ledger, frame_at, Frames, get_or, get_or_past, GuestPage}
-use Rattle.ksm_book.proofs.Names.{HasNewFrame, holding, Houses, inl, InPageOrder, IsLaid, IsLawful, IsReadable, IsServed, IsShape, KeeperView, Keeps, Kind, kind_for, Knobs, Ledger, length}
-use Rattle.ksm_book.proofs.Names.{length-replicate, lies_on, List, Listing, map, Merged, None, nowhere, Option, PAGE_WORDS, PageState, PagesView, Placed, Private, refl, Row, row_at, Shape}
-use Rattle.ksm_book.proofs.Names.{shared_state, Some, spent, Stable, subst, true, with_frame, with_row, zero_state, ℕ, [], ◌≡◌, ◌≤◌, ◌⊎◌}
+use Rattle.ksm_book.proofs.Names.{HasNewFrame, holding, Houses, inl, InPageOrder, IsLaid, IsLawful, IsServed, IsShape, KeeperView, Keeps, kind_for, Knobs, Ledger, length, length-replicate, lies_on}
+use Rattle.ksm_book.proofs.Names.{List, Listing, map, None, nowhere, Option, PAGE_WORDS, PageState, PagesView, Placed, Private, refl, Row, row_at, Shape, shared_state, Some, spent, subst, true}
+use Rattle.ksm_book.proofs.Names.{with_frame, with_row, zero_state, ℕ, [], ◌≡◌, ◌≤◌, ◌⊎◌}
 use Rattle.ksm_base.specs.declared.row.PageState.TheVariants.{Private as OwnPage}
 use Rattle.ksm_book.proofs.ByPage.{found_page, row_of_page}
 use Rattle.std.proofs.lemmas.List.{get_or-replicate}
@@ -48,10 +48,6 @@ own_kind s e = grind arith
 -- a row that is not shared is not Zero
 pub own_framed : (s : PageState) → shared_state s ≡ false → zero_state s ≡ false
 own_framed s e = grind arith
-
--- a row whose frame is Stable is an item of a dup
-pub number_of_kind : (s : PageState) → kind_for s ≡ Stable → (n : ℕ) × (s ≡ Merged n)
-number_of_kind s is = grind arith
 
 -- a row may stand in the stead of another on its frame: same home and bytes, and the same state, or neither is shared
 abbrev pub LodgesAs : Row → Row → Type 0
@@ -109,10 +105,6 @@ module _ {p : PagesView} {k : KeeperView} (h : IsLaid p k) where
       (rw ledger (written_in h.placed _ row rise found g lies (grind arith) c keeps
       (holding (frame_at k.ledger g) (c row).bytes) (grind arith) refl refl wide
       (grind arith) (grind arith) (grind arith) home refl alone))
-
--- a frame of the kind that a row has which is not Zero may be read
-pub readable : {x : Kind} (s : PageState) → zero_state s ≡ false → x ≡ kind_for s → IsReadable x
-readable s framed e = grind arith
 
 -- pages lie lawfully with other knobs, where merge_across_nodes stays as it is or there are no dups
 pub retuned : {p : PagesView} {tuned : Knobs} {k : KeeperView} → (tuned.merge_across_nodes ≡ p.knobs.merge_across_nodes) ⊎ (p.dups ≡ []) → IsLaid p k → IsLaid (record p { knobs = tuned }) k

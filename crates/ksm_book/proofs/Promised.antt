@@ -54,9 +54,6 @@ all_own P rows frame all =
     ))
 
 module _ (b : BookState) (k : Ledger) (s : IsSound b) (frame : Frames) (p : Placed b.shape b.knobs.merge_across_nodes k b.rows frame b.dups None) where
-  abbrev across : ℕ
-  across = b.knobs.merge_across_nodes
-
   abbrev own : List ℕ
   own = own_frames b.rows frame
 

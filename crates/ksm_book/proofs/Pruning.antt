@@ -71,9 +71,6 @@ pub record Drops (p q : PagesView) (k l : KeeperView) (count : ℕ) : Type 0 whe
 -- the first stale dup goes next
 module _ {p q : PagesView} {k l : KeeperView} {count : ℕ} (h : Drops p q k l count) {place : ℕ}
     (told : Some place ≡ option_map (λ d. d.place) (find (is_stale q.rows) q.dups)) where
-  rows_are : q.rows ≡ p.rows
-  rows_are = rw h.pages
-
   stale : (d : DupRow) × (find (is_stale q.rows) q.dups ≡ Some d) × (d.place ≡ place)
   stale = grind arith
 

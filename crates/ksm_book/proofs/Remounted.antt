@@ -47,9 +47,6 @@ module _ {sh : Shape} {across : ℕ} {k : Ledger} {rows : List Row} {frame : Fra
   next = record { frames = set (set k.frames left dead) g mounted; places = set k.places q (Some life) }
 
   module _ (inside : g < frames_of sh) (free : (frame_at k g).kind ≡ Free) (in_life : IsInLife k q) (stable : (frame_at k left).kind ≡ Stable) (node : across ≡ 0 → node_of sh g ≡ node_of sh left) (numbers : All (λ e. e.place ≢ q → e.number ≢ moving.number) dups) where
-    fits : DupFits sh across k moving
-    fits = among (DupFits sh across k) p.each_dup
-
     apart : g ≢ left
     apart e = cc
 

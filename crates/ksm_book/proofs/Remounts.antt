@@ -32,9 +32,6 @@ module _ {v : PagesView} {k : KeeperView} {dup : DupRow} {node g : ℕ} (may : M
   abbrev across : ℕ
   across = v.knobs.merge_across_nodes
 
-  abbrev test : DupRow → Bool
-  test d = d.place == dup.place && has_items v.rows d
-
   abbrev by_item : Row → Bool
   by_item r = merged_into dup.number r.state
 

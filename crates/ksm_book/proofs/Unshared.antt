@@ -1,8 +1,7 @@
 -- The commands on all pages of a guest, or on all there are, carried out.
-use Rattle.ksm_book.proofs.Names.{All, All-map, any_found, arith, BookState, change_rows, Done, Err, every_row, false, Fault, find, GuestPage, has_guest, Held, inl, is_before, is_next, is_of, is_some}
-use Rattle.ksm_book.proofs.Names.{IsCarried, IsHeld, IsLaid, IsStop, KeeperView, Knobs, left_by, List, list_any, map, map_mapped, MatchOption, Mergeable, None, of_guest, Ok, Option, option_map}
-use Rattle.ksm_book.proofs.Names.{PagesView, refl, Row, SetRun, shared_rows, shared_state, slice_get, slice_get_past, Some, state_of, true, UnknownPage, Unmerge, Unmerged, unshare_stopped, unshared}
-use Rattle.ksm_book.proofs.Names.{Unshares, ℕ, ◌&&◌, ◌∙◌, ◌≡◌}
+use Rattle.ksm_book.proofs.Names.{All, All-map, any_found, arith, BookState, change_rows, Done, Err, false, Fault, find, GuestPage, has_guest, Held, inl, is_next, is_of, is_some, IsCarried, IsHeld}
+use Rattle.ksm_book.proofs.Names.{IsLaid, IsStop, KeeperView, Knobs, left_by, List, list_any, map, map_mapped, MatchOption, Mergeable, None, Ok, Option, option_map, PagesView, refl, Row, SetRun}
+use Rattle.ksm_book.proofs.Names.{shared_state, slice_get, slice_get_past, Some, state_of, true, UnknownPage, Unmerge, Unmerged, unshare_stopped, unshared, Unshares, ℕ, ◌∙◌, ◌≡◌}
 use Rattle.ksm_book.proofs.Laying.{laid_mapped, retuned}
 use Rattle.ksm_book.proofs.Singles.{book}
 use Rattle.ksm_book.proofs.Unmerged.{in_scan, unshares_own}
@@ -52,20 +51,11 @@ module _ {p q : PagesView} {k : KeeperView} (cursor : Option GuestPage) (passes 
   pub mergeable_laid : IsLaid q k
   mergeable_laid = rw goes (laid_mapped h _ q.restless (grind arith) (grind arith))
 
--- where all pages are asked for, those before the stop that were shared are unshared
-stopped_rows : (at : Option Row) (rows : List Row)
-    → change_rows (λ r. of_guest None r && is_before at r) (left_by None) rows
-    ≡ change_rows (λ r. shared_state r.state && is_before at r) unshared rows
-stopped_rows at rows = grind arith
-
 -- a run of 2
 module _ {p m : PagesView} {k l : KeeperView} (cursor : Option GuestPage) (passes : ℕ) {count : ℕ} {stop : Option Fault}
     (u : Unshares p m k l None count stop) {knobs : Knobs} (same : knobs ≡ p.knobs) where
   abbrev b : BookState
   b = state_of p cursor passes
-
-  abbrev met : List Row
-  met = shared_rows every_row b
 
   -- whatever it does to the rows and knobs once the pages have left
   carried : (q : PagesView) (cursor' : Option GuestPage) → q.frame ≡ m.frame → state_of q cursor' passes ≡ unshare_stopped stop count b
