@@ -1,6 +1,6 @@
 -- What is answered where a dup is to move.
-use Rattle.ksm_book.proofs.Names.{Answer, arith, BookState, IsCarried, crosses, Done, DupRow, Err, false, Fault, find, find_passes, GuestPage, has_items, HasRemounted, InUse, KeeperView, live_dup_at}
-use Rattle.ksm_book.proofs.Names.{MayMove, MoveDup, NoFrame, Ok, Option, PagesView, Some, state_of, ℕ, ◌&&◌, ◌==◌, ◌≡◌}
+use Rattle.ksm_book.proofs.Names.{Answer, arith, BookState, Done, DupRow, Err, Fault, find, find_passes, GuestPage, has_items, HasRemounted, IsCarried, KeeperView, live_dup_at, MayMove, MoveDup, Ok}
+use Rattle.ksm_book.proofs.Names.{Option, PagesView, Some, state_of, ℕ, ◌&&◌, ◌==◌, ◌≡◌}
 use Rattle.ksm_book.proofs.Singles.{book}
 
 module _ (b : BookState) (place node : ℕ) (dup : DupRow) (found : Some dup ≡ live_dup_at b place) where
@@ -11,11 +11,6 @@ module _ (b : BookState) (place node : ℕ) (dup : DupRow) (found : Some dup ≡
   -- the dup with items at its place is the dup
   pub live_there : find (λ d. d.place == dup.place && has_items b.rows d) b.dups ≡ Some dup
   live_there = grind (arith, place_is)
-
-  module _ (home : b.knobs.merge_across_nodes ≡ 0 → node ≡ dup.tree) where
-    -- where it is to move is another node only where pages merge across nodes
-    pub at_home : crosses b node (Some dup) ≡ false
-    at_home = grind arith
 
 -- the command is carried out where the dup moved to a frame of the node, or stayed, as it answers
 module _ (p q : PagesView) (k l : KeeperView) (cursor : Option GuestPage) (passes place node : ℕ) (dup : DupRow)
@@ -32,6 +27,4 @@ module _ (p q : PagesView) (k l : KeeperView) (cursor : Option GuestPage) (passe
 
   -- it answers the fault for which the dup stayed
   pub fault_carried : {X : Type 0} (fault : Fault) → HasRemounted {X = X} p q k l dup node (Err fault) → Carries (Err fault)
-  fault_carried (NoFrame n) h = grind arith
-  fault_carried InUse h = grind arith
-  fault_carried _ h = absurd h.moves
+  fault_carried fault h = grind arith

@@ -1,132 +1,70 @@
 -- The sets of the free and of the dying frames follow the keeper's steps.
-use Rattle.ksm_book.proofs.Names.{ap, AreSets, arith, blank, Bool, cases_eq, cases_lt, cond, count_in, did, Dying, dying_kind, false, frame_at, frames_of, Free, free_kind, Freeze, frozen}
-use Rattle.ksm_book.proofs.Names.{get_or-set_other, get_or-set_same, get_or_past, has, inl, inr, IsSetOf, KeeperStep, KeeperView, Kind, Ledger, ledger_after, length, length-set, List, lowered, Marks}
-use Rattle.ksm_book.proofs.Names.{MayLeave, ne_eqb, Note, Raise, raised, Reap, refl, set, Shape, Stable, Sub, sym, true, with_frame, ℕ, ◌-◌, ◌<◌, ◌==◌, ◌∙◌, ◌≡◌, ◌≢◌}
-
--- ---------------------------------------------------------------- one frame's note is changed
+use Rattle.ksm_book.proofs.Names.{ap, AreSets, arith, Bool, cases_lt, cond, did, Dying, dying_kind, frame_at, Free, free_kind, Freeze, get_or-set_other, get_or-set_same, get_or_past, inl, inr}
+use Rattle.ksm_book.proofs.Names.{IsSetOf, KeeperView, Kind, Ledger, length-set, List, Marks, MayLeave, Note, Raise, Reap, refl, Stable, Sub, true, with_frame, ℕ, ◌≡◌, ◌≢◌, ◌⊎◌}
 
 -- a step on one frame leaves the note of another, also where the step found that it could not be made
 pub other_if : (made : Bool) (k : Ledger) (f g : ℕ) (note : Note) → g ≢ f → frame_at (cond made (with_frame k f note) k) g ≡ frame_at k g
-other_if true k f g note differs = get_or-set_other k.frames f g note blank differs
-other_if false k f g note differs = refl
+other_if made k f g note differs = grind (arith, get_or-set_other)
 
--- the steps after which a frame may be free or dying, or not so any more
-abbrev pub TurnsOn : KeeperStep → ℕ → Type 0
-TurnsOn (Reap f) g = f ≡ g
-TurnsOn (Raise f) g = f ≡ g
-TurnsOn (Sub f) g = f ≡ g
-TurnsOn (Freeze f) g = f ≡ g
-TurnsOn _ g = ⊥
-
-other_after : (sh : Shape) (k : Ledger) (e : KeeperStep) (n f : ℕ) {g : ℕ} → TurnsOn e g → f ≢ g → frame_at (ledger_after sh k e n) f ≡ frame_at k f
-other_after sh k (Reap h) n f on ne = other_if _ k h f _ (λ e. ne (e ∙ on))
-other_after sh k (Raise h) n f on ne = other_if true k h f _ (λ e. ne (e ∙ on))
-other_after sh k (Sub h) n f on ne = other_if true k h f _ (λ e. ne (e ∙ on))
-other_after sh k (Freeze h) n f on ne = other_if _ k h f _ (λ e. ne (e ∙ on))
-other_after sh k _ n f on ne = absurd on
-
--- a frame's new note is of a kind asked for exactly if the old one was: so is what is known of the frame then
-turned : (asked : Kind → Bool) (k : Ledger) (f : ℕ) (note : Note) → asked note.kind ≡ asked (frame_at k f).kind
-    → asked (frame_at (with_frame k f note) f).kind ≡ asked (frame_at k f).kind
-turned asked k f note same = elim (cases_lt f _) [
-  | inl within ↦ rw (get_or-set_same k.frames f note blank within) same
-  | inr beyond ↦ ap (λ (n : Note). asked n.kind)
-      (get_or_past _ f _ (omega (arith, length-set k.frames f note)) ∙ sym (get_or_past _ f _ beyond))
-]
-
--- ---------------------------------------------------------------- a set after a step on a frame
-
-module _ {v w : KeeperView} (e : KeeperStep) (found frame : ℕ) (is : w ≡ did v e found) (on : TurnsOn e frame) (asked : Kind → Bool) {words : List ℕ} (are : IsSetOf asked v words) where
-  of_set : {words' : List ℕ} → length words' ≡ length words → ((f : ℕ) → f < frames_of v.table.shape → has words' f ≡ asked (frame_at w.ledger f).kind) → IsSetOf asked w words'
-  of_set long marked =
-      let table = ap (λ (z : KeeperView). z.table) is in
-      record { room = rw table (rw long are.room); marked = λ f lt. marked f (rw (← table) lt) }
-
-  others : (f : ℕ) → f ≢ frame → frame_at w.ledger f ≡ frame_at v.ledger f
-  others f ne = rw is (other_after v.table.shape v.ledger e found f on ne)
-
-  -- the set is right again once the frame of the step is marked by its kind
-  set_marked : {words' : List ℕ} → Marks words words' frame (asked (frame_at w.ledger frame).kind) → IsSetOf asked w words'
-  set_marked {words'} marks = of_set marks.room (λ f lt. elim (cases_eq f _) [
-    | inl same ↦ ap (has words') same ∙ marks.here ∙ ap (λ g. asked (frame_at w.ledger g).kind) (sym same)
-    | inr differs ↦ rw (others f differs) (marks.others f differs ∙ are.marked f lt)
-  ])
-
-  -- the set is right still where the frame's kind is among those asked for exactly if it was
-  set_stays : asked (frame_at w.ledger frame).kind ≡ asked (frame_at v.ledger frame).kind → IsSetOf asked w words
-  set_stays same = of_set refl (λ f lt. are.marked f lt ∙ elim (cases_eq f _) [
-    | inl here ↦ rw here (sym same)
-    | inr differs ↦ ap (λ (n : Note). asked n.kind) (sym (others f differs))
-  ])
-
--- ---------------------------------------------------------------- both sets after a step on a frame
+-- a note that was put at a frame is there, if there is such a frame
+ruleset put_there = (cases_lt, get_or-set_same, get_or_past, length-set)
 
 -- what is known of a frame
 abbrev note : KeeperView → ℕ → Note
 note v frame = frame_at v.ledger frame
 
+-- a set was marked at a frame by its kind, or it stays and the kind is among those asked for exactly if it was
+abbrev Tracks : (Kind → Bool) → KeeperView → KeeperView → ℕ → List ℕ → List ℕ → Type 0
+Tracks asked v w frame words words' = Marks words words' frame (asked (note w frame).kind)
+    ⊎ ((words' ≡ words) × (asked (note w frame).kind ≡ asked (note v frame).kind))
+
+-- where no other frame changed, a set that was marked so, or stays so, is right again
+module _ {v w : KeeperView} (frame : ℕ) (table : w.table ≡ v.table)
+    (others : (f : ℕ) → f ≢ frame → note w f ≡ note v f) where
+  right : (asked : Kind → Bool) {words words' : List ℕ} → IsSetOf asked v words → Tracks asked v w frame words words'
+      → IsSetOf asked w words'
+  right asked are follows = grind arith
+
+  both : {free dying free' dying' : List ℕ} → AreSets v free dying → Tracks free_kind v w frame free free'
+      → Tracks dying_kind v w frame dying dying'
+      → AreSets w free' dying'
+  both are f d = record { free = right free_kind are.free f; dying = right dying_kind are.dying d }
+
+-- both sets after a step on a frame
 module _ {v w : KeeperView} (found frame : ℕ) {free dying : List ℕ} (are : AreSets v free dying) where
   -- where a frame was reaped, and marked in both sets by its kind, they are right
-  pub sets_reaped : w ≡ did v (Reap frame) found → {free' dying' : List ℕ} → Marks free free' frame (free_kind (frame_at w.ledger frame).kind)
-      → Marks dying dying' frame (dying_kind (frame_at w.ledger frame).kind) → AreSets w free' dying'
-  sets_reaped is f d = record { free = set_marked (Reap frame) found frame is refl _ are.free f; dying = set_marked (Reap frame) found frame is refl _ are.dying d }
+  pub sets_reaped : w ≡ did v (Reap frame) found → {free' dying' : List ℕ}
+      → Marks free free' frame (free_kind (note w frame).kind)
+      → Marks dying dying' frame (dying_kind (note w frame).kind) → AreSets w free' dying'
+  sets_reaped is f d = both frame (rw is) (λ g ne. grind (arith, other_if)) are (inl f) (inl d)
 
   -- where a free frame was raised, and marked by its kind among the free ones, both sets are right
-  pub sets_raised : w ≡ did v (Raise frame) found → (note v frame).kind ≡ Free → {free' : List ℕ} → Marks free free' frame (free_kind (frame_at w.ledger frame).kind)
+  pub sets_raised : w ≡ did v (Raise frame) found → (note v frame).kind ≡ Free → {free' : List ℕ}
+      → Marks free free' frame (free_kind (note w frame).kind)
       → AreSets w free' dying
-  sets_raised is may marks = record {
-    free = set_marked (Raise frame) found frame is refl _ are.free marks;
-    dying = set_stays (Raise frame) found frame is refl _ are.dying (rw is (turned dying_kind v.ledger frame (raised (note v frame)) (ap dying_kind (sym may))));
-  }
+  sets_raised is may marks =
+      let now : dying_kind (note w frame).kind ≡ dying_kind (note v frame).kind = grind (arith, put_there) in
+      both frame (rw is) (λ g ne. grind (arith, get_or-set_other)) are (inl marks) (inr (refl, now))
 
   -- where a shown frame was frozen, or not, and marked by its kind among the dying ones, both sets are right
-  pub sets_frozen : w ≡ did v (Freeze frame) found → (note v frame).kind ≡ Stable → {dying' : List ℕ} → Marks dying dying' frame (dying_kind (frame_at w.ledger frame).kind)
+  pub sets_frozen : w ≡ did v (Freeze frame) found → (note v frame).kind ≡ Stable → {dying' : List ℕ}
+      → Marks dying dying' frame (dying_kind (note w frame).kind)
       → AreSets w free dying'
-  sets_frozen is shown marks = record {
-    free = set_stays (Freeze frame) found frame is refl _ are.free (rw is (by (count_in found == (note v frame).base)));
-    dying = set_marked (Freeze frame) found frame is refl _ are.dying marks;
-  }
-    where
-      by : (made : Bool) → free_kind (frame_at (cond made (with_frame v.ledger frame (frozen (note v frame))) v.ledger) frame).kind ≡ free_kind (note v frame).kind
-      by true = turned free_kind v.ledger frame (frozen (note v frame)) (ap free_kind (sym shown))
-      by false = refl
+  sets_frozen is shown marks =
+      let now : free_kind (note w frame).kind ≡ free_kind (note v frame).kind = grind (arith, put_there) in
+      both frame (rw is) (λ g ne. grind (arith, other_if)) are (inr (refl, now)) (inl marks)
 
   module _ (is : w ≡ did v (Sub frame) found) where
-    lowered_note : frame < length v.ledger.frames → frame_at w.ledger frame ≡ lowered (note v frame)
-    lowered_note within = rw is (get_or-set_same v.ledger.frames frame (lowered (note v frame)) blank within)
-
     -- a frame in use that has lost its last reference, and was put among the dying ones: both sets are right
-    pub sets_taken : MayLeave v frame → (frame_at w.ledger frame).base ≡ 0 → {dying' : List ℕ} → Marks dying dying' frame true → AreSets w free dying'
-    sets_taken may none marks = record {
-      free = set_stays (Sub frame) found frame is refl _ are.free (rw is (turned free_kind v.ledger frame (lowered (note v frame)) (used ((note v frame).base == 1) _ may.1)));
-      dying = set_marked (Sub frame) found frame is refl _ are.dying (rw dies marks);
-    }
-      where
-        used : (b : Bool) (kind : Kind) → free_kind kind ≡ false → free_kind (cond b Dying kind) ≡ free_kind kind
-        used true kind not_free = sym not_free
-        used false kind not_free = refl
-
-        dies : (frame_at w.ledger frame).kind ≡ Dying
-        dies = elim (cases_lt frame _) [
-          | inl within ↦
-              let stands = lowered_note within in
-              let one : (note v frame).base ≡ 1 = omega (arith, may, none, ap (λ (n : Note). n.base) stands) in
-              rw stands (rw one refl)
-          | inr beyond ↦ absurd (omega (arith, may, ap (λ (n : Note). n.base) (get_or_past v.ledger.frames frame blank beyond)))
-        ]
+    pub sets_taken : MayLeave v frame → (note w frame).base ≡ 0 → {dying' : List ℕ} → Marks dying dying' frame true
+        → AreSets w free dying'
+    sets_taken may none marks =
+        let dies : (note w frame).kind ≡ Dying = grind (arith, put_there) in
+        both frame (rw is) (λ g ne. grind (arith, get_or-set_other)) are (inr (refl, grind arith)) (inl (grind arith))
 
     -- where a frame has lost a reference, and has one left, both sets are right as they are
-    pub sets_lowered : (frame_at w.ledger frame).base ≢ 0 → AreSets w free dying
-    sets_lowered left = record {
-      free = set_stays (Sub frame) found frame is refl _ are.free (ap free_kind kept);
-      dying = set_stays (Sub frame) found frame is refl _ are.dying (ap dying_kind kept);
-    }
-      where
-        kept : (frame_at w.ledger frame).kind ≡ (note v frame).kind
-        kept = elim (cases_lt frame _) [
-          | inl within ↦
-              let stands = lowered_note within in
-              rw stands (rw (ne_eqb (note v frame).base 1 (λ one. left (ap (λ (n : Note). n.base) stands ∙ ap (λ n. n - 1) one))) refl)
-          | inr beyond ↦ absurd (left ((λ i. (frame_at (is i).ledger frame).base)
-              ∙ ap (λ (n : Note). n.base) (get_or_past (set v.ledger.frames frame (lowered (note v frame))) frame blank (omega (arith, length-set v.ledger.frames frame (lowered (note v frame)))))))
-        ]
+    pub sets_lowered : (note w frame).base ≢ 0 → AreSets w free dying
+    sets_lowered left =
+        let kept : (note w frame).kind ≡ (note v frame).kind = grind (arith, put_there) in
+        both frame (rw is) (λ g ne. grind (arith, get_or-set_other)) are (inr (refl, ap free_kind kept))
+        (inr (refl, ap dying_kind kept))

@@ -1,14 +1,11 @@
 -- The keeper's steps as changes of a placement, and the lives that they spend.
-use Rattle.ksm_book.proofs.Names.{[], Add, added, All, All-filter, All-head, All-tail, arith, blank, Bool, cond, count_in, did, DupRow, dying_on, false, filter_passes, FitsBase, frame_at, Frames}
-use Rattle.ksm_book.proofs.Names.{frames_of, GenerationFits, get_or, get_or-range_with_len, get_or_past, IfSome, KeeperView, Kind, leaving, Ledger, ledger_after, length, length-range_with_len, List}
-use Rattle.ksm_book.proofs.Names.{MakesSteps, map, MayLeave, None, Note, Option, past_lives, Placed, range_with_len, Reap, reaped, refl, Row, set, Shape, Some, spent, spent_on, Stable, subst, suc}
-use Rattle.ksm_book.proofs.Names.{sum_by, sum_by-cons, sum_by-set, true, with_frame, zero, ℕ, ◌*◌, ◌+◌, ◌-◌, ◌<◌, ◌==◌, ◌∷◌, ◌≡◌, ◌≤◌}
-use Rattle.ksm_book.proofs.ByPage.{one_same}
+use Rattle.ksm_book.proofs.Names.{Add, added, All, All-filter, arith, blank, cases_eq, cases_lt, did, DupRow, dying_kind, dying_on, filter_passes, frame_at, Frames, frames_of, GenerationFits, get_or}
+use Rattle.ksm_book.proofs.Names.{get_or-range_with_len, get_or-set_other, get_or-set_same, get_or_past, IfSome, KeeperView, Keeps, Kind, leaving, Ledger, length, length-range_with_len, List}
+use Rattle.ksm_book.proofs.Names.{MakesSteps, map, MayLeave, None, Note, Option, past_lives, Placed, range_with_len, Reap, reaped, refl, Row, set, Shape, Some, spent, spent_on, Stable, suc}
+use Rattle.ksm_book.proofs.Names.{sum_by-set, with_frame, ℕ, [], ◌*◌, ◌+◌, ◌<◌, ◌∷◌, ◌≡◌, ◌≤◌}
+use Rattle.std.proofs.lemmas.List.{set_past}
 use Rattle.ksm_book.proofs.Made.{first_made, none_made, step_made}
 use Rattle.ksm_book.proofs.Noted.{noted}
-use Rattle.ksm_book.proofs.Sweeps.{is_dying_kind}
-
--- ---------------------------------------------------------------- kinds
 
 -- ---------------------------------------------------------------- lives
 
@@ -26,12 +23,7 @@ spent_set k g fr lt = sum_by-set _ _ g fr _ lt
 
 -- where a frame has spent no fewer lives, neither has the table
 pub spent_kept : (k : Ledger) (g : ℕ) (fr : Note) → spent_on (frame_at k g) ≤ spent_on fr → spent k ≤ spent (with_frame k g fr)
-spent_kept k g fr le = by _ g le
-  where
-    by : (xs : List Note) (i : ℕ) → spent_on (get_or xs i blank) ≤ spent_on fr → sum_by spent_on xs ≤ sum_by spent_on (set xs i fr)
-    by [] i le = omega arith
-    by (x ∷ xs) zero le = omega (arith, sum_by-cons spent_on x xs, sum_by-cons spent_on fr xs)
-    by (x ∷ xs) (suc i) le = let a = sum_by-cons spent_on x xs in let b = sum_by-cons spent_on x (set xs i fr) in let c = by xs i le in omega arith
+spent_kept k g fr le = grind (arith, cases_lt, spent_set, set_past)
 
 -- ---------------------------------------------------------------- a reference goes
 
@@ -39,45 +31,35 @@ spent_kept k g fr le = by _ g le
 pub held_within : (k : Ledger) (f : ℕ) → 1 ≤ (frame_at k f).base → f < length k.frames
 held_within k f some = grind (arith, get_or_past)
 
--- a frame in hand is one of the table, and has a reference
-pub held_inside : {sh : Shape} {across : ℕ} {k : Ledger} {rows : List Row} {frame : Frames} {dups : List DupRow} {g : ℕ} → Placed sh across k rows frame dups (Some g)
-    → (g < frames_of sh) × (1 ≤ (frame_at k g).base)
-held_inside {k = k} {g = g} p =
-    let one = one_same g refl in
-    let base = p.bases g in
-    let some : 1 ≤ (frame_at k g).base = omega arith in
-    (omega (arith, held_within k g some), some)
+module _ {sh : Shape} {across : ℕ} {rows : List Row} {frame : Frames} {dups : List DupRow} where
+  -- a frame in hand is one of the table, and has a reference
+  pub held_inside : {k : Ledger} {g : ℕ} → Placed sh across k rows frame dups (Some g)
+      → (g < frames_of sh) × (1 ≤ (frame_at k g).base)
+  held_inside {k} {g} p = grind (arith, held_within k g, p.bases g)
 
--- the frame in hand, if there is one, may be left
-pub may_leave : (v : KeeperView) {sh : Shape} → v.table.shape ≡ sh → {across : ℕ} {rows : List Row} {frame : Frames} {dups : List DupRow} (o : Option ℕ)
-    → Placed sh across v.ledger rows frame dups o → IfSome o (MayLeave v)
-may_leave v same None p = tt
-may_leave v same (Some g) p =
-    let held = held_inside p in
-    grind arith
+  -- the frame in hand, if there is one, may be left
+  pub may_leave : (v : KeeperView) → v.table.shape ≡ sh → (o : Option ℕ) → Placed sh across v.ledger rows frame dups o
+      → IfSome o (MayLeave v)
+  may_leave v same None p = tt
+  may_leave v same (Some g) p = grind (arith, held_inside p)
 
--- what was in hand was given back: rows and dups lie lawfully
-pub left_placed : {v w : KeeperView} (o : Option ℕ) → MakesSteps v w (leaving o) → {sh : Shape} {across : ℕ} {rows : List Row} {frame : Frames} {dups : List DupRow}
-    → Placed sh across v.ledger rows frame dups o → Placed sh across w.ledger rows frame dups None
-left_placed None m p = rw (none_made m) p
-left_placed (Some g) m p =
-    let in_hand = held_inside p in
-    rw (step_made m).1
-    (noted p g in_hand.0 _ None (grind arith) (grind arith))
+  -- what was in hand was given back: rows and dups lie lawfully
+  pub left_placed : {v w : KeeperView} (o : Option ℕ) → MakesSteps v w (leaving o)
+      → Placed sh across v.ledger rows frame dups o → Placed sh across w.ledger rows frame dups None
+  left_placed None m p = rw (none_made m) p
+  left_placed (Some g) m p =
+      rw (step_made m).1 (noted p g (held_inside p).0 _ None (grind (arith, held_inside p)) (grind arith))
+
+  -- a reference came on a stable frame, and is in hand: rows and dups lie lawfully
+  pub added_placed : {v w : KeeperView} {g : ℕ} → MakesSteps v w (Add g ∷ []) → (frame_at v.ledger g).kind ≡ Stable
+      → g < frames_of sh → Placed sh across v.ledger rows frame dups None → Placed sh across w.ledger rows frame dups
+      (Some g)
+  added_placed {g = g} m stable inside p = rw (step_made m).1 (noted p g inside _ _ (grind arith) (grind arith))
 
 -- a reference given back ends no life
 pub left_spends : {v w : KeeperView} (o : Option ℕ) → MakesSteps v w (leaving o) → spent v.ledger ≤ spent w.ledger
 left_spends None m = grind (arith, m, none_made m)
 left_spends (Some g) m = grind (arith, step_made m, spent_kept)
-
--- ---------------------------------------------------------------- a reference comes
-
--- a reference came on a stable frame, and is in hand: rows and dups lie lawfully
-pub added_placed : {v w : KeeperView} {g : ℕ} → MakesSteps v w (Add g ∷ []) → (frame_at v.ledger g).kind ≡ Stable → {sh : Shape} {across : ℕ} {rows : List Row} {frame : Frames} {dups : List DupRow}
-    → g < frames_of sh → Placed sh across v.ledger rows frame dups None → Placed sh across w.ledger rows frame dups (Some g)
-added_placed {v} {w} {g} m stable {sh} {across} {rows} {frame} {dups} inside p =
-    rw (step_made m).1
-    (noted p g inside _ _ (grind arith) (grind arith))
 
 -- a reference that came ends no life
 pub added_spends : {v w : KeeperView} {g : ℕ} → MakesSteps v w (Add g ∷ []) → spent v.ledger ≤ spent w.ledger
@@ -91,53 +73,42 @@ IsLeft sh k f = (f < frames_of sh) × ((frame_at k f).base ≡ 0)
 
 -- what holds of each of two notes holds where one is put among others
 pub set_holds : (P : Note → Type 0) (xs : List Note) (i h : ℕ) (y : Note) → P y → P (get_or xs h blank) → P (get_or (set xs i y) h blank)
-set_holds P [] i h y new old = old
-set_holds P (x ∷ xs) zero zero y new old = new
-set_holds P (x ∷ xs) zero (suc h) y new old = old
-set_holds P (x ∷ xs) (suc i) zero y new old = old
-set_holds P (x ∷ xs) (suc i) (suc h) y new old = set_holds P xs i h y new old
+set_holds P xs i h y new old = grind (arith, get_or-set_same, get_or-set_other, set_past, cases_lt, cases_eq)
 
-module _ (sh : Shape) (k : Ledger) (g found : ℕ) where
-  abbrev old : Note
-  old = frame_at k g
+module _ (v : KeeperView) (g found : ℕ) where
+  abbrev reaped_view : KeeperView
+  reaped_view = did v (Reap g) found
 
-  abbrev after : Bool → Ledger
-  after b = cond b (with_frame k g (reaped sh.last_generation old)) k
+  abbrev new : Note
+  new = reaped v.table.shape.last_generation (frame_at v.ledger g)
 
-  still_left : (h : ℕ) → IsLeft sh k h → IsLeft sh (ledger_after sh k (Reap g) found) h
-  still_left h left = elim (count_in found == 0) as (λ b. IsLeft sh (after b) h) [
-    | true ↦ (left.0, set_holds (λ x. x.base ≡ 0) k.frames g h (reaped sh.last_generation old) refl left.1)
-    | false ↦ left
-  ]
+  still_left : (h : ℕ) → IsLeft v.table.shape v.ledger h → IsLeft v.table.shape reaped_view.ledger h
+  still_left h left = grind (arith, set_holds (λ x. x.base ≡ 0) v.ledger.frames g h new refl left.1)
 
-  reap_spends : spent k ≤ spent (ledger_after sh k (Reap g) found)
+  reap_spends : spent v.ledger ≤ spent reaped_view.ledger
   reap_spends = grind (arith, spent_kept)
 
-  reap_placed : (across : ℕ) (rows : List Row) (frame : Frames) (dups : List DupRow) (hand : Option ℕ) → IsLeft sh k g → Placed sh across k rows frame dups hand
-      → Placed sh across (ledger_after sh k (Reap g) found) rows frame dups hand
-  reap_placed across rows frame dups hand left p = elim (count_in found == 0) as (λ b. Placed sh across (after b) rows frame dups hand) [
-    | true ↦
-        noted p g left.0 (reaped sh.last_generation old) hand (grind arith) (λ f ne. refl)
-    | false ↦ p
-  ]
+  reap_placed : {hand : Option ℕ} → IsLeft v.table.shape v.ledger g → Keeps v reaped_view hand hand
+  reap_placed {hand} left across rows frame dups p =
+      let reaps : Placed v.table.shape across (with_frame v.ledger g new) rows frame dups hand =
+      noted p g left.0 new hand (grind arith) (λ f ne. refl) in
+      grind arith
 
 -- frames on which nothing is were reaped: rows and dups lie lawfully
-reaps_placed : (fs : List ℕ) (v w : KeeperView) → MakesSteps v w (map Reap fs) → (across : ℕ) (rows : List Row) (frame : Frames) (dups : List DupRow) (hand : Option ℕ)
-    → All (IsLeft v.table.shape v.ledger) fs → Placed v.table.shape across v.ledger rows frame dups hand → Placed v.table.shape across w.ledger rows frame dups hand
-reaps_placed [] v w m across rows frame dups hand left p = rw (none_made m) p
-reaps_placed (f ∷ fs) v w m across rows frame dups hand left p =
-    let sh = v.table.shape in
+reaps_placed : {hand : Option ℕ} (fs : List ℕ) (v w : KeeperView) → MakesSteps v w (map Reap fs)
+    → All (IsLeft v.table.shape v.ledger) fs → Keeps v w hand hand
+reaps_placed [] v w m left across rows frame dups p = rw (none_made m) p
+reaps_placed (f ∷ fs) v w m left across rows frame dups p =
     let first = first_made m in
-    let rest = All-tail (IsLeft sh v.ledger) f fs left in
-    reaps_placed fs (did v (Reap f) first.0) w first.1 across rows frame dups hand
-    (λ i d lt. still_left sh v.ledger f first.0 _ (rest i d lt))
-    (reap_placed sh _ f _ _ _ _ _ _ (All-head (IsLeft sh v.ledger) f fs left) p)
+    reaps_placed fs (did v (Reap f) first.0) w first.1
+    (λ i d lt. still_left v f first.0 _ (left (suc i) d (omega arith)))
+    across rows frame dups (reap_placed v f first.0 (left 0 f (omega arith)) across rows frame dups p)
 
 reaps_spend : (fs : List ℕ) (v w : KeeperView) → MakesSteps v w (map Reap fs) → spent v.ledger ≤ spent w.ledger
 reaps_spend [] v w m = grind (arith, m, none_made m)
 reaps_spend (f ∷ fs) v w m =
     let first = first_made m in
-    omega (arith, reap_spends v.table.shape v.ledger f first.0, reaps_spend fs (did v (Reap f) first.0) w first.1)
+    omega (arith, reap_spends v f first.0, reaps_spend fs (did v (Reap f) first.0) w first.1)
 
 -- the frames of a node end at the end of the table or before it
 pub node_end : (node nodes size : ℕ) → node < nodes → node * size + size ≤ nodes * size
@@ -150,19 +121,17 @@ pub searched_placed : {v w : KeeperView} (node : ℕ) → node < v.table.shape.n
 searched_placed {v} {w} node less m across rows frame dups hand p =
     let sh = v.table.shape in
     let size = sh.frames_per_node in
-    let low = node * size in
     let end = node_end _ _ size less in
-    let inside : All (λ f. f < frames_of sh) (range_with_len low size) = λ i d lt.
-    let long = length-range_with_len low size in
-    let at = get_or-range_with_len low size i d (omega arith) in
-    omega arith in
-    reaps_placed _ v w m _ _ _ _ _
-    (λ i d lt.
-    let f = get_or (dying_on sh v.ledger node) i d in (
-      All-filter _ (λ f. f < frames_of sh) _ inside i d lt,
-      subst (λ (x : Kind). FitsBase x (frame_at v.ledger f).base) (is_dying_kind (grind (arith, filter_passes))) (p.kinds f),
+    let inside : All (λ f. f < frames_of sh) (range_with_len (node * size) size) =
+    λ i d lt. grind (arith, length-range_with_len, get_or-range_with_len) in
+    reaps_placed _ v w m
+    (λ i d lt. grind (
+      arith,
+      All-filter (λ f. dying_kind (frame_at v.ledger f).kind) (λ f. f < frames_of sh) _ inside i d lt,
+      filter_passes,
+      p.kinds,
     ))
-    p
+    across rows frame dups p
 
 -- reaping spends no fewer lives
 pub searched_spends : {v w : KeeperView} (node : ℕ) → MakesSteps v w (map Reap (dying_on v.table.shape v.ledger node)) → spent v.ledger ≤ spent w.ledger

@@ -1,25 +1,22 @@
 -- What becomes of pages that lie lawfully, where the keeper makes its steps.
-use Rattle.ksm_book.proofs.Names.{[], All, ap, arith, blank, change_row, default_knobs, DupRow, false, find_all, first_ledger, frame_at, Frames, get_or, GuestPage, holding, Houses, inl, InPageOrder}
-use Rattle.ksm_book.proofs.Names.{inr, IsLaid, IsLawful, IsReadable, IsServed, IsShape, KeeperView, Keeps, Kind, kind_for, Knobs, Ledger, length, length-replicate, lies_on, List, Listing, map}
-use Rattle.ksm_book.proofs.Names.{MatchOption, Merged, merged_into, None, nowhere, Option, PAGE_WORDS, PageState, PagesView, Placed, Private, refl, replicate, Row, row_at, Shape, shared_state}
-use Rattle.ksm_book.proofs.Names.{slice_index_or, Some, spent, subst, suc, sym, HasNewFrame, true, with_frame, with_row, Zero, zero, zero_state, ℕ, ◌∙◌, ◌≡◌, ◌≤◌, ◌⊎◌, cond_both, Stable}
+use Rattle.ksm_book.proofs.Names.{All, arith, blank, cases_lt, change_row, cond_both, default_knobs, DupRow, false, find_all, first_ledger, frame_at, Frames, get_or, get_or_past, GuestPage}
+use Rattle.ksm_book.proofs.Names.{HasNewFrame, holding, Houses, inl, InPageOrder, IsLaid, IsLawful, IsServed, IsShape, KeeperView, Keeps, kind_for, Knobs, Ledger, length, length-replicate, lies_on}
+use Rattle.ksm_book.proofs.Names.{List, Listing, map, None, nowhere, Option, PAGE_WORDS, PageState, PagesView, Placed, Private, refl, Row, row_at, Shape, shared_state, Some, spent, subst, true}
+use Rattle.ksm_book.proofs.Names.{with_frame, with_row, zero_state, ℕ, [], ◌≡◌, ◌≤◌, ◌⊎◌}
 use Rattle.ksm_base.specs.declared.row.PageState.TheVariants.{Private as OwnPage}
 use Rattle.ksm_book.proofs.ByPage.{found_page, row_of_page}
+use Rattle.std.proofs.lemmas.List.{get_or-replicate}
 use Rattle.ksm_book.proofs.Keeping.{spent_kept}
-use Rattle.ksm_book.proofs.Moves.{Serves, framed, inserted, remapped, swapped, written_in}
+use Rattle.ksm_book.proofs.Moves.{framed, inserted, remapped, Serves, swapped, written_in}
 
 module _ {sh : Shape} {across : ℕ} (v : KeeperView) {rows : List Row} {frame : Frames} {dups : List DupRow} {hand : Option ℕ} (same : v.table.shape ≡ sh) where
-  -- a placement by this shape is one by the shape of the keeper's table
-  at_table : Placed sh across v.ledger rows frame dups hand → Placed v.table.shape across v.ledger rows frame dups hand
-  at_table p = rw same p
-
   -- a placement by the shape of the table is lawful as the keeper sees it
   pub lawful : Placed sh across v.ledger rows frame dups hand → IsLawful v hand
-  lawful p = (across, rows, frame, dups, at_table p)
+  lawful p = (across, rows, frame, dups, rw same p)
 
   -- a placement that is lawful before a call is lawful after it, where the call keeps every lawful placement
   pub kept : (w : KeeperView) (hand' : Option ℕ) → Keeps v w hand hand' → Placed sh across v.ledger rows frame dups hand → Placed sh across w.ledger rows frame dups hand'
-  kept w hand' keeps p = rw (← same) (keeps across rows frame dups (at_table p))
+  kept w hand' keeps p = rw (← same) (keeps across rows frame dups (rw same p))
 
 -- a keeper of the same table has its shape
 pub shape_same : (sh : Shape) (v w : KeeperView) → v.table.shape ≡ sh → w.table ≡ v.table → w.table.shape ≡ sh
@@ -35,12 +32,10 @@ module _ {sh : Shape} {across : ℕ} {v w : KeeperView} {rows : List Row} {frame
 
   -- a page moves to the frame taken: its placement is lawful, with the frame that it had, if it had one, in hand
   pub moved_there : (page : GuestPage) (c : Row → Row) → InPageOrder rows → Houses c page node bytes rows → Placed sh across w.ledger (change_row page c rows) (lies_on page (Some g) frame) dups (frame page)
-  moved_there page c rise houses = by _ refl houses.row
-    where
-      by : (o : Option Row) → row_at page rows ≡ o → MatchOption o ⊥ (λ r. ((c r).state ≡ OwnPage) × ((c r).home ≡ node) × ((c r).bytes ≡ bytes))
-          → Placed sh across w.ledger (change_row page c rows) (lies_on page (Some g) frame) dups (frame page)
-      by None found none = absurd none
-      by (Some row) found h = swapped _ c row rise found houses.pages in_new_hand (serves _ h.0 h.1 h.2)
+  moved_there page c rise houses =
+      let found : (row : Row) × (row_at page rows ≡ Some row) = grind arith in
+      swapped (Some g) c found.0 rise found.1 houses.pages in_new_hand
+      (serves _ (grind arith) (grind arith) (grind arith))
 
   -- where a new row comes on the frame taken, rows and dups lie lawfully
   pub come_there : (r : Row) → row_at r.page rows ≡ None → r.state ≡ OwnPage → r.home ≡ node → r.bytes ≡ bytes → Placed sh across w.ledger (with_row r rows) (lies_on r.page (Some g) frame) dups None
@@ -54,32 +49,14 @@ own_kind s e = grind arith
 pub own_framed : (s : PageState) → shared_state s ≡ false → zero_state s ≡ false
 own_framed s e = grind arith
 
--- a row whose frame is Stable is an item of a dup
-pub number_of_kind : (s : PageState) → kind_for s ≡ Stable → (n : ℕ) × (s ≡ Merged n)
-number_of_kind s is = grind arith
-
 -- a row may stand in the stead of another on its frame: same home and bytes, and the same state, or neither is shared
 abbrev pub LodgesAs : Row → Row → Type 0
 LodgesAs row r = (row.home ≡ r.home) × (row.bytes ≡ r.bytes) × ((row.state ≡ r.state) ⊎ ((shared_state r.state ≡ false) × (shared_state row.state ≡ false)))
 
 module _ {sh : Shape} {across : ℕ} {k : Ledger} {rows : List Row} {frame : Frames} {dups : List DupRow} {hand : Option ℕ} (p : Placed sh across k rows frame dups hand) where
   -- a row that may stand in the stead of another is served by its frame
-  module _ (old r : Row) (f : ℕ) (served : Serves sh k dups old f) where
-    same_state : r.state ≡ old.state → r.home ≡ old.home → r.bytes ≡ old.bytes → Serves sh k dups r f
-    same_state s home bytes = subst (λ (z : PageState × ℕ × List ℕ). Serves sh k dups (assumption) f) (λ t. (sym s t, sym home t, sym bytes t)) (grind arith)
-
-    both_own : shared_state old.state ≡ false → shared_state r.state ≡ false → r.home ≡ old.home → r.bytes ≡ old.bytes → Serves sh k dups r f
-    both_own was now home bytes =
-        grind arith
-
-    lodged : LodgesAs r old → Serves sh k dups r f
-    lodged (home, bytes, inl s) = same_state s home bytes
-    lodged (home, bytes, inr own) = both_own own.0 own.1 home bytes
-
   lodged_as : (old r : Row) (o : Option ℕ) → LodgesAs r old → IsServed sh k dups old o → IsServed sh k dups r o
-  lodged_as old r (Some f) lodges served = lodged old r f served lodges
-  lodged_as old r None (home, bytes, inl s) served = ap zero_state s ∙ served
-  lodged_as old r None (home, bytes, inr own) served = absurd (grind arith)
+  lodged_as old r o lodges served = grind arith
 
   -- the row of a page is served by its frame
   pub served_at : (page : GuestPage) (row : Row) → row_at page rows ≡ Some row → IsServed sh k dups row (frame page)
@@ -94,12 +71,7 @@ module _ {p : PagesView} {k : KeeperView} (h : IsLaid p k) where
 
   -- pages that lie lawfully do so after a call that keeps every lawful placement and spends no fewer lives
   pub laid_kept : (w : KeeperView) → w.table ≡ k.table → Keeps k w None None → spent k.ledger ≤ spent w.ledger → IsLaid p w
-  laid_kept w e keeps more = record {
-    small = h.small;
-    same = shape_same sh k w h.same e;
-    placed = kept k h.same w None keeps h.placed;
-    spent = omega arith;
-  }
+  laid_kept w e keeps more = let placed = kept k h.same w None keeps h.placed in grind arith
 
   -- pages lie lawfully with other rows and frames that are placed lawfully beside the same dups
   pub laid_rows : {rows : List Row} {frame : Frames} {restless : Listing} (w : KeeperView) → w.table ≡ k.table → spent k.ledger ≤ spent w.ledger → Placed sh across w.ledger rows frame p.dups None
@@ -108,8 +80,8 @@ module _ {p : PagesView} {k : KeeperView} (h : IsLaid p k) where
 
   -- pages lie lawfully where each row changes into one that may stand in its stead on its frame
   pub laid_mapped : (c : Row → Row) (restless : Listing) → ((r : Row) → (c r).page ≡ r.page) → All (λ r. LodgesAs (c r) r) p.rows → IsLaid (record p { rows = map c p.rows; restless = restless }) k
-  laid_mapped c restless keeps lodges = laid_rows k refl (omega arith)
-      (remapped None c keeps h.placed (λ i d lt. let r = get_or p.rows i d in lodged_as h.placed r (c r) _ (lodges i d lt)))
+  laid_mapped c restless keeps lodges =
+      laid_rows k refl (omega arith) (remapped None c keeps h.placed (grind (arith, lodged_as h.placed)))
 
   -- pages lie lawfully where the row of a page changes into one that may stand in its stead on its frame
   pub laid_changed : (page : GuestPage) (row : Row) (c : Row → Row) (restless : Listing) → InPageOrder p.rows → row_at page p.rows ≡ Some row
@@ -128,20 +100,11 @@ module _ {p : PagesView} {k : KeeperView} (h : IsLaid p k) where
       → w.table ≡ k.table → w.ledger ≡ with_frame k.ledger g (holding (frame_at k.ledger g) (c row).bytes) → length (c row).bytes ≡ PAGE_WORDS → shared_state row.state ≡ false → (c row).home ≡ row.home → (c row).state ≡ OwnPage
       → IsLaid (record p { rows = change_row page c p.rows; restless = restless }) w
   laid_written page row c restless w g rise found keeps lies e ledger wide alone home is =
-      let served = subst (IsServed sh k.ledger p.dups row) lies (served_at h.placed _ row found) in
-      let kind = served.0.kind ∙ own_kind _ alone in
-      let fr = holding (frame_at k.ledger g) (c row).bytes in
-      let more : spent k.ledger ≤ spent (with_frame k.ledger g fr) = grind (arith, spent_kept) in
-      let end = ap spent ledger in
-      laid_rows w e (omega arith)
-      (rw ledger
-      (written_in h.placed _ row rise found g lies kind c keeps fr kind refl refl wide
-      (ap zero_state is) (ap kind_for is) (λ n. ap (merged_into n) is) home refl alone))
-
--- a frame of the kind that a row has which is not Zero may be read
-pub readable : {x : Kind} (s : PageState) → zero_state s ≡ false → x ≡ kind_for s → IsReadable x
-readable Zero framed e = absurd (grind arith)
-readable _ framed e = subst IsReadable (sym e) tt
+      let served = served_at h.placed page row found in
+      laid_rows w e (grind (arith, spent_kept))
+      (rw ledger (written_in h.placed _ row rise found g lies (grind arith) c keeps
+      (holding (frame_at k.ledger g) (c row).bytes) (grind arith) refl refl wide
+      (grind arith) (grind arith) (grind arith) home refl alone))
 
 -- pages lie lawfully with other knobs, where merge_across_nodes stays as it is or there are no dups
 pub retuned : {p : PagesView} {tuned : Knobs} {k : KeeperView} → (tuned.merge_across_nodes ≡ p.knobs.merge_across_nodes) ⊎ (p.dups ≡ []) → IsLaid p k → IsLaid (record p { knobs = tuned }) k
@@ -149,15 +112,10 @@ retuned either h = grind arith
 
 -- ---------------------------------------------------------------- no rows
 
-same_in : {A : Type 0} (n i : ℕ) (a : A) → slice_index_or (replicate n a) i a ≡ a
-same_in zero i a = refl
-same_in (suc n) zero a = refl
-same_in (suc n) (suc i) a = same_in n i a
-
 pub first_note : (sh : Shape) (f : ℕ) → frame_at (first_ledger sh) f ≡ blank
-first_note _ f = same_in _ f _
+first_note sh f = grind (arith, get_or-replicate, get_or_past, length-replicate, cases_lt)
 
 -- pages lie lawfully as they are opened, with no rows and no dups, where the keeper has its first ledger
 pub first_laid : {sh : Shape} {k : KeeperView} → IsShape sh → k.table.shape ≡ sh → k.ledger ≡ first_ledger sh
     → IsLaid (record { shape = sh; rows = []; frame = nowhere; dups = []; knobs = default_knobs; next = 0; restless = record { pages = []; known = true } }) k
-first_laid {sh} is same first = grind (arith, length-replicate, same_in)
+first_laid {sh} is same first = grind (arith, length-replicate, first_note, get_or-replicate, get_or_past, cases_lt)

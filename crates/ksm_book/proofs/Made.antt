@@ -1,7 +1,6 @@
 -- Parts of a log, and lists of steps that were made, one after the other.
-use Rattle.ksm_book.proofs.Names.{length-take-le, [], along, ap, append-nil, append_assoc, arith, Allocates, did, drop, get_or, given_by, Gives, IsNeeded, KeeperStep, KeeperView, Ledger, ledger_after}
-use Rattle.ksm_book.proofs.Names.{length, List, Log, MakesSteps, map-append, needed_after, Option, refl, replayed, set, Shape, stepped, steps_of, suc, sym, take, take_more, zero, ℕ, ◌++◌, ◌+◌, ◌<◌}
-use Rattle.ksm_book.proofs.Names.{◌∙◌, ◌∷◌, ◌≡◌}
+use Rattle.ksm_book.proofs.Names.{Allocates, along, append-nil, append_assoc, arith, did, drop, get_or, given_by, Gives, KeeperStep, KeeperView, Ledger, ledger_after, length, length-take-le, List}
+use Rattle.ksm_book.proofs.Names.{Log, MakesSteps, map-append, needed_after, refl, replayed, set, Shape, stepped, steps_of, suc, take, take_more, zero, ℕ, [], ◌++◌, ◌+◌, ◌<◌, ◌∷◌, ◌≡◌}
 
 -- a log is replayed part by part
 pub replayed_append : (sh : Shape) (k : Ledger) (xs ys : Log) → replayed sh k (xs ++ ys) ≡ replayed sh (replayed sh k xs) ys
@@ -10,16 +9,12 @@ replayed_append sh k (x ∷ xs) ys = replayed_append sh (ledger_after sh k x.0 x
 
 -- two parts, one after the other, are made as one
 pub stepped_then : (v : KeeperView) (xs ys : Log) → stepped (stepped v xs) ys ≡ stepped v (xs ++ ys)
-stepped_then v xs ys = grind (arith, replayed_append v.table.shape v.ledger xs ys, append_assoc v.log xs ys)
-
-needed_more : (ms ns : List ℕ) (o : Option ℕ) (sh : Shape) (k : Ledger) → IsNeeded sh k ms o → IsNeeded sh k (ms ++ ns) o × (needed_after (ms ++ ns) o ≡ needed_after ms o ++ ns)
-needed_more ms ns o sh k h = grind arith
+stepped_then v xs ys = grind (arith, replayed_append, append_assoc)
 
 gives_append : (sh : Shape) (k : Ledger) (ms ns : List ℕ) (xs ys : Log) → Gives sh k ms xs → Gives sh (replayed sh k xs) ns ys → Gives sh k (ms ++ ns) (xs ++ ys)
 gives_append sh k ms ns [] ys h h' = rw h h'
 gives_append sh k ms ns (x ∷ xs) ys h h' =
-    let more = needed_more ms ns _ sh k h.0 in
-    (more.0, rw more.1 (gives_append sh (ledger_after sh k x.0 x.1) (needed_after ms (given_by x.0)) ns xs ys h.1 h'))
+    grind (arith, gives_append sh (ledger_after sh k x.0 x.1) (needed_after ms (given_by x.0)) ns xs ys)
 
 -- two parts, one after the other, gave the frames of both
 pub chained : {u v w : KeeperView} {ms ns : List ℕ} {xs ys : Log} → Allocates u v ms xs → Allocates v w ns ys → Allocates u w (ms ++ ns) (xs ++ ys)
@@ -27,25 +22,25 @@ chained {u} {ms = ms} {ns} {xs} {ys} a b = grind (arith, append_assoc, replayed_
 
 along_push : (step : ℕ → ℕ → KeeperStep × ℕ) (j w : ℕ) (ws : List ℕ) → along step j (ws ++ w ∷ []) ≡ along step j ws ++ step (j + length ws) w ∷ []
 along_push step j w [] = grind arith
-along_push step j w (x ∷ xs) = rw (along_push step (j + 1) w xs ∙ (let e : j + 1 + length xs ≡ j + suc (length xs) = omega arith in ap (λ i. along step (j + 1) xs ++ step i w ∷ []) e))
+along_push step j w (x ∷ xs) = grind (arith, along_push step (j + 1) w xs)
 
 -- a step was made for each of the first words, and now for one more
 pub along_one : (step : ℕ → ℕ → KeeperStep × ℕ) (v w w' : KeeperView) (i : ℕ) (ws : List ℕ) → i < length ws → w ≡ stepped v (along step 0 (take i ws))
     → w' ≡ stepped w (step i (get_or ws i 0) ∷ []) → w' ≡ stepped v (along step 0 (take (i + 1) ws))
 along_one step v w w' i ws lt so_far is =
-    let word = get_or ws i 0 in
-    let place : 0 + length (take i ws) ≡ i = (omega (arith, length-take-le i ws (omega arith))) in
-    rw (take_more ws i 0 lt)
-    (is ∙ ap (λ z. stepped z (step i word ∷ [])) so_far ∙ stepped_then v _ _
-    ∙ ap (λ n. stepped v (along step 0 (take i ws) ++ step n word ∷ [])) (sym place)
-    ∙ ap (stepped v) (sym (along_push _ 0 _ _)))
+    let place : 0 + length (take i ws) ≡ i = omega (arith, length-take-le i ws (omega arith)) in
+    grind (
+      arith,
+      take_more ws i 0 lt,
+      stepped_then v (along step 0 (take i ws)) (step i (get_or ws i 0) ∷ []),
+      along_push step 0 (get_or ws i 0) (take i ws),
+    )
 
 -- one word more of a list is written over another
 pub word_written : (ws cs : List ℕ) (i : ℕ) → length cs ≡ length ws → i < length ws → set (take i ws ++ drop i cs) i (get_or ws i 0) ≡ take (i + 1) ws ++ drop (i + 1) cs
-word_written [] cs i same lt = absurd (omega arith)
-word_written (w ∷ ws) [] i same lt = absurd (omega arith)
 word_written (w ∷ ws) (c ∷ cs) zero same lt = refl
-word_written (w ∷ ws) (c ∷ cs) (suc i) same lt = grind (arith, word_written ws cs i (omega arith) (omega arith))
+word_written (w ∷ ws) (c ∷ cs) (suc i) same lt = grind (arith, word_written ws cs i)
+word_written ws cs i same lt = absurd (grind arith)
 
 -- ---------------------------------------------------------------- steps, and no others
 
@@ -55,19 +50,15 @@ made_none {v} e = grind (arith, append-nil)
 
 -- a keeper that went on by one step has made that step and no other
 pub made_one : (v w : KeeperView) (e : KeeperStep) (found : ℕ) → w ≡ did v e found → MakesSteps v w (e ∷ [])
-made_one v w e found is = record { part = (e, found) ∷ []; after = is; are = refl }
+made_one v w e found is = grind arith
 
 -- a keeper that went on by a part of the log has made the steps of that part
 pub made_part : (v w : KeeperView) (part : Log) → w ≡ stepped v part → MakesSteps v w (steps_of part)
-made_part v w part is = record { part = part; after = is; are = refl }
+made_part v w part is = grind arith
 
 -- two pieces of work, one after the other, have made the steps of both
 pub made_then : {u v w : KeeperView} {xs ys : List KeeperStep} → MakesSteps u v xs → MakesSteps v w ys → MakesSteps u w (xs ++ ys)
-made_then {u} a b = record {
-  part = a.part ++ b.part;
-  after = grind (arith, b.after, a.after, stepped_then);
-  are = map-append (λ (e : KeeperStep × ℕ). e.0) a.part b.part ∙ (λ i. a.are i ++ b.are i);
-}
+made_then {u} a b = grind (arith, stepped_then, map-append)
 
 -- where no step was made, nothing changed
 pub none_made : {v w : KeeperView} → MakesSteps v w [] → w ≡ v
@@ -84,8 +75,7 @@ first_made {v} {w} {e} {es} m = by _ m.after m.are
     by : (part : Log) → w ≡ stepped v part → steps_of part ≡ e ∷ es → (found : ℕ) × MakesSteps (did v e found) w es
     by [] after are = absurd (grind arith)
     by (s ∷ part) after are =
-        let first : s.0 ≡ e = grind arith in
-        (s.1, record { part = part; after = rw (← first) (after ∙ sym (stepped_then v _ _)); are = grind arith })
+        (s.1, record { part = part; after = grind (arith, stepped_then v (s ∷ []) part); are = grind arith })
 
 -- a keeper that made one step went on by that step, with some word that it found
 pub step_made : {v w : KeeperView} {e : KeeperStep} → MakesSteps v w (e ∷ []) → (found : ℕ) × (w ≡ did v e found)

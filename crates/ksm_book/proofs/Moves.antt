@@ -1,13 +1,12 @@
 -- What each step of a command does to a placement.
-use Rattle.ksm_book.proofs.Names.{Agrees, All, All-filter, All-map, all_with_row, ap, arith, cases_lt, change_row, cond_both, DupFits, DupRow, false, filter, filter_passes, find_all, find_none}
-use Rattle.ksm_book.proofs.Names.{FitsBase, frame_at, Frames, frames_of, GenerationFits, get_or, get_or-set_other, get_or-set_same, GuestPage, if◌then◌else◌, in_hand, inl, InPageOrder, inr, is_frame}
-use Rattle.ksm_book.proofs.Names.{IsInLife, IsServed, item_count, kind_for, Ledger, length, length-set, lies_on, List, lt-ltb, map, Merged, merged_into, named_at, nat_lt, None, not, Note, Option}
-use Rattle.ksm_book.proofs.Names.{ordered_change, PAGE_WORDS, place_frame, Placed, Private, refl, Row, row_at, RowFits, same_page, same_page_refl, set, Shape, shared_state, Some, Stable, subst, sym}
-use Rattle.ksm_book.proofs.Names.{true, uses, with_dup, with_frame, with_row, without_page, Zero, zero_state, ℕ, ◌+◌, ◌/◌, ◌<◌, ◌∙◌, ◌∷◌, ◌≡◌, ◌≢◌, count_alike, Contains, Contains-append_left}
-use Rattle.ksm_book.proofs.Names.{Contains-append_right, suc, all_with_dup}
-use Rattle.ksm_book.proofs.Noted.{by_frame, noted}
-use Rattle.ksm_book.proofs.ByPage.{all_changed_row, at_changed, change_twice, lies_again, lies_still, one_same, row_of_page, uses_some, found_page, off_page, on_page, uses_changed, uses_come}
-use Rattle.ksm_book.proofs.ByPage.{uses_gone, uses_mapped}
+use Rattle.ksm_book.proofs.Names.{Agrees, All, All-filter, All-map, all_with_dup, all_with_row, ap, arith, cases_lt, change_row, Contains, Contains-append_left, Contains-append_right, count_alike}
+use Rattle.ksm_book.proofs.Names.{DupFits, DupRow, false, filter, filter_passes, find_all, find_none, FitsBase, frame_at, Frames, frames_of, GenerationFits, get_or, get_or-set_other, get_or-set_same}
+use Rattle.ksm_book.proofs.Names.{GuestPage, in_hand, inl, InPageOrder, inr, is_frame, IsInLife, IsServed, item_count, kind_for, Ledger, length, length-set, lies_on, List, lt-ltb, map, Merged}
+use Rattle.ksm_book.proofs.Names.{merged_into, named_at, nat_lt, None, not, Note, Option, ordered_change, PAGE_WORDS, place_frame, Placed, Private, refl, Row, row_at, RowFits, same_page}
+use Rattle.ksm_book.proofs.Names.{same_page_refl, set, Shape, shared_state, Some, Stable, suc, sym, true, uses, with_dup, with_frame, with_row, without_page, Zero, zero_state, ℕ, ◌+◌, ◌/◌, ◌<◌, ◌∙◌}
+use Rattle.ksm_book.proofs.Names.{◌∷◌, ◌≡◌, ◌≢◌}
+use Rattle.ksm_book.proofs.Noted.{at_it, at_other, noted}
+use Rattle.ksm_book.proofs.ByPage.{all_changed_row, at_changed, change_twice, found_page, lies_again, lies_still, on_page, row_of_page, uses_changed, uses_come, uses_gone, uses_mapped, uses_some}
 use Rattle.ksm_base.proofs.Changes.{contains_filter}
 use Rattle.std.proofs.lemmas.List.Elements.{Contains-get_or}
 
@@ -63,33 +62,30 @@ module _ {sh : Shape} {across : ℕ} {k : Ledger} {rows : List Row} {frame : Fra
       → Placed sh across k rows frame dups o → IsServed sh k dups (c row) o → Placed sh across k (change_row page c rows) (lies_on page o frame) dups (frame page)
   swapped o {page} c row rise found keeps p new =
       let at = ap (λ q. same_page q page) (keeps row ∙ found_page _ rows row found) ∙ same_page_refl page in
-      rehoused p (all_changed_row (At sh k dups frame) (At sh k dups (lies_on page o frame)) _ c _ row rise found p.each_row
-      (grind arith)
-      (grind arith))
+      rehoused p
+      (all_changed_row (At sh k dups frame) (At sh k dups (lies_on page o frame)) _ c _ row rise found p.each_row
+      (grind arith) (grind arith))
       (λ f. p.bases f ∙ sym (grind (arith, uses_changed)))
 
   -- rows and dups lie lawfully where each row changes, keeps its page, and is served by its frame still
   pub remapped : (hand : Option ℕ) (c : Row → Row) → ((r : Row) → (c r).page ≡ r.page) → Placed sh across k rows frame dups hand
       → All (λ r. At sh k dups frame r → IsServed sh k dups (c r) (frame r.page)) rows → Placed sh across k (map c rows) frame dups hand
-  remapped hand c keeps p new = rehoused p
-      (All-map (At sh k dups frame) c rows (λ i d lt. let r : Row = get_or rows i d in subst (λ q. IsServed sh k dups (c r) (frame q)) (sym (keeps r)) (new i d lt (p.each_row i d lt))))
+  remapped hand c keeps p new = rehoused p (All-map (At sh k dups frame) c rows (grind arith))
       (λ f. rw (uses_mapped f frame c rows keeps) (p.bases f))
 
   -- rows and dups lie lawfully where a new row comes on the frame in hand
   pub inserted : (o : Option ℕ) (row : Row) → row_at row.page rows ≡ None → Placed sh across k rows frame dups o → IsServed sh k dups row o
       → Placed sh across k (with_row row rows) (lies_on row.page o frame) dups None
   inserted o row absent p new =
-      let apart = find_none _ _ absent in
-      rehoused p (all_with_row (At sh k dups (lies_on row.page o frame)) row _ (grind arith)
-      (λ i d lt. let r = get_or rows i d in subst (IsServed sh k dups r) (sym (off_page row.page o frame r.page (apart i d lt))) (p.each_row i d lt)))
+      let apart : All (λ r. same_page r.page row.page ≡ false) rows = find_none _ _ absent in
+      rehoused p (all_with_row (At sh k dups (lies_on row.page o frame)) row _ (grind arith) (grind arith))
       (λ f. omega (arith, uses_come f o frame row _ absent))
 
   -- where the row of a page goes, rows and dups lie lawfully with its frame, if it had one, in hand
   pub removed : (page : GuestPage) (row : Row) → InPageOrder rows → row_at page rows ≡ Some row → Placed sh across k rows frame dups None
       → Placed sh across k (without_page page rows) (lies_on page None frame) dups (frame page)
-  removed page row rise found p =
-      let kept = All-filter (λ r. not (same_page r.page page)) (At sh k dups frame) _ p.each_row in
-      rehoused p (grind (arith, filter_passes))
+  removed page row rise found p = rehoused p
+      (grind (arith, filter_passes, All-filter (λ r. not (same_page r.page page)) (At sh k dups frame) _ p.each_row))
       (λ f. omega (arith, uses_gone f _ None frame _ row rise found))
 
   -- a place comes to name the frame in the hand, on which no row lies, and a new dup without items stands there
@@ -104,41 +100,37 @@ module _ {sh : Shape} {across : ℕ} {k : Ledger} {rows : List Row} {frame : Fra
     named_off : (q : ℕ) → q ≢ d.place → named_at named q ≡ named_at k q
     named_off q ne = grind (arith, get_or-set_other)
 
-    names : place_frame named d.place ≡ g
-    names = grind (arith, named_is)
+    module _ (apart : All (λ e. e.place ≢ d.place) dups) where
+      named_anew : uses g frame rows ≡ 0 → (frame_at k g).content ≡ d.bytes
+          → (across ≡ 0 → g / sh.frames_per_node ≡ d.tree) → All (λ r. merged_into d.number r.state ≡ false) rows
+          → Placed sh across named rows frame (with_dup d dups) (Some g)
+      named_anew unused bytes tree fresh = record {
+        frames_long = p.frames_long;
+        places_long = grind (arith, length-set);
+        widths = p.widths;
+        lives = p.lives;
+        each_row = λ i x lt. let r : Row = get_or rows i x in
+            served_as sh k named dups (with_dup d dups) r r (frame r.page) refl (λ f is m. (
+              grind arith,
+              all_with_dup (Agrees named r f) d dups (grind (arith, named_is, uses_some g frame rows i x lt))
+                  (λ n y l. grind (arith, named_off)),
+            )) (p.each_row i x lt);
+        each_dup = all_with_dup (DupFits sh across named) d dups (grind (arith, named_is))
+            (λ n x l. grind (arith, named_off));
+        bases = p.bases;
+        kinds = p.kinds;
+        empty = grind (arith, all_without, named_off);
+      }
 
-    in_life : IsInLife named d.place
-    in_life = rw names (lived ∙ sym (grind (arith, named_is)))
-
-    names_off : (e : DupRow) → e.place ≢ d.place → place_frame named e.place ≡ place_frame k e.place
-    names_off e ne = grind (arith, named_off)
-
-    life_off : (e : DupRow) → e.place ≢ d.place → IsInLife named e.place → IsInLife k e.place
-    life_off e ne l = grind (arith, named_off)
-
-    named_anew : All (λ e. e.place ≢ d.place) dups → uses g frame rows ≡ 0 → (frame_at k g).content ≡ d.bytes → (across ≡ 0 → g / sh.frames_per_node ≡ d.tree) → All (λ r. merged_into d.number r.state ≡ false) rows
-        → Placed sh across named rows frame (with_dup d dups) (Some g)
-    named_anew apart unused bytes tree fresh = record {
-      frames_long = p.frames_long;
-      places_long = grind (arith, length-set);
-      widths = p.widths;
-      lives = p.lives;
-      each_row = λ i x lt. let r : Row = get_or rows i x in served_as sh k named dups (with_dup d dups) r r (frame r.page) refl (λ f is m. (
+      -- a row on that frame is its first item
+      first_item : (r : Row) → All (λ e. IsInLife k e.place → g ≢ place_frame k e.place) dups → RowFits sh k r g
+          → r.state ≡ Merged d.number
+          → All (λ e. ¬ (e.number ≡ d.number)) dups → IsServed sh named (with_dup d dups) r (Some g)
+      first_item r off fits item numbers = (
         grind arith,
-        all_with_dup (Agrees named r f) d dups
-            (record {
-              item = grind arith;
-              back = λ _ e. absurd (omega (arith, uses_some g frame rows i x lt (is ∙ ap Some (e ∙ names))));
-            })
-            (λ n y l. let e : DupRow = get_or dups n y in let ne = apart n y l in grind (arith, named_off)),
-      )) (p.each_row i x lt);
-      each_dup = all_with_dup (DupFits sh across named) d dups
-          (grind (arith, named_is))
-          (λ n x l. grind (arith, named_off));
-      bases = p.bases;
-      kinds = p.kinds;
-      empty = grind (arith, all_without, named_off);
-    }
+        all_with_dup (Agrees named r g) d dups (grind (arith, named_is))
+            (λ n x l. grind (arith, named_off)),
+      )
 
 -- the row of a page leaves its frame, and comes back changed; items of dups
 module _ {sh : Shape} {across : ℕ} {k : Ledger} {rows : List Row} {frame : Frames} {dups : List DupRow} where
@@ -146,7 +138,7 @@ module _ {sh : Shape} {across : ℕ} {k : Ledger} {rows : List Row} {frame : Fra
       (g : ℕ) (lies : frame page ≡ Some g) (own : (frame_at k g).kind ≡ Private) where
     -- the row is served by its frame
     fits : Serves sh k dups row g
-    fits = subst (IsServed sh k dups row) (ap frame (found_page _ _ row found) ∙ lies) (find_all _ (λ r. IsServed sh k dups r (frame r.page)) _ row found p.each_row)
+    fits = grind (arith, found_page, find_all _ (λ r. IsServed sh k dups r (frame r.page)) _ row found p.each_row)
 
     abbrev bared : Row → Row
     bared r = record r { state = Zero }
@@ -159,13 +151,13 @@ module _ {sh : Shape} {across : ℕ} {k : Ledger} {rows : List Row} {frame : Fra
 
     -- without the page its frame is in the hand
     lifted : Placed sh across k bare off dups (Some g)
-    lifted = subst (Placed sh across k bare off dups) lies (swapped None _ row rise found (λ r. refl) p refl)
+    lifted = rw (← lies) (swapped None _ row rise found (λ r. refl) p refl)
 
     one : (frame_at k g).base ≡ 1
     one = grind arith
 
     unused : uses g off bare ≡ 0
-    unused = omega (arith, one, lifted.bases g, one_same g refl)
+    unused = grind (arith, one, lifted.bases g)
 
     -- meanwhile its note changes
     module _ (fr : Note) (life : fr.generation ≡ (frame_at k g).generation) where
@@ -174,23 +166,23 @@ module _ {sh : Shape} {across : ℕ} {k : Ledger} {rows : List Row} {frame : Fra
       turned wide base lived counts = noted lifted g fits.0.frame fr _ (grind (arith, unused)) (λ f ne. refl)
 
       turned_note : frame_at (with_frame k g fr) g ≡ fr
-      turned_note = by_frame p g fits.0.frame fr (λ x. x ≡ fr) g (λ _. refl) (λ ne. absurd (ne refl))
+      turned_note = at_it p g fits.0.frame fr
 
       turned_life : (h : ℕ) → (frame_at (with_frame k g fr) h).generation ≡ (frame_at k h).generation
-      turned_life h = by_frame p g fits.0.frame fr (λ x. x.generation ≡ (frame_at k h).generation) h (λ e. rw e life) (λ _. refl)
+      turned_life h = grind (arith, turned_note, at_other p g fits.0.frame fr)
 
     -- the page comes back to it
     back : {k' : Ledger} {dups' : List DupRow} (c : Row → Row) → ((r : Row) → (c r).page ≡ r.page) → Placed sh across k' bare off dups' (Some g)
         → IsServed sh k' dups' (c row) (Some g) → Placed sh across k' (change_row page c rows) frame dups' None
     back {k'} {dups'} c keeps q served =
         let d : Row → Row = λ r. record (c row) { page = r.page } in
-        let same : d row ≡ c row = grind arith in
-        let again = change_twice _ _ d c _ (λ r. refl) (grind (arith, row_of_page)) in
-        let there = lies_again page None (Some g) frame ∙ lies_still _ _ _ lies in
-        subst (λ (z : List Row × Frames × Option ℕ). Placed sh across k' z.0 z.1 dups' z.2)
-        (λ t. (again t, there t, on_page page None frame page (same_page_refl page) t))
-        (swapped _ d _ (ordered_change _ _ _ (λ r. refl) rise)
-        (at_changed page bared rows row (λ r. refl) found) (λ r. refl) q (rw same served))
+        let again : change_row page d bare ≡ change_row page c rows =
+        change_twice _ _ d c _ (λ r. refl) (grind (arith, row_of_page)) in
+        let there : lies_on page (Some g) off ≡ frame = lies_again page None (Some g) frame ∙ lies_still _ _ _ lies in
+        let here : off page ≡ None = on_page page None frame page (same_page_refl page) in
+        let s = swapped (Some g) {page = page} d _ (ordered_change _ _ _ (λ r. refl) rise)
+        (at_changed page bared rows row (λ r. refl) found) (λ r. refl) q (grind arith) in
+        grind arith
 
     -- rows and dups lie lawfully where a row that is not shared gets new bytes, and its frame holds them
     pub written_in : (c : Row → Row) → ((r : Row) → (c r).page ≡ r.page) → (fr : Note) → fr.kind ≡ Private → fr.base ≡ (frame_at k g).base → fr.generation ≡ (frame_at k g).generation → length fr.content ≡ PAGE_WORDS
@@ -198,20 +190,8 @@ module _ {sh : Shape} {across : ℕ} {k : Ledger} {rows : List Row} {frame : Fra
         → Placed sh across (with_frame k g fr) (change_row page c rows) frame dups None
     written_in c keeps fr kind base life wide mapped is alone home bytes was =
         let here = turned_note fr life in
-        let q = turned fr life wide (base ∙ one)
-        (grind arith)
-        (grind arith) in
-        back c keeps q (
-          record {
-            mapped = mapped;
-            frame = fits.0.frame;
-            kind = rw here (kind ∙ sym is);
-            content = rw here (sym bytes);
-            given = grind arith;
-            node = λ _. fits.0.node was ∙ sym home;
-          },
-          own_agrees q _ g alone (rw here kind),
-        )
+        let q = turned fr life wide (grind (arith, one)) (grind arith) (grind arith) in
+        back c keeps q (grind (arith, fits), own_agrees q _ g alone (rw here kind))
 
     -- the note of the row's frame once it is Stable
     abbrev stable : Note
@@ -225,27 +205,14 @@ module _ {sh : Shape} {across : ℕ} {k : Ledger} {rows : List Row} {frame : Fra
     published d inside c keeps item same bytes home was fresh numbers apart =
         let served = fits.0 in
         let here = turned_note stable refl in
-        let gens = turned_life stable refl in
-        let q = turned stable refl (p.widths g) one
-        (grind arith) (omega (arith, one)) in
-        let life : ℕ = (frame_at k g).generation in
+        let lived = turned_life stable refl in
+        let q = turned stable refl (p.widths g) one (grind arith) (omega (arith, one)) in
         let kind = ap (λ (x : Note). x.kind) here in
-        let words = ap (λ (x : Note). x.content) here in
-        let off_life = life_off q kind served.frame life (gens g) d inside in
-        let off_there = names_off q kind served.frame life (gens g) d inside in
         back c keeps
-        (named_anew q kind served.frame life (gens g) d inside apart unused (words ∙ served.content ∙ sym bytes)
-        (λ z. served.node was ∙ home z)
-        (All-map (λ r. merged_into d.number r.state ≡ false) (λ r. if same_page r.page page then record r { state = Zero } else r) rows (λ i x lt. let r : Row = get_or rows i x in
-        cond_both (same_page r.page page) (record r { state = Zero }) r (λ y. merged_into d.number y.state ≡ false) (λ _. refl) (λ _. fresh i x lt)))) (
-          grind arith,
-          all_with_dup (Agrees (named q kind served.frame _ (gens g) d inside) (c row) g) d dups
-              (record {
-                item = λ _. (sym (names q kind served.frame life (gens g) d inside), in_life q kind served.frame life (gens g) d inside);
-                back = grind arith;
-              })
-              (λ n x l. grind arith),
-        )
+        (named_anew q kind served.frame _ (lived g) d inside apart unused (grind arith)
+        (λ z. served.node was ∙ home z) (All-map (λ r. merged_into d.number r.state ≡ false) _ rows (grind arith)))
+        (first_item q kind served.frame _ (lived g) d inside apart (c row) (λ n x l. grind arith)
+        (grind arith) item numbers)
 
   module _ (p : Placed sh across k rows frame dups None) (n : ℕ) (d : DupRow) (lt : n < length dups) where
     abbrev dup : DupRow

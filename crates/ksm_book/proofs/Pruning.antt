@@ -1,20 +1,22 @@
 -- Stale dups go one by one.
-use Rattle.ksm_book.proofs.Names.{[], All, All-head, All-tail, ap, append-nil, append_assoc, arith, cases_Bool, count_by, count_by-le-length, did, DupRow, elsewhere, eqb-true, false, filter}
-use Rattle.ksm_book.proofs.Names.{filter_all, filter_none, find, find_all, find_none, find_passes, frames_at_most, frames_of, get_or, has_items, inl, InPlaceOrder, inr, is_stale, IsLaid, IsVacant}
-use Rattle.ksm_book.proofs.Names.{item_count, KeeperView, length, length-append, length-filter, List, lying, MakesSteps, map, map-append, May, None, not, one_of_each_place, option_map, ordered_filter}
-use Rattle.ksm_book.proofs.Names.{PagesView, pairs_tail, Performs, pruning, refl, Row, Some, subst, suc, sym, true, Withdraw, ℕ, ◌++◌, ◌+◌, ◌<◌, ◌==◌, ◌^◌, ◌∙◌, ◌∷◌, ◌≡◌, ◌≤◌}
+use Rattle.ksm_book.proofs.Names.{All, ap, append-nil, append_assoc, arith, count_by, count_by-le-length, did, DupRow, elsewhere, eqb-true, false, filter, filter_all, filter_none, find, find_all}
+use Rattle.ksm_book.proofs.Names.{find_none, find_passes, frames_at_most, frames_of, has_items, InPlaceOrder, is_stale, IsLaid, IsVacant, KeeperView, length, length-append, length-filter, List, lying}
+use Rattle.ksm_book.proofs.Names.{MakesSteps, map, map-append, May, None, one_of_each_place, option_map, ordered_filter, PagesView, pairs_tail, Performs, pruning, refl, Row, Some, suc, true, Withdraw}
+use Rattle.ksm_book.proofs.Names.{ℕ, [], ◌++◌, ◌+◌, ◌<◌, ◌==◌, ◌^◌, ◌∷◌, ◌≡◌, ◌≤◌}
 use Rattle.std.proofs.lemmas.Bool.{eq-eqb}
 use Rattle.ksm_book.proofs.Sharing.{laid_cleared, vacant_loose}
 use Rattle.ksm_book.proofs.Made.{made_one, made_then}
 use Rattle.ksm_book.proofs.Withdrawn.{elsewhere_so}
-use Rattle.ksm_pages.proofs.Options.{mapped_some, none_mapped}
+
+-- two dups are in the order of their places, with numbers of their own
+abbrev Rises : DupRow → DupRow → Type 0
+Rises a b = (a.place < b.place) × ((a.number == b.number) ≡ false)
 
 -- the place of the first stale dup has no other dup
 pub stale_vacant : (rows : List Row) (dups : List DupRow) (d : DupRow) → InPlaceOrder dups → find (is_stale rows) dups ≡ Some d → IsVacant d.place rows dups
-stale_vacant rows dups d rise found k x lt same =
+stale_vacant rows dups d rise found =
     let once = find_all (is_stale rows) (λ e. All (λ y. (y.place == e.place) ≡ true → y ≡ e) dups) dups d found (one_of_each_place dups rise) in
-    let is = once k x lt (grind (arith, eq-eqb)) in
-    grind (arith, eqb-true, find_passes)
+    grind (arith, eqb-true, eq-eqb, find_passes (is_stale rows) dups d found)
 
 -- where no stale dup is found, all dups have items
 pub none_stale : (rows : List Row) (dups : List DupRow) → find (is_stale rows) dups ≡ None → filter (has_items rows) dups ≡ dups
@@ -24,37 +26,23 @@ none_stale rows dups none = filter_all _ _ (λ k x lt. grind (arith, find_none _
 pub live_elsewhere : (rows : List Row) (place : ℕ) (dups : List DupRow) → IsVacant place rows dups → filter (has_items rows) (filter (elsewhere place) dups) ≡ filter (has_items rows) dups
 live_elsewhere rows place [] vacant = refl
 live_elsewhere rows place (d ∷ ds) vacant =
-    let P : DupRow → Type 0 = λ x. x.place ≡ place → item_count rows x ≡ 0 in
-    grind (arith, All-head P d ds vacant, live_elsewhere rows place ds (All-tail P d ds vacant))
+    grind (arith, vacant 0 d, live_elsewhere rows place ds (λ k x lt. vacant (suc k) x (omega arith)))
 
 -- the first stale dup is the first to go
 pub first_stale : (rows : List Row) (dups : List DupRow) (d : DupRow) → InPlaceOrder dups → find (is_stale rows) dups ≡ Some d
     → filter (is_stale rows) dups ≡ d ∷ filter (is_stale rows) (filter (elsewhere d.place) dups)
 first_stale rows [] d rise found = absurd (grind (arith, found))
-first_stale rows (x ∷ xs) d rise found = elim (cases_Bool (is_stale rows x)) [
-  | inl stale ↦
-      let is : x ≡ d = grind (arith, found, stale) in
-      let gone = ap (λ (y : DupRow). not (y.place == d.place)) is ∙ ap not (eq-eqb d.place d.place refl) in
-      let off : All (λ e. elsewhere d.place e ≡ true) xs = λ i e lt. elsewhere_so _ (get_or xs i e)
-      (λ same. (omega (arith, (rise 0 (suc i) e (omega arith) (omega arith)).0, ap (λ (y : DupRow). y.place) is))) in
-      let all : filter (elsewhere d.place) xs ≡ xs = filter_all _ xs off in
-      grind (arith, stale, gone, all)
-  | inr lives ↦
-      let rest = first_stale rows xs d (pairs_tail (λ (a b : DupRow). (a.place < b.place) × ((a.number == b.number) ≡ false)) x xs rise)
-      (grind (arith, found)) in
-      grind arith
-]
+first_stale rows (x ∷ xs) d rise found =
+    let off : All (λ e. elsewhere x.place e ≡ true) xs = λ i e lt. grind (arith, elsewhere_so, rise 0 (suc i) e) in
+    grind (arith, filter_all (elsewhere x.place) xs off, eq-eqb, first_stale rows xs d (pairs_tail Rises x xs rise))
 
 -- dups in the order of their places, each place below a bound, are no more than the bound
 few_from : (m n : ℕ) (dups : List DupRow) → m ≤ n → InPlaceOrder dups → All (λ d. (m ≤ d.place) × (d.place < n)) dups → m + length dups ≤ n
 few_from m n [] le rise all = omega arith
 few_from m n (d ∷ ds) le rise all =
-    let here = All-head (λ (e : DupRow). (m ≤ e.place) × (e.place < n)) d ds all in
-    let rest = All-tail (λ (e : DupRow). (m ≤ e.place) × (e.place < n)) d ds all in
-    let low = here.0 in
-    let high = here.1 in
-    let tail = few_from (d.place + 1) n ds (omega arith) (pairs_tail (λ (a b : DupRow). (a.place < b.place) × ((a.number == b.number) ≡ false)) d ds rise)
-    (λ i e lt. (omega (arith, (rise 0 (suc i) e (omega arith) (omega arith)).0), (rest i e lt).1)) in
+    let here = all 0 d (omega arith) in
+    let tail = few_from (d.place + 1) n ds (omega arith) (pairs_tail Rises d ds rise)
+    (λ i e lt. grind (arith, rise 0 (suc i) e, all (suc i) e)) in
     omega arith
 
 -- so far so many stale dups went, and rows and dups lie lawfully
@@ -83,18 +71,15 @@ pub record Drops (p q : PagesView) (k l : KeeperView) (count : ℕ) : Type 0 whe
 -- the first stale dup goes next
 module _ {p q : PagesView} {k l : KeeperView} {count : ℕ} (h : Drops p q k l count) {place : ℕ}
     (told : Some place ≡ option_map (λ d. d.place) (find (is_stale q.rows) q.dups)) where
-  rows_are : q.rows ≡ p.rows
-  rows_are = rw h.pages
-
   stale : (d : DupRow) × (find (is_stale q.rows) q.dups ≡ Some d) × (d.place ≡ place)
-  stale = mapped_some _ _ (sym told)
+  stale = grind arith
 
   found : find (is_stale p.rows) q.dups ≡ Some stale.0
-  found = grind (arith, rows_are)
+  found = grind arith
 
   -- no dup with items stands at the place of the first stale dup
   pub drop_vacant : IsVacant place q.rows q.dups
-  drop_vacant = rw (← stale.2) (stale_vacant q.rows _ _ h.rise stale.1)
+  drop_vacant = grind (arith, stale, stale_vacant)
 
   inside : place < frames_of q.shape
   inside = rw (← stale.2) (find_all _ (λ d. d.place < frames_of q.shape) _ _ stale.1 (λ n d lt. (h.laid.placed.each_dup n d lt).place))
@@ -131,36 +116,28 @@ module _ {p q : PagesView} {k l : KeeperView} {count : ℕ} (h : Drops p q k l c
 
   -- where the place of the first stale dup is withdrawn and that dup goes, one stale dup more went
   pub drops_more : (q' : PagesView) (l' : KeeperView) → l' ≡ did l (Withdraw place) 0 → q' ≡ record q { dups = filter (elsewhere place) q.dups } → Drops p q' k l' (count + 1)
-  drops_more q' l' is goes =
-      let dups = ap (λ (x : PagesView). x.dups) goes in
-      let vacant = subst (λ rows. IsVacant place rows q.dups) rows_are drop_vacant in
-      let one = subst (λ x. MakesSteps l l' (Withdraw x ∷ [])) (sym stale.2) (made_one l l' _ 0 is) in
-      record {
-        pages = grind (arith, goes, h.pages, dups);
-        live = grind (arith, dups, live_elsewhere, h.live);
-        gone = h.gone ++ stale.0 ∷ [];
-        all = rw dups (grind (arith, h.all, next, append_assoc));
-        many = omega (arith, length-append h.gone (stale.0 ∷ []));
-        made = grind (arith, map-append (λ (d : DupRow). Withdraw d.place) h.gone (stale.0 ∷ []), made_then h.made one);
-        first = h.first;
-        rise = subst InPlaceOrder (sym dups) (ordered_filter _ _ h.rise);
-        before = h.before;
-        laid = rw goes (laid_cleared l' h.laid inside (rw is) (rw is));
-      }
+  drops_more q' l' is goes = record {
+    pages = grind (arith, h.pages);
+    live = grind (arith, live_elsewhere, h.live, drop_vacant);
+    gone = h.gone ++ stale.0 ∷ [];
+    all = grind (arith, next, append_assoc);
+    many = grind (arith, length-append);
+    made = grind (arith, map-append (λ (d : DupRow). Withdraw d.place) h.gone (stale.0 ∷ []), made_then, made_one);
+    first = h.first;
+    rise = rw goes (ordered_filter _ _ h.rise);
+    before = h.before;
+    laid = rw goes (laid_cleared l' h.laid inside (rw is) (rw is));
+  }
 
 -- where none is stale any more, all are gone
 module _ {p q : PagesView} {k l : KeeperView} {count : ℕ} (h : Drops p q k l count)
     (told : None ≡ option_map (λ d. d.place) (find (is_stale q.rows) q.dups)) where
   none : find (is_stale p.rows) q.dups ≡ None
-  none = grind (arith, none_mapped)
+  none = grind arith
 
   -- where no stale dup is left, the dups are those with items, as many went as were stale, and just the steps of a pruning were made
   pub dropped : (q ≡ record p { dups = filter (has_items p.rows) p.dups }) × (count ≡ count_by (is_stale p.rows) p.dups)
       × Performs (lying p k) (lying q l) (pruning p.rows p.dups p.frame)
   dropped =
-      let all = h.all
-      ∙ ap (λ ds. h.gone ++ ds) (filter_none (is_stale p.rows) q.dups (find_none (is_stale p.rows) q.dups none)) ∙ append-nil h.gone in (
-        h.pages ∙ (grind (arith, none_stale)),
-        h.many ∙ ap length (sym all) ∙ length-filter (is_stale p.rows) p.dups,
-        grind arith,
-      )
+      let gone = filter_none (is_stale p.rows) q.dups (find_none (is_stale p.rows) q.dups none) in
+      grind (arith, none_stale p.rows q.dups none, length-filter, append-nil)

@@ -1,8 +1,7 @@
 -- A dup moves to another frame, with all of its items.
-use Rattle.ksm_book.proofs.Names.{Agrees, All, ap, arith, Bool, cond, count_none, DupFits, DupRow, Dying, eq-eqb, FitsBase, frame_at, Frames, frames_of, Free, GenerationFits, get_or, get_or-set_other}
-use Rattle.ksm_book.proofs.Names.{get_or-set_same, GuestPage, instead, is_frame, is_some, IsInLife, IsServed, kind_for, Ledger, length, length-set, Life, life_or, List, named_at, ne_eqb, node_of}
-use Rattle.ksm_book.proofs.Names.{None, none_counted, Note, Option, PAGE_WORDS, place_frame, place_life, Placed, Private, refl, Row, RowFits, same_Some, set, Shape, Some, Stable, subst, sym, uses, ℕ}
-use Rattle.ksm_book.proofs.Names.{◌+◌, ◌<◌, ◌∙◌, ◌≡◌, ◌≢◌, ◌≤◌, count_alike}
+use Rattle.ksm_book.proofs.Names.{Agrees, All, arith, cond, count_alike, count_none, DupFits, DupRow, Dying, eq-eqb, frame_at, Frames, frames_of, Free, get_or-set_other, get_or-set_same, GuestPage}
+use Rattle.ksm_book.proofs.Names.{instead, is_frame, IsInLife, IsServed, Ledger, length-set, Life, List, named_at, ne_eqb, node_of, None, none_counted, Note, place_frame, Placed, refl, Row, RowFits}
+use Rattle.ksm_book.proofs.Names.{same_Some, set, Shape, Some, Stable, uses, ℕ, ◌+◌, ◌<◌, ◌≡◌, ◌≢◌, ◌≤◌}
 use mathlib.Core.Logic.{dite}
 use native.Mathlib.Decide.{ℕ_discrete}
 use Rattle.ksm_book.proofs.ByPage.{frame_cases, not_on}
@@ -48,9 +47,6 @@ module _ {sh : Shape} {across : ℕ} {k : Ledger} {rows : List Row} {frame : Fra
   next = record { frames = set (set k.frames left dead) g mounted; places = set k.places q (Some life) }
 
   module _ (inside : g < frames_of sh) (free : (frame_at k g).kind ≡ Free) (in_life : IsInLife k q) (stable : (frame_at k left).kind ≡ Stable) (node : across ≡ 0 → node_of sh g ≡ node_of sh left) (numbers : All (λ e. e.place ≢ q → e.number ≢ moving.number) dups) where
-    fits : DupFits sh across k moving
-    fits = among (DupFits sh across k) p.each_dup
-
     apart : g ≢ left
     apart e = cc
 
@@ -60,8 +56,17 @@ module _ {sh : Shape} {across : ℕ} {k : Ledger} {rows : List Row} {frame : Fra
     some : 1 ≤ (frame_at k left).base
     some = grind arith
 
-    at : (P : Note → Type 0) (h : ℕ) → (h ≡ g → P mounted) → (h ≡ left → P dead) → (h ≢ g → h ≢ left → P (frame_at k h)) → P (frame_at next h)
-    at P h here there else' = grind (arith, length-set, get_or-set_same, get_or-set_other)
+    -- the notes of the frame that comes, of the one that is left, and of any other
+    at_g : frame_at next g ≡ mounted
+    at_g = grind (arith, length-set, get_or-set_same)
+
+    at_left : frame_at next left ≡ dead
+    at_left = grind (arith, apart, length-set, get_or-set_same, get_or-set_other)
+
+    at_other : (h : ℕ) → h ≢ g → h ≢ left → frame_at next h ≡ frame_at k h
+    at_other h ng nl = grind (arith, get_or-set_other)
+
+    ruleset notes = (at_g, at_left, at_other)
 
     named : named_at next q ≡ Some life
     named = grind (arith, get_or-set_same)
@@ -69,130 +74,48 @@ module _ {sh : Shape} {across : ℕ} {k : Ledger} {rows : List Row} {frame : Fra
     named_off : (e : ℕ) → e ≢ q → named_at next e ≡ named_at k e
     named_off e ne = get_or-set_other k.places q e (Some life) None ne
 
-    frame_is : {e : ℕ} → e ≡ q → place_frame next e ≡ g
-    frame_is same = grind (arith, named)
-
-    frame_off : (e : ℕ) → e ≢ q → place_frame next e ≡ place_frame k e
-    frame_off e ne = grind (arith, named_off e ne)
-
-    life_off : (e : ℕ) → e ≢ q → place_life next e ≡ place_life k e
-    life_off e ne = grind (arith, named_off e ne)
-
-    at_g : (P : Note → Type 0) → P mounted → P (frame_at next g)
-    at_g P m = at P g (λ _. m) (λ e. absurd (apart e)) (λ ne _. absurd (ne refl))
-
-    is_in_life : {e : ℕ} → e ≡ q → IsInLife next e
-    is_in_life same = rw same (subst (λ (x : Option Life). (frame_at next (life_or x).frame).generation ≡ (life_or x).generation) (sym named) (at_g (λ x. x.generation ≡ (frame_at k g).generation + 1) refl))
-
-    -- no other place names the frame in its new life
-    too_young : (e : DupRow) → DupFits sh across k e → e.place ≢ q → place_frame k e.place ≡ g → IsInLife next e.place → ⊥
-    too_young e m ne same l =
-        let now = ap (λ h. (frame_at next h).generation) (sym (frame_off _ ne ∙ same)) ∙ l ∙ life_off _ ne in
-        let new = at_g (λ x. x.generation ≡ (frame_at k g).generation + 1) refl in
-        let old = subst (λ h. place_life k e.place ≤ (frame_at k h).generation) same m.life in
-        omega arith
-
-    -- a frame that is not g stays in its life
-    same_life : (h : ℕ) → h ≢ g → (frame_at next h).generation ≡ (frame_at k h).generation
-    same_life h ne = at (λ x. x.generation ≡ (frame_at k h).generation) h (λ e. absurd (ne e)) (λ e. rw (← e)) (λ _ _. refl)
-
+    -- another place that names a frame in its life did so before
     off : (e : DupRow) → DupFits sh across k e → e.place ≢ q → IsInLife next e.place → IsInLife k e.place × (place_frame k e.place ≢ g)
-    off e m ne l =
-        let far : place_frame k e.place ≢ g = λ same. too_young e m ne same l in
-        (grind (arith, same_life, frame_off, l, life_off), far)
+    off e m ne l = grind (arith, named_off, notes)
 
-    -- a row on the frame that it has now
-    module _ (r : Row) (f : ℕ) (far : f ≢ g) (had : Serves sh k dups r f) where
-      was : RowFits sh k r f
-      was = had.0
+    -- a row on the frame that is left lies on the one that comes, and any other stays where it is
+    moved_row : (r : Row) → RowFits sh k r left → RowFits sh next r g
+    moved_row r was = grind (arith, at_g)
 
-      moved_row : f ≡ left → RowFits sh next r g
-      moved_row e = record {
-        mapped = was.mapped;
-        frame = inside;
-        kind = at_g (λ x. x.kind ≡ kind_for r.state) (grind arith);
-        content = at_g (λ x. x.content ≡ r.bytes) (rw (← e) was.content);
-        given = at_g (λ x. 1 ≤ x.generation) (omega arith);
-        node = grind arith;
-      }
+    still_row : (r : Row) (f : ℕ) → f ≢ g → f ≢ left → RowFits sh k r f → RowFits sh next r f
+    still_row r f ng nl was = grind (arith, at_other)
 
-      moved_agrees : f ≡ left → (e : DupRow) → DupFits sh across k e → (e.place ≢ q → e.number ≢ moving.number) → Agrees k r f e → Agrees next r g e
-      moved_agrees is e m others a = dite (ℕ_discrete e.place q)
-          (grind (arith, frame_is, is_in_life))
-          (λ ne. record {
-            item = grind arith;
-            back = λ l t. absurd ((off e m ne l).1 (sym (frame_off _ ne) ∙ sym t));
-          })
+    moved_agrees : (r : Row) (e : DupRow) → All (Agrees k r left) dups → DupFits sh across k e
+        → (e.place ≢ q → e.number ≢ moving.number) → Agrees k r left e → Agrees next r g e
+    moved_agrees r e all m others a = grind (arith, at_g, named, named_off, off, among (Agrees k r left) all)
 
-      still_row : f ≢ left → RowFits sh next r f
-      still_row ne =
-          let same = at (λ x. x ≡ frame_at k f) f (λ e. absurd (far e)) (λ e. absurd (ne e)) (λ _ _. refl) in
-          grind arith
+    still_agrees : (r : Row) (f : ℕ) (e : DupRow) → f ≢ g → f ≢ left → DupFits sh across k e → Agrees k r f e
+        → Agrees next r f e
+    still_agrees r f e ng nl m a = grind (arith, named, named_off, off, at_other)
 
-      still_agrees : f ≢ left → (e : DupRow) → DupFits sh across k e → Agrees k r f e → Agrees next r f e
-      still_agrees not' e m a = dite (ℕ_discrete e.place q)
-          (grind (arith, frame_is))
-          (grind (arith, frame_off, same_life, life_off))
+    serves : (r : Row) (f : ℕ) → f ≢ g → Serves sh k dups r f
+        → IsServed sh next dups r (cond (is_frame left (Some f)) (Some g) (Some f))
+    serves r f far h = dite (ℕ_discrete f left)
+        (λ e. grind (arith, eq-eqb, moved_row, moved_agrees))
+        (λ ne. grind (arith, ne_eqb, still_row, still_agrees))
 
-    served : (r : Row) (o : Option ℕ) → o ≢ Some g → IsServed sh k dups r o → IsServed sh next dups r (cond (is_frame left o) (Some g) o)
-    served r None other h = h
-    served r (Some f) other h =
-        let far : f ≢ g = λ e. other (ap Some e) in
-        dite (ℕ_discrete f left)
-        (λ e. subst (IsServed sh next dups r) (sym (ap (λ (b : Bool). cond b (Some g) (Some f)) (eq-eqb f left e)))
-        (moved_row r f far h e, λ m x l. moved_agrees r f far h e _ (p.each_dup m x l) (numbers m x l) (h.1 m x l)))
-        (λ ne. subst (IsServed sh next dups r) (sym (ap (λ (b : Bool). cond b (Some g) (Some f)) (ne_eqb f left ne)))
-        (still_row r f far h ne, λ m x l. still_agrees r f far h ne _ (p.each_dup m x l) (h.1 m x l)))
-
-    dup_here : (e : DupRow) → e.place ≡ q → DupFits sh across k e → DupFits sh across next e
-    dup_here e same m =
-        let fr = frame_is same in
-        record {
-          place = m.place;
-          named = rw same (ap is_some named);
-          frame = rw fr inside;
-          life = grind (arith, is_in_life);
-          content = λ _. rw fr
-              (at_g (λ x. x.content ≡ e.bytes) (grind arith));
-          shown = λ _ own. at_g (λ x. x.kind ≡ Private → ⊥) (λ bad. cc) (grind arith);
-          node = grind arith;
-        }
-
-    dup_there : (e : DupRow) → e.place ≢ q → DupFits sh across k e → DupFits sh across next e
-    dup_there e ne m =
-        let fo : place_frame next e.place ≡ place_frame k e.place = frame_off e.place ne in
-        let h : ℕ = place_frame k e.place in
-        record {
-          place = m.place;
-          named = grind (arith, named_off);
-          frame = rw fo m.frame;
-          life = subst (λ (x : ℕ × ℕ). x.0 ≤ x.1) (grind (arith, life_off))
-              (at (λ x. place_life k e.place ≤ x.generation) h
-              (λ same. let old : place_life k e.place ≤ (frame_at k g).generation = rw (← same) m.life in omega arith)
-              (λ same. rw (← same) m.life) (λ _ _. m.life));
-          content = λ l. let o = off e m ne l in rw fo
-              (at (λ x. x.content ≡ e.bytes) h (λ same. absurd (o.1 same)) (grind arith) (λ _ _. m.content o.0));
-          shown = λ l own. let o = off e m ne l in at (λ x. x.kind ≡ Private → ⊥) h (λ same. absurd (o.1 same)) (λ _ bad. cc) (λ _ _. m.shown o.0) (rw (← fo)
-              own);
-          node = λ z. ap (node_of sh) fo ∙ m.node z;
-        }
+    dup_fits : (e : DupRow) → DupFits sh across k e → DupFits sh across next e
+    dup_fits e m = grind (arith, notes, named, named_off, off)
 
     -- rows and dups lie lawfully once a dup has moved from its Stable frame to a free one, with all of its items
     pub remounted : Placed sh across next rows (instead left g frame) dups None
     remounted = record {
       frames_long = grind (arith, length-set);
       places_long = grind (arith, length-set);
-      widths = λ h. at (λ x. length x.content ≡ PAGE_WORDS) h (λ _. p.widths left) (λ _. p.widths left) (λ _ _. p.widths h);
-      lives = λ h. at (λ x. GenerationFits sh.last_generation x.kind x.generation) h
-          (λ _. let below : (frame_at k g).generation < sh.last_generation = grind arith in (omega arith, omega arith))
-          (grind arith)
-          (λ _ _. p.lives h);
-      each_row = grind (arith, served);
-      each_dup = λ m x l. dite (ℕ_discrete (get_or dups m x).place q) (λ same. dup_here (get_or dups m x) same (p.each_dup m x l)) (λ ne. dup_there (get_or dups m x) ne (p.each_dup m x l));
-      bases = λ h. at (λ x. x.base ≡ uses h (instead left g frame) rows + 0) h
-          (λ e. let new : uses h (instead left g frame) rows ≡ uses left frame rows = rw e (uses_new left g frame rows unused) in let old : (frame_at k left).base ≡ uses left frame rows + 0 = p.bases left in omega arith)
-          (λ e. let none : uses h (instead left g frame) rows ≡ 0 = rw e (uses_old left g frame rows apart) in omega arith)
-          (λ ng nf. let still : uses h (instead left g frame) rows ≡ uses h frame rows = uses_still left g frame rows h nf ng in omega arith);
-      kinds = λ h. at (λ x. FitsBase x.kind x.base) h (λ _. some) (λ _. refl) (λ _ _. p.kinds h);
+      widths = grind (arith, notes);
+      lives = grind (arith, notes);
+      each_row = grind (arith, serves);
+      each_dup = λ m x l. dup_fits _ (p.each_dup m x l);
+      bases = λ h. dite (ℕ_discrete h g)
+          (λ e. rw (e, at_g, uses_new left g frame rows unused) (p.bases left))
+          (λ ng. dite (ℕ_discrete h left)
+          (λ e. rw (e, at_left, uses_old left g frame rows apart) refl)
+          (λ nl. rw (at_other h ng nl, uses_still left g frame rows h nl ng) (p.bases h)));
+      kinds = grind (arith, notes);
       empty = grind (arith, named_off);
     }

@@ -45,5 +45,8 @@ module _ {p : PagesView} {k w : KeeperView} (h : IsLaid p k) (rise : InPageOrder
 
 -- where no frame of a node was found, pages that lie lawfully are turned away, and no page changed
 pub turned : {p : PagesView} {k w : KeeperView} {node : ℕ} → IsLaid p k → node < p.shape.nodes → FindsNone k w node → TurnedAway p p k w node
-turned {w = w} h less none = assumption (laid_kept h w (rw none.reaped.after)
-    (λ across rows frame dups. searched_placed _ (rw h.same less) none.reaped _ _ _ _ None) (searched_spends _ none.reaped))
+turned {w = w} h less none =
+    let laid =
+    laid_kept h w (rw none.reaped.after) (λ across rows frame dups. searched_placed _
+    (rw h.same less) none.reaped _ _ _ _ None) (searched_spends _ none.reaped) in
+    grind arith

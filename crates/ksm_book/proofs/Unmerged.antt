@@ -1,47 +1,33 @@
 -- Pages that leave their dups, or the zero page, one after another.
-use Rattle.ksm_book.proofs.Names.{[], All, ap, append-nil, arith, Bool, change_row, change_rows, cond-false, cond-true, false, Fault, filter, filter-append, filter_none, find, GuestPage, HasLeft}
-use Rattle.ksm_book.proofs.Names.{Held, inl, InPageOrder, inr, is_next, is_of, is_shared_of, is_some, IsAlone, IsHeld, IsKnown, IsLaid, KeeperView, left_by, length, length-append, let_go, List, lying}
-use Rattle.ksm_book.proofs.Names.{Mapped, MayNotLeave, NoFrame, None, not, not-false, not-true, of_guest, on_its_own, Option, option_map, PagesView, refl, Resettled, ResettlesEach, Row, row_at}
-use Rattle.ksm_book.proofs.Names.{same_page, same_Some, shared_of, shared_state, slice_get, Some, subst, suc, sym, take, take-append_seam, true, Unshares, ℕ, ◌&&◌, ◌++◌, ◌+◌, ◌<◌, ◌∙◌, ◌∷◌, ◌≡◌, ◌≤◌}
-use Rattle.ksm_book.proofs.Names.{if◌then◌else◌, Contains-append_right}
+use Rattle.ksm_book.proofs.Names.{All, append-nil, arith, Bool, change_row, change_rows, Contains-append_right, false, Fault, filter, filter-append, filter_none, find, GuestPage, HasLeft, Held}
+use Rattle.ksm_book.proofs.Names.{InPageOrder, is_next, is_of, is_shared_of, is_some, IsAlone, IsHeld, IsKnown, IsLaid, KeeperView, left_by, length, length-append, let_go, List, lying, Mapped}
+use Rattle.ksm_book.proofs.Names.{MayNotLeave, None, not, of_guest, on_its_own, Option, option_map, PagesView, refl, Resettled, ResettlesEach, Row, row_at, same_page, same_Some, shared_state}
+use Rattle.ksm_book.proofs.Names.{slice_get, Some, take-append_seam, true, Unshares, ℕ, [], ◌++◌, ◌+◌, ◌<◌, ◌∷◌, ◌≡◌, ◌≤◌}
 use Rattle.ksm_base.proofs.Edits.{count_more}
 use Rattle.ksm_base.specs.Counting.{mergeable_count}
 use Rattle.ksm_base.specs.declared.row.PageState.TheVariants.{Private}
 use Rattle.std.proofs.lemmas.List.Sums.{count_by-le-length}
-use Rattle.ksm_book.proofs.Along.{FitsPage, IsAlong, IsCut, along_cut, along_end, further, position}
+use Rattle.ksm_book.proofs.Along.{along_cut, along_end, FitsPage, further, IsAlong, IsCut, position}
 use Rattle.ksm_book.proofs.ByPage.{row_of_page}
-use Rattle.ksm_book.proofs.Laying.{LodgesAs, laid_changed}
+use Rattle.ksm_book.proofs.Laying.{laid_changed, LodgesAs}
 use Rattle.ksm_book.proofs.Shown.{each_does, unmerges_own}
-use Rattle.ksm_book.proofs.Singles.{alone_now, change_still, found_resettled, settled_then}
+use Rattle.ksm_book.proofs.Singles.{change_still, found_resettled, settled_then}
 
 -- where all rows are mergeable, none changes by becoming so
 pub stay_in_scan : (test : Row → Bool) (rows : List Row) → mergeable_count rows ≡ length rows
     → rows ≡ change_rows test (λ r. record r { mergeable = true }) rows
 stay_in_scan test [] all = refl
-stay_in_scan test (r ∷ rows) all = by _ refl (stay_in_scan test rows)
-  where
-    one_if : Bool → ℕ
-    one_if mergeable = if mergeable then 1 else 0
-
-    sum : one_if r.mergeable + mergeable_count rows ≡ suc (length rows)
-    sum = sym (count_more (λ s. s.mergeable) r rows) ∙ all
-
-    by : (m : Bool) → r.mergeable ≡ m → (mergeable_count rows ≡ length rows → rows ≡ change_rows test (λ s. record s { mergeable = true }) rows)
-        → r ∷ rows ≡ change_rows test (λ s. record s { mergeable = true }) (r ∷ rows)
-    by true is rest = grind (arith, sum)
-    by false is rest = grind (arith, count_by-le-length)
+stay_in_scan test (r ∷ rows) all =
+    grind (
+      arith,
+      stay_in_scan test rows,
+      count_more (λ s. s.mergeable) r rows,
+      count_by-le-length (λ (s : Row). s.mergeable) rows,
+    )
 
 -- a row that is left keeps its page
 pub page_left : (guest : Option ℕ) (r : Row) → (left_by guest r).page ≡ r.page
 page_left guest r = grind arith
-
--- a guest's is let go
-guest_left : (guest : Option ℕ) → is_some guest ≡ true → left_by guest ≡ let_go
-guest_left guest some = grind arith
-
--- where no guest is told, any is left alike
-any_left : (guest : Option ℕ) → is_some guest ≡ false → left_by guest ≡ left_by None
-any_left guest some = grind arith
 
 -- ---------------------------------------------------------------- one page
 
@@ -52,80 +38,58 @@ module _ {p : PagesView} {k : KeeperView} (guest : Option ℕ) {page : GuestPage
   row = told.row
 
   one : All (λ r. same_page r.page page ≡ true → r ≡ row) p.rows
-  one = row_of_page _ _ row rise told.found
+  one = grind (arith, row_of_page)
 
   module _ (test : not held.shared ≡ true) where
     alone : shared_state row.state ≡ false
-    alone = sym told.shared ∙ not-true held.shared test
+    alone = grind arith
 
     still : left_by None row ≡ row
-    still = cond-false _ _ row alone
+    still = grind arith
 
     lodges : (g : Option ℕ) → LodgesAs (left_by g row) row
-    lodges (Some n) = (refl, refl, inr (alone, refl))
-    lodges None = rw still (refl, refl, inl refl)
+    lodges g = grind (arith, alone)
 
     -- a page with a frame of its own gets none
     left_own : (q : PagesView) → q ≡ record p { rows = change_row page (left_by guest) p.rows; restless = q.restless }
         → HasLeft p q k k guest page 0
     left_own q goes =
-        let frame = ap (λ (x : PagesView). x.frame) goes in
-        let none = cond-false _ _ [] alone in
-        record {
-          row = row;
-          found = told.found;
-          given = ap length (sym none);
-          pages = grind arith;
-          steps = grind arith;
-          laid = rw goes (laid_changed h _ row _ _ rise told.found (page_left _) (lodges _));
-        }
+        grind (arith, alone, laid_changed h page row (left_by guest) q.restless rise told.found, page_left, lodges)
 
     -- a row with a frame of its own is left as it is where all pages are asked for
     pub left_still : is_some guest ≡ false → HasLeft p p k k guest page 0
-    left_still none = left_own p (grind (arith, same))
-      where
-        same : change_row page (left_by guest) p.rows ≡ p.rows
-        same = rw (any_left _ none) (change_still _ _ _ (λ i d lt is. rw (one i d lt is) still))
+    left_still none = grind (arith, left_own, change_still, one, still)
 
     -- a guest's row with a frame of its own is left once it is let go, and no frame is given for it
     pub left_alone : is_some guest ≡ true → {q : PagesView} → q ≡ record p { rows = change_row page let_go p.rows; restless = q.restless }
         → HasLeft p q k k guest page 0
-    left_alone some {q} goes = left_own q (rw (guest_left _ some) goes)
+    left_alone some {q} goes = grind (arith, left_own)
 
   -- a shared page gets a frame of its own first
   module _ {m : PagesView} {l : KeeperView} {bytes : List ℕ} (test : not held.shared ≡ false)
       (are : option_map (λ r. r.bytes) (row_at page p.rows) ≡ Some bytes) (r : Resettled p m k l page held.home bytes) where
     shared : shared_state row.state ≡ true
-    shared = sym told.shared ∙ not-false held.shared test
+    shared = grind arith
 
     now : row_at page m.rows ≡ Some (on_its_own row)
     now = found_resettled r told.found
 
     -- a shared page that was resettled has a row
     pub left_known : IsKnown page m.rows
-    left_known = ap is_some now
+    left_known = grind (arith, now)
 
     -- a shared page that was resettled has a frame of its own
     pub left_lone : IsAlone page m.rows
-    left_lone = alone_now m.rows page _ now refl
+    left_lone = grind (arith, now)
 
     left_shared : (q : PagesView) (d : Row → Row) → q ≡ record m { rows = change_row page d m.rows; restless = q.restless }
         → ((x : Row) → shared_state x.state ≡ true → d (on_its_own x) ≡ left_by guest x) → (d (on_its_own row)).state ≡ Private
         → (d (on_its_own row)).home ≡ row.home → (d (on_its_own row)).bytes ≡ row.bytes → HasLeft p q k l guest page 1
     left_shared q d goes same state home content =
-        let wrote = same_Some _ _ (grind arith) in
-        let got = subst (λ (z : ℕ × List ℕ). Resettled p m k l page z.0 z.1) (λ t. (told.home t, wrote t)) r in
-        let all = cond-true _ _ [] shared in
-        let to = same row shared in
-        let s = settled_then h rise told.found got d _ goes (page_left _) to (rw (← to) (state, home, content)) in
-        record {
-          row = row;
-          found = told.found;
-          given = ap length (sym all);
-          pages = s.0;
-          steps = rw all (lying q l, s.1, record { keeper = refl; frame = refl });
-          laid = s.2;
-        }
+        let got : Resettled p m k l page row.home row.bytes = grind (arith, same_Some) in
+        let s = settled_then h rise told.found got d (left_by guest) goes (page_left guest) (same row shared)
+        (grind (arith, same row shared)) in
+        grind (arith, shared, s)
 
     -- a shared row of a guest is left once its page was resettled and it is let go, and one frame is given for it
     pub left_guest : is_some guest ≡ true → {q : PagesView} → q ≡ record m { rows = change_row page let_go m.rows; restless = q.restless }
@@ -166,6 +130,11 @@ pub record IsUnsharing (p q : PagesView) (k l : KeeperView) (guest : Option ℕ)
   -- the numbers of the cursor's page fit
   pub fits : FitsPage last
 
+-- the row behind others stands at the place that is their number
+seam : (xs : List Row) (x : Row) (ys : List Row) → slice_get (xs ++ x ∷ ys) (length xs) ≡ Some x
+seam [] x ys = refl
+seam (y ∷ xs) x ys = seam xs x ys
+
 -- rows that were unshared, to the last or up to a stop, are in the frames of the same table
 pub unshares_own : {p q : PagesView} {k l : KeeperView} {guest : Option ℕ} {count : ℕ} {stop : Option Fault} → Unshares p q k l guest count stop
     → l.table ≡ k.table
@@ -178,7 +147,7 @@ module _ {p q : PagesView} {k l : KeeperView} {guest : Option ℕ} {count : ℕ}
 
   -- the keeper is of the same table
   pub unsharing_own : l.table ≡ k.table
-  unsharing_own = (each_does met _ _ u.each).1.table
+  unsharing_own = grind (arith, each_does)
 
   module _ {page : GuestPage} (told : option_map (λ r. r.page) (find (is_next guest last) q.rows) ≡ Some page) where
     cut : IsCut (of_guest guest) (left_by guest) p.rows q.rows u.done page
@@ -190,72 +159,38 @@ module _ {p q : PagesView} {k l : KeeperView} {guest : Option ℕ} {count : ℕ}
     met_before : filter (is_shared_of guest) cut.before ≡ met
     met_before = cut.met (λ x. shared_state x.state)
 
+    all_met : filter (is_shared_of guest) p.rows ≡ met ++ filter (is_shared_of guest) (r ∷ cut.rest)
+    all_met = grind (arith, cut.whole, filter-append, met_before)
+
     -- the next page is at home on a node that is there
     pub unsharing_home : {held : Held} → IsHeld q page held → All (λ x. x.home < p.shape.nodes) p.rows → held.home < q.shape.nodes
     unsharing_home h homes =
-        let fits = λ (x : Row). x.home < p.shape.nodes in
-        let here = Contains-append_right cut.before _ r (0, omega arith, refl) in
-        let at = subst fits here.2 (subst (All fits) cut.whole homes here.0 r here.1) in
-        let home = h.home ∙ ap (λ (x : Row). x.home) (same_Some _ r (sym h.found ∙ cut.there)) in
-        subst (λ (z : ℕ × ℕ). z.0 < z.1) (grind (arith, home, u.pages)) at
+        let all : All (λ x. x.home < p.shape.nodes) (cut.before ++ r ∷ cut.rest) = grind (arith, cut.whole) in
+        grind (arith, cut.there, Contains-append_right cut.before (r ∷ cut.rest) r (0, omega arith, refl))
 
     -- once the next page was left too, so many pages more got frames of their own, up to that page
     pub unsharing_next : {v : PagesView} {w : KeeperView} {given : ℕ} → HasLeft q v l w guest page given → FitsPage (Some page)
         → IsUnsharing p v k w guest (count + given) (Some page)
-    unsharing_next {v} h fits =
-        let e = same_Some _ r (sym h.found ∙ cut.there) in
-        let rows = ap (λ (x : PagesView). x.rows) h.pages in
-        let more = filter-append (is_shared_of guest) cut.before (r ∷ [])
-        ∙ (grind (arith, met_before)) ∙ ap (λ x. met ++ shared_of x) (sym e) in
-        record {
-          done = cut.before ++ r ∷ [];
-          left = cut.rest;
-          along = rw rows
-              cut.next;
-          pages = grind (arith, rows);
-          counted = grind (arith, length-append met (shared_of h.row), more);
-          each = grind (arith, each_then);
-          laid = h.laid;
-          few =
-              let far = further guest _ q.rows _ u.fits told in
-              let one : length (shared_of h.row) ≤ 1 =
-              grind arith in
-              omega arith;
-          fits = fits;
-        }
+    unsharing_next {v} h fits = grind (arith, cut, filter-append, met_before, length-append, each_then, further)
 
     -- where no frame was left for the next page, the unsharing stops there, and the shared rows before it are done
     pub unsharing_stop : {v : PagesView} {w : KeeperView} {fault : Fault} → MayNotLeave q v l w page fault
         → Unshares p v k w guest count (Some fault)
-    unsharing_stop {v} {w} {fault} h =
-        let e = same_Some _ r (sym h.found ∙ cut.there) in
-        let home = ap (λ (x : Row). x.home) e in
-        let is = ap (λ (x : Row). shared_state x.state) (sym e) ∙ h.shared in
-        let later = filter (is_shared_of guest) cut.rest in
-        let all = ap (filter (is_shared_of guest)) cut.whole ∙ filter-append (is_shared_of guest) cut.before (r ∷ cut.rest)
-        ∙ (λ t. met_before t ++ (if cut.of t && is t then r ∷ later else later)) in
-        let taken = sym (ap (take count) all ∙ ap (λ n. take n (met ++ r ∷ later)) u.counted ∙ take-append_seam met _) in
-        record {
-          at = Some r;
-          fault = ap Some (h.says ∙ ap NoFrame home);
-          stands = rw all (grind (arith, get_seam));
-          pages = grind (arith, cut.stop);
-          unmerges = grind arith;
-          laid = h.turned.laid;
-        }
-      where
-        get_seam : (xs : List Row) (x : Row) (ys : List Row) → slice_get (xs ++ x ∷ ys) (length xs) ≡ Some x
-        get_seam [] x ys = refl
-        get_seam (y ∷ xs) x ys = get_seam xs x ys
+    unsharing_stop {v} {w} {fault} h = record {
+      at = Some r;
+      fault = grind (arith, cut.there);
+      stands = grind (arith, all_met, seam, cut.there);
+      pages = grind (arith, cut.stop);
+      unmerges = grind (arith, all_met, cut.there, take-append_seam);
+      laid = h.turned.laid;
+    }
 
   -- where no page is left to look at, the shared rows of the guest, or of all, are unshared with no stop
   pub unsharing_end : find (is_next guest last) q.rows ≡ None → Unshares p q k l guest count None
   unsharing_end ended =
       let done = along_end _ (page_left _) u.along ended in
-      let all = ap (filter (is_shared_of guest)) u.along.whole ∙ filter-append (is_shared_of guest) u.done u.left
-      ∙ ap (λ l. met ++ l) (grind (arith, filter_none)) ∙ append-nil met in
-      let taken = sym (ap (take count) (all ∙ sym (append-nil met)) ∙ ap (λ n. take n (met ++ [])) u.counted ∙ take-append_seam met []) in
-      grind arith
+      let none = filter_none (is_shared_of guest) u.left (grind arith) in
+      grind (arith, filter-append, append-nil, take-append_seam met [])
 
 -- ---------------------------------------------------------------- pages that come into the scan
 
@@ -286,15 +221,7 @@ module _ {p q : PagesView} {guest : ℕ} {last : Option GuestPage} (u : IsMarkin
     -- once the next page of the guest is mergeable too, the guest's pages are so up to that page
     pub marking_next : {v : PagesView} → v ≡ record q { rows = change_row page in_scan q.rows; restless = v.restless }
         → FitsPage (Some page) → IsMarking p v guest (Some page)
-    marking_next {v} goes fits =
-        let rows = ap (λ (x : PagesView). x.rows) goes in
-        record {
-          done = at.before ++ at.row ∷ [];
-          left = at.rest;
-          along = rw rows at.next;
-          pages = grind (arith, rows);
-          fits = fits;
-        }
+    marking_next {v} goes fits = grind (arith, at)
 
   -- where no page of the guest is left, all its rows are mergeable
   pub marking_end : find (is_next (Some guest) last) q.rows ≡ None → q ≡ record p { rows = change_rows (is_of guest) in_scan p.rows; restless = q.restless }

@@ -1,16 +1,14 @@
 -- The commands on all pages of a guest, or on all there are, carried out.
-use Rattle.ksm_book.proofs.Names.{All, All-map, ap, arith, BookState, IsCarried, change_rows, Done, Err, every_row, false, Fault, find, GuestPage, has_guest, Held, inl, inr, is_before, is_next, is_of}
-use Rattle.ksm_book.proofs.Names.{is_some, IsHeld, IsLaid, IsStop, KeeperView, Knobs, left_by, List, list_any, map, MatchOption, Mergeable, None, of_guest, Ok, Option, option_map, PagesView, refl}
-use Rattle.ksm_book.proofs.Names.{Row, SetRun, shared_rows, shared_state, slice_get, slice_get_past, Some, state_of, subst, sym, true, UnknownPage, Unmerge, Unmerged, unshare_stopped, unshared}
-use Rattle.ksm_book.proofs.Names.{Unshares, ℕ, ◌&&◌, ◌∙◌, ◌≡◌, any_found, map_alike, map_mapped}
+use Rattle.ksm_book.proofs.Names.{All, All-map, any_found, arith, BookState, change_rows, Done, Err, false, Fault, find, GuestPage, has_guest, Held, inl, is_next, is_of, is_some, IsCarried, IsHeld}
+use Rattle.ksm_book.proofs.Names.{IsLaid, IsStop, KeeperView, Knobs, left_by, List, list_any, map, map_mapped, MatchOption, Mergeable, None, Ok, Option, option_map, PagesView, refl, Row, SetRun}
+use Rattle.ksm_book.proofs.Names.{shared_state, slice_get, slice_get_past, Some, state_of, true, UnknownPage, Unmerge, Unmerged, unshare_stopped, unshared, Unshares, ℕ, ◌∙◌, ◌≡◌}
 use Rattle.ksm_book.proofs.Laying.{laid_mapped, retuned}
 use Rattle.ksm_book.proofs.Singles.{book}
 use Rattle.ksm_book.proofs.Unmerged.{in_scan, unshares_own}
 
 -- the row at which there was a stop is the next of the shared ones
 stop_is : (rows : List Row) (k : ℕ) (at : Option Row) → IsStop rows k at → slice_get rows k ≡ at
-stop_is rows k None h = slice_get_past _ k (omega arith)
-stop_is rows k (Some row) h = h
+stop_is rows k at h = grind (arith, slice_get_past)
 
 -- the first row of a guest is told, if it has one
 abbrev pub IsTold : PagesView → ℕ → Option Held → Type 0
@@ -39,13 +37,7 @@ module _ (p : PagesView) {k : KeeperView} {cursor : Option GuestPage} {passes gu
 pub unmerge_carried : {p q : PagesView} {k l : KeeperView} {cursor : Option GuestPage} {passes : ℕ} {guest count : ℕ} {stop : Option Fault}
     → Unshares p q k l (Some guest) count stop → has_guest (state_of p cursor passes) guest ≡ true
     → IsCarried (book p k cursor passes) (book q l cursor passes) (Unmerge guest) (Ok (Unmerged count stop))
-unmerge_carried {p} {q} {k} {l} {cursor} {passes} {guest} {count} {stop} u has =
-    record {
-      own = unshares_own u;
-      answer = grind arith;
-      state = grind (arith, stop_is);
-      steps = u.unmerges;
-    }
+unmerge_carried u has = grind (arith, stop_is, unshares_own u)
 
 -- all pages of a guest become mergeable, if it has one
 module _ {p q : PagesView} {k : KeeperView} (cursor : Option GuestPage) (passes guest : ℕ) (h : IsLaid p k)
@@ -57,14 +49,7 @@ module _ {p q : PagesView} {k : KeeperView} (cursor : Option GuestPage) (passes 
 
   -- rows and dups lie lawfully once a guest's rows are in the scan
   pub mergeable_laid : IsLaid q k
-  mergeable_laid = rw goes (laid_mapped h _ _ (grind arith)
-      (grind arith))
-
--- where all pages are asked for, those before the stop that were shared are unshared
-stopped_rows : (at : Option Row) (rows : List Row)
-    → change_rows (λ r. of_guest None r && is_before at r) (left_by None) rows
-    ≡ change_rows (λ r. shared_state r.state && is_before at r) unshared rows
-stopped_rows at rows = map_alike _ _ _ (λ i d lt. grind arith)
+  mergeable_laid = rw goes (laid_mapped h _ q.restless (grind arith) (grind arith))
 
 -- a run of 2
 module _ {p m : PagesView} {k l : KeeperView} (cursor : Option GuestPage) (passes : ℕ) {count : ℕ} {stop : Option Fault}
@@ -72,32 +57,18 @@ module _ {p m : PagesView} {k l : KeeperView} (cursor : Option GuestPage) (passe
   abbrev b : BookState
   b = state_of p cursor passes
 
-  abbrev met : List Row
-  met = shared_rows every_row b
-
   -- whatever it does to the rows and knobs once the pages have left
   carried : (q : PagesView) (cursor' : Option GuestPage) → q.frame ≡ m.frame → state_of q cursor' passes ≡ unshare_stopped stop count b
       → IsCarried (book p k cursor passes) (book q l cursor' passes) (SetRun 2) (Ok (Unmerged count stop))
-  carried q cursor' frame state =
-      record {
-        own = unshares_own u;
-        answer = grind arith;
-        state = state;
-        steps = rw frame u.unmerges;
-      }
+  carried q cursor' frame state = grind (arith, unshares_own u)
 
   across : knobs.merge_across_nodes ≡ m.knobs.merge_across_nodes
-  across = rw same (sym (rw u.pages))
+  across = grind arith
 
   -- `SetRun` 2 is carried out, and all lies lawfully, where the unsharing of all rows stopped and run is 0 then
   pub unshare_stops : is_some stop ≡ true → {q : PagesView} → q ≡ record m { knobs = record knobs { run = 0 } }
       → IsCarried (book p k cursor passes) (book q l cursor passes) (SetRun 2) (Ok (Unmerged count stop)) × IsLaid q l
-  unshare_stops some {q} goes =
-      let rows = stopped_rows u.at p.rows
-      ∙ ap (λ o. change_rows (λ r. shared_state r.state && is_before o r) unshared p.rows) (sym (stop_is met _ _ u.stands)) in (
-        carried q _ (rw goes) (grind arith),
-        rw goes (retuned (inl across) u.laid),
-      )
+  unshare_stops some {q} goes = (carried q _ (rw goes) (grind arith), rw goes (retuned (inl across) u.laid))
 
   -- it went through
   module _ (none : is_some stop ≡ false) where
@@ -106,25 +77,13 @@ module _ {p m : PagesView} {k l : KeeperView} (cursor : Option GuestPage) (passe
 
     -- where the unsharing of all rows did not stop, no row is merged or Zero
     pub unshare_none : All (λ r. shared_state r.state ≡ false) m.rows
-    unshare_none = subst (All (λ r. shared_state r.state ≡ false)) (sym went)
-        (All-map (λ r. shared_state r.state ≡ false) _ _ (grind arith))
+    unshare_none = rw went (All-map (λ r. shared_state r.state ≡ false) _ _ (grind arith))
 
     -- `SetRun` 2 is carried out, and all lies lawfully, where the unsharing of all rows went through and run is 2 then
     pub unshare_ends : {w q : PagesView} → w ≡ record m { rows = map unshared m.rows; restless = w.restless }
         → q ≡ record w { knobs = record knobs { run = 2 } }
         → IsCarried (book p k cursor passes) (book q l None passes) (SetRun 2) (Ok (Unmerged count stop)) × IsLaid q l
     unshare_ends {w} {q} wide goes =
-        let rows = ap (map unshared) went
-        ∙ map_mapped _ _ _ _ (λ i d lt. grind arith) in (
-          carried q None (rw (goes, wide))
-              (rw goes
-              ((λ t. record (state_of (wide t) None passes) { knobs = record knobs { run = 2 } })
-              ∙ (λ t. record (state_of (u.pages t) None passes) { rows = rows t; knobs = record (same t) { run = 2 } }) ∙ by _ none)),
-          rw goes (retuned (inl (across ∙ sym (ap (λ (x : PagesView). x.knobs.merge_across_nodes) wide)))
-              (subst (λ (x : PagesView). IsLaid x l) (sym wide)
-              (laid_mapped u.laid _ _ (λ r. refl) (λ i d lt. (refl, refl, inr (unshare_none i d lt, refl)))))),
-        )
-      where
-        by : (s : Option Fault) → is_some s ≡ false
-            → record b { rows = map unshared b.rows; cursor = None; knobs = record b.knobs { run = 2 } } ≡ unshare_stopped s count b
-        by s some = grind arith
+        let there = laid_mapped u.laid unshared w.restless (λ r. refl) (grind (arith, unshare_none)) in
+        let rows : map unshared m.rows ≡ map unshared p.rows = grind (arith, went, map_mapped) in
+        grind (arith, carried q None, retuned)

@@ -1,4 +1,4 @@
-use Rattle.ksm_book.proofs.Names.{ap, arith, dying_from, dying_kind, FindsNone, free_kind, KeeperView, NoneOf, Shape, subst, ℕ, ◌*◌, ◌+◌, ◌-◌, ◌∙◌, ◌≡◌, refl}
+use Rattle.ksm_book.proofs.Names.{arith, dying_kind, FindsNone, free_kind, KeeperView, NoneOf, refl, Shape, ℕ, ◌*◌, ◌+◌, ◌-◌, ◌≡◌}
 use Rattle.ksm_book.proofs.Made.{made_none}
 use Rattle.ksm_book.proofs.Sweeps.{passed}
 use Rattle.ksm_book.proofs.frames.is_used_up.Goals as goal
@@ -15,12 +15,8 @@ in_vain v node none =
     let low = node * v.table.shape.frames_per_node in
     let many = v.table.shape.frames_per_node in
     let all : many ≡ low + many - low = omega arith in
-    let nothing : low - low ≡ 0 = omega arith in
-    let dying = ap (dying_from v.ledger low) all ∙ passed v.ledger low v.ledger low (omega arith) (λ f ge. refl) _ (omega arith) none.1 ∙ ap (dying_from v.ledger low) nothing in
-    record {
-      reaped = rw dying (made_none refl);
-      none = none.0;
-    }
+    let dying = passed v.ledger low v.ledger low (omega arith) (λ f ge. refl) (low + many) (omega arith) none.1 in
+    record { reaped = grind (arith, made_none); none = none.0 }
 
 pub returns-in-None : goal.returns-in-None
-returns-in-None c used_up = in_vain _ _ (subst (HasNone c.args.keeper.now c.args.node) c.requires.shape (c.in_default.ensures, c.in-None.ensures))
+returns-in-None c used_up = grind (arith, in_vain)

@@ -1,5 +1,5 @@
-use Rattle.ksm_book.proofs.Names.{ap, frame_at, holding, KeeperView, length, Open, PAGE_WORDS, puts, Raise, raised, Shape, subst, ◌<◌, ◌∙◌, ◌≡◌, Provides, opened, rules}
-use Rattle.ksm_book.proofs.Filling.{at_again, found_inside, raised_ready, follow, found_within, took}
+use Rattle.ksm_book.proofs.Names.{ap, arith, frame_at, holding, KeeperView, length, opened, PAGE_WORDS, Provides, raised, rules, ◌<◌, ◌≡◌}
+use Rattle.ksm_book.proofs.Filling.{at_again, follow, found_inside, found_within, raised_ready, took}
 use Rattle.ksm_book.proofs.Made.{made_one, made_part, made_then}
 use Rattle.ksm_book.proofs.frames.take_frame.Goals as goal
 
@@ -20,34 +20,25 @@ write-requires-clause-wide c = (ready c).2
 
 pub open-requires-clause-may : goal.open-requires-clause-may
 open-requires-clause-may c =
-    let frame = c.in_ok-frame.frame in
-    let r = c.raise.new.self in
-    let now = raised_ready _ _ _ _ (rw (← c.requires.shape) c.requires.node)
-    c.requires.lawful c.in_ok-frame.ensures r _ c.raise.ensures.1 in (
-      rw (ap (λ (z : KeeperView). z.table.shape) c.write.ensures.wrote ∙ ap (λ (z : KeeperView). z.table.shape) c.raise.ensures.1 ∙ ap (λ (z : KeeperView). z.table.shape) c.in_ok-frame.ensures.reaped.after)
-          (found_inside _ _ _ _ (rw (← c.requires.shape) c.requires.node) c.requires.lawful c.in_ok-frame.ensures),
-      rw (c.write.ensures.ledger, at_again r.ledger _ now.0 _, now.1),
-    )
+    let less : c.args.node < c.args.keeper.now.table.shape.nodes = rw (← c.requires.shape) c.requires.node in
+    let now = raised_ready _ _ _ _ less c.requires.lawful c.in_ok-frame.ensures c.raise.new.self _ c.raise.ensures.1 in
+    let at = at_again c.raise.new.self.ledger c.in_ok-frame.frame now.0 in
+    grind (arith, at, found_inside _ _ _ _ less c.requires.lawful c.in_ok-frame.ensures)
 
 abbrev provided : (c : goal.After-open) → Provides c.args.keeper.now c.open.new.self c.args.node c.args.bytes.now c.in_ok-frame.frame
-provided c =
-    let w = c.find_frame.new.keeper in
-    let frame = c.in_ok-frame.frame in
-    record {
-      searched = w;
-      finds = c.in_ok-frame.ensures;
-      fills = made_then (made_one w c.raise.new.self (Raise frame) c.raise.ensures.0 c.raise.ensures.1)
-          (made_then
-          (made_part c.raise.new.self c.write.new.keeper (puts frame 0 c.args.bytes.now) c.write.ensures.wrote) (made_one c.write.new.keeper c.open.new.self (Open frame) _ c.open.ensures));
-    }
+provided c = record {
+  searched = c.find_frame.new.keeper;
+  finds = c.in_ok-frame.ensures;
+  fills = made_then (made_one _ c.raise.new.self _ _ c.raise.ensures.1)
+      (made_then (made_part _ c.write.new.keeper _ c.write.ensures.wrote) (made_one _ _ _ _ c.open.ensures));
+}
 
 pub returns-clause-provides : goal.returns-clause-provides
 returns-clause-provides c = provided c
 
 pub returns-clause-took : goal.returns-clause-took
 returns-clause-took c =
-    let frame = c.in_ok-frame.frame in
-    let less = subst (λ (s : Shape). c.args.node < s.nodes) c.requires.shape c.requires.node in
+    let less : c.args.node < c.args.keeper.now.table.shape.nodes = rw (← c.requires.shape) c.requires.node in
     let within = found_within c.args.keeper.now c.find_frame.new.keeper _ _ less c.requires.lawful c.in_ok-frame.ensures in
     took less c.requires.lawful (search rules) (provided c) (follow _ _ within _ opened (rw c.open.ensures)
     (follow _ _ within _ (λ x. holding x c.args.bytes.now) c.write.ensures.ledger (ap (λ (z : KeeperView). z.ledger) c.raise.ensures.1)))

@@ -14,7 +14,7 @@ loop-i-preserved c =
     let ledger = follow k _ c.requires.within _ (filled i (get_or bytes i 0)) (rw c.put.ensures) c.loop-i.invariant.ledger
     ∙ ap (λ cs. with_frame k frame (holding old cs)) (word_written _ _ i (c.requires.wide ∙ sym wide) (omega arith)) in
     record {
-      wrote = along_one _ _ _ _ i _ (omega arith) c.loop-i.invariant.wrote c.put.ensures;
+      wrote = grind (arith, along_one);
       ledger = ledger;
       kind = rw (ledger, at_again k _ c.requires.within _);
     }

@@ -25,7 +25,7 @@ loop-done-preserved c =
     let ledger = follow _ _ within _ added (rw c.add.ensures.1) c.loop-done.invariant.ledger
     ∙ ap (λ b. with_frame v.ledger frame (record n { base = b })) (omega arith) in
     record {
-      made = add_more v _ _ _ _ _ c.loop-done.invariant.made c.add.ensures.1;
+      made = grind (arith, add_more);
       ledger = ledger;
       base = rw (ledger, at_again v.ledger _ within _);
     }

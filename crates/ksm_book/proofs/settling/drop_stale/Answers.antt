@@ -1,5 +1,5 @@
 use Rattle.ksm_book.proofs.Names.{ap, arith, count_by, is_stale, PagesView, sym, ◌∙◌}
-use Rattle.ksm_book.proofs.Pruning.{drop_few, drop_fewer, drop_vacant, drops_more, drop_may, dropped}
+use Rattle.ksm_book.proofs.Pruning.{drop_few, drop_fewer, drop_may, drop_vacant, dropped, drops_more}
 use Rattle.ksm_book.proofs.settling.drop_stale.Goals as goal
 
 pub withdraw-requires-clause-may : goal.withdraw-requires-clause-may
@@ -9,8 +9,7 @@ pub drop_stale-requires : goal.drop_stale-requires
 drop_stale-requires c = drop_vacant c.stale.invariant (sym c.in-Some.is ∙ c.stale_place.ensures)
 
 pub stale-preserved : goal.stale-preserved
-stale-preserved c =
-    drops_more c.stale.invariant (sym c.in-Some.is ∙ c.stale_place.ensures) _ _ c.withdraw.ensures c.drop_stale.ensures
+stale-preserved c = grind (arith, drops_more)
 
 pub overflow_add-count : goal.overflow_add-count
 overflow_add-count c = omega (arith, drop_few c.stale.invariant (sym c.in-Some.is ∙ c.stale_place.ensures))
@@ -27,6 +26,6 @@ returns c =
     record {
       pages = done.0;
       count = done.1;
-      laid = c.stale.invariant.laid;
+      laid = grind arith;
       performs = done.2;
     }

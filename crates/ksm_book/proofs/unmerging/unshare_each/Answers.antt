@@ -1,4 +1,4 @@
-use Rattle.ksm_book.proofs.Names.{arith, rules, Some, ◌∙◌}
+use Rattle.ksm_book.proofs.Names.{arith, ◌∙◌}
 use Rattle.ksm_book.proofs.Along.{further, not_far}
 use Rattle.ksm_book.proofs.Unmerged.{unshares_own, unsharing_end, unsharing_home, unsharing_next, unsharing_own, unsharing_stop}
 use Rattle.ksm_book.proofs.unmerging.unshare_each.Goals as goal
@@ -21,14 +21,10 @@ pub returns-in-Err-clause-unshares : goal.returns-in-Err-clause-unshares
 returns-in-Err-clause-unshares c = unsharing_stop c.pages.invariant c.lie_in_order.ensures.rise c.in-Some.ensures.1 c.in-Err.ensures.turned
 
 pub pages-preserved : goal.pages-preserved
-pages-preserved c =
-    unsharing_next c.pages.invariant c.lie_in_order.ensures.rise c.in-Some.ensures.1 c.in-Ok.ensures.left (search rules, search rules)
+pages-preserved c = grind (arith, unsharing_next)
 
 pub pages-smaller : goal.pages-smaller
-pages-smaller c =
-    let far = further c.args.guest _ c.pages.pages.rows _ c.pages.invariant.fits c.in-Some.ensures.1 in
-    let end = not_far (Some c.in-Some.held.spot.page) (search rules, search rules) in
-    omega arith
+pages-smaller c = grind (arith, further, not_far)
 
 pub returns-clause-unshares : goal.returns-clause-unshares
 returns-clause-unshares c = unsharing_end c.pages.invariant c.lie_in_order.ensures.rise c.in_default.ensures

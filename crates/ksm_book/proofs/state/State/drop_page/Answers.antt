@@ -1,5 +1,6 @@
-use Rattle.ksm_book.proofs.Names.{ap, Done, Drop, Ok, seen}
-use Rattle.ksm_book.proofs.Singles.{Carries, carried_so, drop_gone, drop_may, row_held, sound_carried}
+use Rattle.std.proofs.Common.{arith}
+use Rattle.ksm_book.proofs.Names.{Done, Drop, Ok, seen}
+use Rattle.ksm_book.proofs.Singles.{Carries, drop_gone, drop_may, row_held, sound_carried}
 use Rattle.ksm_book.proofs.state.State.drop_page.Goals as goal
 
 pub release_if-requires-clause-may : goal.release_if-requires-clause-may
@@ -13,7 +14,7 @@ gone c =
     _ _ _ _ c.remove-left.ensures.gone c.release_if.ensures
 
 pub returns : goal.returns
-returns c = carried_so c.self.view_is (ap Drop c.in-Some.ensures.spot) (gone c).0
+returns c = grind arith
 
 pub invariant_of-self : goal.invariant_of-self
 invariant_of-self c = (sound_carried c.self.invariant.0 (gone c).0, (gone c).1)

@@ -1,8 +1,9 @@
-use Rattle.ksm_book.proofs.Names.{IsCarried, inl, inr, MayMove, MoveDup, refl, seen, state_of, subst, sym}
+use Rattle.std.proofs.Common.{arith}
+use Rattle.ksm_book.proofs.Names.{IsCarried, MayMove, MoveDup, refl, seen, state_of, subst, sym}
 use Rattle.ksm_book.proofs.DupMoves.{done_carried, fault_carried, live_there}
 use Rattle.ksm_book.proofs.Singles.{book, carried_so}
 use Rattle.ksm_book.proofs.state.State.move_dup.Goals as goal
-use Rattle.ksm_book.proofs.state.State.move_dup.Goals.{in-Ok, in-Err, Joined-else-knobs-eq0}
+use Rattle.ksm_book.proofs.state.State.move_dup.Goals.{in-Err, in-Ok, Joined-else-knobs-eq0}
 
 -- the dup may move to the node
 may : (c : Joined-else-knobs-eq0) → MayMove (seen c.self.inside.pages) c.self.inside.keeper c.in-Some.dup c.args.node
@@ -10,17 +11,14 @@ may c =
     let s = c.self.inside in
     record {
       laid = c.self.invariant.1;
-      sound = (s.cursor, s.passes, c.self.invariant.0);
+      sound = grind arith;
       live = live_there (state_of (seen s.pages) s.cursor s.passes) _ c.args.node _ c.in-Some.ensures;
-      exists = rw (← c.shape.ensures) c.if-node-shape.false;
-      home = elim c.else-knobs-eq0.either [
-        | inl both ↦ λ _. sym both.1
-        | inr differ ↦ λ none. absurd (differ (rw c.knobs.ensures none))
-      ];
+      exists = grind arith;
+      home = grind arith;
     }
 
 pub remount-requires-clause-may : goal.remount-requires-clause-may
-remount-requires-clause-may c = may ((goal.at.remount-requires-clause-may c).Joined-else-knobs-eq0)
+remount-requires-clause-may c = grind (arith, may)
 
 pub returns : goal.returns
 returns c =

@@ -1,4 +1,4 @@
-use Rattle.ksm_book.proofs.Names.{[], default_knobs, nowhere, PagesView, Shape, sound_opening, true, arith}
+use Rattle.ksm_book.proofs.Names.{arith, default_knobs, nowhere, PagesView, Shape, sound_opening, true, []}
 use Rattle.ksm_book.proofs.Laying.{first_laid}
 use Rattle.ksm_book.proofs.state.State.open.Goals as goal
 
@@ -6,9 +6,8 @@ abbrev opened : Shape → PagesView
 opened sh = record { shape = sh; rows = []; frame = nowhere; dups = []; knobs = default_knobs; next = 0; restless = record { pages = []; known = true } }
 
 pub invariant_of-result : goal.invariant_of-result
-invariant_of-result c =
-    let k = c.in_ok-keeper.keeper in (
-      grind (arith, c.in-Ok.ensures.opened, sound_opening),
-      rw c.in-Ok.ensures.opened
-          (rw c.in_ok-keeper.ensures.begun (first_laid c.requires.shape c.requires.same c.requires.new)),
-    )
+invariant_of-result c = (
+  grind (arith, c.in-Ok.ensures.opened, sound_opening),
+  rw c.in-Ok.ensures.opened
+      (rw c.in_ok-keeper.ensures.begun (first_laid c.requires.shape c.requires.same c.requires.new)),
+)

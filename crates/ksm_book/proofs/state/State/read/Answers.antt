@@ -1,4 +1,4 @@
-use Rattle.ksm_book.proofs.Names.{rules, sym, ◌∙◌, arith}
+use Rattle.ksm_book.proofs.Names.{arith, rules, sym, ◌∙◌}
 use Rattle.ksm_book.proofs.Shown.{part_did, quiet_loads}
 use Rattle.ksm_book.proofs.Singles.{may_read}
 use Rattle.ksm_book.proofs.state.State.read.Goals as goal
@@ -14,7 +14,4 @@ returns-in-Some-clause-bytes c =
     rw (← c.self.view_is) (grind (arith, c.load.ensures.bytes, there.3, c.in_ok-held.ensures.found))
 
 pub returns-in-Some-clause-loads : goal.returns-in-Some-clause-loads
-returns-in-Some-clause-loads c =
-    let s = c.self.inside in
-    rw (← c.self.view_is)
-    (rw (sym c.in_ok-held.ensures.frame ∙ c.in-Some.is) (part_did _ _ c.load.ensures.loaded (quiet_loads _ 0 _)))
+returns-in-Some-clause-loads c = grind (arith, part_did, quiet_loads)

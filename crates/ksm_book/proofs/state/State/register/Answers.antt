@@ -1,24 +1,15 @@
-use Rattle.ksm_book.proofs.Names.{ap, Done, Err, NoFrame, Ok, refl, Register, seen, sym, view_of, ◌∙◌, none_of}
-use Rattle.ksm_book.proofs.Singles.{HasCome, carried_so, come_known, register_come, register_refused, register_turned, sound_carried, Carries}
+use Rattle.std.proofs.Common.{arith}
+use Rattle.ksm_book.proofs.Names.{Done, Err, NoFrame, Ok, refl, Register, seen}
+use Rattle.ksm_book.proofs.Singles.{carried_so, Carries, come_known, HasCome, register_come, register_turned, sound_carried}
 use Rattle.ksm_book.proofs.state.State.register.Goals as goal
 use Rattle.ksm_book.proofs.state.State.register.Goals.{In_ok-spot}
 
 pub returns-then-is_used_up : goal.returns-then-is_used_up
-returns-then-is_used_up c =
-    carried_so c.self.view_is refl
-    (rw (← ap view_of c.self.view_is)
-    (register_refused (seen c.self.inside.pages) (rw (← c.shape-shape.ensures) c.if-node-shape.false)
-    (none_of _ (sym c.has.ensures ∙ c.if-has.false)) (c.is_used_up.ensures c.if-is_used_up.true)))
+returns-then-is_used_up c = grind arith
 
 -- the page came
 new : (c : In_ok-spot) → HasCome (seen c.self.inside.pages) (seen c.insert.new.self) c.args.page c.args.node c.args.bytes.now
-new c = record {
-  rise = c.self.invariant.0.rows_rise;
-  absent = none_of _ (sym c.has.ensures ∙ c.if-has.false);
-  comes = c.in_ok-spot.ensures.added;
-  others = c.in_ok-spot.ensures.others;
-  less = rw (← c.shape-shape.ensures) c.if-node-shape.false;
-}
+new c = grind arith
 
 pub remove-requires : goal.remove-requires
 remove-requires c = rw c.in_ok-spot.ensures.spot (come_known (new ((goal.at.remove-requires c).In_ok-spot)))

@@ -1,14 +1,12 @@
-use Rattle.ksm_book.proofs.Names.{[], All, ap, arith, changes_while_shared, Done, effect, false, get_or, inr, IsLaid, IsSound, ne_eqb, no_dup_lives, none_shared, PagesView, refl, rules, seen}
-use Rattle.ksm_book.proofs.Names.{SetAcross, sound_set_across, state_of, subst, sym, waiting_state, ◌∙◌, ◌≡◌, ◌≤◌, All-map}
+use Rattle.ksm_book.proofs.Names.{All, All-map, ap, arith, changes_while_shared, Done, effect, false, get_or, inr, IsLaid, IsSound, ne_eqb, no_dup_lives, none_shared, PagesView, refl, rules, seen}
+use Rattle.ksm_book.proofs.Names.{SetAcross, sound_set_across, state_of, subst, sym, waiting_state, [], ◌∙◌, ◌≡◌}
 use Rattle.ksm_book.proofs.Laying.{laid_mapped, retuned}
 use Rattle.ksm_book.proofs.Sharing.{settled_lodges}
 use Rattle.ksm_pages.proofs.Resting.{settled_still}
 use Rattle.ksm_book.proofs.state.State.set_across.Goals as goal
 
 calm : (c : goal.After-set_knobs) → changes_while_shared (state_of (seen c.self.inside.pages) c.self.inside.cursor c.self.inside.passes) c.self.inside.pages.knobs.merge_across_nodes c.args.across ≡ false
-calm c =
-    let b = state_of (seen c.self.inside.pages) c.self.inside.cursor c.self.inside.passes in
-    grind (arith, c.knobs-knobs.ensures, c.self.view_is, c.if-would_change_shared.ensures)
+calm c = grind arith
 
 -- no dup had items, so none is left
 none_left : (c : goal.After-set_knobs) → c.settle_all.new.self.dups ≡ []
@@ -32,7 +30,6 @@ laid c =
 sound : (c : goal.After-set_knobs) → IsSound (effect (state_of (seen c.self.inside.pages) c.self.inside.cursor c.self.inside.passes) (SetAcross c.args.across) Done)
 sound c =
     let b = state_of (seen c.self.inside.pages) c.self.inside.cursor c.self.inside.passes in
-    let low : c.args.across ≤ 1 = search rules in
     let quiet = calm c in
     sound_set_across b _ Done (grind arith) c.self.invariant.0
 

@@ -1,7 +1,7 @@
-use Rattle.ksm_book.proofs.Names.{ap, IsCarried, Done, find_all, is_some, length, Ok, PAGE_WORDS, refl, Resettled, rules, seen, Store, subst, sym, ◌<◌, ◌∙◌, ◌≡◌, arith}
+use Rattle.ksm_book.proofs.Names.{ap, arith, Done, find_all, is_some, IsCarried, length, Ok, PAGE_WORDS, refl, Resettled, rules, seen, Store, subst, sym, ◌<◌, ◌∙◌, ◌≡◌}
 use Rattle.ksm_book.proofs.Laying.{has_frame, laid_written, own_framed}
 use Rattle.ksm_book.proofs.Shown.{resettles_own}
-use Rattle.ksm_book.proofs.Singles.{alone_now, book, carried_so, own_ready, sound_carried, store_copied, store_written, row_held, Carries, found_resettled}
+use Rattle.ksm_book.proofs.Singles.{alone_now, book, carried_so, Carries, found_resettled, own_ready, row_held, sound_carried, store_copied, store_written}
 use Rattle.ksm_book.proofs.state.State.store.Goals as goal
 
 pub known_frame-frame-requires : goal.known_frame-frame-requires
@@ -17,7 +17,7 @@ write-requires c =
     grind arith
 
 pub store-requires-2 : goal.store-requires-2
-store-requires-2 c = grind (arith, alone_now, row_held)
+store-requires-2 c = grind arith
 
 module _ (c : goal.After-store-2) where
   written : IsCarried (book (seen c.self.inside.pages) c.self.inside.keeper c.self.inside.cursor c.self.inside.passes) (book (seen c.store-2.new.self) c.write.new.keeper c.self.inside.cursor c.self.inside.passes) (Store c.in-Some.held.spot.page c.args.bytes.now) (Ok Done)
@@ -32,7 +32,6 @@ returns-clause-carried c = carried_so c.self.view_is (rw c.in-Some.ensures.spot)
 
 pub invariant_of-self-2 : goal.invariant_of-self-2
 invariant_of-self-2 c =
-    let p = seen c.self.inside.pages in
     let wide : length c.args.bytes.now ≡ PAGE_WORDS = search rules in (
       sound_carried c.self.invariant.0 (written c),
       rw c.store-2.ensures
@@ -65,13 +64,11 @@ pub invariant_of-self-then-held : goal.invariant_of-self-then-held
 invariant_of-self-then-held c = (sound_carried c.self.invariant.0 (copied c).0, (copied c).1)
 
 pub note_store-requires-clause-own : goal.note_store-requires-clause-own
-note_store-requires-clause-own c = grind (arith, alone_now, row_held)
+note_store-requires-clause-own c = grind arith
 
 -- what is due stays so
 pub returns-clause-due : goal.returns-clause-due
-returns-clause-due c = λ known.
-    let pages = c.note_store.new.due.pages in
-    grind (arith, c.store-2.ensures, c.self.view_is, c.note_store.ensures known c.args.bytes.now)
+returns-clause-due c = grind arith
 
 -- the page that was merged or Zero is due beside what was
 pub returns-then-held-clause-due : goal.returns-then-held-clause-due
