@@ -1,8 +1,8 @@
 -- Rows that are changed one after another, in the order of their pages: those of a guest, or all, up to a cursor.
-use Rattle.ksm_book.proofs.Names.{[], after_cursor, after_differs, All, All-append, All-cons, All-head, All-map, All-tail, AllPairs, and_right, ap, append-nil, arith, before_differs, before_irrefl}
-use Rattle.ksm_book.proofs.Names.{Bool, cases_Bool, change_none, change_row, change_rows, comes_before, false, filter, filter-append, filter_none, find, find_none, find_passes, get_or, GuestPage, inl}
-use Rattle.ksm_book.proofs.Names.{InPageOrder, inr, is_before, is_next, List, map, map-append, None, not_both, Option, option_map, pairs_cross, pairs_head, pairs_tail, Row, row_at, same_page}
-use Rattle.ksm_book.proofs.Names.{same_page_refl, Some, subst, sym, true, ℕ, ⊤, ◌&&◌, ◌*◌, ◌++◌, ◌+◌, ◌<◌, ◌∙◌, ◌∷◌, ◌≡◌, ◌≤◌, find-append, find_nothing, map_alike, if◌then◌else◌}
+use Rattle.ksm_book.proofs.Names.{after_cursor, after_differs, All, All-append, All-cons, All-head, All-map, All-tail, AllPairs, and_right, ap, append-nil, arith, before_differs, before_irrefl, Bool}
+use Rattle.ksm_book.proofs.Names.{cases_Bool, change_none, change_row, change_rows, comes_before, false, filter, filter-append, filter_none, find, find-append, find_none, find_nothing, find_passes}
+use Rattle.ksm_book.proofs.Names.{get_or, GuestPage, if◌then◌else◌, inl, InPageOrder, inr, is_before, is_next, List, map, map-append, map_alike, None, not_both, Option, option_map, pairs_cross}
+use Rattle.ksm_book.proofs.Names.{pairs_head, pairs_tail, Row, row_at, same_page, same_page_refl, Some, subst, sym, true, ℕ, [], ⊤, ◌&&◌, ◌*◌, ◌++◌, ◌+◌, ◌<◌, ◌∙◌, ◌∷◌, ◌≡◌, ◌≤◌}
 use Rattle.std.proofs.lemmas.List.{append_assoc}
 
 -- what no element of the first list passes is searched in the second alone
@@ -16,9 +16,7 @@ find_cut s t [] r agree found = absurd (grind arith)
 find_cut s t (x ∷ xs) r agree found =
     let same = All-head (λ y. s y ≡ t y) x xs agree in
     elim (cases_Bool (s x)) [
-      | inl here ↦
-          let is : x ≡ r = grind arith in
-          ([], xs, rw is, rw (← is) (sym same ∙ here), λ k d lt. absurd (omega arith))
+      | inl here ↦ ([], xs, grind arith, grind arith, λ k d lt. absurd (omega arith))
       | inr other ↦
           let more = find_cut s t xs r (All-tail (λ y. s y ≡ t y) x xs agree) (grind arith) in
           (x ∷ more.0, more.1, ap (λ l. x ∷ l) more.2, more.3, All-cons (λ y. t y ≡ false) x _ (sym same ∙ other) more.4)
@@ -75,9 +73,12 @@ module _ {asked : Row → Bool} (f : Row → Row) (keeps : (r : Row) → (f r).p
 
   -- the next is searched among those left
   among : find (next_of last) now ≡ find (next_of last) left
-  among = ap (find (next_of last)) a.are ∙ find_apart _ _ _
-      (All-map (λ r. next_of last r ≡ false) _ _ (λ k d lt. let r = get_or done k d in
-      and_right (asked (changed r)) _ (ap (after_cursor last) (page_kept r) ∙ a.behind k d lt)))
+  among =
+      let none_done = find_apart (next_of last) (change_rows asked f done) left
+      (All-map (λ r. next_of last r ≡ false) changed done
+      (λ k d lt. let r = get_or done k d in and_right (asked (changed r)) _
+      (ap (after_cursor last) (page_kept r) ∙ a.behind k d lt))) in
+      grind (arith, a.are)
 
   agree : All (λ r. next_of last r ≡ asked r) left
   agree = λ k d lt. grind arith
@@ -101,27 +102,24 @@ module _ {asked : Row → Bool} (f : Row → Row) (keeps : (r : Row) → (f r).p
     rest = cut.1
 
     whole : rows ≡ before ++ r ∷ rest
-    whole = grind (arith, cut.2, append_assoc done cut.0 (r ∷ rest))
+    whole = grind (arith, a.whole, cut, append_assoc)
 
     now_is : now ≡ map changed before ++ r ∷ rest
-    now_is =
-        rw (map-append changed done cut.0)
-        (grind (arith, change_none, append_assoc (map changed done) (map changed cut.0) (r ∷ rest)))
+    now_is = grind (arith, a.are, cut.2, change_none asked f cut.0 cut.4, map-append changed done cut.0, append_assoc)
 
     pairs : AllPairs (λ (x y : Row). comes_before x.page y.page ≡ true) (before ++ r ∷ rest)
     pairs = subst InPageOrder whole rise
 
     first : All (λ x. comes_before x.page r.page ≡ true) before
-    first =
-        λ k d lt. (pairs_cross (λ (x y : Row). comes_before x.page y.page ≡ true) _ _ pairs) k d lt 0 r (omega arith)
+    first = λ k d lt. pairs_cross (λ (x y : Row). comes_before x.page y.page ≡ true) _ _ pairs k d lt 0 r (omega arith)
 
     behind : All (λ y. comes_before r.page y.page ≡ true) rest
     behind = pairs_head (λ (x y : Row). comes_before x.page y.page ≡ true) r _
         (pairs_right (λ (x y : Row). comes_before x.page y.page ≡ true) before (r ∷ rest) pairs)
 
     apart : All (λ x. same_page x.page r.page ≡ false) (map changed before)
-    apart = All-map (λ x. same_page x.page r.page ≡ false) _ _ (λ k d lt.
-        let x = get_or before k d in rw (page_kept x) (after_differs x.page r.page (first k d lt)))
+    apart = All-map (λ x. same_page x.page r.page ≡ false) _ _
+        (λ k d lt. grind (arith, page_kept, after_differs, first k d lt))
 
     one_more : (xs : List Row) → map changed (xs ++ r ∷ []) ++ rest ≡ map changed xs ++ f r ∷ rest
     one_more [] = rw cut.3
@@ -140,12 +138,11 @@ module _ {asked : Row → Bool} (f : Row → Row) (keeps : (r : Row) → (f r).p
       next = record {
         whole = grind (arith, append_assoc);
         are =
-            let still = change_none _ f _ apart in
-            let here = ap (λ (b : Bool). if b then f r else r) (same_page_refl r.page) in
-            let later = change_none (λ x. same_page x.page r.page) f _
+            let still = change_none (λ x. same_page x.page r.page) f _ apart in
+            let later = change_none (λ x. same_page x.page r.page) f rest
             (λ k d lt. before_differs r.page (get_or rest k d).page (behind k d lt)) in
-            ap (change_row r.page f) now_is ∙ map-append (λ x. if same_page x.page r.page then f x else x) (map changed before) (r ∷ rest)
-            ∙ (λ t. still t ++ here t ∷ later t) ∙ sym (one_more _);
+            let both = map-append (λ x. if same_page x.page r.page then f x else x) (map changed before) (r ∷ rest) in
+            grind (arith, now_is, same_page_refl r.page, one_more before);
         behind = All-append (λ x. comes_before r.page x.page ≡ false) _ _
             (λ k d lt. not_both (get_or before k d).page r.page (first k d lt))
             (grind arith);
@@ -153,12 +150,11 @@ module _ {asked : Row → Bool} (f : Row → Row) (keeps : (r : Row) → (f r).p
       };
       stop =
           let test = λ (x : Row). asked x && comes_before x.page r.page in
-          let few = map_alike _ _ _ (λ k d lt. grind (arith, first k d lt)) in
-          let none = change_none test f _ (All-cons (λ x. test x ≡ false) r _
-          (and_right (asked r) _ (before_irrefl r.page)) (λ k d lt. let x = get_or rest k d in
-          and_right (asked x) _ (not_both r.page x.page (behind k d lt)))) in
-          now_is ∙ (λ t. few t ++ sym none t) ∙ sym (map-append (λ x. if test x then f x else x) before (r ∷ rest))
-          ∙ ap (change_rows test f) (sym whole);
+          let few = map_alike changed (λ x. if test x then f x else x) before (λ k d lt. grind (arith, first k d lt)) in
+          let none = change_none test f (r ∷ rest)
+          (All-cons (λ x. test x ≡ false) r _ (and_right (asked r) _ (before_irrefl r.page))
+          (λ k d lt. grind (arith, not_both r.page, behind k d lt))) in
+          grind (arith, now_is, whole, map-append (λ x. if test x then f x else x) before (r ∷ rest));
     }
 
   -- where a search tells a page as the next one asked for after the cursor, the rows are cut at that page

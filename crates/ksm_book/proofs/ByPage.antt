@@ -1,8 +1,7 @@
 -- Rows that change at one page: what becomes of what holds of each row, and of how many lie on a frame.
-use Rattle.ksm_book.proofs.Names.{All, All-map, ap, arith, Bool, change_row, cond, cond_both, count_with_row, count_without_page, counts_one, eq-eqb, false, filter_passes, find_all, find_none}
-use Rattle.ksm_book.proofs.Names.{find_passes, Frames, get_or, GuestPage, InPageOrder, is_frame, lies_on, List, map, None, not, not-true, one_of_each_page, Option, refl, Row, row_at, same_page}
-use Rattle.ksm_book.proofs.Names.{same_page_eq, same_page_refl, Some, true, uses, with_row, without_page, ℕ, ◌+◌, ◌∙◌, ◌≡◌, ◌≢◌, ◌≤◌, ◌⊎◌, count_alike, count_mapped, map_mapped, find_changed}
-use Rattle.ksm_book.proofs.Names.{if◌then◌else◌}
+use Rattle.ksm_book.proofs.Names.{All, All-map, ap, arith, Bool, change_row, cond, count_alike, count_mapped, count_with_row, count_without_page, counts_one, eq-eqb, false, filter_passes, find_all}
+use Rattle.ksm_book.proofs.Names.{find_changed, find_none, find_passes, Frames, get_or, GuestPage, if◌then◌else◌, InPageOrder, is_frame, lies_on, List, map, map_mapped, None, not, not-true}
+use Rattle.ksm_book.proofs.Names.{one_of_each_page, Option, refl, Row, row_at, same_page, same_page_eq, same_page_refl, Some, true, uses, with_row, without_page, ℕ, ◌+◌, ◌∙◌, ◌≡◌, ◌≢◌, ◌≤◌, ◌⊎◌}
 
 -- frames that are equal at each page are equal
 pub same_frames : (f g : Frames) → ((page : GuestPage) → f page ≡ g page) → f ≡ g
@@ -16,7 +15,7 @@ one_at f o = cond (is_frame f o) 1 0
 
 -- a page on the frame counts once for it
 pub one_same : (f : ℕ) {o : Option ℕ} → o ≡ Some f → one_at f o ≡ 1
-one_same f e = grind (arith, e)
+one_same f e = grind arith
 
 is_it : (f : ℕ) {o : Option ℕ} → o ≡ Some f → is_frame f o ≡ true
 is_it f e = ap (is_frame f) e ∙ eq-eqb f f refl
@@ -34,10 +33,6 @@ frame_cases f o = grind arith
 -- a page that comes to lie on a frame, or on none, lies there
 pub on_page : (page : GuestPage) (o : Option ℕ) (frame : Frames) (p : GuestPage) → same_page p page ≡ true → lies_on page o frame p ≡ o
 on_page page o frame p same = rw same
-
--- where one page comes to lie on a frame, or on none, any other page lies where it lay
-pub off_page : (page : GuestPage) (o : Option ℕ) (frame : Frames) (p : GuestPage) → same_page p page ≡ false → lies_on page o frame p ≡ frame p
-off_page page o frame p other = rw other
 
 -- the row that is found at a page is of that page
 pub found_page : (page : GuestPage) (rows : List Row) (row : Row) → row_at page rows ≡ Some row → row.page ≡ page
@@ -63,8 +58,7 @@ row_of_page page rows row rise found =
 pub all_changed_row : (P Q : Row → Type 0) (page : GuestPage) (c : Row → Row) (rows : List Row) (row : Row) → InPageOrder rows → row_at page rows ≡ Some row → All P rows
     → ((r : Row) → same_page r.page page ≡ false → P r → Q r) → (P row → Q (c row)) → All Q (change_row page c rows)
 all_changed_row P Q page c rows row rise found all others here =
-    let one = row_of_page _ _ row rise found in
-    All-map Q _ _ (grind arith)
+    All-map Q _ _ (grind (arith, row_of_page page rows row rise found))
 
 -- ---------------------------------------------------------------- how many lie on a frame
 
@@ -88,30 +82,23 @@ module _ (f : ℕ) (page : GuestPage) (o : Option ℕ) (frame : Frames) where
   pub uses_gone : (rows : List Row) (row : Row) → InPageOrder rows → row_at page rows ≡ Some row → uses f (lies_on page o frame) (without_page page rows) + one_at f (frame page) ≡ uses f frame rows
   uses_gone rows row rise found =
       let rest = apart_uses (without_page page rows) (λ i d lt. not-true _ (filter_passes (λ r. not (same_page r.page page)) rows i d lt)) in
-      let own = ap (λ p. one_at f (frame p)) (found_page page rows row found) in
-      let gone = count_without_page old_test _ _ row rise found in
-      omega arith
+      grind (arith, found_page page rows row found, count_without_page old_test page rows row rise found)
 
   -- where a page comes to lie on another frame, one row less lies on the old frame and one more on the new one
   pub uses_changed : (c : Row → Row) (rows : List Row) (row : Row) → InPageOrder rows → row_at page rows ≡ Some row → ((r : Row) → (c r).page ≡ r.page)
       → uses f (lies_on page o frame) (change_row page c rows) + one_at f (frame page) ≡ uses f frame rows + one_at f o
   uses_changed c rows row rise found keeps =
-      let same = uses_mapped f (lies_on page o frame) (λ r. if same_page r.page page then c r else r) rows (λ r. cond_both (same_page r.page page) (c r) r (λ s. s.page ≡ r.page) (λ _. keeps r) (λ _. refl)) in
-      let new = count_without_page new_test _ _ row rise found in
-      let at = ap (λ p. one_at f (lies_on page o frame p)) (found_page _ rows row found) ∙ ap (one_at f) (on_page page o frame page (same_page_refl page)) in
-      let gone = uses_gone _ row rise found in
-      omega arith
+      let same = uses_mapped f (lies_on page o frame) (λ r. if same_page r.page page then c r else r) rows
+      (λ r. grind (arith, keeps r)) in
+      let on_new = count_without_page new_test page rows row rise found in
+      let there = on_page page o frame page (same_page_refl page) in
+      grind (arith, found_page page rows row found, uses_gone rows row rise found)
 
 -- where a row comes at a page that had none, one row more lies on the frame if it comes there, else as many
 pub uses_come : (f : ℕ) (o : Option ℕ) (frame : Frames) (row : Row) (rows : List Row) → row_at row.page rows ≡ None
     → uses f (lies_on row.page o frame) (with_row row rows) ≡ uses f frame rows + one_at f o
 uses_come f o frame row rows absent =
-    grind (
-      arith,
-      apart_uses f row.page o frame rows (find_none (λ r. same_page r.page row.page) rows absent),
-      on_page row.page o frame row.page (same_page_refl row.page),
-      count_with_row,
-    )
+    grind (arith, apart_uses f row.page o frame rows (find_none _ rows absent), count_with_row)
 
 -- a frame on which a row lies is used
 pub uses_some : (f : ℕ) (frame : Frames) (rows : List Row) → All (λ r. frame r.page ≡ Some f → 1 ≤ uses f frame rows) rows

@@ -1,19 +1,10 @@
 -- What visits do to the frames is done beside: nothing by the visit of a shared row, and the same wherever the cursor stands.
-use Rattle.ksm_book.proofs.Names.{append-nil, BookState, Deed, doing, DupRow, Frames, GuestPage, handling, idle, IsBeside, Option, pairing, refl, Row, scanning, suc, then_doing, visits_beside, zero}
-use Rattle.ksm_book.proofs.Names.{ℕ, ◌≡◌, arith}
-use Rattle.ksm_book.proofs.Going.{elsewhere}
+use Rattle.ksm_book.proofs.Names.{append-nil, arith, BookState, Deed, doing, Frames, idle, IsBeside, refl, scanning, suc, then_doing, visits_beside, zero, ℕ, ◌≡◌}
 use Rattle.ksm_book.proofs.Folded.{beside_state}
 
 -- a deed and then no step is that deed alone
 pub then_idle : (deed : Deed) → then_doing deed (idle deed.frame) ≡ deed
 then_idle deed = grind (arith, append-nil deed.steps)
-
-module _ (b : BookState) (frame : Frames) (row : Row) (cursor : Option GuestPage) (passes : ℕ) where
-  pairing_alike : (w : Option Row) → pairing w (elsewhere cursor passes b) frame row ≡ pairing w b frame row
-  pairing_alike w = grind arith
-
-  handling_alike : (d : Option DupRow) → handling d (elsewhere cursor passes b) frame row ≡ handling d b frame row
-  handling_alike d = grind arith
 
 -- what visits do to the frames is nothing at a shared row, and the same wherever the cursor stands
 pub doing_beside : IsBeside doing

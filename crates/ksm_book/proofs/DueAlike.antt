@@ -2,7 +2,7 @@
 use Rattle.ksm_book.proofs.Scanned.{restless_mergeable}
 use Rattle.ksm_book.proofs.Names.{after_cursor, All, All-map, ap, AreAscending, arith, before_irrefl, best_dup, BookState, Bool, cases_Bool, change_row, change_rows, comes_before, comes_later}
 use Rattle.ksm_book.proofs.Names.{count_mapped, Deed, doing, due_visited, due_visits, dup_frame, DupRow, each_at_page, false, find_all, find_mapped, find_none, find_nothing, find_passes, Frames}
-use Rattle.ksm_book.proofs.Names.{get_or, get_or_from_slice_get, GuestPage, handled, has_item, HasStayed, hidden, hidden_from, if◌then◌else◌, inl, InPageOrder, inr, is_best, is_for_zero, is_no_rival}
+use Rattle.ksm_book.proofs.Names.{get_or, get_or_from_slice_get, GuestPage, handled, has_item, HasStayed, hidden_from, if◌then◌else◌, inl, InPageOrder, inr, is_best, is_for_zero, is_no_rival}
 use Rattle.ksm_book.proofs.Names.{is_restless, is_stale, IsSound, item_count, List, made_dup, map_alike, map_mapped, may_join, mergeable_pages, merged_into, new_place, None, not, not_both, one_before}
 use Rattle.ksm_book.proofs.Names.{Option, option_map, page, page_visited, pages_visited, paired, pairs_head, pairs_tail, partner, place_count, refl, restless_at, restless_row, Row, row_at}
 use Rattle.ksm_book.proofs.Names.{row_visiting, same_page, same_page_eq, same_page_refl, settled, settled_calmer, slice_get_within, Some, sound_changed, sound_row_visited, stayed, subst, sym}
@@ -134,8 +134,12 @@ module _ (b : BookState) (r : Row) where
       → ((x : Row) → f (settled x) ≡ f x) → ((q : GuestPage) → same_page q r.page ≡ true → by q ≡ true)
       → ((q : GuestPage) → by q ≡ true → comes_before r.page q ≡ false)
       → record covered { rows = change_rows (λ x. by x.page) f covered.rows; dups = dups; next = next }
-      ≡ veiled (comes_before r.page) (record b { rows = change_rows
-      (λ x. by x.page) f b.rows; dups = dups; next = next })
+      ≡ veiled (comes_before r.page) (record b {
+        rows = change_rows
+            (λ x. by x.page) f b.rows;
+        dups = dups;
+        next = next;
+      })
   change_alike by f dups next keeps same own apart = λ t. record b { rows = rows t; dups = dups; next = next }
     where
       change : Row → Row
@@ -192,13 +196,22 @@ module _ (b : BookState) (r : Row) where
     handled_alike : (o : Option DupRow) → best_dup b.knobs b.rows b.dups r ≡ o
         → handled o covered (settled r) ≡ veiled (comes_before r.page) (handled o b r)
     handled_alike (Some d) best = own_alike _ (λ x. refl) (λ x. refl)
-    handled_alike None none = grind (arith, partner_alike, paired_alike,
-        own_alike (λ x. record x { state = Zero }) (λ x. refl) (λ x. refl),
-        own_alike (λ x. record x { unchanged = true; state = Private }) (λ x. refl) (λ x. refl))
+    handled_alike None none = grind (
+      arith,
+      partner_alike,
+      paired_alike,
+      own_alike (λ x. record x { state = Zero }) (λ x. refl) (λ x. refl),
+      own_alike (λ x. record x { unchanged = true; state = Private }) (λ x. refl) (λ x. refl),
+    )
 
     deed_alike : (frame : Frames) → row_visiting covered frame (settled r) ≡ row_visiting b frame r
-    deed_alike frame = grind (arith, best_kept is_on b r, partner_alike, dup_frame_kept is_on b frame,
-        place_kept is_on b)
+    deed_alike frame = grind (
+      arith,
+      best_kept is_on b r,
+      partner_alike,
+      dup_frame_kept is_on b frame,
+      place_kept is_on b,
+    )
 
     -- its visit does the same where the rows from it on are veiled; after it its own is not
     visit_alike : (deed : Deed) → visited doing (covered, deed) (Some (settled r))
@@ -236,8 +249,12 @@ module _ (b : BookState) (r : Row) where
   -- where it takes over, its visit there makes it wait
   pub taken_is : is_restless r ≡ true → takes_over b r ≡ true → (deed : Deed)
       → visited doing (freed, deed) (Some r) ≡ (taken_over b r, deed)
-  taken_is is takes deed = grind (arith, best_kept waits b r,
-      find_nothing waits freed.rows none_waits, then_idle)
+  taken_is is takes deed = grind (
+    arith,
+    best_kept waits b r,
+    find_nothing waits freed.rows none_waits,
+    then_idle,
+  )
 
   -- it has stayed there
   pub freed_stays : is_restless r ≡ true → takes_over b r ≡ true → HasStayed freed false r
@@ -274,8 +291,7 @@ module _ (b : BookState) (s : IsSound b) (deed : Deed) where
       → visited doing (o, deed) (Some r) ≡ due_visited doing (b, deed) r.page → IsAlike b deed r.page
   by_visit r restless o sound found goes covers near is =
       let at = calmed_at (is_on o r) o r.page ∙ ap (option_map (cover o r)) found
-      ∙ ap (λ z. Some (if not z then settled r else r)) (before_irrefl r.page) in
-      (
+      ∙ ap (λ z. Some (if not z then settled r else r)) (before_irrefl r.page) in (
         subst (λ (z : BookState × Deed). IsSound z.0) is
             (rw restless (sound_row_visited o r (grind (arith, row_of_page)) sound)),
         subst (λ (z : BookState × Deed). Goes b.rows z.0.rows) is
@@ -309,8 +325,14 @@ module _ (b : BookState) (s : IsSound b) (deed : Deed) where
         where
           still : hidden_from page b ≡ veiled (comes_before page) b
           still = veiled_alike _ b _ (λ k d lt waits.
-              grind (arith, at_own_page page b.rows s.rows_rise k d lt, s.mergeable k d lt, one_before, not_both,
-              before_irrefl))
+              grind (
+                arith,
+                at_own_page page b.rows s.rows_rise k d lt,
+                s.mergeable k d lt,
+                one_before,
+                not_both,
+                before_irrefl,
+              ))
 
 -- our visits of some pages keep the book sound, and which pages scans visit
 pub due_keeps : (pages : List GuestPage) (s : BookState × Deed) → IsSound s.0
@@ -341,8 +363,19 @@ module _ (e : GuestPage → Bool) (up : (p q : GuestPage) → e q ≡ true → e
     -- of the pages that scans visit those behind the cursor are those from the first on
     from_first : (q : GuestPage) → has_item q (mergeable_pages b.rows) ≡ true
         → after_cursor c q ≡ not (comes_before q page)
-    from_first q has = grind (arith, l.are q, here, further q, up page q, l.behind q, not_both, same_page_eq,
-        after_later, one_before, before_irrefl)
+    from_first q has = grind (
+      arith,
+      l.are q,
+      here,
+      further q,
+      up page q,
+      l.behind q,
+      not_both,
+      same_page_eq,
+      after_later,
+      one_before,
+      before_irrefl,
+    )
 
     leaves_rest : (n : BookState) → mergeable_pages n.rows ≡ mergeable_pages b.rows → Leaves e (Some page) n pages
     leaves_rest n same = record {

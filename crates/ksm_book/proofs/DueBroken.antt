@@ -36,8 +36,18 @@ module _ (b : BookState) (sound : IsSound b) (page : GuestPage) (row : Row) (fou
       let of_dup = find_all (λ x. same_page x.page page) (λ x. merged_into dup.number x.state ≡ true → IsDupOf b.knobs b.dups x dup.number dup)
       b.rows row found (dup_of_item b sound j e lt_e) into in
       let it = row_of_page page b.rows row sound.rows_rise found k d lt in
-      grind (arith, nat_tests, of_dup.tree, of_dup.bytes, merged, it, found_page page b.rows row found,
-      is_beside merged.0 k d lt, bytes_eq-Decides dup.bytes r.bytes, bytes_eq-Decides r.bytes row.bytes)
+      grind (
+        arith,
+        nat_tests,
+        of_dup.tree,
+        of_dup.bytes,
+        merged,
+        it,
+        found_page page b.rows row found,
+        is_beside merged.0 k d lt,
+        bytes_eq-Decides dup.bytes r.bytes,
+        bytes_eq-Decides r.bytes row.bytes,
+      )
 
   -- of other rows each dup into which the row is not merged has as many items; that page is due, with what was
   module _ (now : List Row) (counts : (e : DupRow) → merged_into e.number row.state ≡ false
@@ -69,7 +79,7 @@ module _ (b : BookState) (page : GuestPage) (old new : List GuestPage) (was : Ar
       let of_page : Row → Bool = λ r. same_page r.page page in
       let now = change_row page (stored bytes) b.rows in
       all_changed (WaitsElse (record b { rows = now }) later) of_page (stored bytes) b.rows
-          (grind (arith, same_page_sym))
+      (grind (arith, same_page_sym))
       (λ k d lt _. left_still b sound page row found now (λ e none.
       count_kept e.number of_page (stored bytes) b.rows (λ i x lt_x same.
       rw (row_of_page _ _ row sound.rows_rise found i x lt_x same) (sym none)))

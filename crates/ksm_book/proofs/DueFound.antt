@@ -89,16 +89,19 @@ module _ (f : Find) (q : PagesView) {p : PagesView} {k : KeeperView} {cursor : O
   -- where the row was visited in the book as it was, that is the visit of what is due, and the page is due no longer
   pub shared_due : Comes v w (λ s. due_visited doing s page)
       × ((old new : List GuestPage) → Without page old new → AreDue v.state old → AreDue w.state new)
-  shared_due = (comes, λ old new gone. less_due page v.state w.state old new gone (λ pages was.
-      let b = state_of p cursor passes in
-      let now = row_visited b at.row in
-      let state : w.state ≡ now = grind arith in
-      let due : AreDue b (at.row.page ∷ pages) =
-      rw (page_is at) (subst (λ (x : BookView). AreDue x.state (page ∷ pages)) (sym at.is) was) in
-      let left = row_due b at.sound at.row (there_is at) by.0 pages due in
-      let sound = sound_row_visited b at.row (grind (arith, row_of_page, there_is at, by)) at.sound in
-      subst (λ (c : BookState). AreDue c pages) (sym state)
-      (calm_undue now page sound.rows_rise by.3 pages (subst (λ g. AreDue now (g ∷ pages)) (page_is at) left))))
+  shared_due = (
+    comes,
+    λ old new gone. less_due page v.state w.state old new gone (λ pages was.
+        let b = state_of p cursor passes in
+        let now = row_visited b at.row in
+        let state : w.state ≡ now = grind arith in
+        let due : AreDue b (at.row.page ∷ pages) =
+        rw (page_is at) (subst (λ (x : BookView). AreDue x.state (page ∷ pages)) (sym at.is) was) in
+        let left = row_due b at.sound at.row (there_is at) by.0 pages due in
+        let sound = sound_row_visited b at.row (grind (arith, row_of_page, there_is at, by)) at.sound in
+        subst (λ (c : BookState). AreDue c pages) (sym state)
+        (calm_undue now page sound.rows_rise by.3 pages (subst (λ g. AreDue now (g ∷ pages)) (page_is at) left))),
+  )
 
 -- ---------------------------------------------------------------- by what was found
 

@@ -40,8 +40,13 @@ module _ (may : DupRow → Bool) (items : DupRow → ℕ) where
         ]
         | inr t ↦ elim (cases_Bool (rival t.0 d)) [
           | inl above ↦ inr (t.0, t.1, t.2, top t.0 above t.3)
-          | inr worse ↦ inr (d, here, grind arith, top d (grind (arith, nat_tests)) (λ k x lt.
-              through d t.0 (get_or dups k x) t.2 (grind (arith, nat_tests)) (t.3 k x lt)))
+          | inr worse ↦ inr (
+            d,
+            here,
+            grind arith,
+            top d (grind (arith, nat_tests)) (λ k x lt.
+                through d t.0 (get_or dups k x) t.2 (grind (arith, nat_tests)) (t.3 k x lt)),
+          )
         ]
       ]
 
@@ -53,8 +58,12 @@ module _ (knobs : Knobs) (rows : List Row) (row : Row) where
   -- where there is no best dup, there is none that the row may join
   none_to_join : (dups : List DupRow) → best_dup knobs rows dups row ≡ None → JoinsNone dups
   none_to_join dups none =
-      grind (arith, top_in (may_join knobs rows row) (item_count rows) (λ d. is_best knobs rows dups row d ≡ false) dups
-      (find_none _ dups none), list_all-from_AllPass)
+      grind (
+        arith,
+        top_in (may_join knobs rows row) (item_count rows) (λ d. is_best knobs rows dups row d ≡ false) dups
+            (find_none _ dups none),
+        list_all-from_AllPass,
+      )
 
   -- where there is no dup that the row may join, there is no best one
   none_is_best : (dups : List DupRow) → JoinsNone dups → best_dup knobs rows dups row ≡ None
@@ -191,8 +200,12 @@ module _ (b : BookState) (sound : IsSound b) (row : Row) (found : row_at row.pag
 
         each : (r : Row) (e : DupRow) → may_join b.knobs b.rows r e ≡ false
             → may_join b.knobs (change_rows of_page (merge dup.number) b.rows) r e ≡ false
-        each r e none = grind (arith, joins_it, same_number e,
-            other_count of_page dup.number (λ k d lt same. rw (only k d lt same) unmerged) e)
+        each r e none = grind (
+          arith,
+          joins_it,
+          same_number e,
+          other_count of_page dup.number (λ k d lt same. rw (only k d lt same) unmerged) e,
+        )
 
     -- the row makes a dup with the one that waits for it: no other row that waits is of its tree and content
     made_due : (place : ℕ) (w : Row) → partner b.knobs b.rows row ≡ Some w → Due (made_dup place b w row)
@@ -222,8 +235,14 @@ module _ (b : BookState) (sound : IsSound b) (row : Row) (found : row_at row.pag
             → (new.tree == tree_of b.knobs r && bytes_eq new.bytes r.bytes) ≡ false) b.rows
         apart k d lt fails waiting =
             let r = get_or b.rows k d in
-            grind (arith, nat_tests, one_waits b row w sound waits k d lt, same_page_refl,
-            bytes_eq-Decides row.bytes r.bytes, bytes_eq-Decides r.bytes row.bytes)
+            grind (
+              arith,
+              nat_tests,
+              one_waits b row w sound waits k d lt,
+              same_page_refl,
+              bytes_eq-Decides row.bytes r.bytes,
+              bytes_eq-Decides r.bytes row.bytes,
+            )
 
     paired_due : (o : Option Row) → partner b.knobs b.rows row ≡ o → Due (paired o b row)
     paired_due (Some w) waits = made_due _ w waits
@@ -277,7 +296,7 @@ pub waits_undue : (b : BookState) (row : Row) → row_at row.page b.rows ≡ Som
     → IsDueNoMore row.page b (record b { rows = change_row row.page (λ r. record r { state = Waiting }) b.rows })
 waits_undue b row found rise h pages was =
     own_due b row.page (λ r. record r { state = Waiting }) row rise found
-        (own_not_merged _ (restless_own row h.restless), refl)
+    (own_not_merged _ (restless_own row h.restless), refl)
     (row.page ∷ pages) pages (grind arith) (grind (arith, same_page_sym)) was
 
 -- a row that takes over waits on, and the one in whose stead it waits is due

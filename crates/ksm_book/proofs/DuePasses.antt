@@ -64,8 +64,12 @@ module _ (s : BookState × Deed) (start : Starts s.0) where
   pub whole_part : due_visits doing s all ≡ part_visited None s
   whole_part =
       let is : ahead_up_to None (pass_begun s.0) ≡ all = filter_all (up_to None) _ (λ k d lt. refl) ∙ begun_ahead s.0 in
-      grind (arith, is, unveiled (due_visits doing s all).0,
-      alike (λ _. false) (λ p q is _. absurd (true≢false (sym is))) all rises (λ q. refl))
+      grind (
+        arith,
+        is,
+        unveiled (due_visits doing s all).0,
+        alike (λ _. false) (λ p q is _. absurd (true≢false (sym is))) all rises (λ q. refl),
+      )
 
   -- the visits of the pages before one, once no row from there on waits
   pub before_part : (page : GuestPage) → (

@@ -31,8 +31,13 @@ picked u x order = grind (arith, any_named, any-filter_same)
 pub has_put : (n : Named) (order : List Named) (x : GuestPage)
     → has_item x (pages_in (with_named n order)) ≡ (same_page n.page x || has_item x (pages_in order))
 has_put n order x =
-    grind (arith, picked (λ p. comes_before p n.page) x order, picked (λ p. comes_before n.page p) x order,
-    any_named x, list_any-append)
+    grind (
+      arith,
+      picked (λ p. comes_before p n.page) x order,
+      picked (λ p. comes_before n.page p) x order,
+      any_named x,
+      list_any-append,
+    )
 
 -- a page that is taken out is there no more, and the others as before
 pub has_taken : (page : GuestPage) (order : List Named) (x : GuestPage)

@@ -1,7 +1,7 @@
 -- Frames written, read, found and filled, and a dup's place that comes to name another frame.
-use Rattle.ksm_book.proofs.Names.{Add, ap, arith, blank, did, Dying, Finds, frame_at, frames_of, Free, get_or-set_other, get_or-set_same, IsLawful, KeeperView, Kind, Ledger, length, length-set, List}
-use Rattle.ksm_book.proofs.Names.{loads, MakesSteps, mounting, None, Note, Open, PAGE_WORDS, Placed, Private, Provides, Publish, puts, Raise, raised, replicate, replicate-append-replicate, set-get_or}
-use Rattle.ksm_book.proofs.Names.{Shape, spent, spent_on, stepped, HasNewFrame, with_frame, ℕ, ◌+◌, ◌-◌, ◌<◌, ◌∙◌, ◌≡◌, set-set}
+use Rattle.ksm_book.proofs.Names.{Add, ap, arith, blank, did, Dying, Finds, frame_at, frames_of, Free, get_or-set_other, get_or-set_same, HasNewFrame, IsLawful, KeeperView, Kind, Ledger, length}
+use Rattle.ksm_book.proofs.Names.{length-set, List, loads, MakesSteps, mounting, None, Note, Open, PAGE_WORDS, Placed, Private, Provides, Publish, puts, Raise, raised, replicate}
+use Rattle.ksm_book.proofs.Names.{replicate-append-replicate, set-get_or, set-set, Shape, spent, spent_on, stepped, with_frame, ℕ, ◌+◌, ◌-◌, ◌<◌, ◌∙◌, ◌≡◌}
 use Rattle.ksm_book.proofs.Keeping.{searched_placed, searched_spends, spent_kept}
 use Rattle.ksm_book.proofs.Made.{made_one, made_part, made_then}
 use Rattle.ksm_book.proofs.Noted.{noted}
@@ -23,7 +23,7 @@ module _ (k : Ledger) (g : ℕ) (lt : g < length k.frames) where
 
   -- a change of the frame's note that follows another is one change by both
   pub follow : {l m : Ledger} (a : Note) (F : Note → Note) → m ≡ with_frame l g (F (frame_at l g)) → l ≡ with_frame k g a → m ≡ with_frame k g (F a)
-  follow a F is was = grind (arith, is, was, again a F)
+  follow a F is was = grind (arith, again a F)
 
 -- ---------------------------------------------------------------- a frame is found
 

@@ -1,12 +1,15 @@
 -- The visits of a pass are a fold over its pages, only restless pages count, and a quiet pass is repeated by those behind it.
-use Rattle.ksm_book.proofs.Names.{[], after_cursor, All, All-head, All-tail, AllPairs-filter, ap, append-nil, AreAscending, arith, begun, BookState, Bool, cases_Bool, comes_before, cond_both}
-use Rattle.ksm_book.proofs.Names.{each_at_page, false, filter, filter_all, find_all, find_passes, GuestPage, has_item, inl, InPageOrder, inr, is_none, IsBeside, IsStill, last_of, length, List, map}
-use Rattle.ksm_book.proofs.Names.{mergeable_pages, min, next_row, next_visited, None, not-true, Option, option_map, page_visited, pages_ahead, pages_visited, pass_at, pass_ended, pass_ended_at_last}
-use Rattle.ksm_book.proofs.Names.{refl, restless_at, Row, row_at, row_visited, rowwise_visits, same_page_eq, settled, shared_state, slice_get, Some, subst, suc, suc-mul, sym, true, visit, visit_begun}
-use Rattle.ksm_book.proofs.Names.{visit_of, visited, visits, visits_beside, with_none_waiting, zero, ℕ, ◌*◌, ◌++◌, ◌+◌, ◌-◌, ◌^◌, ◌∙◌, ◌∷◌, ◌≡◌, ◌≤◌, map_mapped, and_right, pairs_mapped, ⊤}
-use Rattle.ksm_book.proofs.Going.{Goes, begun_goes, elsewhere, goes_on, mergeable_kept, goes_same, settled_goes, visited_goes}
-use Rattle.ksm_book.proofs.PagesAhead.{Before, behind_first, filter_in, filter_out, has_filter, same_pages}
+use Rattle.ksm_book.proofs.Names.{after_cursor, AllPairs-filter, and_right, ap, AreAscending, arith, begun, BookState, Bool, comes_before, drop, drop_more, each_at_page, false, filter, filter_all}
+use Rattle.ksm_book.proofs.Names.{find_all, find_passes, get_or_from_slice_get, GuestPage, has_item, InPageOrder, is_none, is_restless, IsBeside, IsStill, last_of, List, map, map_mapped}
+use Rattle.ksm_book.proofs.Names.{mergeable_pages, next_row, next_visited, None, not-true, Option, option_map, page_visited, pages_ahead, pages_visited, pairs_mapped, pass_ended_at_last, refl}
+use Rattle.ksm_book.proofs.Names.{restless_at, Row, row_at, row_visited, rowwise_visits, settled, slice_get, slice_get-get_or, slice_get_within, Some, subst, suc, sym, take, take-append-drop, true}
+use Rattle.ksm_book.proofs.Names.{visit, visit_begun, visit_of, visited, visits, visits_beside, zero, ℕ, [], ⊤, ◌++◌, ◌+◌, ◌∙◌, ◌∷◌, ◌≡◌}
+use Rattle.ksm_book.proofs.Going.{begun_goes, elsewhere, Goes, goes_on, goes_same, mergeable_kept, visited_goes}
+use Rattle.ksm_book.proofs.PagesAhead.{Before, behind_first, has_filter, same_pages}
 use Rattle.ksm_pages.proofs.Options.{mapped_some, none_mapped}
+use Rattle.ksm_pages.proofs.Ranked.{last_of_take}
+use Rattle.std.proofs.Math.Seq.{take-suc}
+use Rattle.ksm_book.proofs.ByPage.{found_page}
 
 -- ---------------------------------------------------------------- the page that is visited next
 
@@ -31,8 +34,8 @@ pass_goes_on c page more is = rw (and_right _ _ (ap is_none (some_next c is).1))
 
 -- where a pass is under way with a page ahead, the next visit begins with nothing done
 begun_goes_on : (c : BookState) (last page : GuestPage) (more : List GuestPage) → c.cursor ≡ Some last → pages_ahead c ≡ page ∷ more
-    → visit_begun c ≡ c
-begun_goes_on c last page more at is = grind (arith, at, is, pass_goes_on)
+    → visit_begun (pass_ended_at_last c) ≡ c
+begun_goes_on c last page more at is = grind (arith, at, is, pass_goes_on c page more is)
 
 ascending_mergeable : (rows : List Row) → InPageOrder rows → AreAscending (mergeable_pages rows)
 ascending_mergeable rows rise =
@@ -51,10 +54,6 @@ behind_done [] left cursor pages rise is = is
 behind_done (page ∷ done) left cursor pages rise is =
     behind_done done left (Some page) pages rise (behind_first _ _ _ _ rise is)
 
-last_stands : (page : GuestPage) (pages : List GuestPage) → (last : GuestPage) × (last_of (Some page) pages ≡ Some last)
-last_stands page [] = (page, refl)
-last_stands page (next ∷ pages) = last_stands next pages
-
 -- rows that settled are settled
 pub settled_twice : (rows : List Row) → map settled (map settled rows) ≡ map settled rows
 settled_twice rows = grind (arith, map_mapped)
@@ -70,14 +69,12 @@ pub still_on : {X : Type 0} (first second third : BookState × X) → IsStill fi
 still_on first second third f g = grind arith
 
 module _ {X : Type 0} (step : BookState → X → Row → X) where
-  abbrev one_visit : BookState × X → BookState × X
-  one_visit s = let t = begun s in next_visited step t (next_row t.0.cursor t.0.rows)
-
   -- n visits and then k come to the same as n + k visits
   pub beside_on : (n k m : ℕ) (s : BookState × X) → m ≡ n + k → visits_beside step m s ≡ visits_beside step k (visits_beside step n s)
   beside_on n zero m s sum = let same : m ≡ n = omega arith in rw same
   beside_on n (suc k) m s sum =
-      (let more : m ≡ suc (n + k) = omega arith in rw more) ∙ ap one_visit (beside_on n k (n + k) s refl)
+      (let more : m ≡ suc (n + k) = omega arith in rw more) ∙ ap (λ s. visits_beside step 1 s)
+      (beside_on n k (n + k) s refl)
 
   -- the book after n visits with what they do beside is the book after n visits
   pub beside_state : (n : ℕ) (s : BookState × X) → (visits_beside step n s).0 ≡ visits n s.0
@@ -91,26 +88,6 @@ module _ {X : Type 0} (step : BookState → X → Row → X) where
   pub visits_mergeable : (n : ℕ) (s : BookState × X) → mergeable_pages (visits_beside step n s).0.rows ≡ mergeable_pages s.0.rows
   visits_mergeable n s = rw (beside_state n s) (grind (arith, (rowwise_visits n s.0).rows, mergeable_kept))
 
-  -- n visits, of which the first has begun
-  abbrev goes : ℕ → BookState × X → BookState × X
-  goes zero s = s
-  goes (suc n) s = visits_beside step n (next_visited step s (next_row s.0.cursor s.0.rows))
-
-  visits_go : (n : ℕ) (s : BookState × X) → visits_beside step (suc n) s ≡ goes (suc n) (begun s)
-  visits_go n s = beside_on 1 n (suc n) s (omega arith)
-
-  visits_go_on : (n : ℕ) (s : BookState × X) → visit_begun s.0 ≡ s.0 → visits_beside step n s ≡ goes n s
-  visits_go_on zero s is = refl
-  visits_go_on (suc n) s is = grind (arith, visits_go n s, is)
-
-  pass_moved : (page : GuestPage) (done left : List GuestPage) (s : BookState × X)
-      → pass_at done left (record s.0 { cursor = Some page }, s.1) ≡ pass_at (page ∷ done) left s
-  pass_moved page done left s = grind arith
-
-  -- the visit of a page that is not restless changes nothing
-  calm_stays : (s : BookState × X) (page : GuestPage) → restless_at page s.0.rows ≡ false → page_visited step s page ≡ s
-  calm_stays s page calm = grind arith
-
   -- what the visit of a page keeps of the rows
   page_goes : (s : BookState × X) (page : GuestPage) → InPageOrder s.0.rows → Goes s.0.rows (page_visited step s page).0.rows
   page_goes s page rise = by _ refl
@@ -118,17 +95,16 @@ module _ {X : Type 0} (step : BookState → X → Row → X) where
       by : (o : Option Row) → row_at page s.0.rows ≡ o → Goes s.0.rows (visited step s o).0.rows
       by None found = goes_same
       by (Some r) found =
-          let of_page = same_page_eq _ _ (grind (arith, find_passes)) in
-          cond_both _ (row_visited s.0 r, step s.0 s.1 r) s (λ z. Goes s.0.rows z.0.rows)
-          (λ is. visited_goes s.0 r rise (ap (λ p. row_at p s.0.rows) of_page ∙ found)
-          (grind (arith, not-true))) (λ calm. goes_same)
+          let go : is_restless r ≡ true → Goes s.0.rows (row_visited s.0 r).rows =
+          λ is. visited_goes s.0 r rise (grind (arith, found_page)) (grind (arith, not-true)) in
+          grind (arith, goes_same {rows = s.0.rows})
 
   -- visits of pages keep the rows in page order and which pages scans visit, and make no page restless
   pub pages_go : (pages : List GuestPage) (s : BookState × X) → InPageOrder s.0.rows → Goes s.0.rows (pages_visited step s pages).0.rows
   pages_go [] s rise = goes_same
   pages_go (page ∷ pages) s rise =
-      let first = page_goes s page rise in
-      goes_on first (pages_go pages (page_visited step s page) (first.order rise))
+      let first = page_goes s page rise in grind
+      (arith, goes_on, first, pages_go pages (page_visited step s page) (first.order rise))
 
   -- visits of some pages and of one page more are the visits of those pages and then the visit of that one
   pub visited_more : (pages : List GuestPage) (s : BookState × X) (page : GuestPage)
@@ -138,57 +114,33 @@ module _ {X : Type 0} (step : BookState → X → Row → X) where
 
   -- pages that are not restless may be left out
   pub settled_out : (t : GuestPage → Bool) (pages : List GuestPage) (s : BookState × X) → InPageOrder s.0.rows
-      → All (λ p. t p ≡ false → restless_at p s.0.rows ≡ false) pages
+      → ((p : GuestPage) → t p ≡ false → restless_at p s.0.rows ≡ false)
       → pages_visited step s (filter t pages) ≡ pages_visited step s pages
   settled_out t [] s rise calm = refl
   settled_out t (page ∷ pages) s rise calm =
-      let P : GuestPage → Type 0 = λ p. t p ≡ false → restless_at p s.0.rows ≡ false in
-      let rest = All-tail P _ _ calm in
       let first = page_goes s page rise in
-      elim (cases_Bool (t page)) [
-        | inl stays ↦
-            ap (pages_visited step s) (filter_in t _ _ stays)
-            ∙ settled_out t pages (page_visited step s page) (first.order rise)
-            (λ k d lt off. first.calm _ (rest k d lt off))
-        | inr goes_out ↦
-            rw (calm_stays s _ (All-head P _ _ calm goes_out))
-            (grind (arith, filter_out, settled_out t pages s rise rest))
-      ]
+      let others =
+      settled_out t pages (page_visited step s page) (first.order rise) (λ p off. first.calm p (calm p off)) in
+      grind (arith, calm page, settled_out t pages s rise calm)
 
   -- visits of two ascending lists of pages with the same restless pages come to the same
   pub same_restless : (ps qs : List GuestPage) (s : BookState × X) → InPageOrder s.0.rows → AreAscending ps → AreAscending qs
       → ((page : GuestPage) → restless_at page s.0.rows ≡ true → has_item page ps ≡ has_item page qs)
       → pages_visited step s ps ≡ pages_visited step s qs
   same_restless ps qs s rise first second same =
-      sym (grind (arith, settled_out))
-      ∙ ap (pages_visited step s)
-      (same_pages _ _ (AllPairs-filter Before t ps first) (AllPairs-filter Before t qs second) alike)
-      ∙ settled_out t qs s rise (λ k d lt off. off)
-    where
-      t : GuestPage → Bool
-      t page = restless_at page s.0.rows
-
-      alike : (x : GuestPage) → has_item x (filter t ps) ≡ has_item x (filter t qs)
-      alike x = grind (arith, has_filter)
+      let t : GuestPage → Bool = λ page. restless_at page s.0.rows in
+      let alike = same_pages (filter t ps) (filter t qs) (AllPairs-filter Before t ps first)
+      (AllPairs-filter Before t qs second) (λ x. grind (arith, has_filter, same x)) in
+      sym (settled_out t ps s rise (λ p off. off)) ∙ ap (pages_visited step s) alike ∙ settled_out t qs s rise
+      (λ p off. off)
 
   module _ (beside : IsBeside step) where
     -- the visit of the next row is that of its page
     next_is_page : (s : BookState × X) (row : Row) → InPageOrder s.0.rows → next_row s.0.cursor s.0.rows ≡ Some row
         → page_visited step s row.page ≡ (row_visited s.0 row, step s.0 s.1 row)
-    next_is_page s row rise next = ap (visited step s) there ∙ by _ refl
-      where
-        c : BookState
-        c = s.0
-
-        there : row_at row.page c.rows ≡ Some row
-        there = find_all _ (λ r. row_at r.page c.rows ≡ Some r) _ row next (each_at_page _ rise)
-
-        mergeable : row.mergeable ≡ true
-        mergeable = grind (arith, find_passes)
-
-        by : (z : Bool) → shared_state row.state ≡ z → visited step s (Some row) ≡ (row_visited c row, step c s.1 row)
-        by true is = grind (arith, mergeable)
-        by false is = grind (arith, mergeable, is)
+    next_is_page s row rise next =
+        let there = find_all _ (λ r. row_at r.page s.0.rows ≡ Some r) _ row next (each_at_page _ rise) in
+        grind (arith, find_passes _ s.0.rows row next, beside.shared s.0 s.1 row)
 
     -- visits of pages do the same wherever the cursor stands and however many passes have ended
     module _ (cursor : Option GuestPage) (passes : ℕ) where
@@ -204,99 +156,85 @@ module _ {X : Type 0} (step : BookState → X → Row → X) where
       pages_alike [] s = refl
       pages_alike (page ∷ pages) s = rw (page_alike s _) (pages_alike pages (page_visited step s page))
 
-    -- the first page was visited, and the pass goes on to the others or ends
-    first_done : (page : GuestPage) (done left : List GuestPage) (v : BookState × X)
-        → pages_ahead (record v.0 { cursor = Some page }) ≡ done ++ left
-        → (1 ≤ length (done ++ left)
-        → goes (length done) (record v.0 { cursor = Some page }, v.1)
-        ≡ pass_at done left (pages_visited step (record v.0 { cursor = Some page }, v.1) done))
-        → visits_beside step (length done) (pass_ended_at_last (record v.0 { cursor = Some page }), v.1)
-        ≡ pass_at (page ∷ done) left (pages_visited step v done)
-    first_done page [] [] v is rest = grind (arith, none_next)
-    first_done page [] (next ∷ left) v is rest = λ t. (pass_goes_on (record v.0 { cursor = Some page }) _ _ is t, v.1)
-    first_done page (next ∷ done) left v is rest =
-        let here : BookState = record v.0 { cursor = Some page } in
-        let passes = ap (λ (s : BookState × X). s.0.passes) (pages_alike v.0.cursor v.0.passes (next ∷ done) v) in
-        rw (pass_goes_on here _ _ is)
-        (visits_go_on (suc (length done)) (here, v.1) (begun_goes_on _ _ _ _ refl is) ∙ rest (omega arith)
-        ∙ ap (pass_at (next ∷ done) left) (pages_alike (Some page) v.0.passes (next ∷ done) v) ∙ (grind (arith, passes))
-        ∙ pass_moved page (next ∷ done) left (pages_visited step v (next ∷ done)))
+    -- visits of pages leave the cursor and the count of passes
+    pub pages_stay : (pages : List GuestPage) (s : BookState × X)
+        → ((pages_visited step s pages).0.cursor ≡ s.0.cursor) × ((pages_visited step s pages).0.passes ≡ s.0.passes)
+    pages_stay pages s = grind (arith, pages_alike s.0.cursor s.0.passes pages s)
 
-    -- visits from a state in which a visit has begun
-    along : (done left : List GuestPage) (s : BookState × X) → InPageOrder s.0.rows → 1 ≤ length (done ++ left)
-        → pages_ahead s.0 ≡ done ++ left
-        → goes (length done) s ≡ pass_at done left (pages_visited step s done)
-    along [] [] s rise some is = absurd (omega arith)
-    along [] (next ∷ left) s rise some is = refl
-    along (page ∷ done) left s rise some is =
-        let next = some_next s.0 is in
-        let row = next.0 in
-        let v : BookState × X = (row_visited s.0 row, step s.0 s.1 row) in
-        let here : BookState × X = (record v.0 { cursor = Some page }, v.1) in
-        let visit = subst (λ p. page_visited step s p ≡ v) next.2 (next_is_page s row rise next.1) in
-        let going = subst (λ (z : BookState × X). Goes s.0.rows z.0.rows) visit (page_goes s _ rise) in
-        let ahead = ap (filter (after_cursor (Some page))) going.mergeable
-        ∙ behind_first _ _ _ _ (ascending_mergeable _ rise) is in
-        rw visit
-        ((λ t. visits_beside step (length done) (next_visited step s (next.1 t)))
-        ∙ (λ t. visits_beside step (length done) (pass_ended_at_last (record v.0 { cursor = Some (next.2 t) }), v.1))
-        ∙ first_done _ done left v ahead (λ more. along done left here (going.order rise) more ahead))
+    -- visits that begin from a state
+    module _ (s : BookState × X) (rise : InPageOrder s.0.rows) where
+      -- the pages ahead once a visit begins
+      abbrev pub ahead : List GuestPage
+      ahead = pages_ahead (visit_begun s.0)
 
-    -- as many visits as pages in a first part of those ahead are the visits of these; the pass ends if none is left
-    pub visits_folded : (s : BookState × X) (done left : List GuestPage) → InPageOrder s.0.rows → 1 ≤ length done
-        → pages_ahead (visit_begun s.0) ≡ done ++ left
-        → visits_beside step (length done) s ≡ pass_at done left (pages_visited step (begun s) done)
-    visits_folded s [] left rise some is = absurd (omega arith)
-    visits_folded s (page ∷ done) left rise some is =
-        visits_go (length done) s ∙ along (page ∷ done) left (begun s) ((begun_goes s.0).order rise) (omega arith) is
+      -- after the visits of pages
+      abbrev pub after : List GuestPage → BookState × X
+      after pages = pages_visited step (begun s) pages
 
-    -- where a page is still ahead after the visits of some pages, the next visit begins from where these have led
-    pub begun_folded : (s : BookState × X) (done : List GuestPage) (next : GuestPage) (left : List GuestPage) → InPageOrder s.0.rows
-        → pages_ahead (visit_begun s.0) ≡ done ++ next ∷ left
-        → begun (visits_beside step (length done) s) ≡ pass_at done (next ∷ left) (pages_visited step (begun s) done)
-    begun_folded s [] next left rise is = refl
-    begun_folded s (page ∷ done) next left rise is =
-        grind (arith, last_stands page done, visits_folded s (page ∷ done) (next ∷ left) rise (omega arith) is, behind_done, begun_goes_on)
+      -- the pages ahead once a visit begins ascend
+      pub ascending : AreAscending ahead
+      ascending = grind (arith, ascending_ahead, begun_goes)
 
-    -- ---------------------------------------------------------------- pass after pass
+      -- the first n pages ahead were visited, with the cursor at the last
+      abbrev pub stood : ℕ → BookState × X
+      stood n = (
+        record (after (take n ahead)).0 { cursor = last_of (visit_begun s.0).cursor (take n ahead) },
+        (after (take n ahead)).1,
+      )
 
-    -- a whole pass that changed nothing but which rows wait is repeated by as many as follow
-    module _ (s : BookState × X) (rise : InPageOrder s.0.rows) (some : 1 ≤ length (mergeable_pages s.0.rows)) where
-      abbrev all : List GuestPage
-      all = mergeable_pages s.0.rows
+      -- the rows are in order then
+      order_then : (n : ℕ) → Goes (visit_begun s.0).rows (stood n).0.rows
+      order_then n = pages_go (take n ahead) (begun s) ((begun_goes s.0).order rise)
 
-      abbrev settled_book : BookState × X
-      settled_book = (with_none_waiting s.0, s.1)
+      -- and the others are ahead
+      pub ahead_then : (n : ℕ) → pages_ahead (stood n).0 ≡ drop n ahead
+      ahead_then n =
+          let order = (begun_goes s.0).order rise in
+          ap (filter (after_cursor (stood n).0.cursor)) (order_then n).mergeable
+          ∙ behind_done (take n ahead) (drop n ahead) _ _ (ascending_mergeable _ order) (sym (take-append-drop n ahead))
 
-      abbrev after : BookState × X
-      after = pages_visited step settled_book all
+      -- one visit more is that of the next page
+      one_more : (n : ℕ) (page : GuestPage) → slice_get ahead n ≡ Some page → begun (visits_beside step n s) ≡ stood n
+          → visits_beside step (suc n) s ≡ (pass_ended_at_last (stood (suc n)).0, (stood (suc n)).1)
+      one_more n page at from =
+          let t = stood n in
+          let lt = slice_get_within ahead n page at in
+          let here = get_or_from_slice_get ahead n page page at in
+          let next = some_next t.0 (ahead_then n ∙ drop_more ahead n page lt ∙ ap (λ p. p ∷ drop (n + 1) ahead) here) in
+          let visit = subst (λ p. page_visited step t p ≡ (row_visited t.0 next.0, step t.0 t.1 next.0)) next.2
+          (next_is_page t next.0 ((order_then n).order ((begun_goes s.0).order rise)) next.1) in
+          let done = after (take (suc n) ahead) in
+          let passes = (pages_stay (take n ahead) (begun s)).1 ∙ sym (pages_stay (take (suc n) ahead) (begun s)).1 in
+          let led = page_alike t.0.cursor t.0.passes (after (take n ahead)) page
+          ∙ ap (λ (z : BookState × X). (elsewhere t.0.cursor t.0.passes z.0, z.1))
+          (sym (ap after (take-suc ahead n page lt ∙ ap (λ p. take n ahead ++ p ∷ []) here) ∙ visited_more
+          (take n ahead) (begun s) page))
+          ∙ (λ i. (record done.0 { cursor = t.0.cursor; passes = passes i }, done.1)) in
+          (λ i. next_visited step (from i) (next_row (from i).0.cursor (from i).0.rows)) ∙
+          (λ i. next_visited step t (next.1 i))
+          ∙ (λ i. (
+            pass_ended_at_last (record ((sym visit ∙ led) i).0 { cursor = Some (next.2 i) }),
+            ((sym visit ∙ led) i).1,
+          ))
+          ∙ (λ i. (
+            pass_ended_at_last (record done.0
+                { cursor = sym (last_of_take ahead n (visit_begun s.0).cursor at) i }),
+            done.1,
+          ))
 
-      -- as such a pass ends, with so many ended
-      abbrev ended : ℕ → BookState × X
-      ended passes = (record after.0 { cursor = None; passes = passes }, s.1)
+      -- the visit behind those of the first n pages ahead begins where these have led
+      pub begun_folded : (n : ℕ) (page : GuestPage) → slice_get ahead n ≡ Some page
+          → begun (visits_beside step n s) ≡ stood n
+      begun_folded zero page at = refl
+      begun_folded (suc n) page at =
+          let lt = slice_get_within ahead (suc n) page at in
+          let there = slice_get-get_or ahead n page (omega arith) in
+          let made = one_more n _ there (begun_folded n _ there) in
+          let cut = ahead_then (suc n) ∙ drop_more ahead (suc n) page lt in
+          let last = last_of_take ahead n (visit_begun s.0).cursor there in
+          ap begun made ∙ (λ i. (begun_goes_on (stood (suc n)).0 _ _ _ last cut i, (stood (suc n)).1))
 
-      module _ (still : IsStill settled_book after) where
-        begins_alike : (passes : ℕ) → begun (ended passes) ≡ (elsewhere None passes (with_none_waiting s.0), s.1)
-        begins_alike passes = grind (arith, settled_twice)
-
-        again : (passes : ℕ) → visits_beside step (length all) (ended passes) ≡ ended (min (passes + 1) (2 ^ 64 - 1))
-        again passes =
-            let order = (pages_go all _ ((settled_goes _).order rise)).order ((settled_goes _).order rise) in
-            let ahead = ap (λ (z : BookState × X). pages_ahead z.0) (begins_alike passes) ∙ every_page (map settled s.0.rows)
-            ∙ (settled_goes s.0.rows).mergeable ∙ sym (append-nil all) in
-            visits_folded _ all [] order some ahead ∙ ap (λ z. pass_at all [] (pages_visited step z all)) (begins_alike _)
-            ∙ ap (pass_at all []) (pages_alike None passes all _)
-            ∙ (λ t. (record after.0 { cursor = None; passes = min (passes + 1) (2 ^ 64 - 1) }, still.beside t))
-
-        again_times : (times passes : ℕ) → passes ≤ 2 ^ 64 - 1
-            → visits_beside step (times * length all) (ended passes) ≡ ended (min (passes + times) (2 ^ 64 - 1))
-        again_times zero passes small = grind arith
-        again_times (suc times) passes small =
-            let so_far = min (passes + times) (2 ^ 64 - 1) in
-            beside_on (times * length all) (length all) (suc times * length all) (ended passes) (omega (arith, suc-mul times (length all)))
-            ∙ ap (visits_beside step (length all)) (again_times times passes small) ∙ again _ ∙ ap ended (omega arith)
-
-        -- after a whole pass that changed nothing but which rows wait, further passes add to the count of passes alone
-        pub repeats : (times : ℕ) → visits_beside step (times * length all) (pass_ended after.0, after.1)
-            ≡ (record (pass_ended after.0) { passes = min ((pass_ended after.0).passes + times) (2 ^ 64 - 1) }, after.1)
-        repeats times = rw still.beside (again_times _ _ (omega arith))
+      -- as many visits as lead up to a page ahead are those of the pages up to it; the pass ends if it is the last
+      pub visits_folded : (n : ℕ) (page : GuestPage) → slice_get ahead n ≡ Some page
+          → visits_beside step (suc n) s ≡ (pass_ended_at_last (stood (suc n)).0, (stood (suc n)).1)
+      visits_folded n page at = one_more n page at (begun_folded n page at)

@@ -1,28 +1,15 @@
 -- The visit of a row: it keeps which pages scans visit, makes no page restless, and does the same wherever the cursor stands.
-use Rattle.ksm_book.proofs.Names.{All, ap, arith, best_dup, BookState, Bool, change_row, change_rows, cond_both, DupRow, false, find_all, get_or, GuestPage, handled, InPageOrder, is_for_zero, is_none}
-use Rattle.ksm_book.proofs.Names.{is_some, List, map, mergeable_pages, next_row, None, not, one_of_each_page, Option, option_map, ordered_map, PageState, paired, partner, pass_begun, pass_ended, refl}
-use Rattle.ksm_book.proofs.Names.{restless_at, restless_row, Row, row_at, row_visited, same_page, settled, settled_state, shared_state, Some, stayed, subst, sym, true, visit_begun, Zero, ℕ, ◌&&◌, ◌∙◌}
-use Rattle.ksm_book.proofs.Names.{◌≡◌, if◌then◌else◌, filter_mapped, map_mapped, find_mapped}
+use Rattle.ksm_book.proofs.Names.{All, ap, arith, best_dup, BookState, Bool, change_row, change_rows, DupRow, false, filter_mapped, find_all, find_mapped, get_or, GuestPage, handled, InPageOrder}
+use Rattle.ksm_book.proofs.Names.{List, map, map_mapped, mergeable_pages, None, Option, option_map, ordered_map, PageState, paired, partner, refl, restless_at, restless_row, Row, row_at, row_visited}
+use Rattle.ksm_book.proofs.Names.{same_page, settled, shared_state, Some, stayed, true, visit_begun, Zero, ℕ, ◌∙◌, ◌≡◌}
+use Rattle.ksm_book.proofs.ByPage.{row_of_page}
 use Rattle.ksm_base.specs.declared.row.PageState.TheVariants.{Private}
 
 -- ---------------------------------------------------------------- wherever the cursor stands
 
-module _ (cursor : Option GuestPage) (passes : ℕ) where
-  -- the same book with the cursor elsewhere, and with another count of passes
-  abbrev pub elsewhere : BookState → BookState
-  elsewhere b = record b { cursor = cursor; passes = passes }
-
-  either : (z : Bool) (a b c d : BookState) → c ≡ elsewhere a → d ≡ elsewhere b → (if z then c else d) ≡ elsewhere (if z then a else b)
-  either z a b c d e f = grind arith
-
-  paired_alike : (w : Option Row) (b : BookState) (row : Row) → paired w (elsewhere b) row ≡ elsewhere (paired w b row)
-  paired_alike w b row = grind arith
-
-  stayed_alike : (b : BookState) (row : Row) → stayed (elsewhere b) row ≡ elsewhere (stayed b row)
-  stayed_alike b row = grind arith
-
-  handled_alike : (d : Option DupRow) (b : BookState) (row : Row) → handled d (elsewhere b) row ≡ elsewhere (handled d b row)
-  handled_alike d b row = grind arith
+-- the same book with the cursor elsewhere, and with another count of passes
+abbrev pub elsewhere : Option GuestPage → ℕ → BookState → BookState
+elsewhere cursor passes b = record b { cursor = cursor; passes = passes }
 
 -- ---------------------------------------------------------------- what rows keep
 
@@ -68,15 +55,12 @@ module _ (change : Row → Row) (keeps : KeepsPage change) where
     calm = λ page calm. ap restless_row (row_changed _ _) ∙ by _ _ refl calm;
   }
     where
-      at : {m n s t : Bool} → n ≡ m → (s ≡ true → t ≡ true) → (m && not s) ≡ false → (n && not t) ≡ false
-      at same kept calm = grind arith
-
       by : (page : GuestPage) (o : Option Row) → row_at page rows ≡ o → restless_row o ≡ false → restless_row (option_map change o) ≡ false
       by page None found calm = refl
       by page (Some r) found calm =
-          let kept = find_all _
-          (λ s. shared_state s.state ≡ true → shared_state (change s).state ≡ true) _ r found shared in
-          at (keeps r).1 kept calm
+          let its =
+          find_all _ (λ s. shared_state s.state ≡ true → shared_state (change s).state ≡ true) _ r found shared in
+          grind (arith, keeps r)
 
 -- the rows that pass a test are changed
 some_go : (test : Row → Bool) (f : Row → Row) (rows : List Row) → KeepsPage f
@@ -92,55 +76,38 @@ shares : (test : Row → Bool) (state : PageState) (rows : List Row) → shared_
     → Goes rows (change_rows test (λ r. record r { state = state }) rows)
 shares test state rows is = some_go _ _ _ (λ r. (refl, refl)) (λ k d lt e s. is)
 
-module _ (b : BookState) (row : Row) (rise : InPageOrder b.rows) (found : row_at row.page b.rows ≡ Some row) where
+module _ (b : BookState) (row : Row) (rise : InPageOrder b.rows) (found : row_at row.page b.rows ≡ Some row)
+    (own : shared_state row.state ≡ false) where
   abbrev Comes : BookState → Type 0
   Comes c = Goes b.rows c.rows
 
   -- the row of the page changes, and it is not shared
-  own_changes : (f : Row → Row) → KeepsPage f → shared_state row.state ≡ false → Goes b.rows (change_row row.page f b.rows)
-  own_changes f keeps own =
-      let only = find_all (λ r. same_page r.page row.page) (λ r. All (λ s. same_page s.page r.page ≡ true → s ≡ r) b.rows) b.rows row found
-      (one_of_each_page b.rows rise) in
-      some_go _ f _ keeps (grind arith)
+  own_changes : (f : Row → Row) → KeepsPage f → Goes b.rows (change_row row.page f b.rows)
+  own_changes f keeps = some_go _ f _ keeps (grind (arith, row_of_page row.page b.rows row rise found))
 
-  paired_goes : (w : Option Row) → shared_state row.state ≡ false → Comes (paired w b row)
-  paired_goes (Some w) own = shares _ _ _ refl
-  paired_goes None own = own_changes _ (λ r. (refl, refl)) own
+  paired_goes : (w : Option Row) → Comes (paired w b row)
+  paired_goes (Some w) = shares _ _ _ refl
+  paired_goes None = own_changes _ (λ r. (refl, refl))
 
-  stayed_goes : shared_state row.state ≡ false → Comes (stayed b row)
-  stayed_goes own =
-      cond_both (is_for_zero b.knobs row) (record b { rows = change_row row.page (λ r. record r { state = Zero }) b.rows })
-      (paired (partner b.knobs b.rows row) b row) Comes
-      (λ _. shares (λ r. same_page r.page row.page) Zero b.rows refl) (λ _. paired_goes (partner b.knobs b.rows row) own)
+  stayed_goes : Comes (stayed b row)
+  stayed_goes =
+      grind (arith, shares (λ r. same_page r.page row.page) Zero b.rows refl, paired_goes (partner b.knobs b.rows row))
 
-  handled_goes : (d : Option DupRow) → shared_state row.state ≡ false → Comes (handled d b row)
-  handled_goes (Some d) own = shares _ _ _ refl
-  handled_goes None own =
-      cond_both row.unchanged (stayed b row)
-      (record b { rows = change_row row.page (λ r. record r { unchanged = true; state = Private }) b.rows }) Comes
-      (λ _. stayed_goes own) (λ _. own_changes (λ r. record r { unchanged = true; state = Private }) (λ r. (refl, refl)) own)
+  handled_goes : (d : Option DupRow) → Comes (handled d b row)
+  handled_goes (Some d) = shares _ _ _ refl
+  handled_goes None =
+      grind (arith, stayed_goes, own_changes (λ r. record r { unchanged = true; state = Private }) (λ r. (refl, refl)))
 
   -- the visit of a row with a frame of its own keeps the order and which pages scans visit, and makes no page restless
-  pub visited_goes : shared_state row.state ≡ false → Comes (row_visited b row)
-  visited_goes own =
-      subst Comes (sym (ap (λ s. if s then b else handled (best_dup b.knobs b.rows b.dups row) b row) own))
-      (handled_goes _ own)
+  pub visited_goes : Comes (row_visited b row)
+  visited_goes = grind (arith, handled_goes (best_dup b.knobs b.rows b.dups row))
 
 -- ---------------------------------------------------------------- what a visit begins with
 
 -- once no row waits the rows keep their order and which pages scans visit, and no page becomes restless
 pub settled_goes : (rows : List Row) → Goes rows (map settled rows)
-settled_goes rows = change_goes _ (λ r. (refl, refl)) (λ k d lt is. by _ is)
-  where
-    by : (s : PageState) → shared_state s ≡ true → shared_state (settled_state s) ≡ true
-    by Private is = is
-    by _ is = is
+settled_goes rows = change_goes _ (λ r. (refl, refl)) (grind arith)
 
 -- as a visit begins the rows keep their order and which pages scans visit, and no page becomes restless
 pub begun_goes : (b : BookState) → Goes b.rows (visit_begun b).rows
-begun_goes b =
-    cond_both (is_some b.cursor && is_none (next_row b.cursor b.rows)) (pass_ended b) b (λ e. Goes b.rows (pass_begun e).rows)
-    (λ _. settled_goes _) (λ _. begins)
-  where
-    begins : Goes b.rows (pass_begun b).rows
-    begins = cond_both _ _ b (λ c. Goes b.rows c.rows) (λ _. settled_goes _) (λ _. goes_same)
+begun_goes b = grind (arith, settled_goes b.rows, goes_same {rows = b.rows})

@@ -1,21 +1,13 @@
 -- The keeper's steps as changes of a placement, and the lives that they spend.
-use Rattle.ksm_book.proofs.Names.{Add, added, All, All-filter, arith, blank, cases_eq, cases_lt, did, DupRow, dying_kind, dying_on, filter_passes, frame_at, Frames, frames_of, GenerationFits, get_or}
-use Rattle.ksm_book.proofs.Names.{get_or-range_with_len, get_or-set_other, get_or-set_same, get_or_past, IfSome, KeeperView, Keeps, Kind, leaving, Ledger, length, length-range_with_len, List}
-use Rattle.ksm_book.proofs.Names.{MakesSteps, map, MayLeave, None, Note, Option, past_lives, Placed, range_with_len, Reap, reaped, refl, Row, set, Shape, Some, spent, spent_on, Stable, suc}
-use Rattle.ksm_book.proofs.Names.{sum_by-set, with_frame, ℕ, [], ◌*◌, ◌+◌, ◌<◌, ◌∷◌, ◌≡◌, ◌≤◌}
+use Rattle.ksm_book.proofs.Names.{Add, added, All, All-filter, arith, blank, cases_eq, cases_lt, did, DupRow, dying_kind, dying_on, filter_passes, frame_at, Frames, frames_of, get_or}
+use Rattle.ksm_book.proofs.Names.{get_or-range_with_len, get_or-set_other, get_or-set_same, get_or_past, IfSome, KeeperView, Keeps, leaving, Ledger, length, length-range_with_len, List, MakesSteps}
+use Rattle.ksm_book.proofs.Names.{map, MayLeave, None, Note, Option, Placed, range_with_len, Reap, reaped, refl, Row, set, Shape, Some, spent, spent_on, Stable, suc, sum_by-set, with_frame, ℕ, []}
+use Rattle.ksm_book.proofs.Names.{◌*◌, ◌+◌, ◌<◌, ◌∷◌, ◌≡◌, ◌≤◌}
 use Rattle.std.proofs.lemmas.List.{set_past}
 use Rattle.ksm_book.proofs.Made.{first_made, none_made, step_made}
 use Rattle.ksm_book.proofs.Noted.{noted}
 
 -- ---------------------------------------------------------------- lives
-
--- a generation that fits a frame's kind is at most the last generation
-pub lives_most : (last n : ℕ) (kind : Kind) → GenerationFits last kind n → n ≤ last
-lives_most last n kind h = grind arith
-
--- the lives in which a frame does not hold one page alone are among those that it had
-pub past_le : (kind : Kind) (n : ℕ) → past_lives kind n ≤ n
-past_le kind n = grind arith
 
 -- the lives spent, where one frame's note is another, differ by those of this frame
 pub spent_set : (k : Ledger) (g : ℕ) (fr : Note) → g < length k.frames → spent (with_frame k g fr) + spent_on (frame_at k g) ≡ spent k + spent_on fr

@@ -1,6 +1,6 @@
 -- What is told of rows, as it is of their pages: how many scans visit, and which are listed.
-use Rattle.ksm_book.proofs.Names.{AreAllListed, false, filter, find_all, GuestPage, has_item, is_restless, length, length-filter, length-map, List, mergeable_count, mergeable_pages, None, Option}
-use Rattle.ksm_book.proofs.Names.{refl, restless_at, restless_row, Row, row_at, same_page, Some, subst, sym, true, true≢false, ◌-◌, ◌∙◌, ◌≡◌}
+use Rattle.ksm_book.proofs.Names.{AreAllListed, arith, filter, find_all, GuestPage, has_item, is_restless, length, length-filter, length-map, List, mergeable_count, mergeable_pages, None, Option}
+use Rattle.ksm_book.proofs.Names.{refl, restless_at, restless_row, Row, row_at, same_page, Some, sym, true, true≢false, ◌∙◌, ◌≡◌}
 use Rattle.ksm_book.proofs.ByPage.{found_page}
 
 -- scans visit as many pages as there are mergeable rows
@@ -14,5 +14,7 @@ listed_at rows pages listed page is = by _ refl is
   where
     by : (o : Option Row) → row_at page rows ≡ o → restless_row o ≡ true → has_item page pages ≡ true
     by None found is = absurd (true≢false (sym is))
-    by (Some r) found is = subst (λ p. has_item p pages ≡ true) (found_page _ _ r found)
-        (find_all (λ s. same_page s.page page) (λ s. is_restless s ≡ true → has_item s.page pages ≡ true) rows r found listed is)
+    by (Some r) found is =
+        let its = find_all (λ s. same_page s.page page) (λ s. is_restless s ≡ true → has_item s.page pages ≡ true)
+        rows r found listed in
+        grind (arith, found_page page rows r found)

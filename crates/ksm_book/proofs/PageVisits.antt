@@ -1,14 +1,15 @@
 -- The visit of a page: what was found of its row, and what becomes of the book where the row alone changes.
 use Rattle.ksm_book.proofs.Names.{All, ap, arith, BookState, BookValue, BookView, change_row, Comes, Deed, doing, false, Find, FindsAt, Frames, GuestPage, HasStayed, idle, InPageOrder, is_restless}
-use Rattle.ksm_book.proofs.Names.{IsLaid, IsSound, IsStill, KeeperView, List, map, None, Option, page_visited, PagesView, partner, refl, restless_at, Row, row_at, row_visited, row_visiting, same_page}
-use Rattle.ksm_book.proofs.Names.{settled, shared_state, Some, state_of, subst, sym, true, view_of, visited, VisitsPage, Waiting, ℕ, ◌∙◌, ◌≡◌, if◌then◌else◌, map_mapped}
+use Rattle.ksm_book.proofs.Names.{IsLaid, IsSound, IsStill, KeeperView, List, map, map_mapped, None, Option, page_visited, PagesView, partner, refl, Row, row_at, row_visited, row_visiting, same_page}
+use Rattle.ksm_book.proofs.Names.{settled, shared_state, Some, state_of, sym, true, view_of, VisitsPage, Waiting, ℕ, ◌∙◌, ◌≡◌}
 use Rattle.ksm_pages.specs.declared.pages.Find.TheVariants as finds
 use Rattle.ksm_pages.specs.Paged.{Finds, visited as row_changed}
+use Rattle.ksm_base.specs.declared.row.PageState.TheVariants.{Private}
 use Rattle.ksm_book.proofs.ByPage.{found_page, row_of_page}
 use Rattle.ksm_book.proofs.Doing.{then_idle}
-use Rattle.ksm_book.proofs.Laying.{LodgesAs, laid_changed}
+use Rattle.ksm_book.proofs.Laying.{laid_changed, LodgesAs}
 use Rattle.ksm_book.proofs.Made.{made_none}
-use Rattle.ksm_book.proofs.RowVisits.{Leads, Meets, leads, marked_is, restless_own, there_is, visit_comes}
+use Rattle.ksm_book.proofs.RowVisits.{Leads, leads, Meets, restless_own, there_is, visit_comes}
 use Rattle.ksm_book.proofs.Singles.{book}
 
 -- ---------------------------------------------------------------- what was found
@@ -22,19 +23,12 @@ finds_it f some lawful same q page is told = grind arith
 
 -- ---------------------------------------------------------------- what the visit comes to
 
--- where a page's row, which a visit may change, was visited, the book has come to that
-visits_come : (v w : BookValue) (page : GuestPage) → restless_at page v.state.rows ≡ true → VisitsPage (view_of v) (view_of w) page → Comes
-    v w (λ s. page_visited doing s page)
-visits_come v w page restless did = grind (arith, visit_comes)
-
 -- where a search changed nothing and the page's row was visited then, the visit of the page was reached
 pub shared_comes : {P : BookState → Row → Type 0} {p : PagesView} {k : KeeperView} {cursor : Option GuestPage} {passes : ℕ}
     (v w : BookValue)
     {page : GuestPage} (at : Meets P p k cursor passes (view_of v) page) → is_restless at.row ≡ true → (q : PagesView) → q ≡ p
     → VisitsPage (book q k cursor passes) (view_of w) page → Comes v w (λ s. page_visited doing s page)
-shared_comes v w at restless q same did =
-    visits_come v w _ (grind (arith, restless))
-    (grind arith)
+shared_comes v w at restless q same did = grind (arith, restless, visit_comes)
 
 waiting_settles : (page : GuestPage) (rows : List Row) → All (λ r. same_page r.page page ≡ true → shared_state r.state ≡ false) rows
     → map settled (change_row page (λ r. record r { state = Waiting }) rows) ≡ map settled rows
@@ -42,27 +36,21 @@ waiting_settles page rows alone = grind (arith, map_mapped)
 
 -- a row whose bytes have stayed, and with which none waits, waits, and no step is made
 module _ (b : BookState) (row : Row) (stays : HasStayed b false row) (alone : partner b.knobs b.rows row ≡ None) where
-  -- the visit of a row that has stayed and has no partner makes the row Waiting
-  pub waits_is : row_visited b row ≡ record b { rows = change_row row.page (λ r. record r { state = Waiting }) b.rows }
-  waits_is = grind arith
-
-  -- the visit of a row that has stayed and has no partner does nothing to the frames
-  pub waiting_is : (frame : Frames) → row_visiting b frame row ≡ idle frame
-  waiting_is frame = grind arith
+  -- the visit of a row that has stayed and has no partner makes the row Waiting, and does nothing to the frames
+  pub waits_is : (frame : Frames)
+      → (row_visited b row ≡ record b { rows = change_row row.page (λ r. record r { state = Waiting }) b.rows })
+      × (row_visiting b frame row ≡ idle frame)
+  waits_is frame = grind arith
 
   -- the visit of a row that has stayed and has no partner changes nothing but which rows wait
   pub waits_still : (deed : Deed) (page : GuestPage) → InPageOrder b.rows → row_at page b.rows ≡ Some row → IsStill (b, deed)
       (page_visited doing (b, deed) page)
   waits_still deed page rise found =
-      let is = ap (visited doing (b, deed)) found ∙ ap (λ t. if t then (row_visited b row, doing b deed row) else (b, deed)) stays.restless
-      ∙ (grind (arith, then_idle)) in
-      let at = ap (λ q. row_at q b.rows) (found_page _ _ row found) ∙ found in
-      subst (IsStill (b, deed)) (sym is) (record {
-        rest = refl;
-        rows = waiting_settles _ _ (λ i d lt same. rw (row_of_page _ _ row rise at i d lt same)
-            (restless_own row stays.restless));
-        beside = refl;
-      })
+      let of_page = found_page _ _ row found in
+      let one = row_of_page row.page b.rows row rise (ap (λ q. row_at q b.rows) of_page ∙ found) in
+      let settles =
+      waiting_settles row.page b.rows (λ i d lt same. rw (one i d lt same) (restless_own row stays.restless)) in
+      grind (arith, stays.restless, then_idle, waits_is deed.frame)
 
 -- ---------------------------------------------------------------- the row alone changes
 
@@ -85,7 +73,7 @@ module _ {p q : PagesView} {k : KeeperView} {cursor : Option GuestPage} {passes 
     -- where a visit found that the page is to wait, and made its row Waiting, the book is what the visit leads to
     pub waits_leads : Leads v q k cursor passes page
     waits_leads = row_leads at at.so.0 _ (λ r. refl) (grind arith)
-        (waits_is _ _ stays at.so.4) (waiting_is _ _ stays at.so.4 _) at.so.5
+        (waits_is _ _ stays at.so.4 p.frame).0 (waits_is _ _ stays at.so.4 _).1 at.so.5
 
     -- the visit of a page that is to wait changes nothing but which rows wait
     pub waits_quiet : (deed : Deed) → IsStill (v.state, deed) (page_visited doing (v.state, deed) page)
@@ -93,6 +81,5 @@ module _ {p q : PagesView} {k : KeeperView} {cursor : Option GuestPage} {passes 
 
   -- where a visit found the page's bytes changed, and marked its row, the book is what the visit leads to
   pub changed_leads : Meets (λ _ r. FindsAt p q r finds.Changed) p k cursor passes v page → Leads v q k cursor passes page
-  changed_leads at =
-      let marked = marked_is _ p.frame _ at.so.0 at.so.1 at.so.2 in
-      row_leads at at.so.0 _ (λ r. refl) (grind arith) marked.0 marked.1 at.so.3
+  changed_leads at = row_leads at at.so.0 (λ r. record r { unchanged = true; state = Private }) (λ r. refl)
+      (grind arith) (grind arith) (grind arith) at.so.3

@@ -1,19 +1,14 @@
 -- Ascending lists of pages: their parts before and behind a page, by test and by index; and each is known by what it has.
-use Rattle.ksm_book.proofs.Names.{[], after_cursor, All, All-cons, All-filter, All-head, and_right, any-filter_same, ap, AreAscending, arith, before_trans, Bool, cases_Bool, comes_before}
-use Rattle.ksm_book.proofs.Names.{Contains-from_any, drop, drop-append-le, drop_of_length-le, false, filter, filter_all, filter_mapped, filter_none, from_to, get_or, get_or-drop, get_or-take}
-use Rattle.ksm_book.proofs.Names.{get_or_from_slice_get, GuestPage, has_item, inl, inr, length, length-drop, length-take, length-take-le, List, list_any_none, max, None, not, not_both, one_before}
-use Rattle.ksm_book.proofs.Names.{Option, pairs_head, pairs_tail, refl, same_page, same_page_eq, same_page_refl, slice_get, slice_get-get_or, slice_get_within, Some, subst, suc, sym, take, take_more}
-use Rattle.ksm_book.proofs.Names.{true, true≢false, up_to, zero, ℕ, ◌&&◌, ◌++◌, ◌+◌, ◌-◌, ◌<◌, ◌∙◌, ◌∷◌, ◌≡◌, ◌≤◌}
-use Rattle.std.proofs.Common.{ap₂}
+use Rattle.ksm_book.proofs.Names.{after_cursor, All, All-cons, All-filter, All-head, and_right, any-filter_same, ap, AreAscending, arith, before_trans, Bool, cases_Bool, comes_before}
+use Rattle.ksm_book.proofs.Names.{Contains-from_any, drop-append-le, drop_of_length-le, false, filter, filter_all, filter_mapped, filter_none, from_to, get_or, get_or-drop, get_or-take}
+use Rattle.ksm_book.proofs.Names.{get_or_from_slice_get, GuestPage, has_item, inl, inr, length, length-drop, length-take, length-take-le, List, list_any_none, max, None, not, not_both, Option}
+use Rattle.ksm_book.proofs.Names.{pairs_head, pairs_tail, refl, same_page, same_page_eq, same_page_refl, slice_get, slice_get-get_or, slice_get_within, Some, subst, suc, sym, take, take_more, true}
+use Rattle.ksm_book.proofs.Names.{true≢false, up_to, zero, ℕ, [], ◌&&◌, ◌++◌, ◌+◌, ◌-◌, ◌<◌, ◌∙◌, ◌∷◌, ◌≡◌, ◌≤◌}
 use Rattle.std.proofs.lemmas.List.{map-id}
 
 -- the first page comes before the second
 abbrev pub Before : GuestPage → GuestPage → Type 0
 Before p q = comes_before p q ≡ true
-
--- a filter keeps a first element that passes the test
-pub filter_in : {X : Type 0} (t : X → Bool) (x : X) (xs : List X) → t x ≡ true → filter t (x ∷ xs) ≡ x ∷ filter t xs
-filter_in t x xs passes = rw passes
 
 -- a filter leaves out a first element that fails the test
 pub filter_out : {X : Type 0} (t : X → Bool) (x : X) (xs : List X) → t x ≡ false → filter t (x ∷ xs) ≡ filter t xs
@@ -58,37 +53,24 @@ pub filter_same : {X : Type 0} (t u : X → Bool) (xs : List X) → All (λ x. t
 filter_same t u xs same = grind (arith, map-id xs, filter_mapped, map-id (filter u xs))
 
 module _ (t : GuestPage → Bool) (down : GoesDown t) where
-  -- where the first page fails such a test, all do
-  none_pass : (p : GuestPage) (pages : List GuestPage) → AreAscending (p ∷ pages) → t p ≡ false → All (λ q. t q ≡ false) (p ∷ pages)
-  none_pass p pages rise fails =
-      All-cons (λ q. t q ≡ false) p _ fails (λ k d lt. too (get_or pages k d) (pairs_head Before p _ rise k d lt))
-    where
-      too : (q : GuestPage) → comes_before p q ≡ true → t q ≡ false
-      too q later = grind arith
+  -- where the first page fails such a test, all behind it do
+  none_pass : (p : GuestPage) (pages : List GuestPage) → AreAscending (p ∷ pages) → t p ≡ false
+      → All (λ q. t q ≡ false) pages
+  none_pass p pages rise fails = λ k d lt. grind (arith, pairs_head Before p _ rise k d lt)
 
   -- the first pages, as many as pass, are those that pass
   pub take_down : (pages : List GuestPage) → AreAscending pages → take (length (filter t pages)) pages ≡ filter t pages
   take_down [] rise = refl
   take_down (p ∷ pages) rise =
-      elim (cases_Bool (t p)) [
-        | inl passes ↦ grind (arith, take_down pages (pairs_tail Before p _ rise))
-        | inr fails ↦
-            let none = filter_none t (p ∷ pages) (none_pass p _ rise fails) in ap (λ l. take (length l) (p ∷ pages)) none ∙ sym none
-      ]
+      grind (arith, take_down pages (pairs_tail Before p _ rise), filter_none t pages, none_pass p pages rise)
 
   -- the list is those that pass, and behind them those that fail
   pub parted : (pages : List GuestPage) → AreAscending pages → pages ≡ filter t pages ++ filter (λ p. not (t p)) pages
   parted [] rise = refl
   parted (p ∷ pages) rise =
-      let fail : GuestPage → Bool = λ q. not (t q) in
-      elim (cases_Bool (t p)) [
-        | inl passes ↦
-            ap (λ l. p ∷ l) (parted pages (pairs_tail Before p _ rise))
-            ∙ sym (grind arith)
-        | inr fails ↦
-            let all = none_pass p _ rise fails in
-            sym (ap₂ (λ some more. some ++ more) (filter_none t (p ∷ pages) all) (filter_all fail _ (λ k d lt. ap not (all k d lt))))
-      ]
+      let rest : All (λ q. t q ≡ false) pages → filter (λ q. not (t q)) pages ≡ pages =
+      λ all. filter_all _ _ (λ k d lt. ap not (all k d lt)) in
+      grind (arith, parted pages (pairs_tail Before p _ rise), filter_none t pages, none_pass p pages rise)
 
   -- in an ascending list, the pages behind a cursor that pass a test that goes down stand between two counts
   pub between_is : (cursor : Option GuestPage) (pages : List GuestPage) → AreAscending pages
@@ -96,40 +78,30 @@ module _ (t : GuestPage → Bool) (down : GoesDown t) where
       ≡ filter (λ p. after_cursor cursor p && t p) pages
   between_is cursor [] rise = refl
   between_is cursor (p ∷ pages) rise =
-      let low : GuestPage → Bool = λ q. not (after_cursor cursor q) in
-      let both : GuestPage → Bool = λ q. after_cursor cursor q && t q in
       let behind = pairs_head Before p _ rise in
-      elim (cases_Bool (after_cursor cursor p)) [
-        | inl above ↦
-            let all = All-cons (λ q. after_cursor cursor q ≡ true) p _ above
-            (λ k d lt. after_later _ p (get_or pages k d) above (behind k d lt)) in
-            let none = filter_none low (p ∷ pages) (λ k d lt. ap not (all k d lt)) in
-            rw none
-            (take_down (p ∷ pages) rise
-            ∙ filter_same t both (p ∷ pages) (grind arith))
-        | inr below ↦
-            elim (cases_Bool (t p)) [
-              | inl passes ↦
-                  grind (arith, between_is cursor pages (pairs_tail Before p _ rise))
-              | inr fails ↦
-                  let all = none_pass p _ rise fails in
-                  let neither = filter_none both (p ∷ pages)
-                  (λ k d lt. and_right (after_cursor cursor (get_or (p ∷ pages) k d)) _ (all k d lt)) in
-                  rw (filter_none t (p ∷ pages) all) (grind arith)
-            ]
-      ]
+      let above : after_cursor cursor p ≡ true → All (λ q. after_cursor cursor q ≡ true) pages =
+      λ is k d lt. after_later _ p (get_or pages k d) is (behind k d lt) in
+      let none : after_cursor cursor p ≡ true → filter (λ q. not (after_cursor cursor q)) pages ≡ [] =
+      λ is. filter_none _ _ (λ k d lt. ap not (above is k d lt)) in
+      let both : after_cursor cursor p ≡ true → filter (λ q. after_cursor cursor q && t q) pages ≡ filter t pages =
+      λ is. filter_same _ t _ (λ k d lt. grind (arith, above is k d lt)) in
+      let neither : t p ≡ false → filter (λ q. after_cursor cursor q && t q) pages ≡ [] =
+      λ fails. filter_none _ _ (λ k d lt. and_right (after_cursor cursor (get_or pages k d)) _
+      (none_pass p pages rise fails k d lt)) in
+      let rest = between_is cursor pages (pairs_tail Before p _ rise) in
+      let first = take_down pages (pairs_tail Before p _ rise) in
+      grind (arith, filter_none t pages, none_pass p pages rise)
 
 -- in an ascending list the pages before the one at index n are the first n, those not behind it the first n + 1
 pub place_splits : (pages : List GuestPage) (n : ℕ) (page : GuestPage) → AreAscending pages → slice_get pages n ≡ Some page
     → (filter (λ p. comes_before p page) pages ≡ take n pages) × (filter (λ p. not (comes_before page p)) pages ≡ take (suc n) pages)
 place_splits [] n page rise at = cc
 place_splits (p ∷ pages) zero page rise at =
-    let behind = pairs_head Before p pages rise in
-    grind (arith, filter_none, All-cons, not_both, filter_in)
+    grind (arith, filter_none, pairs_head Before p pages rise)
 place_splits (p ∷ pages) (suc n) page rise at =
-    let first = subst (Before p) (get_or_from_slice_get _ n _ page at)
-    (pairs_head Before p _ rise n page (slice_get_within _ n _ at)) in
-    let rest = place_splits pages n page (pairs_tail Before p _ rise) at in grind (arith, not_both)
+    let first = pairs_head Before p pages rise n page (slice_get_within _ n _ at) in
+    let parts = place_splits pages n page (pairs_tail Before p _ rise) at in
+    grind (arith, get_or_from_slice_get pages n page page at, not_both)
 
 -- a page that a list has stands at an index of the list
 pub place_of : (page : GuestPage) (pages : List GuestPage) → has_item page pages ≡ true → (n : ℕ) × (slice_get pages n ≡ Some page)
@@ -141,11 +113,9 @@ place_of page pages has =
 pub from_to_more : (pages : List GuestPage) (first at : ℕ) (page : GuestPage) → first ≤ at → slice_get pages at ≡ Some page
     → from_to first (at + 1) pages ≡ from_to first at pages ++ page ∷ []
 from_to_more pages first at page le is =
-    let within = slice_get_within _ at _ is in
-    let short = length-take-le at pages (omega arith) in
-    ap (drop first) (take_more _ at page within)
-    ∙ ap (λ p. drop first (take at pages ++ p ∷ [])) (get_or_from_slice_get _ at _ _ is)
-    ∙ drop-append-le first (take at pages) (page ∷ []) (omega arith)
+    let cut = drop-append-le first (take at pages) (page ∷ []) in
+    let here = get_or_from_slice_get pages at page page is in
+    grind (arith, take_more pages at page, length-take-le at pages, slice_get_within)
 
 -- the pages from a first index up to the greater of it and an end are the pages from it up to the end
 pub from_to_end : (pages : List GuestPage) (first at end : ℕ) → end ≤ at → at ≤ max first end → first ≤ at
@@ -178,19 +148,13 @@ same_pages [] [] rise rise' same = refl
 same_pages [] (q ∷ qs) rise rise' same = absurd (true≢false (sym (has_first q qs) ∙ sym (same q)))
 same_pages (p ∷ ps) [] rise rise' same = absurd (true≢false (sym (has_first p ps) ∙ same p))
 same_pages (p ∷ ps) (q ∷ qs) rise rise' same =
-    let first : p ≡ q = elim (cases_Bool (same_page p q)) [
-      | inl is ↦ same_page_eq p q is
-      | inr differ ↦
-          let later = one_before p q differ (no_earlier p q ps qs rise' same) in
-          absurd (true≢false (sym later ∙ no_earlier q p qs ps rise (λ x. sym (same x))))
-    ] in
+    let first : p ≡ q =
+    grind (arith, no_earlier p q ps qs rise' same, no_earlier q p qs ps rise (λ x. sym (same x)), same_page_eq p q) in
     let there = subst (λ x. All (Before x) qs) (sym first) (pairs_head Before q qs rise') in
-    let rest = same_pages ps qs (pairs_tail Before p ps rise) (pairs_tail Before q qs rise') (λ x. elim (cases_Bool (same_page p x)) [
-      | inl is ↦
-          rw (← same_page_eq p x is) (not_behind p ps (pairs_head Before p ps rise) ∙ sym (not_behind p qs there))
-      | inr differ ↦
-          grind (arith, same x)
-    ]) in
+    let apart = not_behind p ps (pairs_head Before p ps rise) in
+    let apart' = not_behind p qs there in
+    let rest = same_pages ps qs (pairs_tail Before p ps rise) (pairs_tail Before q qs rise')
+    (λ x. grind (arith, same x, same_page_eq p x)) in
     λ t. first t ∷ rest t
 
 -- a filtered list has a page exactly where the list has it and the page passes the test

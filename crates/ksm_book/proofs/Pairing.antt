@@ -1,20 +1,16 @@
 -- A visited page makes a dup with the page that waits for it: what the keeper may do, and what becomes of the book.
-use Rattle.ksm_book.proofs.Names.{[], Add, All, All-contains_itself, ap, arith, BookState, BookView, Bool, change_row, change_rows, Contains, Contains-append_right, count_none, did, dup_of_row}
-use Rattle.ksm_book.proofs.Names.{DupRow, each_at_page, eq-eqb, false, find_all, find_changed_other, find_passes, frames_of, GuestPage, IfSome, if◌then◌else◌, InPageOrder, IsFree, IsLaid, IsSound}
-use Rattle.ksm_book.proofs.Names.{IsVacant, item_count, joined_count, KeeperView, leaving, lies_on, List, list_any, MakesSteps, MatchOption, May, MayLeave, MayPair, MeetsPage, Merged, merged_into}
-use Rattle.ksm_book.proofs.Names.{merged_state, MOST_REFERENCES, new_place, new_place_free, next_is_new, Option, ordered_change, PageState, PagesView, partner, place_count, Publish, refl, Row, row_at}
-use Rattle.ksm_book.proofs.Names.{row_visiting, same_page, shared_state, Some, state_of, Sub, subst, sym, true, waiting_state, waits_for, waits_tells, WaitsFor, with_dup, Withdraw, withdrawing, ℕ}
-use Rattle.ksm_book.proofs.Names.{◌++◌, ◌+◌, ◌-◌, ◌<◌, ◌==◌, ◌||◌, ◌∙◌, ◌∷◌, ◌≡◌, ◌≤◌}
+use Rattle.ksm_book.proofs.Names.{Add, All, All-contains_itself, ap, arith, BookState, BookView, Bool, change_row, change_rows, Contains, Contains-append_right, count_none, did, dup_of_row, DupRow}
+use Rattle.ksm_book.proofs.Names.{each_at_page, eq-eqb, false, find_all, find_changed_other, find_passes, frames_of, GuestPage, if◌then◌else◌, InPageOrder, IsFree, IsLaid, IsSound, IsVacant}
+use Rattle.ksm_book.proofs.Names.{item_count, joined_count, KeeperView, leaving, lies_on, List, list_any, MakesSteps, MatchOption, May, MayLeave, MayPair, MeetsPage, Merged, merged_into}
+use Rattle.ksm_book.proofs.Names.{MOST_REFERENCES, new_place, new_place_free, next_is_new, Option, ordered_change, PageState, PagesView, partner, place_count, Publish, refl, Row, row_at, same_page}
+use Rattle.ksm_book.proofs.Names.{shared_state, Some, state_of, Sub, subst, sym, true, waits_for, waits_tells, WaitsFor, with_dup, Withdraw, withdrawing, ℕ, [], ◌+◌, ◌-◌, ◌<◌, ◌==◌, ◌||◌, ◌∙◌, ◌∷◌}
+use Rattle.ksm_book.proofs.Names.{◌≡◌, ◌≤◌}
 use Rattle.ksm_pages.specs.Paged.{paired as are_paired}
 use Rattle.ksm_book.proofs.Made.{made_one, made_then}
-use Rattle.ksm_book.proofs.Sharing.{laid_found, laid_joined, may_clear, may_found, may_join, may_part, spent_most, tree_is_home}
+use Rattle.ksm_book.proofs.Sharing.{laid_found, laid_joined, may_clear, may_found, may_join, may_part, spent_most}
 use Rattle.ksm_book.proofs.ByPage.{at_changed}
-use Rattle.ksm_book.proofs.RowVisits.{Leads, Meets, at_row, leads, page_is, restless_own, there_is, filled_by}
+use Rattle.ksm_book.proofs.RowVisits.{at_row, filled_by, Leads, leads, Meets, page_is, restless_own, there_is}
 use Rattle.ksm_book.proofs.Promised.{finds_place}
-
--- a row that waits is not shared
-waiting_is_alone : (s : PageState) → waiting_state s ≡ true → (shared_state s ≡ false) × (merged_state s ≡ false)
-waiting_is_alone s e = grind arith
 
 -- rows of two pages get a state
 abbrev in_state : PageState → Row → Row
@@ -24,9 +20,6 @@ two_changes : (p q : GuestPage) (s : PageState) (rows : List Row) → change_row
     (λ r. same_page r.page p || same_page r.page q) (in_state s) rows
 two_changes p q s [] = refl
 two_changes p q s (r ∷ rs) = grind (arith, two_changes p q s rs)
-
-contains_dup : (d : DupRow) (dups : List DupRow) → Contains (with_dup d dups) d
-contains_dup d dups = grind (arith, Contains-append_right)
 
 -- a visited page meets another one as its partner, and is to make a dup with it at the place for a new dup
 module _ (other : GuestPage) {p : PagesView} {k : KeeperView} {cursor : Option GuestPage} {passes : ℕ} {v : BookView} {one page : GuestPage}
@@ -58,46 +51,32 @@ module _ (other : GuestPage) {p : PagesView} {k : KeeperView} {cursor : Option G
   at_page = page_is at
 
   tells : WaitsFor p.knobs row w
-  tells = waits_tells _ row w (find_passes (waits_for p.knobs row) p.rows w met.1)
+  tells = grind (arith, waits_tells, find_passes (waits_for p.knobs row) p.rows w met.1)
 
   -- the waiting row is found at its page
   pub waits_at : row_at w.page p.rows ≡ Some w
   waits_at = find_all _ (λ r. row_at r.page p.rows ≡ Some r) _ w met.1 (each_at_page _ s.rows_rise)
 
   alone : shared_state w.state ≡ false
-  alone = (waiting_is_alone _ tells.state).0
+  alone = grind (arith, tells.state)
 
   apart : same_page w.page page ≡ false
   apart = grind (arith, at_page, tells.other)
 
   -- the place for a new dup is one of the places
   pub room : new_place (place_count p.shape) p.rows p.dups < place_count p.shape
-  room = finds_place b _ s _ h.placed row (find_all (λ r. same_page r.page page) (Contains p.rows) p.rows row at.found
-      (All-contains_itself p.rows)) (restless_own row at.so.0.restless)
+  room = finds_place b _ s _ h.placed row
+      (find_all _ (Contains p.rows) p.rows row at.found (All-contains_itself p.rows))
+      (restless_own row at.so.0.restless)
 
   inside : place < frames_of p.shape
   inside = rw chosen room
 
   vacant : IsVacant place p.rows p.dups
-  vacant = λ n d lt same.
-      let free = subst (IsFree b) (sym chosen) (new_place_free b s) in
-      grind arith
+  vacant n d lt same = grind (arith, subst (IsFree b) (sym chosen) (new_place_free b s))
 
   fresh : All (λ r. merged_into p.next r.state ≡ false) p.rows
   fresh = next_is_new b s
-
-  may_pair : MayPair p place w row
-  may_pair = record {
-    first_is = waits_at;
-    second_is = there_is at;
-    first_alone = alone;
-    second_alone = restless_own row at.so.0.restless;
-    apart = tells.other;
-    inside = inside;
-    vacant = vacant;
-    number = omega (arith, spent_most h);
-    fresh = fresh;
-  }
 
   -- what the place of the new dup names may be withdrawn
   pub may_withdraw : May k (Withdraw place)
@@ -109,7 +88,9 @@ module _ (other : GuestPage) {p : PagesView} {k : KeeperView} {cursor : Option G
 
   -- the two pages may become the items of a new dup at the place
   pub pair_may : MatchOption (row_at one p.rows) (true ≡ false) (λ r. MatchOption (row_at page p.rows) (true ≡ false) (MayPair p place r))
-  pair_may = rw waits_one (rw at.found may_pair)
+  pair_may =
+      let own = restless_own row at.so.0.restless in
+      grind (arith, waits_one, at.found, waits_at, there_is at, alone, tells.other, inside, vacant, spent_most h, fresh)
 
   module _ {f : ℕ} (stands : p.frame one ≡ Some f) {k1 : KeeperView} {taken : Bool}
       (taken_is : taken ≡ list_any (λ d. d.place == place) p.dups)
@@ -135,7 +116,7 @@ module _ (other : GuestPage) {p : PagesView} {k : KeeperView} {cursor : Option G
       first_laid =
           laid_found h s.rows_rise _ w f waits_at lies alone dup refl inside vacant change k1 k2 p.restless (λ r. refl) refl refl
           clears shown (sym tells.bytes)
-          (λ none. tree_is_home p.knobs w none ∙ tells.tree) s.numbers fresh
+          (λ none. grind (arith, none, tells.tree)) s.numbers fresh
 
       first_rise : InPageOrder first.rows
       first_rise = ordered_change _ _ _ (λ r. refl) s.rows_rise
@@ -148,20 +129,22 @@ module _ (other : GuestPage) {p : PagesView} {k : KeeperView} {cursor : Option G
 
       one_item : item_count first.rows dup ≤ MOST_REFERENCES - 1
       one_item =
-          let none : item_count p.rows dup ≡ 0 = count_none (λ r. merged_into p.next r.state) p.rows fresh in
-          omega (arith, joined_count _ w dup s.rows_rise waits_at (waiting_is_alone _ tells.state).1)
+          let joined = joined_count _ w dup s.rows_rise waits_at (grind (arith, tells.state)) in
+          grind (arith, count_none (λ r. merged_into p.next r.state) p.rows fresh)
 
       -- once the place names the frame of the page that waits, a reference may come to that frame
       pub may_add_to : May k2 (Add f)
-      may_add_to = may_join first_laid first_rise _ row _ row_still item_at f lies refl dup (contains_dup dup _)
+      may_add_to = may_join first_laid first_rise _ row _ row_still item_at f lies refl dup
+          (grind (arith, Contains-append_right))
           (eq-eqb p.next p.next refl) one_item
 
       module _ {lone : ℕ} (left : p.frame page ≡ Some lone) where
         -- once a reference came to the frame of the page that waits, the visited page's own frame may be left
         pub may_sub_from : {k3 : KeeperView} → MakesSteps k2 k3 (Add f ∷ []) → MayLeave k3 lone
-        may_sub_from {k3} comes = subst (λ o. IfSome o (MayLeave k3)) left
-            (may_part first_laid first_rise _ row _ row_still item_at f lies refl change (λ r. refl) refl
-            (sym tells.bytes) k3 comes)
+        may_sub_from {k3} comes =
+            let parts = may_part first_laid first_rise page row (change w) row_still item_at f lies refl change
+            (λ r. refl) refl (sym tells.bytes) k3 comes in
+            grind arith
 
         module _ {k3 l : KeeperView} (comes : MakesSteps k2 k3 (Add f ∷ [])) (leaves : MakesSteps k3 l (Sub lone ∷ [])) (q : PagesView)
             (told : MatchOption (row_at one p.rows) (true ≡ false) (λ r. MatchOption (row_at page p.rows) (true ≡ false)
@@ -172,26 +155,14 @@ module _ (other : GuestPage) {p : PagesView} {k : KeeperView} {cursor : Option G
           steps : MakesSteps k2 l (Add f ∷ leaving (p.frame page))
           steps = rw left (made_then comes leaves)
 
-          both : change_row page change first.rows ≡ change_rows (λ r. same_page r.page w.page || same_page r.page row.page) change p.rows
-          both = grind (arith, at_page, two_changes)
-
           q_is : q ≡ record first { rows = change_row page change first.rows; frame = lies_on page (Some f) p.frame }
-          q_is = grind (arith, goes, both, at_page)
-
-          all_steps : MakesSteps k l (withdrawing p.dups place ++ (Publish place f ∷ Add f ∷ leaving (p.frame page)))
-          all_steps = made_then clears (made_then (made_one k1 k2 _ 0 shown) steps)
-
-          deed_is : row_visiting b p.frame row ≡ record {
-            steps = withdrawing p.dups place ++
-                (Publish place f ∷ Add f ∷ leaving (p.frame page));
-            frame = lies_on page (Some f) p.frame;
-          }
-          deed_is = grind (arith, at_page)
+          q_is = grind (arith, goes, at_page, two_changes)
 
           -- once the two pages are the items of a new dup, on one frame, the book is what the visit leads to
           pub pair_leads : Leads v q l cursor passes page
-          pair_leads = leads at q l at.so.0.restless
+          pair_leads =
+              let made = made_then clears (made_then (made_one k1 k2 (Publish place f) 0 shown) steps) in
+              leads at q l at.so.0.restless
               (rw q_is
               (laid_joined first_laid first_rise _ row _ row_still item_at f lies refl change (λ r. refl) refl (sym tells.bytes)
-              l p.restless steps)) (rw goes (grind (arith, met.1)))
-              (grind (arith, deed_is, all_steps, q_is))
+              l p.restless steps)) (rw goes (grind (arith, met.1))) (grind (arith, at_page, met.1, alone, q_is))

@@ -1,8 +1,7 @@
 -- The beginning of a part of a pass: it changes only which rows wait, and what is due stays so where the cursor moves.
-use Rattle.ksm_book.proofs.Names.{AreDue, arith, BookState, BookValue, Comes, cond_both, Deed, GuestPage, InPageOrder, IsStill, List, pages_ahead, pass_begun, pass_ended_at_last, Reached, visit_begun}
-use Rattle.ksm_book.proofs.Names.{◌≡◌}
+use Rattle.ksm_book.proofs.Names.{arith, BookState, BookValue, Comes, Deed, InPageOrder, IsStill, pages_ahead, pass_begun, pass_ended_at_last, Reached, visit_begun, ◌≡◌}
 use Rattle.ksm_book.proofs.Folded.{settled_twice}
-use Rattle.ksm_book.proofs.Reached.{comes_to, first, in_order}
+use Rattle.ksm_book.proofs.Reached.{in_order}
 use Rattle.ksm_book.proofs.Scanned.{begun_ahead}
 
 -- ---------------------------------------------------------------- as a pass begins
@@ -36,13 +35,3 @@ closed v w rise comes from s before =
     grind (arith, begun_ahead)
 
 -- ---------------------------------------------------------------- what is due
-
--- the end of a pass leaves due what was
-pub closed_due : (b : BookState) (pages : List GuestPage) → AreDue b pages → AreDue (pass_ended_at_last b) pages
-closed_due b pages due = cond_both _ _ b (λ c. AreDue c pages) (λ _. due) (λ _. due)
-
--- what keeps due what was, whatever the book, keeps it so from one book to another
-pub comes_due : (v w : BookValue) (change : BookState × Deed → BookState × Deed) (pages : List GuestPage)
-    → ((s : BookState × Deed) → AreDue s.0 pages → AreDue (change s).0 pages) → Comes v w change
-    → AreDue v.state pages → AreDue w.state pages
-comes_due v w change pages keeps comes due = rw (comes_to v w _ comes) (keeps (first v) due)

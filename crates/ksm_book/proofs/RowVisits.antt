@@ -1,11 +1,9 @@
 -- The visit of a row, by what is found: what becomes of the book, and what is done to the frames.
-use Rattle.ksm_book.proofs.Names.{[], Add, All, All-contains_itself, ap, arith, Best, best_dup, best_dup_has_room, BookState, BookValue, BookView, Bool, change_row, Comes, Contains, doing, DupRow}
-use Rattle.ksm_book.proofs.Names.{each_at_page, emptying, false, find_all, find_passes, frame_found, frame_number, Frames, GuestPage, handled, handling, HasRoom, HasStayed, idle, IfSome}
-use Rattle.ksm_book.proofs.Names.{if◌then◌else◌, is_best, is_restless, IsDupOf, IsForZero, IsJoined, IsLaid, IsSound, item_count, joining, KeeperStep, KeeperView, leaving, lies_on, List, lying}
-use Rattle.ksm_book.proofs.Names.{MakesSteps, mapped, MatchOption, May, MayJoin, MayLeave, Merged, merged_into, merged_state, MOST_REFERENCES, None, Option, page_visited, PagesView, paired, pairing}
-use Rattle.ksm_book.proofs.Names.{partner, Performs, Placed, refl, Row, row_at, row_visited, row_visiting, same_Some, shared_state, Some, sound_row_visited, state_of, Sub, subst, sym, true, view_of}
-use Rattle.ksm_book.proofs.Names.{VisitsPage, Zero, ℕ, ◌-◌, ◌∙◌, ◌∷◌, ◌≡◌, ◌≤◌}
-use Rattle.ksm_base.specs.declared.row.PageState.TheVariants.{Private}
+use Rattle.ksm_book.proofs.Names.{Add, All, All-contains_itself, arith, Best, best_dup, best_dup_has_room, BookState, BookValue, BookView, Bool, change_row, Comes, Contains, doing, DupRow}
+use Rattle.ksm_book.proofs.Names.{each_at_page, emptying, false, find_all, find_passes, Frames, GuestPage, handled, handling, HasRoom, HasStayed, IfSome, if◌then◌else◌, is_best, is_restless, IsDupOf}
+use Rattle.ksm_book.proofs.Names.{IsForZero, IsJoined, IsLaid, IsSound, item_count, KeeperStep, KeeperView, leaving, lies_on, List, lying, MakesSteps, mapped, MatchOption, May, MayJoin, MayLeave}
+use Rattle.ksm_book.proofs.Names.{Merged, merged_into, merged_state, MOST_REFERENCES, None, Option, page_visited, PagesView, paired, pairing, partner, Performs, Placed, refl, Row, row_at, row_visited}
+use Rattle.ksm_book.proofs.Names.{row_visiting, shared_state, Some, sound_row_visited, state_of, Sub, subst, sym, true, view_of, VisitsPage, Zero, ℕ, [], ◌-◌, ◌∷◌, ◌≡◌, ◌≤◌}
 use Rattle.frame_table.specs.Kept.{Did}
 use Rattle.ksm_book.proofs.ByPage.{found_page, row_of_page}
 use Rattle.ksm_book.proofs.Keeping.{left_placed, left_spends, may_leave}
@@ -29,13 +27,6 @@ pub visited_by : (b : BookState) (frame : Frames) (row : Row) (o : Option DupRow
     → best_dup b.knobs b.rows b.dups row ≡ o
     → (row_visited b row ≡ handled o b row) × (row_visiting b frame row ≡ handling o b frame row)
 visited_by b frame row o is best = grind arith
-
--- the visit of a row with no dup to join that was not unchanged marks it so, makes it Private, and does nothing to the frames
-pub marked_is : (b : BookState) (frame : Frames) (row : Row) → is_restless row ≡ true → best_dup b.knobs b.rows b.dups row ≡ None
-    → row.unchanged ≡ false
-    → (row_visited b row ≡ record b { rows = change_row row.page (λ r. record r { unchanged = true; state = Private }) b.rows })
-    × (row_visiting b frame row ≡ idle frame)
-marked_is b frame row is best changed = grind arith
 
 -- the visit of a row whose bytes have stayed makes it Zero where its zeroes are to merge, and else pairs it
 pub stayed_is : (b : BookState) (frame : Frames) (row : Row) (zeroes : Bool) → HasStayed b zeroes row
@@ -115,10 +106,6 @@ visit_comes v w page row found restless state does = grind (arith, made_then)
 
 -- ---------------------------------------------------------------- a page joins a dup
 
--- it has an item
-best_has_item : (b : BookState) (row : Row) (dup : DupRow) → best_dup b.knobs b.rows b.dups row ≡ Some dup → 1 ≤ item_count b.rows dup
-best_has_item b row dup found = grind (arith, find_passes (is_best b.knobs b.rows b.dups row) b.dups dup found)
-
 module _ (best : Best) {p : PagesView} {k : KeeperView} {cursor : Option GuestPage} {passes : ℕ} {v : BookView} {page : GuestPage}
     (at : Meets (λ b. MayJoin b best) p k cursor passes v page) where
   abbrev row : Row
@@ -138,7 +125,7 @@ module _ (best : Best) {p : PagesView} {k : KeeperView} {cursor : Option GuestPa
 
     live : Lives k.ledger p.dups p.shape p.rows p.frame dup
     live = among (λ d. (item_count p.rows d ≡ 0 → ⊥) → Lives k.ledger p.dups p.shape p.rows p.frame d) (lives at.laid.placed)
-        (λ none. omega (arith, best_has_item (state_of p cursor passes) row dup told.1))
+        (λ none. grind (arith, find_passes (is_best p.knobs p.rows p.dups row) p.dups dup told.1))
 
     abbrev item : Row
     item = live.item
@@ -161,9 +148,9 @@ module _ (best : Best) {p : PagesView} {k : KeeperView} {cursor : Option GuestPa
 
     same_bytes : row.bytes ≡ item.bytes
     same_bytes =
-        let its = of_item (λ r. (number : ℕ) → r.state ≡ Merged number → (d : DupRow) × IsDupOf p.knobs p.dups r number d) at.sound.items
-        dup.number (state_of_item _ _ live.merged) in
-        grind (arith, joins.bytes, same_Some _ dup (sym its.1.stands ∙ joins.stands))
+        let item_is = of_item (λ r. (number : ℕ) → r.state ≡ Merged number → (d : DupRow) × IsDupOf p.knobs p.dups r
+        number d) at.sound.items in
+        grind (arith, joins, live.merged, state_of_item dup.number item.state live.merged)
 
     few : item_count p.rows dup ≤ MOST_REFERENCES - 1
     few = omega (arith, joins.room)
@@ -177,8 +164,8 @@ module _ (best : Best) {p : PagesView} {k : KeeperView} {cursor : Option GuestPa
 
     -- a reference may come to the frame of the dup that a page is to join
     pub may_add : May k (Add g)
-    may_add = join_may at.laid at.sound.rows_rise _ row _ at.found found_item g there
-        item_merged dup stands live.merged few
+    may_add =
+        join_may at.laid at.sound.rows_rise _ row _ at.found found_item g there item_merged dup stands live.merged few
 
     abbrev change : Row → Row
     change r = record r { state = Merged best.number }
@@ -189,17 +176,16 @@ module _ (best : Best) {p : PagesView} {k : KeeperView} {cursor : Option GuestPa
     module _ (lone : ℕ) (left : p.frame page ≡ Some lone) where
       -- once a reference came to the dup's frame, the joining page's own frame may be left
       pub may_sub : {w : KeeperView} → MakesSteps k w (Add g ∷ []) → MayLeave w lone
-      may_sub {w} comes = subst (λ o. IfSome o (MayLeave w)) left
-          (may_part at.laid at.sound.rows_rise _ row _ at.found found_item g there item_merged
-          change (λ r. refl) state_is same_bytes w comes)
+      may_sub {w} comes =
+          let parts = may_part at.laid at.sound.rows_rise page row item at.found found_item g there item_merged change
+          (λ r. refl) state_is same_bytes w comes in
+          grind arith
 
       module _ {w l : KeeperView} (comes : MakesSteps k w (Add g ∷ [])) (leaves : MakesSteps w l (Sub lone ∷ [])) (q : PagesView)
           (goes : q ≡ record p { rows = change_row page change p.rows; frame = q.frame })
           (frame : All (λ r. merged_into best.number r.state ≡ true → q.frame ≡ lies_on page (p.frame r.page) p.frame) p.rows) where
         frame_is : q.frame ≡ lies_on page (Some g) p.frame
-        frame_is =
-            rw (← there)
-            (grind (arith, of_item))
+        frame_is = grind (arith, there, of_item)
 
         q_is : q ≡ record p { rows = change_row page change p.rows; frame = lies_on page (Some g) p.frame }
         q_is = grind (arith, frame_is)
@@ -207,23 +193,16 @@ module _ (best : Best) {p : PagesView} {k : KeeperView} {cursor : Option GuestPa
         steps : MakesSteps k l (Add g ∷ leaving (p.frame page))
         steps = rw left (made_then comes leaves)
 
-        deed_is : row_visiting (state_of p cursor passes) p.frame row ≡ joining p.frame page g
-        deed_is = (visited_by (state_of p cursor passes) _ row _ at.so.0 told.1).1
-            ∙ (λ t. joining p.frame (page_is at t) ((ap (frame_found p.frame) live.first ∙ ap frame_number there) t))
-
         -- once the page is an item of the dup and lies on the dup's frame, the book is what the visit leads to
         pub joined_leads : Leads v q l cursor passes page
-        joined_leads = leads at q l at.so.0
+        joined_leads =
+            let does = visited_by (state_of p cursor passes) p.frame row (Some dup) at.so.0 told.1 in
+            leads at q l at.so.0
             (rw q_is
             (laid_joined at.laid at.sound.rows_rise _ row _ at.found found_item g there
             item_merged _ (λ r. refl) state_is same_bytes l _ steps))
-            (rw q_is
-            ((λ t. record (state_of p cursor passes) {
-              rows = change_row (sym (page_is at) t) (λ r. record r { state = Merged (told.2.0 t) })
-                  p.rows;
-            })
-            ∙ sym (visited_by _ p.frame row _ at.so.0 told.1).0))
-            (subst (Performs (lying p k) (lying q l)) (sym deed_is) (record { made = steps; frame = frame_is }))
+            (grind (arith, q_is, page_is at, told.2.0))
+            (grind (arith, page_is at, live.first, there, steps, frame_is))
 
 -- ---------------------------------------------------------------- a page becomes Zero
 
@@ -244,10 +223,8 @@ module _ {p : PagesView} {k : KeeperView} {cursor : Option GuestPage} {passes : 
   pub zero_leads : (q : PagesView) {l : KeeperView} {left : Option ℕ} → left ≡ p.frame page → MakesSteps k l (leaving left)
       → q ≡ record p { rows = change_row page zeroed p.rows; frame = lies_on page None p.frame } → Leads v q l cursor passes page
   zero_leads q {l} was made goes =
-      let b = state_of p cursor passes in
       let leaves = subst (λ o. MakesSteps k l (leaving o)) was made in
+      let does = stayed_is (state_of p cursor passes) p.frame at.row true at.so in
       leads at q l at.so.restless
       (rw goes (laid_rows at.laid l (rw leaves.after) (left_spends _ leaves) (left_placed _ leaves zero_hand)))
-      (rw goes (grind (arith, page_is at)))
-      (subst (Performs (lying p k) (lying q l)) (sym ((stayed_is b _ _ true at.so).1 ∙ ap (emptying p.frame) (page_is at)))
-      (grind arith))
+      (grind (arith, goes, page_is at)) (grind (arith, goes, page_is at))

@@ -1,6 +1,6 @@
 -- A scan carried out: what its visits come to is what the command promises.
-use Rattle.ksm_book.proofs.Names.{[], arith, BookValue, IsCarried, Comes, doing, Done, false, Fault, HasScanned, IsScanned, length, List, list_any, list_any_none, mergeable_pages, None, none_counted}
-use Rattle.ksm_book.proofs.Names.{Ok, Option, Reply, Row, Scan, scan_stopped, Scanned, Some, sym, true, view_of, visits_beside, ℕ, ◌∷◌, ◌≡◌, ◌≤◌}
+use Rattle.ksm_book.proofs.Names.{arith, BookValue, Comes, doing, Done, false, Fault, HasScanned, IsCarried, IsScanned, length, List, list_any, list_any_none, mergeable_pages, None, none_counted, Ok}
+use Rattle.ksm_book.proofs.Names.{Option, Reply, Row, Scan, scan_stopped, Scanned, Some, true, view_of, visits_beside, ℕ, [], ◌∷◌, ◌≡◌, ◌≤◌}
 use Rattle.ksm_book.proofs.Doing.{scanning_is}
 use Rattle.ksm_book.proofs.Folded.{beside_state}
 use Rattle.ksm_book.proofs.Listed.{some_pages}
@@ -23,9 +23,7 @@ module _ (v w : BookValue) (count : ℕ) (running : v.state.knobs.run ≡ 1) (ta
       → Comes v w (λ s. (scan_stopped stop (visits_beside doing made s).0, (visits_beside doing made s).1))
       → IsCarried (view_of v) (view_of w) (Scan count) (Ok (Scanned made stop))
   scanned made stop is comes =
-      let there = comes v (first v) (begins v) in
-      let deed = sym (scanning_is made v.state (view_of v).frame) in
-      grind (arith, beside_state)
+      grind (arith, beside_state, comes v (first v) (begins v), scanning_is made v.state (view_of v).frame)
 
   -- `Scan` is carried out where there is a page to visit and the visits that it replies were made
   pub visits_carried : (reply : Reply) → 1 ≤ length (mergeable_pages v.state.rows) → HasScanned v w count reply

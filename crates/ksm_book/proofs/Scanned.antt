@@ -1,38 +1,32 @@
 -- What the parts of a scan come to: the end of a pass, listed pages in the stead of those ahead, visits up to a page, and whole passes.
-use Rattle.ksm_book.proofs.Names.{[], after_cursor, Ahead, AllPairs-filter, and_parts, ap, append-nil, AreAscending, AreListed, arith, At, begun, BookState, Bool, cases_lt, comes_before, drop}
-use Rattle.ksm_book.proofs.Names.{drop_more, End, EndsAt, false, filter, filter_all, filter_passes, from_to, get_or, get_or_from_slice_get, GuestPage, has_item, inl, InPageOrder, inr, is_nowhere}
-use Rattle.ksm_book.proofs.Names.{is_some, IsBeside, IsStill, last_of, last_visited, length, length-take-le, List, mergeable_pages, min, next_row, None, not, Option, option_map, pages_ahead}
-use Rattle.ksm_book.proofs.Names.{pages_visited, pass_begun, pass_ended, pass_ended_at_last, refl, restless_at, Row, slice_get, slice_get_within, Some, subst, suc, sym, take, take-append-drop, true}
-use Rattle.ksm_book.proofs.Names.{true≢false, up_to, visit_begun, visits_beside, with_none_waiting, ℕ, ◌&&◌, ◌*◌, ◌++◌, ◌+◌, ◌-◌, ◌<◌, ◌^◌, ◌∙◌, ◌∷◌, ◌≡◌, ◌≤◌, ◌⊎◌}
-use Rattle.ksm_book.proofs.PagesAhead.{Before, GoesDown, between_at, between_is, has_filter, place_of, place_splits}
+use Rattle.ksm_book.proofs.Names.{after_cursor, Ahead, AllPairs-filter, ap, AreListed, arith, At, begun, BookState, Bool, comes_before, drop_more, End, EndsAt, filter, filter_passes, from_to}
+use Rattle.ksm_book.proofs.Names.{get_or_from_slice_get, GuestPage, has_item, InPageOrder, is_none, is_nowhere, IsBeside, IsStill, last_of, last_visited, length, length-take-le, List, mergeable_pages}
+use Rattle.ksm_book.proofs.Names.{min, next_row, None, not, Option, option_map, pages_ahead, pages_visited, pass_begun, pass_ended, restless_at, Row, slice_get, slice_get-get_or, slice_get_within}
+use Rattle.ksm_book.proofs.Names.{Some, subst, suc, suc-mul, sym, take, true, true≢false, up_to, visit_begun, visits_beside, with_none_waiting, zero, ℕ, [], ◌&&◌, ◌*◌, ◌+◌, ◌-◌, ◌<◌, ◌^◌, ◌∙◌, ◌∷◌}
+use Rattle.ksm_book.proofs.Names.{◌≡◌, ◌≤◌}
+use Rattle.ksm_book.proofs.PagesAhead.{Before, between_at, between_is, GoesDown, has_filter, place_of, place_splits}
 use Rattle.ksm_pages.proofs.Ranked.{last_of_take}
 use Rattle.ksm_book.proofs.Listed.{listed_at}
-use Rattle.ksm_book.proofs.Going.{Goes, begun_goes, settled_goes}
-use Rattle.ksm_book.proofs.Folded.{ascending_ahead, begun_folded, beside_on, every_page, next_first, none_next, pages_alike, pages_go, pass_goes_on, repeats, same_restless, visits_folded}
+use Rattle.std.proofs.lemmas.List.{drop_all, take_all}
+use Rattle.ksm_book.proofs.Going.{begun_goes, elsewhere, settled_goes}
+use Rattle.ksm_book.proofs.Folded.{after, ahead, ahead_then, ascending, ascending_ahead, begun_folded, beside_on, every_page, next_first, none_next, pages_alike, pages_go, pages_stay, pass_goes_on}
+use Rattle.ksm_book.proofs.Folded.{same_restless, settled_twice, stood, visits_folded}
 
 -- ---------------------------------------------------------------- the beginning of a visit
 
-none_nowhere : (pages : List GuestPage) (most : ℕ) (ahead : Ahead) → EndsAt pages most ahead
-    → (is_nowhere ahead ≡ true → pages ≡ []) × (pages ≡ [] → is_nowhere ahead ≡ true)
-none_nowhere [] most (At page) comes = (λ is. refl, λ is. absurd (omega arith))
-none_nowhere [] most (End made) comes = (λ is. refl, λ is. rw comes.0)
-none_nowhere (page ∷ pages) most (At last) comes = (λ is. absurd (true≢false (sym is)), λ is. cc)
-none_nowhere (page ∷ pages) most (End made) comes = grind arith
-
--- a pass that has gone through all pages ends
-pub pass_over : (b : BookState) (most : ℕ) (ahead : Ahead) → EndsAt (pages_ahead b) most ahead → is_nowhere ahead ≡ true
-    → is_some b.cursor ≡ true → pass_ended b ≡ pass_ended_at_last b
-pass_over b most ahead comes nowhere under_way = grind (arith, none_next, none_nowhere)
-
--- a pass with a page ahead, or one that has not begun, does not end
-pub pass_stays : (b : BookState) (most : ℕ) (ahead : Ahead) → EndsAt (pages_ahead b) most ahead
-    → (is_nowhere ahead ≡ false) ⊎ (is_some b.cursor ≡ false) → b ≡ pass_ended_at_last b
-pass_stays b most ahead comes (inr none) = grind arith
-pass_stays b most ahead comes (inl some) = by _ refl
+-- a pass has gone through all pages where so many visits end nowhere
+pub nowhere_is : (b : BookState) (most : ℕ) (ahead : Ahead) → EndsAt (pages_ahead b) most ahead
+    → is_nowhere ahead ≡ is_none (next_row b.cursor b.rows)
+nowhere_is b most ahead ends =
+    first _ ahead ends ∙ ap is_none (sym (next_first b.cursor b.rows)) ∙ mapped (next_row b.cursor b.rows)
   where
-    by : (l : List GuestPage) → pages_ahead b ≡ l → b ≡ pass_ended_at_last b
-    by (page ∷ more) is = sym (pass_goes_on b _ _ is)
-    by [] is = grind arith
+    first : (pages : List GuestPage) (ahead : Ahead) → EndsAt pages most ahead
+        → is_nowhere ahead ≡ is_none (slice_get pages 0)
+    first [] ahead ends = grind arith
+    first (page ∷ pages) ahead ends = grind arith
+
+    mapped : (o : Option Row) → is_none (option_map (λ r. r.page) o) ≡ is_none o
+    mapped o = grind arith
 
 settled_ahead : (b : BookState) → pages_ahead (with_none_waiting b) ≡ pages_ahead b
 settled_ahead b = grind (arith, (settled_goes b.rows).mergeable)
@@ -41,37 +35,13 @@ settled_ahead b = grind (arith, (settled_goes b.rows).mergeable)
 pub begun_ahead : (b : BookState) → pages_ahead (pass_begun b) ≡ pages_ahead b
 begun_ahead b = grind (arith, settled_ahead b)
 
--- a visit begins a pass, that of a state with no cursor; or it goes on with the pages ahead
-abbrev Begins : BookState → BookState → Type 0
-Begins b new = (new.cursor ≡ None) × (new.rows ≡ b.rows) × (visit_begun b ≡ with_none_waiting new)
-
-begins : (b : BookState)
-    → ((new : BookState) × Begins b new) ⊎ ((is_some b.cursor ≡ true) × (visit_begun b ≡ b) × (1 ≤ length (pages_ahead b)))
-begins b = by _ refl (next_row b.cursor b.rows) refl
-  where
-    by : (o : Option GuestPage) → b.cursor ≡ o → (next : Option Row) → next_row b.cursor b.rows ≡ next
-        → ((new : BookState) × Begins b new) ⊎ ((is_some b.cursor ≡ true) × (visit_begun b ≡ b) × (1 ≤ length (pages_ahead b)))
-    by None none next found = inl (b, (none, refl, rw none))
-    by (Some page) some None found = inl (pass_ended b, (refl, refl, rw (found, some)))
-    by (Some page) some (Some row) found = inr (
-      ap is_some some,
-      rw (found, some),
-      slice_get_within _ 0 _ (sym (next_first _ b.rows) ∙ ap (option_map (λ r. r.page)) found),
-    )
-
--- the pages ahead as a pass begins
-begins_ahead : (b new : BookState) → Begins b new → pages_ahead (visit_begun b) ≡ mergeable_pages b.rows
-begins_ahead b new (none, rows, is) = grind (arith, settled_ahead new, every_page new.rows)
-
 -- where there is a page to visit, one is ahead once a visit begins
 pub some_ahead : (b : BookState) → 1 ≤ length (mergeable_pages b.rows) → 1 ≤ length (pages_ahead (visit_begun b))
-some_ahead b some = grind (arith, begins b, begins_ahead)
+some_ahead b some =
+    let within = slice_get_within (pages_ahead b) 0 in
+    grind (arith, next_first b.cursor b.rows, settled_ahead b, settled_ahead (pass_ended b), every_page b.rows)
 
 -- ---------------------------------------------------------------- listed pages
-
--- a page that is restless after a change that makes no page restless was so before
-pub was_restless : (old new : List Row) → Goes old new → (page : GuestPage) → restless_at page new ≡ true → restless_at page old ≡ true
-was_restless old new goes page restless = grind arith
 
 -- scans visit a restless page
 pub restless_mergeable : (page : GuestPage) (rows : List Row) → restless_at page rows ≡ true → has_item page (mergeable_pages rows) ≡ true
@@ -91,142 +61,151 @@ module _ (t : GuestPage → Bool) (down : GoesDown t) (pages : List GuestPage) (
       → pages_visited step s (from_to first end pages) ≡ pages_visited step s (filter t (pages_ahead s.0))
   part_visited step s same =
       let order = subst (λ (c : BookState). InPageOrder c.rows) same rise in
-      ap (pages_visited step s) part_is ∙ same_restless _ _ _ s order (AllPairs-filter Before _ _ listed.0)
-      (AllPairs-filter Before t _ (ascending_ahead b rise))
-      (grind (arith, has_filter, restless_mergeable, listed_at))
-      ∙ ap (λ c. pages_visited step s (filter t (pages_ahead c))) same
+      let alike = same_restless step (filter (λ p. after_cursor b.cursor p && t p) pages) (filter t (pages_ahead s.0))
+      s order (AllPairs-filter Before _ _ listed.0) (AllPairs-filter Before t _ (ascending_ahead s.0 order))
+      (grind (arith, has_filter, restless_mergeable, listed_at)) in
+      grind (arith, part_is)
 
   -- a restless page among the listed ones from first up to end is ahead, and passes the test
   pub part_ahead : (n : ℕ) (page : GuestPage) → slice_get pages n ≡ Some page → first ≤ n → n < end → restless_at page b.rows ≡ true
       → (t page ≡ true) × (has_item page (pages_ahead b) ≡ true)
   part_ahead n page stands le lt restless =
-      let both : GuestPage → Bool = λ p. after_cursor b.cursor p && t p in
       let place = between_at _ _ n end _ stands le lt in
-      let passes = subst (λ p. both p ≡ true) place.1
-      (grind (arith, part_is, filter_passes)) in
-      let parts = and_parts _ _ passes in (
-        parts.1,
-        has_filter (after_cursor b.cursor) page (mergeable_pages b.rows)
-            ∙ ap (λ z. z && has_item page (mergeable_pages b.rows)) parts.0 ∙ restless_mergeable page b.rows restless,
-      )
+      let passes = filter_passes (λ p. after_cursor b.cursor p && t p) pages in
+      let kept = has_filter (after_cursor b.cursor) page (mergeable_pages b.rows) in
+      grind (arith, part_is, restless_mergeable page b.rows restless)
 
 -- ---------------------------------------------------------------- visits made
 
-module _ {X : Type 0} (step : BookState → X → Row → X) (beside : IsBeside step) (s : BookState × X) (rise : InPageOrder s.0.rows) where
-  -- the pages ahead once a visit begins
-  abbrev pub ahead : List GuestPage
-  ahead = pages_ahead (visit_begun s.0)
+module _ {X : Type 0} (step : BookState → X → Row → X) (beside : IsBeside step) where
+  module _ (s : BookState × X) (rise : InPageOrder s.0.rows) where
+    abbrev pages : List GuestPage
+    pages = ahead step beside s rise
 
-  -- the pages ahead once a visit begins ascend
-  pub ascending : AreAscending ahead
-  ascending = grind (arith, ascending_ahead, begun_goes)
+    abbrev done : List GuestPage → BookState × X
+    done = after step beside s rise
 
-  -- after the visits of pages
-  abbrev pub after : List GuestPage → BookState × X
-  after pages = pages_visited step (begun s) pages
+    -- as many visits as lead up to a page are the visits of the pages ahead up to it, with the cursor there
+    pub page_made : (most : ℕ) (page : GuestPage) → 1 ≤ most → EndsAt pages most (At page)
+        → (
+          record (done (filter (up_to (Some page)) pages)).0 { cursor = Some page },
+          (done (filter (up_to (Some page)) pages)).1,
+        )
+        ≡ visits_beside step most s
+    page_made most page some ends =
+        let n = most - 1 in
+        let one : suc n ≡ most = omega arith in
+        let made = visits_folded step beside s rise n page ends.1 in
+        let first = (place_splits pages n page (ascending step beside s rise) ends.1).1 in
+        let stays = pass_goes_on (stood step beside s rise (suc n)).0 _ _
+        (ahead_then step beside s rise (suc n) ∙ drop_more pages (suc n) page (omega arith)) in
+        grind (arith, last_of_take pages n (visit_begun s.0).cursor ends.1)
 
-  -- the pages up to one, and the others
-  parts : (n : ℕ) (next : GuestPage) → n < length ahead → ahead ≡ take n ahead ++ get_or ahead n next ∷ drop (n + 1) ahead
-  parts n next lt = rw (← drop_more _ n _ lt) (sym (take-append-drop n ahead))
+    -- as many visits as there are pages ahead are the visits of all of them, and then the end of the pass
+    pub pass_made : 1 ≤ length pages → (pass_ended (done pages).0, (done pages).1) ≡ visits_beside step (length pages) s
+    pass_made some =
+        let n = length pages - 1 in
+        let one : suc n ≡ length pages = omega arith in
+        let at = slice_get-get_or pages n (record { guest = 0; page = 0 }) (omega arith) in
+        let made = visits_folded step beside s rise n _ at in
+        let none = none_next (stood step beside s rise (suc n)).0
+        (ahead_then step beside s rise (suc n) ∙ drop_all (suc n) pages (omega arith)) in
+        let last = last_of_take pages n (visit_begun s.0).cursor at in
+        grind (arith, take_all (suc n) pages (omega arith))
 
-  -- as many visits as lead up to a page are the visits of the pages ahead up to it, with the cursor there
-  pub page_made : (most : ℕ) (page : GuestPage) → 1 ≤ most → EndsAt ahead most (At page)
-      → (record (after (filter (up_to (Some page)) ahead)).0 { cursor = Some page }, (after (filter (up_to (Some page)) ahead)).1)
-      ≡ visits_beside step most s
-  page_made most page some ends =
-      let n = most - 1 in
-      let one : suc n ≡ most = omega arith in
-      let done = take (suc n) ahead in
-      let many = length-take-le (suc n) ahead (omega arith) in
-      let last = last_of_take _ n _ ends.1 in
-      ap (λ l. (record (after l).0 { cursor = Some page }, (after l).1)) (place_splits _ n _ ascending ends.1).1
-      ∙ (λ t. (record (after done).0 { cursor = sym last t }, (after done).1))
-      ∙ sym (visits_folded step beside s done (get_or ahead (suc n) page ∷ drop (suc n + 1) ahead) rise (omega arith)
-      (parts (suc n) page (omega arith))) ∙ ap (λ m. visits_beside step m s) (many ∙ one)
+  -- a whole pass changed nothing but which rows wait
+  module _ (s : BookState × X) (rise : InPageOrder s.0.rows) (times : ℕ) (some : 1 ≤ length (mergeable_pages s.0.rows))
+      (none : (visit_begun s.0).cursor ≡ None) (still : IsStill (begun s) (done s rise (pages s rise))) where
+    abbrev all : List GuestPage
+    all = pages s rise
 
-  -- as many visits as there are pages ahead are the visits of all of them, and then the end of the pass
-  pub pass_made : 1 ≤ length ahead
-      → (pass_ended (after (filter (up_to None) ahead)).0, (after (filter (up_to None) ahead)).1) ≡ visits_beside step (length ahead) s
-  pass_made some =
-      rw (filter_all (up_to None) _ (λ k d lt. refl)) (sym (visits_folded _ beside s _ [] rise some (sym (append-nil ahead))))
+    abbrev passed : BookState × X
+    passed = done s rise all
 
-  -- where a whole pass changed nothing but which rows wait, so many passes more add to the count of passes alone
-  pub passes_made : (times : ℕ) → 1 ≤ length (mergeable_pages s.0.rows) → (visit_begun s.0).cursor ≡ None
-      → IsStill (begun s) (after (filter (up_to None) ahead))
-      → (
-        record (pass_ended (after (filter (up_to None) ahead)).0)
-            { passes = min ((pass_ended (after (filter (up_to None) ahead)).0).passes + times) (2 ^ 64 - 1) },
-        (after (filter (up_to None) ahead)).1,
-      )
-      ≡ visits_beside step (times * length ahead + length ahead) s
-  passes_made times some none still = elim (begins s.0) [
-    | inr (at, stays, more) ↦ grind arith
-    | inl (new, fresh) ↦
-        let all = begins_ahead s.0 new fresh ∙ ap mergeable_pages (sym fresh.1) in
-        let whole : after (filter (up_to None) ahead) ≡ pages_visited step (with_none_waiting new, s.1) (mergeable_pages new.rows) =
-        grind (arith, filter_all (up_to None) ahead (λ k d lt. refl)) in
-        let again = repeats _ beside (new, s.1) (subst InPageOrder (sym fresh.1) rise) (rw fresh.1 some)
-        (grind (arith, still)) times in
-        (grind arith) ∙ sym again ∙ (grind arith)
-        ∙ ap (visits_beside step (times * length ahead)) (pass_made (some_ahead s.0 some))
-        ∙ sym (grind (arith, beside_on))
-  ]
+    -- as such a pass ends, with so many ended
+    abbrev ended : ℕ → BookState × X
+    ended passes = (record passed.0 { cursor = None; passes = passes }, s.1)
+
+    again : (passes : ℕ) → visits_beside step (length all) (ended passes) ≡ ended (min (passes + 1) (2 ^ 64 - 1))
+    again passes =
+        let order = (pages_go step all (begun s) ((begun_goes s.0).order rise)).order ((begun_goes s.0).order rise) in
+        let start : begun (ended passes) ≡ (elsewhere None passes (visit_begun s.0), s.1) =
+        grind (arith, settled_twice, none, still) in
+        let same : pages (ended passes) order ≡ all = grind (arith, none) in
+        let made = pass_made (ended passes) order (rw same (some_ahead s.0 some)) in
+        grind (arith, pages_alike step beside None passes all (begun s), still.beside)
+
+    again_times : (times : ℕ)
+        → visits_beside step (times * length all + length all) s ≡ ended
+        (min ((pass_ended passed.0).passes + times) (2 ^ 64 - 1))
+    again_times zero =
+        let none_more : 0 * length all + length all ≡ length all = omega arith in
+        let once : (pass_ended passed.0).passes ≡ min ((pass_ended passed.0).passes + 0) (2 ^ 64 - 1) = omega arith in
+        rw none_more (sym (pass_made s rise (some_ahead s.0 some)) ∙
+        (λ i. (record passed.0 { cursor = None; passes = once i }, still.beside i)))
+    again_times (suc times) =
+        beside_on step (times * length all + length all) (length all) (suc times * length all + length all) s
+        (omega (arith, suc-mul times (length all)))
+        ∙ ap (visits_beside step (length all)) (again_times times) ∙ again _ ∙ ap ended (omega arith)
+
+    -- so many passes more add to the count of passes alone
+    pub passes_made : (
+      record (pass_ended passed.0)
+          { passes = min ((pass_ended passed.0).passes + times) (2 ^ 64 - 1) },
+      passed.1,
+    )
+        ≡ visits_beside step (times * length all + length all) s
+    passes_made = (λ i. (
+      record (pass_ended passed.0)
+          { passes = min ((pass_ended passed.0).passes + times) (2 ^ 64 - 1) },
+      still.beside i,
+    ))
+        ∙ sym (again_times times)
 
   -- visits that stop before a page that was ahead
-  module _ (page : GuestPage) (there : has_item page ahead ≡ true) where
-    abbrev before_it : List GuestPage → List GuestPage
-    before_it pages = filter (λ p. comes_before p page) pages
+  module _ (s : BookState × X) (rise : InPageOrder s.0.rows) (page : GuestPage)
+      (there : has_item page (pages s rise) ≡ true) where
+    abbrev pub before_it : List GuestPage
+    before_it = filter (λ p. comes_before p page) (pages s rise)
 
     -- the index of the page among the pages ahead
     abbrev pub place : ℕ
-    place = (place_of page ahead there).0
+    place = (place_of page (pages s rise) there).0
 
-    stands : slice_get ahead place ≡ Some page
+    stands : slice_get (pages s rise) place ≡ Some page
     stands = (place_of _ _ there).1
 
-    within : place < length ahead
-    within = slice_get_within _ _ _ stands
+    -- the pages ahead before the page are as many as its index says
+    first_is : before_it ≡ take place (pages s rise)
+    first_is = (place_splits _ _ _ (ascending step beside s rise) stands).0
 
-    -- as many pages ahead come before the page as its index says
-    pub stopped_many : length (before_it ahead) ≡ place
-    stopped_many = ap length (place_splits _ _ _ ascending stands).0 ∙ length-take-le place ahead (omega (arith, within))
+    many : length before_it ≡ place
+    many = grind (arith, first_is, length-take-le, slice_get_within)
 
     -- visits of the pages ahead before the page leave the same pages ahead
-    pub stopped_ahead : pages_ahead (after (before_it ahead)).0 ≡ ahead
+    pub stopped_ahead : pages_ahead (done s rise before_it).0 ≡ pages s rise
     stopped_ahead =
-        let b = visit_begun s.0 in
-        let cursor = ap (λ (z : BookState × X). z.0.cursor) (pages_alike _ beside b.cursor b.passes (before_it ahead) (begun s)) in
-        λ t. filter (after_cursor (cursor t)) ((pages_go step (before_it ahead) (begun s) ((begun_goes s.0).order rise)).mergeable t)
+        let going = pages_go step before_it (begun s) ((begun_goes s.0).order rise) in
+        grind (arith, pages_stay step beside before_it (begun s))
 
     -- visits of the pages ahead before the page, with the cursor at the last, are as many visits and one more begun
     pub stopped_made : (
-      record
-          (after (before_it ahead)).0
-          { cursor = last_of (after (before_it ahead)).0.cursor (before_it (pages_ahead (after (before_it ahead)).0)) },
-      (after (before_it ahead)).1,
+      record (done s rise before_it).0 {
+        cursor = last_of (done s rise before_it).0.cursor
+            (filter (λ p. comes_before p page) (pages_ahead (done s rise before_it).0));
+      },
+      (done s rise before_it).1,
     )
-        ≡ begun (visits_beside step (length (before_it ahead)) s)
+        ≡ begun (visits_beside step (length before_it) s)
     stopped_made =
-        let done = (place_splits _ _ _ ascending stands).0 in
-        (λ t. (
-          record (after (before_it ahead)).0 { cursor = last_of (after (before_it ahead)).0.cursor (before_it (stopped_ahead t)) },
-          (after (before_it ahead)).1,
-        ))
-        ∙ (grind arith) ∙ sym (begun_folded _ beside s _ _ _ rise (parts _ page within))
-        ∙ ap (λ l. begun (visits_beside step (length l) s)) (sym done)
-
-    -- fewer visits than were to be made
-    fewer : (n : ℕ) (last : GuestPage) → slice_get ahead n ≡ Some last → up_to (Some last) page ≡ true → length (before_it ahead) < suc n
-    fewer n last at passes = elim (cases_lt n _) [
-      | inl later ↦
-          let order = (grind (arith, get_or_from_slice_get)) ∙ ascending n place page later within in
-          absurd (true≢false (sym passes ∙ ap not order))
-      | inr no_later ↦ omega (arith, stopped_many)
-    ]
+        let folded = begun_folded step beside s rise place page stands in
+        grind (arith, many, first_is, stopped_ahead, pages_stay step beside before_it (begun s))
 
     -- where so many visits would visit the page, fewer pages ahead come before it
-    pub stopped_fewer : {most : ℕ} (a : Ahead) → 1 ≤ most → EndsAt ahead most a → up_to (last_visited a) page ≡ true
-        → length (before_it ahead) < most
+    pub stopped_fewer : {most : ℕ} (a : Ahead) → 1 ≤ most → EndsAt (pages s rise) most a
+        → up_to (last_visited a) page ≡ true
+        → length before_it < most
     stopped_fewer {most} (At last) some comes passes =
-        omega (arith, fewer (most - 1) last comes.1 passes)
-    stopped_fewer (End made) some comes passes = omega (arith, within, stopped_many)
+        let order = ascending step beside s rise (most - 1) place page in
+        grind (arith, many, stands, get_or_from_slice_get, slice_get_within (pages s rise) place page stands)
+    stopped_fewer (End made) some comes passes = omega (arith, many, slice_get_within (pages s rise) place page stands)

@@ -1,14 +1,14 @@
 -- What becomes of the layout where rows change together, join a dup, or make or lose one.
 use Rattle.ksm_base.specs.declared.limits.TheConstants.{MOST_FRAMES, MOST_LIVES, MOST_REFERENCES}
-use Rattle.ksm_book.proofs.Names.{[], Add, All, All-filter, ap, arith, blank, Bool, both_ways, cases_Bool, change_row, Contains, count_by, count_none, did, DupRow, elsewhere, eq-eqb, false, filter}
-use Rattle.ksm_book.proofs.Names.{filter_passes, find, find_all, find_none, find_passes, frame_at, Frames, frames_of, get_or, get_or-set_same, get_or_default, GuestPage, IfSome, if◌then◌else◌, inl}
-use Rattle.ksm_book.proofs.Names.{InPageOrder, inr, IsInLife, IsLaid, IsLoose, IsServed, IsVacant, item_count, KeeperView, kind_for, Knobs, leaving, Ledger, ledger_after, length, lies_on, Life}
-use Rattle.ksm_book.proofs.Names.{life_or, List, list_any, Listing, MakesSteps, May, MayLeave, Merged, merged_into, merged_state, named_at, nat_lt, None, none_found, Note, Option, PageState}
-use Rattle.ksm_book.proofs.Names.{PagesView, place_frame, Placed, Private, Publish, refl, Row, row_at, RowFits, set, set-get_or, settled, Shape, shared_state, Some, spent, spent_on, Stable, subst}
-use Rattle.ksm_book.proofs.Names.{sum_by-le, sym, tree_of, true, with_dup, with_frame, Withdraw, withdrawing, ℕ, ◌*◌, ◌++◌, ◌+◌, ◌-◌, ◌<◌, ◌==◌, ◌∙◌, ◌∷◌, ◌≡◌, ◌≢◌, ◌≤◌}
-use Rattle.ksm_book.proofs.Moves.{Serves, joined, published, base_is_items, stale_is_loose}
-use Rattle.ksm_book.proofs.Laying.{LodgesAs, laid_rows, own_kind, served_at, shape_same}
-use Rattle.ksm_book.proofs.Keeping.{added_placed, added_spends, left_placed, left_spends, lives_most, may_leave, past_le, spent_set}
+use Rattle.ksm_book.proofs.Names.{Add, All, All-filter, ap, arith, blank, Bool, change_row, Contains, count_by, count_none, did, DupRow, elsewhere, eq-eqb, false, filter, filter_passes, find}
+use Rattle.ksm_book.proofs.Names.{find_all, find_none, find_passes, frame_at, Frames, frames_of, get_or-set_same, get_or_default, GuestPage, IfSome, if◌then◌else◌, InPageOrder, IsInLife, IsLaid}
+use Rattle.ksm_book.proofs.Names.{IsLoose, IsServed, IsVacant, item_count, KeeperView, leaving, Ledger, ledger_after, length, lies_on, Life, life_or, List, list_any, Listing, MakesSteps, May}
+use Rattle.ksm_book.proofs.Names.{MayLeave, Merged, merged_into, merged_state, named_at, nat_lt, None, none_found, Note, Option, PageState, PagesView, place_frame, Placed, Private, Publish, refl, Row}
+use Rattle.ksm_book.proofs.Names.{row_at, RowFits, set, set-get_or, settled, Shape, shared_state, Some, spent, spent_on, Stable, subst, sum_by-le, sym, true, with_dup, with_frame, Withdraw}
+use Rattle.ksm_book.proofs.Names.{withdrawing, ℕ, [], ◌*◌, ◌+◌, ◌-◌, ◌<◌, ◌==◌, ◌∙◌, ◌∷◌, ◌≡◌, ◌≢◌, ◌≤◌}
+use Rattle.ksm_book.proofs.Moves.{base_is_items, joined, published, Serves, stale_is_loose}
+use Rattle.ksm_book.proofs.Laying.{laid_rows, LodgesAs, own_kind, served_at, shape_same}
+use Rattle.ksm_book.proofs.Keeping.{added_placed, added_spends, left_placed, left_spends, may_leave, spent_set}
 use Rattle.ksm_book.proofs.Made.{none_made, parts_made, step_made}
 use Rattle.ksm_book.proofs.Withdrawn.{withdrawn}
 
@@ -38,16 +38,11 @@ module _ {p : PagesView} {k : KeeperView} (h : IsLaid p k) (rise : InPageOrder p
   item_fits = subst (IsServed p.shape k.ledger p.dups item) there (served_at h.placed _ _ found_item)
 
   item_stable : (frame_at k.ledger g).kind ≡ Stable
-  item_stable = item_fits.0.kind ∙ ap kind_for (merged_as merged).1
+  item_stable = grind (arith, item_fits)
 
   -- one reference more may come to an item's frame, where its dup has room for one item more
   pub may_join : (d : DupRow) → Contains p.dups d → merged_into d.number item.state ≡ true → item_count p.rows d ≤ MOST_REFERENCES - 1 → May k (Add g)
-  may_join d stands into few =
-      let n = stands.0 in
-      let is = stands.2 in
-      let a = (item_fits.1 n d stands.1).item (rw is into) in
-      let base = ap (λ x. (frame_at k.ledger x).base) a.0 ∙ base_is_items h.placed n d
-      stands.1 a.1 ∙ ap (item_count p.rows) is in grind (arith, item_fits)
+  may_join d stands into few = grind (arith, item_fits, base_is_items h.placed stands.0 d stands.1)
 
   module _ (c : Row → Row) (keeps : (r : Row) → (c r).page ≡ r.page) (state : (c row).state ≡ item.state)
       (bytes : (c row).bytes ≡ item.bytes) where
@@ -69,9 +64,8 @@ module _ {p : PagesView} {k : KeeperView} (h : IsLaid p k) (rise : InPageOrder p
         → IsLaid (record p { rows = change_row page c p.rows; frame = lies_on page (Some g) p.frame; restless = restless }) u
     laid_joined u restless m =
         let parts = parts_made _ _ m in
-        let more = added_spends parts.1 in
-        let more' = left_spends _ parts.2 in
-        laid_rows h u (rw m.after) (omega arith) (left_placed _ parts.2 (joined_hand _ parts.1))
+        laid_rows h u (rw m.after) (omega (arith, added_spends parts.1, left_spends _ parts.2))
+        (left_placed _ parts.2 (joined_hand _ parts.1))
 
 -- a place where no dup with items stands may be named anew, or not at all
 module _ (k : Ledger) where
@@ -81,22 +75,20 @@ module _ (k : Ledger) where
   loose_named (Some life) h = h
 
 has_none : (place : ℕ) (dups : List DupRow) → list_any (λ d. d.place == place) dups ≡ false → All (λ d. d.place ≢ place) dups
-has_none place dups e k x lt same =
-    both_ways ((get_or dups k x).place == place) (find_none (λ d. d.place == place) _ (none_found _ dups e) k x lt) (eq-eqb _ _ same)
+has_none place dups e k x lt same = grind (arith, find_none (λ d. d.place == place) dups (none_found _ dups e) k x lt)
 
 -- a place where no dup with items stands names no frame that is Stable in the life named
 pub vacant_loose : {sh : Shape} {across : ℕ} {k : Ledger} {rows : List Row} {frame : Frames} {dups : List DupRow} (place : ℕ)
     → Placed sh across k rows frame dups None → IsVacant place rows dups → IsLoose k (named_at k place)
 vacant_loose {k = k} {dups = dups} place p vacant = by _ refl
   where
-    Loose : ℕ → Type 0
-    Loose q = IsInLife k q → ¬ ((frame_at k (place_frame k q)).kind ≡ Stable)
-
     by : (o : Option DupRow) → find (λ d. d.place == place) dups ≡ o → IsLoose k (named_at k place)
     by None none = grind (arith, find_none)
-    by (Some d) found = loose_named k _ (subst Loose (grind (arith, find_passes))
-        (find_all (λ e. e.place == place) (λ e. e.place ≡ place → Loose e.place) dups d found
-        (λ n x lt same. stale_is_loose p n x lt (vacant n x lt same)) (grind (arith, find_passes))))
+    by (Some d) found =
+        let stale = find_all (λ e. e.place == place)
+        (λ e. e.place ≡ place → IsInLife k e.place → ¬ ((frame_at k (place_frame k e.place)).kind ≡ Stable))
+        dups d found (λ n x lt same. stale_is_loose p n x lt (vacant n x lt same)) in
+        loose_named k _ (grind (arith, find_passes (λ e. e.place == place) dups d found))
 
 -- what a vacant place names is withdrawn, and then it names nothing
 module _ {p : PagesView} {k : KeeperView} (w : KeeperView) (h : IsLaid p k) (place : ℕ) (inside : place < frames_of p.shape)
@@ -111,13 +103,14 @@ module _ {p : PagesView} {k : KeeperView} (w : KeeperView) (h : IsLaid p k) (pla
   -- once what a vacant place names is withdrawn, the place names nothing, and the keeper knows the rest as it was
   pub cleared_ledger : MakesSteps k w (withdrawing p.dups place) → w.ledger ≡ record
       { frames = k.ledger.frames; places = set k.ledger.places place None }
-  cleared_ledger m = elim (cases_Bool (list_any (λ d. d.place == place) p.dups)) [
-    | inl taken ↦ rw (step_made
-        (subst (λ (b : Bool). MakesSteps k w (if b then Withdraw place ∷ [] else [])) taken m)).1
-    | inr none ↦
-        rw (none_made (subst (λ (b : Bool). MakesSteps k w (if b then Withdraw place ∷ [] else [])) none m))
-        (grind (arith, h.placed.empty place (has_none _ _ none), set-get_or k.ledger.places place None))
-  ]
+  cleared_ledger m = by _ refl m
+    where
+      by : (taken : Bool) → list_any (λ d. d.place == place) p.dups ≡ taken
+          → MakesSteps k w (if taken then Withdraw place ∷ [] else [])
+          → w.ledger ≡ record { frames = k.ledger.frames; places = set k.ledger.places place None }
+      by true is m = rw (step_made m).1
+      by false is m = rw (none_made m)
+          (grind (arith, h.placed.empty place (has_none _ _ is), set-get_or k.ledger.places place None))
 
 -- pages lie lawfully where a place names nothing any more and the dup that stood there is gone
 pub laid_cleared : {p : PagesView} {k : KeeperView} (w : KeeperView) {place : ℕ} → IsLaid p k → place < frames_of p.shape → w.table ≡ k.table
@@ -130,29 +123,26 @@ laid_cleared {p} {k} w h inside e is = record {
   spent = omega (arith, ap spent is);
 }
 
--- what is above or below a place is elsewhere
-below_elsewhere : (place : ℕ) (ds : List DupRow) → filter (λ d. nat_lt d.place place) (filter (elsewhere place) ds) ≡ filter
-    (λ d. nat_lt d.place place) ds
-below_elsewhere place [] = refl
-below_elsewhere place (d ∷ ds) = grind (arith, below_elsewhere place ds)
+-- what passes a test behind which another stands is not taken out by that other
+inside_of : (p q : DupRow → Bool) → ((d : DupRow) → p d ≡ true → q d ≡ true) → (ds : List DupRow)
+    → filter p (filter q ds) ≡ filter p ds
+inside_of p q passes [] = refl
+inside_of p q passes (d ∷ ds) = grind (arith, inside_of p q passes ds)
 
-above_elsewhere : (place : ℕ) (ds : List DupRow) → filter (λ d. nat_lt place d.place) (filter (elsewhere place) ds) ≡ filter
-    (λ d. nat_lt place d.place) ds
-above_elsewhere place [] = refl
-above_elsewhere place (d ∷ ds) = grind (arith, above_elsewhere place ds)
+-- a dup that takes a place takes it of any that stood there
+with_elsewhere : (d : DupRow) (ds : List DupRow) → with_dup d (filter (elsewhere d.place) ds) ≡ with_dup d ds
+with_elsewhere d ds =
+    let inside = inside_of (λ e. nat_lt e.place d.place) (elsewhere d.place) (λ e is. grind arith) ds in
+    grind (arith, inside_of (λ e. nat_lt d.place e.place) (elsewhere d.place) (λ e is. grind arith) ds)
 
 -- no more dups were ever made than there are lives of all frames, since each spent one
 pub spent_most : {v : PagesView} {k : KeeperView} → IsLaid v k → v.next ≤ MOST_FRAMES * MOST_LIVES
 spent_most {v} {k} h =
-    let sh : Shape = v.shape in
-    let p = h.placed in
-    let last : ℕ = sh.last_generation in
+    let last : ℕ = v.shape.last_generation in
     let most : spent k.ledger ≤ length k.ledger.frames * last = sum_by-le spent_on last k.ledger.frames (λ i d lt.
-    let past = past_le (frame_at k.ledger i).kind (frame_at k.ledger i).generation in
-    let lived = lives_most last (frame_at k.ledger i).generation (frame_at k.ledger i).kind (p.lives i) in
-    rw (get_or_default k.ledger.frames i d blank lt) (omega arith)) in
-    let short : length k.ledger.frames * last ≤ MOST_FRAMES * MOST_LIVES = grind arith in
-    omega arith
+    let note = frame_at k.ledger i in
+    grind (arith, get_or_default k.ledger.frames i d blank lt)) in
+    grind (arith, h.spent)
 
 -- a row that waits no more may stand on its frame in the stead of the row as it was
 pub settled_lodges : (r : Row) → LodgesAs (settled r) r
@@ -183,13 +173,8 @@ module _ {p : PagesView} {k : KeeperView} (h : IsLaid p k) (rise : InPageOrder p
   -- once its place is cleared, a new dup may be published there on the frame of a row that is not shared
   pub may_found : (w : KeeperView) → MakesSteps k w (withdrawing p.dups d.place) → May w (Publish d.place f)
   may_found w m =
-      let empty = cleared_ledger w h _ inside vacant m in
-      let same = sym (ap (λ (z : KeeperView). z.table.shape) m.after ∙ h.same) in (
-        rw (← same) inside,
-        rw (← same) fits.frame,
-        rw empty own,
-        grind (arith, get_or-set_same k.ledger.places d.place None None (omega arith)),
-      )
+      let set_there = get_or-set_same k.ledger.places d.place None None in
+      grind (arith, cleared_ledger w h d.place inside vacant m, m.after, own, fits)
 
   -- rows and dups lie lawfully once the row's frame is published at the place of the new dup
   pub laid_found : (c : Row → Row) (w1 w : KeeperView) (restless : Listing) → ((r : Row) → (c r).page ≡ r.page)
@@ -200,28 +185,17 @@ module _ {p : PagesView} {k : KeeperView} (h : IsLaid p k) (rise : InPageOrder p
       → IsLaid (record p { rows = change_row page c p.rows; dups = with_dup d p.dups; next = p.next + 1; restless = restless }) w
   laid_found c w1 w restless keeps state same clears is bytes tree numbers fresh =
       let empty = cleared_ledger w1 h d.place inside vacant clears in
-      let q : Placed sh p.knobs.merge_across_nodes cleared p.rows p.frame
-      (filter (elsewhere d.place) p.dups) None = withdrawn d.place
-      inside h.placed in
-      let shown = published q page row rise found f lies own d inside c keeps (state ∙ ap Merged (sym number)) same bytes tree alone
-      (λ i r lt. rw number (fresh i r lt))
-      (All-filter (elsewhere d.place) (λ e. ¬ (e.number ≡ d.number)) p.dups
-      (grind arith))
+      let shown = published (withdrawn d.place inside h.placed) page row rise found f lies own d inside c keeps
+      (state ∙ ap Merged (sym number)) same bytes tree alone (λ i r lt. rw number (fresh i r lt))
+      (All-filter (elsewhere d.place) (λ e. ¬ (e.number ≡ d.number)) p.dups (grind arith))
       (grind (arith, filter_passes, eq-eqb)) in
       let ledger : w.ledger ≡ ledger_after w1.table.shape cleared (Publish d.place f) 0 = grind arith in
-      let within : f < length k.ledger.frames = (let lt =
-      fits.frame in omega arith) in
-      let more : spent (with_frame k.ledger f stable) + spent_on o ≡ spent k.ledger + o.generation = spent_set k.ledger f stable within in
-      let was : spent_on o ≡ o.generation - 1 = rw own in
+      let more : spent (with_frame k.ledger f stable) + spent_on o ≡ spent k.ledger + o.generation =
+      spent_set k.ledger f stable (omega (arith, fits.frame)) in
       let now : spent w.ledger ≡ spent (with_frame k.ledger f stable) = ap spent ledger in
       record {
         small = h.small;
         same = grind arith;
-        placed = subst (λ (z : Ledger × List DupRow). Placed sh p.knobs.merge_across_nodes z.0 (change_row page c p.rows) p.frame z.1 None)
-            (λ t. (sym ledger t, below_elsewhere d.place p.dups t ++ d ∷ above_elsewhere d.place p.dups t)) shown;
-        spent = omega (arith, fits.given);
+        placed = grind (arith, with_elsewhere d p.dups);
+        spent = grind (arith, own, fits.given);
       }
-
--- where pages merge on their nodes alone, a row's tree is its home
-pub tree_is_home : (knobs : Knobs) (r : Row) → knobs.merge_across_nodes ≡ 0 → r.home ≡ tree_of knobs r
-tree_is_home knobs r none = grind arith

@@ -1,12 +1,12 @@
 -- The frames that steps give, and what the log shows of a frame that was not found, of one in use, and of a dup that moved.
-use Rattle.ksm_book.proofs.Names.{[], Add, append-nil, Fault, GuestPage, NoFrame, Resettles, ResettlesEach, UnmergesTo, ap, append_cancel_left, arith, blank, Bool, cases_Bool, cond, Contains}
-use Rattle.ksm_book.proofs.Names.{Contains-append_right, Contains-push, count_in, Allocates, did, AllocatesOn, dup_frame, DupRow, Dying, dying_kind, dying_on, false, FindsHeld, FindsNone, frame_at}
-use Rattle.ksm_book.proofs.Names.{free_kind, Freeze, frozen, get_or, get_or-range_with_len, get_or-set_other, given_by, Gives, HasLost, HasMoved, inl, inr, IsLowestFree, item_count, KeeperStep}
-use Rattle.ksm_book.proofs.Names.{KeeperView, leaving, Ledger, ledger_after, length, length-append, length-range_with_len, List, loads, Log, MakesSteps, map, Mapped, Moves, None, NoneLeft, Note, Open}
-use Rattle.ksm_book.proofs.Names.{Option, Provides, Publish, puts, Raise, Reap, reaped, refl, replicate, Row, set, Shape, Some, Stable, stepped, steps_of, subst, suc, sym, true, with_frame, Withdraw}
-use Rattle.ksm_book.proofs.Names.{zero, ℕ, ◌*◌, ◌++◌, ◌+◌, ◌-◌, ◌<◌, ◌==◌, ◌∙◌, ◌∷◌, ◌≡◌, ◌≢◌, ◌≤◌, drop}
+use Rattle.ksm_book.proofs.Names.{Add, Allocates, AllocatesOn, ap, append-nil, append_cancel_left, arith, blank, Bool, cases_Bool, cond, Contains, Contains-append_right, Contains-push, count_in, did}
+use Rattle.ksm_book.proofs.Names.{drop, dup_frame, DupRow, Dying, dying_kind, dying_on, false, Fault, FindsHeld, FindsNone, frame_at, free_kind, Freeze, frozen, get_or, get_or-range_with_len}
+use Rattle.ksm_book.proofs.Names.{get_or-set_other, get_or-set_same, get_or_past, given_by, Gives, GuestPage, HasLost, HasMoved, inl, inr, IsLowestFree, item_count, KeeperStep, KeeperView, leaving}
+use Rattle.ksm_book.proofs.Names.{Ledger, ledger_after, length, length-append, length-range_with_len, length-set, List, loads, Log, MakesSteps, map, Mapped, Moves, NoFrame, None, NoneLeft, Note, Open}
+use Rattle.ksm_book.proofs.Names.{Option, Provides, Publish, puts, Raise, Reap, reaped, refl, replicate, Resettles, ResettlesEach, Row, set, Shape, Some, Stable, stepped, steps_of, subst, suc, sym}
+use Rattle.ksm_book.proofs.Names.{UnmergesTo, with_frame, Withdraw, zero, ℕ, [], ◌*◌, ◌++◌, ◌+◌, ◌-◌, ◌<◌, ◌==◌, ◌∙◌, ◌∷◌, ◌≡◌, ◌≢◌, ◌≤◌}
 use Rattle.ksm_book.proofs.Keeping.{set_holds}
-use Rattle.ksm_book.proofs.Made.{chained, stepped_then, first_made, made_none, made_then, none_made, step_made}
+use Rattle.ksm_book.proofs.Made.{chained, first_made, made_none, made_then, none_made, step_made, stepped_then}
 use Rattle.ksm_base.proofs.Changes.{contains_filter}
 
 -- none of these steps gives a frame
@@ -29,10 +29,11 @@ pub quiet_loads : (f i : ℕ) (ws : List ℕ) → GivesNone (steps_of (loads f i
 quiet_loads f i [] = tt
 quiet_loads f i (w ∷ ws) = (refl, quiet_loads f (i + 1) ws)
 
--- the reaping of frames gives no frame
-pub quiet_reaps : (fs : List ℕ) → GivesNone (map Reap fs)
-quiet_reaps [] = tt
-quiet_reaps (f ∷ fs) = (refl, quiet_reaps fs)
+-- steps made of a list, each of which gives no frame, give none
+quiet_map : {X : Type 0} (make : X → KeeperStep) → ((x : X) → given_by (make x) ≡ None) → (xs : List X)
+    → GivesNone (map make xs)
+quiet_map make none [] = tt
+quiet_map make none (x ∷ xs) = (none x, quiet_map make none xs)
 
 -- references that come to a frame give no frame
 pub quiet_adds : (n f : ℕ) → GivesNone (replicate n (Add f))
@@ -41,8 +42,7 @@ quiet_adds (suc n) f = (refl, quiet_adds n f)
 
 -- the withdrawing of dups from their places gives no frame
 pub quiet_withdraws : (ds : List DupRow) → GivesNone (map (λ d. Withdraw d.place) ds)
-quiet_withdraws [] = tt
-quiet_withdraws (d ∷ ds) = (refl, quiet_withdraws ds)
+quiet_withdraws ds = quiet_map (λ d. Withdraw d.place) (λ d. refl) ds
 
 -- a page that leaves its frame, if it has one, makes no step that gives a frame
 pub quiet_leaving : (o : Option ℕ) → GivesNone (leaving o)
@@ -64,7 +64,7 @@ part_did v w {part} is quiet = record {
 
 -- steps that give no frame gave none by the part of the log in which they were made
 pub quiet_did : {v w : KeeperView} {steps : List KeeperStep} (m : MakesSteps v w steps) → GivesNone steps → Allocates v w [] m.part
-quiet_did {v} {w} m quiet = part_did v w m.after (subst GivesNone (sym m.are) quiet)
+quiet_did {v} {w} m quiet = part_did v w m.after (rw m.are quiet)
 
 -- a keeper that made steps that give no frame gave none
 pub quiet_does : {v w : KeeperView} {steps : List KeeperStep} → MakesSteps v w steps → GivesNone steps → AllocatesOn v w []
@@ -78,22 +78,19 @@ does_then a b = (a.0 ++ b.0, chained a.1 b.1)
 pub raised_does : {v w : KeeperView} {g node : ℕ} {steps : List KeeperStep} → IsLowestFree v.table.shape v.ledger node g → MakesSteps v w (Raise g ∷ steps) → GivesNone steps → AllocatesOn v w (node ∷ [])
 raised_does {v} {g = g} {node} lowest m quiet =
     let first = first_made m in
-    let r = did v (Raise g) first.0 in
-    let one : Allocates v r (node ∷ []) ((Raise g, first.0) ∷ []) = grind arith in
-    does_then ((Raise g, first.0) ∷ [], one) (quiet_does first.1 quiet)
+    does_then {ms = node ∷ []} ((Raise g, first.0) ∷ [], grind arith) (quiet_does first.1 quiet)
 
 -- a keeper that reaped the dying frames of a node gave no frame
 pub searched_does : {v w : KeeperView} (node : ℕ) → MakesSteps v w (map Reap (dying_on v.table.shape v.ledger node)) → AllocatesOn v w []
-searched_does node m = quiet_does m (quiet_reaps _)
+searched_does node m = quiet_does m (quiet_map Reap (λ f. refl) _)
 
 -- a keeper that provided a frame with bytes gave one frame, on the node asked for
 pub provides_does : {v w : KeeperView} {node : ℕ} {bytes : List ℕ} {g : ℕ} → Provides v w node bytes g → AllocatesOn v w (node ∷ [])
 provides_does {node = node} {bytes} {g} h =
-    let u = h.searched in
     let searched = searched_does _ h.finds.reaped in
-    let lowest = subst (λ (t : _). IsLowestFree t.shape u.ledger node g) (sym searched.1.table) h.finds.lowest in
-    does_then searched
-    (raised_does lowest h.fills (grind (arith, quiet_both, quiet_puts)))
+    let lowest : IsLowestFree h.searched.table.shape h.searched.ledger node g =
+    grind (arith, searched.1.table, h.finds.lowest) in
+    does_then searched (raised_does lowest h.fills (grind (arith, quiet_both, quiet_puts)))
 
 -- a page that was resettled was given one frame, on the node asked for
 pub resettles_does : {v w : Mapped} {page : GuestPage} {node : ℕ} {bytes : List ℕ} → Resettles v w page node bytes → AllocatesOn v.keeper w.keeper (node ∷ [])
@@ -112,9 +109,7 @@ each_does (r ∷ rows) v w h = does_then (resettles_does h.1) (each_does rows h.
 
 -- a note that was put at a frame is there, if the keeper knows the frame
 set_here : (P : Note → Type 0) (xs : List Note) (i : ℕ) (y : Note) → P y → P blank → P (get_or (set xs i y) i blank)
-set_here P [] i y new none = none
-set_here P (x ∷ xs) zero y new none = new
-set_here P (x ∷ xs) (suc i) y new none = set_here P xs i y new none
+set_here P xs i y new none = grind (arith, get_or-set_same, get_or_past, length-set)
 
 -- ---------------------------------------------------------------- no frame was found
 
@@ -123,13 +118,9 @@ lives_on : (fs : List ℕ) (v w : KeeperView) (f : ℕ) → MakesSteps v w (map 
 lives_on [] v w f m alive = rw (none_made m) alive
 lives_on (g ∷ fs) v w f m alive =
     let first = first_made m in
-    let old = frame_at v.ledger g in
-    let note = reaped v.table.shape.last_generation old in
+    let note = reaped v.table.shape.last_generation (frame_at v.ledger g) in
     lives_on fs (did v (Reap g) first.0) w f first.1
-    (elim (count_in first.0 == 0) as (λ b. ¬ ((frame_at (cond b (with_frame v.ledger g note) v.ledger) f).kind ≡ Dying)) [
-      | true ↦ set_holds (λ x. ¬ (x.kind ≡ Dying)) v.ledger.frames g f note (grind arith) alive
-      | false ↦ alive
-    ])
+    (grind (arith, set_holds (λ x. ¬ (x.kind ≡ Dying)) v.ledger.frames g f note (grind arith) alive))
 
 -- a frame that was reaped and is dying still was found with a count above zero
 waits : (fs : List ℕ) (v w : KeeperView) (f : ℕ) (part : Log) → w ≡ stepped v part → steps_of part ≡ map Reap fs → Contains fs f → (frame_at w.ledger f).kind ≡ Dying
@@ -137,22 +128,26 @@ waits : (fs : List ℕ) (v w : KeeperView) (f : ℕ) (part : Log) → w ≡ step
 waits [] v w f part after are has still = absurd (omega arith)
 waits (g ∷ fs) v w f [] after are has still = absurd (grind arith)
 waits (g ∷ fs) v w f (s ∷ part) after are (suc i, lt, is) still =
-    let rest : steps_of part ≡ map Reap fs = grind arith in
-    let later = waits fs (did v s.0 s.1) w f part (after ∙ sym (stepped_then v _ _)) rest (i, omega arith, is) still in
+    let later =
+    waits fs (did v s.0 s.1) w f part (after ∙ sym (stepped_then v _ _)) (grind arith) (i, omega arith, is) still in
     (later.0, later.1, (suc later.2.0, (omega arith), later.2.2))
 waits (g ∷ fs) v w f (s ∷ part) after are (zero, lt, is) still =
     let first : s.0 ≡ Reap f = grind arith in
-    let rest : steps_of part ≡ map Reap fs = grind arith in
     let u = did v (Reap f) s.1 in
-    let m : MakesSteps u w (map Reap fs) = record { part = part; after = after ∙ sym (stepped_then v _ _) ∙ ap (λ x. stepped (did v x s.1) part) first; are = rest } in
+    let m : MakesSteps u w (map Reap fs) = record {
+      part = part;
+      after = after ∙ sym (stepped_then v _ _) ∙ ap (λ x. stepped (did v x s.1) part) first;
+      are = grind
+          arith;
+    } in
     (s.1, found _ (λ gone. lives_on fs u w f m gone still), (0, omega arith, (λ t. (first t, s.1))))
   where
     note : Note
     note = reaped v.table.shape.last_generation (frame_at v.ledger f)
 
     found : (n : ℕ) → (¬ ((frame_at (cond (n == 0) (with_frame v.ledger f note) v.ledger) f).kind ≡ Dying) → ⊥) → 1 ≤ n
-    found zero dies = absurd (dies (set_here (λ x. ¬ (x.kind ≡ Dying)) v.ledger.frames f note (grind arith) (λ e. grind arith)))
-    found (suc n) dies = omega arith
+    found n dies =
+        grind (arith, set_here (λ x. ¬ (x.kind ≡ Dying)) v.ledger.frames f note (grind arith) (λ e. grind arith))
 
 -- where no frame of a node was found, each that is dying still was found with a count above zero
 pub none_left : {v w : KeeperView} {node : ℕ} → FindsNone v w node → NoneLeft v w node
@@ -163,7 +158,7 @@ none_left {v} {w} {node} h =
     let m = h.reaped in
     record {
       part = m.part;
-      did = quiet_did m (quiet_reaps fs);
+      did = quiet_did m (quiet_map Reap (λ f. refl) fs);
       waited = λ f low high still. elim (cases_Bool (dying_kind (frame_at v.ledger f).kind)) [
         | inl dies ↦
             let lt : f - node * size < size = omega arith in
@@ -181,34 +176,31 @@ none_left {v} {w} {node} h =
 pub lost : {v w : Mapped} {rows : List Row} (dup : DupRow) {node : ℕ} → FindsHeld v w rows dup node → HasLost v.keeper w.keeper
 lost {v} {rows = rows} dup h =
     let f = dup_frame v.frame rows dup.number in
-    let s = h.searched in
     let step = step_made h.freezes in
     let searched = searched_does _ h.finds.reaped in
-    let freezes = quiet_did (record { part = (Freeze f, step.0) ∷ []; after = step.1; are = refl }) (refl, tt) in
+    let base = (frame_at h.searched.ledger f).base in
     record {
       part = searched.0 ++ (Freeze f, step.0) ∷ [];
-      did = chained searched.1 freezes;
+      did = chained searched.1 (quiet_did (record { part = (Freeze f, step.0) ∷ []; after = step.1; are = refl })
+          (refl, tt));
       frame = f;
       found = step.0;
       tried = Contains-push _ (Freeze f, step.0);
       other = subst (λ (z : KeeperView). count_in step.0 ≢ (frame_at z.ledger f).base) (sym step.1)
-          (by _ f (count_in step.0) (count_in step.0 == (frame_at s.ledger f).base) refl (grind arith));
+          (by h.searched.ledger f (count_in step.0) (count_in step.0 == base) refl (grind arith));
     }
   where
     by : (k : Ledger) (f n : ℕ) (b : Bool) → b ≡ (n == (frame_at k f).base) → (frame_at (cond b (with_frame k f (frozen (frame_at k f))) k) f).kind ≡ Stable
         → n ≢ (frame_at (cond b (with_frame k f (frozen (frame_at k f))) k) f).base
-    by k f n true e stable = absurd (set_here (λ x. ¬ (x.kind ≡ Stable)) k.frames f (frozen (frame_at k f)) (λ is. grind arith) (λ is. grind arith) stable)
-    by k f n false e stable = λ same. grind arith
+    by k f n b e stable =
+        let here = set_here (λ x. ¬ (x.kind ≡ Stable)) k.frames f (frozen (frame_at k f)) (λ is. grind arith)
+        (λ is. grind arith) in
+        grind arith
 
 -- the lowest free frame of a node is so still where a stable one begins to die
 lowest_still : (sh : Shape) (k : Ledger) (node f g : ℕ) (b : Bool) → IsLowestFree sh k node g → (frame_at k f).kind ≡ Stable → IsLowestFree sh (cond b (with_frame k f (frozen (frame_at k f))) k) node g
-lowest_still sh k node f g false h stable = h
-lowest_still sh k node f g true h stable = record {
-  low = h.low;
-  high = h.high;
-  free = grind (arith, get_or-set_other);
-  least = λ i low lt. set_holds (λ x. free_kind x.kind ≡ false) k.frames f i (frozen (frame_at k f)) refl (h.least i low lt);
-}
+lowest_still sh k node f g b h stable =
+    grind (arith, get_or-set_other, set_holds (λ x. free_kind x.kind ≡ false) k.frames f)
 
 -- a step that is told is in the log, with what it found
 found_in : (part : Log) (step : KeeperStep) → Contains (steps_of part) step → (found : ℕ) × Contains part (step, found)
@@ -219,8 +211,7 @@ found_in (e ∷ part) step (suc i, lt, is) = let more = found_in part step (i, o
 -- a part of the log that is not empty ends as the log does
 ends_so : {X : Type 0} (xs part ys : List X) (e : X) → 1 ≤ length part → xs ++ part ≡ ys ++ e ∷ [] → Contains part e
 ends_so [] part ys e some same = rw same (Contains-push ys e)
-ends_so (x ∷ xs) part [] e some same =
-    (let lengths = ap length same in let both = length-append xs part in absurd (omega arith))
+ends_so (x ∷ xs) part [] e some same = absurd (omega (arith, ap length same, length-append xs part))
 ends_so (x ∷ xs) part (y ∷ ys) e some same = ends_so xs part ys e some (ap (drop 1) same)
 
 -- a dup that moved: a frame of the node was raised, and published at the dup's place
@@ -228,9 +219,8 @@ pub moved : (v w : Mapped) (rows : List Row) (dup : DupRow) (node : ℕ) → Mov
 moved v w rows dup node h =
     let f : ℕ = dup_frame v.frame rows dup.number in
     let g : ℕ = h.got in
-    let count : ℕ = item_count rows dup in
-    let end = replicate (count - 1) (Add g) ++ Publish dup.place g ∷ [] in
-    let stores = steps_of (puts g 0 dup.bytes) ++ Open g ∷ end in
+    let stores = steps_of (puts g 0 dup.bytes) ++ Open g ∷
+    (replicate (item_count rows dup - 1) (Add g) ++ Publish dup.place g ∷ []) in
     let rest = steps_of (loads f 0 dup.bytes) ++ stores in
     let reaps = map Reap (dying_on v.keeper.table.shape v.keeper.ledger node) in
     let searched = searched_does node h.finds.reaped in
@@ -238,12 +228,10 @@ moved v w rows dup node h =
     let lowest : IsLowestFree h.frozen.table.shape h.frozen.ledger node g = rw step.1
     (lowest_still h.searched.table.shape h.searched.ledger node f g (count_in step.0 == (frame_at h.searched.ledger f).base)
     (rw searched.1.table h.finds.lowest) h.stood) in
-    let mounts = raised_does lowest h.mounts
-    (grind (arith, quiet_both, quiet_loads, quiet_puts, quiet_adds)) in
+    let mounts = raised_does lowest h.mounts (grind (arith, quiet_both, quiet_loads, quiet_puts, quiet_adds)) in
     let does = does_then (does_then searched (quiet_does h.freezes (refl, tt))) mounts in
     let made = made_then h.finds.reaped (made_then h.freezes h.mounts) in
-    let told : steps_of does.0 ≡ reaps ++ (Freeze f ∷ Raise g ∷ rest) =
-    grind (arith, append_cancel_left) in
+    let told : steps_of does.0 ≡ reaps ++ (Freeze f ∷ Raise g ∷ rest) = grind (arith, append_cancel_left) in
     let raised = found_in does.0 (Raise g) (rw told (Contains-append_right reaps (Freeze f ∷ Raise g ∷ rest) (Raise g) (1, omega arith, refl))) in
     grind (arith, ends_so)
 

@@ -1,10 +1,10 @@
 -- The commands on single pages, carried out.
-use Rattle.ksm_book.proofs.Names.{[], absent_parts, All, Answer, ap, arith, BookValue, BookView, Bool, change_row, comes_before, Command, cond, Done, Drop, Err, false, filter, filter_passes, find_put}
-use Rattle.ksm_book.proofs.Names.{FindsNone, frame_at, Frames, frames_of, fresh_row, GuestPage, HasNewFrame, Held, Houses, IfErr, IfSome, if◌then◌else◌, InPageOrder, is_some, IsAlone, IsCarried}
-use Rattle.ksm_book.proofs.Names.{IsHeld, IsLaid, IsReadable, IsServed, IsSound, IsWritable, KeeperView, leaving, length, lies_on, List, lying, MakesSteps, map_fixed, MatchBool, MayLeave, MovePage}
-use Rattle.ksm_book.proofs.Names.{nat_le, NoFrame, None, not, Ok, on_its_own, Option, ordered_with, PAGE_WORDS, pages_ordered, PagesView, Performs, Placed, Provides, puts, refl, Register, Resettled}
-use Rattle.ksm_book.proofs.Names.{Resettles, Result, rewriting, Row, row_at, same_page, same_page_refl, shared_state, Some, sound_after, state_of, stepped, Store, stored, subst, sym, true, view_of}
-use Rattle.ksm_book.proofs.Names.{with_row, without_between, without_page, ℕ, ◌++◌, ◌<◌, ◌==◌, ◌∙◌, ◌∷◌, ◌≡◌}
+use Rattle.ksm_book.proofs.Names.{absent_parts, All, Answer, ap, arith, BookValue, BookView, Bool, change_row, comes_before, Command, Done, Drop, Err, false, filter, filter_passes, find_put}
+use Rattle.ksm_book.proofs.Names.{FindsNone, frame_at, frames_of, fresh_row, GuestPage, HasNewFrame, Held, Houses, IfErr, IfSome, if◌then◌else◌, InPageOrder, is_some, IsAlone, IsCarried, IsHeld}
+use Rattle.ksm_book.proofs.Names.{IsLaid, IsReadable, IsSound, IsWritable, KeeperView, leaving, length, lies_on, List, lying, MakesSteps, map_fixed, MatchBool, MayLeave, MovePage, nat_le, NoFrame}
+use Rattle.ksm_book.proofs.Names.{None, Ok, on_its_own, Option, ordered_with, PAGE_WORDS, pages_ordered, PagesView, Performs, Placed, Provides, puts, refl, Register, Resettled, Resettles, Result}
+use Rattle.ksm_book.proofs.Names.{rewriting, Row, row_at, same_page, same_page_refl, shared_state, Some, sound_after, state_of, stepped, Store, stored, true, view_of, with_row, without_between}
+use Rattle.ksm_book.proofs.Names.{without_page, ℕ, [], ◌<◌, ◌==◌, ◌∙◌, ◌∷◌, ◌≡◌}
 use Rattle.ksm_base.specs.declared.row.PageState.TheVariants.{Private}
 use Rattle.ksm_book.proofs.ByPage.{at_changed, change_twice, found_page, lies_again, lies_still, row_of_page}
 use Rattle.ksm_book.proofs.Laying.{come_there, laid_rows, served_at}
@@ -45,18 +45,13 @@ pub settled_then : {p m q : PagesView} {k l : KeeperView} {page : GuestPage} {no
     × Resettles (lying p k) (lying q l) row.page node bytes × IsLaid q l
 settled_then {p} {m} {q} {k} {l} {page} {node} {bytes} {row} h rise found r d change goes keeps to housed =
     let one = row_of_page _ _ row rise found in
-    let rows = change_twice _ _ d _ _ (λ x. refl)
-    (λ i x lt at. subst (λ y. d (on_its_own y) ≡ change y) (sym (one i x lt at)) to) in
-    let frame = ap (λ (x : PagesView). x.frame) goes in
-    let pages = goes ∙ (λ t. record (r.pages t) { rows = change_row page d (r.pages t).rows; restless = q.restless })
-    ∙ (λ t. record p { rows = rows t; frame = sym frame t; restless = q.restless }) in
-    let houses : Houses change page node bytes p.rows = record {
-      pages = keeps;
-      row = rw found housed;
-    } in (
+    let rows = change_twice page on_its_own d change p.rows (λ x. refl)
+    (λ i x lt at. grind (arith, one i x lt at, to)) in
+    let pages : q ≡ record p { rows = change_row page change p.rows; frame = q.frame; restless = q.restless } =
+    grind (arith, goes, r.pages) in
+    let houses : Houses change page node bytes p.rows = record { pages = keeps; row = rw found housed } in (
       pages,
-      subst (λ (z : Frames × GuestPage). Resettles (lying p k) (record { frame = z.0; keeper = l }) z.1 node bytes)
-          (grind (arith, found_page)) r.resettles,
+      grind (arith, found_page page p.rows row found, r.resettles, goes),
       rw pages (grind arith),
     )
 
@@ -69,16 +64,12 @@ module _ {p : PagesView} {k : KeeperView} (h : IsLaid p k) (page : GuestPage) (r
   -- it may be read, and has the page's bytes
   pub may_read : (g : ℕ) → p.frame page ≡ Some g
       → (g < frames_of k.table.shape) × IsReadable (frame_at k.ledger g).kind × (length (frame_at k.ledger g).content ≡ PAGE_WORDS) × ((frame_at k.ledger g).content ≡ row.bytes)
-  may_read g lies =
-      let served = subst (IsServed p.shape k.ledger p.dups row) lies (served_at h.placed _ row found) in
-      grind arith
+  may_read g lies = grind (arith, rw lies at (served_at h.placed page row found))
 
   -- it may be stored to, where it is the page's own
   pub own_ready : shared_state row.state ≡ false → (g : ℕ) → p.frame page ≡ Some g
       → (g < frames_of k.table.shape) × (g < length k.ledger.frames) × IsWritable (frame_at k.ledger g).kind × (length (frame_at k.ledger g).content ≡ PAGE_WORDS)
-  own_ready alone g lies =
-      let served = subst (IsServed p.shape k.ledger p.dups row) lies (served_at h.placed _ row found) in
-      grind arith
+  own_ready alone g lies = grind (arith, may_read g lies, rw lies at (served_at h.placed page row found))
 
 -- what is true anyway is true of each error of a result
 pub if_err : {T E : Type 0} (r : Result T E) (P : Type 0) → P → IfErr r (λ _. P)
@@ -88,8 +79,7 @@ if_err (Err e) P h = h
 -- the row of a page that was resettled is found with a frame of its own
 pub found_resettled : {p m : PagesView} {k l : KeeperView} {page : GuestPage} {node : ℕ} {bytes : List ℕ} {row : Row}
     → Resettled p m k l page node bytes → row_at page p.rows ≡ Some row → row_at page m.rows ≡ Some (on_its_own row)
-found_resettled r found =
-    rw r.pages (grind (arith, at_changed))
+found_resettled r found = grind (arith, r.pages, at_changed)
 
 -- ---------------------------------------------------------------- a store
 
@@ -111,8 +101,7 @@ module _ (p : PagesView) (k l : KeeperView) (cursor : Option GuestPage) (passes 
       → q ≡ record m { rows = change_row page (stored bytes) m.rows; restless = q.restless } → shared_state row.state ≡ true
       → Carries p k q l cursor passes (Store page bytes) (Ok Done)
   store_copied m q h rise r goes shared =
-      let s = settled_then h rise found r _ (stored bytes) goes (λ x. refl) refl (refl, refl, refl) in
-      grind arith
+      grind (arith, settled_then h rise found r _ (stored bytes) goes (λ x. refl) refl (refl, refl, refl))
 
 -- ---------------------------------------------------------------- a move to another node
 
@@ -120,13 +109,9 @@ module _ (p : PagesView) (k l : KeeperView) (cursor : Option GuestPage) (passes 
 pub change_still : (page : GuestPage) (f : Row → Row) (rows : List Row) → All (λ r. same_page r.page page ≡ true → f r ≡ r) rows → change_row page f rows ≡ rows
 change_still page f rows still = grind (arith, map_fixed)
 
--- a node that is there is not told as none
-pub there_is : (nodes node : ℕ) → node < nodes → nat_le nodes node ≡ false
-there_is nodes node less = grind arith
-
 module _ (p : PagesView) (k : KeeperView) (cursor : Option GuestPage) (passes : ℕ) (page : GuestPage) (node : ℕ) (row : Row) (rise : InPageOrder p.rows) (found : row_at page p.rows ≡ Some row) (less : node < p.shape.nodes) where
   there : nat_le p.shape.nodes node ≡ false
-  there = there_is _ _ less
+  there = grind (arith, less)
 
   -- `MovePage` to the node where the page is at home is carried out with nothing changed
   pub move_home : row.home ≡ node → IsCarried (book p k cursor passes) (book p k cursor passes) (MovePage page node) (Ok Done)
@@ -137,18 +122,10 @@ module _ (p : PagesView) (k : KeeperView) (cursor : Option GuestPage) (passes : 
     pub move_moved : (m q : PagesView) → IsLaid p k → Resettled p m k l page node row.bytes → q ≡ record m { rows = change_row page (λ r. record r { home = node }) m.rows; restless = q.restless }
         → Carries p k q l cursor passes (MovePage page node) (Ok Done)
     move_moved m q h r goes =
-        let to = ap (λ (x : Bool). if x then row else record row { home = node; state = Private }) away in
-        let s = settled_then h rise found r _ _ goes
-        (grind arith)
-        (sym to) (rw to, rw to, rw to) in (
-          record {
-            own = table;
-            answer = rw (there, found) tt;
-            state = ap (λ x. state_of x cursor passes) s.0;
-            steps = rw (found, away) s.1;
-          },
-          s.2,
-        )
+        let s = settled_then h rise found r _
+        (λ x. if x.home == node then x else record x { home = node; state = Private }) goes
+        (grind arith) (grind (arith, away)) (grind (arith, away)) in
+        (grind (arith, there, away, s.0, s.1), s.2)
 
 -- ---------------------------------------------------------------- a page that goes
 
@@ -165,10 +142,10 @@ module _ {p : PagesView} {k : KeeperView} (h : IsLaid p k) (rise : InPageOrder p
   pub drop_gone : (cursor : Option GuestPage) (passes : ℕ) (q : PagesView) (l : KeeperView) → q ≡ record p { rows = without_page page p.rows; frame = lies_on page None p.frame } → MakesSteps k l (leaving left)
       → Carries p k q l cursor passes (Drop page) (Ok Done)
   drop_gone cursor passes q l goes made =
-      let table = ap (λ (z : KeeperView). z.table) made.after in
-      let leaves = subst (λ o. MakesSteps k l (leaving o)) was made in (
-        grind arith,
-        rw goes (laid_rows h l table (left_spends _ leaves) (left_placed _ leaves gone_hand)),
+      let leaves = rw was at made in (
+        grind (arith, made.after),
+        rw goes
+            (laid_rows h l (grind (arith, made.after)) (left_spends _ leaves) (left_placed _ leaves gone_hand)),
       )
 
 -- ---------------------------------------------------------------- a page that comes
@@ -176,16 +153,10 @@ module _ {p : PagesView} {k : KeeperView} (h : IsLaid p k) (rise : InPageOrder p
 -- a row that came and goes leaves the rows as they were
 without_come : (row : Row) (rows : List Row) → InPageOrder rows → row_at row.page rows ≡ None → without_page row.page (with_row row rows) ≡ rows
 without_come row rows rise absent =
-    let low = filter (λ r. comes_before r.page row.page) rows in
-    let high = filter (λ r. comes_before row.page r.page) rows in
-    without_between pages_ordered (λ (r : Row). r.page) row.page low (row ∷ []) high (filter_passes _ rows) (filter_passes _ rows)
-    ∙ ap (λ b. low ++ (cond (not b) (row ∷ []) [] ++ high)) (same_page_refl row.page)
-    ∙ sym (absent_parts pages_ordered (λ (r : Row). r.page) row.page _ rise absent)
-
--- `Register` of a page without a row is refused with nothing changed, where a search for a frame finds none by no step
-pub register_refused : (p : PagesView) {k : KeeperView} {cursor : Option GuestPage} {passes : ℕ} {page : GuestPage} {node : ℕ} {bytes : List ℕ} → node < p.shape.nodes → row_at page p.rows ≡ None
-    → FindsNone k k node → IsCarried (book p k cursor passes) (book p k cursor passes) (Register page node bytes) (Err (NoFrame node))
-register_refused p less absent searched = grind arith
+    let out = without_between pages_ordered (λ (r : Row). r.page) row.page
+    (filter (λ r. comes_before r.page row.page) rows) (row ∷ []) (filter (λ r. comes_before row.page r.page) rows)
+    (filter_passes _ rows) (filter_passes _ rows) in
+    grind (arith, same_page_refl row.page, absent_parts pages_ordered (λ (r : Row). r.page) row.page rows rise absent)
 
 -- a page comes, at home on a node, with these bytes
 pub record HasCome (p m : PagesView) (page : GuestPage) (node : ℕ) (bytes : List ℕ) : Type 0 where
@@ -215,10 +186,14 @@ module _ {p m : PagesView} {page : GuestPage} {node : ℕ} {bytes : List ℕ} (n
   register_come {k = k} {l = l} h cursor passes q {g} goes provides taken =
       let table = (provides_does provides).1.table in
       let one = row_of_page _ _ _ (ordered_with _ _ new.rise) found_fresh in
-      let rows = change_still _ _ _ (grind arith) in
-      let frame = ap (lies_on page (Some g)) new.others ∙ lies_again _ _ _ _ in
-      let there = goes ∙ (λ t. record (new.comes t) { rows = change_row page on_its_own (new.comes t).rows; frame = lies_on page (Some g) m.frame; restless = q.restless })
-      ∙ (λ t. record p { rows = rows t; frame = frame t; restless = q.restless }) in (
+      let rows = change_still page on_its_own (with_row fresh p.rows) (grind arith) in
+      let there : q ≡ record p {
+        rows = with_row fresh p.rows;
+        frame = lies_on page (Some g) p.frame;
+        restless =
+            q.restless;
+      } =
+      grind (arith, goes, new.comes, new.others, lies_again) in (
         grind arith,
         rw there (laid_rows h l table taken.spent (come_there h.same taken h.placed _ new.absent refl refl refl)),
       )

@@ -1,10 +1,6 @@
 -- The dying frames of a range, one after another.
-use Rattle.ksm_book.proofs.Names.{[], ap, append-nil, arith, Bool, Dying, dying_from, dying_kind, false, filter-append, frame_at, Kind, Ledger, NoneOf, range_with_len, suc, true, zero, ℕ, ◌++◌, ◌+◌}
-use Rattle.ksm_book.proofs.Names.{◌-◌, ◌<◌, ◌∙◌, ◌∷◌, ◌≡◌, ◌≤◌, if◌then◌else◌}
-
--- a kind that tests as dying is Dying
-pub is_dying_kind : {x : Kind} → dying_kind x ≡ true → x ≡ Dying
-is_dying_kind e = grind arith
+use Rattle.ksm_book.proofs.Names.{ap, append-nil, arith, Bool, dying_from, dying_kind, false, filter-append, frame_at, if◌then◌else◌, Ledger, NoneOf, range_with_len, suc, true, zero, ℕ, [], ◌++◌, ◌+◌}
+use Rattle.ksm_book.proofs.Names.{◌-◌, ◌<◌, ◌∷◌, ◌≡◌, ◌≤◌}
 
 -- one frame more is looked at
 range_more : (low n : ℕ) → range_with_len low (n + 1) ≡ range_with_len low n ++ (low + n) ∷ []
@@ -22,8 +18,7 @@ module _ (k : Ledger) (low : ℕ) where
   dying_past n zero none = ap (dying_from k low) (omega arith)
   dying_past n (suc m) none =
       let e : n + suc m ≡ n + m + 1 = omega arith in
-      ap (dying_from k low) e ∙ dying_more _ false (grind arith) ∙ append-nil (dying_from k low (n + m))
-      ∙ dying_past n m (λ f ge lt. none f ge (omega arith))
+      grind (arith, dying_more (n + m) false, append-nil, dying_past n m (λ f ge lt. none f ge (omega arith)))
 
   -- those before a place were reaped, and those from there on are as they were
   module _ (k' : Ledger) (from : ℕ) (onward : low ≤ from) (later : (f : ℕ) → from ≤ f → frame_at k' f ≡ frame_at k f) where
@@ -31,12 +26,12 @@ module _ (k : Ledger) (low : ℕ) where
     pub passed : (to : ℕ) → from ≤ to → NoneOf dying_kind k' from to → dying_from k low (to - low) ≡ dying_from k low (from - low)
     passed to further none =
         let e : to - low ≡ from - low + (to - from) = omega arith in
-        grind (arith, e, dying_past)
+        grind (arith, dying_past)
 
     -- where the next dying frame is `to`, the dying frames up to it are those up to `from`, and then it
     pub next_reaped : (to : ℕ) → from ≤ to → NoneOf dying_kind k' from to → dying_kind (frame_at k' to).kind ≡ true
         → dying_from k low (to + 1 - low) ≡ dying_from k low (from - low) ++ to ∷ []
     next_reaped to further none there =
         let at : low + (to - low) ≡ to = omega arith in
-        ap (dying_from k low) (omega arith) ∙ dying_more _ true (grind (arith, there))
-        ∙ (λ i. passed to further none i ++ at i ∷ [])
+        let more : to + 1 - low ≡ to - low + 1 = omega arith in
+        grind (arith, passed to further none, dying_more (to - low) true)

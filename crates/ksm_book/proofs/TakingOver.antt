@@ -85,8 +85,7 @@ module _ (v m w : BookValue) {page other : GuestPage} (at : Takes v.state page o
   -- where that visit was refused, nothing changed but which rows from the page on wait
   pub taken_refused : Comes m w (λ s. s) → StaysBefore page v w
   taken_refused none = λ from s before.
-      let reached = none from (once_freed other s) (first from s before) in
-      (
+      let reached = none from (once_freed other s) (first from s before) in (
         ap (hidden_from page) reached.0 ∙ veiled_over (λ q. not (comes_before q page)) s.0 (λ r. same_page r.page other)
             (λ k d lt same. rw (same_page_eq _ other same) (ap not (not_both page other (later at)))),
         reached.1,

@@ -16,10 +16,6 @@ pub record DueView : Type 0 where
   pub known : Bool
   pub ready : Bool
 
--- the book as it is where no row of these pages waits
-abbrev pub hidden : List GuestPage → BookState → BookState
-hidden pages b = record b { rows = change_rows (λ r. has_item r.page pages) settled b.rows }
-
 -- a row that waits would wait again: its bytes have stayed, they do not merge with the zero page, and no dup is there that
 -- it may join
 abbrev pub waits_on : BookState → Row → Bool

@@ -1,11 +1,11 @@
 -- Visits as a fold over pages: which pages a pass still visits, and what the visit of each does to the book and beside
 -- it (own).
-use Rattle.std.specs.Prelude.{◌≡◌, ℕ, zero, suc, Bool, true, false, List, [], ◌∷◌, fold, map, Option, Some, None, if◌then◌else◌}
+use Rattle.std.specs.Prelude.{◌≡◌, ℕ, zero, suc, Bool, true, false, List, fold, map, Option, Some, None, if◌then◌else◌}
 use Rattle.ksm_base.specs.declared.page.GuestPage.{GuestPage}
 use Rattle.ksm_base.specs.declared.row.Row.{Row}
 use Rattle.ksm_base.specs.Rows.{row_at, settled, shared_state}
-use Rattle.ksm_base.specs.State.{BookState, pass_ended}
-use Rattle.ksm_pages.specs.Ahead.{last_of, mergeable_pages, pages_behind}
+use Rattle.ksm_base.specs.State.{BookState}
+use Rattle.ksm_pages.specs.Ahead.{mergeable_pages, pages_behind}
 use Rattle.ksm_pages.specs.Paged.{is_restless}
 use Rattle.ksm_base.specs.Visit.{next_row, row_visited, visit_begun, visit_ended}
 
@@ -56,11 +56,6 @@ visits_beside step zero s = s
 visits_beside step (suc n) s =
     let t = begun (visits_beside step n s) in
     next_visited step t (next_row t.0.cursor t.0.rows)
-
--- where a pass stands behind its visits of some pages: at the last of them, or where none is left at its end
-abbrev pub pass_at : {X : Type 0} → List GuestPage → List GuestPage → BookState × X → BookState × X
-pass_at done [] s = (pass_ended s.0, s.1)
-pass_at done (page ∷ left) s = (record s.0 { cursor = last_of s.0.cursor done }, s.1)
 
 -- nothing changed but which rows wait, and nothing was done beside
 pub record IsStill {X : Type 0} (old new : BookState × X) : Type 0 where

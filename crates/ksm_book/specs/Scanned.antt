@@ -14,6 +14,7 @@ use Rattle.ksm_rmap.specs.Items.{AreAscending, has_item}
 use Rattle.ksm_book.specs.Commands.{Deed, Performs, row_visiting, then_doing}
 use Rattle.ksm_book.specs.Whole.{BookValue, BookView, mapped, view_of}
 use Rattle.ksm_book.specs.Folded.{IsStill, begun, pages_ahead, pages_visited, restless_at, visits_beside}
+use Rattle.ksm_pages.specs.Ahead.{mergeable_pages, pages_between}
 use Rattle.ksm_pages.specs.declared.ahead.Ahead.{Ahead}
 use Rattle.ksm_pages.specs.declared.ahead.Ahead.TheVariants.{At, End}
 use Rattle.ksm_book.specs.declared.visiting.Visited.{Visited}
@@ -81,7 +82,7 @@ ahead_up_to last b = filter (up_to last) (pages_ahead b)
 
 -- the pages ahead that come before one
 abbrev pub ahead_before : GuestPage → BookState → List GuestPage
-ahead_before page b = filter (λ p. comes_before p page) (pages_ahead b)
+ahead_before page b = pages_between b.cursor page (mergeable_pages b.rows)
 
 -- so many passes have ended; the count stays at the greatest number of 64 bits
 abbrev pub passes_ended : ℕ → BookState → BookState

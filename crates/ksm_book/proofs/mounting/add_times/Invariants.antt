@@ -1,4 +1,4 @@
-use Rattle.ksm_book.proofs.Names.{Add, frame_at, MakesSteps, replicate, ◌+◌, ◌≡◌, with_frame, with_more}
+use Rattle.ksm_book.proofs.Names.{Add, frame_at, MakesSteps, replicate, with_frame, with_more, ◌+◌, ◌≡◌}
 use Rattle.ksm_book.proofs.mounting.add_times.Given as goal
 
 abbrev pub invariant-loop-done : goal.invariant-loop-done

@@ -1,5 +1,5 @@
-use Rattle.ksm_book.proofs.Names.{◌∙◌, ap, arith, KeeperView, frame_at, holding, opened, raised, shown, set, Some, Stable, with_more, ◌+◌, ◌-◌, ◌≡◌}
-use Rattle.ksm_book.proofs.Filling.{mounts, words_kept, again, at_again, follow}
+use Rattle.ksm_book.proofs.Names.{ap, arith, frame_at, holding, KeeperView, opened, raised, set, shown, Some, Stable, with_more, ◌+◌, ◌-◌, ◌∙◌, ◌≡◌}
+use Rattle.ksm_book.proofs.Filling.{again, at_again, follow, mounts, words_kept}
 use Rattle.ksm_book.proofs.mounting.mount.Goals as goal
 
 pub returns-clause-made : goal.returns-clause-made

@@ -1,4 +1,4 @@
-use Rattle.ksm_book.proofs.Names.{[], Add, Publish, Sub, ◌∷◌}
+use Rattle.ksm_book.proofs.Names.{Add, Publish, Sub, [], ◌∷◌}
 use Rattle.ksm_book.proofs.Examples.{all_joined}
 use Rattle.ksm_book.proofs.worked.steps_of_visits.Goals as goal
 

@@ -1,5 +1,5 @@
 use Rattle.ksm_book.proofs.Names.{ap, seen, view_of}
-use Rattle.ksm_book.proofs.RowVisits.{Leads, has_room, joined_leads, made_by, may_add, may_sub, meets}
+use Rattle.ksm_book.proofs.RowVisits.{has_room, joined_leads, Leads, made_by, may_add, may_sub, meets}
 use Rattle.ksm_book.proofs.state.State.join.Goals as goal
 
 pub join-requires-clause-room : goal.join-requires-clause-room

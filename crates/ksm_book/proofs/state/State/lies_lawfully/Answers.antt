@@ -1,5 +1,5 @@
-use Rattle.ksm_book.proofs.Names.{seen, state_of, arith}
-use Rattle.ksm_book.proofs.Promised.{lie_on, finds_place}
+use Rattle.ksm_book.proofs.Names.{arith, seen, state_of}
+use Rattle.ksm_book.proofs.Promised.{finds_place, lie_on}
 use Rattle.ksm_book.proofs.Sharing.{spent_most}
 use Rattle.ksm_book.proofs.state.State.lies_lawfully.Goals as goal
 

@@ -1,6 +1,6 @@
 use Rattle.ksm_book.proofs.Names.{ap, Done, MovePage, ne_eqb, Ok, option_map, refl, Resettled, same_Some, seen, subst, sym, view_of, ◌∙◌}
 use Rattle.ksm_book.proofs.Shown.{resettles_own}
-use Rattle.ksm_book.proofs.Singles.{carried_so, move_home, move_moved, sound_carried, row_held, Carries, found_resettled}
+use Rattle.ksm_book.proofs.Singles.{carried_so, Carries, found_resettled, move_home, move_moved, row_held, sound_carried}
 use Rattle.ksm_book.proofs.state.State.move_page.Goals as goal
 
 pub returns-then-held-node : goal.returns-then-held-node

@@ -1,4 +1,4 @@
-use Rattle.ksm_book.proofs.Names.{arith, BookView, length, mergeable_pages, None, refl, subst, sym, ◌∙◌, ◌≡◌, ◌≤◌}
+use Rattle.ksm_book.proofs.Names.{arith, None, refl, ◌≡◌}
 use Rattle.ksm_book.proofs.ScanCarried.{any_none, scanned, visits_carried}
 use Rattle.ksm_book.proofs.state.State.scan.Goals as goal
 use Rattle.ksm_book.proofs.state.State.scan.Goals.{After-count_mergeable}
@@ -9,18 +9,14 @@ running c = rw (← c.self.view_is, ← c.knobs.ensures) c.if-knobs-ne1.false
 pub returns-then-count_mergeable-eq0-clause-carried : goal.returns-then-count_mergeable-eq0-clause-carried
 returns-then-count_mergeable-eq0-clause-carried c =
     let v = c.args.self.now in
-    let none = any_none v.state.rows (sym c.count_mergeable.ensures ∙ c.if-count_mergeable-eq0.true) in
+    let none = any_none v.state.rows (grind arith) in
     scanned v v _ (running ((goal.at.returns-then-count_mergeable-eq0-clause-carried c).After-count_mergeable)) refl 0 None
-    (grind (arith, none)) (λ from s before. before)
+    (grind arith) (λ from s before. before)
 
 pub returns-clause-carried : goal.returns-clause-carried
 returns-clause-carried c =
-    let view = c.list_restless.ensures.view in
-    let some = subst (λ (v : BookView). 1 ≤ length (mergeable_pages v.state.rows)) (sym view) (omega arith) in
-    rw (← view)
-    (visits_carried _ _ _
-    (grind (arith, view, running ((goal.at.returns-clause-carried c).After-count_mergeable))) c.visits.ensures.own
-    _ some c.visits.ensures.scanned)
+    let runs = running ((goal.at.returns-clause-carried c).After-count_mergeable) in
+    grind (arith, c.list_restless.ensures.view, visits_carried)
 
 pub visits-requires-clause-due : goal.visits-requires-clause-due
 visits-requires-clause-due c = λ known. grind (arith, c.list_restless.ensures.view, c.requires.due known)

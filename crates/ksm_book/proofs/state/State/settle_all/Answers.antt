@@ -1,4 +1,4 @@
-use Rattle.ksm_book.proofs.Names.{get_or, IsSound, refl, sound_none_waiting, subst, sym, arith}
+use Rattle.ksm_book.proofs.Names.{arith, get_or, IsSound, refl, sound_none_waiting, subst, sym}
 use Rattle.ksm_book.proofs.Laying.{laid_mapped}
 use Rattle.ksm_book.proofs.Sharing.{settled_lodges}
 use Rattle.ksm_book.proofs.state.State.settle_all.Goals as goal

@@ -1,4 +1,4 @@
-use Rattle.ksm_book.proofs.Names.{true, ap, BookValue, FindsAt, IsDueNoMore, refl, seen, state_of, subst, view_of, ◌≡◌}
+use Rattle.ksm_book.proofs.Names.{ap, arith, BookValue, FindsAt, IsDueNoMore, refl, seen, state_of, subst, true, view_of, ◌≡◌}
 use Rattle.std.specs.Prelude.{IfOk}
 use Rattle.ksm_book.specs.Scanned.{is_quiet}
 use Rattle.ksm_pages.specs.declared.pages.Find.TheVariants as finds
@@ -7,7 +7,7 @@ use Rattle.ksm_book.proofs.DueVisits.{gone_due, waits_due}
 use Rattle.ksm_book.proofs.PageVisits.{finds_it, waits_leads, waits_quiet}
 use Rattle.ksm_book.proofs.RowVisits.{Meets}
 use Rattle.ksm_book.proofs.state.State.visit.Goals as goal
-use Rattle.ksm_book.proofs.state.State.visit.Goals.{In-Waits, After-visit_any}
+use Rattle.ksm_book.proofs.state.State.visit.Goals.{After-visit_any, In-Waits}
 
 -- the page waits
 met : (c : In-Waits) → Meets (λ _ r. FindsAt (seen c.self.inside.pages) (seen c.glance.new.self) r finds.Waits) (seen c.self.inside.pages) c.self.inside.keeper
@@ -18,8 +18,8 @@ pub invariant_of-self-in-Waits : goal.invariant_of-self-in-Waits
 invariant_of-self-in-Waits c = (waits_leads (met (goal.at.invariant_of-self-in-Waits c).In-Waits)).lawful
 
 pub returns-in-Waits-clause-quiet : goal.returns-in-Waits-clause-quiet
-returns-in-Waits-clause-quiet c = λ _ from s before.
-    rw (← before.0) (waits_quiet (met (goal.at.returns-in-Waits-clause-quiet c).In-Waits) s.1)
+returns-in-Waits-clause-quiet c =
+    λ _ from s before. grind (arith, waits_quiet (met (goal.at.returns-in-Waits-clause-quiet c).In-Waits) s.1, before.0)
 
 -- where a glance tells nothing, the book is as it was
 as_before : (c : After-visit_any) → the_view (record c.self.inside { pages = c.glance.new.self }) ≡ c.args.self.now

@@ -1,4 +1,4 @@
-use Rattle.ksm_book.proofs.Names.{ap, BookValue, Find, FindsAt, IsDueNoMore, seen, state_of, subst, view_of, ◌≡◌, arith}
+use Rattle.ksm_book.proofs.Names.{ap, arith, BookValue, Find, FindsAt, IsDueNoMore, seen, state_of, subst, view_of, ◌≡◌}
 use Rattle.ksm_pages.specs.declared.pages.Find.TheVariants as finds
 use Rattle.ksm_pages.specs.Paged.{Finds}
 use Rattle.ksm_book.proofs.DueVisits.{gone_due, waits_due}
@@ -21,18 +21,17 @@ invariant_of-self-in-Changed c = (changed_leads (met_by ((goal.at.invariant_of-s
 
 pub invariant_of-self-in-Dup : goal.invariant_of-self-in-Dup
 invariant_of-self-in-Dup c =
-    let met = met_by ((goal.at.invariant_of-self-in-Dup c).In_ok-found) _ (λ e. cc) c.in-Dup.is in
-    grind (arith, met.so.2, c.self.invariant, c.self.inside)
+    grind (arith, met_by ((goal.at.invariant_of-self-in-Dup c).In_ok-found) _ (λ e. cc) c.in-Dup.is)
 
 pub invariant_of-self-in-Partner : goal.invariant_of-self-in-Partner
 invariant_of-self-in-Partner c =
-    let met = met_by ((goal.at.invariant_of-self-in-Partner c).In_ok-found) _ (λ e. cc) c.in-Partner.is in
-    grind (arith, met.so.5, c.self.invariant, c.self.inside)
+    grind (arith, met_by ((goal.at.invariant_of-self-in-Partner c).In_ok-found) _ (λ e. cc) c.in-Partner.is)
 
 pub returns-in-Waits-clause-quiet : goal.returns-in-Waits-clause-quiet
 returns-in-Waits-clause-quiet c = λ _ from s before.
-    let met = met_by ((goal.at.returns-in-Waits-clause-quiet c).In_ok-found) _ (λ e. cc) c.in-Waits.is in
-    rw (← before.0) (waits_quiet met s.1)
+    let quiet =
+    waits_quiet (met_by ((goal.at.returns-in-Waits-clause-quiet c).In_ok-found) _ (λ e. cc) c.in-Waits.is) s.1 in
+    grind (arith, before.0)
 
 pub returns-in_ok-join-in-Dup-clause-comes : goal.returns-in_ok-join-in-Dup-clause-comes
 returns-in_ok-join-in-Dup-clause-comes c =

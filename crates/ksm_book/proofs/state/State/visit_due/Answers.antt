@@ -69,8 +69,12 @@ invariant_of-self-else-comes_before c =
 pub take_over-requires-clause-takes : goal.take_over-requires-clause-takes
 take_over-requires-clause-takes c =
     let at = (goal.at.take_over-requires-clause-takes c).In_ok-visit in
-    grind (arith, same at (ap is_still c.in-Partner.is), partner_takes c.in-Partner.other
-    (met_by at _ (λ e. cc) c.in-Partner.is) (sym c.comes_before.ensures ∙ c.if-comes_before.false))
+    grind (
+      arith,
+      same at (ap is_still c.in-Partner.is),
+      partner_takes c.in-Partner.other
+          (met_by at _ (λ e. cc) c.in-Partner.is) (sym c.comes_before.ensures ∙ c.if-comes_before.false),
+    )
 
 pub returns-in_err-take_over-in-Partner-2-clause-refused : goal.returns-in_err-take_over-in-Partner-2-clause-refused
 returns-in_err-take_over-in-Partner-2-clause-refused c =
@@ -135,4 +139,4 @@ pub returns-in_ok-take_over-in-Partner-2-clause-comes : goal.returns-in_ok-take_
 returns-in_ok-take_over-in-Partner-2-clause-comes c =
     let at = (goal.at.returns-in_ok-take_over-in-Partner-2-clause-comes c).In_ok-visit in
     comes_as c.args.self.now (the_view (record c.self.inside { pages = c.visit.new.self })) c.take_over.new.self
-    (looks_still at (ap is_still c.in-Partner.is))     c.in_ok-take_over-in-Partner-2.ensures.comes
+    (looks_still at (ap is_still c.in-Partner.is)) c.in_ok-take_over-in-Partner-2.ensures.comes

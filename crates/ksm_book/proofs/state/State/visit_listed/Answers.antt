@@ -1,5 +1,5 @@
-use Rattle.ksm_book.proofs.Names.{and_parts, ap, arith, rules, BookState, Deed, doing, drop, drop_more, from_to, get_or_from_slice_get, GuestPage, IsStill, Listing, pages_visited, Reached, slice_get}
-use Rattle.ksm_book.proofs.Names.{slice_get_within, subst, sym, ◌+◌, ◌∙◌, ◌∷◌, ◌≡◌}
+use Rattle.ksm_book.proofs.Names.{and_parts, ap, arith, BookState, Deed, doing, drop_more, from_to, get_or_from_slice_get, IsStill, pages_visited, Reached, rules, slice_get, slice_get_within, Some}
+use Rattle.ksm_book.proofs.Names.{subst, sym, ◌∙◌, ◌≡◌}
 use Rattle.ksm_book.proofs.Folded.{still_on, visited_more}
 use Rattle.ksm_book.proofs.PagesAhead.{from_to_end, from_to_more}
 use Rattle.ksm_book.proofs.state.State.visit_listed.Goals as goal
@@ -9,7 +9,8 @@ loop-at-preserved c =
     let all = c.args.self.now.restless.pages in
     let pages = from_to c.args.first c.loop-at.at all in
     let page = c.listed_at-spot.result.page in
-    let stands = ap (λ (l : Listing). slice_get l.pages c.loop-at.at) (sym c.loop-at.invariant.1) ∙ c.listed_at-spot.ensures in
+    let stands : slice_get all c.loop-at.at ≡ Some page =
+    grind (arith, c.loop-at.invariant.1, c.listed_at-spot.ensures) in
     let more = from_to_more all _ _ _ c.loop-at.auto.at stands in
     let visit = λ (s : BookState × Deed). sym (visited_more doing pages s page) ∙ ap (pages_visited doing s) (sym more) in (
       omega arith,
@@ -24,9 +25,9 @@ loop-at-preserved c =
       c.visit.ensures.own ∙ c.loop-at.invariant.4,
       λ quiet was.
           let both = and_parts _ _ (sym c.and-made.ensures ∙ quiet) in
-          let cut = drop_more all _ page (slice_get_within all _ _ stands)
-          ∙ ap (λ (p : GuestPage). p ∷ drop (c.loop-at.at + 1) all) (get_or_from_slice_get all _ _ _ stands) in
-          c.in-Ok.ensures.due both.1 _ (grind (arith, cut, c.loop-at.invariant.5 both.0 was)),
+          let here = get_or_from_slice_get all c.loop-at.at page page stands in
+          let due = c.in-Ok.ensures.due both.1 in
+          grind (arith, drop_more all c.loop-at.at page, slice_get_within, c.loop-at.invariant.5 both.0 was),
     )
 
 -- the pages between, once the loop is over
@@ -41,14 +42,12 @@ returns-clause-visited c = record {
 }
 
 pub returns-in-Err-clause-stopped : goal.returns-in-Err-clause-stopped
-returns-in-Err-clause-stopped c =
-    let done = from_to c.args.first c.loop-at.at c.args.self.now.restless.pages in
-    record {
-      low = c.loop-at.auto.at;
-      high = omega arith;
-      comes = λ from s before. c.in-Err.ensures.refused from _ (c.loop-at.invariant.2 from s before);
-      restless = search rules;
-    }
+returns-in-Err-clause-stopped c = record {
+  low = c.loop-at.auto.at;
+  high = omega arith;
+  comes = λ from s before. c.in-Err.ensures.refused from _ (c.loop-at.invariant.2 from s before);
+  restless = search rules;
+}
 
 pub returns-clause-due : goal.returns-clause-due
 returns-clause-due c = grind arith

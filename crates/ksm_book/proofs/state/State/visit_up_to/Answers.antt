@@ -1,10 +1,10 @@
-use Rattle.ksm_book.proofs.Names.{[], after_cursor, ap, AreDue, arith, BookState, Bool, Deed, doing, drop, filter, filter_all, filter_none, from_to, GuestPage, IsStill, length, length-take-le, List}
-use Rattle.ksm_book.proofs.Names.{None, not, pages_ahead, pages_visited, Reached, refl, restless_at, slice_get, slice_get_within, Some, subst, sym, true, up_to, ℕ, ◌∙◌, ◌∷◌, ◌≡◌}
+use Rattle.ksm_book.proofs.Names.{after_cursor, ap, AreDue, arith, BookState, Bool, Deed, doing, drop, filter, filter_all, filter_none, from_to, GuestPage, length, length-take-le, List, None, not}
+use Rattle.ksm_book.proofs.Names.{pages_ahead, pages_visited, Reached, refl, restless_at, slice_get, slice_get_within, Some, subst, sym, true, up_to, ℕ, [], ◌∙◌, ◌∷◌, ◌≡◌}
 use Rattle.ksm_book.proofs.DueVisits.{listed_due}
 use Rattle.ksm_book.proofs.Folded.{pages_go}
-use Rattle.ksm_book.proofs.PagesAhead.{GoesDown, before_down, place_splits, up_to_down}
+use Rattle.ksm_book.proofs.PagesAhead.{before_down, GoesDown, place_splits, up_to_down}
 use Rattle.ksm_book.proofs.Reached.{comes_to, first}
-use Rattle.ksm_book.proofs.Scanned.{part_ahead, part_visited, was_restless}
+use Rattle.ksm_book.proofs.Scanned.{part_ahead, part_visited}
 use Rattle.ksm_book.proofs.state.State.visit_up_to.Goals as goal
 use Rattle.ksm_book.proofs.state.State.visit_up_to.Goals.{After-listed_at, After-visit_listed}
 
@@ -23,9 +23,9 @@ returns-in-Ok-clause-visited c =
     (up_to_down _) _ c.listed_to-end.ensures.many in
     record {
       comes = λ from s before.
-          subst (Reached from c.drop_over.new.self) (same s before.0)
+          rw (same s before.0) at
           (c.drop_over.ensures.comes from _ (c.in-Ok.ensures.visited.comes from s before));
-      still = λ quiet from s before. subst (IsStill s) (same s before.0) (c.in-Ok.ensures.visited.still quiet from s before);
+      still = λ quiet from s before. rw (same s before.0) at (c.in-Ok.ensures.visited.still quiet from s before);
     }
 
 -- the page that was not visited stands at its index
@@ -48,7 +48,7 @@ returns-in-Err-clause-stopped c =
     let there = part_ahead _ (up_to_down _) all _ _ _ start.state
     c.lies_in_order.ensures.rise listed c.listed_up_to-first.ensures c.cursor.ensures c.listed_to-end.ensures.many _ _ at
     stopped.low stopped.high
-    (was_restless _ _ (pages_go doing done (first start) c.lies_in_order.ensures.rise) _ restless) in
+    (grind (arith, (pages_go doing done (first start) c.lies_in_order.ensures.rise).calm page)) in
     record {
       within = there.0;
       ahead = there.1;

@@ -1,4 +1,4 @@
-use Rattle.ksm_book.proofs.Names.{ap, arith, begun, doing, Reached, refl, subst, sym, ◌∙◌, ◌≡◌}
+use Rattle.ksm_book.proofs.Names.{arith, doing, refl, ◌+◌, ◌∙◌}
 use Rattle.ksm_book.proofs.Folded.{beside_on, visits_mergeable}
 use Rattle.ksm_book.proofs.Reached.{comes_to}
 use Rattle.ksm_book.proofs.state.State.visits.Goals as goal
@@ -10,7 +10,7 @@ pub loop-done-preserved : goal.loop-done-preserved
 loop-done-preserved c = (
   omega (arith, c.in-Ok.ensures.made.fit, c.loop-done.invariant.0),
   c.go_on.ensures.known,
-  λ from s before. subst (Reached from c.go_on.new.self) (sym (beside_on doing c.loop-done.done _ _ s refl))
+  λ from s before. rw (beside_on doing c.loop-done.done c.in-Ok.visits (c.loop-done.done + c.in-Ok.visits) s refl)
       (c.in-Ok.ensures.made.comes from _ (c.loop-done.invariant.2 from s before)),
   c.go_on.ensures.own ∙ c.loop-done.invariant.3,
   c.go_on.ensures.due,
@@ -24,14 +24,10 @@ returns-in-Err-clause-scanned c =
       refl,
       record {
         fewer = omega arith;
-        comes = λ from s before. subst (Reached from c.go_on.new.self) (ap begun (sym (beside_on doing n k _ s refl)))
+        comes = λ from s before. rw (beside_on doing n k _ s refl)
             (stopped.comes from _ (c.loop-done.invariant.2 from s before));
       },
     )
 
 pub returns-clause-scanned : goal.returns-clause-scanned
-returns-clause-scanned c =
-    let all : c.loop-done.done ≡ c.args.count = omega arith in (
-      refl,
-      λ from s before. rw (← all) (c.loop-done.invariant.2 from s before),
-    )
+returns-clause-scanned c = (refl, λ from s before. grind (arith, c.loop-done.invariant.2 from s before))
