@@ -155,8 +155,13 @@ module _ (slab : Slab Entry) (order : List Named) (rise : AreAscending order) (f
 
     -- where an entry came under a vacant key with a name, the rows have its row at the place of its page
     pub put : (pass : ℕ) → held_in pass later (with_named (named_of key e) order) ≡ with_held (held_of pass e) (held_in pass slab order)
-    put pass = grind (arith, map-append, fills.changed, part (λ page. comes_before page e.page),
-        part (comes_before e.page))
+    put pass = grind (
+      arith,
+      map-append,
+      fills.changed,
+      part (λ page. comes_before page e.page),
+      part (comes_before e.page),
+    )
       where
         part : (test : GuestPage → Bool) → map (held_by pass later) (filter (λ n. test n.page) order) ≡ filter (λ h. test h.row.page) (held_in pass slab order)
         part test = go order all_stand
@@ -166,8 +171,12 @@ module _ (slab : Slab Entry) (order : List Named) (rise : AreAscending order) (f
             go [] stand = refl
             go (n ∷ ns) stand =
                 let here = All-head (Stands slab) n ns stand in
-                grind (arith, go ns (All-tail (Stands slab) n ns stand), fills.others n.key (taken_key here),
-                page_under pass slab here)
+                grind (
+                  arith,
+                  go ns (All-tail (Stands slab) n ns stand),
+                  fills.others n.key (taken_key here),
+                  page_under pass slab here,
+                )
 
     -- where an entry came under a vacant key with a name, all pages are named as their entries say
     pub filed_put : AreFiled later (with_named (named_of key e) order)

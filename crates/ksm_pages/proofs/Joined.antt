@@ -33,9 +33,16 @@ room_found s are seen_as {number} required = go _ refl
         (sym none ∙ ap (option_map (λ d. d.row)) is) room.1.0 room.0 room.1.1 in
         absurd (grind (arith, nat_tests, at, room.1.2, room.2))
     go (Some d) is =
-        let counted = tied_count (rows_of s.rows.held) s.dups.dups number d are.tied is in
-        (ap is_some is, omega (arith, counted, ap (λ n. count_by (λ r. merged_into n r.state) (rows_of s.rows.held))
-        (number_found number s.dups.dups d is ∙ sym room.2), room.3))
+        let counted = tied_count (rows_of s.rows.held) s.dups.dups number d are.tied is in (
+          ap is_some is,
+          omega (
+            arith,
+            counted,
+            ap (λ n. count_by (λ r. merged_into n r.state) (rows_of s.rows.held))
+                (number_found number s.dups.dups d is ∙ sym room.2),
+            room.3,
+          ),
+        )
 
 item_seat : (of : ℕ → Option ℕ) (number : ℕ) {r : Row} → merged_into number r.state ≡ true → (o : Option Held)
     → option_map (λ (h : Held). h.row) o ≡ Some r → seat of o ≡ of number
@@ -71,7 +78,7 @@ module _ (s : Inside) (are : AreLawful s) (page : GuestPage) {h : Held} (found :
       { dups = change_items number (with_item page) s.dups.dups; waiting = later.waiting } = grind arith in
       let waits = subst (λ w. IsStopped s.knobs h.row w later.waiting) (λ i. (into i).waiting) stopped in
       turned_so s are page found seen_as rows (mapped (Merged number) None) (λ r. record r { state = Merged number })
-          (λ x. refl) (λ r. refl)
+      (λ x. refl) (λ r. refl)
       (λ i. (turned i).held) rest (rows_items _ _ _) _ refl
       (tied_joined _ _ _ are.order (row_there s are _ found) _ _ _ (own_not_merged _ alone) at refl are.tied)
       (stops s are page found _ at refl _ waits) refl

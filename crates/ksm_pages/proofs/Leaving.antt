@@ -45,7 +45,7 @@ comes s are rows {now} is {ds} {later} rest alike order tied waits lain = record
       let same : dup_rows later.dups ≡ dup_rows s.dups.dups = (λ i. dup_rows (rest i).dups) ∙ alike in
       let lies_so = ap (λ rs. frame_of (lodgings_of (lodging rs s.frames.items) rows.held)) same ∙ lain in
       λ i. record (seen (view_of s))
-          { rows = is i; frame = lies_so i; dups = same i; next = (rest i).next; restless = rows.restless };
+      { rows = is i; frame = lies_so i; dups = same i; next = (rest i).next; restless = rows.restless };
 }
 
 -- a page that comes to lie where it lay does not move
@@ -123,4 +123,4 @@ pub stays_there : {s : Inside} {rows : RowsView} {later : DupsState} (p : PagesV
     → Comes s rows later (record (seen p) { rows = now; restless = rows.restless })
 stays_there {s} {rows} {later} p page {now} =
     subst (λ lay. Comes s rows later (record (seen p) { rows = now; frame = lay; restless = rows.restless }))
-        (lies_same page)
+    (lies_same page)

@@ -21,8 +21,13 @@ module _ (knobs : Knobs) (rows : List Row) (w : List WaitingPage) (row : Row) (r
       go : (o : Option GuestPage) → waits ≡ o → option_map (λ r. r.page) (partner knobs rows row) ≡ other o
       go None at = grind (arith, partner_found knobs rows w row rise are)
       go (Some page) at =
-          grind (arith, partner_found knobs rows w row rise are, look_up_found knobs rows w _ _ page are at,
-          find_passes, same_page_eq)
+          grind (
+            arith,
+            partner_found knobs rows w row rise are,
+            look_up_found knobs rows w _ _ page are at,
+            find_passes,
+            same_page_eq,
+          )
 
   -- where a row does not wait, the page that waits in its tree with its bytes is that of its partner
   pub partner_page : row_at row.page rows ≡ Some row → waiting_state row.state ≡ false

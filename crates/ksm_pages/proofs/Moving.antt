@@ -26,8 +26,13 @@ module _ (dups : List DupRow) (rise : InPlaceOrder dups) (frames : List ℕ) (pl
 
     stayed : (n : ℕ) → (n == d.number) ≡ false → of_now n ≡ of n
     stayed n other = frame_away frames place frame _ (λ e is.
-        grind (arith, nat_tests, other, find_passes (λ x. x.number == n) dups e is,
-        find_all _ (λ x. (x.place == d.place) ≡ true → x ≡ d) dups e is one))
+        grind (
+          arith,
+          nat_tests,
+          other,
+          find_passes (λ x. x.number == n) dups e is,
+          find_all _ (λ x. (x.place == d.place) ≡ true → x ≡ d) dups e is one,
+        ))
 
     -- a row merged into the dup lies on the new frame, and any other where it lay
     seats : (o : Option Held) → seat of_now o ≡ (if is_item d.number (option_map (λ h. h.row) o) then Some frame else seat of o)

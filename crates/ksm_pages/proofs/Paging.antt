@@ -17,8 +17,12 @@ use Rattle.ksm_pages.proofs.Options.{mapped_some, mapped_twice, some_mapped}
 -- where no row waits, the waiting pages are right for any knobs
 pub knobs_free : (knobs tuned : Knobs) (rows : List Row) (w : List WaitingPage) → AreWaiting knobs rows w → All (λ r. waiting_state r.state ≡ false) rows → AreWaiting tuned rows w
 knobs_free knobs tuned rows w are still t b q =
-    grind (arith, are t b q, λ (r : Row) (found : row_at q rows ≡ Some r). find_all _
-    (λ s. waiting_state s.state ≡ false) rows r found still)
+    grind (
+      arith,
+      are t b q,
+      λ (r : Row) (found : row_at q rows ≡ Some r). find_all _
+          (λ s. waiting_state s.state ≡ false) rows r found still,
+    )
 
 -- ---------------------------------------------------------------- dups
 

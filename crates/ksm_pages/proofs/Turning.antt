@@ -84,7 +84,7 @@ module _ {s : Inside} {p : PagesValue} {page : GuestPage} {later : DupsState} {f
           })
       moved state own apart still turned =
           left_so (mapped state own) (λ r. record r { state = state }) (λ x. refl) (λ r. refl) turned _ refl apart
-              still refl
+          still refl
 
       -- a page that has left comes to be Private, on the frame of its own that it had
       pub rested : (g to : Row → Row) → ((r : Row) → (g r).page ≡ r.page) → ((r : Row) → (to r).state ≡ Private) → IsAlone page p.rows
@@ -162,5 +162,9 @@ module _ (s : Inside) (are : AreLawful s) {p : PagesValue} (seen_as : view_of s 
           go None is = refl
           go (Some r) is =
               cond_both _ _ _ (λ x. waits_there s.knobs t b (Some r) ≡ waits_there s.knobs t b (Some x))
-              (λ at. sym (alike r (grind (arith, same_page_eq r.page, find_passes (λ x. same_page x.page q) before r
-              is)) t b)) (λ _. refl)
+              (λ at. sym (alike r (grind (
+                arith,
+                same_page_eq r.page,
+                find_passes (λ x. same_page x.page q) before r
+                    is,
+              )) t b)) (λ _. refl)

@@ -8,8 +8,17 @@ pub insert-requires : goal.insert-requires
 insert-requires c = search (rules, no_name)
 
 abbrev fresh : goal.After-add → Entry
-fresh c = record { page = c.args.page; bytes = c.args.bytes; number = 0; at = c.args.frame; home = c.args.home;
-    group = 4294967295; kind = kinds.Own; mergeable = true; unchanged = false }
+fresh c = record {
+  page = c.args.page;
+  bytes = c.args.bytes;
+  number = 0;
+  at = c.args.frame;
+  home = c.args.home;
+  group = 4294967295;
+  kind = kinds.Own;
+  mergeable = true;
+  unchanged = false;
+}
 
 -- the entry came under the key that was vacant
 came : (c : goal.After-add)

@@ -16,8 +16,13 @@ returns-then-was-mergeable c = search (rules, viewed c.self.inside c.self.invari
 pub invariant_of-self-then-restless : goal.invariant_of-self-then-restless
 invariant_of-self-then-restless c =
     let s = c.self.inside in
-    search (rules, c.mark.ensures, still_marked s c.self.invariant c.in-Some.ensures.there, listed_now s
-    c.self.invariant c.in-Some.ensures.there)
+    search (
+      rules,
+      c.mark.ensures,
+      still_marked s c.self.invariant c.in-Some.ensures.there,
+      listed_now s
+          c.self.invariant c.in-Some.ensures.there,
+    )
 
 pub invariant_of-self-else-restless : goal.invariant_of-self-else-restless
 invariant_of-self-else-restless c =
