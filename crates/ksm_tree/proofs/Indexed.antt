@@ -29,8 +29,11 @@ found_stands dups found = search (eqb-true, find_passes)
 -- where a dup of another group stands, the places of a group stay without that place
 pub not_in_group : (p t : ℕ) (b : List ℕ) (dups : List Dup) {d : Dup} → InPlaceOrder (rows_of dups) → dup_at p dups ≡ Some d → in_group t b d.row ≡ false → without p (group_places t b (rows_of dups)) ≡ group_places t b (rows_of dups)
 not_in_group p t b dups rise found outside = group_unlike p t b _
-    (λ k e lt. grind (arith, found_stands dups found,
-    alone (λ r. r.place == p) _ _ rise (row_at_place p _ found) k e lt))
+    (λ k e lt. grind (
+      arith,
+      found_stands dups found,
+      alone (λ r. r.place == p) _ _ rise (row_at_place p _ found) k e lt,
+    ))
 
 -- slots with other dups
 abbrev pub with_dups : SlotsState → List Dup → Bool → SlotsState
@@ -41,7 +44,7 @@ pub by_rows : {s : SlotsState} {next : ℕ} {index : Index} (rows : List DupRow)
     → ((q : ℕ) → place_of q index ≡ row_place q rows) → AreTotals rows index.groups.totals → ((t : ℕ) (b : List ℕ) → places_of t b index ≡ group_places t b rows) → AreIndexed s next index
 by_rows rows is few rise places numbers numbered counted grouped = record {
   few = few;
-  lawful = record { in_place_order = rw is rise; places_below = rw is places; numbers_below = rw is numbers; };
+  lawful = record { in_place_order = rw is rise; places_below = rw is places; numbers_below = rw is numbers };
   numbered = λ q. rw is (numbered q);
   counted = rw is counted;
   grouped = λ t b. rw is (grouped t b);
@@ -77,8 +80,12 @@ module _ {s : SlotsState} {next : ℕ} {index : Index} (h : AreIndexed s next in
       let at_p = row_at_place p s.dups found in
       let rise = ordered_filter test rows law.in_place_order in
       let grouped : (t : ℕ) (b : List ℕ) → places_of t b new ≡ group_places t b (filter test rows) = λ t b.
-      grind (arith, not_in_group p t b s.dups law.in_place_order found, own_group t b d.row,
-      chosen (λ (r : DupRow). r.place) (in_group t b) (λ q. not (q == p)) rows) in
+      grind (
+        arith,
+        not_in_group p t b s.dups law.in_place_order found,
+        own_group t b d.row,
+        chosen (λ (r : DupRow). r.place) (in_group t b) (λ q. not (q == p)) rows,
+      ) in
       let more = more_there p rows d.row law.in_place_order at_p in
       by_rows (filter test rows) (rows_without p s.dups) h.few rise
       (All-filter test (λ r. r.place < s.places) rows law.places_below)
@@ -119,16 +126,15 @@ module _ {s : SlotsState} {next : ℕ} {index : Index} (h : AreIndexed s next in
   pub group_absent : number_of tree bytes index.groups.numbers.entries ≡ None → [] ≡ group_places tree bytes (rows_of s.dups)
   group_absent none = grind (arith)
 
--- what is one value where a test passes and another where it fails is the choice between both by the test
-pub cond_if : {X : Type 0} (s : Bool) (x y z : X) → (s ≡ true → z ≡ x) → (s ≡ false → z ≡ y) → z ≡ (if s then x else y)
-cond_if s x y z yes_case no_case = grind (arith)
-
 -- the dup found at a place is the one that has its number
 pub stands_numbered : (p q : ℕ) (dups : List Dup) (d : Dup) → InPlaceOrder (rows_of dups) → dup_at p dups ≡ Some d → d.row.number ≡ q → Some p ≡ option_map (λ d. d.row.place) (dup_of q dups)
 stands_numbered p q dups d rise found is =
     let one = all_rows (λ r. (r.place == p) ≡ (r.number == q)) dups
-    (λ k e lt. grind (arith, found_stands dups found,
-    alone (λ r. r.place == p) _ _ rise (row_at_place p _ found) k e lt)) in
+    (λ k e lt. grind (
+      arith,
+      found_stands dups found,
+      alone (λ r. r.place == p) _ _ rise (row_at_place p _ found) k e lt,
+    )) in
     grind (arith, found_stands dups found, find_alike (stands_at p) (has_number q) dups one)
 
 -- the dup found at a place, if it passes a test

@@ -105,8 +105,14 @@ module _ (g : Groups) (number : ℕ) (was now : Group) (stood : Some was ≡ get
   moved : {X : Type 0} (none : X) (at : Option Group → X) (change : X → X) → at (Some now) ≡ change (at (Some was)) → (tree : ℕ) (bytes : List ℕ) → number_of tree bytes g.numbers.entries ≡ Some number → (t : ℕ) (b : List ℕ)
       → under none (λ n. at (get new n)) (number_of t b g.numbers.entries) ≡ (if t == tree && bytes_eq b bytes then change (under none (λ n. at (get g.groups n)) (number_of t b g.numbers.entries)) else under none (λ n. at (get g.groups n)) (number_of t b g.numbers.entries))
   moved none at change is tree bytes named t b =
-      grind (arith, fills, is_one t tree b bytes, are_one t tree b bytes, g.lawful.numbered (content_of t b),
-      (g.lawful.numbered (content_of tree bytes) number).0 named)
+      grind (
+        arith,
+        fills,
+        is_one t tree b bytes,
+        are_one t tree b bytes,
+        g.lawful.numbered (content_of t b),
+        (g.lawful.numbered (content_of tree bytes) number).0 named,
+      )
 
   -- a group written anew with changed places changes the chain of its content, and no other
   pub rechained : (change : List ℕ → List ℕ) → now.places.list.items ≡ change was.places.list.items → (tree : ℕ) (bytes : List ℕ) → number_of tree bytes g.numbers.entries ≡ Some number
@@ -154,14 +160,14 @@ module _ (g : Groups) {later : Slab Group} (numbers : BTreeMap Content ℕ) (k :
   pub came : its_number k g.numbers.entries ≡ None → get g.groups number ≡ None → named ≡ Some number → content_in slot ≡ Some k → ForSome slot (λ h. h.pass ≤ g.pass) → Keeps g later numbers
   came none vacant name content within =
       keeps within (λ q n. grind (arith, same_content {p = k} {q = q}, updates.0 q, g.lawful.numbered q n, fills))
-          (grind (arith, fills.changed))
+      (grind (arith, fills.changed))
 
   -- a group in which nothing stood went, and its content lost its number
   pub went : content_in (get g.groups number) ≡ Some k → slot ≡ None → named ≡ None → Keeps g later numbers
   went stood is name =
       keeps (λ h at. grind arith) (λ q n.
-          grind (arith, same_content {p = k} {q = q}, updates.0 q, g.lawful.numbered q n, fills))
-          (grind (arith, (g.lawful.numbered k number).1 stood))
+      grind (arith, same_content {p = k} {q = q}, updates.0 q, g.lawful.numbered q n, fills))
+      (grind (arith, (g.lawful.numbered k number).1 stood))
 
 -- where something stands in each group, each content with a number is in use
 pub all_used : (g : Groups) → AreGroups g.numbers.entries g.groups g.pass

@@ -1,11 +1,11 @@
 -- The book's rows beside the dups with their items.
-use Rattle.std.specs.Prelude.{◌≡◌, ℕ, List, length, All}
+use Rattle.std.specs.Prelude.{All, length, List, ℕ, ◌≡◌}
 use Rattle.ksm_base.specs.declared.page.GuestPage.{GuestPage}
 use Rattle.ksm_base.specs.declared.row.PageState.{PageState}
-use Rattle.ksm_base.specs.declared.row.PageState.TheVariants.{Private, Waiting, Merged, Zero}
+use Rattle.ksm_base.specs.declared.row.PageState.TheVariants.{Merged, Private, Waiting, Zero}
 use Rattle.ksm_base.specs.declared.row.Row.{Row}
 use Rattle.ksm_base.specs.Reading.{items_of}
-use Rattle.ksm_base.specs.Rows.{change_row, item_count}
+use Rattle.ksm_base.specs.Rows.{item_count}
 use Rattle.ksm_tree.specs.declared.choice.Choice.{Choice}
 use Rattle.ksm_tree.specs.declared.choice.Choice.TheVariants.{Empty, Stale}
 use Rattle.ksm_rmap.specs.Items.{without_item}
@@ -31,7 +31,3 @@ let_out Private page dups = dups
 let_out Waiting page dups = dups
 let_out Zero page dups = dups
 let_out (Merged number) page dups = change_items number (without_item page) dups
-
--- the rows once one of them is merged into the dup with a number
-abbrev pub with_merged : ℕ → Row → List Row → List Row
-with_merged number row rows = change_row row.page (λ _. record row { state = Merged number }) rows

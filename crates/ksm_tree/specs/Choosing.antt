@@ -1,6 +1,6 @@
 -- Which dup a page joins, and where a new dup goes:
 -- the book's own words, with the items of a dup in place of the rows merged into it.
-use Rattle.std.specs.Prelude.{◌≡◌, ℕ, Bool, true, false, not, ◌&&◌, ◌||◌, ◌==◌, nat_lt, nat_le, List, length, find, Option, Some, None, bytes_eq, if◌then◌else◌}
+use Rattle.std.specs.Prelude.{Bool, bytes_eq, false, find, if◌then◌else◌, length, List, nat_le, nat_lt, None, not, Option, Some, true, ℕ, ◌&&◌, ◌==◌, ◌||◌, ◌≡◌}
 use Rattle.std.specs.List.{list_all}
 use Rattle.ksm_base.specs.declared.row.DupRow.{DupRow}
 use Rattle.ksm_base.specs.Visit.{empty_from}
@@ -8,7 +8,7 @@ use Rattle.ksm_tree.specs.declared.choice.Choice.{Choice}
 use Rattle.ksm_tree.specs.declared.choice.Choice.TheVariants.{Empty, Stale}
 use Rattle.ksm_tree.specs.declared.dup.Dup.{Dup}
 use Rattle.ksm_tree.specs.declared.dup.Best.{Best}
-use Rattle.ksm_tree.specs.Dups.{DupsState, rows_of, places_open, is_stale}
+use Rattle.ksm_tree.specs.Dups.{DupsState, is_stale, places_open, rows_of}
 use Rattle.ksm_tree.specs.Index.{in_group}
 
 -- a dup of the tree and the bytes, with an item, and below the limit

@@ -1,5 +1,5 @@
 -- Sets of places with how many they are. (own)
-use Rattle.std.specs.Prelude.{◌≡◌, ℕ, ◌+◌, ◌*◌, ◌<◌, ◌≤◌, Bool, true, cond, length}
+use Rattle.std.specs.Prelude.{Bool, cond, length, true, ℕ, ◌*◌, ◌+◌, ◌<◌, ◌≡◌, ◌≤◌}
 use Rattle.ksm_base.specs.declared.limits.TheConstants.{MOST_FRAMES}
 use Rattle.ksm_tree.specs.declared.counted_set.CountedSet.{CountedSet}
 use Rattle.ksm_tree.specs.NumberSets.{has, Marks}

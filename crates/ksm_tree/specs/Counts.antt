@@ -1,5 +1,5 @@
 -- How many items there are at each place, and the places whose number passes a test. (own)
-use Rattle.std.specs.Prelude.{◌≡◌, ℕ, suc, ◌≤◌, Bool, ◌&&◌, nat_le, nat_lt, List, [], ◌∷◌, length, if◌then◌else◌}
+use Rattle.std.specs.Prelude.{Bool, if◌then◌else◌, length, List, nat_le, nat_lt, suc, ℕ, [], ◌&&◌, ◌∷◌, ◌≡◌, ◌≤◌}
 use Rattle.smallvec.specs.SmallVec.{SmallVec}
 
 -- a dup with so many items takes one more: it has an item, and fewer than the limit

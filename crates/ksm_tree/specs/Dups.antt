@@ -1,5 +1,5 @@
 -- Dups with their items, in the order of their places (mm/ksm: stable nodes, chains).
-use Rattle.std.specs.Prelude.{◌≡◌, ℕ, ◌+◌, ◌^◌, ◌<◌, Bool, false, not, ◌&&◌, ◌==◌, nat_lt, List, [], ◌∷◌, ◌++◌, length, map, filter, find, Option, Some, None, All, if◌then◌else◌}
+use Rattle.std.specs.Prelude.{All, Bool, false, filter, find, if◌then◌else◌, length, List, map, nat_lt, None, not, Option, Some, ℕ, [], ◌&&◌, ◌++◌, ◌+◌, ◌<◌, ◌==◌, ◌^◌, ◌∷◌, ◌≡◌}
 use Rattle.ksm_base.specs.declared.page.GuestPage.{GuestPage}
 use Rattle.ksm_base.specs.declared.row.DupRow.{DupRow}
 use Rattle.ksm_base.specs.Rows.{InPlaceOrder, same_page}

@@ -1,7 +1,7 @@
 -- What a group has: its content, the places of its dups, and the page that waits there. (own)
-use Rattle.std.specs.Prelude.{◌≡◌, ℕ, ◌≤◌, ◌==◌, Bool, ◌||◌, nat_lt, List, [], length, Option, Some, None, is_some, option_map, if◌then◌else◌}
+use Rattle.std.specs.Prelude.{Bool, if◌then◌else◌, is_some, length, List, nat_lt, None, Option, option_map, Some, ℕ, [], ◌==◌, ◌||◌, ◌≡◌, ◌≤◌}
 use Rattle.std.specs.Option.{ForSome}
-use Rattle.slab.specs.Slab.{Slab, get}
+use Rattle.slab.specs.Slab.{get, Slab}
 use Rattle.ksm_tree.specs.declared.content.Content.{Content}
 use Rattle.ksm_tree.specs.declared.groups.Group.{Group}
 use Rattle.ksm_tree.specs.Numbered.{AreNumbered, Numbers}

@@ -1,13 +1,13 @@
 -- The groups: the dups of one tree and one content (mm/ksm: a chain links the copies of one content),
 -- and the page that waits there.
-use Rattle.std.specs.Prelude.{◌≡◌, ℕ, ◌+◌, ◌≤◌, Bool, true, ◌&&◌, ◌||◌, ◌==◌, nat_lt, List, [], Option, Some, None, is_some, bytes_eq, filter_map, length, if◌then◌else◌}
+use Rattle.std.specs.Prelude.{Bool, bytes_eq, filter_map, if◌then◌else◌, is_some, length, List, nat_lt, None, Option, Some, true, ℕ, [], ◌&&◌, ◌+◌, ◌==◌, ◌||◌, ◌≡◌, ◌≤◌}
 use Rattle.slab.specs.Slab.{get}
 use Rattle.ksm_tree.specs.declared.groups.Groups.{Groups}
 use Rattle.ksm_tree.specs.declared.groups.TheConstants.{MOST_SPARE}
 use Rattle.ksm_tree.specs.Grouping.{places_in, waits_in}
 use Rattle.ksm_tree.specs.Numbered.{number_of}
 use Rattle.ksm_tree.specs.Totals.{IsRegrouped, Tells}
-use Rattle.ksm_tree.specs.Waits.{WaitingPage, waiting_page}
+use Rattle.ksm_tree.specs.Waits.{waiting_page, WaitingPage}
 
 -- what stands under a number, where there is one
 abbrev pub under : {X : Type 0} → X → (ℕ → X) → Option ℕ → X

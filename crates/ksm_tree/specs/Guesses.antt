@@ -1,5 +1,5 @@
 -- Numbers as guesses, each in a slot. (own)
-use Rattle.std.specs.Prelude.{◌≡◌, ℕ, ◌⊎◌, List, [], ◌∷◌, get_or, replicate, set}
+use Rattle.std.specs.Prelude.{get_or, List, replicate, set, ℕ, [], ◌∷◌, ◌≡◌, ◌⊎◌}
 
 -- what is told of a slot in which no number is
 abbrev pub no_number : ℕ

@@ -1,10 +1,10 @@
 -- Where a dup of a number, and the dups of a tree and bytes, are found. (own)
-use Rattle.std.specs.Prelude.{◌≡◌, ℕ, ◌≤◌, Bool, ◌&&◌, ◌||◌, ◌==◌, List, length, map, filter, find, nat_lt, option_map, is_some, Option, Some, bytes_eq, nat_eq, if◌then◌else◌}
+use Rattle.std.specs.Prelude.{Bool, bytes_eq, filter, find, if◌then◌else◌, is_some, length, List, map, nat_eq, nat_lt, Option, option_map, Some, ℕ, ◌&&◌, ◌==◌, ◌||◌, ◌≡◌, ◌≤◌}
 use Rattle.std.specs.HashMap.{get}
 use Rattle.ksm_base.specs.declared.limits.TheConstants.{MOST_FRAMES}
 use Rattle.ksm_base.specs.declared.row.DupRow.{DupRow}
 use Rattle.ksm_tree.specs.declared.index.Index.{Index}
-use Rattle.ksm_tree.specs.Dups.{DupsState, AreDups, rows_of}
+use Rattle.ksm_tree.specs.Dups.{AreDups, DupsState, rows_of}
 use Rattle.ksm_tree.specs.Groups.{chain_in, IsCountedAnew, IsMoved, SameChains, waiting_in}
 use Rattle.ksm_tree.specs.Places.{with_place}
 use Rattle.ksm_tree.specs.Slots.{SlotsState}

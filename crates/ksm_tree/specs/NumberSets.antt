@@ -1,5 +1,5 @@
 -- Sets of numbers as words of bits. (own)
-use Rattle.std.specs.Prelude.{◌≡◌, ◌≢◌, ◌==◌, ℕ, ◌*◌, ◌/◌, ◌%◌, ◌^◌, ◌<◌, ◌≤◌, nat_lt, Bool, true, false, not, List, length, slice_index}
+use Rattle.std.specs.Prelude.{Bool, false, length, List, nat_lt, not, slice_index, true, ℕ, ◌%◌, ◌*◌, ◌/◌, ◌<◌, ◌==◌, ◌^◌, ◌≡◌, ◌≢◌, ◌≤◌}
 use Rattle.std.specs.Int.{bit_at}
 
 -- the bit of the number is set

@@ -1,5 +1,5 @@
 -- Contents, each with a number: a tree with the bytes of a page. (own)
-use Rattle.std.specs.Prelude.{◌≡◌, ◌≢◌, ◌↔◌, ℕ, List, Option, Some}
+use Rattle.std.specs.Prelude.{List, Option, Some, ℕ, ◌↔◌, ◌≡◌, ◌≢◌}
 use Rattle.std.specs.declared.cmp.Ordering.{Ordering}
 use Rattle.std.specs.BTreeMap.{is_at}
 use Rattle.std.specs.Map.{lookup}

@@ -1,5 +1,5 @@
 -- Places in ascending order, each once. (own)
-use Rattle.std.specs.Prelude.{ℕ, not, ◌==◌, nat_lt, List, ◌∷◌, ◌++◌, filter}
+use Rattle.std.specs.Prelude.{filter, List, nat_lt, not, ℕ, ◌++◌, ◌==◌, ◌∷◌}
 
 -- the places with this one at its place in the order, whether it was there or not
 abbrev pub with_place : ℕ → List ℕ → List ℕ

@@ -1,7 +1,7 @@
 -- How many contents have a number: those that were in use when the others lost theirs, and a reserve. (own)
-use Rattle.std.specs.Prelude.{◌≡◌, ℕ, ◌+◌, ◌≤◌, ◌⊎◌, ◌&&◌, ◌==◌, Bool, false, true, List, bytes_eq, is_some, length}
+use Rattle.std.specs.Prelude.{Bool, bytes_eq, false, is_some, length, List, true, ℕ, ◌&&◌, ◌+◌, ◌==◌, ◌≡◌, ◌≤◌, ◌⊎◌}
 use Rattle.ksm_tree.specs.declared.groups.TheConstants.{MOST_SPARE}
-use Rattle.ksm_tree.specs.Numbered.{Numbers, number_of}
+use Rattle.ksm_tree.specs.Numbered.{number_of, Numbers}
 
 -- every other content that has a number is in use, and at most so many more may get one as the reserve has
 pub record HaveSwept (in_use : ℕ → List ℕ → Bool) (tree : ℕ) (bytes : List ℕ) (numbers : Numbers) (room : ℕ) : Type 0 where

@@ -1,5 +1,5 @@
 -- The dups by place, each under a key of its place: a key that leads to a dup of another place leads nowhere. (own)
-use Rattle.std.specs.Prelude.{ℕ, suc, ◌^◌, Bool, ◌&&◌, nat_lt, List, [], ◌∷◌, Option, Some, None, option_map, slice_index_or, slice_set, if◌then◌else◌}
+use Rattle.std.specs.Prelude.{Bool, if◌then◌else◌, List, nat_lt, None, Option, option_map, slice_index_or, slice_set, Some, suc, ℕ, [], ◌&&◌, ◌^◌, ◌∷◌}
 use Rattle.slab.specs.Slab.{get, Slab, slab_len}
 use Rattle.ksm_base.specs.declared.page.GuestPage.{GuestPage}
 use Rattle.ksm_tree.specs.declared.dup.Dup.{Dup}

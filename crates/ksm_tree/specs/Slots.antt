@@ -1,10 +1,10 @@
 -- The dups by place: a slot for each place, and the places whose slots pass a test. (own)
-use Rattle.std.specs.Prelude.{◌≡◌, ℕ, suc, ◌*◌, ◌<◌, ◌≤◌, Bool, true, false, List, [], ◌∷◌, count_by, get_or, length, map, Option, Some, None, if◌then◌else◌}
+use Rattle.std.specs.Prelude.{Bool, count_by, false, get_or, if◌then◌else◌, length, List, map, None, Option, Some, suc, true, ℕ, [], ◌*◌, ◌<◌, ◌∷◌, ◌≡◌, ◌≤◌}
 use Rattle.ksm_base.specs.declared.limits.TheConstants.{MOST_FRAMES}
 use Rattle.ksm_base.specs.declared.page.GuestPage.{GuestPage}
 use Rattle.ksm_tree.specs.declared.dup.Dup.{Dup}
 use Rattle.ksm_tree.specs.declared.counted_set.CountedSet.{CountedSet}
-use Rattle.ksm_tree.specs.Dups.{stands_at, items_in, is_stale}
+use Rattle.ksm_tree.specs.Dups.{is_stale, items_in, stands_at}
 use Rattle.ksm_tree.specs.NumberSets.{has}
 use Rattle.ksm_tree.specs.Shelf.{ShelfState}
 

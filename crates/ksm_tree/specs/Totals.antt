@@ -1,5 +1,5 @@
 -- How many chains there are, and how many dups in them: what one group makes of that. (own)
-use Rattle.std.specs.Prelude.{◌≡◌, ℕ, ◌+◌, ◌^◌, ◌<◌, ◌≤◌, nat_lt, ◌&&◌, List, count_by, if◌then◌else◌}
+use Rattle.std.specs.Prelude.{count_by, if◌then◌else◌, List, nat_lt, ℕ, ◌&&◌, ◌+◌, ◌<◌, ◌^◌, ◌≡◌, ◌≤◌}
 use Rattle.ksm_base.specs.declared.row.DupRow.{DupRow}
 use Rattle.ksm_base.specs.Counting.{in_chain, leads_group}
 use Rattle.ksm_tree.specs.declared.totals.Totals.{Totals}

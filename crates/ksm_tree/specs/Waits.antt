@@ -1,5 +1,5 @@
 -- The waiting pages, by tree and bytes (mm/ksm: the unstable tree; that one page waits for each content is own).
-use Rattle.std.specs.Prelude.{◌≡◌, ℕ, Bool, false, ◌&&◌, ◌==◌, List, find, option_map, Option, None, Some, bytes_eq, if◌then◌else◌}
+use Rattle.std.specs.Prelude.{Bool, bytes_eq, false, find, if◌then◌else◌, List, None, Option, option_map, Some, ℕ, ◌&&◌, ◌==◌, ◌≡◌}
 use Rattle.ksm_base.specs.declared.knobs.Knobs.{Knobs}
 use Rattle.ksm_base.specs.declared.page.GuestPage.{GuestPage}
 use Rattle.ksm_base.specs.declared.row.Row.{Row}

@@ -11,7 +11,6 @@ mod groups;
 mod guesses;
 mod index;
 mod item_counts;
-pub mod laws;
 mod number_set;
 mod places;
 mod room;
@@ -19,7 +18,6 @@ mod shelf;
 mod slots;
 mod totals;
 mod waiting;
-pub mod waiting_laws;
 
 pub use choice::Choice;
 pub use dup::Best;

@@ -7,5 +7,8 @@ pub insert-requires : goal.insert-requires
 insert-requires c = grind (arith, where_short, length-take)
 
 pub loop-place-preserved : goal.loop-place-preserved
-loop-place-preserved c = grind (arith, where_next (is_open c.args.limit) 0 0 c.loop-place.place c.loop-place.place
-    c.args.counts.now (omega arith))
+loop-place-preserved c = grind (
+  arith,
+  where_next (is_open c.args.limit) 0 0 c.loop-place.place c.loop-place.place
+      c.args.counts.now (omega arith),
+)

@@ -7,8 +7,10 @@ unreachable-requires-in_default-get_mut c = search (rules, stands_under)
 
 pub invariant_of-self : goal.invariant_of-self
 invariant_of-self c =
-    record { lawful = rewritten c.args.self.now _ _ _ c.in-Some-get_mut.ensures.value refl (λ same. same);
-        bounded = c.args.self.now.bounded }
+    record {
+      lawful = rewritten c.args.self.now _ _ _ c.in-Some-get_mut.ensures.value refl (λ same. same);
+      bounded = c.args.self.now.bounded;
+    }
 
 pub returns-in_err-reserve-clause-waits : goal.returns-in_err-reserve-clause-waits
 returns-in_err-reserve-clause-waits c =
@@ -16,8 +18,10 @@ returns-in_err-reserve-clause-waits c =
 
 pub invariant_of-self-2 : goal.invariant_of-self-2
 invariant_of-self-2 c =
-    record { lawful = rewritten c.args.self.now _ _ _ c.in-Some-get_mut.ensures.value refl (λ same. same);
-        bounded = c.args.self.now.bounded }
+    record {
+      lawful = rewritten c.args.self.now _ _ _ c.in-Some-get_mut.ensures.value refl (λ same. same);
+      bounded = c.args.self.now.bounded;
+    }
 
 pub returns-clause-added : goal.returns-clause-added
 returns-clause-added c =

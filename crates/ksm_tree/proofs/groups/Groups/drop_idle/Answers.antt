@@ -10,8 +10,10 @@ gone c =
     (ap content_in (sym c.in-Some.ensures.value)) refl refl
 
 pub invariant_of-self : goal.invariant_of-self
-invariant_of-self c = record { lawful = (gone (goal.at.invariant_of-self c).After-remove).lawful;
-    bounded = c.args.self.now.bounded }
+invariant_of-self c = record {
+  lawful = (gone (goal.at.invariant_of-self c).After-remove).lawful;
+  bounded = c.args.self.now.bounded;
+}
 
 pub returns-in-Some-clause-chains : goal.returns-in-Some-clause-chains
 returns-in-Some-clause-chains c = record

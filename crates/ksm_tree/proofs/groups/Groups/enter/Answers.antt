@@ -25,7 +25,7 @@ entered c =
     c.insert_reserved.ensures.was_vacant in
     let fills = subst (λ n. Fills c.reserve_one.new.slab c.insert_reserved.new.self n (Some fresh)) key c.insert_reserved.ensures.updates in
     came g _ k c.in_ok-insert.ensures.updates
-        (record { changed = fills.changed; others = λ n apart. fills.others n apart ∙ room n })
+    (record { changed = fills.changed; others = λ n apart. fills.others n apart ∙ room n })
     (rw vacant (refl, refl)) (c.new.ensures.none, grind (arith, g.lawful.begun)) c.requires vacant refl refl
     (grind arith)
 

@@ -9,8 +9,11 @@ invariant_of-self c =
 pub returns-in-Some-get_mut-clause-removed : goal.returns-in-Some-get_mut-clause-removed
 returns-in-Some-get_mut-clause-removed c t b =
     let now : Group = record c.in-Some-get_mut.group.now { pass = 0 } in
-    grind (arith, repaged c.args.self.now _ _ now c.in-Some-get_mut.ensures.value refl (λ same. omega arith) _ _
-    (sym c.in-Some.ensures) t b)
+    grind (
+      arith,
+      repaged c.args.self.now _ _ now c.in-Some-get_mut.ensures.value refl (λ same. omega arith) _ _
+          (sym c.in-Some.ensures) t b,
+    )
 
 pub returns-in_default-get_mut-clause-removed : goal.returns-in_default-get_mut-clause-removed
 returns-in_default-get_mut-clause-removed c = search (rules, stands_under)

@@ -4,5 +4,9 @@ use Rattle.ksm_tree.proofs.slots.Slots.counts.Goals as goal
 
 pub returns-clause-each : goal.returns-clause-each
 returns-clause-each c place =
-    grind (arith, get_or-map count_in c.self.inside.dups.slots place None, slot_found 0 place place
-    c.self.inside.dups.slots (omega arith) c.self.invariant.placed)
+    grind (
+      arith,
+      get_or-map count_in c.self.inside.dups.slots place None,
+      slot_found 0 place place
+          c.self.inside.dups.slots (omega arith) c.self.invariant.placed,
+    )

@@ -17,5 +17,9 @@ pub returns : goal.returns
 returns c =
     let place = c.args.dup.row.place in
     let within : place < length c.self.inside.dups.slots = grind arith in
-    grind (arith, length-set, slot_put 0 place place c.self.inside.dups.slots c.args.dup (omega arith) refl within
-    c.self.invariant.placed)
+    grind (
+      arith,
+      length-set,
+      slot_put 0 place place c.self.inside.dups.slots c.args.dup (omega arith) refl within
+          c.self.invariant.placed,
+    )
