@@ -73,7 +73,7 @@ module _ {X : Type 0} (key : X → GuestPage) where
     -- a list in order stays in order where the element of a page is changed, but for its page
     pub write_rises : (f : X → X) → ((y : X) → key (f y) ≡ key y) → (xs : List X) → AllPairs Before xs → AllPairs Before (map (λ y. if is_it y then f y else y) xs)
     write_rises f same xs rise =
-        search (rules, pairs_mapped Before Before (λ y. search rules))
+        search (rules, pairs_mapped Before Before (λ y. key (if is_it y then f y else y) ≡ key y))
 
     -- with an element of a page that was not there, a list is one longer
     pub length_with : (x : X) (xs : List X) → AllPairs Before xs → find is_it xs ≡ None → length (filter low xs ++ x ∷ filter high xs) ≡ length xs + 1
